@@ -1,0 +1,93 @@
+-- The definition of an abbreviation.
+use Rattle.std.specs.Prelude.{◌≡◌, ℕ, zero, suc, ◌+◌, ◌^◌, ◌<◌, ◌≤◌, ◌≢◌, length, get_or, Bool, true, false, not, ◌&&◌, List, [], ◌∷◌, nat_lt, nat_le, ◌==◌}
+use Rattle.std.specs.List.{AllByRecursion}
+use Rattle.bit_grammar.specs.declared.op.Op.{Op}
+use Rattle.bit_grammar.specs.declared.op.Kind.{Kind}
+use Rattle.bit_grammar.specs.declared.op.Kind.TheVariants.{Literal as literal, Fixed as fixed_width, Vbr as vbr_width, Array as array, Char6 as char6, Blob as blob}
+use Rattle.bit_grammar.specs.declared.op.Place.{Place}
+use Rattle.bit_grammar.specs.declared.op.Place.TheVariants.{First as first, Element as element, Later as later}
+use Rattle.bit_grammar.specs.declared.op.Op.TheVariants.{Literal, Fixed, Vbr, Array, Char6, Blob}
+use Rattle.bit_grammar.specs.declared.reason.Reason.TheVariants.{AbbrevEmpty, AbbrevEncoding, AbbrevShape, FieldWidth}
+use Rattle.bit_grammar.specs.Grammar.{at, Grammar, gives, refuses, position, choose, ◌>>=◌, ◌>>◌, judge}
+use Rattle.bit_grammar.specs.Fields.{fixed, vbr}
+
+-- an encoding by its number, which stands at this bit
+abbrev pub encoding : (place : ℕ) → ℕ → Grammar Kind
+encoding place n =
+    choose (n == 1) (gives fixed_width) (
+    choose (n == 2) (gives vbr_width) (
+    choose (n == 3) (gives array) (
+    choose (n == 4) (gives char6) (
+    choose (n == 5) (gives blob) (
+    refuses (at AbbrevEncoding place))))))
+
+-- the flag, and the encoding where there is one
+unfoldable pub kind : Grammar Kind
+kind = do
+  flag ← fixed 1
+  choose (flag == 1) (gives literal) (do
+    place ← position
+    n ← fixed 3
+    encoding place n)
+
+-- whether an operand of this kind may stand there, with so many operands after it: an array only with one
+-- operand after it, a blob only with none, neither as the first, and only a plain field as an element
+abbrev pub fits : Place → (after : ℕ) → Kind → Bool
+fits element after literal = false
+fits element after array = false
+fits element after blob = false
+fits first after array = false
+fits first after blob = false
+fits later after array = after == 1
+fits later after blob = after == 0
+fits place after _ = true
+
+abbrev pub fixed_lawful : ℕ → Bool
+fixed_lawful width = nat_le width 32
+
+abbrev pub vbr_lawful : ℕ → Bool
+vbr_lawful width = nat_le width 32 && not (width == 1)
+
+-- the value of an operand of this kind
+unfoldable pub valued : Kind → Grammar Op
+valued literal = vbr 8 >>= λ v. gives (Literal v)
+valued fixed_width = do
+  place ← position
+  width ← vbr 5
+  judge (fixed_lawful width) FieldWidth place
+  gives (Fixed width)
+valued vbr_width = do
+  place ← position
+  width ← vbr 5
+  judge (vbr_lawful width) FieldWidth place
+  gives (Vbr width)
+valued array = gives Array
+valued char6 = gives Char6
+valued blob = gives Blob
+
+unfoldable pub operand : Place → (after : ℕ) → Grammar Op
+operand place after = do
+  start ← position
+  k ← kind
+  judge (fits place after k) AbbrevShape start
+  valued k
+
+-- the place after an operand
+abbrev pub place_after : Op → Place
+place_after Array = element
+place_after _ = later
+
+unfoldable pub operands : (count : ℕ) → Place → Grammar (List Op)
+operands zero place = gives []
+operands (suc after) place = do
+  op ← operand place after
+  others ← operands after (place_after op)
+  gives (op ∷ others)
+
+-- the number of operands, and the operands
+unfoldable pub definition : Grammar (List Op)
+definition = do
+  start ← position
+  count ← vbr 5
+  judge (nat_lt 0 count) AbbrevEmpty start
+  operands count first

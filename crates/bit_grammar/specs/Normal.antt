@@ -1,0 +1,64 @@
+-- The normal form of a tree: one spelling of it, without definitions and wrapper, each number in its shortest form.
+use Rattle.std.specs.Prelude.{◌≡◌, ℕ, ◌+◌, ◌/◌, ◌≤◌, Bool, false, List, [], ◌∷◌, ◌++◌, length, replicate}
+use Rattle.bit_grammar.specs.Bits.{bits_of}
+use Rattle.bit_grammar.specs.Fields.{padding_length}
+use Rattle.bit_grammar.specs.FormatFields.{shortest}
+use Rattle.bit_grammar.specs.Forest.{Forest, empty, a_block, a_record, Tree}
+use Rattle.bit_grammar.specs.declared.info.Info.TheVariants.{Keep}
+use Rattle.bit_grammar.specs.Blocks.{Limits}
+use Rattle.bit_grammar.specs.Input.{Marked, tree_of, SpellsInput}
+
+-- bits that go by the position of the first of them
+abbrev pub Text : Type 0
+Text = ℕ → List Bool
+
+-- the same at each position
+abbrev pub put : List Bool → Text
+put s p = s
+
+-- one text, and another after it
+abbrev pub chain : Text → Text → Text
+chain a b p = (let s = a p in s ++ b (p + length s))
+
+-- zeros up to the next multiple of 32
+abbrev pub padding : Text
+padding p = replicate (padding_length p) false
+
+abbrev pub values_text : List ℕ → List Bool
+values_text [] = []
+values_text (v ∷ vs) = shortest 6 v ++ values_text vs
+
+-- a record after its abbreviation id: the code, the number of values, and each value
+abbrev pub entry_text : ℕ → List ℕ → List Bool
+entry_text code values = shortest 6 code ++ (shortest 6 (length values) ++ values_text values)
+
+-- a block after its abbreviation id, up to its body: its id, the width 2, padding, and its length in words
+abbrev pub head_text : (id words : ℕ) → Text
+head_text id words = chain (put (shortest 8 id)) (chain (put (shortest 4 2)) (chain padding (put (bits_of 32 words))))
+
+-- a block after its abbreviation id: the length is that of its own body
+abbrev pub block_text : ℕ → Text → Text
+block_text id body p = (let b = body (p + length (head_text id 0 p)) in head_text id (length b / 32) p ++ b)
+
+abbrev pub end_text : Text
+end_text = chain (put (bits_of 2 0)) padding
+
+-- items in order
+unfoldable pub normal : Forest → Text
+normal empty = put []
+normal (a_block id inner rest) = chain (chain (put (bits_of 2 1)) (block_text id (chain (normal inner) end_text))) (normal rest)
+normal (a_record code values rest) = chain (chain (put (bits_of 2 3)) (put (entry_text code values))) (normal rest)
+
+-- the magic, and the blocks
+unfoldable pub normal_form : Tree → List Bool
+normal_form tree = chain (put (bits_of 32 tree.magic)) (normal tree.blocks) 0
+
+-- limits within which each length of a normal form fits its field
+pub record Capped (limits : Limits) : Type 0 where
+  pub bytes : limits.bytes ≤ 17179869180
+  pub depth : limits.depth ≤ 255
+  pub values : limits.values ≤ 4294967295
+
+-- these bytes spell a marked tree with this tree
+abbrev pub HasTree : Limits → List ℕ → Tree → Type 0
+HasTree limits bytes tree = (m : Marked) × SpellsInput limits bytes m × (tree_of Keep m ≡ tree)
