@@ -1,4 +1,8 @@
 -- Grammars of bit streams: what a rule asks of a stream, and what it gives.
+--
+-- A rule is data, built of few parts. Three functions say what it means, each by cases on the parts: Spells, Stops and
+-- reading. proofs/Deciding shows for every rule that they agree: what is spelled is read, what stops is refused, one of
+-- the two always happens, and never both. Source: this project's own.
 use Rattle.std.specs.Prelude.{◌≡◌, ℕ, zero, suc, ◌+◌, ◌<◌, ◌⊎◌, Bool, true, false, List, [], ◌∷◌, ◌++◌, length, take, drop, Result, Ok, Err, nat_lt, if◌then◌else◌}
 use Rattle.bit_grammar.specs.declared.reason.Reason.{Reason}
 
@@ -7,6 +11,7 @@ pub record Fault : Type 0 where
   pub reason : Reason
   pub bit : ℕ
 
+-- a reason at a bit
 abbrev pub at : Reason → ℕ → Fault
 at reason bit = record { reason = reason; bit = bit }
 
@@ -18,20 +23,27 @@ pub data Round (S A E : Type 0) : Type 0 where
 infixl 10 ◌>>=◌
 infixl 10 ◌>>◌
 infixl 10 ◌and_then◌
--- A rule, by what it gives: a value and no bits; a fault; the position at which it stands; the next bits, with a fault
--- for where fewer are left; nothing where a test holds, and else its fault; what one of two rules gives, by a
--- test; what a second rule gives, which may depend on the value of a first; the things that rounds from state to
--- state give, and what the last of them gives, with a fault for a round that takes no bits and goes on.
+-- A rule, by the type of what it gives.
 pub data Grammar : Type 0 → Type 1 where
+  -- this value, and no bits
   gives : {A : Type 0} → A → Grammar A
+  -- this fault, whatever follows
   refuses : {A : Type 0} → Fault → Grammar A
+  -- the position at which it stands
   position : Grammar ℕ
+  -- the next so many bits; the fault where fewer are left
   next_bits : ℕ → Fault → Grammar (List Bool)
+  -- nothing where the test holds, else the fault
   test : Bool → Fault → Grammar (Unit {0})
+  -- the first rule where the test holds, else the second
   choose : {A : Type 0} → Bool → Grammar A → Grammar A → Grammar A
+  -- one rule, and then another that may depend on what the first gave
   ◌>>=◌ : {A B : Type 0} → Grammar A → (A → Grammar B) → Grammar B
+  -- rounds, each in the state that the one before left, up to one that is the last: what the rounds gave, and what the last
+  -- one gave; the fault for a round that goes on and took no bits
   rounds : {S A E : Type 0} → Fault → (S → Grammar (Round S A E)) → S → Grammar (List A × E)
 
+-- one rule, and then another
 abbrev pub ◌>>◌ : {A B : Type 0} → Grammar A → Grammar B → Grammar B
 first >> second = first >>= λ v. second
 
