@@ -1,7 +1,7 @@
 -- What a definition spells, in the words of the format.
-use Rattle.std.proofs.Common.{◌≡◌, ℕ, zero, suc, ◌+◌, ◌<◌, ◌≢◌, Bool, true, false, ltb, leb, eqb, List, [], ◌∷◌, ◌++◌, length, refl, sym, ap, subst, ◌∙◌, arith, inl, inr}
+use Rattle.std.proofs.Common.{◌≡◌, ℕ, zero, suc, ◌+◌, ◌≢◌, Bool, true, false, leb, eqb, List, [], ◌∷◌, ◌++◌, length, refl, sym, ap, subst, ◌∙◌, arith, inl, inr}
 use Rattle.std.specs.List.{AllByRecursion}
-use Rattle.std.proofs.lemmas.Bool.{le-leb, lt-ltb, eqb-true, eqb-false, eq-eqb, ne_eqb}
+use Rattle.std.proofs.lemmas.Bool.{le-leb, eqb-true, eqb-false, eq-eqb, ne_eqb}
 use Rattle.std.proofs.lemmas.List.{append-nil}
 use Rattle.bit_grammar.specs.declared.op.Op.{Op}
 use Rattle.bit_grammar.specs.declared.op.Kind.{Kind}
@@ -9,8 +9,8 @@ use Rattle.bit_grammar.specs.declared.op.Kind.TheVariants.{Literal as literal, F
 use Rattle.bit_grammar.specs.declared.op.Place.{Place}
 use Rattle.bit_grammar.specs.declared.op.Place.TheVariants.{First as first, Element as element, Later as later}
 use Rattle.bit_grammar.specs.declared.op.Op.TheVariants.{Literal, Fixed, Vbr, Array, Char6, Blob}
-use Rattle.bit_grammar.specs.declared.reason.Reason.TheVariants.{AbbrevEmpty, AbbrevShape, FieldWidth}
-use Rattle.bit_grammar.specs.Grammar.{gives, ◌>>=◌, ◌>>◌, position, choose, judge, Spells}
+use Rattle.bit_grammar.specs.declared.reason.Reason.TheVariants.{AbbrevShape, FieldWidth}
+use Rattle.bit_grammar.specs.Grammar.{gives, ◌>>=◌, ◌>>◌, judge, Spells}
 use Rattle.bit_grammar.specs.Fields.{fixed, vbr}
 use Rattle.bit_grammar.specs.FormatFields.{IsFixed, IsVbr}
 use Rattle.bit_grammar.specs.Definition.{encoding, kind, fits, fixed_lawful, vbr_lawful, valued, operand, place_after, operands}
@@ -28,6 +28,7 @@ Starts first op = (op ≢ Array) × (op ≢ Blob)
 Starts element op = IsElement op
 Starts later op = Unit {0}
 
+-- an operand of which that is known fits the place, an array with one operand after it and a blob with none
 fits_there : (place : Place) (after : ℕ) (op : Op) → Starts place op → (op ≡ Array → after ≡ 1) → (op ≡ Blob → after ≡ 0) → fits place after (kind_of op) ≡ true
 fits_there first after (Literal v) starts one none = refl
 fits_there first after (Fixed width) starts one none = refl
@@ -56,6 +57,7 @@ starts_after Array next h = h refl
 starts_after Char6 next h = tt
 starts_after Blob next h = tt
 
+-- a list that is lawful by the index, and begins at this place, is lawful place by place
 lawful_there : (place : Place) (ops : List Op) → Starts place (op_at ops 0) → ((i : ℕ) → op_at ops i ≡ Array → i + 2 ≡ length ops) → ((i : ℕ) → op_at ops i ≡ Array → IsElement (op_at ops (i + 1)))
     → ((i : ℕ) → op_at ops i ≡ Blob → i + 1 ≡ length ops) → AllByRecursion HasLawfulValue ops → LawfulFrom place ops
 lawful_there place [] starts arrays elements blobs values = tt
@@ -212,6 +214,7 @@ is_value Blob p s lawful h = (h, refl)
 
 -- ---- operands
 
+-- an operand is its head and its value, joined and taken apart
 operand_of : (op : Op) (head value s : List Bool) → s ≡ head ++ value → IsHead (kind_of op) head → IsValue op value → IsOperand op s
 operand_of (Literal v) head value s parts h k = (value, parts ∙ ap (λ (t : List Bool). t ++ value) h, k)
 operand_of (Fixed width) head value s parts h k = (h.0, value, parts ∙ ap (λ (t : List Bool). t ++ value) h.1, h.2, k)

@@ -1,18 +1,17 @@
 -- What the fields of records spell, in the words of the format.
 use Rattle.std.proofs.Common.{◌≡◌, ℕ, zero, suc, ◌+◌, ◌≤◌, Bool, true, false, leb, List, [], ◌∷◌, ◌++◌, length, refl, sym, ap, subst, ◌∙◌, arith}
-use Rattle.std.proofs.lemmas.Bool.{leb-true}
 use Rattle.std.proofs.lemmas.List.{append-nil}
 use Rattle.bit_grammar.specs.declared.op.Op.{Op}
 use Rattle.bit_grammar.specs.declared.op.Op.TheVariants.{Literal, Fixed, Vbr, Array, Char6, Blob}
-use Rattle.bit_grammar.specs.declared.op.Place.TheVariants.{First as first_place, Element as element_place, Later as later}
+use Rattle.bit_grammar.specs.declared.op.Place.TheVariants.{First as first_place, Later as later}
 use Rattle.bit_grammar.specs.declared.reason.Reason.TheVariants.{TooManyValues}
 use Rattle.bit_grammar.specs.Grammar.{Grammar, gives, ◌>>=◌, ◌>>◌, judge, repeat, Spells}
 use Rattle.bit_grammar.specs.Fields.{vbr, align32, byte}
-use Rattle.bit_grammar.specs.FormatFields.{IsFixed, IsVbr}
+use Rattle.bit_grammar.specs.FormatFields.{IsVbr}
 use Rattle.bit_grammar.specs.Definition.{fits, place_after}
 use Rattle.bit_grammar.specs.FormatDefinition.{IsElement, HasLawfulValue}
 use Rattle.bit_grammar.specs.Record.{value_count, scalar, singles, values_of}
-use Rattle.bit_grammar.specs.FormatRecord.{IsScalar, AreFields, IsArray, IsBlob, AreValues}
+use Rattle.bit_grammar.specs.FormatRecord.{IsScalar, AreFields, IsBlob, AreValues}
 use Rattle.bit_grammar.proofs.Deciding.{position-first, first-position, judged, judge-spells}
 use Rattle.bit_grammar.proofs.Fields.{fixed_is, is_fixed, vbr_is, is_vbr, char6_is, is_char6, align_is, is_align}
 use Rattle.bit_grammar.proofs.Sequences.{made, made-spells}
@@ -165,8 +164,7 @@ are_values room (Array ∷ element ∷ others) p s vs l h fits =
     (h.0, h.1, length vs, h.2, is_count room p h.0 (length vs) h.3 (omega (arith, fits)), are_fields element (scalar element) (is_scalar element l.2.1) (p + length h.0) h.1 vs h.4)
 are_values room (Blob ∷ others) p s vs l h fits =
     let q : ℕ = p + length h.count in
-    let r : ℕ = q + length h.before in
-    (
+    let r : ℕ = q + length h.before in (
       h.count,
       h.before ++ (h.bytes ++ h.behind),
       length vs,

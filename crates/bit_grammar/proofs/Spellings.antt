@@ -1,11 +1,11 @@
 -- Definitions and records are spelled as the words of the format say, both ways.
-use Rattle.std.proofs.Common.{◌≡◌, ℕ, suc, ◌+◌, ◌-◌, ◌^◌, ◌<◌, ◌≤◌, Bool, true, false, ltb, leb, List, [], ◌∷◌, ◌++◌, length, refl, sym, ap, subst, ◌∙◌, arith}
+use Rattle.std.proofs.Common.{ℕ, ◌+◌, ◌-◌, ◌^◌, ◌<◌, ◌≤◌, Bool, true, false, ltb, leb, List, [], ◌∷◌, ◌++◌, length, refl, sym, ap, subst, ◌∙◌, arith}
 use Rattle.std.specs.List.{AllByRecursion}
-use Rattle.std.proofs.lemmas.Bool.{lt-ltb, leb-true}
+use Rattle.std.proofs.lemmas.Bool.{lt-ltb}
 use Rattle.bit_grammar.specs.declared.op.Op.{Op}
 use Rattle.bit_grammar.specs.declared.op.Op.TheVariants.{Literal, Fixed, Vbr, Array, Char6, Blob}
 use Rattle.bit_grammar.specs.declared.op.Place.{Place}
-use Rattle.bit_grammar.specs.declared.op.Place.TheVariants.{First as first_place, Later as later}
+use Rattle.bit_grammar.specs.declared.op.Place.TheVariants.{First as first_place}
 use Rattle.bit_grammar.specs.declared.reason.Reason.TheVariants.{AbbrevEmpty, TooManyValues}
 use Rattle.bit_grammar.specs.Bits.{bits_of}
 use Rattle.bit_grammar.specs.Grammar.{gives, ◌>>=◌, ◌>>◌, judge, repeat, Spells}
@@ -14,7 +14,7 @@ use Rattle.bit_grammar.specs.FormatFields.{IsVbr, IsFixed, shortest}
 use Rattle.bit_grammar.specs.Definition.{operands, definition}
 use Rattle.bit_grammar.specs.FormatDefinition.{HasLawfulValue, Lawful, IsEncoding, IsNothing, IsOperand, AreOperands, IsDefinition}
 use Rattle.bit_grammar.specs.Record.{Entry, unabbreviated, scalar, singles, values_of, abbreviated}
-use Rattle.bit_grammar.specs.FormatRecord.{AreFields, IsUnabbreviated, IsAbbreviated}
+use Rattle.bit_grammar.specs.FormatRecord.{IsUnabbreviated, IsAbbreviated}
 use Rattle.bit_grammar.proofs.Deciding.{position-first, first-position, judged, judge-spells}
 use Rattle.bit_grammar.proofs.Wholes.{is_le}
 use Rattle.bit_grammar.proofs.Limits.{unabbreviated_bounded, abbreviated_within}
@@ -45,8 +45,7 @@ pub is_definition : (p : ℕ) (s : List Bool) (ops : List Op) → IsDefinition o
 unfolding definition
 is_definition p s ops h =
     let all = are_operands first_place ops (p + length h.count) h.operands (lawful_from ops h.lawful) h.spelled in
-    first-position (λ start. vbr 5 >>= λ count. judge (ltb 0 count) AbbrevEmpty start >> operands count first_place) p s ops
-    (
+    first-position (λ start. vbr 5 >>= λ count. judge (ltb 0 count) AbbrevEmpty start >> operands count first_place) p s ops (
       h.count,
       h.operands,
       length ops,
@@ -76,8 +75,7 @@ operands_spelled (op ∷ others) lawful =
 
 pub lawful_spelled : (ops : List Op) → Lawful ops → length ops < 2 ^ 64 → (s : List Bool) × IsDefinition ops s
 lawful_spelled ops lawful few =
-    let all = operands_spelled ops lawful.values in
-    (
+    let all = operands_spelled ops lawful.values in (
       shortest 5 (length ops) ++ all.0,
       record { lawful = lawful; count = shortest 5 (length ops); operands = all.0; parts = refl; counted = short_is_vbr 5 (length ops) (omega arith) few; spelled = all.1 },
     )
@@ -106,8 +104,7 @@ pub is_unabbreviated : (room p : ℕ) (s : List Bool) (e : Entry) → IsUnabbrev
 unfolding unabbreviated
 is_unabbreviated room p s e h fits =
     let q : ℕ = p + length h.code in
-    let all = are_fields (Vbr 6) (vbr 6) (λ p s v k. is_vbr 6 p s v (omega arith) k) (q + length h.count) h.values e.values h.are_values in
-    (
+    let all = are_fields (Vbr 6) (vbr 6) (λ p s v k. is_vbr 6 p s v (omega arith) k) (q + length h.count) h.values e.values h.are_values in (
       h.code,
       h.count ++ h.values,
       e.code,
