@@ -58,7 +58,7 @@ abbrev pub LawfulFrom : Place → List Op → Type 0
 LawfulFrom place [] = Unit {0}
 LawfulFrom place (op ∷ others) = (fits place (length others) (kind_of op) ≡ true) × HasLawfulValue op × LawfulFrom (place_after op) others
 
-operands_are : (count : ℕ) (place : Place) (p : ℕ) (s : List Bool) (ops : List Op) → Spells (operands count place) p s ops → (length ops ≡ count) × LawfulFrom place ops
+pub operands_are : (count : ℕ) (place : Place) (p : ℕ) (s : List Bool) (ops : List Op) → Spells (operands count place) p s ops → (length ops ≡ count) × LawfulFrom place ops
 unfolding operands
 operands_are zero place p s ops h = subst (λ (x : List Op). (length x ≡ 0) × LawfulFrom place x) (sym h.1) (refl, tt)
 operands_are (suc after) place p s ops h =
@@ -95,7 +95,7 @@ blob_at place (op ∷ others) h zero e =
     omega (arith, blob_fits place (length others) (ap (fits place (length others)) (sym k) ∙ h.0))
 blob_at place (op ∷ others) h (suc i) e = omega (arith, blob_at (place_after op) others h.2 i e)
 
-field_fits : (after : ℕ) (op : Op) → fits element after (kind_of op) ≡ true → IsElement op
+pub field_fits : (after : ℕ) (op : Op) → fits element after (kind_of op) ≡ true → IsElement op
 field_fits after (Literal v) h = absurd (let no : false ≡ true = h in cc)
 field_fits after (Fixed w) h = tt
 field_fits after (Vbr w) h = tt

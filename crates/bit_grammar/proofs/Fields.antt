@@ -8,7 +8,7 @@ use Rattle.std.proofs.lemmas.List.{append-nil, take_at, get_or_at, length-append
 use Rattle.bit_grammar.specs.declared.reason.Reason.TheVariants.{ValueTooWide, DirtyPadding}
 use Rattle.bit_grammar.specs.Bits.{number, bits_of}
 use Rattle.bit_grammar.specs.Grammar.{Grammar, gives, choose, ◌>>=◌, ◌>>◌, judge, Spells}
-use Rattle.bit_grammar.specs.Fields.{next_of, fixed, chunks, chunk_limit, vbr, character, char6, zeros, padding_length, align32}
+use Rattle.bit_grammar.specs.Fields.{next_of, fixed, chunks, chunk_limit, vbr, char6, zeros, padding_length, align32}
 use Rattle.bit_grammar.specs.FormatFields.{sum_of_bits, chunked, weighted, IsVbr, IsFixed, IsChar6, IsPadding, shortest_payloads, shortest}
 use Rattle.bit_grammar.proofs.Deciding.{position-first, first-position, judged, judge-spells}
 use Rattle.bit_grammar.proofs.Numbers.{number_below, number_only, number-bits_of, number-low_bits, length-bits_of, pow_mono, parts_below, low_below, high_below}

@@ -1,6 +1,8 @@
--- The definition of an abbreviation.
-use Rattle.std.specs.Prelude.{◌≡◌, ℕ, zero, suc, ◌+◌, ◌^◌, ◌<◌, ◌≤◌, ◌≢◌, length, get_or, Bool, true, false, not, ◌&&◌, List, [], ◌∷◌, nat_lt, nat_le, ◌==◌}
-use Rattle.std.specs.List.{AllByRecursion}
+-- The definition of an abbreviation, after the abbreviation id.
+-- Source: "LLVM Bitcode File Format", "Abbreviation IDs", "Abbreviations", "DEFINE_ABBREV Encoding". This project's
+-- own: the bounds of the widths, that there is an operand, that the first is no array and no blob, and that an array's
+-- element is a plain field.
+use Rattle.std.specs.Prelude.{ℕ, zero, suc, Bool, true, false, not, ◌&&◌, List, [], ◌∷◌, nat_lt, nat_le, ◌==◌}
 use Rattle.bit_grammar.specs.declared.op.Op.{Op}
 use Rattle.bit_grammar.specs.declared.op.Kind.{Kind}
 use Rattle.bit_grammar.specs.declared.op.Kind.TheVariants.{Literal as literal, Fixed as fixed_width, Vbr as vbr_width, Array as array, Char6 as char6, Blob as blob}

@@ -1,8 +1,9 @@
 -- The fields: numbers of fixed width, VBRs, characters and padding.
-use Rattle.std.specs.Prelude.{◌≡◌, ℕ, zero, suc, ◌+◌, ◌-◌, ◌*◌, ◌/◌, ◌%◌, ◌^◌, ◌<◌, ◌≤◌, Bool, true, false, List, [], ◌∷◌, ◌++◌, length, take, get_or, nat_lt, ◌==◌, if◌then◌else◌}
-use Rattle.std.specs.List.{AllByRecursion}
+-- Source: "LLVM Bitcode File Format", "Primitives": "Fixed Width Integers", "Variable Width Integers", "6-bit
+-- characters", "Word Alignment". This project's own: the bounds of a VBR, and the faults.
+use Rattle.std.specs.Prelude.{ℕ, zero, suc, ◌+◌, ◌-◌, ◌*◌, ◌/◌, ◌%◌, ◌^◌, Bool, false, List, take, get_or, nat_lt, ◌==◌, if◌then◌else◌}
 use Rattle.bit_grammar.specs.declared.reason.Reason.TheVariants.{Truncated, ValueTooWide, DirtyPadding}
-use Rattle.bit_grammar.specs.Bits.{number, bits_of}
+use Rattle.bit_grammar.specs.Bits.{number}
 use Rattle.bit_grammar.specs.Grammar.{at, Grammar, gives, refuses, position, next_bits, choose, ◌>>=◌, ◌>>◌, judge}
 
 -- the next bits; where fewer are left, the field that begins at start is truncated

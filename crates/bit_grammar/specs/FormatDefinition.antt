@@ -1,4 +1,7 @@
--- The definition of an abbreviation in the words of the format. Source: "Abbreviations", "DEFINE_ABBREV Record".
+-- The definition of an abbreviation in the words of the format.
+-- Source: "LLVM Bitcode File Format", "Abbreviation IDs", "Abbreviations", "DEFINE_ABBREV Encoding". This project's
+-- own: the bounds of the widths, that there is an operand, that the first is no array and no blob, and that an array's
+-- element is a plain field.
 use Rattle.std.specs.Prelude.{◌≡◌, ℕ, ◌+◌, ◌^◌, ◌<◌, ◌≤◌, ◌≢◌, length, get_or, Bool, true, false, List, [], ◌∷◌, ◌++◌}
 use Rattle.std.specs.List.{AllByRecursion}
 use Rattle.bit_grammar.specs.declared.op.Op.{Op}

@@ -1,4 +1,6 @@
--- The fields in the words of the format. Source: "Bitstream Format", "Primitives".
+-- The fields in the words of the format.
+-- Source: "LLVM Bitcode File Format", "Primitives": "Fixed Width Integers", "Variable Width Integers", "6-bit
+-- characters", "Word Alignment". This project's own: the bounds of a VBR.
 use Rattle.std.specs.Prelude.{◌≡◌, ℕ, zero, suc, ◌+◌, ◌-◌, ◌*◌, ◌/◌, ◌%◌, ◌^◌, ◌<◌, ◌≤◌, Bool, true, false, List, [], ◌∷◌, ◌++◌, length, nat_lt, if◌then◌else◌}
 use Rattle.std.specs.List.{AllByRecursion}
 use Rattle.bit_grammar.specs.Bits.{bit, number, bits_of}

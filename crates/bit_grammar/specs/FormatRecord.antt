@@ -1,4 +1,6 @@
--- Records in the words of the format. Source: "Data Records", "UNABBREV_RECORD Encoding", "Abbreviated Record Encoding".
+-- Records in the words of the format.
+-- Source: "LLVM Bitcode File Format", "Abbreviation IDs", "Data Records", "UNABBREV_RECORD Encoding", "Abbreviated
+-- Record Encoding".
 use Rattle.std.specs.Prelude.{◌≡◌, ℕ, zero, suc, ◌+◌, Bool, List, [], ◌∷◌, ◌++◌, length}
 use Rattle.bit_grammar.specs.declared.op.Op.{Op}
 use Rattle.bit_grammar.specs.declared.op.Op.TheVariants.{Literal, Fixed, Vbr, Array, Char6, Blob}
@@ -36,7 +38,7 @@ pub record IsBlob (p : ℕ) (vs : List ℕ) (s : List Bool) : Type 0 where
   pub are_bytes : AreFields (Fixed 8) vs bytes
   pub padded_behind : IsPadding (p + length count + length before + length bytes) behind
 
--- the values of operands, the first of which begins at bit p
+-- the values of the operands after the first of a lawful list; the first value begins at bit p
 abbrev pub AreValues : List Op → ℕ → List ℕ → List Bool → Type 0
 AreValues [] p vs s = (vs ≡ []) × (s ≡ [])
 AreValues (Array ∷ []) p vs s = ⊥
@@ -54,7 +56,7 @@ pub record IsUnabbreviated (e : Entry) (s : List Bool) : Type 0 where
   pub counted : IsVbr 6 (length e.values) count
   pub are_values : AreFields (Vbr 6) e.values values
 
--- a record by these operands, which begins at bit p after its abbreviation id: the first gives the code, the others the values
+-- a record by a lawful list of operands, which begins at bit p after its abbreviation id: the first gives the code, the others the values
 abbrev pub IsAbbreviated : List Op → ℕ → Entry → List Bool → Type 0
 IsAbbreviated [] p e s = ⊥
 IsAbbreviated (op ∷ others) p e s = (code values : List Bool) × (s ≡ code ++ values) × IsScalar op e.code code × AreValues others (p + length code) e.values values
