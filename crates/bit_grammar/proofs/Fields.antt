@@ -11,6 +11,7 @@ use Rattle.bit_grammar.specs.Grammar.{Grammar, gives, choose, ◌>>=◌, ◌>>�
 use Rattle.bit_grammar.specs.Fields.{next_of, fixed, chunks, chunk_limit, vbr, char6, zeros, padding_length, align32}
 use Rattle.bit_grammar.specs.FormatFields.{sum_of_bits, chunked, weighted, IsVbr, IsFixed, IsChar6, IsPadding, shortest_payloads, shortest}
 use Rattle.bit_grammar.proofs.Deciding.{position-first, first-position, judged, judge-spells}
+use Rattle.bit_grammar.proofs.Tables.{limit_enough}
 use Rattle.bit_grammar.proofs.Numbers.{number_below, number_only, number-bits_of, number-low_bits, length-bits_of, pow_mono, parts_below, low_below, high_below}
 
 -- ---- numbers of fixed width
@@ -272,9 +273,6 @@ short_joined payload (suc permitted) v h =
           rw (is, short_joined payload permitted (v / 2 ^ payload) high) (number-low_bits payload v)
     ]
 
-limit_is_enough : (payload : ℕ) → 1 ≤ payload → 64 ≤ chunk_limit payload * payload
-limit_is_enough payload some = omega (arith, div-add-mod' (63 + payload) payload)
-
 short_some : (payload permitted v : ℕ) → 1 ≤ permitted → 1 ≤ length (shortest_payloads payload permitted v)
 short_some payload zero v h = absurd (omega (arith, h))
 short_some payload (suc permitted) v h = omega arith
@@ -286,14 +284,14 @@ factor_some (suc k) m h = omega arith
 short_value : (n v : ℕ) → 2 ≤ n → v < 2 ^ 64 → joined (n - 1) (shortest_payloads (n - 1) (chunk_limit (n - 1)) v) ≡ v
 short_value n v wide below =
     let payload : ℕ = n - 1 in
-    let enough = limit_is_enough payload (omega arith) in
+    let enough = limit_enough payload (omega arith) in
     short_joined payload (chunk_limit payload) v (omega (arith, below, pow_mono 64 (chunk_limit payload * payload) enough))
 
 -- the shortest VBR is one
 pub short_is_vbr : (n v : ℕ) → 2 ≤ n → v < 2 ^ 64 → IsVbr n v (shortest n v)
 short_is_vbr n v wide below =
     let payload : ℕ = n - 1 in
-    let enough = limit_is_enough payload (omega arith) in
+    let enough = limit_enough payload (omega arith) in
     record {
       payloads = shortest_payloads payload (chunk_limit payload) v;
       some = short_some payload (chunk_limit payload) v (factor_some (chunk_limit payload) payload enough);

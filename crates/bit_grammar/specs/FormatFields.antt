@@ -1,7 +1,7 @@
 -- The fields in the words of the format.
 -- Source: "LLVM Bitcode File Format", "Primitives": "Fixed Width Integers", "Variable Width Integers", "6-bit
 -- characters", "Word Alignment". This project's own: the bounds of a VBR.
-use Rattle.std.specs.Prelude.{◌≡◌, ℕ, zero, suc, ◌+◌, ◌-◌, ◌*◌, ◌/◌, ◌%◌, ◌^◌, ◌<◌, ◌≤◌, Bool, true, false, List, [], ◌∷◌, ◌++◌, length, nat_lt, if◌then◌else◌}
+use Rattle.std.specs.Prelude.{◌≡◌, ℕ, zero, suc, ◌+◌, ◌-◌, ◌*◌, ◌/◌, ◌%◌, ◌^◌, ◌<◌, ◌≤◌, Bool, true, false, List, [], ◌∷◌, ◌++◌, length, nat_lt, if◌then◌else◌, codes}
 use Rattle.std.specs.List.{AllByRecursion}
 use Rattle.bit_grammar.specs.Bits.{bit, number, bits_of}
 use Rattle.bit_grammar.specs.Fields.{chunk_limit, character}
@@ -36,6 +36,10 @@ pub record IsVbr (n v : ℕ) (s : List Bool) : Type 0 where
   pub bits : s ≡ chunked payloads
   pub value : v ≡ weighted (n - 1) 0 payloads
   pub below : v < 2 ^ 64
+
+-- the characters in the order of their numbers, as ASCII codes
+abbrev pub characters : List ℕ
+characters = codes "abcdefghijklmnopqrstuvwxyzABCDEFGHIJKLMNOPQRSTUVWXYZ0123456789._"
 
 -- s is six bits, and v the ASCII code of the character with their number
 pub record IsChar6 (v : ℕ) (s : List Bool) : Type 0 where

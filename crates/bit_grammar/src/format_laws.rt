@@ -1,8 +1,8 @@
-ghost use Rattle.std.specs.Prelude.{◌≡◌, ℕ, ◌^◌, ◌<◌, ◌≤◌, ◌↔◌, Bool, List, [], length};
+ghost use Rattle.std.specs.Prelude.{◌≡◌, ℕ, ◌*◌, slice_index, ◌^◌, ◌<◌, ◌≤◌, ◌↔◌, Bool, List, [], length};
 ghost use Rattle.bit_grammar.specs.declared.op.Op.{Op};
 ghost use Rattle.bit_grammar.specs.Grammar.{Spells};
-ghost use Rattle.bit_grammar.specs.Fields.{vbr, char6, byte};
-ghost use Rattle.bit_grammar.specs.FormatFields.{IsFixed, IsChar6};
+ghost use Rattle.bit_grammar.specs.Fields.{chunk_limit, character, vbr, char6, byte};
+ghost use Rattle.bit_grammar.specs.FormatFields.{IsFixed, IsChar6, characters};
 ghost use Rattle.bit_grammar.specs.Definition.{definition};
 ghost use Rattle.bit_grammar.specs.FormatDefinition.{Lawful, IsDefinition};
 ghost use Rattle.bit_grammar.specs.Record.{Entry, unabbreviated, abbreviated};
@@ -11,6 +11,17 @@ ghost use Rattle.bit_grammar.specs.FormatRecord.{IsUnabbreviated, IsAbbreviated}
 /// A character is six bits, and its value the ASCII code of the character with the number that they spell.
 pub fn char6_in_bits()
     ensures { (p : ℕ) (s : List Bool) (v : ℕ) → (Spells char6 p s v ↔ IsChar6 v s) }
+{}
+
+/// The ASCII code of the character with a number is the one at that place of the table.
+pub fn characters_in_table()
+    ensures { (c : ℕ) → c < 64 → character c ≡ slice_index characters c }
+{}
+
+/// The number of chunks that a VBR may have is the least that has 64 payload bits.
+pub fn chunks_for_64_bits()
+    ensures enough { (payload : ℕ) → 1 ≤ payload → 64 ≤ chunk_limit payload * payload }
+    ensures least { (payload k : ℕ) → 64 ≤ k * payload → chunk_limit payload ≤ k }
 {}
 
 /// A byte is eight bits, and its value the number that they spell.
