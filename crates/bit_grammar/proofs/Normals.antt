@@ -436,7 +436,7 @@ not_wrapped : (magic : ℕ) → magic ≢ wrapper_magic → is_wrapped magic ≡
 not_wrapped magic h = grind (arith, nat_tests)
 
 pub normal_spelled : (limits : Limits) (tree : Tree) (bytes : List ℕ) → Capped limits → Fit tree → bits_of_bytes bytes ≡ normal_form tree → length bytes ≤ limits.bytes → forest_depth tree.blocks ≤ limits.depth → forest_values tree.blocks ≤ limits.values
-    → HasTree limits bytes tree
+    → HasTree Keep limits bytes tree
 unfolding normal_form input stream top_blocks
 normal_spelled limits tree bytes capped fit is fits deep room =
     let magic = bits_of 32 tree.magic in

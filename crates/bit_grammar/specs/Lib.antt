@@ -9,6 +9,7 @@ pub mod Record
 pub mod FormatRecord
 pub mod Forest
 pub mod Marks
+pub mod Dropped
 pub mod Blocks
 pub mod FormatBlocks
 pub mod Whole
