@@ -17,4 +17,5 @@ pub mod Input
 pub mod FormatInput
 pub mod Machine
 pub mod Normal
+pub mod Size
 pub mod Outlook
