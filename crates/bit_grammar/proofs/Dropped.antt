@@ -79,7 +79,7 @@ items_are_under Drop m = dropped_of m
 pub tree_is_under : (info : Info) (m : Marked) → tree_of info m ≡ under info (tree_of Keep m)
 tree_is_under info m = ap (λ (f : Forest). record { magic = m.head.magic; blocks = f }) (items_are_under info m.blocks)
 
-items_under_again : (info : Info) (f : Forest) → items_under info (items_under info f) ≡ items_under info f
+pub items_under_again : (info : Info) (f : Forest) → items_under info (items_under info f) ≡ items_under info f
 items_under_again Keep f = refl
 items_under_again Drop f = dropped_again f
 
@@ -90,7 +90,7 @@ items_fit : (info : Info) (f : Forest) → FitForest f → FitForest (items_unde
 items_fit Keep f fit = fit
 items_fit Drop f fit = dropped_fit f fit
 
-items_are_blocks : (info : Info) (f : Forest) → AreBlocks f → AreBlocks (items_under info f)
+pub items_are_blocks : (info : Info) (f : Forest) → AreBlocks f → AreBlocks (items_under info f)
 items_are_blocks Keep f blocks = blocks
 items_are_blocks Drop f blocks = dropped_blocks f blocks
 

@@ -1,0 +1,5 @@
+use Rattle.bit_grammar.proofs.Sizes.{normal_again, end_again, body_whole}
+use Rattle.bit_grammar.proofs.normal_laws.normal_at.Goals as goal
+
+pub returns : goal.returns
+returns c = record { text = normal_again; end = end_again; body = body_whole }
