@@ -1,9 +1,9 @@
 -- Bytes and their bits.
-use Rattle.std.proofs.Common.{◌≡◌, ℕ, zero, suc, ◌+◌, ◌*◌, ◌^◌, ◌<◌, Bool, List, [], ◌∷◌, ◌++◌, length, take, drop, refl, sym, ap, subst, ◌∙◌, arith}
+use Rattle.std.proofs.Common.{◌≡◌, ℕ, zero, suc, ◌*◌, ◌^◌, ◌<◌, Bool, List, [], ◌∷◌, ◌++◌, length, take, drop, refl, sym, ap, subst, ◌∙◌, arith}
 use Rattle.std.specs.List.{All, AllByRecursion}
 use Rattle.std.proofs.Math.Seq.{take-append_seam, drop-append_seam}
 use Rattle.std.proofs.lemmas.List.{length-append, length-take, length-drop, take-append-drop}
-use Rattle.std.proofs.lemmas.List.Elements.{All-from_recursion, recursion_from_All}
+use Rattle.std.proofs.lemmas.List.Elements.{recursion_from_All}
 use Rattle.bit_grammar.specs.Bits.{number, bits_of, bits_of_bytes}
 use Rattle.bit_grammar.proofs.Numbers.{number_below, length-bits_of, number-bits_of, number_only}
 
@@ -19,8 +19,7 @@ bits_of-number s = number_only (bits_of (length s) (number s)) s (length-bits_of
 same_parts : (a b x y : List Bool) → length a ≡ length b → a ++ x ≡ b ++ y → (a ≡ b) × (x ≡ y)
 same_parts a b x y len e =
     let front : take (length b) (a ++ x) ≡ b = ap (take (length b)) e ∙ take-append_seam b y in
-    let others : drop (length b) (a ++ x) ≡ y = ap (drop (length b)) e ∙ drop-append_seam b y in
-    (
+    let others : drop (length b) (a ++ x) ≡ y = ap (drop (length b)) e ∙ drop-append_seam b y in (
       sym (take-append_seam a x) ∙ ap (λ (n : ℕ). take n (a ++ x)) len ∙ front,
       sym (drop-append_seam a x) ∙ ap (λ (n : ℕ). drop n (a ++ x)) len ∙ others,
     )

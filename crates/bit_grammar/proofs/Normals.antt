@@ -1,31 +1,25 @@
 -- A normal form is spelled by the tree that it is the form of.
-use Rattle.std.proofs.Common.{◌≡◌, ℕ, zero, suc, ◌+◌, ◌-◌, ◌*◌, ◌/◌, ◌<◌, ◌≤◌, ◌^◌, ◌≢◌, Bool, true, false, eqb, List, [], ◌∷◌, ◌++◌, length, replicate, get_or, Option, Some, None, refl, sym, ap, subst, ◌∙◌, append_assoc, arith, inl, inr}
+use Rattle.std.proofs.Common.{◌≡◌, ℕ, zero, suc, ◌+◌, ◌*◌, ◌/◌, ◌<◌, ◌≤◌, ◌^◌, ◌≢◌, Bool, true, false, eqb, List, [], ◌∷◌, ◌++◌, length, get_or, Option, Some, None, refl, sym, ap, subst, ◌∙◌, append_assoc, arith, inr}
 use Rattle.std.specs.Prelude.{if◌then◌else◌, is_some}
-use Rattle.std.specs.List.{AllByRecursion}
-use Rattle.std.proofs.lemmas.Bool.{lt-ltb}
 use Rattle.std.proofs.lemmas.Bool.Decides.{nat_tests}
-use Rattle.std.proofs.lemmas.List.{append-nil, length-append, length-replicate}
+use Rattle.std.proofs.lemmas.List.{length-append}
 use Rattle.bit_grammar.specs.declared.info.Info.TheVariants.{Keep}
 use Rattle.bit_grammar.specs.declared.reason.Reason.TheVariants.{Truncated}
 use Rattle.bit_grammar.specs.Bits.{bits_of, bits_of_bytes}
-use Rattle.bit_grammar.specs.Grammar.{Fault, at, rounds, Grammar, Round, one_more, last, gives, position, test, choose, ◌>>=◌, repeat, Rounds, Spells}
-use Rattle.bit_grammar.specs.Fields.{padding_length, fixed, vbr, align32}
+use Rattle.bit_grammar.specs.Grammar.{at, rounds, Round, one_more, last, Rounds, Spells}
 use Rattle.bit_grammar.specs.FormatFields.{shortest}
-use Rattle.bit_grammar.specs.Record.{value_count, unabbreviated}
 use Rattle.bit_grammar.specs.Forest.{Forest, empty, a_block, a_record, Tree, forest_depth, forest_values, names_block, DescribesBlocks, FitForest, AreBlocks, wrapper_magic, Fit}
 use Rattle.bit_grammar.specs.Marks.{BlockMark, Marks, Item, block_item, record_item, item_then, marks_of, forest_of}
-use Rattle.bit_grammar.specs.Blocks.{Limits, no_definitions, BlockInfo, Handed, Scope, enter, leave, BlockHead, block_id, new_width, block_head, end_of_block, entry, describe, record_after, nested, item_after, item, block, top_block}
+use Rattle.bit_grammar.specs.Blocks.{Limits, no_definitions, BlockInfo, Handed, Scope, enter, leave, BlockHead, describe, nested, item_after, item, block, top_block}
 use Rattle.bit_grammar.specs.Whole.{Things}
 use Rattle.bit_grammar.specs.Input.{is_wrapped, Marked, tree_of, top_blocks, stream, input}
-use Rattle.bit_grammar.specs.Normal.{Text, chain, put, padding, values_text, entry_text, head_text, block_text, end_text, normal, normal_form, Capped, HasTree}
-use Rattle.bit_grammar.proofs.Numbers.{length-bits_of, number-bits_of}
-use Rattle.bit_grammar.proofs.Fields.{sum_is, is_fixed, is_vbr, is_align, short_is_vbr}
+use Rattle.bit_grammar.specs.Normal.{Text, chain, put, padding, entry_text, head_text, block_text, end_text, normal, normal_form, Capped, HasTree}
+use Rattle.bit_grammar.proofs.Numbers.{length-bits_of}
 use Rattle.bit_grammar.proofs.Items.{item_takes, top_takes}
-use Rattle.bit_grammar.proofs.Wholes.{is_le}
 use Rattle.bit_grammar.proofs.Inputs.{one_tree}
 use Rattle.bit_grammar.proofs.Bytes.{bytes_length}
 use Rattle.bit_grammar.proofs.Texts.{pad_ends, head_length, body_aligned}
-use Rattle.bit_grammar.proofs.SpelledParts.{Spelled, then_spelled, then_last, given, no_bits, here_spelled, judge_spelled, first_chosen, other_chosen, moved, fixed_spelled, id_spelled, noted, record_spelled, made_head, head_spelled, last_spelled}
+use Rattle.bit_grammar.proofs.SpelledParts.{Spelled, then_spelled, then_last, given, here_spelled, judge_spelled, first_chosen, other_chosen, moved, fixed_spelled, id_spelled, record_spelled, made_head, head_spelled, last_spelled}
 
 -- ---- bodies
 

@@ -7,7 +7,7 @@ use Rattle.std.proofs.lemmas.List.Elements.{All-from_recursion}
 use Rattle.bit_grammar.specs.Bits.{bits_of, bits_of_bytes}
 use Rattle.bit_grammar.specs.Fields.{chunk_limit, padding_length}
 use Rattle.bit_grammar.specs.FormatFields.{shortest_payloads, shortest}
-use Rattle.bit_grammar.specs.Forest.{Forest, empty, a_block, a_record, Tree, AreBlocks, Fit}
+use Rattle.bit_grammar.specs.Forest.{Forest, empty, a_block, a_record, Tree, AreBlocks}
 use Rattle.bit_grammar.specs.Normal.{Text, chain, put, padding, values_text, entry_text, head_text, block_text, end_text, normal, normal_form}
 use Rattle.bit_grammar.specs.Size.{chunk_count, shortest_length, values_length, record_length, aligned, body_at, end_of, body_length, size_of}
 use Rattle.bit_grammar.proofs.Numbers.{length-bits_of}
