@@ -1,13 +1,13 @@
 -- What is left without the BLOCKINFO blocks.
 use Rattle.std.proofs.Common.{◌≡◌, suc, ◌+◌, ◌≤◌, Bool, true, false, eqb, max, refl, ap, arith}
 use Rattle.std.specs.Prelude.{if◌then◌else◌, not}
-use Rattle.std.proofs.lemmas.Bool.{eqb-false}
+use Rattle.std.proofs.lemmas.Bool.{eqb-false, ne_eqb}
 use Rattle.bit_grammar.specs.declared.info.Info.{Info}
 use Rattle.bit_grammar.specs.declared.info.Info.TheVariants.{Keep, Drop}
 use Rattle.bit_grammar.specs.Forest.{Forest, empty, a_block, a_record, Tree, forest_depth, forest_values, FitForest, AreBlocks, Fit}
 use Rattle.bit_grammar.specs.Marks.{Marks, no_marks, marked_block, marked_record, marked_definition, forest_of}
 use Rattle.bit_grammar.specs.Input.{Marked, tree_of}
-use Rattle.bit_grammar.specs.Dropped.{dropped, items_under, under}
+use Rattle.bit_grammar.specs.Dropped.{dropped, WithoutInfo, items_under, under}
 
 -- ---- dropping
 
@@ -22,15 +22,22 @@ dropped_of (marked_block mark inner rest) = go (eqb mark.id 0) (dropped_of inner
 dropped_of (marked_record mark rest) = ap (a_record mark.code mark.values) (dropped_of rest)
 dropped_of (marked_definition mark rest) = dropped_of rest
 
-dropped_again : (f : Forest) → dropped (dropped f) ≡ dropped f
-dropped_again empty = refl
-dropped_again (a_block id inner rest) = go (eqb id 0) refl (dropped_again inner) (dropped_again rest)
+pub dropped_without : (f : Forest) → WithoutInfo (dropped f)
+dropped_without empty = tt
+dropped_without (a_block id inner rest) = go (eqb id 0) refl (dropped_without inner) (dropped_without rest)
   where
-    go : (b : Bool) → eqb id 0 ≡ b → dropped (dropped inner) ≡ dropped inner → dropped (dropped rest) ≡ dropped rest
-        → dropped (if b then dropped rest else a_block id (dropped inner) (dropped rest)) ≡ (if b then dropped rest else a_block id (dropped inner) (dropped rest))
+    go : (b : Bool) → eqb id 0 ≡ b → WithoutInfo (dropped inner) → WithoutInfo (dropped rest) → WithoutInfo (if b then dropped rest else a_block id (dropped inner) (dropped rest))
     go true e x y = y
-    go false e x y = rw (e, x, y) refl
-dropped_again (a_record code values rest) = ap (a_record code values) (dropped_again rest)
+    go false e x y = (eqb-false id 0 e, x, y)
+dropped_without (a_record code values rest) = dropped_without rest
+
+pub without_stays : (f : Forest) → WithoutInfo f → dropped f ≡ f
+without_stays empty none = refl
+without_stays (a_block id inner rest) none = rw (ne_eqb id 0 none.0, without_stays inner none.1, without_stays rest none.2) refl
+without_stays (a_record code values rest) none = ap (a_record code values) (without_stays rest none)
+
+dropped_again : (f : Forest) → dropped (dropped f) ≡ dropped f
+dropped_again f = without_stays (dropped f) (dropped_without f)
 
 dropped_fit : (f : Forest) → FitForest f → FitForest (dropped f)
 dropped_fit empty fit = tt
@@ -86,7 +93,7 @@ items_under_again Drop f = dropped_again f
 pub under_again : (info : Info) (tree : Tree) → under info (under info tree) ≡ under info tree
 under_again info tree = ap (λ (f : Forest). record { magic = tree.magic; blocks = f }) (items_under_again info tree.blocks)
 
-items_fit : (info : Info) (f : Forest) → FitForest f → FitForest (items_under info f)
+pub items_fit : (info : Info) (f : Forest) → FitForest f → FitForest (items_under info f)
 items_fit Keep f fit = fit
 items_fit Drop f fit = dropped_fit f fit
 

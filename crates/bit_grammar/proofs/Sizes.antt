@@ -1,23 +1,26 @@
--- The size of a normal form, and how it goes by its position.
-use Rattle.std.proofs.Common.{◌≡◌, ℕ, zero, suc, ◌+◌, ◌-◌, ◌*◌, ◌/◌, ◌%◌, ◌^◌, ◌<◌, ◌≤◌, Bool, true, false, ltb, List, [], ◌∷◌, ◌++◌, length, replicate, refl, ap, ◌∙◌, arith}
+-- The size of a normal form.
+use Rattle.std.proofs.Common.{◌≡◌, ℕ, zero, suc, ◌+◌, ◌-◌, ◌*◌, ◌/◌, ◌%◌, ◌^◌, ◌<◌, ◌≤◌, Bool, true, false, ltb, List, [], ◌∷◌, ◌++◌, length, eqb, refl, ap, ◌∙◌, arith}
 use Rattle.std.specs.Prelude.{if◌then◌else◌}
 use Rattle.std.specs.List.{All}
 use Rattle.std.proofs.lemmas.List.{length-append}
 use Rattle.std.proofs.lemmas.List.Elements.{All-from_recursion}
+use Rattle.bit_grammar.specs.declared.info.Info.{Info}
+use Rattle.bit_grammar.specs.declared.info.Info.TheVariants.{Keep, Drop}
 use Rattle.bit_grammar.specs.Bits.{bits_of, bits_of_bytes}
 use Rattle.bit_grammar.specs.Fields.{chunk_limit, padding_length}
 use Rattle.bit_grammar.specs.FormatFields.{shortest_payloads, shortest}
 use Rattle.bit_grammar.specs.Forest.{Forest, empty, a_block, a_record, Tree, AreBlocks}
+use Rattle.bit_grammar.specs.Dropped.{dropped, under}
 use Rattle.bit_grammar.specs.Normal.{Text, chain, put, padding, values_text, entry_text, head_text, block_text, end_text, normal, normal_form}
 use Rattle.bit_grammar.specs.Size.{chunk_count, shortest_length, values_length, record_length, aligned, body_at, end_of, body_length, size_of}
 use Rattle.bit_grammar.proofs.Numbers.{length-bits_of}
 use Rattle.bit_grammar.proofs.Fields.{short_wide, length-chunked}
-use Rattle.bit_grammar.proofs.Bytes.{bytes_of}
+use Rattle.bit_grammar.proofs.Bytes.{bytes_length, bytes_of}
 use Rattle.bit_grammar.proofs.Texts.{pad_length, head_length, body_aligned}
 
 -- ---- positions modulo 32
 
-padding_again : (p k : ℕ) → padding_length (p + 32 * k) ≡ padding_length p
+pub padding_again : (p k : ℕ) → padding_length (p + 32 * k) ≡ padding_length p
 padding_again p k = omega arith
 
 aligned_again : (p k : ℕ) → aligned (p + 32 * k) ≡ aligned p + 32 * k
@@ -177,50 +180,42 @@ size_whole tree blocks = omega (arith, blocks_end tree.blocks 32 blocks (omega a
 pub form_bytes : (tree : Tree) → AreBlocks tree.blocks → (bytes : List ℕ) × All (λ b. b < 256) bytes × (bits_of_bytes bytes ≡ normal_form tree) × (length bytes ≡ size_of tree)
 form_bytes tree blocks = (let b = bytes_of (size_of tree) (normal_form tree) (size_is tree blocks) in (b.bytes, All-from_recursion (λ x. x < 256) b.bytes b.small, b.is, b.count))
 
--- ---- a normal form goes by its position modulo 32
+-- bytes with the bits of a normal form are as many
+pub form_size : (tree : Tree) (bytes : List ℕ) → bits_of_bytes bytes ≡ normal_form tree → length bytes ≡ size_of tree
+unfolding size_of
+form_size tree bytes is = omega (arith, ap length is, bytes_length bytes, form_end tree)
 
-record Again (text : Text) : Type 0 where
-  at : (p k : ℕ) → text (p + 32 * k) ≡ text p
+-- ---- order
 
-put_again : (s : List Bool) → Again (put s)
-put_again s = record { at = λ p k. refl }
+aligned_more : (p q : ℕ) → p ≤ q → aligned p ≤ aligned q
+aligned_more p q le = omega arith
 
-pad_again : Again padding
-pad_again = record { at = λ p k. ap (λ (n : ℕ). replicate n false) (padding_again p k) }
+body_more : (id p q : ℕ) → p ≤ q → body_at id p ≤ body_at id q
+body_more id p q le = omega (arith, aligned_more (p + 2 + shortest_length 8 id + 4) (q + 2 + shortest_length 8 id + 4) (omega arith))
 
-chain_again : (a b : Text) → Again a → Again b → Again (chain a b)
-chain_again a b x y = record {
-  at = λ p k.
-      let q = p + length (a p) in
-      let place : p + 32 * k + length (a p) ≡ q + 32 * k = omega arith in
-      ap (λ (s : List Bool). s ++ b (p + 32 * k + length s)) (x.at p k) ∙ ap (λ (n : ℕ). a p ++ b n) place ∙ ap (λ (s : List Bool). a p ++ s) (y.at q k);
-}
+-- items that begin later do not end earlier
+pub end_more : (f : Forest) (p q : ℕ) → p ≤ q → end_of f p ≤ end_of f q
+unfolding end_of
+end_more empty p q le = le
+end_more (a_block id inner rest) p q le = end_more rest (body_at id p + body_length inner) (body_at id q + body_length inner) (omega (arith, body_more id p q le))
+end_more (a_record code values rest) p q le = end_more rest (p + record_length code values) (q + record_length code values) (omega arith)
 
-head_again : (id words : ℕ) → Again (head_text id words)
-head_again id words =
-    chain_again (put (shortest 8 id)) _ (put_again (shortest 8 id)) (chain_again (put (shortest 4 2)) _ (put_again (shortest 4 2)) (chain_again padding _ pad_again (put_again (bits_of 32 words))))
+pub end_grows : (f : Forest) (p : ℕ) → p ≤ end_of f p
+end_grows f p = omega (arith, items_end f p)
 
--- a block, whose body is given with its head's length
-abbrev with_body : ℕ → List Bool → Text
-with_body id body p = head_text id (length body / 32) p ++ body
+-- without its BLOCKINFO blocks a tree is no larger
+dropped_end : (f : Forest) (p : ℕ) → end_of (dropped f) p ≤ end_of f p
+unfolding end_of
+dropped_end empty p = omega arith
+dropped_end (a_block id inner rest) p = go (eqb id 0) (dropped_end inner 0) (λ q. dropped_end rest q)
+  where
+    go : (b : Bool) → end_of (dropped inner) 0 ≤ end_of inner 0 → ((q : ℕ) → end_of (dropped rest) q ≤ end_of rest q)
+        → end_of (if b then dropped rest else a_block id (dropped inner) (dropped rest)) p ≤ end_of rest (body_at id p + body_length inner)
+    go true x y = omega (arith, y p, end_more rest p (body_at id p + body_length inner) (omega arith))
+    go false x y = omega (arith, y (body_at id p + body_length (dropped inner)), end_more rest (body_at id p + body_length (dropped inner)) (body_at id p + body_length inner) (omega (arith, aligned_more (end_of (dropped inner) 0 + 2) (end_of inner 0 + 2) (omega (arith, x)))))
+dropped_end (a_record code values rest) p = dropped_end rest (p + record_length code values)
 
-block_again : (id : ℕ) (body : Text) → Again body → Again (block_text id body)
-block_again id body x = record {
-  at = λ p k.
-      let q = p + length (head_text id 0 p) in
-      let place : p + 32 * k + length (head_text id 0 (p + 32 * k)) ≡ q + 32 * k = omega (arith, ap length ((head_again id 0).at p k)) in
-      let same : body (p + 32 * k + length (head_text id 0 (p + 32 * k))) ≡ body q = ap body place ∙ x.at q k in
-      ap (λ (s : List Bool). with_body id s (p + 32 * k)) same ∙ ap (λ (s : List Bool). s ++ body q) ((head_again id (length (body q) / 32)).at p k);
-}
-
-text_again : (f : Forest) → Again (normal f)
-unfolding normal
-text_again empty = put_again []
-text_again (a_block id inner rest) =
-    let front = chain_again (put (bits_of 2 1)) (block_text id (chain (normal inner) end_text)) (put_again (bits_of 2 1)) (block_again id (chain (normal inner) end_text) (chain_again (normal inner) end_text (text_again inner) (chain_again (put (bits_of 2 0)) padding (put_again (bits_of 2 0)) pad_again))) in
-    chain_again (chain (put (bits_of 2 1)) (block_text id (chain (normal inner) end_text))) (normal rest) front (text_again rest)
-text_again (a_record code values rest) =
-    chain_again (chain (put (bits_of 2 3)) (put (entry_text code values))) (normal rest) (chain_again (put (bits_of 2 3)) (put (entry_text code values)) (put_again (bits_of 2 3)) (put_again (entry_text code values))) (text_again rest)
-
-pub normal_again : (f : Forest) (p k : ℕ) → normal f (p + 32 * k) ≡ normal f p
-normal_again f p k = (text_again f).at p k
+pub size_under : (info : Info) (tree : Tree) → size_of (under info tree) ≤ size_of tree
+unfolding size_of
+size_under Keep tree = omega arith
+size_under Drop tree = omega (arith, dropped_end tree.blocks 32)

@@ -1,4 +1,5 @@
-use Rattle.bit_grammar.proofs.Sizes.{normal_again, end_again, body_whole}
+use Rattle.bit_grammar.proofs.Sizes.{end_again, body_whole}
+use Rattle.bit_grammar.proofs.Periods.{normal_again}
 use Rattle.bit_grammar.proofs.normal_laws.normal_at.Goals as goal
 
 pub returns : goal.returns
