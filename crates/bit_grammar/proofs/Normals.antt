@@ -104,7 +104,7 @@ still_described described code values ok = go (eqb code 1) ok
     go true ok = refl
     go false ok = ok
 
-info_made : (limit depth : ℕ) (forest : Forest) (h : BlockHead) (described : Option ℕ) (used p : ℕ) → h.width ≡ 2 → DescribesBlocks (is_some described) forest → FitForest forest → used + forest_values forest ≤ limit → limit < 2 ^ 32
+info_made : (limit depth : ℕ) (forest : Forest) (h : BlockHead) (described : Option ℕ) (used p : ℕ) → h.width ≡ 2 → DescribesBlocks (is_some described) forest → FitForest forest → used + forest_values forest ≤ limit → limit < 2 ^ 64
     → Made limit depth h (describing described used) (used + forest_values forest) forest p
 unfolding normal
 info_made limit depth empty h described used p wide ok fits room capped = none_made limit depth h (describing described used) (used + 0) p (ap handed_of (omega arith))
@@ -184,13 +184,13 @@ entered (suc id) used some =
     rw no_info refl
 
 -- what a block holds, by its id
-inner_made : (limit depth id : ℕ) (inner : Forest) (h : BlockHead) (used q : ℕ) → h.width ≡ 2 → (id ≡ 0 → DescribesBlocks false inner) → FitForest inner → used + forest_values inner ≤ limit → limit < 2 ^ 32
+inner_made : (limit depth id : ℕ) (inner : Forest) (h : BlockHead) (used q : ℕ) → h.width ≡ 2 → (id ≡ 0 → DescribesBlocks false inner) → FitForest inner → used + forest_values inner ≤ limit → limit < 2 ^ 64
     → Made limit depth h (plain used) (used + forest_values inner) inner q → Made limit depth h (enter id (handed_of used)) (used + forest_values inner) inner q
 inner_made limit depth zero inner h used q wide info fits room capped made = info_made limit depth inner h None used q wide (info refl) fits room capped
 inner_made limit depth (suc id) inner h used q wide info fits room capped made = subst (λ (s : Scope). Made limit depth h s (used + forest_values inner) inner q) (sym (entered (suc id) used (λ e. absurd (omega (arith, e))))) made
 
 -- a block, with as many blocks allowed in one another as it has
-block_at : (limit depth first used id : ℕ) (inner : Forest) (q : ℕ) → suc (forest_depth inner) ≤ depth → id < 2 ^ 32 → (id ≡ 0 → DescribesBlocks false inner) → FitForest inner → used + forest_values inner ≤ limit → limit < 2 ^ 32
+block_at : (limit depth first used id : ℕ) (inner : Forest) (q : ℕ) → suc (forest_depth inner) ≤ depth → id < 2 ^ 32 → (id ≡ 0 → DescribesBlocks false inner) → FitForest inner → used + forest_values inner ≤ limit → limit < 2 ^ 64
     → length (block_text id (body_of inner) q) < 2 ^ 37
     → ((depth' : ℕ) (h : BlockHead) (at_body : ℕ) → forest_depth inner ≤ depth' → h.width ≡ 2 → length (normal inner at_body) < 2 ^ 37 → Made limit depth' h (plain used) (used + forest_values inner) inner at_body)
     → BlockMade limit depth first used id inner q
@@ -214,7 +214,7 @@ plain_described : (code : ℕ) (values : List ℕ) (first q : ℕ) → Spelled (
 unfolding describe
 plain_described code values first q = given
 
-plain_made : (limit depth : ℕ) (forest : Forest) (h : BlockHead) (used p : ℕ) → h.width ≡ 2 → FitForest forest → forest_depth forest ≤ depth → used + forest_values forest ≤ limit → limit < 2 ^ 32 → length (normal forest p) < 2 ^ 37
+plain_made : (limit depth : ℕ) (forest : Forest) (h : BlockHead) (used p : ℕ) → h.width ≡ 2 → FitForest forest → forest_depth forest ≤ depth → used + forest_values forest ≤ limit → limit < 2 ^ 64 → length (normal forest p) < 2 ^ 37
     → Made limit depth h (plain used) (used + forest_values forest) forest p
 unfolding normal
 plain_made limit depth empty h used p wide fits deep room capped short = none_made limit depth h (plain used) (used + 0) p (ap handed_of (omega arith))
@@ -253,7 +253,7 @@ record TopMade (limits : Limits) (used : ℕ) (forest : Forest) (p after : ℕ) 
   tree : forest_of Keep (marks_of items) ≡ forest
   spelled : Things (λ handed p s x. Spells (top_block limits handed) p s x) items (handed_of used) p (normal forest p) after
 
-top_made : (limits : Limits) (forest : Forest) (used p after : ℕ) → AreBlocks forest → FitForest forest → forest_depth forest ≤ limits.depth → used + forest_values forest ≤ limits.values → limits.values < 2 ^ 32 → length (normal forest p) < 2 ^ 37
+top_made : (limits : Limits) (forest : Forest) (used p after : ℕ) → AreBlocks forest → FitForest forest → forest_depth forest ≤ limits.depth → used + forest_values forest ≤ limits.values → limits.values < 2 ^ 64 → length (normal forest p) < 2 ^ 37
     → after ≡ p + length (normal forest p) → TopMade limits used forest p after
 unfolding normal
 top_made limits empty used p after blocks fits deep room capped short end = record { items = []; tree = refl; spelled = (refl, omega (arith, end)) }
@@ -277,16 +277,17 @@ top_made limits (a_block id inner rest) used p after blocks fits deep room cappe
 not_wrapped : (magic : ℕ) → magic ≢ wrapper_magic → is_wrapped magic ≡ false
 not_wrapped magic h = grind (arith, nat_tests)
 
-pub normal_spelled : (limits : Limits) (tree : Tree) (bytes : List ℕ) → Capped limits → Fit tree → bits_of_bytes bytes ≡ normal_form tree → length bytes ≤ limits.bytes → forest_depth tree.blocks ≤ limits.depth → forest_values tree.blocks ≤ limits.values
+-- limits within which no length is too great for its field
+pub form_spelled : (limits : Limits) (tree : Tree) (bytes : List ℕ) → limits.bytes ≤ 17179869180 → limits.values < 2 ^ 64 → Fit tree → bits_of_bytes bytes ≡ normal_form tree → length bytes ≤ limits.bytes → forest_depth tree.blocks ≤ limits.depth → forest_values tree.blocks ≤ limits.values
     → HasTree Keep limits bytes tree
 unfolding normal_form input stream top_blocks
-normal_spelled limits tree bytes capped fit is fits deep room =
+form_spelled limits tree bytes cap cap' fit is fits deep room =
     let magic = bits_of 32 tree.magic in
     let p = 0 + length magic in
     let blocks = normal tree.blocks p in
     let parts = length-append magic blocks in
-    let short : length blocks < 2 ^ 37 = omega (arith, ap length is, parts, bytes_length bytes, fits, capped.bytes) in
-    let made = top_made limits tree.blocks 0 p (p + length blocks) fit.blocks fit.fit deep (omega (arith, room)) (omega (arith, capped.values)) short refl in
+    let short : length blocks < 2 ^ 37 = omega (arith, ap length is, parts, bytes_length bytes, fits, cap) in
+    let made = top_made limits tree.blocks 0 p (p + length blocks) fit.blocks fit.fit deep (omega (arith, room)) cap' short refl in
     let m : Marked = record { head = record { magic = tree.magic; wrapper = None }; blocks = marks_of made.items; after = p + length blocks } in (
       m,
       record {
@@ -295,6 +296,10 @@ normal_spelled limits tree bytes capped fit is fits deep room =
       },
       ap (λ (f : Forest). record { magic = tree.magic; blocks = f }) made.tree,
     )
+
+pub normal_spelled : (limits : Limits) (tree : Tree) (bytes : List ℕ) → Capped limits → Fit tree → bits_of_bytes bytes ≡ normal_form tree → length bytes ≤ limits.bytes → forest_depth tree.blocks ≤ limits.depth → forest_values tree.blocks ≤ limits.values
+    → HasTree Keep limits bytes tree
+normal_spelled limits tree bytes capped fit is fits deep room = form_spelled limits tree bytes capped.bytes (omega (arith, capped.values)) fit is fits deep room
 
 pub one_tree_of_normal : (limits : Limits) (a b : Tree) (bytes : List ℕ) → Capped limits → Fit a → Fit b → bits_of_bytes bytes ≡ normal_form a → bits_of_bytes bytes ≡ normal_form b → length bytes ≤ limits.bytes
     → forest_depth a.blocks ≤ limits.depth → forest_values a.blocks ≤ limits.values → forest_depth b.blocks ≤ limits.depth → forest_values b.blocks ≤ limits.values → a ≡ b

@@ -28,8 +28,8 @@ values_of_setting info limits bytes m h =
     omega (arith, ap (λ (t : Tree). forest_values t.blocks) (tree_is_under info m), values_under info (tree_of Keep m).blocks, values_kept m.blocks, within.2)
 
 -- the normal form spells a whole tree that is the same without its BLOCKINFO blocks
-form_spelled : (info : Info) (limits : Limits) (bytes out : List ℕ) (m : Marked) → Capped limits → SpellsInput limits bytes m → bits_of_bytes out ≡ normal_form (tree_of info m) → length out ≤ limits.bytes → HasTree Keep limits out (tree_of info m)
-form_spelled info limits bytes out m capped h is fits =
+spelled_whole : (info : Info) (limits : Limits) (bytes out : List ℕ) (m : Marked) → Capped limits → SpellsInput limits bytes m → bits_of_bytes out ≡ normal_form (tree_of info m) → length out ≤ limits.bytes → HasTree Keep limits out (tree_of info m)
+spelled_whole info limits bytes out m capped h is fits =
     normal_spelled limits (tree_of info m) out capped (fit_of_setting info limits bytes m capped h) is fits (depth_of_setting info limits bytes m h) (values_of_setting info limits bytes m h)
 
 -- a tree under a setting is that of all marks that spell it whole
@@ -37,7 +37,7 @@ under_setting : (info : Info) (m n : Marked) → tree_of Keep n ≡ tree_of info
 under_setting info m n e = tree_is_under info n ∙ ap (under info) (e ∙ tree_is_under info m) ∙ under_again info (tree_of Keep m) ∙ sym (tree_is_under info m)
 
 pub normal_is_spelled : (info : Info) (limits : Limits) (bytes out : List ℕ) (m : Marked) → Capped limits → SpellsInput limits bytes m → bits_of_bytes out ≡ normal_form (tree_of info m) → length out ≤ limits.bytes → HasTree info limits out (tree_of info m)
-normal_is_spelled info limits bytes out m capped h is fits = (let x = form_spelled info limits bytes out m capped h is fits in (x.0, x.1, under_setting info m x.0 x.2))
+normal_is_spelled info limits bytes out m capped h is fits = (let x = spelled_whole info limits bytes out m capped h is fits in (x.0, x.1, under_setting info m x.0 x.2))
 
 pub normal_once : (info : Info) (limits : Limits) (bytes out : List ℕ) (m n : Marked) → Capped limits → SpellsInput limits bytes m → bits_of_bytes out ≡ normal_form (tree_of info m) → length out ≤ limits.bytes → SpellsInput limits out n → tree_of info n ≡ tree_of info m
 normal_once info limits bytes out m n capped h is fits k =

@@ -78,7 +78,7 @@ pub count_spelled : (room n p : ℕ) → n ≤ room → n < 2 ^ 64 → Spelled (
 unfolding value_count
 count_spelled room n p fits small = here_spelled _ (then_last _ (short_spelled 6 n p (omega arith) small) (judge_spelled _ _ _ (is_le n room fits) given))
 
-pub entry_spelled : (limit first code : ℕ) (values : List ℕ) (scope : Scope) (p : ℕ) → code < 2 ^ 64 → AllByRecursion (λ v. v < 2 ^ 64) values → scope.handed.used + length values ≤ limit → limit < 2 ^ 32
+pub entry_spelled : (limit first code : ℕ) (values : List ℕ) (scope : Scope) (p : ℕ) → code < 2 ^ 64 → AllByRecursion (λ v. v < 2 ^ 64) values → scope.handed.used + length values ≤ limit → limit < 2 ^ 64
     → Spelled (entry limit first 3 scope) p (entry_text code values) (record { code = code; values = values })
 unfolding entry unabbreviated
 entry_spelled limit first code values scope p small all fits capped =
@@ -92,7 +92,7 @@ abbrev pub noted : Scope → Option BlockInfo → ℕ → Scope
 noted scope info n = record scope { info = info; handed = record { table = scope.handed.table; used = scope.handed.used + n } }
 
 pub record_spelled : (inner : ℕ → Handed → Grammar (Item × Handed)) (h : BlockHead) (limit : ℕ) (scope : Scope) (info : Option BlockInfo) (code : ℕ) (values : List ℕ) (p : ℕ) → h.width ≡ 2
-    → code < 2 ^ 64 → AllByRecursion (λ v. v < 2 ^ 64) values → scope.handed.used + length values ≤ limit → limit < 2 ^ 32
+    → code < 2 ^ 64 → AllByRecursion (λ v. v < 2 ^ 64) values → scope.handed.used + length values ≤ limit → limit < 2 ^ 64
     → ((q : ℕ) → Spelled (describe scope.info p (record { code = code; values = values })) q [] info)
     → Spelled (item inner h limit scope) p (bits_of 2 3 ++ entry_text code values)
     (one_more (record_item (record { abbreviation = 3; code = code; values = values; first = p; after = p + length (bits_of 2 3) + length (entry_text code values) })) (noted scope info (length values)))

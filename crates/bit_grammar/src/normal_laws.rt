@@ -5,13 +5,13 @@ ghost use Rattle.bit_grammar.specs.declared.info.Info.TheVariants.{Keep};
 ghost use Rattle.bit_grammar.specs.Bits.{bits_of_bytes};
 ghost use Rattle.bit_grammar.specs.Grammar.{Fault, Round, rounds, Spells, Stops};
 ghost use Rattle.bit_grammar.specs.FormatFields.{shortest};
-ghost use Rattle.bit_grammar.specs.Forest.{Forest, Tree, AreBlocks, Fit, forest_depth, forest_values};
+ghost use Rattle.bit_grammar.specs.Forest.{Forest, Tree, AreBlocks, FitForest, Fit, forest_depth, forest_values};
 ghost use Rattle.bit_grammar.specs.Marks.{Item, Marks, forest_of};
-ghost use Rattle.bit_grammar.specs.Dropped.{items_under, under};
+ghost use Rattle.bit_grammar.specs.Dropped.{dropped, WithoutInfo, items_under, under};
 ghost use Rattle.bit_grammar.specs.Blocks.{Limits, Handed, Scope, BlockHead, block_head, item, block, top_block};
 ghost use Rattle.bit_grammar.specs.Whole.{until_end, StopsAll};
-ghost use Rattle.bit_grammar.specs.Input.{Marked, tree_of};
-ghost use Rattle.bit_grammar.specs.Normal.{chain, normal, end_text, normal_form};
+ghost use Rattle.bit_grammar.specs.Input.{Marked, tree_of, SpellsInput};
+ghost use Rattle.bit_grammar.specs.Normal.{chain, normal, end_text, normal_form, Capped, HasTree};
 ghost use Rattle.bit_grammar.specs.Size.{shortest_length, end_of, body_length, size_of};
 
 /// The tree of an input under a setting is the whole tree under that setting, which once dropped stays as it is. A setting
@@ -21,16 +21,24 @@ pub fn tree_under()
     ensures tree { (info : Info) (m : Marked) → tree_of info m ≡ under info (tree_of Keep m) }
     ensures again { (info : Info) (tree : Tree) → under info (under info tree) ≡ under info tree }
     ensures fit { (info : Info) (tree : Tree) → Fit tree → Fit (under info tree) }
+    ensures fit_items { (info : Info) (f : Forest) → FitForest f → FitForest (items_under info f) }
     ensures blocks { (info : Info) (f : Forest) → AreBlocks f → AreBlocks (items_under info f) }
     ensures depth { (info : Info) (f : Forest) → forest_depth (items_under info f) ≤ forest_depth f }
     ensures values { (info : Info) (f : Forest) → forest_values (items_under info f) ≤ forest_values f }
 {}
 
-/// The lengths of the shortest VBR, of items, of a block's body and of a whole normal form, in bits.
+/// Without its BLOCKINFO blocks a tree has none, and a tree that has none is the same without them.
+pub fn dropped_tree()
+    ensures without { (f : Forest) → WithoutInfo (dropped f) }
+    ensures stays { (f : Forest) → WithoutInfo f → dropped f ≡ f }
+{}
+
+/// The lengths in bits of the shortest VBR, of items, of a block's body and of a whole normal form.
 pub fn normal_size()
     ensures vbr { (n v : ℕ) → 1 ≤ n → length (shortest n v) ≡ shortest_length n v }
     ensures items { (f : Forest) (p : ℕ) → p + length (normal f p) ≡ end_of f p }
     ensures body { (inner : Forest) (k : ℕ) → length (chain (normal inner) end_text (32 * k)) ≡ body_length inner }
+    ensures form { (tree : Tree) → length (normal_form tree) ≡ end_of tree.blocks 32 }
     ensures tree { (tree : Tree) → AreBlocks tree.blocks → length (normal_form tree) ≡ 8 * size_of tree }
 {}
 
@@ -41,9 +49,17 @@ pub fn normal_at()
     ensures body { (inner : Forest) → body_length inner % 32 ≡ 0 }
 {}
 
-/// A normal form is bytes, in words of four.
+/// Items do not end before they begin, nor earlier where they begin later, and no setting makes a tree larger.
+pub fn size_order()
+    ensures grows { (f : Forest) (p : ℕ) → p ≤ end_of f p }
+    ensures later { (f : Forest) (p q : ℕ) → p ≤ q → end_of f p ≤ end_of f q }
+    ensures under { (info : Info) (tree : Tree) → size_of (under info tree) ≤ size_of tree }
+{}
+
+/// A normal form is bytes, as many as its size, which is a multiple of four.
 pub fn normal_bytes()
     ensures bytes { (tree : Tree) → AreBlocks tree.blocks → (bytes : List ℕ) × All (λ b. b < 256) bytes × (bits_of_bytes bytes ≡ normal_form tree) × (length bytes ≡ size_of tree) }
+    ensures size { (tree : Tree) (bytes : List ℕ) → bits_of_bytes bytes ≡ normal_form tree → length bytes ≡ size_of tree }
     ensures words { (tree : Tree) → AreBlocks tree.blocks → size_of tree % 4 ≡ 0 }
 {}
 
@@ -51,6 +67,16 @@ pub fn normal_bytes()
 pub fn one_list_of_bytes()
     ensures same { (a b : List ℕ) → All (λ x. x < 256) a → All (λ x. x < 256) b → bits_of_bytes a ≡ bits_of_bytes b → a ≡ b }
     ensures bits { (bytes : List ℕ) → length (bits_of_bytes bytes) ≡ 8 * length bytes }
+{}
+
+/// Fit trees with the same normal form are the same, where each length in it fits its field.
+pub fn one_tree_of_form()
+    ensures { (a b : Tree) → Fit a → Fit b → size_of a ≤ 17179869180 → normal_form a ≡ normal_form b → a ≡ b }
+{}
+
+/// What an input spells has a normal form under each setting where the limits have room for it: bytes that spell the tree.
+pub fn form_of_input()
+    ensures { (info : Info) (limits : Limits) (bytes : List ℕ) (m : Marked) → Capped limits → SpellsInput limits bytes m → size_of (tree_of info m) ≤ limits.bytes → (out : List ℕ) × All (λ b. b < 256) out × (bits_of_bytes out ≡ normal_form (tree_of info m)) × HasTree info limits out (tree_of info m) }
 {}
 
 /// No item and no block takes no bits, since the ids in a block are at least one bit wide. So a body and a stream stop by the
