@@ -1,19 +1,18 @@
 -- A normal form and its tree, without limits.
-use Rattle.std.proofs.Common.{◌≡◌, ℕ, suc, ◌+◌, ◌-◌, ◌*◌, ◌<◌, ◌≤◌, List, [], ◌∷◌, length, sym, ap, ◌∙◌, arith}
+use Rattle.std.proofs.Common.{◌≡◌, ℕ, ◌+◌, ◌*◌, ◌<◌, ◌≤◌, List, [], ◌∷◌, length, sym, ap, ◌∙◌, arith}
 use Rattle.std.specs.List.{All}
 use Rattle.bit_grammar.specs.declared.info.Info.{Info}
 use Rattle.bit_grammar.specs.declared.info.Info.TheVariants.{Keep}
 use Rattle.bit_grammar.specs.Bits.{bits_of_bytes}
-use Rattle.bit_grammar.specs.Fields.{chunk_limit}
-use Rattle.bit_grammar.specs.Forest.{Forest, empty, a_block, a_record, Tree, forest_depth, forest_values, Fit}
+use Rattle.bit_grammar.specs.Forest.{Forest, empty, a_block, a_record, Tree, forest_values, Fit}
 use Rattle.bit_grammar.specs.Blocks.{Limits}
 use Rattle.bit_grammar.specs.Input.{Marked, tree_of, SpellsInput}
 use Rattle.bit_grammar.specs.Normal.{normal_form, Capped, HasTree}
-use Rattle.bit_grammar.specs.Size.{chunk_count, shortest_length, values_length, record_length, body_at, body_length, end_of, size_of}
+use Rattle.bit_grammar.specs.Size.{shortest_length, values_length, record_length, body_at, body_length, end_of, size_of}
 use Rattle.bit_grammar.proofs.Bytes.{bytes_length}
 use Rattle.bit_grammar.proofs.Inputs.{one_tree}
 use Rattle.bit_grammar.proofs.Normals.{form_spelled}
-use Rattle.bit_grammar.proofs.Sizes.{form_end, size_is, form_bytes}
+use Rattle.bit_grammar.proofs.Sizes.{form_end, form_bytes}
 use Rattle.bit_grammar.proofs.Settings.{fit_of_setting, normal_is_spelled}
 
 -- ---- each value takes at least six bits

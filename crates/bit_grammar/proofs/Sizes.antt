@@ -2,6 +2,7 @@
 use Rattle.std.proofs.Common.{◌≡◌, ℕ, zero, suc, ◌+◌, ◌-◌, ◌*◌, ◌/◌, ◌%◌, ◌^◌, ◌<◌, ◌≤◌, Bool, true, false, ltb, List, [], ◌∷◌, ◌++◌, length, eqb, refl, ap, ◌∙◌, arith}
 use Rattle.std.specs.Prelude.{if◌then◌else◌}
 use Rattle.std.specs.List.{All}
+use Rattle.std.proofs.Math.Nat.{mul-le-mul_left, div-add-mod'}
 use Rattle.std.proofs.lemmas.List.{length-append}
 use Rattle.std.proofs.lemmas.List.Elements.{All-from_recursion}
 use Rattle.bit_grammar.specs.declared.info.Info.{Info}
@@ -11,7 +12,7 @@ use Rattle.bit_grammar.specs.Fields.{chunk_limit, padding_length}
 use Rattle.bit_grammar.specs.FormatFields.{shortest_payloads, shortest}
 use Rattle.bit_grammar.specs.Forest.{Forest, empty, a_block, a_record, Tree, AreBlocks}
 use Rattle.bit_grammar.specs.Dropped.{dropped, under}
-use Rattle.bit_grammar.specs.Normal.{Text, chain, put, padding, values_text, entry_text, head_text, block_text, end_text, normal, normal_form}
+use Rattle.bit_grammar.specs.Normal.{chain, put, padding, values_text, entry_text, head_text, block_text, end_text, normal, normal_form}
 use Rattle.bit_grammar.specs.Size.{chunk_count, shortest_length, values_length, record_length, aligned, body_at, end_of, body_length, size_of}
 use Rattle.bit_grammar.proofs.Numbers.{length-bits_of}
 use Rattle.bit_grammar.proofs.Fields.{short_wide, length-chunked}
@@ -62,6 +63,30 @@ short_length n v some =
     let limit = chunk_limit (n - 1) in
     let whole : suc (n - 1) ≡ n = omega (arith, some) in
     length-chunked (n - 1) (shortest_payloads (n - 1) limit v) (short_wide (n - 1) limit v) ∙ ap (λ (c : ℕ). suc (n - 1) * c) (count_is (n - 1) limit v) ∙ ap (λ (k : ℕ). k * chunk_count (n - 1) limit v) whole
+
+count_range : (payload permitted v : ℕ) → (chunk_count payload permitted v ≤ permitted) × (1 ≤ permitted → 1 ≤ chunk_count payload permitted v)
+count_range payload zero v = (omega arith, λ some. some)
+count_range payload (suc permitted) v = (go (ltb v (2 ^ payload)) (count_range payload permitted (v / 2 ^ payload)).0, λ some. omega arith)
+  where
+    go : (b : Bool) → chunk_count payload permitted (v / 2 ^ payload) ≤ permitted → suc (if b then 0 else chunk_count payload permitted (v / 2 ^ payload)) ≤ suc permitted
+    go true e = omega arith
+    go false e = omega arith
+
+limit_some : (payload : ℕ) → 1 ≤ payload → 1 ≤ chunk_limit payload
+limit_some payload some = go (chunk_limit payload) (div-add-mod' (63 + payload) payload)
+  where
+    go : (k : ℕ) → k * payload + (63 + payload) % payload ≡ 63 + payload → 1 ≤ k
+    go zero e = absurd (omega (arith, e, some))
+    go (suc k) e = omega arith
+
+-- a VBR has a chunk at least, and no more than are permitted
+pub short_range : (n v : ℕ) → 2 ≤ n → (n ≤ shortest_length n v) × (shortest_length n v ≤ n * chunk_limit (n - 1))
+unfolding shortest_length
+short_range n v wide =
+    let limit = chunk_limit (n - 1) in
+    let range = count_range (n - 1) limit v in
+    let least : n * 1 ≤ n * chunk_count (n - 1) limit v = mul-le-mul_left n (range.1 (limit_some (n - 1) (omega arith))) in
+    (omega (arith, least), mul-le-mul_left n range.0)
 
 values_end : (vs : List ℕ) → length (values_text vs) ≡ values_length vs
 values_end [] = refl

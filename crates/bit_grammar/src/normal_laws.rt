@@ -1,9 +1,10 @@
-ghost use Rattle.std.specs.Prelude.{◌≡◌, ℕ, ◌+◌, ◌*◌, ◌%◌, ◌<◌, ◌≤◌, Bool, List, [], length};
+ghost use Rattle.std.specs.Prelude.{◌≡◌, ℕ, ◌+◌, ◌-◌, ◌*◌, ◌%◌, ◌<◌, ◌≤◌, Bool, List, [], length};
 ghost use Rattle.std.specs.List.{All};
 ghost use Rattle.bit_grammar.specs.declared.info.Info.{Info};
 ghost use Rattle.bit_grammar.specs.declared.info.Info.TheVariants.{Keep};
 ghost use Rattle.bit_grammar.specs.Bits.{bits_of_bytes};
 ghost use Rattle.bit_grammar.specs.Grammar.{Fault, Round, rounds, Spells, Stops};
+ghost use Rattle.bit_grammar.specs.Fields.{chunk_limit};
 ghost use Rattle.bit_grammar.specs.FormatFields.{shortest};
 ghost use Rattle.bit_grammar.specs.Forest.{Forest, Tree, AreBlocks, FitForest, Fit, forest_depth, forest_values};
 ghost use Rattle.bit_grammar.specs.Marks.{Item, Marks, forest_of};
@@ -36,6 +37,7 @@ pub fn dropped_tree()
 /// The lengths in bits of the shortest VBR, of items, of a block's body and of a whole normal form.
 pub fn normal_size()
     ensures vbr { (n v : ℕ) → 1 ≤ n → length (shortest n v) ≡ shortest_length n v }
+    ensures vbr_range { (n v : ℕ) → 2 ≤ n → (n ≤ shortest_length n v) × (shortest_length n v ≤ n * chunk_limit (n - 1)) }
     ensures items { (f : Forest) (p : ℕ) → p + length (normal f p) ≡ end_of f p }
     ensures body { (inner : Forest) (k : ℕ) → length (chain (normal inner) end_text (32 * k)) ≡ body_length inner }
     ensures form { (tree : Tree) → length (normal_form tree) ≡ end_of tree.blocks 32 }
