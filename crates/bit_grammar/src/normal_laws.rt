@@ -15,8 +15,8 @@ ghost use Rattle.bit_grammar.specs.Input.{Marked, tree_of, SpellsInput};
 ghost use Rattle.bit_grammar.specs.Normal.{chain, normal, end_text, normal_form, Capped, HasTree};
 ghost use Rattle.bit_grammar.specs.Size.{shortest_length, end_of, body_length, size_of};
 
-/// The tree of an input under a setting is the whole tree under that setting, which once dropped stays as it is. A setting
-/// keeps a tree fit, and adds no depth and no values.
+/// The tree of an input under a setting is its whole tree under that setting, and under it once more it stays as it is. A
+/// setting keeps a tree fit, and adds no depth and no values.
 pub fn tree_under()
     ensures items { (info : Info) (m : Marks) → forest_of info m ≡ items_under info (forest_of Keep m) }
     ensures tree { (info : Info) (m : Marked) → tree_of info m ≡ under info (tree_of Keep m) }
@@ -81,8 +81,8 @@ pub fn form_of_input()
     ensures { (info : Info) (limits : Limits) (bytes : List ℕ) (m : Marked) → Capped limits → SpellsInput limits bytes m → size_of (tree_of info m) ≤ limits.bytes → (out : List ℕ) × All (λ b. b < 256) out × (bits_of_bytes out ≡ normal_form (tree_of info m)) × HasTree info limits out (tree_of info m) }
 {}
 
-/// No item and no block takes no bits, since the ids in a block are at least one bit wide. So a body and a stream stop by the
-/// fault of an item, and never by the one that stands for an idle round, whichever that is.
+/// Each item and each block takes bits, since the ids in a block are at least one bit wide. So a body and a stream stop by
+/// the fault of an item, and whichever fault is named for a round that takes no bits, it never comes.
 pub fn no_idle_round()
     ensures item { (depth limit : ℕ) (h : BlockHead) (scope : Scope) (p : ℕ) (x : Round Scope Item (ℕ × Handed)) → 1 ≤ h.width → Spells (item (block depth limit) h limit scope) p [] x → ⊥ }
     ensures block { (limits : Limits) (handed : Handed) (p : ℕ) (v : Item × Handed) → Spells (top_block limits handed) p [] v → ⊥ }
