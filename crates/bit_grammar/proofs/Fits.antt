@@ -16,10 +16,8 @@ use Rattle.bit_grammar.specs.Marks.{RecordMark, DefinitionMark, Marks, no_marks,
 use Rattle.bit_grammar.specs.Blocks.{Limits, Table, defined_at, BlockInfo, Handed, Scope, nothing_handed, info_for, enter, leave, made_for, defined, BlockHead, block_id, block_head, define, entry, describe, record_after, nested, item_after, item, block, top_block}
 use Rattle.bit_grammar.specs.Whole.{Things, SpellsAll}
 use Rattle.bit_grammar.specs.Input.{Head, Marked, tree_of, is_wrapped, inner_magic, top_blocks, stream, wrapped, input, SpellsInput}
-use Rattle.bit_grammar.specs.Normal.{normal_form, Capped, HasTree}
-use Rattle.bit_grammar.proofs.Inputs.{one_tree}
+use Rattle.bit_grammar.specs.Normal.{Capped}
 use Rattle.bit_grammar.proofs.Limits.{limits_judged}
-use Rattle.bit_grammar.proofs.Normals.{normal_spelled}
 use Rattle.bit_grammar.proofs.Numbers.{number_below, pow_mono}
 use Rattle.bit_grammar.proofs.Fields.{sum_is, fixed_is, vbr_is, char6_is}
 use Rattle.bit_grammar.proofs.Definitions.{definition_lawful}
@@ -343,21 +341,3 @@ fit_of_spelled limits bytes m capped h =
     let f = input_fit limits 0 (bits_of_bytes bytes) m h.spelled in
     let within = (limits_judged limits limits bytes m h).0 h in
     record { magic = f.magic; bare = f.bare; blocks = f.stream.blocks; fit = f.stream.fit; depth = omega (arith, depth_kept m.blocks, within.1, capped.depth) }
-
--- ---- the normal form of what is spelled
-
-pub normal_once : (limits : Limits) (bytes out : List ℕ) (m n : Marked) → Capped limits → SpellsInput limits bytes m → bits_of_bytes out ≡ normal_form (tree_of Keep m) → length out ≤ limits.bytes → SpellsInput limits out n → tree_of Keep n ≡ tree_of Keep m
-normal_once limits bytes out m n capped h is fits k =
-    let within = (limits_judged limits limits bytes m h).0 h in
-    let x = normal_spelled limits (tree_of Keep m) out capped (fit_of_spelled limits bytes m capped h) is fits (omega (arith, depth_kept m.blocks, within.1)) (omega (arith, values_kept m.blocks, within.2)) in
-    ap (tree_of Keep) (one_tree limits out n x.0 k x.1) ∙ x.2
-
-pub normal_is_spelled : (limits : Limits) (bytes out : List ℕ) (m : Marked) → Capped limits → SpellsInput limits bytes m → bits_of_bytes out ≡ normal_form (tree_of Keep m) → length out ≤ limits.bytes → HasTree limits out (tree_of Keep m)
-normal_is_spelled limits bytes out m capped h is fits =
-    let within = (limits_judged limits limits bytes m h).0 h in
-    normal_spelled limits (tree_of Keep m) out capped (fit_of_spelled limits bytes m capped h) is fits (omega (arith, depth_kept m.blocks, within.1)) (omega (arith, values_kept m.blocks, within.2))
-
-pub same_normal : (limits : Limits) (bytes bytes' out : List ℕ) (m n : Marked) → Capped limits → SpellsInput limits bytes m → SpellsInput limits bytes' n → bits_of_bytes out ≡ normal_form (tree_of Keep m) → bits_of_bytes out ≡ normal_form (tree_of Keep n) → length out ≤ limits.bytes → tree_of Keep m ≡ tree_of Keep n
-same_normal limits bytes bytes' out m n capped h k is is' fits =
-    let x = normal_is_spelled limits bytes out m capped h is fits in
-    sym x.2 ∙ normal_once limits bytes' out n x.0 capped k is' fits x.1

@@ -1,153 +1,25 @@
 -- A normal form is spelled by the tree that it is the form of.
-use Rattle.std.proofs.Common.{◌≡◌, ℕ, zero, suc, ◌+◌, ◌-◌, ◌*◌, ◌/◌, ◌<◌, ◌≤◌, ◌^◌, ◌≢◌, Bool, true, false, eqb, List, [], ◌∷◌, ◌++◌, length, replicate, get_or, Option, Some, None, refl, sym, ap, subst, ◌∙◌, append_assoc, arith, inl, inr}
+use Rattle.std.proofs.Common.{◌≡◌, ℕ, zero, suc, ◌+◌, ◌*◌, ◌/◌, ◌<◌, ◌≤◌, ◌^◌, ◌≢◌, Bool, true, false, eqb, List, [], ◌∷◌, ◌++◌, length, get_or, Option, Some, None, refl, sym, ap, subst, ◌∙◌, append_assoc, arith, inr}
 use Rattle.std.specs.Prelude.{if◌then◌else◌, is_some}
-use Rattle.std.specs.List.{AllByRecursion}
-use Rattle.std.proofs.lemmas.Bool.{lt-ltb}
 use Rattle.std.proofs.lemmas.Bool.Decides.{nat_tests}
-use Rattle.std.proofs.lemmas.List.{append-nil, length-append, length-replicate}
+use Rattle.std.proofs.lemmas.List.{length-append}
 use Rattle.bit_grammar.specs.declared.info.Info.TheVariants.{Keep}
 use Rattle.bit_grammar.specs.declared.reason.Reason.TheVariants.{Truncated}
 use Rattle.bit_grammar.specs.Bits.{bits_of, bits_of_bytes}
-use Rattle.bit_grammar.specs.Grammar.{Fault, at, rounds, Grammar, Round, one_more, last, gives, position, test, choose, ◌>>=◌, repeat, Rounds, Spells}
-use Rattle.bit_grammar.specs.Fields.{padding_length, fixed, vbr, align32}
+use Rattle.bit_grammar.specs.Grammar.{at, rounds, Round, one_more, last, Rounds, Spells}
 use Rattle.bit_grammar.specs.FormatFields.{shortest}
-use Rattle.bit_grammar.specs.Record.{value_count, unabbreviated}
 use Rattle.bit_grammar.specs.Forest.{Forest, empty, a_block, a_record, Tree, forest_depth, forest_values, names_block, DescribesBlocks, FitForest, AreBlocks, wrapper_magic, Fit}
 use Rattle.bit_grammar.specs.Marks.{BlockMark, Marks, Item, block_item, record_item, item_then, marks_of, forest_of}
-use Rattle.bit_grammar.specs.Blocks.{Limits, no_definitions, BlockInfo, Handed, Scope, enter, leave, BlockHead, block_id, new_width, block_head, end_of_block, entry, describe, record_after, nested, item_after, item, block, top_block}
+use Rattle.bit_grammar.specs.Blocks.{Limits, no_definitions, BlockInfo, Handed, Scope, enter, leave, BlockHead, describe, nested, item_after, item, block, top_block}
 use Rattle.bit_grammar.specs.Whole.{Things}
 use Rattle.bit_grammar.specs.Input.{is_wrapped, Marked, tree_of, top_blocks, stream, input}
-use Rattle.bit_grammar.specs.Normal.{Text, chain, put, padding, values_text, entry_text, head_text, block_text, end_text, normal, normal_form, Capped, HasTree}
-use Rattle.bit_grammar.proofs.Numbers.{length-bits_of, number-bits_of}
-use Rattle.bit_grammar.proofs.Fields.{sum_is, is_fixed, is_vbr, is_align, short_is_vbr}
+use Rattle.bit_grammar.specs.Normal.{Text, chain, put, padding, entry_text, head_text, block_text, end_text, normal, normal_form, Capped, HasTree}
+use Rattle.bit_grammar.proofs.Numbers.{length-bits_of}
 use Rattle.bit_grammar.proofs.Items.{item_takes, top_takes}
-use Rattle.bit_grammar.proofs.Wholes.{is_le}
 use Rattle.bit_grammar.proofs.Inputs.{one_tree}
-
--- ---- spelling by parts
-
--- what a rule spells, as a record, so that its arguments are found
-pub record Spelled {A : Type 0} (rule : Grammar A) (p : ℕ) (s : List Bool) (v : A) : Type 0 where
-  pub is : Spells rule p s v
-
-then_spelled : {A B : Type 0} {first : Grammar A} (second : A → Grammar B) {p : ℕ} {a b : List Bool} {x : A} {v : B} → Spelled first p a x → Spelled (second x) (p + length a) b v → Spelled (first >>= second) p (a ++ b) v
-then_spelled second {a = a} {b = b} {x = x} h k = record { is = (a, b, x, refl, h.is, k.is) }
-
--- the last part with bits
-then_last : {A B : Type 0} {first : Grammar A} (second : A → Grammar B) {p : ℕ} {a : List Bool} {x : A} {v : B} → Spelled first p a x → Spelled (second x) (p + length a) [] v → Spelled (first >>= second) p a v
-then_last second {a = a} {x = x} h k = record { is = (a, [], x, sym (append-nil a), h.is, k.is) }
-
-given : {A : Type 0} {x : A} {p : ℕ} → Spelled (gives x) p [] x
-given = record { is = (refl, refl) }
-
--- a first part without bits
-no_bits : {A B : Type 0} {first : Grammar A} (second : A → Grammar B) {p : ℕ} {s : List Bool} {x : A} {v : B} → Spelled first p [] x → Spelled (second x) p s v → Spelled (first >>= second) p s v
-no_bits second {p = p} {s = s} {x = x} {v = v} h k = record { is = ([], s, x, refl, h.is, subst (λ (q : ℕ). Spells (second x) q s v) (omega arith) k.is) }
-
-here_spelled : {B : Type 0} (second : ℕ → Grammar B) {p : ℕ} {s : List Bool} {v : B} → Spelled (second p) p s v → Spelled (position >>= second) p s v
-here_spelled second {p = p} {s = s} {v = v} h = record { is = ([], s, p, refl, (refl, refl), subst (λ (q : ℕ). Spells (second p) q s v) (omega arith) h.is) }
-
-judge_spelled : {B : Type 0} (holds : Bool) (why : Fault) (second : Unit {0} → Grammar B) {p : ℕ} {s : List Bool} {v : B} → holds ≡ true → Spelled (second tt) p s v → Spelled (test holds why >>= second) p s v
-judge_spelled holds why second {p} {s} {v} e h = record { is = ([], s, tt, refl, (refl, e), subst (λ (q : ℕ). Spells (second tt) q s v) (omega arith) h.is) }
-
-first_chosen : {A : Type 0} (b : Bool) {one_rule other_rule : Grammar A} {p : ℕ} {s : List Bool} {v : A} → b ≡ true → Spelled one_rule p s v → Spelled (choose b one_rule other_rule) p s v
-first_chosen b e h = record { is = inl (e, h.is) }
-
-other_chosen : {A : Type 0} (b : Bool) {one_rule other_rule : Grammar A} {p : ℕ} {s : List Bool} {v : A} → b ≡ false → Spelled other_rule p s v → Spelled (choose b one_rule other_rule) p s v
-other_chosen b e h = record { is = inr (e, h.is) }
-
--- the same bits at the same position, written otherwise
-moved : {A : Type 0} {rule : Grammar A} {p q : ℕ} {s : List Bool} {v : A} → p ≡ q → Spelled rule p s v → Spelled rule q s v
-moved {rule = rule} {s = s} {v = v} e h = record { is = subst (λ (x : ℕ). Spells rule x s v) e h.is }
-
--- ---- fields
-
-fixed_spelled : (n v p : ℕ) → v < 2 ^ n → Spelled (fixed n) p (bits_of n v) v
-fixed_spelled n v p small = record { is = is_fixed n p (bits_of n v) v (record { length = length-bits_of n v; value = sym (sum_is (bits_of n v) ∙ number-bits_of n v small) }) }
-
-short_spelled : (n v p : ℕ) → 2 ≤ n → v < 2 ^ 64 → Spelled (vbr n) p (shortest n v) v
-short_spelled n v p wide small = record { is = is_vbr n p (shortest n v) v wide (short_is_vbr n v wide small) }
-
-pad_length : (p : ℕ) → length (padding p) ≡ padding_length p
-pad_length p = length-replicate (padding_length p) false
-
-pad_ends : (p : ℕ) → (k : ℕ) × (p + length (padding p) ≡ 32 * k)
-pad_ends p = ((p + padding_length p) / 32, omega (arith, pad_length p))
-
-all_zeros : (n : ℕ) → AllByRecursion (λ b. b ≡ false) (replicate n false)
-all_zeros zero = tt
-all_zeros (suc n) = (refl, all_zeros n)
-
-pad_spelled : (p : ℕ) → Spelled align32 p (padding p) tt
-pad_spelled p = record { is = is_align p (padding p) (record { zeros = all_zeros (padding_length p); few = omega (arith, pad_length p); aligned = omega (arith, pad_length p) }) }
-
--- ---- records
-
-values_spelled : (vs : List ℕ) (p : ℕ) → AllByRecursion (λ v. v < 2 ^ 64) vs → Spelled (repeat (length vs) (vbr 6)) p (values_text vs) vs
-values_spelled [] p small = given
-values_spelled (v ∷ vs) p small = then_spelled _ (short_spelled 6 v p (omega arith) small.0) (then_last _ (values_spelled vs _ small.1) given)
-
-count_spelled : (room n p : ℕ) → n ≤ room → n < 2 ^ 64 → Spelled (value_count room) p (shortest 6 n) n
-unfolding value_count
-count_spelled room n p fits small = here_spelled _ (then_last _ (short_spelled 6 n p (omega arith) small) (judge_spelled _ _ _ (is_le n room fits) given))
-
-entry_spelled : (limit first code : ℕ) (values : List ℕ) (scope : Scope) (p : ℕ) → code < 2 ^ 64 → AllByRecursion (λ v. v < 2 ^ 64) values → scope.handed.used + length values ≤ limit → limit < 2 ^ 32
-    → Spelled (entry limit first 3 scope) p (entry_text code values) (record { code = code; values = values })
-unfolding entry unabbreviated
-entry_spelled limit first code values scope p small all fits capped =
-    first_chosen _ refl (then_spelled _ (short_spelled 6 code p (omega arith) small)
-    (then_spelled _ (count_spelled (limit - scope.handed.used) (length values) _ (omega (arith, fits)) (omega (arith, fits, capped))) (then_last _ (values_spelled values _ all) given)))
-
-id_spelled : (h : BlockHead) (id p : ℕ) → h.width ≡ 2 → id < 4 → Spelled (fixed h.width) p (bits_of 2 id) id
-id_spelled h id p wide small = subst (λ (n : ℕ). Spelled (fixed n) p (bits_of 2 id) id) (sym wide) (fixed_spelled 2 id p small)
-
-abbrev noted : Scope → Option BlockInfo → ℕ → Scope
-noted scope info n = record scope { info = info; handed = record { table = scope.handed.table; used = scope.handed.used + n } }
-
-record_spelled : (inner : ℕ → Handed → Grammar (Item × Handed)) (h : BlockHead) (limit : ℕ) (scope : Scope) (info : Option BlockInfo) (code : ℕ) (values : List ℕ) (p : ℕ) → h.width ≡ 2
-    → code < 2 ^ 64 → AllByRecursion (λ v. v < 2 ^ 64) values → scope.handed.used + length values ≤ limit → limit < 2 ^ 32
-    → ((q : ℕ) → Spelled (describe scope.info p (record { code = code; values = values })) q [] info)
-    → Spelled (item inner h limit scope) p (bits_of 2 3 ++ entry_text code values)
-    (one_more (record_item (record { abbreviation = 3; code = code; values = values; first = p; after = p + length (bits_of 2 3) + length (entry_text code values) })) (noted scope info (length values)))
-unfolding item item_after record_after
-record_spelled inner h limit scope info code values p wide small all fits capped described =
-    here_spelled _ (then_spelled _ (id_spelled h 3 p wide (omega arith))
-    (other_chosen _ refl (other_chosen _ refl (other_chosen _ refl
-    (then_last _ (then_last _ (entry_spelled limit p code values scope _ small all fits capped) (here_spelled _ (no_bits _ (described _) given))) given)))))
-
--- ---- a block's head and its end
-
-abbrev made_head : (id words p : ℕ) → BlockHead
-made_head id words p =
-    let at_pad = p + length (shortest 8 id) + length (shortest 4 2) in
-    let at_length = at_pad + length (padding at_pad) in
-    record { id = id; width = 2; length_at = at_length; words = words; body = at_length + length (bits_of 32 words) }
-
-head_spelled : (id words p : ℕ) → id < 2 ^ 32 → words < 2 ^ 32 → Spelled block_head p (head_text id words p) (made_head id words p)
-unfolding block_head block_id new_width
-head_spelled id words p a b =
-    then_spelled _ (here_spelled _ (then_last _ (short_spelled 8 id p (omega arith) (omega (arith, a))) (judge_spelled _ _ _ (lt-ltb id (2 ^ 32) a) given)))
-    (then_spelled _ (here_spelled _ (then_last _ (short_spelled 4 2 _ (omega arith) (omega arith)) (judge_spelled _ _ _ refl given)))
-    (then_spelled _ (pad_spelled _) (here_spelled _ (then_last _ (fixed_spelled 32 words _ b) (here_spelled _ given)))))
-
-ends_at : (words body after : ℕ) → body + 32 * words ≡ after → eqb (body + 32 * words) after ≡ true
-ends_at words body after e = grind (arith, nat_tests)
-
-end_spelled : (h : BlockHead) (p : ℕ) → h.body + 32 * h.words ≡ p + length (padding p) → Spelled (end_of_block h) p (padding p) (p + length (padding p))
-unfolding end_of_block
-end_spelled h p e = then_last _ (pad_spelled p) (here_spelled _ (judge_spelled _ _ _ (ends_at h.words h.body _ e) given))
-
--- the last round: the id 0, the padding and the length
-last_spelled : (inner : ℕ → Handed → Grammar (Item × Handed)) (h : BlockHead) (limit : ℕ) (scope : Scope) (p : ℕ) → h.width ≡ 2 → h.body + 32 * h.words ≡ p + length (end_text p)
-    → (after : ℕ) → after ≡ p + length (end_text p) → Spelled (item inner h limit scope) p (end_text p) (last (after, leave scope.info scope.handed))
-unfolding item item_after
-last_spelled inner h limit scope p wide e after is =
-    let q = p + length (bits_of 2 0) in
-    let two : q + length (padding q) ≡ p + length (end_text p) = omega (arith, length-append (bits_of 2 0) (padding q)) in
-    let ended : Spelled (item_after inner h limit p scope 0) q (padding q) (last (after, leave scope.info scope.handed)) =
-    subst (λ (x : ℕ). Spelled (item_after inner h limit p scope 0) q (padding q) (last (x, leave scope.info scope.handed))) (two ∙ sym is)
-    (first_chosen _ refl (then_last _ (end_spelled h q (e ∙ sym two)) given)) in
-    here_spelled _ (then_spelled _ (id_spelled h 0 p wide (omega arith)) ended)
+use Rattle.bit_grammar.proofs.Bytes.{bytes_length}
+use Rattle.bit_grammar.proofs.Texts.{pad_ends, head_length, body_aligned}
+use Rattle.bit_grammar.proofs.SpelledParts.{Spelled, then_spelled, then_last, given, here_spelled, judge_spelled, first_chosen, other_chosen, moved, fixed_spelled, id_spelled, record_spelled, made_head, head_spelled, last_spelled}
 
 -- ---- bodies
 
@@ -232,7 +104,7 @@ still_described described code values ok = go (eqb code 1) ok
     go true ok = refl
     go false ok = ok
 
-info_made : (limit depth : ℕ) (forest : Forest) (h : BlockHead) (described : Option ℕ) (used p : ℕ) → h.width ≡ 2 → DescribesBlocks (is_some described) forest → FitForest forest → used + forest_values forest ≤ limit → limit < 2 ^ 32
+info_made : (limit depth : ℕ) (forest : Forest) (h : BlockHead) (described : Option ℕ) (used p : ℕ) → h.width ≡ 2 → DescribesBlocks (is_some described) forest → FitForest forest → used + forest_values forest ≤ limit → limit < 2 ^ 64
     → Made limit depth h (describing described used) (used + forest_values forest) forest p
 unfolding normal
 info_made limit depth empty h described used p wide ok fits room capped = none_made limit depth h (describing described used) (used + 0) p (ap handed_of (omega arith))
@@ -257,32 +129,6 @@ body_place id words q =
     let b = shortest 4 2 in
     let z = padding (q + length a + length b) in
     omega (arith, length-append a (b ++ (z ++ bits_of 32 0)), length-append b (z ++ bits_of 32 0), length-append z (bits_of 32 0), length-bits_of 32 words, length-bits_of 32 0)
-
-head_length : (id words q : ℕ) → length (head_text id words q) ≡ length (head_text id 0 q)
-head_length id words q =
-    let a = shortest 8 id in
-    let b = shortest 4 2 in
-    let z = padding (q + length a + length b) in
-    omega (
-      arith,
-      length-append a (b ++ (z ++ bits_of 32 words)),
-      length-append b (z ++ bits_of 32 words),
-      length-append z (bits_of 32 words),
-      length-append a (b ++ (z ++ bits_of 32 0)),
-      length-append b (z ++ bits_of 32 0),
-      length-append z (bits_of 32 0),
-      length-bits_of 32 words,
-      length-bits_of 32 0,
-    )
-
--- it begins at a multiple of 32
-body_aligned : (id q : ℕ) → (k : ℕ) × (q + length (head_text id 0 q) ≡ 32 * k)
-body_aligned id q =
-    let a = shortest 8 id in
-    let b = shortest 4 2 in
-    let z = padding (q + length a + length b) in
-    let k = pad_ends (q + length a + length b) in
-    (k.0 + 1, omega (arith, k.1, length-append a (b ++ (z ++ bits_of 32 0)), length-append b (z ++ bits_of 32 0), length-append z (bits_of 32 0), length-bits_of 32 0))
 
 in_words : (a b k m n : ℕ) → a ≡ 32 * k → a + b ≡ 32 * m → n ≡ b / 32 → 32 * n ≡ b
 in_words a b k m n x y z = omega arith
@@ -338,13 +184,13 @@ entered (suc id) used some =
     rw no_info refl
 
 -- what a block holds, by its id
-inner_made : (limit depth id : ℕ) (inner : Forest) (h : BlockHead) (used q : ℕ) → h.width ≡ 2 → (id ≡ 0 → DescribesBlocks false inner) → FitForest inner → used + forest_values inner ≤ limit → limit < 2 ^ 32
+inner_made : (limit depth id : ℕ) (inner : Forest) (h : BlockHead) (used q : ℕ) → h.width ≡ 2 → (id ≡ 0 → DescribesBlocks false inner) → FitForest inner → used + forest_values inner ≤ limit → limit < 2 ^ 64
     → Made limit depth h (plain used) (used + forest_values inner) inner q → Made limit depth h (enter id (handed_of used)) (used + forest_values inner) inner q
 inner_made limit depth zero inner h used q wide info fits room capped made = info_made limit depth inner h None used q wide (info refl) fits room capped
 inner_made limit depth (suc id) inner h used q wide info fits room capped made = subst (λ (s : Scope). Made limit depth h s (used + forest_values inner) inner q) (sym (entered (suc id) used (λ e. absurd (omega (arith, e))))) made
 
 -- a block, with as many blocks allowed in one another as it has
-block_at : (limit depth first used id : ℕ) (inner : Forest) (q : ℕ) → suc (forest_depth inner) ≤ depth → id < 2 ^ 32 → (id ≡ 0 → DescribesBlocks false inner) → FitForest inner → used + forest_values inner ≤ limit → limit < 2 ^ 32
+block_at : (limit depth first used id : ℕ) (inner : Forest) (q : ℕ) → suc (forest_depth inner) ≤ depth → id < 2 ^ 32 → (id ≡ 0 → DescribesBlocks false inner) → FitForest inner → used + forest_values inner ≤ limit → limit < 2 ^ 64
     → length (block_text id (body_of inner) q) < 2 ^ 37
     → ((depth' : ℕ) (h : BlockHead) (at_body : ℕ) → forest_depth inner ≤ depth' → h.width ≡ 2 → length (normal inner at_body) < 2 ^ 37 → Made limit depth' h (plain used) (used + forest_values inner) inner at_body)
     → BlockMade limit depth first used id inner q
@@ -368,7 +214,7 @@ plain_described : (code : ℕ) (values : List ℕ) (first q : ℕ) → Spelled (
 unfolding describe
 plain_described code values first q = given
 
-plain_made : (limit depth : ℕ) (forest : Forest) (h : BlockHead) (used p : ℕ) → h.width ≡ 2 → FitForest forest → forest_depth forest ≤ depth → used + forest_values forest ≤ limit → limit < 2 ^ 32 → length (normal forest p) < 2 ^ 37
+plain_made : (limit depth : ℕ) (forest : Forest) (h : BlockHead) (used p : ℕ) → h.width ≡ 2 → FitForest forest → forest_depth forest ≤ depth → used + forest_values forest ≤ limit → limit < 2 ^ 64 → length (normal forest p) < 2 ^ 37
     → Made limit depth h (plain used) (used + forest_values forest) forest p
 unfolding normal
 plain_made limit depth empty h used p wide fits deep room capped short = none_made limit depth h (plain used) (used + 0) p (ap handed_of (omega arith))
@@ -407,7 +253,7 @@ record TopMade (limits : Limits) (used : ℕ) (forest : Forest) (p after : ℕ) 
   tree : forest_of Keep (marks_of items) ≡ forest
   spelled : Things (λ handed p s x. Spells (top_block limits handed) p s x) items (handed_of used) p (normal forest p) after
 
-top_made : (limits : Limits) (forest : Forest) (used p after : ℕ) → AreBlocks forest → FitForest forest → forest_depth forest ≤ limits.depth → used + forest_values forest ≤ limits.values → limits.values < 2 ^ 32 → length (normal forest p) < 2 ^ 37
+top_made : (limits : Limits) (forest : Forest) (used p after : ℕ) → AreBlocks forest → FitForest forest → forest_depth forest ≤ limits.depth → used + forest_values forest ≤ limits.values → limits.values < 2 ^ 64 → length (normal forest p) < 2 ^ 37
     → after ≡ p + length (normal forest p) → TopMade limits used forest p after
 unfolding normal
 top_made limits empty used p after blocks fits deep room capped short end = record { items = []; tree = refl; spelled = (refl, omega (arith, end)) }
@@ -428,23 +274,20 @@ top_made limits (a_block id inner rest) used p after blocks fits deep room cappe
       spelled = (front p, normal rest (p + length (front p)), handed_of (used + forest_values inner), refl, some, one.is, others.spelled);
     }
 
-bytes_length : (bytes : List ℕ) → length (bits_of_bytes bytes) ≡ 8 * length bytes
-bytes_length [] = refl
-bytes_length (b ∷ bytes) = omega (arith, bytes_length bytes, length-append (bits_of 8 b) (bits_of_bytes bytes))
-
 not_wrapped : (magic : ℕ) → magic ≢ wrapper_magic → is_wrapped magic ≡ false
 not_wrapped magic h = grind (arith, nat_tests)
 
-pub normal_spelled : (limits : Limits) (tree : Tree) (bytes : List ℕ) → Capped limits → Fit tree → bits_of_bytes bytes ≡ normal_form tree → length bytes ≤ limits.bytes → forest_depth tree.blocks ≤ limits.depth → forest_values tree.blocks ≤ limits.values
-    → HasTree limits bytes tree
+-- limits within which no length is too great for its field
+pub form_spelled : (limits : Limits) (tree : Tree) (bytes : List ℕ) → limits.bytes ≤ 17179869180 → limits.values < 2 ^ 64 → Fit tree → bits_of_bytes bytes ≡ normal_form tree → length bytes ≤ limits.bytes → forest_depth tree.blocks ≤ limits.depth → forest_values tree.blocks ≤ limits.values
+    → HasTree Keep limits bytes tree
 unfolding normal_form input stream top_blocks
-normal_spelled limits tree bytes capped fit is fits deep room =
+form_spelled limits tree bytes cap cap' fit is fits deep room =
     let magic = bits_of 32 tree.magic in
     let p = 0 + length magic in
     let blocks = normal tree.blocks p in
     let parts = length-append magic blocks in
-    let short : length blocks < 2 ^ 37 = omega (arith, ap length is, parts, bytes_length bytes, fits, capped.bytes) in
-    let made = top_made limits tree.blocks 0 p (p + length blocks) fit.blocks fit.fit deep (omega (arith, room)) (omega (arith, capped.values)) short refl in
+    let short : length blocks < 2 ^ 37 = omega (arith, ap length is, parts, bytes_length bytes, fits, cap) in
+    let made = top_made limits tree.blocks 0 p (p + length blocks) fit.blocks fit.fit deep (omega (arith, room)) cap' short refl in
     let m : Marked = record { head = record { magic = tree.magic; wrapper = None }; blocks = marks_of made.items; after = p + length blocks } in (
       m,
       record {
@@ -453,6 +296,10 @@ normal_spelled limits tree bytes capped fit is fits deep room =
       },
       ap (λ (f : Forest). record { magic = tree.magic; blocks = f }) made.tree,
     )
+
+pub normal_spelled : (limits : Limits) (tree : Tree) (bytes : List ℕ) → Capped limits → Fit tree → bits_of_bytes bytes ≡ normal_form tree → length bytes ≤ limits.bytes → forest_depth tree.blocks ≤ limits.depth → forest_values tree.blocks ≤ limits.values
+    → HasTree Keep limits bytes tree
+normal_spelled limits tree bytes capped fit is fits deep room = form_spelled limits tree bytes capped.bytes (omega (arith, capped.values)) fit is fits deep room
 
 pub one_tree_of_normal : (limits : Limits) (a b : Tree) (bytes : List ℕ) → Capped limits → Fit a → Fit b → bits_of_bytes bytes ≡ normal_form a → bits_of_bytes bytes ≡ normal_form b → length bytes ≤ limits.bytes
     → forest_depth a.blocks ≤ limits.depth → forest_values a.blocks ≤ limits.values → forest_depth b.blocks ≤ limits.depth → forest_values b.blocks ≤ limits.values → a ≡ b

@@ -9,6 +9,7 @@ pub mod Record
 pub mod FormatRecord
 pub mod Forest
 pub mod Marks
+pub mod Dropped
 pub mod Blocks
 pub mod FormatBlocks
 pub mod Whole
@@ -16,4 +17,5 @@ pub mod Input
 pub mod FormatInput
 pub mod Machine
 pub mod Normal
+pub mod Size
 pub mod Outlook

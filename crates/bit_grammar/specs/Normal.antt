@@ -4,7 +4,7 @@ use Rattle.bit_grammar.specs.Bits.{bits_of}
 use Rattle.bit_grammar.specs.Fields.{padding_length}
 use Rattle.bit_grammar.specs.FormatFields.{shortest}
 use Rattle.bit_grammar.specs.Forest.{Forest, empty, a_block, a_record, Tree}
-use Rattle.bit_grammar.specs.declared.info.Info.TheVariants.{Keep}
+use Rattle.bit_grammar.specs.declared.info.Info.{Info}
 use Rattle.bit_grammar.specs.Blocks.{Limits}
 use Rattle.bit_grammar.specs.Input.{Marked, tree_of, SpellsInput}
 
@@ -59,6 +59,6 @@ pub record Capped (limits : Limits) : Type 0 where
   pub depth : limits.depth ≤ 255
   pub values : limits.values ≤ 4294967295
 
--- these bytes spell a marked tree with this tree
-abbrev pub HasTree : Limits → List ℕ → Tree → Type 0
-HasTree limits bytes tree = (m : Marked) × SpellsInput limits bytes m × (tree_of Keep m ≡ tree)
+-- these bytes spell a marked tree with this tree under a setting
+abbrev pub HasTree : Info → Limits → List ℕ → Tree → Type 0
+HasTree info limits bytes tree = (m : Marked) × SpellsInput limits bytes m × (tree_of info m ≡ tree)

@@ -14,6 +14,7 @@ ghost use Rattle.bit_grammar.specs.Whole.{SpellsAll, StopsAll};
 ghost use Rattle.bit_grammar.specs.Machine.{to_come, at_start, flat, accepted, broke};
 ghost use Rattle.bit_grammar.specs.Outlook.{outlook, EndsBy};
 ghost use Rattle.bit_grammar.specs.Blocks.{Limits, Handed, top_block};
+ghost use Rattle.bit_grammar.specs.declared.info.Info.{Info};
 ghost use Rattle.bit_grammar.specs.declared.info.Info.TheVariants.{Keep};
 ghost use Rattle.bit_grammar.specs.Input.{top_blocks, tree_of, Marked, SpellsInput, BreaksInput};
 
@@ -102,7 +103,7 @@ pub fn machine_tells()
 /// The normal form of a fit tree is spelled by a marked tree with that tree, under all limits that the form and the tree
 /// keep to.
 pub fn normal_spelled()
-    ensures { (limits : Limits) (tree : Tree) (bytes : List ℕ) → Capped limits → Fit tree → bits_of_bytes bytes ≡ normal_form tree → length bytes ≤ limits.bytes → forest_depth tree.blocks ≤ limits.depth → forest_values tree.blocks ≤ limits.values → HasTree limits bytes tree }
+    ensures { (limits : Limits) (tree : Tree) (bytes : List ℕ) → Capped limits → Fit tree → bits_of_bytes bytes ≡ normal_form tree → length bytes ≤ limits.bytes → forest_depth tree.blocks ≤ limits.depth → forest_values tree.blocks ≤ limits.values → HasTree Keep limits bytes tree }
 {}
 
 /// Fit trees with the same normal form are the same, where the form and the trees keep to common limits.
@@ -110,17 +111,18 @@ pub fn one_tree_of_normal()
     ensures { (limits : Limits) (a b : Tree) (bytes : List ℕ) → Capped limits → Fit a → Fit b → bits_of_bytes bytes ≡ normal_form a → bits_of_bytes bytes ≡ normal_form b → length bytes ≤ limits.bytes → forest_depth a.blocks ≤ limits.depth → forest_values a.blocks ≤ limits.values → forest_depth b.blocks ≤ limits.depth → forest_values b.blocks ≤ limits.values → a ≡ b }
 {}
 
-/// The tree of what an input spells is fit.
+/// The tree of what an input spells is fit under each setting.
 pub fn fit_tree()
-    ensures { (limits : Limits) (bytes : List ℕ) (m : Marked) → Capped limits → SpellsInput limits bytes m → Fit (tree_of Keep m) }
+    ensures { (info : Info) (limits : Limits) (bytes : List ℕ) (m : Marked) → Capped limits → SpellsInput limits bytes m → Fit (tree_of info m) }
 {}
 
-/// The normal form of what an input spells is spelled, under the same limits where it fits, by the same tree alone; and
-/// inputs whose normal forms are the same bytes have the same tree.
+/// Under each setting, the normal form of what an input spells is spelled, under the same limits where it fits, by the same
+/// tree alone, of which it is the normal form again; and inputs whose normal forms are the same bytes have the same tree.
 pub fn normal_once()
-    ensures spelled { (limits : Limits) (bytes out : List ℕ) (m : Marked) → Capped limits → SpellsInput limits bytes m → bits_of_bytes out ≡ normal_form (tree_of Keep m) → length out ≤ limits.bytes → HasTree limits out (tree_of Keep m) }
-    ensures once { (limits : Limits) (bytes out : List ℕ) (m n : Marked) → Capped limits → SpellsInput limits bytes m → bits_of_bytes out ≡ normal_form (tree_of Keep m) → length out ≤ limits.bytes → SpellsInput limits out n → tree_of Keep n ≡ tree_of Keep m }
-    ensures same { (limits : Limits) (bytes bytes' out : List ℕ) (m n : Marked) → Capped limits → SpellsInput limits bytes m → SpellsInput limits bytes' n → bits_of_bytes out ≡ normal_form (tree_of Keep m) → bits_of_bytes out ≡ normal_form (tree_of Keep n) → length out ≤ limits.bytes → tree_of Keep m ≡ tree_of Keep n }
+    ensures spelled { (info : Info) (limits : Limits) (bytes out : List ℕ) (m : Marked) → Capped limits → SpellsInput limits bytes m → bits_of_bytes out ≡ normal_form (tree_of info m) → length out ≤ limits.bytes → HasTree info limits out (tree_of info m) }
+    ensures once { (info : Info) (limits : Limits) (bytes out : List ℕ) (m n : Marked) → Capped limits → SpellsInput limits bytes m → bits_of_bytes out ≡ normal_form (tree_of info m) → length out ≤ limits.bytes → SpellsInput limits out n → tree_of info n ≡ tree_of info m }
+    ensures again { (info : Info) (limits : Limits) (bytes out : List ℕ) (m n : Marked) → Capped limits → SpellsInput limits bytes m → bits_of_bytes out ≡ normal_form (tree_of info m) → length out ≤ limits.bytes → SpellsInput limits out n → bits_of_bytes out ≡ normal_form (tree_of info n) }
+    ensures same { (info : Info) (limits : Limits) (bytes bytes' out : List ℕ) (m n : Marked) → Capped limits → SpellsInput limits bytes m → SpellsInput limits bytes' n → bits_of_bytes out ≡ normal_form (tree_of info m) → bits_of_bytes out ≡ normal_form (tree_of info n) → length out ≤ limits.bytes → tree_of info m ≡ tree_of info n }
 {}
 
 /// What is told of an input is its head and the events of its tree, and acceptance; and where it breaks, what is told ends
