@@ -44,7 +44,7 @@ record Claims : Type 0 where
   -- refuses: values judged after the fields of the record, which are not there
   values : blocks usual (hex "4243C0DE 21080000 03000000 07FFFFFF FFFFFFFF FFFF0F00") ≡ Err (at TooManyValues 104)
   -- a number of operands whose sixteenth chunk says that another follows
-  operands_in_17_chunks : blocks usual (hex "4243C0DE 210C0000 03000000 FAFFFFFF FFFFFFFF FFFFFFFF FF") ≡ Err (at ValueTooWide 99)
+  operands_in_17_chunks : blocks usual (hex "4243C0DE 210C0000 03000000 FAFFFFFF FFFFFFFF FFFFFFFF FFFF") ≡ Err (at ValueTooWide 99)
   -- 2 ^ 64 - 1 operands
   operands_without_end : blocks usual (hex "4243C0DE 210C0000 03000000 FAFFFFFF FFFFFFFF FFFF0300") ≡ Err (at AbbrevEncoding 180)
 
