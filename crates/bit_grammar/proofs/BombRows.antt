@@ -72,11 +72,10 @@ thousands zero = empty
 thousands (suc count) = a_record 0 (replicate 1000 0) (thousands count)
 
 record Bombs : Type 0 where
-  bytes_of_bomb : length (literals_used 100) ≡ 1180
   -- Its normal form of 75,264 bytes takes too many steps here: the tests of bit_norm have it.
   uses_100 : blocks (with_values 100000) (literals_used 100) ≡ Ok (a_block 8 (thousands 100) empty)
   uses_101 : blocks (with_values 100000) (literals_used 101) ≡ Err (at TooManyValues 9423)
 
 bombs : Bombs
 unfolding fixed vbr char6 align32 byte kind valued operand operands definition value_count unabbreviated scalar values_of abbreviated block_id new_width block_head end_of_block define entry describe record_after nested item_after item block top_block version offset wrapper any_bits wrapper_and_gap inner_magic top_blocks stream wrapped input outer_wrapper reading_input
-bombs = record { bytes_of_bomb = refl; uses_100 = refl; uses_101 = refl }
+bombs = record { uses_100 = refl; uses_101 = refl }
