@@ -37,5 +37,4 @@ record Written : Type 0 where
   padded_32 : chain (put (shortest 6 32)) padding 0 ≡ bits_of_bytes (hex "60000000")
 
 written : Written
-unfolding fixed
 written = record { two_chunks = refl; length_of_32 = refl; padded_32 = refl }
