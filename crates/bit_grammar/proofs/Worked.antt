@@ -1,0 +1,53 @@
+-- What worked inputs are read as, and what they are written as again.
+use Rattle.std.proofs.Common.{◌≡◌, ℕ, Bool, List, Result, Ok}
+use Rattle.bit_grammar.specs.declared.info.Info.{Info}
+use Rattle.bit_grammar.specs.declared.info.Info.TheVariants.{Keep, Drop}
+use Rattle.bit_grammar.specs.Bits.{bits_of_bytes}
+use Rattle.bit_grammar.specs.Grammar.{Fault}
+use Rattle.bit_grammar.specs.Forest.{Forest, Tree}
+use Rattle.bit_grammar.specs.Marks.{Marks, forest_of}
+use Rattle.bit_grammar.specs.Blocks.{Limits}
+use Rattle.bit_grammar.specs.Whole.{made_by}
+use Rattle.bit_grammar.specs.Input.{tree_of, reading_input}
+use Rattle.bit_grammar.specs.Normal.{normal_form}
+
+-- the usual limits, and the same with another limit on bytes, on depth or on values
+abbrev pub usual : Limits
+usual = record { bytes = 1073741824; depth = 64; values = 134217728 }
+
+abbrev pub with_bytes : ℕ → Limits
+with_bytes n = record usual { bytes = n }
+
+abbrev pub with_depth : ℕ → Limits
+with_depth n = record usual { depth = n }
+
+abbrev pub with_values : ℕ → Limits
+with_values n = record usual { values = n }
+
+-- the marked blocks that bytes are read as, or the fault
+abbrev pub marks : Limits → List ℕ → Result Marks Fault
+marks limits bytes = made_by (λ m. m.blocks) (reading_input limits bytes)
+
+-- the blocks, without places and definitions
+abbrev pub blocks : Limits → List ℕ → Result Forest Fault
+blocks limits bytes = made_by (λ m. forest_of Keep m.blocks) (reading_input limits bytes)
+
+-- the same without the BLOCKINFO blocks
+abbrev pub dropped : Limits → List ℕ → Result Forest Fault
+dropped limits bytes = made_by (λ m. forest_of Drop m.blocks) (reading_input limits bytes)
+
+-- the magic and the blocks
+abbrev pub tree : Info → Limits → List ℕ → Result Tree Fault
+tree info limits bytes = made_by (tree_of info) (reading_input limits bytes)
+
+-- the normal form of what bytes are read as, in bits
+abbrev pub rewritten : Info → Limits → List ℕ → Result (List Bool) Fault
+rewritten info limits bytes = made_by (λ m. normal_form (tree_of info m)) (reading_input limits bytes)
+
+-- these bytes are accepted with these blocks, and their normal form is those bytes
+abbrev pub Accepted : Limits → (bytes : List ℕ) → Forest → (normal : List ℕ) → Type 0
+Accepted limits bytes forest normal = (blocks limits bytes ≡ Ok forest) × (rewritten Keep limits bytes ≡ Ok (bits_of_bytes normal))
+
+-- these bytes are accepted with these blocks, and are their normal form
+abbrev pub IsNormal : Limits → (bytes : List ℕ) → Forest → Type 0
+IsNormal limits bytes forest = Accepted limits bytes forest bytes
