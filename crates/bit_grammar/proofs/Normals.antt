@@ -30,34 +30,34 @@ use Rattle.bit_grammar.proofs.Inputs.{one_tree}
 pub record Spelled {A : Type 0} (rule : Grammar A) (p : ℕ) (s : List Bool) (v : A) : Type 0 where
   pub is : Spells rule p s v
 
-then_spelled : {A B : Type 0} {first : Grammar A} (second : A → Grammar B) {p : ℕ} {a b : List Bool} {x : A} {v : B} → Spelled first p a x → Spelled (second x) (p + length a) b v → Spelled (first >>= second) p (a ++ b) v
+pub then_spelled : {A B : Type 0} {first : Grammar A} (second : A → Grammar B) {p : ℕ} {a b : List Bool} {x : A} {v : B} → Spelled first p a x → Spelled (second x) (p + length a) b v → Spelled (first >>= second) p (a ++ b) v
 then_spelled second {a = a} {b = b} {x = x} h k = record { is = (a, b, x, refl, h.is, k.is) }
 
 -- the last part with bits
-then_last : {A B : Type 0} {first : Grammar A} (second : A → Grammar B) {p : ℕ} {a : List Bool} {x : A} {v : B} → Spelled first p a x → Spelled (second x) (p + length a) [] v → Spelled (first >>= second) p a v
+pub then_last : {A B : Type 0} {first : Grammar A} (second : A → Grammar B) {p : ℕ} {a : List Bool} {x : A} {v : B} → Spelled first p a x → Spelled (second x) (p + length a) [] v → Spelled (first >>= second) p a v
 then_last second {a = a} {x = x} h k = record { is = (a, [], x, sym (append-nil a), h.is, k.is) }
 
-given : {A : Type 0} {x : A} {p : ℕ} → Spelled (gives x) p [] x
+pub given : {A : Type 0} {x : A} {p : ℕ} → Spelled (gives x) p [] x
 given = record { is = (refl, refl) }
 
 -- a first part without bits
-no_bits : {A B : Type 0} {first : Grammar A} (second : A → Grammar B) {p : ℕ} {s : List Bool} {x : A} {v : B} → Spelled first p [] x → Spelled (second x) p s v → Spelled (first >>= second) p s v
+pub no_bits : {A B : Type 0} {first : Grammar A} (second : A → Grammar B) {p : ℕ} {s : List Bool} {x : A} {v : B} → Spelled first p [] x → Spelled (second x) p s v → Spelled (first >>= second) p s v
 no_bits second {p = p} {s = s} {x = x} {v = v} h k = record { is = ([], s, x, refl, h.is, subst (λ (q : ℕ). Spells (second x) q s v) (omega arith) k.is) }
 
-here_spelled : {B : Type 0} (second : ℕ → Grammar B) {p : ℕ} {s : List Bool} {v : B} → Spelled (second p) p s v → Spelled (position >>= second) p s v
+pub here_spelled : {B : Type 0} (second : ℕ → Grammar B) {p : ℕ} {s : List Bool} {v : B} → Spelled (second p) p s v → Spelled (position >>= second) p s v
 here_spelled second {p = p} {s = s} {v = v} h = record { is = ([], s, p, refl, (refl, refl), subst (λ (q : ℕ). Spells (second p) q s v) (omega arith) h.is) }
 
-judge_spelled : {B : Type 0} (holds : Bool) (why : Fault) (second : Unit {0} → Grammar B) {p : ℕ} {s : List Bool} {v : B} → holds ≡ true → Spelled (second tt) p s v → Spelled (test holds why >>= second) p s v
+pub judge_spelled : {B : Type 0} (holds : Bool) (why : Fault) (second : Unit {0} → Grammar B) {p : ℕ} {s : List Bool} {v : B} → holds ≡ true → Spelled (second tt) p s v → Spelled (test holds why >>= second) p s v
 judge_spelled holds why second {p} {s} {v} e h = record { is = ([], s, tt, refl, (refl, e), subst (λ (q : ℕ). Spells (second tt) q s v) (omega arith) h.is) }
 
-first_chosen : {A : Type 0} (b : Bool) {one_rule other_rule : Grammar A} {p : ℕ} {s : List Bool} {v : A} → b ≡ true → Spelled one_rule p s v → Spelled (choose b one_rule other_rule) p s v
+pub first_chosen : {A : Type 0} (b : Bool) {one_rule other_rule : Grammar A} {p : ℕ} {s : List Bool} {v : A} → b ≡ true → Spelled one_rule p s v → Spelled (choose b one_rule other_rule) p s v
 first_chosen b e h = record { is = inl (e, h.is) }
 
-other_chosen : {A : Type 0} (b : Bool) {one_rule other_rule : Grammar A} {p : ℕ} {s : List Bool} {v : A} → b ≡ false → Spelled other_rule p s v → Spelled (choose b one_rule other_rule) p s v
+pub other_chosen : {A : Type 0} (b : Bool) {one_rule other_rule : Grammar A} {p : ℕ} {s : List Bool} {v : A} → b ≡ false → Spelled other_rule p s v → Spelled (choose b one_rule other_rule) p s v
 other_chosen b e h = record { is = inr (e, h.is) }
 
 -- the same bits at the same position, written otherwise
-moved : {A : Type 0} {rule : Grammar A} {p q : ℕ} {s : List Bool} {v : A} → p ≡ q → Spelled rule p s v → Spelled rule q s v
+pub moved : {A : Type 0} {rule : Grammar A} {p q : ℕ} {s : List Bool} {v : A} → p ≡ q → Spelled rule p s v → Spelled rule q s v
 moved {rule = rule} {s = s} {v = v} e h = record { is = subst (λ (x : ℕ). Spells rule x s v) e h.is }
 
 -- ---- fields
