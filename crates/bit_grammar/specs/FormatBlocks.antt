@@ -22,11 +22,11 @@ pub record Context : Type 0 where
   pub table : Table
   pub info : Option BlockInfo
 
--- at the top: ids of two bits, and no definitions but those of the table
+-- at the top, where the table is this one: ids of two bits, and no definitions in force
 abbrev pub top_with : Table → Context
 top_with table = record { width = 2; definitions = []; table = table; info = None }
 
--- at a stream's beginning: no definitions at all
+-- at a stream's beginning: the table is empty
 abbrev pub top_context : Context
 top_context = top_with no_definitions
 
