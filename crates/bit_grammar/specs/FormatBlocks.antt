@@ -1,9 +1,13 @@
 -- Blocks and what stands in them, in the words of the format. No limit is spoken of here.
--- Source: "Blocks", "ENTER_SUBBLOCK Encoding", "END_BLOCK Encoding", "Standard Blocks", "#0 - BLOCKINFO Block".
-use Rattle.std.specs.Prelude.{◌≡◌, ℕ, ◌+◌, ◌-◌, ◌*◌, ◌^◌, ◌<◌, ◌≤◌, Bool, true, false, List, [], ◌∷◌, ◌++◌, length, Option, Some, None, slice_get, ◌⊎◌}
+-- Source: "LLVM Bitcode File Format", "Abbreviation IDs", "Blocks", "ENTER_SUBBLOCK Encoding", "END_BLOCK Encoding",
+-- "Standard Blocks", "#0 - BLOCKINFO Block". This project's own: the bounds of block ids and widths; that a BLOCKINFO
+-- block holds no block, makes a table of its own that takes the place of the one before, and holds nothing but records
+-- that name a block until one is named.
+use Rattle.std.specs.Prelude.{◌≡◌, ℕ, ◌+◌, ◌-◌, ◌*◌, ◌^◌, ◌<◌, ◌≤◌, Bool, List, [], ◌∷◌, ◌++◌, length, Option, Some, None, slice_get, ◌⊎◌}
+use Rattle.std.specs.List.{AllByRecursion}
 use Rattle.bit_grammar.specs.declared.op.Op.{Op}
 use Rattle.bit_grammar.specs.FormatFields.{IsFixed, IsVbr, IsPadding}
-use Rattle.bit_grammar.specs.FormatDefinition.{IsDefinition}
+use Rattle.bit_grammar.specs.FormatDefinition.{Lawful, IsDefinition}
 use Rattle.bit_grammar.specs.Record.{Entry}
 use Rattle.bit_grammar.specs.FormatRecord.{IsUnabbreviated, IsAbbreviated}
 use Rattle.bit_grammar.specs.Forest.{set_bid}
@@ -18,9 +22,13 @@ pub record Context : Type 0 where
   pub table : Table
   pub info : Option BlockInfo
 
--- at the top: ids of two bits, and no definitions
+-- at the top, where the table is this one: ids of two bits, and no definitions in force
+abbrev pub top_with : Table → Context
+top_with table = record { width = 2; definitions = []; table = table; info = None }
+
+-- at a stream's beginning: the table is empty
 abbrev pub top_context : Context
-top_context = record { width = 2; definitions = []; table = no_definitions; info = None }
+top_context = top_with no_definitions
 
 -- in a block: ids of its own width, and the definitions that the table has for it; none that stand in the block around it
 abbrev pub entered : Context → (id width : ℕ) → Context
@@ -33,6 +41,10 @@ made_or table (Some info) = info.made
 -- the table after a block: the one that a BLOCKINFO block made, else the one that stood at the block's end
 abbrev pub table_after : Context → Table
 table_after c = made_or c.table c.info
+
+-- a table of lawful definitions
+abbrev pub HoldsLawful : Table → Type 0
+HoldsLawful table = (id : ℕ) → AllByRecursion Lawful (table id)
 
 -- ---- definitions
 

@@ -1,11 +1,14 @@
 -- Whole inputs in the words of the format. No limit is spoken of here.
--- Source: "Magic Numbers", "Bitstream Format", "Bitcode Wrapper Format".
-use Rattle.std.specs.Prelude.{◌≡◌, ℕ, ◌+◌, ◌*◌, ◌%◌, ◌^◌, ◌<◌, ◌≤◌, ◌≢◌, Bool, List, ◌++◌, length, Option, Some, None}
+-- Source: "LLVM Bitcode File Format", "Bitstream Format", "Magic Numbers", "Bitcode Wrapper Format". This project's own:
+-- that only blocks stand at the top, up to the end of the stream; that a wrapper's version is 0, its offset at least 20
+-- and a multiple of 4, that any bytes may stand between it and the stream and behind the stream, and that a stream in a
+-- wrapper has no wrapper.
+use Rattle.std.specs.Prelude.{◌≡◌, ℕ, ◌+◌, ◌*◌, ◌%◌, ◌≤◌, ◌≢◌, Bool, List, ◌++◌, length, Option, Some, None}
 use Rattle.bit_grammar.specs.FormatFields.{IsFixed}
 use Rattle.bit_grammar.specs.Forest.{wrapper_magic}
 use Rattle.bit_grammar.specs.Marks.{Marks, no_marks, marked_block, marked_record, marked_definition}
 use Rattle.bit_grammar.specs.FormatBlocks.{Context, top_context, AreItems}
-use Rattle.bit_grammar.specs.Input.{Wrapper, Head, Marked}
+use Rattle.bit_grammar.specs.Input.{Wrapper, Marked}
 
 -- blocks only
 abbrev pub AreMarkedBlocks : Marks → Type 0
