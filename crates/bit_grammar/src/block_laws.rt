@@ -1,11 +1,19 @@
-ghost use Rattle.std.specs.Prelude.{◌≡◌, ℕ, suc, ◌+◌, ◌≤◌, ◌↔◌, Bool, List, length};
-ghost use Rattle.bit_grammar.specs.Bits.{bits_of_bytes};
-ghost use Rattle.bit_grammar.specs.Grammar.{Spells};
-ghost use Rattle.bit_grammar.specs.Marks.{BlockMark, Marks, Item, block_item, depth_in, values_in};
-ghost use Rattle.bit_grammar.specs.Blocks.{Limits, Handed, top_block};
+ghost use Rattle.std.specs.Prelude.{◌≡◌, ℕ, ◌≤◌, ◌⊎◌, ◌↔◌, Bool, List, [], ◌++◌, ◌+◌, suc};
+ghost use Rattle.bit_grammar.specs.Grammar.{Fault, Spells, Stops, Round, rounds};
+ghost use Rattle.bit_grammar.specs.Marks.{Item, depth_in, values_in, Marks, BlockMark, block_item};
+ghost use Rattle.bit_grammar.specs.Whole.{StopsAll, until_end};
+ghost use Rattle.bit_grammar.specs.Blocks.{Limits, Handed, top_block, Scope, BlockHead, block_head, item, block};
 ghost use Rattle.bit_grammar.specs.FormatBlocks.{top_with, HoldsLawful, IsBlock, AreItems};
-ghost use Rattle.bit_grammar.specs.Input.{Marked, SpellsInput};
-ghost use Rattle.bit_grammar.specs.FormatInput.{IsInput};
+
+/// A stream has one front that is a block, with all that stands in it.
+pub fn one_block()
+    ensures { (limits : Limits) (handed : Handed) (p : ℕ) (s t x y : List Bool) (v w : Item × Handed) → s ++ x ≡ t ++ y → Spells (top_block limits handed) p s v → Spells (top_block limits handed) p t w → (s ≡ t) × (v ≡ w) }
+{}
+
+/// A stream has a front that is a block, or breaks with a fault.
+pub fn block_or_fault()
+    ensures { (limits : Limits) (handed : Handed) (p : ℕ) (r : List Bool) → ((s rest : List Bool) × (v : Item × Handed) × (r ≡ s ++ rest) × Spells (top_block limits handed) p s v) ⊎ ((fault : Fault) × Stops (top_block limits handed) p r fault) }
+{}
 
 /// What the rules spell at the top of a stream is a block in the words of the format that keeps to the limits, and each
 /// such block is spelled, where the table holds lawful definitions; and then the table after the block holds such too.
@@ -15,8 +23,12 @@ pub fn block_in_words()
     ensures lawful { (limits : Limits) (handed : Handed) (p : ℕ) (s : List Bool) (v : Item × Handed) → HoldsLawful handed.table → Spells (top_block limits handed) p s v → HoldsLawful v.1.table }
 {}
 
-/// What an input spells under limits is an input in the words of the format that keeps to them: as many bytes, blocks in
-/// one another and values as they permit. And each such input is spelled.
-pub fn input_in_words()
-    ensures { (limits : Limits) (bytes : List ℕ) (m : Marked) → (SpellsInput limits bytes m ↔ (IsInput m (bits_of_bytes bytes) × (length bytes ≤ limits.bytes) × (depth_in m.blocks ≤ limits.depth) × (values_in m.blocks ≤ limits.values))) }
+/// Each item and each block takes bits, since the ids in a block are at least one bit wide. So a body and a stream stop by
+/// the fault of an item, and whichever fault is named for a round that takes no bits, it never comes.
+pub fn no_idle_round()
+    ensures item { (depth limit : ℕ) (h : BlockHead) (scope : Scope) (p : ℕ) (x : Round Scope Item (ℕ × Handed)) → 1 ≤ h.width → Spells (item (block depth limit) h limit scope) p [] x → ⊥ }
+    ensures block { (limits : Limits) (handed : Handed) (p : ℕ) (v : Item × Handed) → Spells (top_block limits handed) p [] v → ⊥ }
+    ensures width { (p : ℕ) (s : List Bool) (h : BlockHead) → Spells block_head p s h → 1 ≤ h.width }
+    ensures body { (idle other : Fault) (depth limit : ℕ) (h : BlockHead) (scope : Scope) (p : ℕ) (r : List Bool) (fault : Fault) → 1 ≤ h.width → Stops (rounds idle (item (block depth limit) h limit) scope) p r fault → Stops (rounds other (item (block depth limit) h limit) scope) p r fault }
+    ensures stream { (idle other : Fault) (limits : Limits) (handed : Handed) (p : ℕ) (r : List Bool) (fault : Fault) → StopsAll (until_end idle (top_block limits) handed) p r fault → StopsAll (until_end other (top_block limits) handed) p r fault }
 {}

@@ -1,37 +1,45 @@
-ghost use Rattle.std.specs.Prelude.{◌≡◌, ℕ, ◌+◌, ◌-◌, ◌*◌, ◌%◌, ◌<◌, ◌≤◌, Bool, List, [], length};
-ghost use Rattle.std.specs.List.{All};
+ghost use Rattle.std.specs.Prelude.{◌≡◌, ℕ, ◌<◌, ◌≤◌, List, length, ◌*◌, ◌+◌, ◌-◌, ◌%◌};
+ghost use Rattle.bit_grammar.specs.Bits.{bits_of_bytes};
+ghost use Rattle.bit_grammar.specs.Forest.{Tree, forest_depth, forest_values, Fit, Forest, AreBlocks};
+ghost use Rattle.bit_grammar.specs.Normal.{normal_form, Capped, HasTree, chain, normal, end_text};
+ghost use Rattle.bit_grammar.specs.Fields.{vbr, chunk_limit};
+ghost use Rattle.bit_grammar.specs.FormatFields.{shortest};
+ghost use Rattle.bit_grammar.specs.Blocks.{Limits, block};
 ghost use Rattle.bit_grammar.specs.declared.info.Info.{Info};
 ghost use Rattle.bit_grammar.specs.declared.info.Info.TheVariants.{Keep};
-ghost use Rattle.bit_grammar.specs.Bits.{bits_of_bytes};
-ghost use Rattle.bit_grammar.specs.Grammar.{Fault, Round, rounds, Spells, Stops};
-ghost use Rattle.bit_grammar.specs.Fields.{chunk_limit};
-ghost use Rattle.bit_grammar.specs.FormatFields.{shortest};
-ghost use Rattle.bit_grammar.specs.Forest.{Forest, Tree, AreBlocks, FitForest, Fit, forest_depth, forest_values};
-ghost use Rattle.bit_grammar.specs.Marks.{Item, Marks, forest_of};
-ghost use Rattle.bit_grammar.specs.Dropped.{dropped, WithoutInfo, items_under, under};
-ghost use Rattle.bit_grammar.specs.Blocks.{Limits, Handed, Scope, BlockHead, block_head, item, block, top_block};
-ghost use Rattle.bit_grammar.specs.Whole.{until_end, StopsAll};
-ghost use Rattle.bit_grammar.specs.Input.{Marked, tree_of, SpellsInput};
-ghost use Rattle.bit_grammar.specs.Normal.{chain, normal, end_text, normal_form, Capped, HasTree};
+ghost use Rattle.bit_grammar.specs.Input.{tree_of, Marked, SpellsInput};
+ghost use Rattle.std.specs.List.{All};
+ghost use Rattle.bit_grammar.specs.Dropped.{under};
 ghost use Rattle.bit_grammar.specs.Size.{shortest_length, end_of, body_length, size_of};
 
-/// The tree of an input under a setting is its whole tree under that setting, and under it once more it stays as it is. A
-/// setting keeps a tree fit, and adds no depth and no values.
-pub fn tree_under()
-    ensures items { (info : Info) (m : Marks) → forest_of info m ≡ items_under info (forest_of Keep m) }
-    ensures tree { (info : Info) (m : Marked) → tree_of info m ≡ under info (tree_of Keep m) }
-    ensures again { (info : Info) (tree : Tree) → under info (under info tree) ≡ under info tree }
-    ensures fit { (info : Info) (tree : Tree) → Fit tree → Fit (under info tree) }
-    ensures fit_items { (info : Info) (f : Forest) → FitForest f → FitForest (items_under info f) }
-    ensures blocks { (info : Info) (f : Forest) → AreBlocks f → AreBlocks (items_under info f) }
-    ensures depth { (info : Info) (f : Forest) → forest_depth (items_under info f) ≤ forest_depth f }
-    ensures values { (info : Info) (f : Forest) → forest_values (items_under info f) ≤ forest_values f }
+/// The normal form of a fit tree is spelled by a marked tree with that tree, under all limits that the form and the tree
+/// keep to.
+pub fn normal_spelled()
+    ensures { (limits : Limits) (tree : Tree) (bytes : List ℕ) → Capped limits → Fit tree → bits_of_bytes bytes ≡ normal_form tree → length bytes ≤ limits.bytes → forest_depth tree.blocks ≤ limits.depth → forest_values tree.blocks ≤ limits.values → HasTree Keep limits bytes tree }
 {}
 
-/// Without its BLOCKINFO blocks a tree has none, and a tree that has none is the same without them.
-pub fn dropped_tree()
-    ensures without { (f : Forest) → WithoutInfo (dropped f) }
-    ensures stays { (f : Forest) → WithoutInfo f → dropped f ≡ f }
+/// Fit trees with the same normal form are the same, where the form and the trees keep to common limits.
+pub fn one_tree_of_normal()
+    ensures { (limits : Limits) (a b : Tree) (bytes : List ℕ) → Capped limits → Fit a → Fit b → bits_of_bytes bytes ≡ normal_form a → bits_of_bytes bytes ≡ normal_form b → length bytes ≤ limits.bytes → forest_depth a.blocks ≤ limits.depth → forest_values a.blocks ≤ limits.values → forest_depth b.blocks ≤ limits.depth → forest_values b.blocks ≤ limits.values → a ≡ b }
+{}
+
+/// Fit trees with the same normal form are the same, where each length in it fits its field.
+pub fn one_tree_of_form()
+    ensures { (a b : Tree) → Fit a → Fit b → size_of a ≤ 17179869180 → normal_form a ≡ normal_form b → a ≡ b }
+{}
+
+/// Under each setting, the normal form of what an input spells is spelled, under the same limits where it fits, by the same
+/// tree alone, of which it is the normal form again; and inputs whose normal forms are the same bytes have the same tree.
+pub fn normal_once()
+    ensures spelled { (info : Info) (limits : Limits) (bytes out : List ℕ) (m : Marked) → Capped limits → SpellsInput limits bytes m → bits_of_bytes out ≡ normal_form (tree_of info m) → length out ≤ limits.bytes → HasTree info limits out (tree_of info m) }
+    ensures once { (info : Info) (limits : Limits) (bytes out : List ℕ) (m n : Marked) → Capped limits → SpellsInput limits bytes m → bits_of_bytes out ≡ normal_form (tree_of info m) → length out ≤ limits.bytes → SpellsInput limits out n → tree_of info n ≡ tree_of info m }
+    ensures again { (info : Info) (limits : Limits) (bytes out : List ℕ) (m n : Marked) → Capped limits → SpellsInput limits bytes m → bits_of_bytes out ≡ normal_form (tree_of info m) → length out ≤ limits.bytes → SpellsInput limits out n → bits_of_bytes out ≡ normal_form (tree_of info n) }
+    ensures same { (info : Info) (limits : Limits) (bytes bytes' out : List ℕ) (m n : Marked) → Capped limits → SpellsInput limits bytes m → SpellsInput limits bytes' n → bits_of_bytes out ≡ normal_form (tree_of info m) → bits_of_bytes out ≡ normal_form (tree_of info n) → length out ≤ limits.bytes → tree_of info m ≡ tree_of info n }
+{}
+
+/// What an input spells has a normal form under each setting where the limits have room for it: bytes that spell the tree.
+pub fn form_of_input()
+    ensures { (info : Info) (limits : Limits) (bytes : List ℕ) (m : Marked) → Capped limits → SpellsInput limits bytes m → size_of (tree_of info m) ≤ limits.bytes → (out : List ℕ) × All (λ b. b < 256) out × (bits_of_bytes out ≡ normal_form (tree_of info m)) × HasTree info limits out (tree_of info m) }
 {}
 
 /// The lengths in bits of the shortest VBR, of items, of a block's body and of a whole normal form.
@@ -69,24 +77,4 @@ pub fn normal_bytes()
 pub fn one_list_of_bytes()
     ensures same { (a b : List ℕ) → All (λ x. x < 256) a → All (λ x. x < 256) b → bits_of_bytes a ≡ bits_of_bytes b → a ≡ b }
     ensures bits { (bytes : List ℕ) → length (bits_of_bytes bytes) ≡ 8 * length bytes }
-{}
-
-/// Fit trees with the same normal form are the same, where each length in it fits its field.
-pub fn one_tree_of_form()
-    ensures { (a b : Tree) → Fit a → Fit b → size_of a ≤ 17179869180 → normal_form a ≡ normal_form b → a ≡ b }
-{}
-
-/// What an input spells has a normal form under each setting where the limits have room for it: bytes that spell the tree.
-pub fn form_of_input()
-    ensures { (info : Info) (limits : Limits) (bytes : List ℕ) (m : Marked) → Capped limits → SpellsInput limits bytes m → size_of (tree_of info m) ≤ limits.bytes → (out : List ℕ) × All (λ b. b < 256) out × (bits_of_bytes out ≡ normal_form (tree_of info m)) × HasTree info limits out (tree_of info m) }
-{}
-
-/// Each item and each block takes bits, since the ids in a block are at least one bit wide. So a body and a stream stop by
-/// the fault of an item, and whichever fault is named for a round that takes no bits, it never comes.
-pub fn no_idle_round()
-    ensures item { (depth limit : ℕ) (h : BlockHead) (scope : Scope) (p : ℕ) (x : Round Scope Item (ℕ × Handed)) → 1 ≤ h.width → Spells (item (block depth limit) h limit scope) p [] x → ⊥ }
-    ensures block { (limits : Limits) (handed : Handed) (p : ℕ) (v : Item × Handed) → Spells (top_block limits handed) p [] v → ⊥ }
-    ensures width { (p : ℕ) (s : List Bool) (h : BlockHead) → Spells block_head p s h → 1 ≤ h.width }
-    ensures body { (idle other : Fault) (depth limit : ℕ) (h : BlockHead) (scope : Scope) (p : ℕ) (r : List Bool) (fault : Fault) → 1 ≤ h.width → Stops (rounds idle (item (block depth limit) h limit) scope) p r fault → Stops (rounds other (item (block depth limit) h limit) scope) p r fault }
-    ensures stream { (idle other : Fault) (limits : Limits) (handed : Handed) (p : ℕ) (r : List Bool) (fault : Fault) → StopsAll (until_end idle (top_block limits) handed) p r fault → StopsAll (until_end other (top_block limits) handed) p r fault }
 {}

@@ -1,0 +1,13 @@
+use Rattle.bit_grammar.specs.Blocks.{block}
+use Rattle.bit_grammar.proofs.Items.{head_width}
+use Rattle.bit_grammar.proofs.Rounds.{item_some, block_some, body_halts, stream_breaks}
+use Rattle.bit_grammar.proofs.block_laws.no_idle_round.Goals as goal
+
+pub returns : goal.returns
+returns c = record {
+  item = λ depth limit h scope p x wide k. item_some (block depth limit) h limit scope p x wide k;
+  block = block_some;
+  width = head_width;
+  body = λ idle other depth limit h scope p r fault wide k. body_halts idle other (block depth limit) h limit scope p r fault wide k;
+  stream = stream_breaks;
+}

@@ -1,5 +1,0 @@
-use Rattle.bit_grammar.proofs.Tables.{character_is}
-use Rattle.bit_grammar.proofs.format_laws.characters_in_table.Goals as goal
-
-pub returns : goal.returns
-returns c = character_is

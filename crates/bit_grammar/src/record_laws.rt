@@ -1,0 +1,47 @@
+ghost use Rattle.std.specs.Prelude.{◌≡◌, ℕ, ◌^◌, ◌<◌, ◌≤◌, ◌⊎◌, ◌↔◌, Bool, List, ◌++◌, length, ◌+◌};
+ghost use Rattle.bit_grammar.specs.declared.op.Op.{Op};
+ghost use Rattle.bit_grammar.specs.Grammar.{Fault, Spells, Stops};
+ghost use Rattle.bit_grammar.specs.Definition.{definition};
+ghost use Rattle.bit_grammar.specs.FormatDefinition.{Lawful, IsDefinition};
+ghost use Rattle.bit_grammar.specs.Record.{Entry, abbreviated, unabbreviated};
+ghost use Rattle.bit_grammar.specs.FormatRecord.{IsUnabbreviated, IsAbbreviated};
+
+/// A stream has one front that is a definition, and it defines one list of operands.
+pub fn one_definition()
+    ensures { (p : ℕ) (s t x y : List Bool) (v w : List Op) → s ++ x ≡ t ++ y → Spells definition p s v → Spells definition p t w → (s ≡ t) × (v ≡ w) }
+{}
+
+/// A definition has a lawful list of operands.
+pub fn lawful_definition()
+    ensures { (p : ℕ) (s : List Bool) (ops : List Op) → Spells definition p s ops → Lawful ops }
+{}
+
+/// A definition is the number of its operands, and each of them, and they are a lawful list.
+pub fn definition_in_words()
+    ensures { (p : ℕ) (s : List Bool) (ops : List Op) → (Spells definition p s ops ↔ IsDefinition ops s) }
+{}
+
+/// Each lawful list of operands whose number a VBR can spell has a definition.
+pub fn every_lawful_list()
+    ensures { (ops : List Op) → Lawful ops → length ops < 2 ^ 64 → (s : List Bool) × IsDefinition ops s }
+{}
+
+/// A stream has one front that is a record by given operands.
+pub fn one_record()
+    ensures { (start room : ℕ) (ops : List Op) (p : ℕ) (s t x y : List Bool) (v w : Entry) → s ++ x ≡ t ++ y → Spells (abbreviated start room ops) p s v → Spells (abbreviated start room ops) p t w → (s ≡ t) × (v ≡ w) }
+{}
+
+/// A stream has a front that is a record by given operands, or breaks with a fault.
+pub fn record_or_fault()
+    ensures { (start room : ℕ) (ops : List Op) (p : ℕ) (r : List Bool) → ((s rest : List Bool) × (v : Entry) × (r ≡ s ++ rest) × Spells (abbreviated start room ops) p s v) ⊎ ((fault : Fault) × Stops (abbreviated start room ops) p r fault) }
+{}
+
+/// An unabbreviated record is the code, the number of its values and each value, no more values than there is room for.
+pub fn unabbreviated_in_words()
+    ensures { (room p : ℕ) (s : List Bool) (e : Entry) → (Spells (unabbreviated room) p s e ↔ (IsUnabbreviated e s × (length e.values ≤ room))) }
+{}
+
+/// A record by a lawful list of operands is the fields of the operands, no more values than there is room for.
+pub fn abbreviated_in_words()
+    ensures { (start room : ℕ) (ops : List Op) (p : ℕ) (s : List Bool) (e : Entry) → Lawful ops → (Spells (abbreviated start room ops) p s e ↔ (IsAbbreviated ops p e s × (length e.values ≤ room))) }
+{}
