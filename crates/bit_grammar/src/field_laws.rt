@@ -13,7 +13,7 @@ pub fn byte_in_bits()
     ensures { (p : ℕ) (s : List Bool) (v : ℕ) → (Spells byte p s v ↔ IsFixed 8 v s) }
 {}
 
-/// A VBR is chunks whose payloads, each at its weight, add up to the value.
+/// A VBR of width 2 or more is chunks whose payloads, each at its weight, add up to the value.
 pub fn vbr_in_chunks()
     ensures { (n p : ℕ) (s : List Bool) (v : ℕ) → 2 ≤ n → (Spells (vbr n) p s v ↔ IsVbr n v s) }
 {}
@@ -23,15 +23,18 @@ pub fn vbr_of_no_width()
     ensures { (p : ℕ) (s : List Bool) (v : ℕ) → (Spells (vbr 0) p s v ↔ ((v ≡ 0) × (s ≡ []))) }
 {}
 
-/// The number of chunks that a VBR may have is the least that has 64 payload bits.
+/// The number of chunks that a VBR may have, each with one payload bit or more, is the least that has 64 of them.
 pub fn chunks_for_64_bits()
     ensures enough { (payload : ℕ) → 1 ≤ payload → 64 ≤ chunk_limit payload * payload }
     ensures least { (payload k : ℕ) → 64 ≤ k * payload → chunk_limit payload ≤ k }
 {}
 
-/// The shortest VBR is one, no other is shorter, and no other is as short.
+/// The shortest VBR, of width 2 or more and for a value below 2^64, is one, no other is shorter, and no other is as short.
 pub fn shortest_vbr()
-    ensures { (n v : ℕ) → 2 ≤ n → v < 2 ^ 64 → IsVbr n v (shortest n v) × ((s : List Bool) → IsVbr n v s → (length (shortest n v) ≤ length s) × (length s ≡ length (shortest n v) → s ≡ shortest n v)) }
+    ensures { (n v : ℕ) → 2 ≤ n → v < 2 ^ 64
+        → IsVbr n v (shortest n v)
+        × ((s : List Bool) → IsVbr n v s
+        → (length (shortest n v) ≤ length s) × (length s ≡ length (shortest n v) → s ≡ shortest n v)) }
 {}
 
 /// A character is six bits, and its value the ASCII code of the character with the number that they spell.

@@ -1,40 +1,62 @@
-ghost use Rattle.std.specs.Prelude.{◌≡◌, ℕ, ◌≤◌, ◌⊎◌, ◌↔◌, List, length};
+ghost use Rattle.std.specs.Prelude.{true, ◌≡◌, ℕ, ◌≤◌, ◌⊎◌, ◌↔◌, List, length};
 ghost use Rattle.bit_grammar.specs.Bits.{bits_of_bytes};
 ghost use Rattle.bit_grammar.specs.Grammar.{Fault};
 ghost use Rattle.bit_grammar.specs.Marks.{depth_in, values_in};
 ghost use Rattle.bit_grammar.specs.Blocks.{Limits, item};
-ghost use Rattle.bit_grammar.specs.Input.{Marked, SpellsInput, BreaksInput};
+ghost use Rattle.bit_grammar.specs.Input.{is_closed, EndsWithin, Marked, SpellsInput, BreaksInput};
 ghost use Rattle.bit_grammar.specs.Dropped.{under};
 ghost use Rattle.bit_grammar.specs.FormatInput.{IsInput};
 
 /// An input spells one marked tree.
 pub fn one_tree()
-    ensures { (limits : Limits) (bytes : List ℕ) (m n : Marked) → SpellsInput limits bytes m → SpellsInput limits bytes n → m ≡ n }
+    ensures { (limits : Limits) (bytes : List ℕ) (m n : Marked) → SpellsInput limits bytes m
+        → SpellsInput limits bytes n → m ≡ n }
 {}
 
 /// An input breaks with one fault, at one bit.
 pub fn one_fault()
-    ensures { (limits : Limits) (bytes : List ℕ) (f g : Fault) → BreaksInput limits bytes f → BreaksInput limits bytes g → f ≡ g }
+    ensures { (limits : Limits) (bytes : List ℕ) (f g : Fault) → BreaksInput limits bytes f
+        → BreaksInput limits bytes g → f ≡ g }
 {}
 
 /// An input that breaks spells no tree.
 pub fn not_both()
-    ensures { (limits : Limits) (bytes : List ℕ) (m : Marked) (f : Fault) → SpellsInput limits bytes m → BreaksInput limits bytes f → ⊥ }
+    ensures { (limits : Limits) (bytes : List ℕ) (m : Marked) (f : Fault) → SpellsInput limits bytes m
+        → BreaksInput limits bytes f → ⊥ }
 {}
 
 /// Every input spells a tree, or breaks with a fault.
 pub fn tree_or_fault()
-    ensures { (limits : Limits) (bytes : List ℕ) → ((m : Marked) × SpellsInput limits bytes m) ⊎ ((fault : Fault) × BreaksInput limits bytes fault) }
+    ensures { (limits : Limits) (bytes : List ℕ) → ((m : Marked) × SpellsInput limits bytes m)
+        ⊎ ((fault : Fault) × BreaksInput limits bytes fault) }
 {}
 
 /// What an input spells under limits it spells under those that it keeps to: limits on depth and values that are judged
 /// item by item are the limits on the tree.
 pub fn limits_of_tree()
-    ensures { (a b : Limits) (bytes : List ℕ) (m : Marked) → SpellsInput a bytes m → (SpellsInput b bytes m ↔ ((length bytes ≤ b.bytes) × (depth_in m.blocks ≤ b.depth) × (values_in m.blocks ≤ b.values))) }
+    ensures { (a b : Limits) (bytes : List ℕ) (m : Marked) → SpellsInput a bytes m
+        → (SpellsInput b bytes m
+        ↔ ((length bytes ≤ b.bytes) × (depth_in m.blocks ≤ b.depth) × (values_in m.blocks ≤ b.values))) }
+{}
+
+/// A longer input than the limit keeps a Truncated just where a wrapper header that is whole within the limit says that its
+/// stream ends within it.
+pub fn closed_by_wrapper()
+    ensures { (limits : Limits) (bytes : List ℕ)
+        → ((is_closed limits bytes ≡ true) ↔ EndsWithin limits bytes) }
+{}
+
+/// In the words of the format alone, without limits, bytes are an input of one marked tree at most.
+pub fn one_tree_in_words()
+    ensures { (bytes : List ℕ) (m n : Marked) → IsInput m (bits_of_bytes bytes)
+        → IsInput n (bits_of_bytes bytes) → m ≡ n }
 {}
 
 /// What an input spells under limits is an input in the words of the format that keeps to them: as many bytes, blocks in
 /// one another and values as they permit. And each such input is spelled.
 pub fn input_in_words()
-    ensures { (limits : Limits) (bytes : List ℕ) (m : Marked) → (SpellsInput limits bytes m ↔ (IsInput m (bits_of_bytes bytes) × (length bytes ≤ limits.bytes) × (depth_in m.blocks ≤ limits.depth) × (values_in m.blocks ≤ limits.values))) }
+    ensures { (limits : Limits) (bytes : List ℕ) (m : Marked)
+        → (SpellsInput limits bytes m
+        ↔ (IsInput m (bits_of_bytes bytes) × (length bytes ≤ limits.bytes)
+        × (depth_in m.blocks ≤ limits.depth) × (values_in m.blocks ≤ limits.values))) }
 {}

@@ -12,42 +12,67 @@ ghost use Rattle.std.specs.List.{All};
 ghost use Rattle.bit_grammar.specs.Dropped.{under};
 ghost use Rattle.bit_grammar.specs.Size.{shortest_length, end_of, body_length, size_of};
 
-/// The normal form of a fit tree is spelled by a marked tree with that tree, under all limits that the form and the tree
-/// keep to.
+/// The normal form of a fit tree is spelled by a marked tree with that tree, under all limits within their caps that the
+/// form and the tree keep to.
 pub fn normal_spelled()
-    ensures { (limits : Limits) (tree : Tree) (bytes : List ℕ) → Capped limits → Fit tree → bits_of_bytes bytes ≡ normal_form tree → length bytes ≤ limits.bytes → forest_depth tree.blocks ≤ limits.depth → forest_values tree.blocks ≤ limits.values → HasTree Keep limits bytes tree }
+    ensures { (limits : Limits) (tree : Tree) (bytes : List ℕ) → Capped limits → Fit tree
+        → bits_of_bytes bytes ≡ normal_form tree → length bytes ≤ limits.bytes
+        → forest_depth tree.blocks ≤ limits.depth → forest_values tree.blocks ≤ limits.values
+        → HasTree Keep limits bytes tree }
 {}
 
-/// Fit trees with the same normal form are the same, where the form and the trees keep to common limits.
+/// Fit trees with the same normal form are the same, where the form and the trees keep to common limits within their caps.
 pub fn one_tree_of_normal()
-    ensures { (limits : Limits) (a b : Tree) (bytes : List ℕ) → Capped limits → Fit a → Fit b → bits_of_bytes bytes ≡ normal_form a → bits_of_bytes bytes ≡ normal_form b → length bytes ≤ limits.bytes → forest_depth a.blocks ≤ limits.depth → forest_values a.blocks ≤ limits.values → forest_depth b.blocks ≤ limits.depth → forest_values b.blocks ≤ limits.values → a ≡ b }
+    ensures { (limits : Limits) (a b : Tree) (bytes : List ℕ) → Capped limits → Fit a → Fit b
+        → bits_of_bytes bytes ≡ normal_form a → bits_of_bytes bytes ≡ normal_form b
+        → length bytes ≤ limits.bytes → forest_depth a.blocks ≤ limits.depth
+        → forest_values a.blocks ≤ limits.values → forest_depth b.blocks ≤ limits.depth
+        → forest_values b.blocks ≤ limits.values → a ≡ b }
 {}
 
-/// Fit trees with the same normal form are the same, where each length in it fits its field.
+/// Fit trees with the same normal form are the same, where the form is no longer than the cap on bytes, so that each length
+/// in it fits its field.
 pub fn one_tree_of_form()
     ensures { (a b : Tree) → Fit a → Fit b → size_of a ≤ 17179869180 → normal_form a ≡ normal_form b → a ≡ b }
 {}
 
-/// Under each setting, the normal form of what an input spells is spelled, under the same limits where it fits, by the same
-/// tree alone, of which it is the normal form again; and inputs whose normal forms are the same bytes have the same tree.
+/// Under each setting and limits within their caps, where the normal form of what an input spells fits the limit on bytes:
+/// it is spelled under the same limits, by the same tree alone, of which it is the normal form again; and inputs whose
+/// normal forms are the same bytes have the same tree.
 pub fn normal_once()
-    ensures spelled { (info : Info) (limits : Limits) (bytes out : List ℕ) (m : Marked) → Capped limits → SpellsInput limits bytes m → bits_of_bytes out ≡ normal_form (tree_of info m) → length out ≤ limits.bytes → HasTree info limits out (tree_of info m) }
-    ensures once { (info : Info) (limits : Limits) (bytes out : List ℕ) (m n : Marked) → Capped limits → SpellsInput limits bytes m → bits_of_bytes out ≡ normal_form (tree_of info m) → length out ≤ limits.bytes → SpellsInput limits out n → tree_of info n ≡ tree_of info m }
-    ensures again { (info : Info) (limits : Limits) (bytes out : List ℕ) (m n : Marked) → Capped limits → SpellsInput limits bytes m → bits_of_bytes out ≡ normal_form (tree_of info m) → length out ≤ limits.bytes → SpellsInput limits out n → bits_of_bytes out ≡ normal_form (tree_of info n) }
-    ensures same { (info : Info) (limits : Limits) (bytes bytes' out : List ℕ) (m n : Marked) → Capped limits → SpellsInput limits bytes m → SpellsInput limits bytes' n → bits_of_bytes out ≡ normal_form (tree_of info m) → bits_of_bytes out ≡ normal_form (tree_of info n) → length out ≤ limits.bytes → tree_of info m ≡ tree_of info n }
+    ensures spelled { (info : Info) (limits : Limits) (bytes out : List ℕ) (m : Marked) → Capped limits
+        → SpellsInput limits bytes m → bits_of_bytes out ≡ normal_form (tree_of info m)
+        → length out ≤ limits.bytes → HasTree info limits out (tree_of info m) }
+    ensures once { (info : Info) (limits : Limits) (bytes out : List ℕ) (m n : Marked) → Capped limits
+        → SpellsInput limits bytes m → bits_of_bytes out ≡ normal_form (tree_of info m)
+        → length out ≤ limits.bytes → SpellsInput limits out n → tree_of info n ≡ tree_of info m }
+    ensures again { (info : Info) (limits : Limits) (bytes out : List ℕ) (m n : Marked) → Capped limits
+        → SpellsInput limits bytes m → bits_of_bytes out ≡ normal_form (tree_of info m)
+        → length out ≤ limits.bytes → SpellsInput limits out n
+        → bits_of_bytes out ≡ normal_form (tree_of info n) }
+    ensures same { (info : Info) (limits : Limits) (bytes bytes' out : List ℕ) (m n : Marked) → Capped limits
+        → SpellsInput limits bytes m → SpellsInput limits bytes' n
+        → bits_of_bytes out ≡ normal_form (tree_of info m) → bits_of_bytes out ≡ normal_form (tree_of info n)
+        → length out ≤ limits.bytes → tree_of info m ≡ tree_of info n }
 {}
 
-/// What an input spells has a normal form under each setting where the limits have room for it: bytes that spell the tree.
+/// Under each setting and limits within their caps, what an input spells has a normal form where the limit on bytes has room
+/// for it: bytes that spell the tree.
 pub fn form_of_input()
-    ensures { (info : Info) (limits : Limits) (bytes : List ℕ) (m : Marked) → Capped limits → SpellsInput limits bytes m → size_of (tree_of info m) ≤ limits.bytes → (out : List ℕ) × All (λ b. b < 256) out × (bits_of_bytes out ≡ normal_form (tree_of info m)) × HasTree info limits out (tree_of info m) }
+    ensures { (info : Info) (limits : Limits) (bytes : List ℕ) (m : Marked) → Capped limits
+        → SpellsInput limits bytes m → size_of (tree_of info m) ≤ limits.bytes
+        → (out : List ℕ) × All (λ b. b < 256) out × (bits_of_bytes out ≡ normal_form (tree_of info m))
+        × HasTree info limits out (tree_of info m) }
 {}
 
-/// The lengths in bits of the shortest VBR, of items, of a block's body and of a whole normal form.
+/// The lengths in bits of the shortest VBR, of items, of a block's body and of a whole normal form; of blocks, in bytes.
 pub fn normal_size()
     ensures vbr { (n v : ℕ) → 1 ≤ n → length (shortest n v) ≡ shortest_length n v }
-    ensures vbr_range { (n v : ℕ) → 2 ≤ n → (n ≤ shortest_length n v) × (shortest_length n v ≤ n * chunk_limit (n - 1)) }
+    ensures vbr_range { (n v : ℕ) → 2 ≤ n
+        → (n ≤ shortest_length n v) × (shortest_length n v ≤ n * chunk_limit (n - 1)) }
     ensures items { (f : Forest) (p : ℕ) → p + length (normal f p) ≡ end_of f p }
-    ensures body { (inner : Forest) (k : ℕ) → length (chain (normal inner) end_text (32 * k)) ≡ body_length inner }
+    ensures body { (inner : Forest) (k : ℕ)
+        → length (chain (normal inner) end_text (32 * k)) ≡ body_length inner }
     ensures form { (tree : Tree) → length (normal_form tree) ≡ end_of tree.blocks 32 }
     ensures tree { (tree : Tree) → AreBlocks tree.blocks → length (normal_form tree) ≡ 8 * size_of tree }
 {}
@@ -66,15 +91,19 @@ pub fn size_order()
     ensures under { (info : Info) (tree : Tree) → size_of (under info tree) ≤ size_of tree }
 {}
 
-/// A normal form is bytes, as many as its size, which is a multiple of four.
+/// The normal form of blocks is bytes, as many as its size, which is a multiple of four.
 pub fn normal_bytes()
-    ensures bytes { (tree : Tree) → AreBlocks tree.blocks → (bytes : List ℕ) × All (λ b. b < 256) bytes × (bits_of_bytes bytes ≡ normal_form tree) × (length bytes ≡ size_of tree) }
-    ensures size { (tree : Tree) (bytes : List ℕ) → bits_of_bytes bytes ≡ normal_form tree → length bytes ≡ size_of tree }
+    ensures bytes { (tree : Tree) → AreBlocks tree.blocks
+        → (bytes : List ℕ) × All (λ b. b < 256) bytes × (bits_of_bytes bytes ≡ normal_form tree)
+        × (length bytes ≡ size_of tree) }
+    ensures size { (tree : Tree) (bytes : List ℕ) → bits_of_bytes bytes ≡ normal_form tree
+        → length bytes ≡ size_of tree }
     ensures words { (tree : Tree) → AreBlocks tree.blocks → size_of tree % 4 ≡ 0 }
 {}
 
 /// Bits are those of one list of bytes, each of eight bits.
 pub fn one_list_of_bytes()
-    ensures same { (a b : List ℕ) → All (λ x. x < 256) a → All (λ x. x < 256) b → bits_of_bytes a ≡ bits_of_bytes b → a ≡ b }
+    ensures same { (a b : List ℕ) → All (λ x. x < 256) a → All (λ x. x < 256) b
+        → bits_of_bytes a ≡ bits_of_bytes b → a ≡ b }
     ensures bits { (bytes : List ℕ) → length (bits_of_bytes bytes) ≡ 8 * length bytes }
 {}

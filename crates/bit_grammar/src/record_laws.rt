@@ -8,7 +8,8 @@ ghost use Rattle.bit_grammar.specs.FormatRecord.{IsUnabbreviated, IsAbbreviated}
 
 /// A stream has one front that is a definition, and it defines one list of operands.
 pub fn one_definition()
-    ensures { (p : ℕ) (s t x y : List Bool) (v w : List Op) → s ++ x ≡ t ++ y → Spells definition p s v → Spells definition p t w → (s ≡ t) × (v ≡ w) }
+    ensures { (p : ℕ) (s t x y : List Bool) (v w : List Op) → s ++ x ≡ t ++ y → Spells definition p s v
+        → Spells definition p t w → (s ≡ t) × (v ≡ w) }
 {}
 
 /// A definition has a lawful list of operands.
@@ -28,20 +29,26 @@ pub fn every_lawful_list()
 
 /// A stream has one front that is a record by given operands.
 pub fn one_record()
-    ensures { (start room : ℕ) (ops : List Op) (p : ℕ) (s t x y : List Bool) (v w : Entry) → s ++ x ≡ t ++ y → Spells (abbreviated start room ops) p s v → Spells (abbreviated start room ops) p t w → (s ≡ t) × (v ≡ w) }
+    ensures { (start room : ℕ) (ops : List Op) (p : ℕ) (s t x y : List Bool) (v w : Entry) → s ++ x ≡ t ++ y
+        → Spells (abbreviated start room ops) p s v → Spells (abbreviated start room ops) p t w
+        → (s ≡ t) × (v ≡ w) }
 {}
 
 /// A stream has a front that is a record by given operands, or breaks with a fault.
 pub fn record_or_fault()
-    ensures { (start room : ℕ) (ops : List Op) (p : ℕ) (r : List Bool) → ((s rest : List Bool) × (v : Entry) × (r ≡ s ++ rest) × Spells (abbreviated start room ops) p s v) ⊎ ((fault : Fault) × Stops (abbreviated start room ops) p r fault) }
+    ensures { (start room : ℕ) (ops : List Op) (p : ℕ) (r : List Bool)
+        → ((s rest : List Bool) × (v : Entry) × (r ≡ s ++ rest) × Spells (abbreviated start room ops) p s v)
+        ⊎ ((fault : Fault) × Stops (abbreviated start room ops) p r fault) }
 {}
 
 /// An unabbreviated record is the code, the number of its values and each value, no more values than there is room for.
 pub fn unabbreviated_in_words()
-    ensures { (room p : ℕ) (s : List Bool) (e : Entry) → (Spells (unabbreviated room) p s e ↔ (IsUnabbreviated e s × (length e.values ≤ room))) }
+    ensures { (room p : ℕ) (s : List Bool) (e : Entry)
+        → (Spells (unabbreviated room) p s e ↔ (IsUnabbreviated e s × (length e.values ≤ room))) }
 {}
 
 /// A record by a lawful list of operands is the fields of the operands, no more values than there is room for.
 pub fn abbreviated_in_words()
-    ensures { (start room : ℕ) (ops : List Op) (p : ℕ) (s : List Bool) (e : Entry) → Lawful ops → (Spells (abbreviated start room ops) p s e ↔ (IsAbbreviated ops p e s × (length e.values ≤ room))) }
+    ensures { (start room : ℕ) (ops : List Op) (p : ℕ) (s : List Bool) (e : Entry) → Lawful ops
+        → (Spells (abbreviated start room ops) p s e ↔ (IsAbbreviated ops p e s × (length e.values ≤ room))) }
 {}

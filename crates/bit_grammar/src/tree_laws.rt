@@ -8,9 +8,10 @@ ghost use Rattle.bit_grammar.specs.declared.info.Info.TheVariants.{Keep};
 ghost use Rattle.bit_grammar.specs.Input.{tree_of, Marked, SpellsInput};
 ghost use Rattle.bit_grammar.specs.Dropped.{dropped, WithoutInfo, items_under, under};
 
-/// The tree of what an input spells is fit under each setting.
+/// Under limits within their caps, the tree of what an input spells is fit under each setting.
 pub fn fit_tree()
-    ensures { (info : Info) (limits : Limits) (bytes : List ℕ) (m : Marked) → Capped limits → SpellsInput limits bytes m → Fit (tree_of info m) }
+    ensures { (info : Info) (limits : Limits) (bytes : List ℕ) (m : Marked) → Capped limits
+        → SpellsInput limits bytes m → Fit (tree_of info m) }
 {}
 
 /// The tree of an input under a setting is its whole tree under that setting, and under it once more it stays as it is. A

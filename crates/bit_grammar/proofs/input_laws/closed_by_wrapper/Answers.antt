@@ -1,0 +1,5 @@
+use Rattle.bit_grammar.proofs.Closing.{closed_is}
+use Rattle.bit_grammar.proofs.input_laws.closed_by_wrapper.Goals as goal
+
+pub returns : goal.returns
+returns c = closed_is
