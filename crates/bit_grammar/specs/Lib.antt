@@ -17,3 +17,4 @@ pub mod FormatInput
 pub mod Machine
 pub mod Normal
 pub mod Outlook
+pub mod Steps

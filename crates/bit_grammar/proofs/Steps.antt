@@ -1,0 +1,78 @@
+-- The steps of a stream are what is to come of it.
+use Rattle.std.proofs.Common.{◌≡◌, ℕ, zero, suc, ◌+◌, ◌<◌, Bool, true, false, List, [], ◌∷◌, ◌++◌, length, Result, Ok, Err, refl, sym, ap, subst, ◌∙◌, arith}
+use Rattle.std.proofs.lemmas.List.{length-append}
+use Rattle.bit_grammar.specs.Grammar.{Fault, Spells, Stops, reading}
+use Rattle.bit_grammar.specs.Marks.{Item, marks_of}
+use Rattle.bit_grammar.specs.Blocks.{Limits}
+use Rattle.bit_grammar.specs.Whole.{SpellsAll, StopsAll}
+use Rattle.bit_grammar.specs.Input.{top_blocks}
+use Rattle.bit_grammar.specs.Machine.{Event, flat, Frame, Machine, at_start, step, Ending, accepted, broke, Told, is_done, told_by, to_come}
+use Rattle.bit_grammar.specs.Steps.{IsOver, EndsThere, Steps}
+use Rattle.bit_grammar.proofs.Deciding.{reads, breaks, is_spelled, is_stopped}
+use Rattle.bit_grammar.proofs.Machines.{AreWide, Step, Stepped, stepped, comes, step_takes, step_wide}
+use Rattle.bit_grammar.proofs.Follows.{tells_spelled, tells_stopped}
+
+-- where bits are left, or a block is open, it isn't done
+not_done : (frames : List Frame) (r : List Bool) → ((frames ≡ []) × (r ≡ []) → ⊥) → is_done frames r ≡ false
+not_done [] [] open_more = absurd (open_more (refl, refl))
+not_done [] (b ∷ bits) open_more = refl
+not_done (f ∷ frames) r open_more = refl
+
+bits_left : (frames : List Frame) (r : List Bool) → 0 < length r → is_done frames r ≡ false
+bits_left [] [] some = absurd (omega (arith, some))
+bits_left [] (b ∷ bits) some = refl
+bits_left (f ∷ frames) r some = refl
+
+-- when it is done, and when not
+pub data IsDone (frames : List Frame) (r : List Bool) : Type 0 where
+  is_over : frames ≡ [] → r ≡ [] → IsDone frames r
+  goes_on : is_done frames r ≡ false → ((frames ≡ []) × (r ≡ []) → ⊥) → IsDone frames r
+
+decide_done : (frames : List Frame) (r : List Bool) → IsDone frames r
+decide_done [] [] = is_over refl refl
+decide_done [] (b ∷ bits) = goes_on refl (λ e. let e' = e.1 in absurd cc)
+decide_done (f ∷ frames) r = goes_on refl (λ e. let e' = e.0 in absurd cc)
+
+over_comes : (limits : Limits) (m : Machine) (p : ℕ) (r : List Bool) → m.frames ≡ [] → r ≡ [] → to_come limits m p r ≡ ([], accepted p)
+unfolding to_come
+over_comes limits m p r none empty = rw (none, empty) refl
+
+-- what steps there are is to come
+pub steps_come : (limits : Limits) (m : Machine) (p : ℕ) (r : List Bool) (events : List Event) (ending : Ending) → AreWide m.frames → Steps limits m p r events ending → to_come limits m p r ≡ (events, ending)
+steps_come limits m p r [] (accepted q) wide h = over_comes limits m p r h.0.0 h.0.1 ∙ ap (λ (n : ℕ). ([], accepted n)) (sym h.1)
+steps_come limits m p r [] (broke fault) wide h = comes limits m p r wide (not_done m.frames r h.0) ∙ ap (told_by (to_come limits)) (breaks (step limits m) p r fault h.1)
+steps_come limits m p r (event ∷ events) ending wide h =
+    let first = h.0 in
+    let others = h.1 in
+    let new = h.2 in
+    let some : 0 < length r = omega (arith, ap length h.3, length-append first others, h.4) in
+    let one = ap (reading (step limits m) p) h.3 ∙ reads (step limits m) p first (event, new) others h.5 in
+    let more = steps_come limits new (p + length first) others events ending (step_wide limits m.frames m.handed p first (event, new) wide h.5) h.6 in
+    comes limits m p r wide (bits_left m.frames r some) ∙ ap (told_by (to_come limits)) one ∙ ap (λ (told : Told). (event ∷ told.0, told.1)) more
+
+abbrev AreSteps : Limits → Machine → ℕ → List Bool → Told → Type 0
+AreSteps limits m p r told = Steps limits m p r told.0 told.1
+
+-- what is to come after a step are steps
+abbrev StepsAfter : Limits → List Bool → Type 0
+StepsAfter limits r = (x : (Event × Machine) × ℕ × List Bool) → Stepped r x → AreSteps limits x.0.1 x.1 x.2 (to_come limits x.0.1 x.1 x.2)
+
+-- what is to come are steps
+come_steps : (limits : Limits) (n : ℕ) (m : Machine) (p : ℕ) (r : List Bool) → length r < n → AreWide m.frames → AreSteps limits m p r (to_come limits m p r)
+come_steps limits zero m p r lt wide = absurd (omega (arith, lt))
+come_steps limits (suc n) m p r lt wide = by_done (decide_done m.frames r) (λ x s. come_steps limits n x.0.1 x.1 x.2 (omega (arith, lt, s.shorter)) s.wide)
+  where
+    by_reading : (read : Step) → reading (step limits m) p r ≡ read → (IsOver m r → ⊥) → StepsAfter limits r → AreSteps limits m p r (told_by (to_come limits) read)
+    by_reading (Ok x) e over more =
+        let s = is_spelled (step limits m) p r x.0 x.1 x.2 e in
+        let some = step_takes limits m.frames m.handed p s.0 x.0 wide s.3 in
+        let rest : AreSteps limits x.0.1 (p + length s.0) x.2 (to_come limits x.0.1 x.1 x.2) = subst (λ (q : ℕ). AreSteps limits x.0.1 q x.2 (to_come limits x.0.1 x.1 x.2)) s.2 (more x (stepped limits m p r x wide e)) in
+        (s.0, x.2, x.0.1, s.1, some, s.3, rest)
+    by_reading (Err fault) e over more = (over, is_stopped (step limits m) p r fault e)
+
+    by_done : IsDone m.frames r → StepsAfter limits r → AreSteps limits m p r (to_come limits m p r)
+    by_done (is_over none empty) more = rw (over_comes limits m p r none empty) ((none, empty), refl)
+    by_done (goes_on not_yet over) more = rw (comes limits m p r wide not_yet) (by_reading (reading (step limits m) p r) refl over more)
+
+pub told_steps : (limits : Limits) (m : Machine) (p : ℕ) (r : List Bool) (events : List Event) (ending : Ending) → AreWide m.frames → to_come limits m p r ≡ (events, ending) → Steps limits m p r events ending
+told_steps limits m p r events ending wide e = subst (λ (told : Told). AreSteps limits m p r told) e (come_steps limits (suc (length r)) m p r (omega arith) wide)
