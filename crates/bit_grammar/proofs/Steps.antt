@@ -1,5 +1,5 @@
 -- The steps of a stream are what is to come of it.
-use Rattle.std.proofs.Common.{◌≡◌, ℕ, zero, suc, ◌+◌, ◌<◌, Bool, true, false, List, [], ◌∷◌, ◌++◌, length, Result, Ok, Err, refl, sym, ap, subst, ◌∙◌, arith}
+use Rattle.std.proofs.Common.{◌≡◌, ℕ, zero, suc, ◌+◌, ◌<◌, Bool, true, false, List, [], ◌∷◌, ◌++◌, length, Result, Ok, Err, refl, sym, ap, subst, ◌∙◌, arith, inl, inr}
 use Rattle.std.proofs.lemmas.List.{length-append}
 use Rattle.bit_grammar.specs.Grammar.{Fault, Spells, Stops, reading}
 use Rattle.bit_grammar.specs.Marks.{Item, marks_of}
@@ -9,6 +9,7 @@ use Rattle.bit_grammar.specs.Input.{top_blocks}
 use Rattle.bit_grammar.specs.Machine.{Event, flat, Frame, Machine, at_start, step, Ending, accepted, broke, Told, is_done, told_by, to_come}
 use Rattle.bit_grammar.specs.Steps.{IsOver, EndsThere, Steps}
 use Rattle.bit_grammar.proofs.Deciding.{reads, breaks, is_spelled, is_stopped}
+use Rattle.bit_grammar.proofs.Wholes.{decides_all}
 use Rattle.bit_grammar.proofs.Machines.{AreWide, Step, Stepped, stepped, comes, step_takes, step_wide}
 use Rattle.bit_grammar.proofs.Follows.{tells_spelled, tells_stopped}
 
@@ -76,3 +77,52 @@ come_steps limits (suc n) m p r lt wide = by_done (decide_done m.frames r) (λ x
 
 pub told_steps : (limits : Limits) (m : Machine) (p : ℕ) (r : List Bool) (events : List Event) (ending : Ending) → AreWide m.frames → to_come limits m p r ≡ (events, ending) → Steps limits m p r events ending
 told_steps limits m p r events ending wide e = subst (λ (told : Told). AreSteps limits m p r told) e (come_steps limits (suc (length r)) m p r (omega arith) wide)
+
+-- ---- the blocks of a stream
+
+pub spelled_steps : (limits : Limits) (p : ℕ) (r : List Bool) (v : List Item × ℕ) → SpellsAll (top_blocks limits) p r v → Steps limits at_start p r (flat (marks_of v.0) []) (accepted v.1)
+spelled_steps limits p r v h = told_steps limits at_start p r _ _ tt (tells_spelled limits p r v h)
+
+pub stopped_steps : (limits : Limits) (p : ℕ) (r : List Bool) (fault : Fault) → StopsAll (top_blocks limits) p r fault → (events : List Event) × Steps limits at_start p r events (broke fault)
+stopped_steps limits p r fault h =
+    let told = to_come limits at_start p r in
+    (told.0, subst (λ (e : Ending). Steps limits at_start p r told.0 e) (tells_stopped limits p r fault h) (told_steps limits at_start p r told.0 told.1 tt refl))
+
+-- the same events and the same end
+pub one_run : (limits : Limits) (m : Machine) (p : ℕ) (r : List Bool) (events others : List Event) (ending other : Ending) → AreWide m.frames → Steps limits m p r events ending → Steps limits m p r others other → (events ≡ others) × (ending ≡ other)
+one_run limits m p r events others ending other wide h k =
+    let same = sym (steps_come limits m p r events ending wide h) ∙ steps_come limits m p r others other wide k in
+    (ap (λ (told : Told). told.0) same, ap (λ (told : Told). told.1) same)
+
+accepted_is : (p q : ℕ) → accepted p ≡ accepted q → p ≡ q
+accepted_is p q e = cc
+
+broke_is : (f g : Fault) → broke f ≡ broke g → f ≡ g
+broke_is f g e = cc
+
+no_other_end : (p : ℕ) (fault : Fault) → accepted p ≡ broke fault → ⊥
+no_other_end p fault e = absurd cc
+
+-- the events of a stream that is accepted are those of its blocks
+pub steps_spelled : (limits : Limits) (p : ℕ) (r : List Bool) (events : List Event) (q : ℕ) → Steps limits at_start p r events (accepted q)
+    → (v : List Item × ℕ) × SpellsAll (top_blocks limits) p r v × (events ≡ flat (marks_of v.0) []) × (q ≡ v.1)
+steps_spelled limits p r events q h =
+    elim (decides_all (top_blocks limits) p r) [
+      | inl found ↦
+          let same = one_run limits at_start p r events (flat (marks_of found.0.0) []) (accepted q) (accepted found.0.1) tt h (spelled_steps limits p r found.0 found.1) in
+          (found.0, found.1, same.0, accepted_is q found.0.1 same.1)
+      | inr stopped ↦
+          let other = stopped_steps limits p r stopped.0 stopped.1 in
+          absurd (no_other_end q stopped.0 (one_run limits at_start p r events other.0 (accepted q) (broke stopped.0) tt h other.1).1)
+    ]
+
+-- a stream whose steps break breaks so
+pub steps_stopped : (limits : Limits) (p : ℕ) (r : List Bool) (events : List Event) (fault : Fault) → Steps limits at_start p r events (broke fault) → StopsAll (top_blocks limits) p r fault
+steps_stopped limits p r events fault h =
+    elim (decides_all (top_blocks limits) p r) [
+      | inl found ↦ absurd (no_other_end found.0.1 fault (one_run limits at_start p r (flat (marks_of found.0.0) []) events (accepted found.0.1) (broke fault) tt (spelled_steps limits p r found.0 found.1) h).1)
+      | inr stopped ↦
+          let other = stopped_steps limits p r stopped.0 stopped.1 in
+          let same = one_run limits at_start p r other.0 events (broke stopped.0) (broke fault) tt other.1 h in
+          subst (StopsAll (top_blocks limits) p r) (broke_is stopped.0 fault same.1) stopped.1
+    ]
