@@ -5,8 +5,8 @@ use Rattle.bit_grammar.specs.Grammar.{Fault, Spells}
 use Rattle.bit_grammar.specs.Marks.{RecordMark, DefinitionMark}
 use Rattle.bit_grammar.specs.Record.{Entry}
 use Rattle.bit_grammar.specs.Blocks.{Limits, Handed, Scope, BlockHead, leave, defined, define, record_after}
-use Rattle.bit_grammar.specs.Machine.{Event, enters, defines, notes, leaves, Frame, Machine, frame_of, scope_of, inside, open_block, open_nested, step_after, step_in, step_top, step_of, step, Ending, accepted, broke}
-use Rattle.bit_grammar.specs.Steps.{Steps, open_after, MayStand, IsNested, values_told, all_values_told}
+use Rattle.bit_grammar.specs.Machine.{Event, enters, defines, notes, leaves, Frame, Machine, at_start, frame_of, scope_of, inside, open_block, open_nested, step_after, step_in, step_top, step_of, step, Ending, accepted, broke}
+use Rattle.bit_grammar.specs.Steps.{Steps, open_after, MayStand, IsNested, EndsNested, values_told, all_values_told}
 use Rattle.bit_grammar.proofs.Limits.{entry_fitted, leave_used, defined_used}
 
 -- What a step from so many open blocks and so many values used keeps to: its event may stand there, a frame stands for
@@ -64,11 +64,7 @@ frames_within limits m new p s event k few =
 
 -- ---- all that is to come
 
-abbrev pub LeavesOpen : Limits → ℕ → List Event → Ending → Type 0
-LeavesOpen limits count events (accepted q) = IsNested limits.depth count events 0
-LeavesOpen limits count events (broke fault) = (left : ℕ) × (left ≤ limits.depth) × IsNested limits.depth count events left
-
-pub run_nested : (limits : Limits) (m : Machine) (p : ℕ) (r : List Bool) (events : List Event) (ending : Ending) → length m.frames ≤ limits.depth → Steps limits m p r events ending → LeavesOpen limits (length m.frames) events ending
+pub run_nested : (limits : Limits) (m : Machine) (p : ℕ) (r : List Bool) (events : List Event) (ending : Ending) → length m.frames ≤ limits.depth → Steps limits m p r events ending → EndsNested limits.depth (length m.frames) events ending
 run_nested limits m p r [] (accepted q) few h = sym (ap length h.0.0)
 run_nested limits m p r [] (broke fault) few h = (length m.frames, few, refl)
 run_nested limits m p r (event ∷ events) (accepted q) few h =
@@ -85,3 +81,19 @@ run_values limits m p r [] ending few h = omega (arith, few)
 run_values limits m p r (event ∷ events) ending few h =
     let kept = step_kept limits m p h.0 (event, h.2) h.5 in
     omega (arith, kept.values, run_values limits h.2 (p + length h.0) h.1 events ending (kept.within few) h.6)
+
+-- ---- a step, and all that is to come from the start
+
+pub frames_of_step : (limits : Limits) (m new : Machine) (p : ℕ) (s : List Bool) (event : Event) → Spells (step limits m) p s (event, new)
+    → MayStand limits.depth event (length m.frames) × (length new.frames ≡ open_after event (length m.frames)) × (length m.frames ≤ limits.depth → length new.frames ≤ limits.depth)
+frames_of_step limits m new p s event k = (let kept = step_kept limits m p s (event, new) k in (kept.may, kept.frames, frames_within limits m new p s event k))
+
+pub values_of_step : (limits : Limits) (m new : Machine) (p : ℕ) (s : List Bool) (event : Event) → Spells (step limits m) p s (event, new)
+    → (new.handed.used ≡ m.handed.used + values_told event) × (m.handed.used ≤ limits.values → new.handed.used ≤ limits.values)
+values_of_step limits m new p s event k = (let kept = step_kept limits m p s (event, new) k in (kept.values, kept.within))
+
+pub nested_from_start : (limits : Limits) (p : ℕ) (r : List Bool) (events : List Event) (ending : Ending) → Steps limits at_start p r events ending → EndsNested limits.depth 0 events ending
+nested_from_start limits p r events ending h = run_nested limits at_start p r events ending (omega arith) h
+
+pub values_from_start : (limits : Limits) (p : ℕ) (r : List Bool) (events : List Event) (ending : Ending) → Steps limits at_start p r events ending → all_values_told events ≤ limits.values
+values_from_start limits p r events ending h = omega (arith, run_values limits at_start p r events ending (omega arith) h)

@@ -1,5 +1,6 @@
 -- The steps of a stream are what is to come of it.
 use Rattle.std.proofs.Common.{◌≡◌, ℕ, zero, suc, ◌+◌, ◌<◌, Bool, true, false, List, [], ◌∷◌, ◌++◌, length, Result, Ok, Err, refl, sym, ap, subst, ◌∙◌, arith, inl, inr}
+use Rattle.std.specs.Prelude.{◌↔◌}
 use Rattle.std.proofs.lemmas.List.{length-append}
 use Rattle.bit_grammar.specs.Grammar.{Fault, Spells, Stops, reading}
 use Rattle.bit_grammar.specs.Marks.{Item, marks_of}
@@ -7,10 +8,10 @@ use Rattle.bit_grammar.specs.Blocks.{Limits}
 use Rattle.bit_grammar.specs.Whole.{SpellsAll, StopsAll}
 use Rattle.bit_grammar.specs.Input.{top_blocks}
 use Rattle.bit_grammar.specs.Machine.{Event, flat, Frame, Machine, at_start, step, Ending, accepted, broke, Told, is_done, told_by, to_come}
-use Rattle.bit_grammar.specs.Steps.{IsOver, EndsThere, Steps}
+use Rattle.bit_grammar.specs.Steps.{AreWide, IsOver, EndsThere, Steps}
 use Rattle.bit_grammar.proofs.Deciding.{reads, breaks, is_spelled, is_stopped}
 use Rattle.bit_grammar.proofs.Wholes.{decides_all}
-use Rattle.bit_grammar.proofs.Machines.{AreWide, Step, Stepped, stepped, comes, step_takes, step_wide}
+use Rattle.bit_grammar.proofs.Machines.{Step, Stepped, stepped, comes, step_takes, step_wide}
 use Rattle.bit_grammar.proofs.Follows.{tells_spelled, tells_stopped}
 
 -- where bits are left, or a block is open, it isn't done
@@ -126,3 +127,18 @@ steps_stopped limits p r events fault h =
           let same = one_run limits at_start p r other.0 events (broke stopped.0) (broke fault) tt other.1 h in
           subst (StopsAll (top_blocks limits) p r) (broke_is stopped.0 fault same.1) stopped.1
     ]
+
+-- ---- both ways
+
+pub steps_told : (limits : Limits) (m : Machine) (p : ℕ) (r : List Bool) (events : List Event) (ending : Ending) → AreWide m.frames → (Steps limits m p r events ending ↔ (to_come limits m p r ≡ (events, ending)))
+steps_told limits m p r events ending wide = (steps_come limits m p r events ending wide, told_steps limits m p r events ending wide)
+
+pub accepted_steps : (limits : Limits) (p : ℕ) (r : List Bool) (events : List Event) (q : ℕ) → (Steps limits at_start p r events (accepted q) ↔ ((v : List Item × ℕ) × SpellsAll (top_blocks limits) p r v × (events ≡ flat (marks_of v.0) []) × (q ≡ v.1)))
+accepted_steps limits p r events q = (steps_spelled limits p r events q, λ h. subst (λ (e : List Event). Steps limits at_start p r e (accepted q)) (sym h.2) (subst (λ (n : ℕ). Steps limits at_start p r (flat (marks_of h.0.0) []) (accepted n)) (sym h.3) (spelled_steps limits p r h.0 h.1)))
+
+pub broken_steps : (limits : Limits) (p : ℕ) (r : List Bool) (fault : Fault) → (StopsAll (top_blocks limits) p r fault ↔ ((events : List Event) × Steps limits at_start p r events (broke fault)))
+broken_steps limits p r fault = (stopped_steps limits p r fault, λ h. steps_stopped limits p r h.0 fault h.1)
+
+-- a machine whose open blocks have widths takes bits with each step, and the new one has widths too
+pub step_on : (limits : Limits) (m new : Machine) (p : ℕ) (s : List Bool) (event : Event) → AreWide m.frames → Spells (step limits m) p s (event, new) → (0 < length s) × AreWide new.frames
+step_on limits m new p s event wide h = (step_takes limits m.frames m.handed p s (event, new) wide h, step_wide limits m.frames m.handed p s (event, new) wide h)

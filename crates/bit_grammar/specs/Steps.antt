@@ -1,8 +1,13 @@
 -- What is to come of a stream, step by step; and what its events are: well nested, with the values of their records.
-use Rattle.std.specs.Prelude.{◌≡◌, ℕ, zero, suc, ◌+◌, ◌-◌, ◌<◌, Bool, List, [], ◌∷◌, ◌++◌, length}
+use Rattle.std.specs.Prelude.{◌≡◌, ℕ, zero, suc, ◌+◌, ◌-◌, ◌<◌, ◌≤◌, Bool, List, [], ◌∷◌, ◌++◌, length}
 use Rattle.bit_grammar.specs.Grammar.{Spells, Stops}
 use Rattle.bit_grammar.specs.Blocks.{Limits}
-use Rattle.bit_grammar.specs.Machine.{Event, enters, defines, notes, leaves, Machine, step, Ending, accepted, broke}
+use Rattle.bit_grammar.specs.Machine.{Event, enters, defines, notes, leaves, Frame, Machine, step, Ending, accepted, broke}
+
+-- each open block has ids of some bits
+abbrev pub AreWide : List Frame → Type 0
+AreWide [] = Unit {0}
+AreWide (f ∷ frames) = (1 ≤ f.head.width) × AreWide frames
 
 -- no block is open, and no bit is left
 abbrev pub IsOver : Machine → List Bool → Type 0
@@ -41,6 +46,11 @@ MayStand deepest (leaves after) count = 0 < count
 abbrev pub IsNested : (deepest count : ℕ) → List Event → (left : ℕ) → Type 0
 IsNested deepest count [] left = left ≡ count
 IsNested deepest count (event ∷ events) left = MayStand deepest event count × IsNested deepest (open_after event count) events left
+
+-- Such a run as it ends: in the end no block is open where it is accepted.
+abbrev pub EndsNested : (deepest count : ℕ) → List Event → Ending → Type 0
+EndsNested deepest count events (accepted q) = IsNested deepest count events 0
+EndsNested deepest count events (broke fault) = (left : ℕ) × (left ≤ deepest) × IsNested deepest count events left
 
 -- ---- values
 
