@@ -18,3 +18,5 @@ pub mod Machine
 pub mod Normal
 pub mod Outlook
 pub mod Steps
+pub mod Tally
+pub mod Texts
