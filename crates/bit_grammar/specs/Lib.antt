@@ -20,3 +20,4 @@ pub mod Outlook
 pub mod Steps
 pub mod Tally
 pub mod Texts
+pub mod Happening

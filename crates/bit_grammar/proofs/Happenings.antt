@@ -1,0 +1,85 @@
+-- What is told of an input before its end is the events of the steps of its stream.
+use Rattle.std.proofs.Common.{◌≡◌, ℕ, ◌+◌, ◌*◌, ◌≤◌, ◌<◌, Bool, true, false, leb, List, [], ◌∷◌, ◌++◌, length, take, Some, None, Result, Ok, Err, refl, sym, ap, ◌∙◌, subst, arith, inl, inr}
+use Rattle.std.specs.Prelude.{◌↔◌, if◌then◌else◌}
+use Rattle.std.proofs.lemmas.Bool.{cases_lt, eqb-true}
+use Rattle.bit_grammar.specs.declared.reason.Reason.TheVariants.{WrapperSize}
+use Rattle.bit_grammar.specs.Bits.{bits_of_bytes}
+use Rattle.bit_grammar.specs.Grammar.{Fault, at, Spells, reading}
+use Rattle.bit_grammar.specs.Fields.{fixed}
+use Rattle.bit_grammar.specs.Forest.{wrapper_magic}
+use Rattle.bit_grammar.specs.Blocks.{Limits}
+use Rattle.bit_grammar.specs.Whole.{and_all}
+use Rattle.bit_grammar.specs.Input.{Wrapper, Head, wrapper_and_gap, inner_magic, is_wrapped, front_of, is_closed, cut_fault}
+use Rattle.bit_grammar.specs.Machine.{Event, Ending, at_start, Told, to_come}
+use Rattle.bit_grammar.specs.Steps.{Steps}
+use Rattle.bit_grammar.specs.Outlook.{Outlook, ending_by, end_of_few, cut_end, same_fault, told_wrapped, told_input, outlook}
+use Rattle.bit_grammar.specs.Happening.{Heads, bare, in_wrapper, EventsIn, HasEvents}
+use Rattle.bit_grammar.proofs.Deciding.{reads, is_spelled}
+use Rattle.bit_grammar.proofs.Wholes.{is_le, is_not_le}
+use Rattle.bit_grammar.proofs.Steps.{steps_come, told_steps}
+
+-- these events are told, with some end
+abbrev Tells : Outlook → Head → List Event → Type 0
+Tells told head events = (ending : Ending) × (told ≡ Ok (head, (events, ending)))
+
+told_is : (a b : Head × Told) → ◌≡◌ {A = Outlook} (Ok a) (Ok b) → a ≡ b
+told_is a b e = cc
+
+no_fault : (a : Head × Told) (fault : Fault) → ◌≡◌ {A = Outlook} (Err fault) (Ok a) → ⊥
+no_fault a fault e = absurd cc
+
+-- what stands first is read, and then the others are told
+tells_after : {X : Type 0} (first : Result (X × ℕ × List Bool) Fault) (after : X → ℕ → List Bool → Outlook) (head : Head) (events : List Event) → Tells (and_all first after) head events → (v : X × ℕ × List Bool) × (first ≡ Ok v) × Tells (after v.0 v.1 v.2) head events
+tells_after (Ok v) after head events h = (v, refl, h)
+tells_after (Err fault) after head events h = absurd (no_fault _ fault h.1)
+
+-- another end changes no event
+tells_by : (end : Ending → Ending) (fault_by : Fault → Fault) (told : Outlook) (head : Head) (events : List Event) → Tells (ending_by end fault_by told) head events → Tells told head events
+tells_by end fault_by (Ok x) head events h = (let same = told_is _ _ h.1 in (x.1.1, ap Ok (let e : ◌≡◌ {A = Head × Told} (x.0, (x.1.0, x.1.1)) (head, (events, x.1.1)) = rw (ap (λ (y : Head × Told). y.0) same, ap (λ (y : Head × Told). y.1.0) same) refl in e)))
+tells_by end fault_by (Err fault) head events h = absurd (no_fault _ _ h.1)
+
+by_tells : (end : Ending → Ending) (fault_by : Fault → Fault) (told : Outlook) (head : Head) (events : List Event) → Tells told head events → Tells (ending_by end fault_by told) head events
+by_tells end fault_by told head events h = (end h.0, ap (ending_by end fault_by) h.1)
+
+-- the events to come behind a head
+tells_steps : (limits : Limits) (made head : Head) (q : ℕ) (rest : List Bool) (events : List Event) → Tells (Ok (made, to_come limits at_start q rest)) head events → (made ≡ head) × ((ending : Ending) × Steps limits at_start q rest events ending)
+tells_steps limits made head q rest events h = (let same = told_is _ _ h.1 in (ap (λ (y : Head × Told). y.0) same, (h.0, told_steps limits at_start q rest events h.0 tt (ap (λ (y : Head × Told). y.1) same))))
+
+steps_tell : (limits : Limits) (made head : Head) (q : ℕ) (rest : List Bool) (events : List Event) (ending : Ending) → made ≡ head → Steps limits at_start q rest events ending → Tells (Ok (made, to_come limits at_start q rest)) head events
+steps_tell limits made head q rest events ending same h = (ending, rw (same, steps_come limits at_start q rest events ending tt h) refl)
+
+-- ---- from what is told
+
+abbrev pub in_a_wrapper : Limits → Wrapper → ℕ → List Bool → Outlook
+in_a_wrapper limits w q rest = and_all (reading inner_magic q (take (8 * w.size) rest)) λ magic q' rest'. Ok (record { magic = magic; wrapper = Some w }, to_come limits at_start q' rest')
+
+wrapped_events : (limits : Limits) (bits front : List Bool) (rest : List Bool) (head : Head) (events : List Event) → bits ≡ front ++ rest → Spells (fixed 32) 0 front wrapper_magic → Tells (told_wrapped limits (length front) rest) head events → EventsIn limits bits head events
+wrapped_events limits bits front rest head events parts spelled h =
+    let one = tells_after (reading wrapper_and_gap (length front) rest) _ head events h in
+    let w = one.0.0 in
+    let f = is_spelled wrapper_and_gap (length front) rest w one.0.1 one.0.2 one.1 in
+    let inner = tells_by _ _ (in_a_wrapper limits w one.0.1 one.0.2) head events one.2 in
+    let two = tells_after (reading inner_magic one.0.1 (take (8 * w.size) one.0.2)) _ head events inner in
+    let g = is_spelled inner_magic one.0.1 (take (8 * w.size) one.0.2) two.0.0 two.0.1 two.0.2 two.1 in
+    let s = tells_steps limits _ head two.0.1 two.0.2 events two.2 in
+    let magic : two.0.0 ≡ head.magic = ap (λ (x : Head). x.magic) s.0 in
+    let has : Some w ≡ head.wrapper = ap (λ (x : Head). x.wrapper) s.0 in
+    let at_magic = subst (λ (n : ℕ). Spells inner_magic n g.0 two.0.0) f.2 g.3 in
+    (two.0.1, two.0.2, s.1.0, in_wrapper w front f.0 one.0.2 g.0 (parts ∙ ap (λ (t : List Bool). front ++ t) f.1) spelled f.3 g.1 (subst (Spells inner_magic (length front + length f.0) g.0) magic at_magic) (sym has) (omega (arith, f.2, g.2)), s.1.1)
+
+told_events : (limits : Limits) (bits : List Bool) (head : Head) (events : List Event) → Tells (told_input limits 0 bits) head events → EventsIn limits bits head events
+told_events limits bits head events h =
+    let one = tells_after (reading (fixed 32) 0 bits) _ head events h in
+    let f = is_spelled (fixed 32) 0 bits one.0.0 one.0.1 one.0.2 one.1 in
+    let place : one.0.1 ≡ length f.0 = omega (arith, f.2) in
+    by_magic (is_wrapped one.0.0) f.0 one.0.0 one.0.1 one.0.2 refl f.1 place f.3 one.2
+  where
+    by_magic : (b : Bool) (front : List Bool) (magic q : ℕ) (rest : List Bool) → is_wrapped magic ≡ b → bits ≡ front ++ rest → q ≡ length front → Spells (fixed 32) 0 front magic
+        → Tells (if b then told_wrapped limits q rest else Ok (record { magic = magic; wrapper = None }, to_come limits at_start q rest)) head events → EventsIn limits bits head events
+    by_magic true front magic q rest is parts place spelled h =
+        wrapped_events limits bits front rest head events parts (subst (Spells (fixed 32) 0 front) (eqb-true magic wrapper_magic is) spelled) (subst (λ (n : ℕ). Tells (told_wrapped limits n rest) head events) place h)
+    by_magic false front magic q rest is parts place spelled h =
+        let s = tells_steps limits _ head q rest events h in
+        let same : magic ≡ head.magic = ap (λ (x : Head). x.magic) s.0 in
+        let none : None ≡ head.wrapper = ap (λ (x : Head). x.wrapper) s.0 in
+        (q, rest, s.1.0, bare front parts (subst (Spells (fixed 32) 0 front) same spelled) (subst (λ (n : ℕ). is_wrapped n ≡ false) same is) (sym none) place, s.1.1)
