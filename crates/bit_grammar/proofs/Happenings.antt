@@ -2,6 +2,7 @@
 use Rattle.std.proofs.Common.{◌≡◌, ℕ, ◌+◌, ◌*◌, ◌≤◌, ◌<◌, Bool, true, false, leb, List, [], ◌∷◌, ◌++◌, length, take, Some, None, Result, Ok, Err, refl, sym, ap, ◌∙◌, subst, arith, inl, inr}
 use Rattle.std.specs.Prelude.{◌↔◌, if◌then◌else◌}
 use Rattle.std.proofs.lemmas.Bool.{cases_lt, eqb-true}
+use Rattle.std.proofs.lemmas.List.{take_all}
 use Rattle.bit_grammar.specs.declared.reason.Reason.TheVariants.{WrapperSize}
 use Rattle.bit_grammar.specs.Bits.{bits_of_bytes}
 use Rattle.bit_grammar.specs.Grammar.{Fault, at, Spells, reading}
@@ -83,3 +84,56 @@ told_events limits bits head events h =
         let same : magic ≡ head.magic = ap (λ (x : Head). x.magic) s.0 in
         let none : None ≡ head.wrapper = ap (λ (x : Head). x.wrapper) s.0 in
         (q, rest, s.1.0, bare front parts (subst (Spells (fixed 32) 0 front) same spelled) (subst (λ (n : ℕ). is_wrapped n ≡ false) same is) (sym none) place, s.1.1)
+
+-- ---- and to what is told
+
+and_read : {X : Type 0} (first : Result (X × ℕ × List Bool) Fault) (v : X × ℕ × List Bool) (after : X → ℕ → List Bool → Outlook) (head : Head) (events : List Event) → first ≡ Ok v → Tells (after v.0 v.1 v.2) head events → Tells (and_all first after) head events
+and_read first v after head events e h = subst (λ (x : Result _ Fault). Tells (and_all x after) head events) (sym e) h
+
+events_told : (limits : Limits) (bits : List Bool) (head : Head) (events : List Event) (p : ℕ) (r : List Bool) (ending : Ending) → Heads bits head p r → Steps limits at_start p r events ending → Tells (told_input limits 0 bits) head events
+events_told limits bits head events p r ending (bare magic parts spelled is none place) h =
+    let read : reading (fixed 32) 0 bits ≡ Ok (head.magic, length magic, r) = ap (reading (fixed 32) 0) parts ∙ reads (fixed 32) 0 magic head.magic r spelled ∙ ap (λ (n : ℕ). Ok (head.magic, n, r)) (omega arith) in
+    let made : ◌≡◌ {A = Head} (record { magic = head.magic; wrapper = None }) (record { magic = head.magic; wrapper = head.wrapper }) = rw none refl in
+    and_read (reading (fixed 32) 0 bits) (head.magic, length magic, r) _ head events read
+    (rw is (steps_tell limits (record { magic = head.magic; wrapper = None }) head (length magic) r events ending made (subst (λ (n : ℕ). Steps limits at_start n r events ending) place h)))
+events_told limits bits head events p r ending (in_wrapper w front header rest magic parts spelled gap within inner has place) h =
+    let read : reading (fixed 32) 0 bits ≡ Ok (wrapper_magic, length front, header ++ rest) = ap (reading (fixed 32) 0) parts ∙ reads (fixed 32) 0 front wrapper_magic (header ++ rest) spelled ∙ ap (λ (n : ℕ). Ok (wrapper_magic, n, header ++ rest)) (omega arith) in
+    let one = reads wrapper_and_gap (length front) header w rest gap in
+    let two = ap (reading inner_magic (length front + length header)) within ∙ reads inner_magic (length front + length header) magic head.magic r inner in
+    let made : ◌≡◌ {A = Head} (record { magic = head.magic; wrapper = Some w }) (record { magic = head.magic; wrapper = head.wrapper }) = rw has refl in
+    let blocks = steps_tell limits (record { magic = head.magic; wrapper = Some w }) head (length front + length header + length magic) r events ending made (subst (λ (n : ℕ). Steps limits at_start n r events ending) place h) in
+    and_read (reading (fixed 32) 0 bits) (wrapper_magic, length front, header ++ rest) _ head events read
+    (and_read (reading wrapper_and_gap (length front) (header ++ rest)) (w, length front + length header, rest) _ head events one
+    (by_tells (end_of_few (leb (8 * w.size) (length rest)) (at WrapperSize 96)) same_fault (in_a_wrapper limits w (length front + length header) rest) head events
+    (and_read (reading inner_magic (length front + length header) (take (8 * w.size) rest)) (head.magic, length front + length header + length magic, r) _ head events two blocks)))
+
+-- ---- the limit on bytes
+
+all_taken : (limits : Limits) (bytes : List ℕ) → length bytes ≤ limits.bytes → front_of limits bytes ≡ bits_of_bytes bytes
+all_taken limits bytes fits = ap bits_of_bytes (take_all limits.bytes bytes fits)
+
+outlook_within : (limits : Limits) (bytes : List ℕ) → length bytes ≤ limits.bytes → outlook limits bytes ≡ told_input limits 0 (front_of limits bytes)
+unfolding outlook
+outlook_within limits bytes fits = rw (is_le (length bytes) limits.bytes fits, all_taken limits bytes fits) refl
+
+outlook_past : (limits : Limits) (bytes : List ℕ) → limits.bytes < length bytes → outlook limits bytes ≡ ending_by (cut_end limits (is_closed limits bytes)) (cut_fault limits (is_closed limits bytes)) (told_input limits 0 (front_of limits bytes))
+unfolding outlook
+outlook_past limits bytes long = rw (is_not_le (length bytes) limits.bytes long) refl
+
+has_events : (limits : Limits) (bytes : List ℕ) (head : Head) (events : List Event) → Tells (outlook limits bytes) head events → HasEvents limits bytes head events
+has_events limits bytes head events h =
+    told_events limits (front_of limits bytes) head events (elim (cases_lt limits.bytes (length bytes)) [
+      | inl long ↦ tells_by (cut_end limits (is_closed limits bytes)) (cut_fault limits (is_closed limits bytes)) _ head events (subst (λ (x : Outlook). Tells x head events) (outlook_past limits bytes long) h)
+      | inr fits ↦ subst (λ (x : Outlook). Tells x head events) (outlook_within limits bytes fits) h
+    ])
+
+events_had : (limits : Limits) (bytes : List ℕ) (head : Head) (events : List Event) → HasEvents limits bytes head events → Tells (outlook limits bytes) head events
+events_had limits bytes head events h =
+    let told = events_told limits (front_of limits bytes) head events h.0 h.1 h.2 h.3 h.4 in
+    elim (cases_lt limits.bytes (length bytes)) [
+      | inl long ↦ subst (λ (x : Outlook). Tells x head events) (sym (outlook_past limits bytes long)) (by_tells (cut_end limits (is_closed limits bytes)) (cut_fault limits (is_closed limits bytes)) (told_input limits 0 (front_of limits bytes)) head events told)
+      | inr fits ↦ subst (λ (x : Outlook). Tells x head events) (sym (outlook_within limits bytes fits)) told
+    ]
+
+pub events_if_told : (limits : Limits) (bytes : List ℕ) (head : Head) (events : List Event) → (HasEvents limits bytes head events ↔ ((ending : Ending) × (outlook limits bytes ≡ Ok (head, (events, ending)))))
+events_if_told limits bytes head events = (events_had limits bytes head events, has_events limits bytes head events)
