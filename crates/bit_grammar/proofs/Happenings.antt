@@ -9,15 +9,17 @@ use Rattle.bit_grammar.specs.Grammar.{Fault, at, Spells, reading}
 use Rattle.bit_grammar.specs.Fields.{fixed}
 use Rattle.bit_grammar.specs.Forest.{wrapper_magic}
 use Rattle.bit_grammar.specs.Blocks.{Limits}
-use Rattle.bit_grammar.specs.Whole.{and_all}
-use Rattle.bit_grammar.specs.Input.{Wrapper, Head, wrapper_and_gap, inner_magic, is_wrapped, front_of, is_closed, cut_fault}
-use Rattle.bit_grammar.specs.Machine.{Event, Ending, at_start, Told, to_come}
-use Rattle.bit_grammar.specs.Steps.{Steps}
+use Rattle.bit_grammar.specs.Marks.{Item, Marks, marks_of}
+use Rattle.bit_grammar.specs.Whole.{SpellsAll, and_all}
+use Rattle.bit_grammar.specs.Input.{Wrapper, Head, wrapper_and_gap, inner_magic, is_wrapped, front_of, is_closed, cut_fault, Marked, top_blocks, stream, wrapped, input, SpellsInput}
+use Rattle.bit_grammar.specs.Machine.{Event, flat, Ending, accepted, broke, at_start, Told, to_come}
+use Rattle.bit_grammar.specs.Steps.{Steps, IsNested, all_values_told}
 use Rattle.bit_grammar.specs.Outlook.{Outlook, ending_by, end_of_few, cut_end, same_fault, told_wrapped, told_input, outlook}
 use Rattle.bit_grammar.specs.Happening.{Heads, bare, in_wrapper, EventsIn, HasEvents}
 use Rattle.bit_grammar.proofs.Deciding.{reads, is_spelled}
 use Rattle.bit_grammar.proofs.Wholes.{is_le, is_not_le}
-use Rattle.bit_grammar.proofs.Steps.{steps_come, told_steps}
+use Rattle.bit_grammar.proofs.Steps.{steps_come, told_steps, spelled_steps}
+use Rattle.bit_grammar.proofs.Nesting.{nested_from_start, values_from_start}
 
 -- these events are told, with some end
 abbrev Tells : Outlook → Head → List Event → Type 0
@@ -137,3 +139,27 @@ events_had limits bytes head events h =
 
 pub events_if_told : (limits : Limits) (bytes : List ℕ) (head : Head) (events : List Event) → (HasEvents limits bytes head events ↔ ((ending : Ending) × (outlook limits bytes ≡ Ok (head, (events, ending)))))
 events_if_told limits bytes head events = (events_had limits bytes head events, has_events limits bytes head events)
+
+-- ---- what the events keep to
+
+pub input_nested : (limits : Limits) (bytes : List ℕ) (head : Head) (events : List Event) → HasEvents limits bytes head events → ((left : ℕ) × (left ≤ limits.depth) × IsNested limits.depth 0 events left) × (all_values_told events ≤ limits.values)
+input_nested limits bytes head events (p, r, accepted q, heads, h) = ((0, omega arith, nested_from_start limits p r events (accepted q) h), values_from_start limits p r events (accepted q) h)
+input_nested limits bytes head events (p, r, broke fault, heads, h) = (nested_from_start limits p r events (broke fault) h, values_from_start limits p r events (broke fault) h)
+
+-- blocks that an input spells are those of a stream in it
+abbrev Streamed : Limits → Marked → Type 0
+Streamed limits m = (p : ℕ) × (r : List Bool) × (v : List Item × ℕ) × SpellsAll (top_blocks limits) p r v × (m.blocks ≡ marks_of v.0)
+
+stream_spelled : (limits : Limits) (head : Head) (p : ℕ) (r : List Bool) (m : Marked) → SpellsAll (stream limits head) p r m → Streamed limits m
+unfolding stream
+stream_spelled limits head p r m k = (p, r, k.0, k.1, ap (λ (x : Marked). x.blocks) k.2)
+
+input_spelled : (limits : Limits) (p : ℕ) (r : List Bool) (m : Marked) → SpellsAll (input limits) p r m → Streamed limits m
+unfolding input wrapped
+input_spelled limits p r m (front, others, magic, parts, spelled, inl k) = (let j = k.1.5.4 in stream_spelled limits _ _ j.1 m j.5)
+input_spelled limits p r m (front, others, magic, parts, spelled, inr k) = stream_spelled limits _ _ others m k.1
+
+pub accepted_nested : (limits : Limits) (bytes : List ℕ) (m : Marked) → SpellsInput limits bytes m → IsNested limits.depth 0 (flat m.blocks []) 0
+accepted_nested limits bytes m h =
+    let s = input_spelled limits 0 (bits_of_bytes bytes) m h.spelled in
+    subst (λ (x : Marks). IsNested limits.depth 0 (flat x []) 0) (sym s.4) (nested_from_start limits s.0 s.1 (flat (marks_of s.2.0) []) (accepted s.2.1) (spelled_steps limits s.0 s.1 s.2 s.3))

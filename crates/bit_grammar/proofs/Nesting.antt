@@ -2,10 +2,11 @@
 use Rattle.std.proofs.Common.{◌≡◌, ℕ, zero, suc, ◌+◌, ◌-◌, ◌<◌, ◌≤◌, Bool, List, [], ◌∷◌, length, refl, sym, ap, subst, ◌∙◌, arith, inl, inr}
 use Rattle.std.proofs.lemmas.Bool.{ltb-true}
 use Rattle.bit_grammar.specs.Grammar.{Fault, Spells}
-use Rattle.bit_grammar.specs.Marks.{RecordMark, DefinitionMark}
+use Rattle.bit_grammar.specs.Marks.{RecordMark, DefinitionMark, Marks, no_marks, marked_block, marked_record, marked_definition, depth_in, values_in}
 use Rattle.bit_grammar.specs.Record.{Entry}
+use Rattle.bit_grammar.specs.FormatInput.{AreMarkedBlocks}
 use Rattle.bit_grammar.specs.Blocks.{Limits, Handed, Scope, BlockHead, leave, defined, define, record_after}
-use Rattle.bit_grammar.specs.Machine.{Event, enters, defines, notes, leaves, Frame, Machine, at_start, frame_of, scope_of, inside, open_block, open_nested, step_after, step_in, step_top, step_of, step, Ending, accepted, broke}
+use Rattle.bit_grammar.specs.Machine.{Event, enters, defines, notes, leaves, flat, Frame, Machine, at_start, frame_of, scope_of, inside, open_block, open_nested, step_after, step_in, step_top, step_of, step, Ending, accepted, broke}
 use Rattle.bit_grammar.specs.Steps.{Steps, open_after, MayStand, IsNested, EndsNested, values_told, all_values_told}
 use Rattle.bit_grammar.proofs.Limits.{entry_fitted, leave_used, defined_used}
 
@@ -97,3 +98,28 @@ nested_from_start limits p r events ending h = run_nested limits at_start p r ev
 
 pub values_from_start : (limits : Limits) (p : ℕ) (r : List Bool) (events : List Event) (ending : Ending) → Steps limits at_start p r events ending → all_values_told events ≤ limits.values
 values_from_start limits p r events ending h = omega (arith, run_values limits at_start p r events ending (omega arith) h)
+
+-- ---- the events of marks
+
+pub values_of_marks : (marks : Marks) (following : List Event) → all_values_told (flat marks following) ≡ values_in marks + all_values_told following
+values_of_marks no_marks following = omega arith
+values_of_marks (marked_block mark inner rest) following = omega (arith, values_of_marks inner (leaves mark.after ∷ flat rest following), values_of_marks rest following)
+values_of_marks (marked_record mark rest) following = omega (arith, values_of_marks rest following)
+values_of_marks (marked_definition mark rest) following = omega (arith, values_of_marks rest following)
+
+-- in a block, where so many blocks more may stand in one another
+nested_inside : (deepest count left : ℕ) (marks : Marks) (following : List Event) → 0 < count → count + depth_in marks ≤ deepest → IsNested deepest count following left → IsNested deepest count (flat marks following) left
+nested_inside deepest count left no_marks following some few more = more
+nested_inside deepest count left (marked_block mark inner rest) following some few more =
+    let after = nested_inside deepest count left rest following some (omega (arith, few)) more in
+    (omega (arith, few), nested_inside deepest (suc count) left inner (leaves mark.after ∷ flat rest following) (omega arith) (omega (arith, few)) (omega arith, subst (λ (n : ℕ). IsNested deepest n (flat rest following) left) (let same : count ≡ suc count - 1 = omega arith in same) after))
+nested_inside deepest count left (marked_record mark rest) following some few more = (some, nested_inside deepest count left rest following some few more)
+nested_inside deepest count left (marked_definition mark rest) following some few more = (some, nested_inside deepest count left rest following some few more)
+
+-- at the top
+pub nested_marks : (deepest : ℕ) (marks : Marks) → AreMarkedBlocks marks → depth_in marks ≤ deepest → IsNested deepest 0 (flat marks []) 0
+nested_marks deepest no_marks only few = refl
+nested_marks deepest (marked_block mark inner rest) only few =
+    (omega (arith, few), nested_inside deepest 1 0 inner (leaves mark.after ∷ flat rest []) (omega arith) (omega (arith, few)) (omega arith, nested_marks deepest rest only (omega (arith, few))))
+nested_marks deepest (marked_record mark rest) only few = absurd only
+nested_marks deepest (marked_definition mark rest) only few = absurd only

@@ -1,12 +1,14 @@
 ghost use Rattle.std.specs.Prelude.{◌≡◌, ℕ, ◌+◌, ◌<◌, ◌≤◌, ◌↔◌, Bool, List, [], length, Ok};
 ghost use Rattle.bit_grammar.specs.Grammar.{Fault, Spells};
-ghost use Rattle.bit_grammar.specs.Marks.{Item, Marks, marks_of};
+ghost use Rattle.bit_grammar.specs.Marks.{Item, Marks, marks_of, depth_in, values_in};
 ghost use Rattle.bit_grammar.specs.Blocks.{Limits};
 ghost use Rattle.bit_grammar.specs.Whole.{SpellsAll, StopsAll};
-ghost use Rattle.bit_grammar.specs.Input.{top_blocks, Marked, SpellsInput, BreaksInput};
+ghost use Rattle.bit_grammar.specs.FormatInput.{AreMarkedBlocks};
+ghost use Rattle.bit_grammar.specs.Input.{top_blocks, Head, Marked, SpellsInput, BreaksInput};
 ghost use Rattle.bit_grammar.specs.Machine.{Event, flat, Machine, at_start, step, Ending, accepted, broke, to_come};
-ghost use Rattle.bit_grammar.specs.Steps.{AreWide, Steps, open_after, MayStand, EndsNested, values_told, all_values_told};
+ghost use Rattle.bit_grammar.specs.Steps.{AreWide, Steps, open_after, MayStand, IsNested, EndsNested, values_told, all_values_told};
 ghost use Rattle.bit_grammar.specs.Outlook.{outlook, EndsBy};
+ghost use Rattle.bit_grammar.specs.Happening.{HasEvents};
 
 /// What is to come are the steps that hold, one after the other, with their events, up to the end or to the one that breaks.
 pub fn steps_to_come()
@@ -56,4 +58,22 @@ pub fn marks_by_events()
 pub fn told_of_input()
     ensures spelled { (limits : Limits) (bytes : List ℕ) (m : Marked) → (SpellsInput limits bytes m ↔ (outlook limits bytes ≡ Ok (m.head, (flat m.blocks [], accepted m.after)))) }
     ensures broken { (limits : Limits) (bytes : List ℕ) (fault : Fault) → (BreaksInput limits bytes fault ↔ EndsBy (outlook limits bytes) fault) }
+{}
+
+/// The events that are told of an input are those of the steps of its stream, behind its head, whatever ends them.
+pub fn events_of_bytes()
+    ensures { (limits : Limits) (bytes : List ℕ) (head : Head) (events : List Event) → (HasEvents limits bytes head events ↔ ((ending : Ending) × (outlook limits bytes ≡ Ok (head, (events, ending))))) }
+{}
+
+/// The events of an input are well nested, at most as deep as the limit, and their records have no more values than the
+/// limit; and where it is accepted no block is left open.
+pub fn nested_input()
+    ensures kept { (limits : Limits) (bytes : List ℕ) (head : Head) (events : List Event) → HasEvents limits bytes head events → ((left : ℕ) × (left ≤ limits.depth) × IsNested limits.depth 0 events left) × (all_values_told events ≤ limits.values) }
+    ensures accepted { (limits : Limits) (bytes : List ℕ) (m : Marked) → SpellsInput limits bytes m → IsNested limits.depth 0 (flat m.blocks []) 0 }
+{}
+
+/// The events of marked blocks are nested as deep as the blocks, and their records have the values of the blocks.
+pub fn events_of_marks()
+    ensures nested { (deepest : ℕ) (marks : Marks) → AreMarkedBlocks marks → depth_in marks ≤ deepest → IsNested deepest 0 (flat marks []) 0 }
+    ensures values { (marks : Marks) (following : List Event) → all_values_told (flat marks following) ≡ values_in marks + all_values_told following }
 {}
