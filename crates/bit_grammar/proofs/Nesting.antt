@@ -1,12 +1,11 @@
 -- What the events of a stream keep to: blocks in one another within the limit, and values within the limit.
-use Rattle.std.proofs.Common.{◌≡◌, ℕ, zero, suc, ◌+◌, ◌-◌, ◌<◌, ◌≤◌, Bool, List, [], ◌∷◌, length, refl, sym, ap, subst, ◌∙◌, arith, inl, inr}
+use Rattle.std.proofs.Common.{◌≡◌, ℕ, suc, ◌+◌, ◌-◌, ◌<◌, ◌≤◌, Bool, List, [], ◌∷◌, length, refl, sym, ap, subst, ◌∙◌, arith, inl, inr}
 use Rattle.std.proofs.lemmas.Bool.{ltb-true}
-use Rattle.bit_grammar.specs.Grammar.{Fault, Spells}
+use Rattle.bit_grammar.specs.Grammar.{Spells}
 use Rattle.bit_grammar.specs.Marks.{RecordMark, DefinitionMark, Marks, no_marks, marked_block, marked_record, marked_definition, depth_in, values_in}
-use Rattle.bit_grammar.specs.Record.{Entry}
 use Rattle.bit_grammar.specs.FormatInput.{AreMarkedBlocks}
-use Rattle.bit_grammar.specs.Blocks.{Limits, Handed, Scope, BlockHead, leave, defined, define, record_after}
-use Rattle.bit_grammar.specs.Machine.{Event, enters, defines, notes, leaves, flat, Frame, Machine, at_start, frame_of, scope_of, inside, open_block, open_nested, step_after, step_in, step_top, step_of, step, Ending, accepted, broke}
+use Rattle.bit_grammar.specs.Blocks.{Limits, Handed, Scope, BlockHead, define, record_after}
+use Rattle.bit_grammar.specs.Machine.{Event, enters, defines, notes, leaves, flat, Frame, Machine, at_start, frame_of, scope_of, open_block, open_nested, step_after, step_in, step_top, step_of, step, Ending, accepted, broke}
 use Rattle.bit_grammar.specs.Steps.{Steps, open_after, MayStand, IsNested, EndsNested, values_told, all_values_told}
 use Rattle.bit_grammar.proofs.Limits.{entry_fitted, leave_used, defined_used}
 

@@ -1,16 +1,14 @@
 -- The bits of the blocks that are spelled: those of a block are those of its spelling, and those of the blocks in it are
 -- within them.
-use Rattle.std.proofs.Common.{◌≡◌, ℕ, zero, suc, ◌+◌, ◌-◌, ◌*◌, ◌<◌, ◌≤◌, Bool, List, [], ◌∷◌, ◌++◌, length, Some, None, refl, sym, ap, subst, ◌∙◌, arith, inl, inr}
+use Rattle.std.proofs.Common.{◌≡◌, ℕ, zero, suc, ◌+◌, ◌-◌, ◌≤◌, Bool, List, [], ◌∷◌, ◌++◌, length, refl, sym, ap, subst, ◌∙◌, arith, inl, inr}
 use Rattle.std.specs.Prelude.{sum_by}
-use Rattle.std.proofs.lemmas.Bool.{leb-true, and_parts}
 use Rattle.std.proofs.lemmas.List.{length-append}
 use Rattle.std.proofs.lemmas.List.Sums.{sum_by-cons, sum_by-append}
 use Rattle.bit_grammar.specs.Grammar.{Round, one_more, last, Rounds, Spells}
 use Rattle.bit_grammar.specs.Marks.{Marks, no_marks, marked_block, marked_record, marked_definition, Item, block_item, record_item, definition_item, item_then, marks_of}
-use Rattle.bit_grammar.specs.Blocks.{Limits, Handed, Scope, nothing_handed, BlockHead, enter, end_of_block, nested, item_after, item, block, top_block}
-use Rattle.bit_grammar.specs.Whole.{Things, SpellsAll}
+use Rattle.bit_grammar.specs.Blocks.{Limits, Handed, Scope, BlockHead, enter, end_of_block, nested, item_after, item, block, top_block}
+use Rattle.bit_grammar.specs.Whole.{Things}
 use Rattle.bit_grammar.specs.Tally.{blocks_in, block_bits, bits_in, own_bits}
-use Rattle.bit_grammar.proofs.Fields.{fixed_is}
 
 -- ---- sums over marks
 

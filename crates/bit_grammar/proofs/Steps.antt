@@ -1,14 +1,14 @@
 -- The steps of a stream are what is to come of it.
-use Rattle.std.proofs.Common.{◌≡◌, ℕ, zero, suc, ◌+◌, ◌<◌, Bool, true, false, List, [], ◌∷◌, ◌++◌, length, Result, Ok, Err, refl, sym, ap, subst, ◌∙◌, arith, inl, inr}
+use Rattle.std.proofs.Common.{◌≡◌, ℕ, zero, suc, ◌+◌, ◌<◌, Bool, false, List, [], ◌∷◌, length, Ok, Err, refl, sym, ap, subst, ◌∙◌, arith, inl, inr}
 use Rattle.std.specs.Prelude.{◌↔◌}
 use Rattle.std.proofs.lemmas.List.{length-append}
-use Rattle.bit_grammar.specs.Grammar.{Fault, Spells, Stops, reading}
+use Rattle.bit_grammar.specs.Grammar.{Fault, Spells, reading}
 use Rattle.bit_grammar.specs.Marks.{Item, marks_of}
 use Rattle.bit_grammar.specs.Blocks.{Limits}
 use Rattle.bit_grammar.specs.Whole.{SpellsAll, StopsAll}
 use Rattle.bit_grammar.specs.Input.{top_blocks}
 use Rattle.bit_grammar.specs.Machine.{Event, flat, Frame, Machine, at_start, step, Ending, accepted, broke, Told, is_done, told_by, to_come}
-use Rattle.bit_grammar.specs.Steps.{AreWide, IsOver, EndsThere, Steps}
+use Rattle.bit_grammar.specs.Steps.{AreWide, IsOver, Steps}
 use Rattle.bit_grammar.proofs.Deciding.{reads, breaks, is_spelled, is_stopped}
 use Rattle.bit_grammar.proofs.Wholes.{decides_all}
 use Rattle.bit_grammar.proofs.Machines.{Step, Stepped, stepped, comes, step_takes, step_wide}

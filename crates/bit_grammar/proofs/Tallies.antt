@@ -1,11 +1,9 @@
 -- The bits of all rows and the 32 of the magic are the bits of the stream.
-use Rattle.std.proofs.Common.{◌≡◌, ℕ, ◌+◌, ◌-◌, ◌*◌, ◌%◌, ◌≤◌, Bool, leb, eqb, List, length, map, Some, None, refl, sym, ap, subst, ◌∙◌, arith, inl, inr}
-use Rattle.std.specs.Prelude.{sum_by}
+use Rattle.std.proofs.Common.{◌≡◌, ℕ, ◌+◌, ◌*◌, ◌%◌, ◌≤◌, Bool, leb, eqb, List, length, map, Some, None, sym, ap, subst, ◌∙◌, arith, inl, inr}
 use Rattle.std.proofs.lemmas.Bool.{leb-true, and_parts}
 use Rattle.std.proofs.lemmas.List.{length-append}
 use Rattle.bit_grammar.specs.Bits.{bits_of_bytes}
 use Rattle.bit_grammar.specs.Grammar.{Spells}
-use Rattle.bit_grammar.specs.Marks.{Marks}
 use Rattle.bit_grammar.specs.Blocks.{Limits, nothing_handed}
 use Rattle.bit_grammar.specs.Whole.{SpellsAll}
 use Rattle.bit_grammar.specs.Input.{Wrapper, Head, Marked, version, offset, wrapper, any_bits, wrapper_and_gap, inner_magic, top_blocks, stream, wrapped, input, SpellsInput}

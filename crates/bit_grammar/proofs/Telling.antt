@@ -1,11 +1,11 @@
 -- What is told of an input and what the input spells, or how it breaks, determine each other.
-use Rattle.std.proofs.Common.{◌≡◌, ℕ, Bool, List, [], ◌∷◌, Result, Ok, Err, refl, sym, ap, ◌∙◌, subst, inl, inr}
+use Rattle.std.proofs.Common.{◌≡◌, ℕ, List, [], ◌∷◌, Ok, Err, refl, sym, ap, ◌∙◌, subst, inl, inr}
 use Rattle.std.specs.Prelude.{◌↔◌}
 use Rattle.bit_grammar.specs.Grammar.{Fault}
 use Rattle.bit_grammar.specs.Marks.{BlockMark, RecordMark, DefinitionMark, Marks, no_marks, marked_block, marked_record, marked_definition}
 use Rattle.bit_grammar.specs.Blocks.{Limits}
 use Rattle.bit_grammar.specs.Input.{Head, Marked, SpellsInput, BreaksInput}
-use Rattle.bit_grammar.specs.Machine.{Opened, Event, enters, defines, notes, leaves, flat, Ending, accepted, broke, Told}
+use Rattle.bit_grammar.specs.Machine.{Opened, Event, enters, defines, notes, leaves, flat, accepted, broke, Told}
 use Rattle.bit_grammar.specs.Outlook.{Outlook, outlook, EndsBy}
 use Rattle.bit_grammar.proofs.Inputs.{tree_or_fault}
 use Rattle.bit_grammar.proofs.Outlooks.{outlook_spelled, outlook_broken}

@@ -13,7 +13,7 @@ use Rattle.bit_grammar.specs.Steps.{Steps}
 pub data Heads (bits : List Bool) (head : Head) (p : ℕ) (r : List Bool) : Type 0 where
   bare : (magic : List Bool) → bits ≡ magic ++ r → Spells (fixed 32) 0 magic head.magic → is_wrapped head.magic ≡ false → head.wrapper ≡ None → p ≡ length magic → Heads bits head p r
   in_wrapper : (w : Wrapper) (front header rest magic : List Bool) → bits ≡ front ++ (header ++ rest) → Spells (fixed 32) 0 front wrapper_magic → Spells wrapper_and_gap (length front) header w
-    → take (8 * w.size) rest ≡ magic ++ r → Spells inner_magic (length front + length header) magic head.magic → head.wrapper ≡ Some w → p ≡ length front + length header + length magic → Heads bits head p r
+      → take (8 * w.size) rest ≡ magic ++ r → Spells inner_magic (length front + length header) magic head.magic → head.wrapper ≡ Some w → p ≡ length front + length header + length magic → Heads bits head p r
 
 -- the events of a stream with this head in these bits: those of its steps, whatever ends them
 abbrev pub EventsIn : Limits → List Bool → Head → List Event → Type 0

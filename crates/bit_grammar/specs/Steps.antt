@@ -1,5 +1,5 @@
 -- What is to come of a stream, step by step; and what its events are: well nested, with the values of their records.
-use Rattle.std.specs.Prelude.{◌≡◌, ℕ, zero, suc, ◌+◌, ◌-◌, ◌<◌, ◌≤◌, Bool, List, [], ◌∷◌, ◌++◌, length}
+use Rattle.std.specs.Prelude.{◌≡◌, ℕ, suc, ◌+◌, ◌-◌, ◌<◌, ◌≤◌, Bool, List, [], ◌∷◌, ◌++◌, length}
 use Rattle.bit_grammar.specs.Grammar.{Spells, Stops}
 use Rattle.bit_grammar.specs.Blocks.{Limits}
 use Rattle.bit_grammar.specs.Machine.{Event, enters, defines, notes, leaves, Frame, Machine, step, Ending, accepted, broke}
