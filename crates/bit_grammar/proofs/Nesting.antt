@@ -6,7 +6,7 @@ use Rattle.bit_grammar.specs.Marks.{RecordMark, DefinitionMark, Marks, no_marks,
 use Rattle.bit_grammar.specs.FormatInput.{AreMarkedBlocks}
 use Rattle.bit_grammar.specs.Blocks.{Limits, Handed, Scope, BlockHead, define, record_after}
 use Rattle.bit_grammar.specs.Machine.{Event, enters, defines, notes, leaves, flat, Frame, Machine, at_start, frame_of, scope_of, open_block, open_nested, step_after, step_in, step_top, step_of, step, Ending, accepted, broke}
-use Rattle.bit_grammar.specs.Steps.{Steps, open_after, MayStand, IsNested, EndsNested, values_told, all_values_told}
+use Rattle.bit_grammar.specs.Steps.{Steps, Leads, open_after, MayStand, IsNested, EndsNested, values_told, all_values_told}
 use Rattle.bit_grammar.proofs.Limits.{entry_fitted, leave_used, defined_used}
 
 -- What a step from so many open blocks and so many values used keeps to: its event may stand there, a frame stands for
@@ -97,6 +97,17 @@ nested_from_start limits p r events ending h = run_nested limits at_start p r ev
 
 pub values_from_start : (limits : Limits) (p : ℕ) (r : List Bool) (events : List Event) (ending : Ending) → Steps limits at_start p r events ending → all_values_told events ≤ limits.values
 values_from_start limits p r events ending h = omega (arith, run_values limits at_start p r events ending (omega arith) h)
+
+-- what holds of the machine after these events
+pub leads_kept : (limits : Limits) (m new : Machine) (p : ℕ) (s : List Bool) (events : List Event) → Leads limits m p s events new
+    → IsNested limits.depth (length m.frames) events (length new.frames) × (new.handed.used ≡ m.handed.used + all_values_told events) × (m.handed.used ≤ limits.values → new.handed.used ≤ limits.values)
+leads_kept limits m new p s [] h =
+    let used = ap (λ (x : Machine). x.handed.used) h.1 in
+    (ap (λ (x : Machine). length x.frames) h.1, omega (arith, used), λ few. omega (arith, used, few))
+leads_kept limits m new p s (event ∷ events) h =
+    let kept = step_kept limits m p h.0 (event, h.2) h.5 in
+    let more = leads_kept limits h.2 new (p + length h.0) h.1 events h.6 in
+    ((kept.may, subst (λ (n : ℕ). IsNested limits.depth n events (length new.frames)) kept.frames more.0), omega (arith, kept.values, more.1), λ few. more.2 (kept.within few))
 
 -- ---- the events of marks
 

@@ -1,5 +1,5 @@
 -- The steps of a stream are what is to come of it.
-use Rattle.std.proofs.Common.{◌≡◌, ℕ, zero, suc, ◌+◌, ◌<◌, Bool, false, List, [], ◌∷◌, length, Ok, Err, refl, sym, ap, subst, ◌∙◌, arith, inl, inr}
+use Rattle.std.proofs.Common.{◌≡◌, ℕ, zero, suc, ◌+◌, ◌<◌, Bool, false, List, [], ◌∷◌, ◌++◌, length, Ok, Err, refl, sym, ap, subst, ◌∙◌, append_assoc, arith, inl, inr}
 use Rattle.std.specs.Prelude.{◌↔◌}
 use Rattle.std.proofs.lemmas.List.{length-append}
 use Rattle.bit_grammar.specs.Grammar.{Fault, Spells, reading}
@@ -8,7 +8,7 @@ use Rattle.bit_grammar.specs.Blocks.{Limits}
 use Rattle.bit_grammar.specs.Whole.{SpellsAll, StopsAll}
 use Rattle.bit_grammar.specs.Input.{top_blocks}
 use Rattle.bit_grammar.specs.Machine.{Event, flat, Frame, Machine, at_start, step, Ending, accepted, broke, Told, is_done, told_by, to_come}
-use Rattle.bit_grammar.specs.Steps.{AreWide, IsOver, Steps}
+use Rattle.bit_grammar.specs.Steps.{AreWide, IsOver, Steps, Leads}
 use Rattle.bit_grammar.proofs.Deciding.{reads, breaks, is_spelled, is_stopped}
 use Rattle.bit_grammar.proofs.Wholes.{decides_all}
 use Rattle.bit_grammar.proofs.Machines.{Step, Stepped, stepped, comes, step_takes, step_wide}
@@ -142,3 +142,36 @@ broken_steps limits p r fault = (stopped_steps limits p r fault, λ h. steps_sto
 -- a machine whose open blocks have widths takes bits with each step, and the new one has widths too
 pub step_on : (limits : Limits) (m new : Machine) (p : ℕ) (s : List Bool) (event : Event) → AreWide m.frames → Spells (step limits m) p s (event, new) → (0 < length s) × AreWide new.frames
 step_on limits m new p s event wide h = (step_takes limits m.frames m.handed p s (event, new) wide h, step_wide limits m.frames m.handed p s (event, new) wide h)
+
+-- ---- some steps, and those after them
+
+pub steps_after : (limits : Limits) (m new : Machine) (p : ℕ) (s r : List Bool) (events others : List Event) (ending : Ending) → Leads limits m p s events new → Steps limits new (p + length s) r others ending → Steps limits m p (s ++ r) (events ++ others) ending
+steps_after limits m new p s r [] others ending (empty, same) h =
+    let place : p + length s ≡ p = omega (arith, ap length empty) in
+    subst (λ (t : List Bool). Steps limits m p (t ++ r) others ending) (sym empty) (subst (λ (n : ℕ). Steps limits m n r others ending) place (subst (λ (x : Machine). Steps limits x (p + length s) r others ending) same h))
+steps_after limits m new p s r (event ∷ events) others ending k h =
+    let parts : s ++ r ≡ k.0 ++ (k.1 ++ r) = ap (λ (t : List Bool). t ++ r) k.3 ∙ append_assoc k.0 k.1 r in
+    let place : p + length s ≡ p + length k.0 + length k.1 = omega (arith, ap length k.3, length-append k.0 k.1) in
+    (k.0, k.1 ++ r, k.2, parts, k.4, k.5, steps_after limits k.2 new (p + length k.0) k.1 r events others ending k.6 (subst (λ (n : ℕ). Steps limits new n r others ending) place h))
+
+-- the machine after the first events, and the bits up to it and behind it
+abbrev pub Parted : Limits → Machine → ℕ → List Bool → List Event → List Event → Ending → Type 0
+Parted limits m p r events others ending = (first rest : List Bool) × (new : Machine) × (r ≡ first ++ rest) × Leads limits m p first events new × Steps limits new (p + length first) rest others ending
+
+pub steps_parted : (limits : Limits) (m : Machine) (p : ℕ) (r : List Bool) (events others : List Event) (ending : Ending) → Steps limits m p r (events ++ others) ending → Parted limits m p r events others ending
+steps_parted limits m p r [] others ending h = ([], r, m, refl, (refl, refl), subst (λ (n : ℕ). Steps limits m n r others ending) (omega arith) h)
+steps_parted limits m p r (event ∷ events) others ending h =
+    let more = steps_parted limits h.2 (p + length h.0) h.1 events others ending h.6 in
+    let parts : r ≡ (h.0 ++ more.0) ++ more.1 = h.3 ∙ ap (λ (t : List Bool). h.0 ++ t) more.3 ∙ sym (append_assoc h.0 more.0 more.1) in
+    let place : p + length h.0 + length more.0 ≡ p + length (h.0 ++ more.0) = omega (arith, length-append h.0 more.0) in
+    (h.0 ++ more.0, more.1, more.2, parts, (h.0, more.0, h.2, refl, h.4, h.5, more.4), subst (λ (n : ℕ). Steps limits more.2 n more.1 others ending) place more.5)
+
+pub steps_in_parts : (limits : Limits) (m : Machine) (p : ℕ) (r : List Bool) (events others : List Event) (ending : Ending) → (Steps limits m p r (events ++ others) ending ↔ Parted limits m p r events others ending)
+steps_in_parts limits m p r events others ending = (
+  steps_parted limits m p r events others ending,
+  λ h. subst (λ (t : List Bool). Steps limits m p t (events ++ others) ending) (sym h.3) (steps_after limits m h.2 p h.0 h.1 events others ending h.4 h.5),
+)
+
+pub leads_on : (limits : Limits) (m new : Machine) (p : ℕ) (s : List Bool) (events : List Event) → AreWide m.frames → Leads limits m p s events new → AreWide new.frames
+leads_on limits m new p s [] wide h = subst (λ (x : Machine). AreWide x.frames) (sym h.1) wide
+leads_on limits m new p s (event ∷ events) wide h = leads_on limits h.2 new (p + length h.0) h.1 events (step_wide limits m.frames m.handed p h.0 (event, h.2) wide h.5) h.6

@@ -25,6 +25,11 @@ abbrev pub Steps : Limits → Machine → ℕ → List Bool → List Event → E
 Steps limits m p r [] ending = EndsThere limits m p r ending
 Steps limits m p r (event ∷ events) ending = (first others : List Bool) × (new : Machine) × (r ≡ first ++ others) × (0 < length first) × Spells (step limits m) p first (event, new) × Steps limits new (p + length first) others events ending
 
+-- the bits s, from position p on, are steps of the machine, each of some bits, with these events, and lead to another machine
+abbrev pub Leads : Limits → Machine → ℕ → List Bool → List Event → Machine → Type 0
+Leads limits m p s [] new = (s ≡ []) × (new ≡ m)
+Leads limits m p s (event ∷ events) new = (first others : List Bool) × (mid : Machine) × (s ≡ first ++ others) × (0 < length first) × Spells (step limits m) p first (event, mid) × Leads limits mid (p + length first) others events new
+
 -- ---- open blocks
 
 -- how many blocks are open after an event, where so many are before it
@@ -34,7 +39,7 @@ open_after (defines mark) count = count
 open_after (notes mark) count = count
 open_after (leaves after) count = count - 1
 
--- whether an event may stand where so many blocks are open: with at most deepest in one another
+-- an event may stand where so many blocks are open, with at most deepest in one another
 abbrev pub MayStand : (deepest : ℕ) → Event → (count : ℕ) → Type 0
 MayStand deepest (enters o) count = count < deepest
 MayStand deepest (defines mark) count = 0 < count

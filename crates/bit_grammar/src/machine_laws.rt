@@ -1,4 +1,4 @@
-ghost use Rattle.std.specs.Prelude.{◌≡◌, ℕ, ◌+◌, ◌<◌, ◌≤◌, ◌↔◌, Bool, List, [], length, Ok};
+ghost use Rattle.std.specs.Prelude.{◌≡◌, ℕ, ◌+◌, ◌<◌, ◌≤◌, ◌↔◌, Bool, List, [], ◌++◌, length, Ok};
 ghost use Rattle.bit_grammar.specs.Grammar.{Fault, Spells};
 ghost use Rattle.bit_grammar.specs.Marks.{Item, Marks, marks_of, depth_in, values_in};
 ghost use Rattle.bit_grammar.specs.Blocks.{Limits};
@@ -6,7 +6,7 @@ ghost use Rattle.bit_grammar.specs.Whole.{SpellsAll, StopsAll};
 ghost use Rattle.bit_grammar.specs.FormatInput.{AreMarkedBlocks};
 ghost use Rattle.bit_grammar.specs.Input.{top_blocks, Head, Marked, SpellsInput, BreaksInput};
 ghost use Rattle.bit_grammar.specs.Machine.{Event, flat, Machine, at_start, step, Ending, accepted, broke, to_come};
-ghost use Rattle.bit_grammar.specs.Steps.{AreWide, Steps, open_after, MayStand, IsNested, EndsNested, values_told, all_values_told};
+ghost use Rattle.bit_grammar.specs.Steps.{AreWide, Steps, Leads, open_after, MayStand, IsNested, EndsNested, values_told, all_values_told};
 ghost use Rattle.bit_grammar.specs.Outlook.{outlook, EndsBy};
 ghost use Rattle.bit_grammar.specs.Happening.{HasEvents};
 
@@ -36,6 +36,18 @@ pub fn frames_of_step()
 /// A step uses as many values as its record has, within the limit on values.
 pub fn values_of_step()
     ensures { (limits : Limits) (m new : Machine) (p : ℕ) (s : List Bool) (event : Event) → Spells (step limits m) p s (event, new) → (new.handed.used ≡ m.handed.used + values_told event) × (m.handed.used ≤ limits.values → new.handed.used ≤ limits.values) }
+{}
+
+/// Events, and others after them, are those of the steps up to another machine, and of the steps from there.
+pub fn steps_in_parts()
+    ensures { (limits : Limits) (m : Machine) (p : ℕ) (r : List Bool) (events others : List Event) (ending : Ending) → (Steps limits m p r (events ++ others) ending ↔ ((first rest : List Bool) × (new : Machine) × (r ≡ first ++ rest) × Leads limits m p first events new × Steps limits new (p + length first) rest others ending)) }
+{}
+
+/// After some steps a frame stands for each block that their events leave open, the values used are those of their records,
+/// within the limit, and each open block has ids of some bits.
+pub fn machine_after()
+    ensures kept { (limits : Limits) (m new : Machine) (p : ℕ) (s : List Bool) (events : List Event) → Leads limits m p s events new → IsNested limits.depth (length m.frames) events (length new.frames) × (new.handed.used ≡ m.handed.used + all_values_told events) × (m.handed.used ≤ limits.values → new.handed.used ≤ limits.values) }
+    ensures wide { (limits : Limits) (m new : Machine) (p : ℕ) (s : List Bool) (events : List Event) → AreWide m.frames → Leads limits m p s events new → AreWide new.frames }
 {}
 
 /// The events of a stream are well nested, at most as deep as the limit, and where it is accepted no block is left open.
