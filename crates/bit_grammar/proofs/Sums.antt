@@ -13,11 +13,11 @@ sum_of_none : {X : Type 0} (xs : List X) → sum_by (λ x. 0) xs ≡ 0
 sum_of_none [] = refl
 sum_of_none (x ∷ xs) = rw (sum_by-cons (λ y. 0) x xs, sum_of_none xs) refl
 
-data Compared (a b : ℕ) : Type 0 where
+pub data Compared (a b : ℕ) : Type 0 where
   are_same : a ≡ b → Compared a b
   are_other : (a ≡ b → ⊥) → Compared a b
 
-compare : (a b : ℕ) → Compared a b
+pub compare : (a b : ℕ) → Compared a b
 compare a b = go (eqb a b) refl
   where
     go : (x : Bool) → eqb a b ≡ x → Compared a b
@@ -28,13 +28,13 @@ compare a b = go (eqb a b) refl
 abbrev at_key : (q v : ℕ) → ℕ → ℕ
 at_key q v k = cond (eqb q k) v 0
 
-abbrev without : ℕ → List ℕ → List ℕ
+abbrev pub without : ℕ → List ℕ → List ℕ
 without x ks = filter (λ y. not (eqb y x)) ks
 
-keep_other : (k x : ℕ) (ks : List ℕ) → (k ≡ x → ⊥) → without x (k ∷ ks) ≡ k ∷ without x ks
+pub keep_other : (k x : ℕ) (ks : List ℕ) → (k ≡ x → ⊥) → without x (k ∷ ks) ≡ k ∷ without x ks
 keep_other k x ks other = rw (ne_eqb k x other) refl
 
-drop_same : (k x : ℕ) (ks : List ℕ) → k ≡ x → without x (k ∷ ks) ≡ without x ks
+pub drop_same : (k x : ℕ) (ks : List ℕ) → k ≡ x → without x (k ∷ ks) ≡ without x ks
 drop_same k x ks same = rw (eq-eqb k x same) refl
 
 at_same : (q v k : ℕ) → q ≡ k → at_key q v k ≡ v
@@ -61,7 +61,7 @@ other_out q v x (k ∷ ks) other =
       | are_other differs ↦ ap (sum_by (at_key q v)) (keep_other k x ks differs) ∙ sum_by-cons (at_key q v) k (without x ks) ∙ ap (λ (n : ℕ). at_key q v k + n) (other_out q v x ks other) ∙ sym (sum_by-cons (at_key q v) k ks)
     ]
 
-abbrev Has : ℕ → List ℕ → Type 0
+abbrev pub Has : ℕ → List ℕ → Type 0
 Has q [] = ⊥
 Has q (y ∷ ys) = (q ≡ y) ⊎ Has q ys
 

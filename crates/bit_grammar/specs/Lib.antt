@@ -21,3 +21,4 @@ pub mod Steps
 pub mod Tally
 pub mod Texts
 pub mod Happening
+pub mod Counting
