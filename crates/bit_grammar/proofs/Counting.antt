@@ -1,0 +1,143 @@
+-- One pass over the events of a tree makes the rows of its analysis.
+use Rattle.std.proofs.Common.{◌≡◌, ℕ, ◌+◌, ◌-◌, ◌⊎◌, Bool, true, false, cond, eqb, List, [], ◌∷◌, ◌++◌, length, map, refl, sym, ap, subst, ◌∙◌, append_assoc, arith, inl, inr}
+use Rattle.std.specs.Prelude.{filter, sum_by, count_by, if◌then◌else◌}
+use Rattle.std.proofs.lemmas.Bool.{eq-eqb, ne_eqb}
+use Rattle.std.proofs.lemmas.List.{map-append, append-nil, length-append}
+use Rattle.std.proofs.lemmas.List.Elements.{filter-append}
+use Rattle.std.proofs.lemmas.List.Sums.{sum_by-cons, sum_by-append}
+use Rattle.bit_grammar.specs.Marks.{RecordMark, DefinitionMark, Marks, no_marks, marked_block, marked_record, marked_definition}
+use Rattle.bit_grammar.specs.FormatInput.{AreMarkedBlocks}
+use Rattle.bit_grammar.specs.Machine.{Opened, Event, enters, defines, notes, leaves, flat}
+use Rattle.bit_grammar.specs.Tally.{FullBlock, Placed, blocks_in, records_in, definitions_in, placed_in, block_bits, record_bits, bits_in, own_bits, distinct, CodeTally, BlockTally, with_code, code_row, code_rows, is_abbreviated, with_id, row_of, rows_of}
+use Rattle.bit_grammar.specs.Counting.{changed, fresh_code, fresh_row, one_use, one_block, more_bits, one_definition, one_record, OpenCount, Counts, no_counts, with_row, more_inside, count_event, count_events}
+use Rattle.bit_grammar.proofs.Sums.{Has}
+use Rattle.bit_grammar.proofs.Keyed.{Moved, rows_changed, distinct_known}
+
+-- ---- one more at the end of a list
+
+filter_same : {X : Type 0} (key : X → ℕ) (k : ℕ) (xs : List X) (x : X) → key x ≡ k → filter (λ y. eqb (key y) k) (xs ++ x ∷ []) ≡ filter (λ y. eqb (key y) k) xs ++ x ∷ []
+filter_same key k xs x same = filter-append (λ y. eqb (key y) k) xs (x ∷ []) ∙ ap (λ (b : Bool). filter (λ y. eqb (key y) k) xs ++ cond b (x ∷ []) []) (eq-eqb (key x) k same)
+
+filter_other : {X : Type 0} (key : X → ℕ) (k : ℕ) (xs : List X) (x : X) → (key x ≡ k → ⊥) → filter (λ y. eqb (key y) k) (xs ++ x ∷ []) ≡ filter (λ y. eqb (key y) k) xs
+filter_other key k xs x other =
+    filter-append (λ y. eqb (key y) k) xs (x ∷ []) ∙ ap (λ (b : Bool). filter (λ y. eqb (key y) k) xs ++ cond b (x ∷ []) []) (ne_eqb (key x) k other) ∙ append-nil (filter (λ y. eqb (key y) k) xs)
+
+placed_same : {Mark : Type 0} (id : ℕ) (xs : List (Placed Mark)) (mark : Mark) → placed_in id (xs ++ record { block = id; mark = mark } ∷ []) ≡ placed_in id xs ++ mark ∷ []
+placed_same {Mark} id xs mark =
+    ap (map (λ (x : Placed Mark). x.mark)) (filter_same (λ (x : Placed Mark). x.block) id xs (record { block = id; mark = mark }) refl) ∙ map-append (λ (x : Placed Mark). x.mark) (filter (λ x. eqb x.block id) xs) (record { block = id; mark = mark } ∷ [])
+
+placed_other : {Mark : Type 0} (id k : ℕ) (xs : List (Placed Mark)) (mark : Mark) → (k ≡ id → ⊥) → placed_in k (xs ++ record { block = id; mark = mark } ∷ []) ≡ placed_in k xs
+placed_other {Mark} id k xs mark other = ap (map (λ (x : Placed Mark). x.mark)) (filter_other (λ (x : Placed Mark). x.block) k xs (record { block = id; mark = mark }) (λ e. other (sym e)))
+
+length_end : {X : Type 0} (xs : List X) (x : X) → length (xs ++ x ∷ []) ≡ length xs + 1
+length_end xs x = length-append xs (x ∷ [])
+
+sum_end : {X : Type 0} (f : X → ℕ) (xs : List X) (x : X) → sum_by f (xs ++ x ∷ []) ≡ sum_by f xs + f x
+sum_end f xs x = sum_by-append f xs (x ∷ []) ∙ omega arith
+
+-- ---- the codes of one more record
+
+no_codes : (records : List RecordMark) (code : ℕ) → (Has code (map (λ r. r.code) records) → ⊥) → with_code code records ≡ []
+no_codes [] code none = refl
+no_codes (r ∷ records) code none = rw (ne_eqb r.code code (λ e. none (inl (sym e))), no_codes records code (λ has. none (inr has))) refl
+
+code_moved : (records : List RecordMark) (r : RecordMark) → Moved (λ (x : CodeTally). x.code) fresh_code (one_use r) r.code (map (λ (x : RecordMark). x.code) records) (code_row records) (code_row (records ++ r ∷ []))
+code_moved records r = record {
+  own = λ k. refl;
+  unseen = λ k none. rw (no_codes records k none) refl;
+  here =
+      let more = filter_same (λ (x : RecordMark). x.code) r.code records r refl in
+      let count = ap (λ (xs : List RecordMark). length xs) more ∙ length_end (with_code r.code records) r in
+      let bits = ap (sum_by record_bits) more ∙ sum_end record_bits (with_code r.code records) r in
+      let both : code_row (records ++ r ∷ []) r.code ≡ one_use r (code_row records r.code) = rw (count, bits) refl in
+      both;
+  others = λ k other. (let same = filter_other (λ (x : RecordMark). x.code) k records r (λ e. other (sym e)) in rw same refl);
+}
+
+codes_more : (records : List RecordMark) (r : RecordMark) → changed (λ (x : CodeTally). x.code) fresh_code (one_use r) r.code (code_rows records) ≡ code_rows (records ++ r ∷ [])
+codes_more records r =
+    rows_changed (λ (x : CodeTally). x.code) fresh_code (one_use r) r.code (map (λ (x : RecordMark). x.code) records) (code_row records) (code_row (records ++ r ∷ [])) (code_moved records r)
+    ∙ ap (λ (ks : List ℕ). map (code_row (records ++ r ∷ [])) (distinct ks)) (sym (map-append (λ (x : RecordMark). x.code) records (r ∷ [])))
+
+-- ---- what has been seen
+
+-- the ids of the blocks that began, in order; the own bits of those that ended; the records and the definitions
+pub record Seen : Type 0 where
+  pub entered : List ℕ
+  pub left : List (Placed ℕ)
+  pub records : List (Placed RecordMark)
+  pub definitions : List (Placed DefinitionMark)
+
+abbrev row_seen : Seen → ℕ → BlockTally
+row_seen seen id = record {
+  id = id;
+  blocks = length (filter (λ k. eqb k id) seen.entered);
+  bits = sum_by (λ n. n) (placed_in id seen.left);
+  definitions = length (placed_in id seen.definitions);
+  records = length (placed_in id seen.records);
+  abbreviated = count_by is_abbreviated (placed_in id seen.records);
+  values = sum_by (λ (r : RecordMark). length r.values) (placed_in id seen.records);
+  codes = code_rows (placed_in id seen.records);
+}
+
+abbrev rows_seen : Seen → List BlockTally
+rows_seen seen = map (row_seen seen) (distinct seen.entered)
+
+-- nothing was seen of other ids
+abbrev Unseen : Seen → Type 0
+Unseen seen = (k : ℕ) → (Has k seen.entered → ⊥) → row_seen seen k ≡ fresh_row k
+
+abbrev see_block : ℕ → Seen → Seen
+see_block id seen = record { entered = seen.entered ++ id ∷ []; left = seen.left; records = seen.records; definitions = seen.definitions }
+
+abbrev see_bits : ℕ → ℕ → Seen → Seen
+see_bits id bits seen = record { entered = seen.entered; left = seen.left ++ record { block = id; mark = bits } ∷ []; records = seen.records; definitions = seen.definitions }
+
+abbrev see_record : ℕ → RecordMark → Seen → Seen
+see_record id mark seen = record { entered = seen.entered; left = seen.left; records = seen.records ++ record { block = id; mark = mark } ∷ []; definitions = seen.definitions }
+
+abbrev see_definition : ℕ → DefinitionMark → Seen → Seen
+see_definition id mark seen = record { entered = seen.entered; left = seen.left; records = seen.records; definitions = seen.definitions ++ record { block = id; mark = mark } ∷ [] }
+
+abbrev RowMoved : (BlockTally → BlockTally) → ℕ → Seen → Seen → Type 0
+RowMoved change id seen new = Moved (λ (x : BlockTally). x.id) fresh_row change id seen.entered (row_seen seen) (row_seen new)
+
+block_moved : (id : ℕ) (seen : Seen) → Unseen seen → RowMoved one_block id seen (see_block id seen)
+block_moved id seen unseen = record {
+  own = λ k. refl;
+  unseen = unseen;
+  here = (let more = ap (λ (xs : List ℕ). length xs) (filter_same (λ (k : ℕ). k) id seen.entered id refl) ∙ length_end (filter (λ k. eqb k id) seen.entered) id in rw more refl);
+  others = λ k other. (let same = filter_other (λ (j : ℕ). j) k seen.entered id (λ e. other (sym e)) in rw same refl);
+}
+
+bits_moved : (id bits : ℕ) (seen : Seen) → Unseen seen → RowMoved (more_bits bits) id seen (see_bits id bits seen)
+bits_moved id bits seen unseen = record {
+  own = λ k. refl;
+  unseen = unseen;
+  here = (let more = ap (sum_by (λ n. n)) (placed_same id seen.left bits) ∙ sum_end (λ n. n) (placed_in id seen.left) bits in rw more refl);
+  others = λ k other. (let same = placed_other id k seen.left bits other in rw same refl);
+}
+
+definition_moved : (id : ℕ) (mark : DefinitionMark) (seen : Seen) → Unseen seen → RowMoved one_definition id seen (see_definition id mark seen)
+definition_moved id mark seen unseen = record {
+  own = λ k. refl;
+  unseen = unseen;
+  here = (let more = ap (λ (xs : List DefinitionMark). length xs) (placed_same id seen.definitions mark) ∙ length_end (placed_in id seen.definitions) mark in rw more refl);
+  others = λ k other. (let same = placed_other id k seen.definitions mark other in rw same refl);
+}
+
+record_moved : (id : ℕ) (mark : RecordMark) (seen : Seen) → Unseen seen → RowMoved (one_record mark) id seen (see_record id mark seen)
+record_moved id mark seen unseen = record {
+  own = λ k. refl;
+  unseen = unseen;
+  here =
+      let old = placed_in id seen.records in
+      let more = placed_same id seen.records mark in
+      let count = length_end old mark in
+      let short = sum_end (λ x. cond (is_abbreviated x) 1 0) old mark in
+      let values = sum_end (λ (r : RecordMark). length r.values) old mark in
+      let codes = sym (codes_more old mark) in
+      let all : row_seen (see_record id mark seen) id ≡ one_record mark (row_seen seen id) = rw (more, count, short, values, codes) refl in
+      all;
+  others = λ k other. (let same = placed_other id k seen.records mark other in rw same refl);
+}
