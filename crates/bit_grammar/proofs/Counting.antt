@@ -141,3 +141,89 @@ record_moved id mark seen unseen = record {
       all;
   others = λ k other. (let same = placed_other id k seen.records mark other in rw same refl);
 }
+
+-- ---- the pass
+
+abbrev counts_of : Seen → List OpenCount → Counts
+counts_of seen around = record { rows = rows_seen seen; around = around }
+
+-- Counting these events, up to those that follow, sees new things.
+pub record Runs (events following : List Event) (seen new : Seen) (around left : List OpenCount) : Type 0 where
+  pub unseen : Unseen new
+  pub known : (k : ℕ) → Has k seen.entered → Has k new.entered
+  pub same : count_events events (counts_of seen around) ≡ count_events following (counts_of new left)
+
+runs_then : (a b c : List Event) (s t u : Seen) (x y z : List OpenCount) → Runs a b s t x y → Runs b c t u y z → Runs a c s u x z
+runs_then a b c s t u x y z first second = record { unseen = second.unseen; known = λ k has. second.known k (first.known k has); same = first.same ∙ second.same }
+
+has_end : (q k : ℕ) (xs : List ℕ) → Has q xs → Has q (xs ++ k ∷ [])
+has_end q k [] h = absurd h
+has_end q k (x ∷ xs) (inl same) = inl same
+has_end q k (x ∷ xs) (inr has) = inr (has_end q k xs has)
+
+has_last : (q : ℕ) (xs : List ℕ) → Has q (xs ++ q ∷ [])
+has_last q [] = inl refl
+has_last q (x ∷ xs) = inr (has_last q xs)
+
+-- one more thing in a block that began
+known_row : (change : BlockTally → BlockTally) (id : ℕ) (seen new : Seen) → new.entered ≡ seen.entered → Has id seen.entered → RowMoved change id seen new → (with_row change id (rows_seen seen) ≡ rows_seen new) × Unseen new
+known_row change id seen new entered has moved =
+    let rows = rows_changed (λ (x : BlockTally). x.id) fresh_row change id seen.entered (row_seen seen) (row_seen new) moved in
+    let keys = distinct_known id seen.entered has ∙ ap distinct (sym entered) in
+    (rows ∙ ap (map (row_seen new)) keys, λ k none. (let other = subst (λ (ks : List ℕ). Has k ks → ⊥) entered none in moved.others k (λ e. other (subst (λ (j : ℕ). Has j seen.entered) (sym e) has)) ∙ moved.unseen k other))
+
+run_record : (mark : RecordMark) (following : List Event) (seen : Seen) (b : OpenCount) (around : List OpenCount) → Has b.id seen.entered → Unseen seen → Runs (notes mark ∷ following) following seen (see_record b.id mark seen) (b ∷ around) (b ∷ around)
+run_record mark following seen b around has unseen =
+    let row = known_row (one_record mark) b.id seen (see_record b.id mark seen) refl has (record_moved b.id mark seen unseen) in
+    record { unseen = row.1; known = λ k h. h; same = ap (λ (rows : List BlockTally). count_events following (record { rows = rows; around = b ∷ around })) row.0 }
+
+run_definition : (mark : DefinitionMark) (following : List Event) (seen : Seen) (b : OpenCount) (around : List OpenCount) → Has b.id seen.entered → Unseen seen → Runs (defines mark ∷ following) following seen (see_definition b.id mark seen) (b ∷ around) (b ∷ around)
+run_definition mark following seen b around has unseen =
+    let row = known_row one_definition b.id seen (see_definition b.id mark seen) refl has (definition_moved b.id mark seen unseen) in
+    record { unseen = row.1; known = λ k h. h; same = ap (λ (rows : List BlockTally). count_events following (record { rows = rows; around = b ∷ around })) row.0 }
+
+run_end : (after bits : ℕ) (following : List Event) (seen : Seen) (b : OpenCount) (around : List OpenCount) → Has b.id seen.entered → Unseen seen → after - b.first - b.inside ≡ bits
+    → Runs (leaves after ∷ following) following seen (see_bits b.id bits seen) (b ∷ around) (more_inside (after - b.first) around)
+run_end after bits following seen b around has unseen is =
+    let row = known_row (more_bits bits) b.id seen (see_bits b.id bits seen) refl has (bits_moved b.id bits seen unseen) in
+    record { unseen = row.1; known = λ k h. h; same = ap (λ (rows : List BlockTally). count_events following (record { rows = rows; around = more_inside (after - b.first) around })) (ap (λ (n : ℕ). with_row (more_bits n) b.id (rows_seen seen)) is ∙ row.0) }
+
+run_block : (o : Opened) (following : List Event) (seen : Seen) (around : List OpenCount) → Unseen seen → Runs (enters o ∷ following) following seen (see_block o.id seen) around (record { id = o.id; first = o.first; inside = 0 } ∷ around)
+run_block o following seen around unseen =
+    let moved = block_moved o.id seen unseen in
+    let rows = rows_changed (λ (x : BlockTally). x.id) fresh_row one_block o.id seen.entered (row_seen seen) (row_seen (see_block o.id seen)) moved in
+    record {
+      unseen = λ k none. moved.others k (λ e. none (subst (λ (j : ℕ). Has j (seen.entered ++ o.id ∷ [])) (sym e) (has_last o.id seen.entered))) ∙ unseen k (λ has. none (has_end k o.id seen.entered has));
+      known = λ k has. has_end k o.id seen.entered has;
+      same = ap (λ (rows : List BlockTally). count_events following (record { rows = rows; around = record { id = o.id; first = o.first; inside = 0 } ∷ around })) rows;
+    }
+
+-- the own bits of blocks, in the order in which they end
+abbrev left_in : Marks → List (Placed ℕ)
+left_in no_marks = []
+left_in (marked_block mark inner rest) = left_in inner ++ record { block = mark.id; mark = block_bits mark - bits_in inner } ∷ left_in rest
+left_in (marked_record mark rest) = left_in rest
+left_in (marked_definition mark rest) = left_in rest
+
+-- what is seen in a block after its items
+abbrev see_marks : ℕ → Marks → Seen → Seen
+see_marks block marks seen = record {
+  entered = seen.entered ++ map (λ (b : FullBlock). b.mark.id) (blocks_in marks);
+  left = seen.left ++ left_in marks;
+  records = seen.records ++ records_in block marks;
+  definitions = seen.definitions ++ definitions_in block marks;
+}
+
+seen_is : (a b : Seen) → a.entered ≡ b.entered → a.left ≡ b.left → a.records ≡ b.records → a.definitions ≡ b.definitions → a ≡ b
+seen_is a b one two three four =
+    let same : ◌≡◌ {A = Seen} (record { entered = a.entered; left = a.left; records = a.records; definitions = a.definitions }) (record { entered = b.entered; left = b.left; records = b.records; definitions = b.definitions }) = rw (one, two, three, four) refl in
+    same
+
+see_none : (block : ℕ) (seen : Seen) → see_marks block no_marks seen ≡ seen
+see_none block seen = seen_is _ _ (append-nil seen.entered) (append-nil seen.left) (append-nil seen.records) (append-nil seen.definitions)
+
+see_note : (block : ℕ) (mark : RecordMark) (rest : Marks) (seen : Seen) → see_marks block rest (see_record block mark seen) ≡ see_marks block (marked_record mark rest) seen
+see_note block mark rest seen = seen_is _ _ refl refl (append_assoc seen.records (record { block = block; mark = mark } ∷ []) (records_in block rest)) refl
+
+see_define : (block : ℕ) (mark : DefinitionMark) (rest : Marks) (seen : Seen) → see_marks block rest (see_definition block mark seen) ≡ see_marks block (marked_definition mark rest) seen
+see_define block mark rest seen = seen_is _ _ refl refl refl (append_assoc seen.definitions (record { block = block; mark = mark } ∷ []) (definitions_in block rest))
