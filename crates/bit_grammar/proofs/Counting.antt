@@ -205,10 +205,13 @@ left_in (marked_block mark inner rest) = left_in inner ++ record { block = mark.
 left_in (marked_record mark rest) = left_in rest
 left_in (marked_definition mark rest) = left_in rest
 
+abbrev ids_in : Marks → List ℕ
+ids_in marks = map (λ (b : FullBlock). b.mark.id) (blocks_in marks)
+
 -- what is seen in a block after its items
 abbrev see_marks : ℕ → Marks → Seen → Seen
 see_marks block marks seen = record {
-  entered = seen.entered ++ map (λ (b : FullBlock). b.mark.id) (blocks_in marks);
+  entered = seen.entered ++ ids_in marks;
   left = seen.left ++ left_in marks;
   records = seen.records ++ records_in block marks;
   definitions = seen.definitions ++ definitions_in block marks;
@@ -227,3 +230,65 @@ see_note block mark rest seen = seen_is _ _ refl refl (append_assoc seen.records
 
 see_define : (block : ℕ) (mark : DefinitionMark) (rest : Marks) (seen : Seen) → see_marks block rest (see_definition block mark seen) ≡ see_marks block (marked_definition mark rest) seen
 see_define block mark rest seen = seen_is _ _ refl refl refl (append_assoc seen.definitions (record { block = block; mark = mark } ∷ []) (definitions_in block rest))
+
+see_whole : (id bits : ℕ) (ids others : List ℕ) (seen : Seen) (left more : List (Placed ℕ)) (records later : List (Placed RecordMark)) (definitions following : List (Placed DefinitionMark))
+    → ◌≡◌ {A = Seen} (record {
+      entered = ((seen.entered ++ id ∷ []) ++ ids) ++ others;
+      left = ((seen.left ++ left) ++ record { block = id; mark = bits } ∷ []) ++ more;
+      records = (seen.records ++ records) ++ later;
+      definitions = (seen.definitions ++ definitions) ++ following;
+    }) (record {
+      entered = seen.entered ++ id ∷ (ids ++ others);
+      left = seen.left ++ (left ++ record { block = id; mark = bits } ∷ more);
+      records = seen.records ++ (records ++ later);
+      definitions = seen.definitions ++ (definitions ++ following);
+    })
+see_whole id bits ids others seen left more records later definitions following = simp append_assoc
+
+-- the open block with so many bits in it, and with more
+abbrev with_inside : OpenCount → ℕ → OpenCount
+with_inside b bits = record { id = b.id; first = b.first; inside = bits }
+
+abbrev fuller : OpenCount → ℕ → OpenCount
+fuller b bits = with_inside b (b.inside + bits)
+
+runs_to : (events following : List Event) (seen new other : Seen) (around : List OpenCount) (b : OpenCount) (n k : ℕ) (left : List OpenCount) → new ≡ other → n ≡ k
+    → Runs events following seen new around (with_inside b n ∷ left) → Runs events following seen other around (with_inside b k ∷ left)
+runs_to events following seen new other around b n k left same bits h =
+    subst (λ (s : Seen). Runs events following seen s around (with_inside b k ∷ left)) same (subst (λ (m : ℕ). Runs events following seen new around (with_inside b m ∷ left)) bits h)
+
+runs_stay : (following : List Event) (seen : Seen) (b : OpenCount) (around : List OpenCount) → Unseen seen → Runs following following seen seen (b ∷ around) (fuller b 0 ∷ around)
+runs_stay following seen b around unseen = record {
+  unseen = unseen;
+  known = λ k h. h;
+  same = ap (λ (n : ℕ). count_events following (counts_of seen (record { id = b.id; first = b.first; inside = n } ∷ around))) (let none : b.inside ≡ b.inside + 0 = omega arith in none);
+}
+
+-- the items of the innermost block
+run_marks : (marks : Marks) (following : List Event) (seen : Seen) (b : OpenCount) (around : List OpenCount) → Has b.id seen.entered → Unseen seen
+    → Runs (flat marks following) following seen (see_marks b.id marks seen) (b ∷ around) (fuller b (bits_in marks) ∷ around)
+run_marks no_marks following seen b around has unseen = runs_to _ _ seen seen _ _ b (b.inside + 0) (b.inside + 0) around (sym (see_none b.id seen)) refl (runs_stay following seen b around unseen)
+run_marks (marked_record mark rest) following seen b around has unseen =
+    let first = run_record mark (flat rest following) seen b around has unseen in
+    let more = run_marks rest following (see_record b.id mark seen) b around has first.unseen in
+    runs_to _ _ seen _ _ _ b (b.inside + bits_in rest) (b.inside + bits_in rest) around (see_note b.id mark rest seen) refl (runs_then _ _ _ _ _ _ _ _ _ first more)
+run_marks (marked_definition mark rest) following seen b around has unseen =
+    let first = run_definition mark (flat rest following) seen b around has unseen in
+    let more = run_marks rest following (see_definition b.id mark seen) b around has first.unseen in
+    runs_to _ _ seen _ _ _ b (b.inside + bits_in rest) (b.inside + bits_in rest) around (see_define b.id mark rest seen) refl (runs_then _ _ _ _ _ _ _ _ _ first more)
+run_marks (marked_block mark inner rest) following seen b around has unseen =
+    let opened : Opened = record { id = mark.id; width = mark.width; first = mark.first; body = mark.body } in
+    let start : OpenCount = record { id = mark.id; first = mark.first; inside = 0 } in
+    let own = block_bits mark - bits_in inner in
+    let one = run_block opened (flat inner (leaves mark.after ∷ flat rest following)) seen (b ∷ around) unseen in
+    let two = run_marks inner (leaves mark.after ∷ flat rest following) (see_block mark.id seen) start (b ∷ around) (has_last mark.id seen.entered) one.unseen in
+    let within = see_marks mark.id inner (see_block mark.id seen) in
+    let three = run_end mark.after own (flat rest following) within (fuller start (bits_in inner)) (b ∷ around) (two.known mark.id (has_last mark.id seen.entered)) two.unseen (ap (λ (n : ℕ). mark.after - mark.first - n) (let none : 0 + bits_in inner ≡ bits_in inner = omega arith in none)) in
+    let four = run_marks rest following (see_bits mark.id own within) (fuller b (block_bits mark)) around (three.known b.id (two.known b.id (one.known b.id has))) three.unseen in
+    let whole = see_whole mark.id own (ids_in inner) (ids_in rest) seen (left_in inner) (left_in rest) (records_in mark.id inner) (records_in b.id rest) (definitions_in mark.id inner) (definitions_in b.id rest) in
+    let entered : ids_in inner ++ ids_in rest ≡ map (λ (x : FullBlock). x.mark.id) (blocks_in inner ++ blocks_in rest) = sym (map-append (λ (x : FullBlock). x.mark.id) (blocks_in inner) (blocks_in rest)) in
+    let same : see_marks b.id rest (see_bits mark.id own within) ≡ see_marks b.id (marked_block mark inner rest) seen =
+        whole ∙ ap (λ (ids : List ℕ). record { entered = seen.entered ++ mark.id ∷ ids; left = seen.left ++ left_in (marked_block mark inner rest); records = seen.records ++ records_in b.id (marked_block mark inner rest); definitions = seen.definitions ++ definitions_in b.id (marked_block mark inner rest) }) entered in
+    let bits : b.inside + block_bits mark + bits_in rest ≡ b.inside + (block_bits mark + bits_in rest) = omega arith in
+    runs_to _ _ seen _ _ _ b (b.inside + block_bits mark + bits_in rest) (b.inside + (block_bits mark + bits_in rest)) around same bits
+    (runs_then _ _ _ _ _ _ _ _ _ one (runs_then _ _ _ _ _ _ _ _ _ two (runs_then _ _ _ _ _ _ _ _ _ three four)))
