@@ -1,5 +1,5 @@
 -- One pass over the events of a tree makes the rows of its analysis.
-use Rattle.std.proofs.Common.{◌≡◌, ℕ, ◌+◌, ◌-◌, ◌⊎◌, Bool, true, false, cond, eqb, List, [], ◌∷◌, ◌++◌, length, map, refl, sym, ap, subst, ◌∙◌, append_assoc, arith, inl, inr}
+use Rattle.std.proofs.Common.{◌≡◌, ℕ, suc, ◌+◌, ◌-◌, ◌⊎◌, Bool, true, false, cond, eqb, List, [], ◌∷◌, ◌++◌, length, map, refl, sym, ap, subst, ◌∙◌, append_assoc, arith, inl, inr}
 use Rattle.std.specs.Prelude.{filter, sum_by, count_by, if◌then◌else◌}
 use Rattle.std.proofs.lemmas.Bool.{eq-eqb, ne_eqb}
 use Rattle.std.proofs.lemmas.List.{map-append, append-nil, length-append}
@@ -288,7 +288,89 @@ run_marks (marked_block mark inner rest) following seen b around has unseen =
     let whole = see_whole mark.id own (ids_in inner) (ids_in rest) seen (left_in inner) (left_in rest) (records_in mark.id inner) (records_in b.id rest) (definitions_in mark.id inner) (definitions_in b.id rest) in
     let entered : ids_in inner ++ ids_in rest ≡ map (λ (x : FullBlock). x.mark.id) (blocks_in inner ++ blocks_in rest) = sym (map-append (λ (x : FullBlock). x.mark.id) (blocks_in inner) (blocks_in rest)) in
     let same : see_marks b.id rest (see_bits mark.id own within) ≡ see_marks b.id (marked_block mark inner rest) seen =
-        whole ∙ ap (λ (ids : List ℕ). record { entered = seen.entered ++ mark.id ∷ ids; left = seen.left ++ left_in (marked_block mark inner rest); records = seen.records ++ records_in b.id (marked_block mark inner rest); definitions = seen.definitions ++ definitions_in b.id (marked_block mark inner rest) }) entered in
+    whole ∙ ap (λ (ids : List ℕ). record { entered = seen.entered ++ mark.id ∷ ids; left = seen.left ++ left_in (marked_block mark inner rest); records = seen.records ++ records_in b.id (marked_block mark inner rest); definitions = seen.definitions ++ definitions_in b.id (marked_block mark inner rest) }) entered in
     let bits : b.inside + block_bits mark + bits_in rest ≡ b.inside + (block_bits mark + bits_in rest) = omega arith in
     runs_to _ _ seen _ _ _ b (b.inside + block_bits mark + bits_in rest) (b.inside + (block_bits mark + bits_in rest)) around same bits
     (runs_then _ _ _ _ _ _ _ _ _ one (runs_then _ _ _ _ _ _ _ _ _ two (runs_then _ _ _ _ _ _ _ _ _ three four)))
+
+-- blocks at the top
+run_top : (marks : Marks) (following : List Event) (seen : Seen) → AreMarkedBlocks marks → Unseen seen → Runs (flat marks following) following seen (see_marks 0 marks seen) [] []
+run_top no_marks following seen only unseen =
+    subst (λ (s : Seen). Runs following following seen s [] []) (sym (see_none 0 seen)) (record { unseen = unseen; known = λ k h. h; same = refl })
+run_top (marked_record mark rest) following seen only unseen = absurd only
+run_top (marked_definition mark rest) following seen only unseen = absurd only
+run_top (marked_block mark inner rest) following seen only unseen =
+    let opened : Opened = record { id = mark.id; width = mark.width; first = mark.first; body = mark.body } in
+    let start : OpenCount = record { id = mark.id; first = mark.first; inside = 0 } in
+    let own = block_bits mark - bits_in inner in
+    let one = run_block opened (flat inner (leaves mark.after ∷ flat rest following)) seen [] unseen in
+    let two = run_marks inner (leaves mark.after ∷ flat rest following) (see_block mark.id seen) start [] (has_last mark.id seen.entered) one.unseen in
+    let within = see_marks mark.id inner (see_block mark.id seen) in
+    let three = run_end mark.after own (flat rest following) within (fuller start (bits_in inner)) [] (two.known mark.id (has_last mark.id seen.entered)) two.unseen (ap (λ (n : ℕ). mark.after - mark.first - n) (let none : 0 + bits_in inner ≡ bits_in inner = omega arith in none)) in
+    let four = run_top rest following (see_bits mark.id own within) only three.unseen in
+    let whole = see_whole mark.id own (ids_in inner) (ids_in rest) seen (left_in inner) (left_in rest) (records_in mark.id inner) (records_in 0 rest) (definitions_in mark.id inner) (definitions_in 0 rest) in
+    let entered : ids_in inner ++ ids_in rest ≡ map (λ (x : FullBlock). x.mark.id) (blocks_in inner ++ blocks_in rest) = sym (map-append (λ (x : FullBlock). x.mark.id) (blocks_in inner) (blocks_in rest)) in
+    let same : see_marks 0 rest (see_bits mark.id own within) ≡ see_marks 0 (marked_block mark inner rest) seen =
+    whole ∙ ap (λ (ids : List ℕ). record { entered = seen.entered ++ mark.id ∷ ids; left = seen.left ++ left_in (marked_block mark inner rest); records = seen.records ++ records_in 0 (marked_block mark inner rest); definitions = seen.definitions ++ definitions_in 0 (marked_block mark inner rest) }) entered in
+    subst (λ (s : Seen). Runs (flat (marked_block mark inner rest) following) following seen s [] []) same
+    (runs_then _ _ _ _ _ _ _ _ _ one (runs_then _ _ _ _ _ _ _ _ _ two (runs_then _ _ _ _ _ _ _ _ _ three four)))
+
+-- ---- what was seen, and the rows of the tree
+
+length_ids : (k : ℕ) (xs : List FullBlock) → length (filter (λ j. eqb j k) (map (λ (b : FullBlock). b.mark.id) xs)) ≡ length (with_id k xs)
+length_ids k [] = refl
+length_ids k (x ∷ xs) = go (eqb x.mark.id k) (length_ids k xs)
+  where
+    go : (b : Bool) → length (filter (λ j. eqb j k) (map (λ (b : FullBlock). b.mark.id) xs)) ≡ length (with_id k xs)
+        → length (cond b (x.mark.id ∷ filter (λ j. eqb j k) (map (λ (b : FullBlock). b.mark.id) xs)) (filter (λ j. eqb j k) (map (λ (b : FullBlock). b.mark.id) xs))) ≡ length (cond b (x ∷ with_id k xs) (with_id k xs))
+    go true e = ap suc e
+    go false e = e
+
+-- the bits of ended blocks with an id
+abbrev left_bits : ℕ → List (Placed ℕ) → ℕ
+left_bits k xs = sum_by (λ n. n) (placed_in k xs)
+
+left_append : (k : ℕ) (xs ys : List (Placed ℕ)) → left_bits k (xs ++ ys) ≡ left_bits k xs + left_bits k ys
+left_append k xs ys =
+    ap (λ (zs : List (Placed ℕ)). sum_by (λ n. n) (map (λ (x : Placed ℕ). x.mark) zs)) (filter-append (λ (x : Placed ℕ). eqb x.block k) xs ys)
+    ∙ ap (sum_by (λ n. n)) (map-append (λ (x : Placed ℕ). x.mark) (filter (λ x. eqb x.block k) xs) (filter (λ x. eqb x.block k) ys))
+    ∙ sum_by-append (λ n. n) (placed_in k xs) (placed_in k ys)
+
+left_cons : (k id bits : ℕ) (xs : List (Placed ℕ)) → left_bits k (record { block = id; mark = bits } ∷ xs) ≡ cond (eqb id k) bits 0 + left_bits k xs
+left_cons k id bits xs = go (eqb id k)
+  where
+    go : (b : Bool) → sum_by (λ n. n) (map (λ (x : Placed ℕ). x.mark) (cond b (record { block = id; mark = bits } ∷ filter (λ x. eqb x.block k) xs) (filter (λ x. eqb x.block k) xs))) ≡ cond b bits 0 + left_bits k xs
+    go true = sum_by-cons (λ n. n) bits (placed_in k xs)
+    go false = omega arith
+
+own_cons : (k : ℕ) (b : FullBlock) (xs : List FullBlock) → sum_by own_bits (with_id k (b ∷ xs)) ≡ cond (eqb b.mark.id k) (own_bits b) 0 + sum_by own_bits (with_id k xs)
+own_cons k b xs = go (eqb b.mark.id k)
+  where
+    go : (is : Bool) → sum_by own_bits (cond is (b ∷ with_id k xs) (with_id k xs)) ≡ cond is (own_bits b) 0 + sum_by own_bits (with_id k xs)
+    go true = sum_by-cons own_bits b (with_id k xs)
+    go false = omega arith
+
+left_is : (k : ℕ) (marks : Marks) → left_bits k (left_in marks) ≡ sum_by own_bits (with_id k (blocks_in marks))
+left_is k no_marks = refl
+left_is k (marked_record mark rest) = left_is k rest
+left_is k (marked_definition mark rest) = left_is k rest
+left_is k (marked_block mark inner rest) =
+    let b : FullBlock = record { mark = mark; inner = inner } in
+    let here = left_append k (left_in inner) (record { block = mark.id; mark = own_bits b } ∷ left_in rest) in
+    let next = left_cons k mark.id (own_bits b) (left_in rest) in
+    let there = own_cons k b (blocks_in inner ++ blocks_in rest) in
+    let both = ap (sum_by own_bits) (filter-append (λ (x : FullBlock). eqb x.mark.id k) (blocks_in inner) (blocks_in rest)) ∙ sum_by-append own_bits (with_id k (blocks_in inner)) (with_id k (blocks_in rest)) in
+    omega (arith, here, next, there, both, left_is k inner, left_is k rest)
+
+map_same : {Row : Type 0} (f g : ℕ → Row) → ((k : ℕ) → f k ≡ g k) → (ks : List ℕ) → map f ks ≡ map g ks
+map_same f g same [] = refl
+map_same f g same (k ∷ ks) = rw (same k, map_same f g same ks) refl
+
+row_is : (marks : Marks) (k : ℕ) → row_seen (see_marks 0 marks (record { entered = []; left = []; records = []; definitions = [] })) k ≡ row_of marks k
+row_is marks k = rw (length_ids k (blocks_in marks), left_is k marks) refl
+
+-- the pass makes the rows of the tree
+pub rows_counted : (marks : Marks) → AreMarkedBlocks marks → (count_events (flat marks []) no_counts).rows ≡ rows_of marks
+rows_counted marks only =
+    let nothing : Seen = record { entered = []; left = []; records = []; definitions = [] } in
+    ap (λ (c : Counts). c.rows) (run_top marks [] nothing only (λ k none. refl)).same ∙ map_same (row_seen (see_marks 0 marks nothing)) (row_of marks) (row_is marks) (distinct (ids_in marks))

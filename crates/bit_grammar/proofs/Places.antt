@@ -6,6 +6,7 @@ use Rattle.std.proofs.lemmas.List.{length-append}
 use Rattle.std.proofs.lemmas.List.Sums.{sum_by-cons, sum_by-append}
 use Rattle.bit_grammar.specs.Grammar.{Round, one_more, last, Rounds, Spells}
 use Rattle.bit_grammar.specs.Marks.{Marks, no_marks, marked_block, marked_record, marked_definition, Item, block_item, record_item, definition_item, item_then, marks_of}
+use Rattle.bit_grammar.specs.FormatInput.{AreMarkedBlocks}
 use Rattle.bit_grammar.specs.Blocks.{Limits, Handed, Scope, BlockHead, enter, end_of_block, nested, item_after, item, block, top_block}
 use Rattle.bit_grammar.specs.Whole.{Things}
 use Rattle.bit_grammar.specs.Tally.{blocks_in, block_bits, bits_in, own_bits}
@@ -44,6 +45,11 @@ within_then (block_item mark inner) rest one others = (one.0, one.1, others)
 within_then (record_item mark) rest one others = others
 within_then (definition_item mark) rest one others = others
 
+only_then : (x : Item) (rest : Marks) → AreMarkedBlocks (alone x) → AreMarkedBlocks rest → AreMarkedBlocks (item_then x rest)
+only_then (block_item mark inner) rest one others = others
+only_then (record_item mark) rest one others = absurd one
+only_then (definition_item mark) rest one others = absurd one
+
 -- ---- what is spelled from bit first up to bit after
 
 -- an item whose blocks have no more bits
@@ -58,6 +64,7 @@ RoundPlaced first after (last e) = e.0 ≡ after
 
 -- a block, which has as many bits
 pub record BlockPlaced (first after : ℕ) (x : Item) : Type 0 where
+  pub only : AreMarkedBlocks (alone x)
   pub all : first + bits_in (alone x) ≡ after
   pub within : AreWithin (alone x)
 
@@ -138,6 +145,7 @@ block_placed limit (suc depth) first handed p s v le k =
     let len : p + length k.0 + length m.0 ≡ p + length s = omega (arith, ap length k.3, length-append k.0 k.1, ap length m.3, length-append m.0 m.1, ap length m.5.0) in
     let made : v.0 ≡ _ = ap (λ (y : Item × Handed). y.0) m.5.1 in
     subst (BlockPlaced first (p + length s)) (sym made) (record {
+      only = tt;
       all = omega (arith, le, g.there, len);
       within = (omega (arith, le, g.there, g.few), g.within, tt);
     })
@@ -155,17 +163,19 @@ top_placed limits handed p s v k =
 
 -- blocks from bit p up to the end
 pub record AllPlaced (p after : ℕ) (xs : List Item) (end : ℕ) : Type 0 where
+  pub only : AreMarkedBlocks (marks_of xs)
   pub there : end ≡ after
   pub all : p + bits_in (marks_of xs) ≡ after
   pub within : AreWithin (marks_of xs)
 
 pub blocks_placed : (limits : Limits) (xs : List Item) (handed : Handed) (p : ℕ) (r : List Bool) (after : ℕ) → Things (λ handed p s x. Spells (top_block limits handed) p s x) xs handed p r after → AllPlaced p (p + length r) xs after
-blocks_placed limits [] handed p r after k = record { there = omega (arith, k.1, ap length k.0); all = omega (arith, ap length k.0); within = tt }
+blocks_placed limits [] handed p r after k = record { only = tt; there = omega (arith, k.1, ap length k.0); all = omega (arith, ap length k.0); within = tt }
 blocks_placed limits (x ∷ xs) handed p r after k =
     let f = top_placed limits handed p k.0 (x, k.2) k.5 in
     let g = blocks_placed limits xs k.2 (p + length k.0) k.1 after k.6 in
     let len : length r ≡ length k.0 + length k.1 = ap length k.3 ∙ length-append k.0 k.1 in
     record {
+      only = only_then x (marks_of xs) f.only g.only;
       there = omega (arith, g.there, len);
       all = omega (arith, f.all, g.all, len, bits_then x (marks_of xs));
       within = within_then x (marks_of xs) f.within g.within;

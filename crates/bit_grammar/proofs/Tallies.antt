@@ -1,19 +1,24 @@
 -- The bits of all rows and the 32 of the magic are the bits of the stream.
-use Rattle.std.proofs.Common.{◌≡◌, ℕ, ◌+◌, ◌*◌, ◌%◌, ◌≤◌, Bool, leb, eqb, List, length, map, Some, None, sym, ap, subst, ◌∙◌, arith, inl, inr}
+use Rattle.std.proofs.Common.{◌≡◌, ℕ, ◌+◌, ◌*◌, ◌%◌, ◌≤◌, Bool, leb, eqb, List, [], length, map, Some, None, sym, ap, subst, ◌∙◌, arith, inl, inr}
 use Rattle.std.proofs.lemmas.Bool.{leb-true, and_parts}
 use Rattle.std.proofs.lemmas.List.{length-append}
 use Rattle.bit_grammar.specs.Bits.{bits_of_bytes}
 use Rattle.bit_grammar.specs.Grammar.{Spells}
+use Rattle.bit_grammar.specs.FormatInput.{AreMarkedBlocks}
 use Rattle.bit_grammar.specs.Blocks.{Limits, nothing_handed}
 use Rattle.bit_grammar.specs.Whole.{SpellsAll}
 use Rattle.bit_grammar.specs.Input.{Wrapper, Head, Marked, version, offset, wrapper, any_bits, wrapper_and_gap, inner_magic, top_blocks, stream, wrapped, input, SpellsInput}
 use Rattle.bit_grammar.specs.Tally.{BlockTally, FullBlock, blocks_in, bits_in, own_bits, distinct, row_of, stream_begin, stream_bits, tally_of, bits_of_rows}
+use Rattle.bit_grammar.specs.Machine.{flat}
+use Rattle.bit_grammar.specs.Counting.{no_counts, count_events}
 use Rattle.bit_grammar.proofs.Fields.{fixed_is}
 use Rattle.bit_grammar.proofs.Sums.{sum_by_map, by_keys}
+use Rattle.bit_grammar.proofs.Counting.{rows_counted}
 use Rattle.bit_grammar.proofs.Places.{AreWithin, own_sum, blocks_placed}
 
 -- a stream whose blocks begin at bit p and go to its end
 pub record Counted (p : ℕ) (m : Marked) : Type 0 where
+  pub only : AreMarkedBlocks m.blocks
   pub all : p + bits_in m.blocks ≡ m.after
   pub within : AreWithin m.blocks
 
@@ -21,7 +26,7 @@ stream_counted : (limits : Limits) (head : Head) (p : ℕ) (r : List Bool) (m : 
 unfolding stream top_blocks
 stream_counted limits head p r m k =
     let f = blocks_placed limits k.0.0 nothing_handed p r k.0.1 k.1 in
-    (subst (Counted p) (sym k.2) (record { all = omega (arith, f.all, f.there); within = f.within }), ap (λ (x : Marked). x.head) k.2)
+    (subst (Counted p) (sym k.2) (record { only = f.only; all = omega (arith, f.all, f.there); within = f.within }), ap (λ (x : Marked). x.head) k.2)
 
 version_length : (p : ℕ) (s : List Bool) → Spells version p s tt → length s ≡ 32
 unfolding version
@@ -79,7 +84,7 @@ abbrev pub IsCounted : Marked → Type 0
 IsCounted m = Counted (stream_begin m.head.wrapper + 32) m
 
 begin_of : (m : Marked) (head : Head) (p : ℕ) → m.head ≡ head → stream_begin head.wrapper + 32 ≡ p → Counted p m → IsCounted m
-begin_of m head p same place c = record { all = omega (arith, ap (λ (h : Head). stream_begin h.wrapper) same, place, c.all); within = c.within }
+begin_of m head p same place c = record { only = c.only; all = omega (arith, ap (λ (h : Head). stream_begin h.wrapper) same, place, c.all); within = c.within }
 
 wrapped_counted : (limits : Limits) (r : List Bool) (m : Marked) → SpellsAll (wrapped limits) 32 r m → IsCounted m
 unfolding wrapped
@@ -110,3 +115,7 @@ pub bits_add_up : (limits : Limits) (bytes : List ℕ) (m : Marked) → SpellsIn
 bits_add_up limits bytes m h =
     let c = input_counted limits (bits_of_bytes bytes) m h.spelled in
     omega (arith, rows_sum m c.within, c.all)
+
+-- one pass over the events of an input makes the rows
+pub rows_by_events : (limits : Limits) (bytes : List ℕ) (m : Marked) → SpellsInput limits bytes m → (count_events (flat m.blocks []) no_counts).rows ≡ (tally_of m).rows
+rows_by_events limits bytes m h = rows_counted m.blocks (input_counted limits (bits_of_bytes bytes) m h.spelled).only
