@@ -1,6 +1,6 @@
 -- One pass over the events of a tree makes the rows of its analysis.
-use Rattle.std.proofs.Common.{◌≡◌, ℕ, suc, ◌+◌, ◌-◌, ◌⊎◌, Bool, true, false, cond, eqb, List, [], ◌∷◌, ◌++◌, length, map, refl, sym, ap, subst, ◌∙◌, append_assoc, arith, inl, inr}
-use Rattle.std.specs.Prelude.{filter, sum_by, count_by, if◌then◌else◌}
+use Rattle.std.proofs.Common.{◌≡◌, ℕ, suc, ◌+◌, ◌-◌, Bool, true, false, cond, eqb, List, [], ◌∷◌, ◌++◌, length, map, refl, sym, ap, subst, ◌∙◌, append_assoc, arith, inl, inr}
+use Rattle.std.specs.Prelude.{filter, sum_by, count_by}
 use Rattle.std.proofs.lemmas.Bool.{eq-eqb, ne_eqb}
 use Rattle.std.proofs.lemmas.List.{map-append, append-nil, length-append}
 use Rattle.std.proofs.lemmas.List.Elements.{filter-append}
@@ -9,7 +9,7 @@ use Rattle.bit_grammar.specs.Marks.{RecordMark, DefinitionMark, Marks, no_marks,
 use Rattle.bit_grammar.specs.FormatInput.{AreMarkedBlocks}
 use Rattle.bit_grammar.specs.Machine.{Opened, Event, enters, defines, notes, leaves, flat}
 use Rattle.bit_grammar.specs.Tally.{FullBlock, Placed, blocks_in, records_in, definitions_in, placed_in, block_bits, record_bits, bits_in, own_bits, distinct, CodeTally, BlockTally, with_code, code_row, code_rows, is_abbreviated, with_id, row_of, rows_of}
-use Rattle.bit_grammar.specs.Counting.{changed, fresh_code, fresh_row, one_use, one_block, more_bits, one_definition, one_record, OpenCount, Counts, no_counts, with_row, more_inside, count_event, count_events}
+use Rattle.bit_grammar.specs.Counting.{changed, fresh_code, fresh_row, one_use, one_block, more_bits, one_definition, one_record, OpenCount, Counts, no_counts, with_row, more_inside, count_events}
 use Rattle.bit_grammar.proofs.Sums.{Has}
 use Rattle.bit_grammar.proofs.Keyed.{Moved, rows_changed, distinct_known}
 

@@ -1,12 +1,11 @@
 -- Rows by keys, each key once in the order of its first place, when one more thing comes.
-use Rattle.std.proofs.Common.{◌≡◌, ℕ, ◌⊎◌, Bool, true, false, not, eqb, List, [], ◌∷◌, ◌++◌, map, refl, sym, ap, subst, ◌∙◌, inl, inr}
-use Rattle.std.specs.Prelude.{filter, if◌then◌else◌}
+use Rattle.std.proofs.Common.{◌≡◌, ℕ, ◌⊎◌, not, eqb, List, [], ◌∷◌, ◌++◌, map, refl, sym, ap, subst, ◌∙◌, inl, inr}
 use Rattle.std.proofs.lemmas.Bool.{eq-eqb, ne_eqb}
 use Rattle.std.proofs.lemmas.List.{map-append, append-nil}
 use Rattle.std.proofs.lemmas.List.Elements.{filter-append}
 use Rattle.bit_grammar.specs.Tally.{distinct}
 use Rattle.bit_grammar.specs.Counting.{changed}
-use Rattle.bit_grammar.proofs.Sums.{Compared, are_same, are_other, compare, without, keep_other, drop_same, Has}
+use Rattle.bit_grammar.proofs.Sums.{are_same, are_other, compare, without, keep_other, drop_same, Has}
 
 -- ---- numbers each once
 

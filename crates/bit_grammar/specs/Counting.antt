@@ -1,7 +1,7 @@
 -- The analysis in one pass over the events.
 use Rattle.std.specs.Prelude.{ℕ, ◌+◌, ◌-◌, List, [], ◌∷◌, length, ◌==◌, if◌then◌else◌}
 use Rattle.bit_grammar.specs.Marks.{RecordMark}
-use Rattle.bit_grammar.specs.Machine.{Opened, Event, enters, defines, notes, leaves}
+use Rattle.bit_grammar.specs.Machine.{Event, enters, defines, notes, leaves}
 use Rattle.bit_grammar.specs.Tally.{CodeTally, BlockTally, record_bits, is_abbreviated}
 
 -- rows where the one with a key is changed; where there is none, a fresh one at their end
