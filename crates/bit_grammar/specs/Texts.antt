@@ -2,6 +2,8 @@
 use Rattle.std.specs.Prelude.{ℕ, suc, ◌*◌, ◌/◌, ◌%◌, false, List, [], ◌∷◌, ◌++◌, replicate, flat_map, codes, decimal}
 use Rattle.std.specs.Fmt.{digit_glyph}
 use Rattle.bit_grammar.specs.Forest.{Forest, empty, a_block, a_record, Tree}
+use Rattle.bit_grammar.specs.Machine.{Event, enters, defines, notes, leaves}
+use Rattle.bit_grammar.specs.Steps.{open_after}
 use Rattle.bit_grammar.specs.Tally.{CodeTally, BlockTally, Tally}
 
 -- a line, with two spaces before it for each block around it
@@ -36,12 +38,31 @@ report_of tally = line 0 (magic_text tally.magic ++ codes " bits " ++ decimal ta
 
 -- ---- the listing
 
+abbrev pub block_line : (around id : ℕ) → List ℕ
+block_line around id = line around (codes "block " ++ decimal id)
+
+abbrev pub record_line : (around code : ℕ) → List ℕ → List ℕ
+record_line around code values = line around (codes "record " ++ decimal code ++ flat_map (λ v. 32 ∷ decimal v) values)
+
 -- the items in order, with so many blocks around them
 abbrev pub lines_of : (around : ℕ) → Forest → List ℕ
 lines_of around empty = []
-lines_of around (a_block id inner rest) = line around (codes "block " ++ decimal id) ++ (lines_of (suc around) inner ++ lines_of around rest)
-lines_of around (a_record code values rest) = line around (codes "record " ++ decimal code ++ flat_map (λ v. 32 ∷ decimal v) values) ++ lines_of around rest
+lines_of around (a_block id inner rest) = block_line around id ++ (lines_of (suc around) inner ++ lines_of around rest)
+lines_of around (a_record code values rest) = record_line around code values ++ lines_of around rest
 
 -- a line for the magic, and one for each block and record
 abbrev pub listing_of : Tree → List ℕ
 listing_of tree = line 0 (magic_text tree.magic) ++ lines_of 0 tree.blocks
+
+-- ---- the listing, event by event
+
+-- the line of an event, with so many blocks around it; definitions and ends have none
+abbrev pub event_text : (around : ℕ) → Event → List ℕ
+event_text around (enters o) = block_line around o.id
+event_text around (defines mark) = []
+event_text around (notes mark) = record_line around mark.code mark.values
+event_text around (leaves after) = []
+
+abbrev pub events_text : (around : ℕ) → List Event → List ℕ
+events_text around [] = []
+events_text around (event ∷ events) = event_text around event ++ events_text (open_after event around) events
