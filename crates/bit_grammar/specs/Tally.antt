@@ -42,10 +42,11 @@ placed_in id items = map (λ x. x.mark) (filter (λ x. x.block == id) items)
 
 -- ---- bits
 
--- the bits of a block, and of a record
+-- the bits of a block
 abbrev pub block_bits : BlockMark → ℕ
 block_bits mark = mark.after - mark.first
 
+-- the bits of a record
 abbrev pub record_bits : RecordMark → ℕ
 record_bits mark = mark.after - mark.first
 
@@ -92,16 +93,19 @@ pub record Tally : Type 0 where
   pub bits : ℕ
   pub rows : List BlockTally
 
+-- the records with a code
 abbrev pub with_code : ℕ → List RecordMark → List RecordMark
 with_code code records = filter (λ r. r.code == code) records
 
+-- the row of a code among records
 abbrev pub code_row : List RecordMark → ℕ → CodeTally
 code_row records code = record { code = code; count = length (with_code code records); bits = sum_by record_bits (with_code code records) }
 
+-- a row for each code that they use
 abbrev pub code_rows : List RecordMark → List CodeTally
 code_rows records = map (code_row records) (distinct (map (λ r. r.code) records))
 
--- by an id from 4 on
+-- whether a record goes by a definition: its id is 4 or more
 abbrev pub is_abbreviated : RecordMark → Bool
 is_abbreviated mark = nat_le 4 mark.abbreviation
 
@@ -118,13 +122,15 @@ row_by id blocks records definitions = record {
   codes = code_rows records;
 }
 
+-- the blocks with an id
 abbrev pub with_id : ℕ → List FullBlock → List FullBlock
 with_id id blocks = filter (λ b. b.mark.id == id) blocks
 
--- At the top stand blocks only, so the id 0 is that of no record or definition there.
+-- The row of an id. At the top stand blocks only, so the 0 is the id of no record or definition there.
 abbrev pub row_of : Marks → ℕ → BlockTally
 row_of marks id = row_by id (with_id id (blocks_in marks)) (placed_in id (records_in 0 marks)) (placed_in id (definitions_in 0 marks))
 
+-- a row for each id of a block
 abbrev pub rows_of : Marks → List BlockTally
 rows_of marks = map (row_of marks) (distinct (map (λ b. b.mark.id) (blocks_in marks)))
 
@@ -135,9 +141,11 @@ abbrev pub stream_begin : Option Wrapper → ℕ
 stream_begin None = 0
 stream_begin (Some w) = 8 * w.offset
 
+-- the bits of the stream, from its magic to its end
 abbrev pub stream_bits : Marked → ℕ
 stream_bits m = m.after - stream_begin m.head.wrapper
 
+-- the analysis of what an input spells
 abbrev pub tally_of : Marked → Tally
 tally_of m = record { magic = m.head.magic; bits = stream_bits m; rows = rows_of m.blocks }
 

@@ -18,14 +18,17 @@ hex_text byte = digit_glyph false (byte / 16) ∷ digit_glyph false (byte % 16) 
 abbrev pub magic_bytes : ℕ → List ℕ
 magic_bytes magic = magic % 0x100 ∷ magic / 0x100 % 0x100 ∷ magic / 0x10000 % 0x100 ∷ magic / 0x1000000 % 0x100 ∷ []
 
+-- the word, and the magic byte by byte
 abbrev pub magic_text : ℕ → List ℕ
 magic_text magic = codes "magic " ++ flat_map hex_text (magic_bytes magic)
 
 -- ---- the report
 
+-- the line of a code
 abbrev pub code_text : CodeTally → List ℕ
 code_text row = line 1 (codes "record " ++ decimal row.code ++ codes " count " ++ decimal row.count ++ codes " bits " ++ decimal row.bits)
 
+-- the line of a block id, and those of its codes
 abbrev pub row_text : BlockTally → List ℕ
 row_text row =
     line 0 (codes "block " ++ decimal row.id ++ codes " count " ++ decimal row.blocks ++ codes " bits " ++ decimal row.bits ++ codes " definitions " ++ decimal row.definitions
@@ -38,9 +41,11 @@ report_of tally = line 0 (magic_text tally.magic ++ codes " bits " ++ decimal ta
 
 -- ---- the listing
 
+-- the line of a block
 abbrev pub block_line : (around id : ℕ) → List ℕ
 block_line around id = line around (codes "block " ++ decimal id)
 
+-- the line of a record: its code and each value
 abbrev pub record_line : (around code : ℕ) → List ℕ → List ℕ
 record_line around code values = line around (codes "record " ++ decimal code ++ flat_map (λ v. 32 ∷ decimal v) values)
 
@@ -63,6 +68,7 @@ event_text around (defines mark) = []
 event_text around (notes mark) = record_line around mark.code mark.values
 event_text around (leaves after) = []
 
+-- the lines of events in order, with so many blocks around the first
 abbrev pub events_text : (around : ℕ) → List Event → List ℕ
 events_text around [] = []
 events_text around (event ∷ events) = event_text around event ++ events_text (open_after event around) events
