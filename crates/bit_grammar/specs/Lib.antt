@@ -19,3 +19,8 @@ pub mod Machine
 pub mod Normal
 pub mod Size
 pub mod Outlook
+pub mod Steps
+pub mod Tally
+pub mod Texts
+pub mod Happening
+pub mod Counting
