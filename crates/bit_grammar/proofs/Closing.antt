@@ -1,7 +1,7 @@
 -- What it is that a wrapper ends within the limit on bytes.
-use Rattle.std.proofs.Common.{◌≡◌, ℕ, ◌+◌, ◌≤◌, ◌↔◌, Bool, true, false, List, ◌++◌, Option, Some, None, Result, Ok, Err, refl, sym, ap, ◌∙◌, inl, inr}
+use Rattle.std.proofs.Common.{◌≡◌, ℕ, ◌+◌, ◌≤◌, ◌↔◌, Bool, true, List, Option, Some, None, Ok, Err, refl, sym, ap, ◌∙◌, inl, inr}
 use Rattle.std.proofs.lemmas.Bool.{leb-true, le-leb}
-use Rattle.bit_grammar.specs.Grammar.{Fault, Spells, reading}
+use Rattle.bit_grammar.specs.Grammar.{Fault, reading}
 use Rattle.bit_grammar.specs.Blocks.{Limits}
 use Rattle.bit_grammar.specs.Input.{Wrapper, outer_wrapper, ends_by, front_of, is_closed, EndsWithin}
 use Rattle.bit_grammar.proofs.Deciding.{reads, breaks, decides}

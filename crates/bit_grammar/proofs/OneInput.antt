@@ -3,7 +3,7 @@ use Rattle.std.proofs.Common.{◌≡◌, ℕ, ◌+◌, List, length, arith}
 use Rattle.bit_grammar.specs.Bits.{bits_of_bytes}
 use Rattle.bit_grammar.specs.Marks.{depth_in, values_in}
 use Rattle.bit_grammar.specs.Blocks.{Limits}
-use Rattle.bit_grammar.specs.Input.{Marked, SpellsInput}
+use Rattle.bit_grammar.specs.Input.{Marked}
 use Rattle.bit_grammar.specs.FormatInput.{IsInput}
 use Rattle.bit_grammar.proofs.Inputs.{one_tree}
 use Rattle.bit_grammar.proofs.InputWords.{input_agrees}
