@@ -1,4 +1,5 @@
 -- The analysis in one pass over the events.
+-- This project's own.
 use Rattle.std.specs.Prelude.{ℕ, ◌+◌, ◌-◌, List, [], ◌∷◌, length, ◌==◌, if◌then◌else◌}
 use Rattle.bit_grammar.specs.Marks.{RecordMark}
 use Rattle.bit_grammar.specs.Machine.{Event, enters, defines, notes, leaves}

@@ -1,4 +1,5 @@
 -- Trees under a setting: as they are, or without their BLOCKINFO blocks.
+-- This project's own.
 use Rattle.std.specs.Prelude.{◌≢◌, ◌==◌, if◌then◌else◌}
 use Rattle.bit_grammar.specs.declared.info.Info.{Info}
 use Rattle.bit_grammar.specs.declared.info.Info.TheVariants.{Keep, Drop}

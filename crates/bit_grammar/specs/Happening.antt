@@ -1,4 +1,5 @@
 -- The events of a whole input, also of one that breaks.
+-- This project's own.
 use Rattle.std.specs.Prelude.{◌≡◌, ℕ, ◌+◌, ◌*◌, Bool, false, List, ◌++◌, length, take, Some, None}
 use Rattle.bit_grammar.specs.Grammar.{Spells}
 use Rattle.bit_grammar.specs.Fields.{fixed}

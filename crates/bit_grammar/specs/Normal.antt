@@ -1,4 +1,5 @@
 -- The normal form of a tree: one spelling of it, without definitions and wrapper, each number in its shortest form.
+-- This project's own.
 use Rattle.std.specs.Prelude.{◌≡◌, ℕ, ◌+◌, ◌/◌, ◌≤◌, Bool, false, List, [], ◌∷◌, ◌++◌, length, replicate}
 use Rattle.bit_grammar.specs.Bits.{bits_of}
 use Rattle.bit_grammar.specs.Fields.{padding_length}

@@ -1,4 +1,5 @@
 -- The size of a normal form, as sums over the tree.
+-- This project's own.
 use Rattle.std.specs.Prelude.{ℕ, zero, suc, ◌+◌, ◌-◌, ◌*◌, ◌/◌, ◌^◌, List, [], ◌∷◌, length, nat_lt, if◌then◌else◌}
 use Rattle.bit_grammar.specs.Fields.{chunk_limit, padding_length}
 use Rattle.bit_grammar.specs.Forest.{Forest, empty, a_block, a_record, Tree}

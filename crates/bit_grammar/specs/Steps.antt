@@ -1,4 +1,5 @@
 -- What is to come of a stream, step by step; and what its events are: well nested, with the values of their records.
+-- This project's own.
 use Rattle.std.specs.Prelude.{◌≡◌, ℕ, suc, ◌+◌, ◌-◌, ◌<◌, ◌≤◌, Bool, List, [], ◌∷◌, ◌++◌, length}
 use Rattle.bit_grammar.specs.Grammar.{Spells, Stops}
 use Rattle.bit_grammar.specs.Blocks.{Limits}

@@ -1,4 +1,5 @@
 -- The analysis of a stream: what its blocks and records add up to, for each block id.
+-- This project's own.
 use Rattle.std.specs.Prelude.{ℕ, ◌+◌, ◌-◌, ◌*◌, Bool, not, List, [], ◌∷◌, ◌++◌, length, map, filter, sum_by, count_by, Option, Some, None, nat_le, ◌==◌}
 use Rattle.bit_grammar.specs.Marks.{BlockMark, RecordMark, DefinitionMark, Marks, no_marks, marked_block, marked_record, marked_definition}
 use Rattle.bit_grammar.specs.Input.{Wrapper, Marked}

@@ -1,4 +1,5 @@
 -- The report of an analysis and the listing of a tree, as ASCII codes.
+-- This project's own.
 use Rattle.std.specs.Prelude.{ℕ, suc, ◌*◌, ◌/◌, ◌%◌, false, List, [], ◌∷◌, ◌++◌, replicate, flat_map, codes, decimal}
 use Rattle.std.specs.Fmt.{digit_glyph}
 use Rattle.bit_grammar.specs.Forest.{Forest, empty, a_block, a_record, Tree}
