@@ -1,0 +1,5 @@
+pub mod Breaks
+pub mod Table
+pub mod Adding
+pub mod Operands
+pub mod Records

@@ -1,0 +1,188 @@
+-- Reading the values of a record, operand by operand.
+use Rattle.std.proofs.Common.{◌≡◌, ℕ, zero, suc, ◌+◌, ◌-◌, ◌<◌, ◌≤◌, Bool, true, false, List, [], ◌∷◌, ◌++◌, length, take, drop, Result, Ok, Err, refl, sym, ap, ◌∙◌, subst, arith, add-one}
+use Rattle.std.specs.List.{AllByRecursion}
+use Rattle.std.proofs.lemmas.Bool.{le-leb, lt-leb}
+use Rattle.std.proofs.lemmas.List.{append-nil, take_at, take_all}
+use Rattle.std.proofs.Math.Seq.{drop-cons}
+use Rattle.bit_grammar.specs.declared.op.Op.{Op}
+use Rattle.bit_grammar.specs.declared.op.Op.TheVariants.{Literal, Fixed, Vbr, Array, Char6, Blob}
+use Rattle.bit_grammar.specs.declared.reason.Reason.TheVariants.{TooManyValues}
+use Rattle.bit_grammar.specs.Grammar.{Grammar, at, gives, test, ◌>>=◌, ◌>>◌, repeat}
+use Rattle.bit_grammar.specs.Fields.{fixed, align32, byte}
+use Rattle.bit_grammar.specs.Record.{Entry, value_count, scalar, singles, values_of, abbreviated}
+use Rattle.bit_grammar.specs.FormatDefinition.{op_at, IsElement, HasLawfulValue, Lawful}
+use Rattle.bit_fields.specs.declared.fault.Fault.{Fault}
+use Rattle.bit_fields.specs.declared.fault.Fault.TheVariants.{Refused, Memory, Failed}
+use Rattle.bit_fields.specs.Reader.{Reader, Took, Why, Takes, IsOnly, stopped}
+use Rattle.bit_fields.proofs.Composing.{fault_then, took_then, fails_here, holds_then, only}
+use Rattle.bit_abbrev.specs.Values.{Adds, AddsRecord, Recorded}
+use Rattle.bit_abbrev.proofs.Adding.{and_gives, part_then, part_fails, values_fail, padding_then, value_then, value_fails, no_room, adds_none, Completes}
+
+-- ---- a blob
+
+-- the bytes of a blob, and the padding behind them
+abbrev blob_bytes : ℕ → Grammar (List ℕ)
+blob_bytes count = repeat count (fixed 8) >>= λ vs. align32 >> gives vs
+
+abbrev after_count : ℕ → Grammar (List ℕ)
+after_count count = align32 >>= λ padded. blob_bytes count
+
+pub blob_counted : (room : ℕ) (others : List Op) (a : Reader) (fault : Fault) (now : List ℕ) (c : Reader) → Why (value_count room) a fault c → Adds (values_of room (Blob ∷ others)) a (Err fault) now now c
+unfolding values_of byte
+blob_counted room others a fault now c why = part_fails (value_count room) after_count a fault now c why
+
+pub blob_padded : (room : ℕ) (others : List Op) (a : Reader) (count : ℕ) (b : Reader) (fault : Fault) (now : List ℕ) (c : Reader) → Took (value_count room) a count b → Why align32 b fault c → Adds (values_of room (Blob ∷ others)) a (Err fault) now now c
+unfolding values_of byte
+blob_padded room others a count b fault now c t why = part_then (value_count room) after_count a count b (Err fault) now now c t (part_fails align32 (λ padded. blob_bytes count) b fault now c why)
+
+pub blob_fails : (room : ℕ) (others : List Op) (a : Reader) (count : ℕ) (b d : Reader) (fault : Fault) (now new : List ℕ) (c : Reader) → Took (value_count room) a count b → Took align32 b tt d → Adds (repeat count (fixed 8)) d (Err fault) now new c → Adds (values_of room (Blob ∷ others)) a (Err fault) now new c
+unfolding values_of byte
+blob_fails room others a count b d fault now new c t u h =
+    part_then (value_count room) after_count a count b (Err fault) now new c t (part_then align32 (λ padded. blob_bytes count) b tt d (Err fault) now new c u (values_fail (repeat count (fixed 8)) (λ vs. align32 >> gives vs) d fault now new c h))
+
+pub blob_read : (room : ℕ) (others : List Op) (a : Reader) (count : ℕ) (b d e : Reader) (result : Result (Unit {0}) Fault) (now new : List ℕ) (c : Reader) → Took (value_count room) a count b → Took align32 b tt d → Adds (repeat count (fixed 8)) d (Ok tt) now new e → Takes align32 e result c → Adds (values_of room (Blob ∷ others)) a result now new c
+unfolding values_of byte
+blob_read room others a count b d e result now new c t u h k =
+    part_then (value_count room) after_count a count b result now new c t (part_then align32 (λ padded. blob_bytes count) b tt d result now new c u (padding_then (repeat count (fixed 8)) d e result now new c h k))
+
+-- ---- operands
+
+single_then : (room : ℕ) (op : Op) (others : List Op) (a : Reader) (value : ℕ) (b : Reader) (result : Result (Unit {0}) Fault) (now new : List ℕ) (c : Reader) → (op ≡ Array → ⊥) → (op ≡ Blob → ⊥) → Took (scalar op) a value b → Adds (values_of room others) b result (now ++ value ∷ []) new c → Adds (values_of room (op ∷ others)) a result now new c
+unfolding values_of
+single_then room (Literal v) others a value b result now new c m n t h = value_then (scalar (Literal v)) (values_of room others) a value b result now new c t h
+single_then room (Fixed w) others a value b result now new c m n t h = value_then (scalar (Fixed w)) (values_of room others) a value b result now new c t h
+single_then room (Vbr w) others a value b result now new c m n t h = value_then (scalar (Vbr w)) (values_of room others) a value b result now new c t h
+single_then room Char6 others a value b result now new c m n t h = value_then (scalar Char6) (values_of room others) a value b result now new c t h
+single_then room Array others a value b result now new c m n t h = absurd (m refl)
+single_then room Blob others a value b result now new c m n t h = absurd (n refl)
+
+single_fails : (room : ℕ) (op : Op) (others : List Op) (a : Reader) (fault : Fault) (now : List ℕ) (c : Reader) → (op ≡ Array → ⊥) → (op ≡ Blob → ⊥) → Why (scalar op) a fault c → Adds (values_of room (op ∷ others)) a (Err fault) now now c
+unfolding values_of
+single_fails room (Literal v) others a fault now c m n why = value_fails (scalar (Literal v)) (values_of room others) a fault now c why
+single_fails room (Fixed w) others a fault now c m n why = value_fails (scalar (Fixed w)) (values_of room others) a fault now c why
+single_fails room (Vbr w) others a fault now c m n why = value_fails (scalar (Vbr w)) (values_of room others) a fault now c why
+single_fails room Char6 others a fault now c m n why = value_fails (scalar Char6) (values_of room others) a fault now c why
+single_fails room Array others a fault now c m n why = absurd (m refl)
+single_fails room Blob others a fault now c m n why = absurd (n refl)
+
+-- what is read from an operand on completes the values of all
+abbrev pub CompletesFrom : (room : ℕ) (ops : List Op) (a : Reader) (before : List ℕ) (i : ℕ) (b : Reader) (now : List ℕ) → Type 0
+CompletesFrom room ops a before i b now = Completes (values_of room ops) a before (values_of room (drop i ops)) b now
+
+from_index : (ops : List Op) (i : ℕ) → i < length ops → drop i ops ≡ op_at ops i ∷ drop (i + 1) ops
+from_index ops i less = rw add-one (drop-cons ops i (Literal 0) less)
+
+-- the same, told of the operand at the index
+at_index : (room : ℕ) (ops : List Op) (a : Reader) (before : List ℕ) (i : ℕ) (b : Reader) (now : List ℕ) → i < length ops → CompletesFrom room ops a before i b now → Completes (values_of room ops) a before (values_of room (op_at ops i ∷ drop (i + 1) ops)) b now
+at_index room ops a before i b now less h = subst (λ (rest : List Op). Completes (values_of room ops) a before (values_of room rest) b now) (from_index ops i less) h
+
+pub from_go_on : (room : ℕ) (ops : List Op) (a : Reader) (before : List ℕ) (i : ℕ) (b : Reader) (now : List ℕ) (value : ℕ) (c : Reader) → i < length ops → (op_at ops i ≡ Array → ⊥) → (op_at ops i ≡ Blob → ⊥) → CompletesFrom room ops a before i b now → Took (scalar (op_at ops i)) b value c → CompletesFrom room ops a before (i + 1) c (now ++ value ∷ [])
+from_go_on room ops a before i b now value c less m n h t = record {
+  live = t.live;
+  so = λ result after d k. (at_index room ops a before i b now less h).so result after d (single_then room (op_at ops i) (drop (i + 1) ops) b value c result now after d m n t k);
+}
+
+pub from_fails : (room : ℕ) (ops : List Op) (a : Reader) (before : List ℕ) (i : ℕ) (b : Reader) (now : List ℕ) (fault : Fault) (c : Reader) → i < length ops → (op_at ops i ≡ Array → ⊥) → (op_at ops i ≡ Blob → ⊥) → CompletesFrom room ops a before i b now → Why (scalar (op_at ops i)) b fault c → Adds (values_of room ops) a (Err fault) before now c
+from_fails room ops a before i b now fault c less m n h why =
+    (at_index room ops a before i b now less h).so (Err fault) now c (single_fails room (op_at ops i) (drop (i + 1) ops) b fault now c m n why)
+
+pub from_refused : (room : ℕ) (ops : List Op) (a : Reader) (before : List ℕ) (i : ℕ) (b : Reader) (now : List ℕ) (op : Op) (value : ℕ) (c : Reader) → CompletesFrom room ops a before i b now → Took (scalar op) b value c → Adds (values_of room ops) a (Err Memory) before now (stopped c)
+from_refused room ops a before i b now op value c h t = h.so (Err Memory) now (stopped c) (no_room (scalar op) (values_of room (drop i ops)) b value c now t)
+
+-- an array, where its element stands behind it
+pub from_array : (room : ℕ) (ops : List Op) (a : Reader) (before : List ℕ) (i : ℕ) (b : Reader) (now : List ℕ) (result : Result (Unit {0}) Fault) (new : List ℕ) (c : Reader) → i + 1 < length ops → op_at ops i ≡ Array → CompletesFrom room ops a before i b now
+    → ((others : List Op) → Adds (values_of room (Array ∷ op_at ops (i + 1) ∷ others)) b result now new c) → Adds (values_of room ops) a result before new c
+from_array room ops a before i b now result new c less is h k =
+    let whole : Array ∷ op_at ops (i + 1) ∷ drop (i + 1 + 1) ops ≡ op_at ops i ∷ drop (i + 1) ops = rw (is, from_index ops (i + 1) less) refl in
+    (at_index room ops a before i b now (omega (arith, less)) h).so result new c (subst (λ (rest : List Op). Adds (values_of room rest) b result now new c) whole (k (drop (i + 1 + 1) ops)))
+
+pub from_blob : (room : ℕ) (ops : List Op) (a : Reader) (before : List ℕ) (i : ℕ) (b : Reader) (now : List ℕ) (result : Result (Unit {0}) Fault) (new : List ℕ) (c : Reader) → i < length ops → op_at ops i ≡ Blob → CompletesFrom room ops a before i b now
+    → ((others : List Op) → Adds (values_of room (Blob ∷ others)) b result now new c) → Adds (values_of room ops) a result before new c
+from_blob room ops a before i b now result new c less is h k =
+    (at_index room ops a before i b now less h).so result new c (rw is (k (drop (i + 1) ops)))
+
+none_left : (ops : List Op) (i : ℕ) → length ops ≤ i → drop i ops ≡ []
+none_left [] zero most = refl
+none_left [] (suc i) most = refl
+none_left (op ∷ ops) zero most = absurd (omega (arith, most))
+none_left (op ∷ ops) (suc i) most = none_left ops i (omega (arith, most))
+
+pub from_done : (room : ℕ) (ops : List Op) (a : Reader) (before : List ℕ) (i : ℕ) (b : Reader) (now : List ℕ) → length ops ≤ i → CompletesFrom room ops a before i b now → Adds (values_of room ops) a (Ok tt) before now b
+unfolding values_of
+from_done room ops a before i b now most h =
+    let all = subst (λ (rest : List Op). Completes (values_of room ops) a before (values_of room rest) b now) (none_left ops i most) h in
+    all.so (Ok tt) now b (adds_none b now h.live)
+
+-- ---- a record
+
+-- a record's fields, once its single values are known to have room
+abbrev fields_of : ℕ → Op → List Op → Grammar Entry
+fields_of room op others = scalar op >>= λ code. values_of (room - singles others) others >>= λ values. gives (record { code = code; values = values })
+
+entry_of : ℕ → List ℕ → Entry
+entry_of code values = record { code = code; values = values }
+
+pub record_crowded : (start room : ℕ) (op : Op) (others : List Op) (a : Reader) (now : List ℕ) → a.live ≡ true → room < singles others → AddsRecord (abbreviated start room (op ∷ others)) a (Err (Refused TooManyValues start)) now now (stopped a)
+unfolding abbreviated
+record_crowded start room op others a now live many =
+    ([], sym (append-nil now), fault_then (test _ (at TooManyValues start)) (λ holds. fields_of room op others) a (Refused TooManyValues start) (stopped a) (fails_here _ TooManyValues start a (lt-leb _ _ many) live (λ e. refl)))
+
+pub record_coded : (start room : ℕ) (op : Op) (others : List Op) (a : Reader) (fault : Fault) (now : List ℕ) (c : Reader) → singles others ≤ room → Why (scalar op) a fault c → AddsRecord (abbreviated start room (op ∷ others)) a (Err fault) now now c
+unfolding abbreviated
+record_coded start room op others a fault now c few why =
+    ([], sym (append-nil now), holds_then _ (at TooManyValues start) (fields_of room op others) a (Err fault) c (le-leb _ _ few) (fault_then (scalar op) (λ code. values_of (room - singles others) others >>= λ values. gives (record { code = code; values = values })) a fault c why))
+
+pub record_fails : (start room : ℕ) (op : Op) (others : List Op) (a : Reader) (code : ℕ) (b : Reader) (fault : Fault) (now new : List ℕ) (c : Reader) → singles others ≤ room → Took (scalar op) a code b → Adds (values_of (room - singles others) others) b (Err fault) now new c → AddsRecord (abbreviated start room (op ∷ others)) a (Err fault) now new c
+unfolding abbreviated
+record_fails start room op others a code b fault now new c few t h = (
+  h.0,
+  h.1,
+  holds_then _ (at TooManyValues start) (fields_of room op others) a (Err fault) c (le-leb _ _ few) (took_then (scalar op) (λ code. values_of (room - singles others) others >>= λ values. gives (record { code = code; values = values })) a code b (Err fault) c t (fault_then (values_of (room - singles others) others) (λ values. gives (record { code = code; values = values })) b fault c h.2)),
+)
+
+pub record_read : (start room : ℕ) (op : Op) (others : List Op) (a : Reader) (code : ℕ) (b : Reader) (now new : List ℕ) (c : Reader) → singles others ≤ room → Took (scalar op) a code b → Adds (values_of (room - singles others) others) b (Ok tt) now new c → AddsRecord (abbreviated start room (op ∷ others)) a (Ok code) now new c
+unfolding abbreviated
+record_read start room op others a code b now new c few t h = (
+  h.0,
+  h.1,
+  holds_then _ (at TooManyValues start) (fields_of room op others) a (Ok (record { code = code; values = h.0 })) c (le-leb _ _ few) (took_then (scalar op) (λ code. values_of (room - singles others) others >>= λ values. gives (record { code = code; values = values })) a code b (Ok (record { code = code; values = h.0 })) c t (and_gives (values_of (room - singles others) others) (λ values. record { code = code; values = values }) b (Ok h.0) c h.2)),
+)
+
+-- the elements of arrays behind the first operand
+pub later_elements : (op : Op) (others : List Op) → Lawful (op ∷ others) → (i : ℕ) → op_at others i ≡ Array → IsElement (op_at others (i + 1))
+later_elements op others h i e =
+    let next : suc i + 1 ≡ suc (i + 1) = omega arith in
+    rw next at (h.element (suc i) e)
+
+-- ---- the list after the call
+
+-- what a record added, once the list is cut back after a fault
+pub recorded : (rule : Grammar Entry) (a : Reader) (code : ℕ) (before after : List ℕ) (c : Reader) → AddsRecord rule a (Ok code) before after c → Recorded (λ r. Takes rule a r c) (Ok code) before after
+recorded rule a code before after c h = h
+
+pub recorded_only : (rule : Grammar Entry) (a : Reader) (code : ℕ) (before after : List ℕ) (c : Reader) → AddsRecord rule a (Ok code) before after c → Recorded (λ r. IsOnly rule a r c) (Ok code) before after
+recorded_only rule a code before after c h = (h.0, h.1, only rule a (Ok (record { code = code; values = h.0 })) c h.2)
+
+cut_back : (before values after : List ℕ) → after ≡ before ++ values → take (length before) after ≡ before
+cut_back before values after e = ap (take (length before)) e ∙ take_at before values (length before) refl
+
+pub not_recorded : (rule : Grammar Entry) (a : Reader) (fault : Fault) (before after : List ℕ) (c : Reader) → AddsRecord rule a (Err fault) before after c → Recorded (λ r. Takes rule a r c) (Err fault) before (take (length before) after)
+not_recorded rule a fault before after c h = (cut_back before h.0 after h.1, h.2)
+
+pub not_recorded_only : (rule : Grammar Entry) (a : Reader) (fault : Fault) (before after : List ℕ) (c : Reader) → AddsRecord rule a (Err fault) before after c → Recorded (λ r. IsOnly rule a r c) (Err fault) before (take (length before) after)
+not_recorded_only rule a fault before after c h = (cut_back before h.0 after h.1, only rule a (Err fault) c h.2)
+
+-- ---- the first operand and those behind it
+
+-- the operands behind the first
+abbrev pub behind_first : List Op → List Op
+behind_first ops = take (length ops - 1) (drop 1 ops)
+
+pub in_parts : (ops : List Op) → 1 ≤ length ops → ops ≡ op_at ops 0 ∷ behind_first ops
+in_parts [] some = absurd (omega (arith, some))
+in_parts (op ∷ others) some =
+    let same : take (suc (length others) - 1) others ≡ others = take_all (suc (length others) - 1) others (omega arith) in
+    ap (λ (rest : List Op). op ∷ rest) (sym same)
+
+pub elements_behind : (ops : List Op) → 1 ≤ length ops → Lawful ops → (i : ℕ) → op_at (behind_first ops) i ≡ Array → IsElement (op_at (behind_first ops) (i + 1))
+elements_behind ops some h = later_elements (op_at ops 0) (behind_first ops) (subst Lawful (in_parts ops some) h)

@@ -1,0 +1,7 @@
+use Rattle.std.proofs.Common.{subst}
+use Rattle.bit_abbrev.proofs.Breaks.{not_lawful}
+use Rattle.bit_abbrev.proofs.abbrev.Abbrev.new.Goals as goal
+
+pub returns-in-Some-clause-lawful : goal.returns-in-Some-clause-lawful
+returns-in-Some-clause-lawful c =
+    (λ e. absurd cc, λ h. absurd (not_lawful c.as_slice.result.now c.in-Some.at c.in-Some.reason c.in-Some.ensures.found (rw c.as_slice.ensures h)))

@@ -1,0 +1,6 @@
+use Rattle.bit_grammar.specs.declared.op.Place.TheVariants.{First}
+use Rattle.bit_abbrev.proofs.Operands.{Defines}
+use Rattle.bit_abbrev.proofs.definition.read_operands.Given as goal
+
+abbrev pub invariant-loop-i : goal.invariant-loop-i
+invariant-loop-i g l = Defines l.count l.fn.reader l.i l.place l.reader l.ops.items

@@ -1,0 +1,76 @@
+-- Where a list of operands breaks the rules for abbreviations. Source: "Abbreviations", and this project's own choices.
+use Rattle.std.specs.Prelude.{◌≡◌, ◌≢◌, ◌⊎◌, ℕ, zero, suc, ◌+◌, ◌-◌, ◌^◌, ◌<◌, length, List, [], ◌∷◌, Option, Some, None, if◌then◌else◌}
+use Rattle.bit_grammar.specs.declared.op.Op.{Op}
+use Rattle.bit_grammar.specs.declared.op.Op.TheVariants.{Literal, Fixed, Vbr, Array, Char6, Blob}
+use Rattle.bit_grammar.specs.declared.op.Kind.{Kind}
+use Rattle.bit_grammar.specs.declared.op.Kind.TheVariants.{Literal as literal, Fixed as fixed_width, Vbr as vbr_width, Array as array, Char6 as char6, Blob as blob}
+use Rattle.bit_grammar.specs.declared.op.Place.{Place}
+use Rattle.bit_grammar.specs.declared.op.Place.TheVariants.{First as first}
+use Rattle.bit_grammar.specs.declared.reason.Reason.{Reason}
+use Rattle.bit_grammar.specs.declared.reason.Reason.TheVariants.{AbbrevEmpty, AbbrevShape, FieldWidth}
+use Rattle.bit_grammar.specs.Definition.{fits, fixed_lawful, vbr_lawful, place_after}
+use Rattle.bit_grammar.specs.FormatDefinition.{op_at, IsElement}
+
+-- ---- in the words of the format
+
+-- The operand at an index stands where it may not: an array or a blob is the first, an array is not the last but one,
+-- behind an array stands no element, or a blob is not the last.
+pub data BreaksShape (ops : List Op) (i : ℕ) : Type 0 where
+  first_array : i ≡ 0 → op_at ops i ≡ Array → BreaksShape ops i
+  first_blob : i ≡ 0 → op_at ops i ≡ Blob → BreaksShape ops i
+  array_place : op_at ops i ≡ Array → i + 2 ≢ length ops → BreaksShape ops i
+  no_element : (before : ℕ) → i ≡ before + 1 → op_at ops before ≡ Array → (IsElement (op_at ops i) → ⊥) → BreaksShape ops i
+  blob_place : op_at ops i ≡ Blob → i + 1 ≢ length ops → BreaksShape ops i
+
+-- a width is over 32, or a VBR's is 1
+abbrev pub BreaksWidth : Op → Type 0
+BreaksWidth (Fixed width) = 32 < width
+BreaksWidth (Vbr width) = (32 < width) ⊎ (width ≡ 1)
+BreaksWidth _ = ⊥
+
+-- the operand at an index breaks the rules with this reason; the shape is judged before the width
+abbrev pub Breaks : List Op → ℕ → Reason → Type 0
+Breaks ops i reason = (i < length ops) × (((reason ≡ AbbrevShape) × BreaksShape ops i) ⊎ ((reason ≡ FieldWidth) × (BreaksShape ops i → ⊥) × BreaksWidth (op_at ops i)))
+
+-- no operand breaks the rules
+abbrev pub NoneBreaks : List Op → Type 0
+NoneBreaks ops = (i : ℕ) (reason : Reason) → Breaks ops i reason → ⊥
+
+-- the first break of a list: it is empty, or the operand at the least index that breaks
+abbrev pub IsFirstBreak : List Op → ℕ → Reason → Type 0
+IsFirstBreak [] i reason = (i ≡ 0) × (reason ≡ AbbrevEmpty)
+IsFirstBreak (op ∷ ops) i reason = Breaks (op ∷ ops) i reason × ((j : ℕ) (other : Reason) → j < i → Breaks (op ∷ ops) j other → ⊥)
+
+-- a literal has 64 bits, as each one of the code has
+abbrev pub LiteralFits : Op → Type 0
+LiteralFits (Literal v) = v < 2 ^ 64
+LiteralFits _ = Unit {0}
+
+-- ---- how it is judged, from left to right
+
+abbrev pub kind_of : Op → Kind
+kind_of (Literal v) = literal
+kind_of (Fixed width) = fixed_width
+kind_of (Vbr width) = vbr_width
+kind_of Array = array
+kind_of Char6 = char6
+kind_of Blob = blob
+
+-- the place of the operand at an index
+abbrev pub place_at : List Op → ℕ → Place
+place_at ops zero = first
+place_at ops (suc i) = place_after (op_at ops i)
+
+-- the break of an operand's width
+abbrev pub width_break : Op → Option Reason
+width_break (Fixed width) = if fixed_lawful width then None else Some FieldWidth
+width_break (Vbr width) = if vbr_lawful width then None else Some FieldWidth
+width_break _ = None
+
+-- the break of an operand at a place, with so many operands after it
+abbrev pub break_of : Place → (after : ℕ) → Op → Option Reason
+break_of place after op = if fits place after (kind_of op) then width_break op else Some AbbrevShape
+
+-- the break of the operand at an index
+abbrev pub break_at : List Op → ℕ → Option Reason
+break_at ops i = break_of (place_at ops i) (length ops - 1 - i) (op_at ops i)

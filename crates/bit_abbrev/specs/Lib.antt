@@ -1,0 +1,3 @@
+pub mod Breaks
+pub mod Table
+pub mod Values

@@ -1,0 +1,152 @@
+//! Abbreviations: lawful lists of operands.
+
+ghost use Rattle.std.specs.Prelude.{◌≡◌, ◌≤◌, ◌↔◌, length, IsOk, IfOk, IfErr, IfSome, IsNone, IfNone};
+ghost use Rattle.bit_grammar.specs.Definition.{fits, place_after};
+ghost use Rattle.bit_grammar.specs.FormatDefinition.{Lawful};
+ghost use Rattle.bit_abbrev.specs.Breaks.{IsFirstBreak, LiteralFits, kind_of, break_of};
+
+use bit_grammar::{Kind, Op, Place, Reason};
+use smallvec::SmallVec;
+use std::alloc::{AllocError, Global};
+use std::marker::Model;
+use thiserror::Error;
+
+/// A list of operands. Up to eight take no memory.
+pub type Ops = SmallVec<Op, 8>;
+
+/// A list of operands that is refused, handed back, with its first break.
+#[derive(Debug, Drop, Error)]
+#[error("operand {at}: {name}", name = .reason.name())]
+pub struct BadAbbrev {
+    pub ops: Ops,
+    /// The index of the first operand that breaks the rules; 0 for the empty list.
+    pub at: usize,
+    pub reason: Reason,
+}
+
+/// The definition of an abbreviation: a lawful list of operands.
+#[derive(Debug, Drop)]
+pub struct Abbrev {
+    ops: Ops,
+}
+
+impl Model for Abbrev {
+    ghost use Rattle.std.specs.Prelude.{List};
+    ghost use Rattle.bit_grammar.specs.declared.op.Op.{Op};
+    ghost use Rattle.bit_grammar.specs.FormatDefinition.{Lawful};
+
+    ghost Value = { List Op };
+
+    ghost view = { λ definition. definition.ops.items };
+
+    ghost invariant = { λ definition. Lawful definition.ops.items };
+}
+
+/// Whether an operand of this kind may stand there, with so many operands after it.
+pub(crate) fn fits(place: Place, after: u64, kind: Kind) -> bool
+    ensures { result ≡ fits place after kind }
+{
+    match (place, kind) {
+        (Place::Element, Kind::Literal | Kind::Array | Kind::Blob) => false,
+        (Place::First, Kind::Array | Kind::Blob) => false,
+        (Place::Later, Kind::Array) => after == 1,
+        (Place::Later, Kind::Blob) => after == 0,
+        _ => true,
+    }
+}
+
+/// The place after an operand.
+pub(crate) fn place_after(op: Op) -> Place
+    ensures { result ≡ place_after op }
+{
+    match op {
+        Op::Array => Place::Element,
+        _ => Place::Later,
+    }
+}
+
+fn kind_of(op: Op) -> Kind
+    ensures { result ≡ kind_of op }
+{
+    match op {
+        Op::Literal(_) => Kind::Literal,
+        Op::Fixed(_) => Kind::Fixed,
+        Op::Vbr(_) => Kind::Vbr,
+        Op::Array => Kind::Array,
+        Op::Char6 => Kind::Char6,
+        Op::Blob => Kind::Blob,
+    }
+}
+
+/// The break of an operand at a place, with so many operands after it.
+fn break_of(place: Place, after: u64, op: Op) -> Option<Reason>
+    ensures reason { result ≡ break_of place after op }
+    ensures literal { LiteralFits op }
+{
+    if !fits(place, after, kind_of(op)) {
+        return Some(Reason::AbbrevShape);
+    }
+    match op {
+        Op::Fixed(width) if width > 32 => Some(Reason::FieldWidth),
+        Op::Vbr(width) if width > 32 || width == 1 => Some(Reason::FieldWidth),
+        _ => None,
+    }
+}
+
+/// The first break of a list, and the index of the operand that breaks.
+fn first_break(ops: &[Op]) -> Option<(usize, Reason)>
+    ensures found { IfSome result (λ bad. IsFirstBreak ops.now bad.0 bad.1) }
+    ensures none { IfNone result (Lawful ops.now) }
+{
+    if ops.is_empty() {
+        return Some((0, Reason::AbbrevEmpty));
+    }
+    let mut place = Place::First;
+    for (at, op) in ops.iter().enumerate() {
+        if let Some(reason) = break_of(place, (ops.len() - 1 - at) as u64, *op) {
+            return Some((at, reason));
+        }
+        place = place_after(*op);
+    }
+    None
+}
+
+impl Abbrev {
+    /// Takes a list that is lawful, and hands any other back. It takes no memory.
+    pub fn new(ops: Ops) -> Result<Abbrev, BadAbbrev>
+        ensures lawful { IsOk result ↔ Lawful ops.items }
+        ensures ok { IfOk result (λ made. made ≡ ops.items) }
+        ensures back { IfErr result (λ bad. bad.ops ≡ ops) }
+        ensures first { IfErr result (λ bad. IsFirstBreak ops.items bad.at bad.reason) }
+    {
+        match first_break(ops.as_slice()) {
+            None => Ok(Abbrev { ops }),
+            Some((at, reason)) => Err(BadAbbrev { ops, at, reason }),
+        }
+    }
+
+    /// The abbreviation with these operands.
+    pub(crate) fn from_lawful(ops: Ops) -> Abbrev
+        requires { Lawful ops.items }
+        ensures { result ≡ ops.items }
+    {
+        Abbrev { ops }
+    }
+
+    /// The operands.
+    pub fn ops(&self) -> &[Op]
+        ensures items { result.now ≡ self.now }
+        ensures lawful { Lawful self.now }
+    {
+        self.ops.as_slice()
+    }
+
+    /// An abbreviation with the same operands.
+    pub fn copy(&self, alloc: Global) -> Result<Abbrev, AllocError>
+        ensures ok { IfOk result (λ copy. copy ≡ self.now) }
+        ensures short { length self.now ≤ 8 → IsOk result }
+    {
+        let ops = SmallVec::from_slice(alloc, self.ops.as_slice())?;
+        Ok(Abbrev { ops })
+    }
+}

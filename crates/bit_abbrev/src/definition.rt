@@ -1,0 +1,147 @@
+//! Reading definitions.
+
+ghost use Rattle.std.specs.Prelude.{◌≡◌, ◌-◌, ◌<◌, IfOk, true};
+ghost use Rattle.bit_grammar.specs.Definition.{kind, fits, valued, operand, operands, definition};
+ghost use Rattle.bit_grammar.specs.declared.op.Place.TheVariants.{First};
+ghost use Rattle.bit_grammar.specs.FormatDefinition.{HasLawfulValue, Lawful};
+ghost use Rattle.bit_fields.specs.Reader.{Takes, IsOnly, told_by};
+ghost use Rattle.bit_abbrev.specs.Breaks.{kind_of};
+
+use crate::abbrev::{Abbrev, Ops, fits, place_after};
+use bit_fields::{BitReader, Fault, Source};
+use bit_grammar::{Kind, Op, Place, Reason};
+use smallvec::SmallVec;
+use std::alloc::Global;
+
+/// Reads the flag of an operand, and the encoding where there is one.
+#[tactic(auto, unfolding(bit_grammar::specs::Definition::kind))]
+fn read_kind<S: Source>(reader: &mut BitReader<S>) -> Result<Kind, Fault>
+    ensures { Takes kind reader.old result reader.new }
+{
+    if reader.fixed(1)? == 1 {
+        return Ok(Kind::Literal);
+    }
+    let place = reader.position();
+    match reader.fixed(3)? {
+        1 => Ok(Kind::Fixed),
+        2 => Ok(Kind::Vbr),
+        3 => Ok(Kind::Array),
+        4 => Ok(Kind::Char6),
+        5 => Ok(Kind::Blob),
+        _ => Err(reader.fail(Fault::Refused {
+            reason: Reason::AbbrevEncoding,
+            bit: place,
+        })),
+    }
+}
+
+/// Reads the value of an operand of this kind.
+#[tactic(auto, unfolding(bit_grammar::specs::Definition::valued))]
+fn read_value<S: Source>(reader: &mut BitReader<S>, kind: Kind) -> Result<Op, Fault>
+    requires { reader.old.live ≡ true }
+    ensures takes { Takes (valued kind) reader.old result reader.new }
+    ensures kind { IfOk result (λ op. kind_of op ≡ kind) }
+    ensures lawful { IfOk result HasLawfulValue }
+{
+    match kind {
+        Kind::Literal => Ok(Op::Literal(reader.vbr(8)?)),
+        Kind::Fixed => {
+            let place = reader.position();
+            let width = reader.vbr(5)?;
+            if width > 32 {
+                return Err(reader.fail(Fault::Refused {
+                    reason: Reason::FieldWidth,
+                    bit: place,
+                }));
+            }
+            Ok(Op::Fixed(width as u8))
+        }
+        Kind::Vbr => {
+            let place = reader.position();
+            let width = reader.vbr(5)?;
+            if width > 32 || width == 1 {
+                return Err(reader.fail(Fault::Refused {
+                    reason: Reason::FieldWidth,
+                    bit: place,
+                }));
+            }
+            Ok(Op::Vbr(width as u8))
+        }
+        Kind::Array => Ok(Op::Array),
+        Kind::Char6 => Ok(Op::Char6),
+        Kind::Blob => Ok(Op::Blob),
+    }
+}
+
+/// Reads an operand at a place with so many operands after it.
+#[tactic(auto, unfolding(bit_grammar::specs::Definition::operand))]
+fn read_operand<S: Source>(
+    reader: &mut BitReader<S>,
+    place: Place,
+    after: u64,
+) -> Result<Op, Fault>
+    ensures takes { Takes (operand place after) reader.old result reader.new }
+    ensures fits { IfOk result (λ op. fits place after (kind_of op) ≡ true) }
+    ensures lawful { IfOk result HasLawfulValue }
+{
+    let start = reader.position();
+    let kind = read_kind(reader)?;
+    if !fits(place, after, kind) {
+        return Err(reader.fail(Fault::Refused {
+            reason: Reason::AbbrevShape,
+            bit: start,
+        }));
+    }
+    read_value(reader, kind)
+}
+
+/// Reads so many operands.
+fn read_operands<S: Source>(
+    alloc: Global,
+    reader: &mut BitReader<S>,
+    count: u64,
+) -> Result<Ops, Fault>
+    requires some { 0 < count }
+    requires live { reader.old.live ≡ true }
+    ensures takes { Takes (operands count First) reader.old (told_by (λ ops. ops.items) result) reader.new }
+    ensures lawful { IfOk result (λ ops. Lawful ops.items) }
+{
+    let mut ops = SmallVec::new(alloc);
+    let mut place = Place::First;
+    for i in 0..count {
+        let op = read_operand(reader, place, count - 1 - i)?;
+        place = place_after(op);
+        match ops.push(op) {
+            Ok(()) => {}
+            Err(_) => return Err(reader.fail(Fault::Memory)),
+        }
+    }
+    Ok(ops)
+}
+
+/// Reads the number of operands, and the operands.
+#[tactic(auto, unfolding(bit_grammar::specs::Definition::definition))]
+fn read_definition<S: Source>(alloc: Global, reader: &mut BitReader<S>) -> Result<Abbrev, Fault>
+    ensures { Takes definition reader.old result reader.new }
+{
+    let start = reader.position();
+    let count = reader.vbr(5)?;
+    if count == 0 {
+        return Err(reader.fail(Fault::Refused {
+            reason: Reason::AbbrevEmpty,
+            bit: start,
+        }));
+    }
+    let ops = read_operands(alloc, reader, count)?;
+    Ok(Abbrev::from_lawful(ops))
+}
+
+/// Reads a definition after its abbreviation id.
+///
+/// After any fault the reader has failed. Up to eight operands take no memory.
+pub fn read_define<S: Source>(alloc: Global, reader: &mut BitReader<S>) -> Result<Abbrev, Fault>
+    ensures takes { Takes definition reader.old result reader.new }
+    ensures only { IsOnly definition reader.old result reader.new }
+{
+    read_definition(alloc, reader)
+}

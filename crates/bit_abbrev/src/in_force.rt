@@ -1,0 +1,120 @@
+//! The table that blocks share, and the definitions in force in a block.
+
+ghost use Rattle.std.specs.Prelude.{◌≡◌, ◌++◌, [], ◌∷◌, IfOk, OnOk, OnErr, length, slice_get};
+ghost use Rattle.std.specs.Option.{option_copied};
+ghost use Rattle.bit_abbrev.specs.Table.{definitions_at};
+
+use crate::{Abbrev, InfoTable};
+use std::alloc::{AllocError, Global};
+use std::marker::Model;
+use std::rc::Rc;
+
+/// A table that is made. The blocks that are entered under it share it.
+#[derive(Drop)]
+pub struct SharedInfo {
+    table: Option<Rc<InfoTable>>,
+}
+
+impl Model for SharedInfo {
+    ghost use Rattle.std.specs.Prelude.{ℕ, List};
+    ghost use Rattle.bit_grammar.specs.declared.op.Op.{Op};
+
+    ghost Value = { List (ℕ × List (List Op)) };
+
+    ghost use Rattle.std.specs.Prelude.{[]};
+    ghost use Rattle.std.specs.Option.{option_map_or};
+
+    ghost view = { λ shared. option_map_or (λ rc. rc.value) shared.table [] };
+}
+
+impl SharedInfo {
+    /// A table in which nothing is defined. It takes no memory.
+    pub fn new() -> SharedInfo
+        ensures { result ≡ [] }
+    {
+        SharedInfo { table: None }
+    }
+
+    /// Shares a table that is made. Where memory is refused it is dropped.
+    pub fn share(alloc: Global, table: InfoTable) -> Result<SharedInfo, AllocError>
+        ensures { IfOk result (λ shared. shared ≡ table) }
+    {
+        let table = Rc::new(alloc, table)?;
+        Ok(SharedInfo { table: Some(table) })
+    }
+}
+
+impl SharedInfo {
+    /// The definitions that are in force where a block with this id begins. It is refused only where the table has some for
+    /// the id and is shared as often as can be counted.
+    pub fn enter(&self, alloc: Global, id: u32) -> Result<InForce, AllocError>
+        ensures ok { IfOk result (λ definitions. definitions ≡ definitions_at self.now id) }
+    {
+        let own = Vec::new(alloc);
+        let Some(table) = &self.table else {
+            return Ok(InForce { shared: None, own });
+        };
+        let Some(place) = table.place_of(id) else {
+            return Ok(InForce { shared: None, own });
+        };
+        Ok(InForce {
+            shared: Some((table.clone()?, place)),
+            own,
+        })
+    }
+}
+
+/// The definitions in force in a block: first those that the table had for it, then the block's own.
+#[derive(Drop)]
+pub struct InForce {
+    /// The table, and the place in it of the block's definitions.
+    shared: Option<(Rc<InfoTable>, usize)>,
+    own: Vec<Abbrev>,
+}
+
+impl Model for InForce {
+    ghost use Rattle.std.specs.Prelude.{List, [], ◌++◌};
+    ghost use Rattle.std.specs.Option.{option_map_or};
+    ghost use Rattle.bit_grammar.specs.declared.op.Op.{Op};
+    ghost use Rattle.bit_abbrev.specs.Table.{list_at};
+
+    ghost Value = { List (List Op) };
+
+    ghost view = { λ inside. option_map_or (λ shared. list_at shared.0.value shared.1) inside.shared [] ++ inside.own.items };
+}
+
+impl InForce {
+    /// None. It takes no memory.
+    pub fn new(alloc: Global) -> InForce
+        ensures { result ≡ [] }
+    {
+        InForce {
+            shared: None,
+            own: Vec::new(alloc),
+        }
+    }
+
+    /// Adds a definition of the block. Where memory is refused it is dropped.
+    pub fn define(&mut self, abbrev: Abbrev) -> Result<(), AllocError>
+        ensures ok { OnOk result (self.new ≡ self.old ++ «abbrev» ∷ []) }
+        ensures err { OnErr result (self.new ≡ self.old) }
+    {
+        self.own.push(abbrev)?;
+        Ok(())
+    }
+
+    /// The definition at an index, if there is one.
+    pub fn get(&self, index: usize) -> Option<&Abbrev>
+        ensures { option_copied result ≡ slice_get self.now index }
+    {
+        let shared = match &self.shared {
+            Some((table, place)) => table.list_at(*place),
+            None => &[],
+        };
+        if index < shared.len() {
+            shared.get(index)
+        } else {
+            self.own.get(index - shared.len())
+        }
+    }
+}

@@ -1,0 +1,19 @@
+//! Abbreviations, abbreviated records, and the table of the definitions that BLOCKINFO blocks make.
+#![tactic(auto)]
+
+mod abbrev;
+mod definition;
+mod in_force;
+mod info;
+mod laws;
+mod record;
+#[cfg(test)]
+mod tests;
+
+pub use abbrev::{Abbrev, BadAbbrev, Ops};
+pub use bit_grammar::Op;
+pub use definition::read_define;
+pub use in_force::{InForce, SharedInfo};
+pub use info::InfoTable;
+pub use laws::lawful_unbroken;
+pub use record::read_abbreviated;

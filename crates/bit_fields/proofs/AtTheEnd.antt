@@ -1,0 +1,159 @@
+-- The end of a stream, and of its input.
+use Rattle.std.proofs.Common.{◌≡◌, ℕ, ◌+◌, ◌*◌, ◌-◌, ◌/◌, ◌^◌, ◌<◌, ◌≤◌, min, Bool, true, false, ◌&&◌, ltb, [], length, take, Result, Ok, Err, refl, sym, ap, ◌∙◌, subst, arith, inl, inr}
+use Rattle.std.proofs.lemmas.Bool.{cases_lt, false≢true, le-ltb, lt-ltb, and_from, and_left, and_right}
+use Rattle.std.proofs.lemmas.List.{length-append, nil_from_length}
+use Rattle.bit_grammar.specs.Bits.{bits_of_bytes}
+use Rattle.bit_grammar.specs.declared.reason.Reason.TheVariants.{TooLong, WrapperSize}
+use Rattle.bit_fields.specs.declared.fault.Fault.{Fault}
+use Rattle.bit_fields.specs.declared.fault.Fault.TheVariants.{Refused, Read}
+use Rattle.bit_fields.specs.declared.inflow.Missing.TheVariants as missing
+use Rattle.bit_fields.specs.declared.inflow.Missing.{Missing}
+use Rattle.bit_fields.specs.Devices.{known_bytes}
+use Rattle.bit_fields.specs.Inflow.{Flow, IsKnown, stop_of, left_of, total_of, budget_of, Keeps, RunsOut, Fills, Drained, Overran, DrainLost, DrainFails, Drains}
+use Rattle.bit_fields.specs.Reader.{Reader, Extent, is_cut}
+use Rattle.bit_fields.specs.Inside.{fault_of, reader_of, stopped_at, IsReader}
+use Rattle.bit_fields.specs.Ending.{stream_end, reach_of, Stays, Looks, Closed, Closes, IsThrough}
+use Rattle.bit_fields.proofs.InflowLaws.{Spends-refl, Spends-none}
+use Rattle.bit_fields.proofs.Shortening.{left_ends}
+use Rattle.bit_fields.proofs.Parts.{fills_exact}
+
+-- ---- where the bits that are left end
+
+pub reaches : (live : Bool) (p : ℕ) (f : Flow) (now : Reader) → reader_of live p f ≡ now → IsReader live p f → now.live ≡ true → p + length now.left ≡ reach_of now.extent
+reaches live p f now view is is_live =
+    let l : live ≡ true = ap (λ (r : Reader). r.live) view ∙ is_live in
+    rw (← view, l) (left_ends f p (is.exact l))
+
+uncut : (e : Extent) → is_cut e ≡ false → reach_of e ≡ stream_end e
+uncut e un = elim (cases_lt e.limit e.total) [
+  | inl lt ↦ elim (cases_lt e.limit e.end) [
+    | inl less ↦ absurd (false≢true (sym un ∙ and_from (ltb e.limit e.total) (ltb e.limit e.end) (lt-ltb e.limit e.total lt) (lt-ltb e.limit e.end less)))
+    | inr le ↦ omega arith
+  ]
+  | inr le ↦ omega arith
+]
+
+cut_is : (e : Extent) → is_cut e ≡ true → (e.limit < e.total) × (e.limit < e.end)
+cut_is e cut = elim (cases_lt e.limit e.total) [
+  | inl lt ↦ elim (cases_lt e.limit e.end) [
+    | inl less ↦ (lt, less)
+    | inr le ↦ absurd (false≢true (sym (and_right (ltb e.limit e.total) (ltb e.limit e.end) (le-ltb e.limit e.end le)) ∙ cut))
+  ]
+  | inr le ↦ absurd (false≢true (sym (and_left (ltb e.limit e.total) (ltb e.limit e.end) (le-ltb e.limit e.total le)) ∙ cut))
+]
+
+-- ---- whether the stream has no byte left
+
+stays_so : (p : ℕ) (f g : Flow) → Keeps f g → Stays (reader_of true p f) (reader_of true p g)
+stays_so p f g kept = record {
+  was_live = refl;
+  live = refl;
+  goes_on = kept.spends;
+  position = refl;
+  extent = λ k. rw (kept.total k, kept.end, kept.limit) refl;
+  left = kept.left;
+}
+
+pub looks_on : (was : Bool) (p : ℕ) (f g : Flow) (now : Reader) → reader_of was p f ≡ now → IsReader was p f → was ≡ true → Keeps f g → 0 < length g.window → Looks now (Ok false) (reader_of was p g)
+looks_on was p f g now view is live kept some =
+    let reach : p + length (left_of f) ≡ 8 * min (stop_of f) (total_of f) = left_ends f p (is.exact live) in
+    let more : IsKnown f → 0 < length (left_of f) = λ k. omega (arith, ap length (kept.left k), length-append g.window (bits_of_bytes (take (stop_of g - g.loaded) (known_bytes g.incoming.to_come)))) in
+    rw (← view, live) (stays_so p f g kept, λ k. (omega (arith, reach, more k), more k))
+
+looks_through : (was : Bool) (p : ℕ) (f g : Flow) (now : Reader) → reader_of was p f ≡ now → IsReader was p f → was ≡ true → RunsOut f g 1 false → Looks now (Ok true) (reader_of was p g)
+looks_through was p f g now view is live out =
+    let reach : p + length (left_of f) ≡ 8 * min (stop_of f) (total_of f) = left_ends f p (is.exact live) in
+    rw (← view, live) (
+      stays_so p f g out.keeps,
+      λ k. (omega (arith, reach, out.left k, uncut (record { total = total_of f; end = f.end; limit = f.limit }) (out.cut k)), nil_from_length (left_of f) (omega (arith, out.left k))),
+    )
+
+looks_limit : (was : Bool) (p : ℕ) (f g : Flow) (fault : Fault) (now new : Reader) → reader_of was p f ≡ now → IsReader was p f → was ≡ true → RunsOut f g 1 true → fault ≡ fault_of missing.Limit p g.limit → new ≡ stopped_at (reader_of was p g) p → Looks now (Err fault) new
+looks_limit was p f g fault now new view is live out fault_is new_is =
+    let reach : p + length (left_of f) ≡ 8 * min (stop_of f) (total_of f) = left_ends f p (is.exact live) in
+    rw (fault_is, new_is, ← view, live) (
+      record { was_live = refl; failed = refl; goes_on = Spends-none f.incoming (budget_of f) g.incoming (budget_of g) out.keeps.spends },
+      (refl, ap (λ (l : ℕ). 8 * l) out.keeps.limit),
+      λ k.
+          let c = cut_is (record { total = total_of f; end = f.end; limit = f.limit }) (out.cut k) in
+          (omega (arith, reach, out.left k, c.0, c.1), omega (arith, c.0, c.1)),
+    )
+
+-- no bit is left, and not for the limit: the stream is through
+pub is_through : (was : Bool) (p : ℕ) (f g : Flow) (what : Missing) → IsReader was p f → was ≡ true → what ≡ missing.End → Fills 1 f g (Err what) → IsThrough (reader_of was p g)
+is_through was p f g what is live end fills =
+    let out : RunsOut f g 1 false = subst (λ (m : Missing). Fills 1 f g (Err m)) end fills in
+    let place : p + length g.window ≡ 8 * min g.loaded (stop_of g) = fills_exact 1 p f g what fills (is.exact live) in
+    let reach : p + length (left_of g) ≡ 8 * min (stop_of g) (total_of g) = left_ends g p place in
+    λ l k. omega (arith, reach, out.left_now, uncut (record { total = total_of g; end = g.end; limit = g.limit }) out.cut_now)
+
+pub looks_ended : (was : Bool) (p : ℕ) (f g : Flow) (what : Missing) (now : Reader) → reader_of was p f ≡ now → IsReader was p f → was ≡ true → what ≡ missing.End → Fills 1 f g (Err what) → Looks now (Ok true) (reader_of was p g)
+looks_ended was p f g what now view is live end out = looks_through was p f g now view is live (subst (λ (m : Missing). Fills 1 f g (Err m)) end out)
+
+pub looks_cut : (was : Bool) (p : ℕ) (f g : Flow) (what : Missing) (fault : Fault) (now new : Reader) → reader_of was p f ≡ now → IsReader was p f → was ≡ true → what ≡ missing.Limit → Fills 1 f g (Err what) → fault ≡ fault_of missing.Limit p g.limit → new ≡ stopped_at (reader_of was p g) p → Looks now (Err fault) new
+looks_cut was p f g what fault now new view is live limit out fault_is new_is = looks_limit was p f g fault now new view is live (subst (λ (m : Missing). Fills 1 f g (Err m)) limit out) fault_is new_is
+
+-- ---- closing
+
+in_size : (e : Extent) → ((e.end < 2 ^ 64 - 1) → e.end ≤ e.total) → ltb e.end (2 ^ 64 - 1) && ltb e.total e.end ≡ false
+in_size e whole = elim (cases_lt e.end (2 ^ 64 - 1)) [
+  | inl lt ↦ and_right (ltb e.end (2 ^ 64 - 1)) (ltb e.total e.end) (le-ltb e.total e.end (whole lt))
+  | inr le ↦ and_left (ltb e.end (2 ^ 64 - 1)) (ltb e.total e.end) (le-ltb e.end (2 ^ 64 - 1) le)
+]
+
+-- the stream in a wrapper is short
+pub closed_short : (was : Bool) (p : ℕ) (f g : Flow) (now : Reader) → reader_of was p f ≡ now → was ≡ true → IsThrough now → g ≡ record f { window = [] } → f.end < 2 ^ 64 - 1 → p / 8 < f.end → Closes now (Err (Refused WrapperSize 96)) (reader_of false p g)
+closed_short was p f g now view live through g_is wrapped short =
+    let at : IsThrough (reader_of was p f) = subst (λ (r : Reader). IsThrough r) (sym view) through in
+    let place : IsKnown f → p ≡ 8 * min f.end (total_of f) = λ k. at live k in
+    rw (← view, live, g_is) (
+      record { was_live = refl; failed = refl; goes_on = Spends-none f.incoming (budget_of f) f.incoming (budget_of f) (Spends-refl f.incoming (budget_of f)) },
+      λ k. rw (and_from (ltb f.end (2 ^ 64 - 1)) (ltb (total_of f) f.end) (lt-ltb f.end (2 ^ 64 - 1) wrapped) (lt-ltb (total_of f) f.end (omega (arith, place k)))) refl,
+    )
+
+-- the size of a wrapper is met
+pub record Met (p : ℕ) (f : Flow) : Type 0 where
+  pub whole : f.end < 2 ^ 64 - 1 → f.end ≤ p / 8
+
+met_so : (was : Bool) (p : ℕ) (f : Flow) (now : Reader) → reader_of was p f ≡ now → was ≡ true → IsThrough now → Met p f → IsKnown f → ltb f.end (2 ^ 64 - 1) && ltb (total_of f) f.end ≡ false
+met_so was p f now view live through met k =
+    let at : IsThrough (reader_of was p f) = subst (λ (r : Reader). IsThrough r) (sym view) through in
+    let place : p ≡ 8 * min f.end (total_of f) = at live k in
+    in_size (record { total = total_of f; end = f.end; limit = f.limit }) (λ lt. omega (arith, met.whole lt, place))
+
+pub closed_whole : (was : Bool) (p : ℕ) (f h g : Flow) (now : Reader) → reader_of was p f ≡ now → was ≡ true → IsThrough now → h ≡ record f { window = [] } → Met p f → Drained h g → Closed now (reader_of false p g)
+closed_whole was p f h g now view live through h_is met drained =
+    let d : Drained (record f { window = [] }) g = subst (λ (x : Flow). Drained x g) h_is drained in
+    let size : IsKnown f → ltb f.end (2 ^ 64 - 1) && ltb (total_of f) f.end ≡ false = met_so was p f now view live through met in
+    rw (← view, live) (record {
+      stops = record { was_live = refl; failed = refl; goes_on = d.spends };
+      whole = λ k. rw (size k, le-ltb f.limit (total_of f) (d.within k)) refl;
+      none = d.none;
+    })
+
+pub closed_long : (was : Bool) (p limit : ℕ) (f h g : Flow) (now : Reader) → reader_of was p f ≡ now → was ≡ true → IsThrough now → h ≡ record f { window = [] } → Met p f → Overran h g → limit ≡ f.limit → Closes now (Err (Refused TooLong (8 * limit))) (reader_of false p g)
+closed_long was p limit f h g now view live through h_is met overran limit_is =
+    let d : Overran (record f { window = [] }) g = subst (λ (x : Flow). Overran x g) h_is overran in
+    let size : IsKnown f → ltb f.end (2 ^ 64 - 1) && ltb (total_of f) f.end ≡ false = met_so was p f now view live through met in
+    rw (← view, live, limit_is) (
+      record { was_live = refl; failed = refl; goes_on = d.spends },
+      λ k. rw (size k, lt-ltb f.limit (total_of f) (d.past k)) refl,
+    )
+
+pub closed_lost : (was : Bool) (p : ℕ) (f h g : Flow) (what : Missing) (now : Reader) → reader_of was p f ≡ now → was ≡ true → h ≡ record f { window = [] } → (what ≡ missing.Limit → ⊥) → DrainFails h g what → Closes now (Err Read) (reader_of false p g)
+closed_lost was p f h g missing.End now view live h_is other d = absurd d
+closed_lost was p f h g missing.Limit now view live h_is other d = absurd (other refl)
+closed_lost was p f h g missing.Read now view live h_is other lost =
+    let d : DrainLost (record f { window = [] }) g = subst (λ (x : Flow). DrainLost x g) h_is lost in
+    rw (← view, live) (record { was_live = refl; failed = refl; goes_on = d.spends }, d.failed)
+
+drains_on : (h g : Flow) (result : Result (Unit {0}) Missing) → Drains h g result → (g.window ≡ h.window) × (h.loaded ≤ g.loaded)
+drains_on h g (Ok x) d = (d.window, d.loaded)
+drains_on h g (Err missing.End) d = absurd d
+drains_on h g (Err missing.Limit) d = (d.window, d.loaded)
+drains_on h g (Err missing.Read) d = (d.window, d.loaded)
+
+pub closed_is_reader : (was : Bool) (p : ℕ) (f h g : Flow) (result : Result (Unit {0}) Missing) → IsReader was p f → h ≡ record f { window = [] } → Drains h g result → IsReader false p g
+closed_is_reader was p f h g result is h_is d =
+    let on = drains_on (record f { window = [] }) g result (subst (λ (x : Flow). Drains x g result) h_is d) in
+    record { place = omega (arith, is.place, on.1, ap length on.0); exact = λ e. absurd (false≢true e); empty = λ e. on.0 }

@@ -1,0 +1,282 @@
+-- What taking bytes in leaves.
+use Rattle.std.proofs.Common.{◌≡◌, ℕ, zero, suc, ◌+◌, ◌*◌, ◌-◌, ◌^◌, ◌<◌, ◌≤◌, max, Bool, true, false, ltb, List, [], ◌++◌, length, take, Option, Some, None, Err, refl, sym, ap, ◌∙◌, subst, arith, append_assoc, inl, inr}
+use Rattle.std.specs.Prelude.{IsSome}
+use Rattle.std.specs.Io.KnownBytes as bytes
+use Rattle.std.proofs.lemmas.Bool.{cases_lt, false≢true, le-ltb, lt-ltb, and_right, and_left, and_from}
+use Rattle.std.proofs.lemmas.List.{append-nil, length-append, length-take-le, take-append-le}
+use Rattle.std.proofs.Math.Seq.{take-append-add}
+use Rattle.bit_grammar.specs.Bits.{bits_of_bytes}
+use Rattle.bit_fields.specs.Devices.{Incoming, Gave, GaveNone, Spends, known_bytes}
+use Rattle.bit_fields.specs.Inflow.{Flow, IsKnown, stop_of, left_of, total_of, is_cut, budget_of, IsFlow, SamePlace, Keeps, NoMore, Lost, RunsOut, Misses, Fills}
+use Rattle.bit_fields.specs.declared.inflow.Missing.{Missing}
+use Rattle.bit_fields.specs.declared.inflow.Missing.TheVariants.{End, Limit, Read}
+use Rattle.bit_fields.proofs.BitLaws.{bits_of_bytes-append, length-bits_of_bytes}
+
+-- ---- what is paid
+
+pub Spends-refl : (i : Incoming) (n : ℕ) → Spends i n i n
+Spends-refl i n = record { pulls = omega arith; failures = omega arith; tells = λ k. k; bytes = λ k. omega arith }
+
+pub Spends-trans : (a : Incoming) (n : ℕ) (b : Incoming) (m : ℕ) (c : Incoming) (k : ℕ) → Spends a n b m → Spends b m c k → Spends a n c k
+Spends-trans a n b m c k p q = record {
+  pulls = omega (arith, p.pulls, q.pulls);
+  failures = omega (arith, p.failures, q.failures);
+  tells = λ t. q.tells (p.tells t);
+  bytes = λ t. omega (arith, p.bytes t, q.bytes (p.tells t));
+}
+
+-- no more is asked for
+pub Spends-none : (a : Incoming) (n : ℕ) (b : Incoming) (m : ℕ) → Spends a n b m → Spends a n b 0
+Spends-none a n b m p = record { pulls = omega (arith, p.pulls); failures = p.failures; tells = p.tells; bytes = λ t. omega (arith, p.bytes t) }
+
+-- ---- what a pull gives
+
+pub consumed : (old new : Option (List ℕ)) (gone : List ℕ) → bytes.Consumes old new gone → IsSome old → IsSome new × (known_bytes old ≡ gone ++ known_bytes new)
+consumed None new gone c known = absurd cc
+consumed (Some xs) None gone c known = absurd c
+consumed (Some xs) (Some ys) gone c known = (refl, c)
+
+kept : (old new : Option (List ℕ)) → bytes.Keeps old new → IsSome old → IsSome new × (known_bytes old ≡ known_bytes new)
+kept None new c known = absurd cc
+kept (Some xs) None c known = absurd c
+kept (Some xs) (Some ys) c known = (refl, sym c)
+
+pub at_end : (o : Option (List ℕ)) → bytes.IsAtEnd o → known_bytes o ≡ []
+at_end None h = refl
+at_end (Some xs) h = h
+
+-- a pull that gave bytes is paid by them, and one that gave none ends the asking
+pub gave_spends : (i j : Incoming) (count : ℕ) (into : List ℕ) (before after : ℕ) → Gave i j count into → after + count ≤ before → after + 1 ≤ before → Spends i before j after
+gave_spends i j count into before after gave paid one =
+    let taken : length (take count into) ≡ count = length-take-le count into gave.fits in
+    record {
+      pulls = omega (arith, gave.pulls);
+      failures = omega (arith, gave.failures);
+      tells = λ k. (consumed i.to_come j.to_come (take count into) gave.bytes k).0;
+      bytes = λ k. omega (arith, ap length (consumed i.to_come j.to_come (take count into) gave.bytes k).1, length-append (take count into) (known_bytes j.to_come), taken);
+    }
+
+failed_spends : (i j : Incoming) (before : ℕ) → GaveNone i j → 1 ≤ before → Spends i before j 0
+failed_spends i j before none some =
+    let same : IsSome i.to_come → length (known_bytes i.to_come) ≡ length (known_bytes j.to_come) = λ k. ap length (kept i.to_come j.to_come none.bytes k).1 in
+    elim (cases_lt (max i.pulls i.failures) (2 ^ 64 - 1)) [
+      | inl fresh ↦
+          let counted = none.counted fresh in
+          record { pulls = omega (arith, counted.0); failures = omega (arith, counted.1); tells = λ k. (kept i.to_come j.to_come none.bytes k).0; bytes = λ k. omega (arith, same k) }
+      | inr worn ↦
+          let is : j ≡ i = none.worn worn in
+          record { pulls = rw is (omega arith); failures = rw is (omega arith); tells = λ k. (kept i.to_come j.to_come none.bytes k).0; bytes = λ k. omega (arith, same k) }
+    ]
+
+-- ---- once
+
+none_taken : (k : ℕ) (bytes : List ℕ) → k ≡ 0 → bits_of_bytes (take k bytes) ≡ []
+none_taken k bytes e = rw e refl
+
+none_there : (k : ℕ) (bytes : List ℕ) → bytes ≡ [] → bits_of_bytes (take k bytes) ≡ []
+none_there zero bytes e = refl
+none_there (suc k) bytes e = rw e refl
+
+pub SamePlace-refl : (f : Flow) → SamePlace f f
+SamePlace-refl f = record { loaded = omega arith; exact = refl }
+
+pub SamePlace-trans : (a b c : Flow) → SamePlace a b → SamePlace b c → SamePlace a c
+SamePlace-trans a b c p q = record { loaded = omega (arith, p.loaded, q.loaded); exact = omega (arith, p.exact, q.exact) }
+
+pub Keeps-refl : (f : Flow) → Keeps f f
+Keeps-refl f = record { end = refl; limit = refl; place = SamePlace-refl f; spends = Spends-refl f.incoming (budget_of f); left = λ k. refl; total = λ k. refl }
+
+pub Keeps-trans : (a b c : Flow) → Keeps a b → Keeps b c → Keeps a c
+Keeps-trans a b c p q = record {
+  end = q.end ∙ p.end;
+  limit = q.limit ∙ p.limit;
+  place = SamePlace-trans a b c p.place q.place;
+  spends = Spends-trans a.incoming (budget_of a) b.incoming (budget_of b) c.incoming (budget_of c) p.spends q.spends;
+  left = λ k. q.left (p.spends.tells k) ∙ p.left k;
+  total = λ k. q.total (p.spends.tells k) ∙ p.total k;
+}
+
+pub nothing_left : (f : Flow) → stop_of f ≤ f.loaded → left_of f ≡ f.window
+nothing_left f at = ap (λ (s : List Bool). f.window ++ s) (none_taken (stop_of f - f.loaded) (known_bytes f.incoming.to_come) (omega arith)) ∙ append-nil f.window
+
+-- a wrapper ends the stream within the limit
+pub stops_at_end : (f : Flow) → stop_of f ≤ f.loaded → f.end ≤ f.limit → NoMore f f false
+stops_at_end f at le = record {
+  keeps = Keeps-refl f;
+  window = refl;
+  left = λ k. nothing_left f at;
+  cut = λ k. and_right (ltb f.limit (total_of f)) (ltb f.limit f.end) (le-ltb f.limit f.end le);
+  left_now = nothing_left f at;
+  cut_now = and_right (ltb f.limit (total_of f)) (ltb f.limit f.end) (le-ltb f.limit f.end le);
+}
+
+-- the input was seen to be longer
+pub stops_at_limit : (f : Flow) → stop_of f ≤ f.loaded → f.limit < f.end → f.limit < f.loaded → NoMore f f true
+stops_at_limit f at lt over =
+    let cut : is_cut f ≡ true = and_from (ltb f.limit (total_of f)) (ltb f.limit f.end) (lt-ltb f.limit (total_of f) (omega arith)) (lt-ltb f.limit f.end lt) in
+    record {
+      keeps = Keeps-refl f;
+      window = refl;
+      left = λ k. nothing_left f at;
+      cut = λ k. cut;
+      left_now = nothing_left f at;
+      cut_now = cut;
+    }
+
+-- the source was at its end before
+pub stops_again : (f : Flow) → IsFlow f → f.ended ≡ true → NoMore f f false
+stops_again f is e =
+    let end = is.ended e in
+    let none : known_bytes f.incoming.to_come ≡ [] = at_end f.incoming.to_come end.0 in
+    let few : length (known_bytes f.incoming.to_come) ≡ 0 = ap length none in
+    let left : left_of f ≡ f.window = ap (λ (s : List Bool). f.window ++ s) (none_there (stop_of f - f.loaded) (known_bytes f.incoming.to_come) none) ∙ append-nil f.window in
+    let cut : is_cut f ≡ false = and_left (ltb f.limit (total_of f)) (ltb f.limit f.end) (le-ltb f.limit (total_of f) (omega (arith, end.1, few))) in
+    record { keeps = Keeps-refl f; window = refl; left = λ k. left; cut = λ k. cut; left_now = left; cut_now = cut }
+
+none_given : (old new : Incoming) (count : ℕ) (into : List ℕ) → count ≡ 0 → Gave old new count into → Gave old new 0 into
+none_given old new count into e gave = subst (λ (n : ℕ). Gave old new n into) e gave
+
+-- what the end of the source says of the bytes to come, before and after
+pub ends_so : (i j : Incoming) (count : ℕ) (into : List ℕ) → count ≡ 0 → Gave i j count into → 0 < length into → (known_bytes j.to_come ≡ []) × (IsSome i.to_come → known_bytes i.to_come ≡ [])
+ends_so i j count into zero_given given room =
+    let gave = none_given i j count into zero_given given in
+    let none : known_bytes j.to_come ≡ [] = at_end j.to_come (gave.end refl room) in
+    (none, λ k. (consumed i.to_come j.to_come [] gave.bytes k).1 ∙ none)
+
+-- the source says now that it is at its end
+pub ends_here : (f : Flow) (i : Incoming) (count : ℕ) (into : List ℕ) → f.ended ≡ false → f.loaded ≤ f.limit → count ≡ 0 → Gave f.incoming i count into → 0 < length into → NoMore f (record f { incoming = i; ended = true }) false
+ends_here f i count into going le zero_given given room =
+    let so = ends_so f.incoming i count into zero_given given room in
+    let none : known_bytes i.to_come ≡ [] = so.0 in
+    let before : IsKnown f → known_bytes f.incoming.to_come ≡ [] = so.1 in
+    let after : Flow = record f { incoming = i; ended = true } in
+    let left_before : IsKnown f → left_of f ≡ f.window = λ k. ap (λ (s : List Bool). f.window ++ s) (none_there (stop_of f - f.loaded) (known_bytes f.incoming.to_come) (before k)) ∙ append-nil f.window in
+    let left_after : left_of after ≡ f.window = ap (λ (s : List Bool). f.window ++ s) (none_there (stop_of f - f.loaded) (known_bytes i.to_come) none) ∙ append-nil f.window in
+    record {
+      keeps = record {
+        end = refl;
+        limit = refl;
+        place = record { loaded = omega arith; exact = omega arith };
+        spends = rw going (gave_spends f.incoming i count into (f.limit + 1 - f.loaded) 0 given (omega arith) (omega arith));
+        left = λ k. left_after ∙ sym (left_before k);
+        total = λ k. omega (arith, ap length none, ap length (before k));
+      };
+      window = refl;
+      left = left_before;
+      cut = λ k. and_left (ltb f.limit (total_of f)) (ltb f.limit f.end) (le-ltb f.limit (total_of f) (omega (arith, le, ap length (before k))));
+      left_now = left_after;
+      cut_now = and_left (ltb f.limit (total_of after)) (ltb f.limit f.end) (le-ltb f.limit (total_of after) (omega (arith, le, ap length none)));
+    }
+
+-- bytes that came were those to come
+pub came : (i j : Incoming) (count : ℕ) (into : List ℕ) → Gave i j count into → IsSome i.to_come → (known_bytes i.to_come ≡ take count into ++ known_bytes j.to_come) × (length (known_bytes i.to_come) ≡ count + length (known_bytes j.to_come))
+came i j count into gave k =
+    let all = (consumed i.to_come j.to_come (take count into) gave.bytes k).1 in
+    (all, omega (arith, ap length all, length-append (take count into) (known_bytes j.to_come), length-take-le count into gave.fits))
+
+-- a byte past the limit shows that the input is longer
+pub goes_past : (f : Flow) (i : Incoming) (count : ℕ) (into : List ℕ) → f.ended ≡ false → stop_of f ≤ f.loaded → f.loaded ≤ f.limit → f.limit < f.end → (count ≡ 0 → ⊥) → length into ≡ 1 → Gave f.incoming i count into → NoMore f (record f { incoming = i; loaded = f.loaded + 1 }) true
+goes_past f i count into going at le lt some len gave =
+    let one : count ≡ 1 = omega (arith, gave.fits) in
+    let after : Flow = record f { incoming = i; loaded = f.loaded + 1 } in
+    let fewer : IsKnown f → length (known_bytes f.incoming.to_come) ≡ 1 + length (known_bytes i.to_come) = λ k. omega (arith, (came f.incoming i count into gave k).1) in
+    record {
+      keeps = record {
+        end = refl;
+        limit = refl;
+        place = record { loaded = omega arith; exact = omega arith };
+        spends = rw going (gave_spends f.incoming i count into (f.limit + 1 - f.loaded) (f.limit + 1 - (f.loaded + 1)) gave (omega arith) (omega arith));
+        left = λ k. nothing_left after (omega arith) ∙ sym (nothing_left f at);
+        total = λ k. omega (arith, fewer k);
+      };
+      window = refl;
+      left = λ k. nothing_left f at;
+      cut = λ k. and_from (ltb f.limit (total_of f)) (ltb f.limit f.end) (lt-ltb f.limit (total_of f) (omega (arith, fewer k))) (lt-ltb f.limit f.end lt);
+      left_now = nothing_left after (omega arith);
+      cut_now = and_from (ltb f.limit (total_of after)) (ltb f.limit f.end) (lt-ltb f.limit (total_of after) (omega arith)) (lt-ltb f.limit f.end lt);
+    }
+
+-- the front of the bytes to come, and what is left of them
+pub front_came : (i j : Incoming) (count : ℕ) (into : List ℕ) (room : ℕ) → Gave i j count into → IsSome i.to_come → bits_of_bytes (take (count + room) (known_bytes i.to_come)) ≡ bits_of_bytes (take count into) ++ bits_of_bytes (take room (known_bytes j.to_come))
+front_came i j count into room gave k =
+    let taken : length (take count into) ≡ count = length-take-le count into gave.fits in
+    let split : take (count + room) (known_bytes i.to_come) ≡ take count into ++ take room (known_bytes j.to_come) = ap (λ (n : ℕ). take (n + room) (known_bytes i.to_come)) (sym taken) ∙ ap (λ (b : List ℕ). take (length (take count into) + room) b) (came i j count into gave k).0 ∙ take-append-add (take count into) (known_bytes j.to_come) room in
+    ap bits_of_bytes split ∙ bits_of_bytes-append (take count into) (take room (known_bytes j.to_come))
+
+-- bytes came into the window
+bytes_came : (f : Flow) (i : Incoming) (count : ℕ) (into : List ℕ) → f.ended ≡ false → f.loaded + count ≤ stop_of f → 0 < count → Gave f.incoming i count into
+    → Keeps f (record f { window = f.window ++ bits_of_bytes (take count into); incoming = i; loaded = f.loaded + count })
+bytes_came f i count into going le some gave =
+    let taken : length (take count into) ≡ count = length-take-le count into gave.fits in
+    let len : length (f.window ++ bits_of_bytes (take count into)) ≡ length f.window + 8 * count = omega (arith, length-append f.window (bits_of_bytes (take count into)), length-bits_of_bytes (take count into), taken) in
+    let room : stop_of f - f.loaded ≡ count + (stop_of f - (f.loaded + count)) = omega arith in
+    record {
+      end = refl;
+      limit = refl;
+      place = record { loaded = omega (arith, len); exact = omega (arith, len) };
+      spends = rw going (gave_spends f.incoming i count into (f.limit + 1 - f.loaded) (f.limit + 1 - (f.loaded + count)) gave (omega arith) (omega arith));
+      left = λ k. append_assoc f.window (bits_of_bytes (take count into)) (bits_of_bytes (take (stop_of f - (f.loaded + count)) (known_bytes i.to_come)))
+          ∙ ap (λ (s : List Bool). f.window ++ s) (sym (ap (λ (n : ℕ). bits_of_bytes (take n (known_bytes f.incoming.to_come))) room ∙ front_came f.incoming i count into (stop_of f - (f.loaded + count)) gave k));
+      total = λ k. omega (arith, (came f.incoming i count into gave k).1);
+    }
+
+-- the same, as the window has them
+pub bytes_came_as : (f : Flow) (i : Incoming) (count : ℕ) (into rest : List ℕ) (window : List Bool) → f.ended ≡ false → length into ≤ stop_of f - f.loaded → f.loaded ≤ stop_of f → (count ≡ 0 → ⊥) → Gave f.incoming i count into
+    → window ≡ f.window ++ bits_of_bytes (take count (into ++ rest)) → Keeps f (record f { window = window; incoming = i; loaded = f.loaded + count }) × (length f.window < length window)
+bytes_came_as f i count into rest window going le fits some gave is =
+    let same : take count (into ++ rest) ≡ take count into = take-append-le count into rest gave.fits in
+    let w : window ≡ f.window ++ bits_of_bytes (take count into) = is ∙ ap (λ (b : List ℕ). f.window ++ bits_of_bytes b) same in
+    let positive : 0 < count = omega arith in
+    (rw w (bytes_came f i count into going (omega (arith, gave.fits)) positive gave), omega (arith, ap length w, length-append f.window (bits_of_bytes (take count into)), length-bits_of_bytes (take count into), length-take-le count into gave.fits))
+
+pub flow_after : (f : Flow) (i : Incoming) (count : ℕ) (into rest : List ℕ) (window : List Bool) → IsFlow f → f.ended ≡ false → length into ≤ stop_of f - f.loaded → f.loaded ≤ stop_of f → 8 * length into + length f.window ≤ 64 → Gave f.incoming i count into
+    → window ≡ f.window ++ bits_of_bytes (take count (into ++ rest)) → IsFlow (record f { window = window; incoming = i; loaded = f.loaded + count })
+flow_after f i count into rest window was going le fits room gave is =
+    let same : take count (into ++ rest) ≡ take count into = take-append-le count into rest gave.fits in
+    let w : window ≡ f.window ++ bits_of_bytes (take count into) = is ∙ ap (λ (b : List ℕ). f.window ++ bits_of_bytes b) same in
+    let len : length window ≡ length f.window + 8 * count = omega (arith, ap length w, length-append f.window (bits_of_bytes (take count into)), length-bits_of_bytes (take count into), length-take-le count into gave.fits) in
+    record {
+      held = omega (arith, gave.fits);
+      loaded = omega (arith, gave.fits);
+      limit = was.limit;
+      place = omega (arith, was.place);
+      ended = λ e. absurd (false≢true (sym going ∙ e));
+    }
+
+-- the source failed
+pub source_failed : (f : Flow) (i : Incoming) → f.ended ≡ false → f.loaded ≤ f.limit → GaveNone f.incoming i → Lost f (record f { incoming = i })
+source_failed f i going le none = record {
+  place = record { loaded = omega arith; exact = refl };
+  spends = rw going (failed_spends f.incoming i (f.limit + 1 - f.loaded) none (omega arith));
+  failed = elim (cases_lt (max f.incoming.pulls f.incoming.failures) (2 ^ 64 - 1)) [
+    | inl fresh ↦ inl (omega (arith, (none.counted fresh).1))
+    | inr worn ↦ let same : i ≡ f.incoming = none.worn worn in inr (rw same worn)
+  ];
+}
+
+-- ---- several times
+
+same_cut : (a b : Flow) → Keeps a b → IsKnown a → is_cut a ≡ is_cut b
+same_cut a b kept k = rw (kept.limit, kept.end, kept.total k) refl
+
+-- nothing more comes, and the bits that came are too few
+runs_out : (n : ℕ) (a b c : Flow) (by_limit : Bool) → Keeps a b → NoMore b c by_limit → length b.window < n → RunsOut a c n by_limit
+runs_out n a b c by_limit kept none few = record {
+  keeps = Keeps-trans a b c kept none.keeps;
+  left = λ k. rw (sym (kept.left k)) (rw (none.left (kept.spends.tells k)) few);
+  cut = λ k. same_cut a b kept k ∙ none.cut (kept.spends.tells k);
+  left_now = omega (arith, ap length none.left_now, ap length none.window);
+  cut_now = none.cut_now;
+}
+
+pub lost_after : (a b c : Flow) → Keeps a b → Lost b c → Lost a c
+lost_after a b c kept lost = record {
+  place = SamePlace-trans a b c kept.place lost.place;
+  spends = Spends-trans a.incoming (budget_of a) b.incoming (budget_of b) c.incoming 0 kept.spends lost.spends;
+  failed = elim lost.failed [ inl more ↦ inl (omega (arith, kept.spends.failures, more)) | inr worn ↦ inr worn ];
+}
+
+pub not_filled : (n : ℕ) (a b c : Flow) (missing : Missing) → Keeps a b → length b.window < n → Misses b c missing → Fills n a c (Err missing)
+not_filled n a b c End kept few none = runs_out n a b c false kept none few
+not_filled n a b c Limit kept few none = runs_out n a b c true kept none few
+not_filled n a b c Read kept few lost = lost_after a b c kept lost

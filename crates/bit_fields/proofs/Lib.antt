@@ -1,0 +1,13 @@
+pub mod BitLaws
+pub mod InflowLaws
+pub mod Shortening
+pub mod Draining
+pub mod Composing
+pub mod Parts
+pub mod Chunks
+pub mod Padding
+pub mod AtTheEnd
+pub mod Gap
+pub mod Starting
+pub mod WriterLaws
+pub mod WriterChunks

@@ -1,0 +1,145 @@
+-- The chunks of a VBR, written one after the other.
+use Rattle.std.proofs.Common.{◌≡◌, ℕ, zero, suc, ◌+◌, ◌*◌, ◌-◌, ◌/◌, ◌%◌, ◌^◌, ◌<◌, ◌≤◌, Bool, true, false, ltb, List, [], ◌∷◌, ◌++◌, bit_and, Result, Err, refl, sym, ap, ◌∙◌, subst, arith, append_assoc}
+use Rattle.std.proofs.Math.Nat.{div-add-mod, div-le_of_le-mul, div-lt_self}
+use Rattle.std.proofs.Math.Pow.{pow_mono, shr_lt}
+use Rattle.std.proofs.lemmas.Nat.{and_mask, one_shl, mod_below, pow_pos}
+use Rattle.std.proofs.lemmas.Bool.{lt-ltb, le-ltb}
+use Rattle.bit_grammar.specs.Bits.{bits_of}
+use Rattle.bit_grammar.specs.Fields.{chunk_limit}
+use Rattle.bit_grammar.specs.FormatFields.{chunked, shortest_payloads, shortest}
+use Rattle.bit_fields.specs.Writer.{Writer, Wrote, Writes}
+use Rattle.bit_fields.specs.declared.fault.Fault.{Fault}
+use Rattle.bit_grammar.proofs.Numbers.{length-bits_of}
+use Rattle.bit_fields.proofs.BitLaws.{bits_of-above, bits_of-mod}
+use Rattle.bit_fields.proofs.WriterLaws.{wrote_nothing, wrote_then_wrote, wrote_then, not_written}
+
+-- ---- one chunk
+
+-- a chunk with another one behind it, as it is computed
+abbrev pub chunk : (n rest : ℕ) → ℕ
+chunk n rest = bit_and rest (1 * 2 ^ (n - 1) % 2 ^ 64 - 1) + 1 * 2 ^ (n - 1) % 2 ^ 64
+
+chunk_is : (n rest : ℕ) → n ≤ 32 → chunk n rest ≡ rest % 2 ^ (n - 1) + 1 * 2 ^ (n - 1)
+chunk_is n rest few = rw (one_shl (n - 1) 64 (omega arith), and_mask rest (n - 1)) (omega arith)
+
+width_is : (n : ℕ) → 2 ≤ n → n ≡ n - 1 + 1
+width_is n some = omega arith
+
+pub chunk_bits : (n rest : ℕ) → 2 ≤ n → n ≤ 32 → bits_of n (chunk n rest) ≡ bits_of (n - 1) rest ++ true ∷ []
+chunk_bits n rest some few =
+    let low : rest % 2 ^ (n - 1) < 2 ^ (n - 1) = mod_below rest (2 ^ (n - 1)) (pow_pos (n - 1)) in
+    ap (bits_of n) (chunk_is n rest few)
+    ∙ ap (λ k. bits_of k (rest % 2 ^ (n - 1) + 1 * 2 ^ (n - 1))) (width_is n some)
+    ∙ bits_of-above (n - 1) 1 (rest % 2 ^ (n - 1)) 1 low
+    ∙ ap (λ (s : List Bool). s ++ true ∷ []) (bits_of-mod (n - 1) rest)
+
+pub last_bits : (n rest : ℕ) → 2 ≤ n → rest < 2 ^ (n - 1) → bits_of n rest ≡ bits_of (n - 1) rest ++ false ∷ []
+last_bits n rest some lt =
+    let e : rest ≡ rest + 0 * 2 ^ (n - 1) = omega arith in
+    ap (bits_of n) e ∙ ap (λ k. bits_of k (rest + 0 * 2 ^ (n - 1))) (width_is n some) ∙ bits_of-above (n - 1) 1 rest 0 lt
+
+-- ---- the chunks of a value
+
+-- the chunks that spell what is left of a value, of which so many are permitted
+abbrev pub tail : (payload permitted rest : ℕ) → List Bool
+tail payload permitted rest = chunked (shortest_payloads payload permitted rest)
+
+-- chunks of a value: one, or more than one
+tail_last : (payload permitted rest : ℕ) → rest < 2 ^ payload → tail payload (suc permitted) rest ≡ bits_of payload rest ++ false ∷ []
+tail_last payload permitted rest lt = let is : ltb rest (2 ^ payload) ≡ true = lt-ltb _ _ lt in rw is refl
+
+tail_more : (payload permitted rest : ℕ) → 2 ^ payload ≤ rest → tail payload (suc (suc permitted)) rest ≡ (bits_of payload rest ++ true ∷ []) ++ tail payload (suc permitted) (rest / 2 ^ payload)
+tail_more payload permitted rest le =
+    let is : ltb rest (2 ^ payload) ≡ false = le-ltb _ _ le in
+    rw is (sym (append_assoc (bits_of payload rest) (true ∷ []) (tail payload (suc permitted) (rest / 2 ^ payload))))
+
+-- the payloads of the permitted chunks hold every value of 64 bits
+limit_is_enough : (payload : ℕ) → 0 < payload → 64 ≤ payload * chunk_limit payload
+limit_is_enough payload some = omega (arith, div-add-mod (63 + payload) payload, mod_below (63 + payload) payload some)
+
+-- so few chunks that their bits can be counted
+limit_is_small : (payload : ℕ) → 0 < payload → chunk_limit payload ≤ 64
+limit_is_small payload some = div-le_of_le-mul payload (omega arith)
+
+-- one chunk at least is permitted
+limit_is : (payload : ℕ) → 0 < payload → chunk_limit payload ≡ suc (chunk_limit payload - 1)
+limit_is payload some = one_more payload (chunk_limit payload) (limit_is_enough payload some)
+  where
+    one_more : (payload limit : ℕ) → 64 ≤ payload * limit → limit ≡ suc (limit - 1)
+    one_more payload zero enough = absurd (omega (arith, enough))
+    one_more payload (suc limit) enough = let e : suc limit - 1 ≡ limit = omega arith in rw e refl
+
+-- a value of one chunk
+pub shortest_of_one : (n value : ℕ) → 2 ≤ n → value < 2 ^ (n - 1) → shortest n value ≡ bits_of n value
+shortest_of_one n value some lt =
+    ap (λ k. tail (n - 1) k value) (limit_is (n - 1) (omega arith)) ∙ tail_last (n - 1) (chunk_limit (n - 1) - 1) value lt ∙ sym (last_bits n value some lt)
+
+-- what is left after a chunk is less
+pub part_smaller : (n rest : ℕ) → 2 ≤ n → 2 ^ (n - 1) ≤ rest → rest / 2 ^ (n - 1) < rest
+part_smaller n rest some le =
+    let two : 2 ^ 1 ≤ 2 ^ (n - 1) = pow_mono {i = 1} {j = n - 1} (omega arith) in
+    div-lt_self (omega (arith, two)) (omega (arith, two))
+
+-- ---- chunks that were written
+
+-- chunks were written, and one at least is permitted for what is left of the value
+pub record Chunking (n value : ℕ) (start now : Writer) (rest : ℕ) : Type 0 where
+  pub done : List Bool
+  pub permitted : ℕ
+  pub wrote : Wrote start done now
+  pub whole : shortest n value ≡ done ++ tail (n - 1) (suc permitted) rest
+  pub below : rest < 2 ^ ((n - 1) * suc permitted)
+  pub room : now.position + 32 * suc permitted < 2 ^ 64
+
+pub chunking_starts : (n value : ℕ) (start : Writer) → 2 ≤ n → n ≤ 32 → value < 2 ^ 64 → start.live ≡ true → start.position < 2 ^ 63 → Chunking n value start start value
+chunking_starts n value start some few below live position =
+    let is : chunk_limit (n - 1) ≡ suc (chunk_limit (n - 1) - 1) = limit_is (n - 1) (omega arith) in
+    let enough : 64 ≤ (n - 1) * suc (chunk_limit (n - 1) - 1) = subst (λ k. 64 ≤ (n - 1) * k) is (limit_is_enough (n - 1) (omega arith)) in
+    record {
+      done = [];
+      permitted = chunk_limit (n - 1) - 1;
+      wrote = wrote_nothing start live;
+      whole = ap (λ k. tail (n - 1) k value) is;
+      below = omega (arith, below, pow_mono enough);
+      room = omega (arith, position, limit_is_small (n - 1) (omega arith), is);
+    }
+
+-- more of the value than one chunk holds: a second chunk is permitted
+another : (payload permitted rest : ℕ) → 2 ^ payload ≤ rest → rest < 2 ^ (payload * suc permitted) → (fewer : ℕ) × (permitted ≡ suc fewer)
+another payload zero rest le lt = let e : payload * 1 ≡ payload = omega arith in let one : rest < 2 ^ payload = rw e at lt in absurd (omega arith)
+another payload (suc fewer) rest le lt = (fewer, refl)
+
+-- one chunk of what is left, and the rest of it
+chunks_left : (n value rest permitted fewer : ℕ) (done : List Bool) → 2 ≤ n → n ≤ 32 → 2 ^ (n - 1) ≤ rest → shortest n value ≡ done ++ tail (n - 1) (suc permitted) rest → permitted ≡ suc fewer
+    → shortest n value ≡ (done ++ bits_of n (chunk n rest)) ++ tail (n - 1) (suc fewer) (rest / 2 ^ (n - 1))
+chunks_left n value rest permitted fewer done some few le whole is =
+    let others : List Bool = tail (n - 1) (suc fewer) (rest / 2 ^ (n - 1)) in
+    whole
+    ∙ ap (λ (s : List Bool). done ++ s) (ap (λ k. tail (n - 1) (suc k) rest) is ∙ tail_more (n - 1) fewer rest le ∙ ap (λ (s : List Bool). s ++ others) (sym (chunk_bits n rest some few)))
+    ∙ sym (append_assoc done (bits_of n (chunk n rest)) others)
+
+pub chunking_goes_on : (n value : ℕ) (start now next : Writer) (rest : ℕ) → 2 ≤ n → n ≤ 32 → 2 ^ (n - 1) ≤ rest → Chunking n value start now rest → Wrote now (bits_of n (chunk n rest)) next → Chunking n value start next (rest / 2 ^ (n - 1))
+chunking_goes_on n value start now next rest some few le c wrote =
+    let k = another (n - 1) c.permitted rest le c.below in
+    let more : (n - 1) * suc (suc k.0) ≡ (n - 1) * suc k.0 + (n - 1) = omega arith in
+    let below : rest < 2 ^ ((n - 1) * suc k.0 + (n - 1)) = subst (λ x. rest < 2 ^ x) (ap (λ x. (n - 1) * suc x) k.1 ∙ more) c.below in
+    record {
+      done = c.done ++ bits_of n (chunk n rest);
+      permitted = k.0;
+      wrote = wrote_then_wrote start now next c.done (bits_of n (chunk n rest)) c.wrote wrote;
+      whole = chunks_left n value rest c.permitted k.0 c.done some few le c.whole k.1;
+      below = shr_lt ((n - 1) * suc k.0) (n - 1) below;
+      room = omega (arith, c.room, k.1, wrote.position, length-bits_of n (chunk n rest));
+    }
+
+pub chunking_fails : (n value : ℕ) (start now next : Writer) (rest : ℕ) (fault : Fault) → 2 ≤ n → n ≤ 32 → 2 ^ (n - 1) ≤ rest → Chunking n value start now rest → Writes (bits_of n (chunk n rest)) now (Err fault) next → Writes (shortest n value) start (Err fault) next
+chunking_fails n value start now next rest fault some few le c writes =
+    let k = another (n - 1) c.permitted rest le c.below in
+    let part : List Bool = c.done ++ bits_of n (chunk n rest) in
+    subst (λ (s : List Bool). Writes s start (Err fault) next) (sym (chunks_left n value rest c.permitted k.0 c.done some few le c.whole k.1))
+    (not_written part (tail (n - 1) (suc k.0) (rest / 2 ^ (n - 1))) start fault next (wrote_then start now next c.done (bits_of n (chunk n rest)) (Err fault) c.wrote writes))
+
+pub chunking_ends : (n value : ℕ) (start now next : Writer) (rest : ℕ) (r : Result (Unit {0}) Fault) → 2 ≤ n → rest < 2 ^ (n - 1) → Chunking n value start now rest → Writes (bits_of n rest) now r next → Writes (shortest n value) start r next
+chunking_ends n value start now next rest r some lt c writes =
+    let is : shortest n value ≡ c.done ++ bits_of n rest = c.whole ∙ ap (λ (s : List Bool). c.done ++ s) (tail_last (n - 1) c.permitted rest lt ∙ sym (last_bits n rest some lt)) in
+    subst (λ (s : List Bool). Writes s start r next) (sym is) (wrote_then start now next c.done (bits_of n rest) r c.wrote writes)

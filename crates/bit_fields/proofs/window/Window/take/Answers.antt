@@ -1,0 +1,25 @@
+use Rattle.std.proofs.Common.{◌≡◌, sym, ap, ◌∙◌, length, arith}
+use Rattle.bit_grammar.proofs.Numbers.{length-bits_of}
+use Rattle.bit_fields.proofs.BitLaws.{window_value, window_rest, rest_below, below_mask}
+use Rattle.bit_fields.proofs.window.Window.take.Goals as goal
+
+pub overflow_sub-self : goal.overflow_sub-self
+overflow_sub-self c = let e : c.self.inside.held ≡ length c.args.self.now = sym (length-bits_of c.self.inside.held c.self.inside.word) ∙ ap length c.self.view_is in omega arith
+
+pub invariant_of-self : goal.invariant_of-self
+invariant_of-self c =
+    let e : c.self.inside.held ≡ length c.args.self.now = sym (length-bits_of c.self.inside.held c.self.inside.word) ∙ ap length c.self.view_is in
+    (omega arith, rest_below c.self.inside.held c.self.inside.word c.args.n (omega arith) c.self.invariant.1)
+
+pub returns-clause-value : goal.returns-clause-value
+returns-clause-value c =
+    let e : c.self.inside.held ≡ length c.args.self.now = sym (length-bits_of c.self.inside.held c.self.inside.word) ∙ ap length c.self.view_is in
+    window_value c.self.inside.held c.self.inside.word c.args.n c.args.self.now c.requires.few (omega arith) c.self.view_is
+
+pub returns-clause-rest : goal.returns-clause-rest
+returns-clause-rest c =
+    let e : c.self.inside.held ≡ length c.args.self.now = sym (length-bits_of c.self.inside.held c.self.inside.word) ∙ ap length c.self.view_is in
+    window_rest c.self.inside.held c.self.inside.word c.args.n c.args.self.now (omega arith) c.self.view_is
+
+pub returns-clause-below : goal.returns-clause-below
+returns-clause-below c = below_mask c.self.inside.word c.args.n c.requires.few

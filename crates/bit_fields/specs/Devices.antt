@@ -1,0 +1,97 @@
+-- What is known of a source and of a sink, and what a call of them does.
+use Rattle.std.specs.Prelude.{◌≡◌, ℕ, ◌+◌, ◌-◌, ◌^◌, ◌<◌, ◌≤◌, max, List, [], length, take, Option, Some, None, IsSome, Result, Ok, Err}
+use Rattle.std.specs.Io.KnownBytes.{Consumes, Appends, Keeps, IsAtEnd}
+use Rattle.bit_fields.specs.declared.source.SourceFailed.{SourceFailed}
+use Rattle.bit_fields.specs.declared.sink.SinkFailed.{SinkFailed}
+
+-- the bytes, and no bytes where they are not known
+abbrev pub known_bytes : Option (List ℕ) → List ℕ
+known_bytes None = []
+known_bytes (Some bytes) = bytes
+
+-- ---- sources
+
+-- a source: the bytes still to come, where it tells them, and how often it was asked and failed
+pub record Incoming : Type 0 where
+  pub to_come : Option (List ℕ)
+  pub pulls : ℕ
+  pub failures : ℕ
+
+-- a count stands at its end, so that no more can be counted
+abbrev pub IsWorn : Incoming → Type 0
+IsWorn i = 2 ^ 64 - 1 ≤ max i.pulls i.failures
+
+-- more can be counted
+abbrev pub IsFresh : Incoming → Type 0
+IsFresh i = max i.pulls i.failures < 2 ^ 64 - 1
+
+-- a pull gave the next bytes, none only at the end
+pub record Gave (old new : Incoming) (count : ℕ) (into : List ℕ) : Type 0 where
+  pub fresh : IsFresh old
+  pub fits : count ≤ length into
+  pub bytes : Consumes old.to_come new.to_come (take count into)
+  pub end : count ≡ 0 → 0 < length into → IsAtEnd new.to_come
+  pub pulls : new.pulls ≡ old.pulls + 1
+  pub failures : new.failures ≡ old.failures
+
+-- a pull failed: it took no byte, and is counted unless the source was worn, which changes nothing
+pub record GaveNone (old new : Incoming) : Type 0 where
+  pub bytes : Keeps old.to_come new.to_come
+  pub counted : IsFresh old → (new.pulls ≡ old.pulls + 1) × (new.failures ≡ old.failures + 1)
+  pub worn : IsWorn old → new ≡ old
+
+-- what a pull into a slice does
+abbrev pub Pulls : Incoming → Incoming → Result ℕ SourceFailed → List ℕ → Type 0
+Pulls old new (Ok count) into = Gave old new count into
+Pulls old new (Err e) into = GaveNone old new
+
+-- What may be asked of a source, as a number of pulls and of bytes, went from one number to another: each pull and each
+-- byte was paid for, no failure was forgotten, and the source tells its bytes as before.
+pub record Spends (old : Incoming) (before : ℕ) (new : Incoming) (after : ℕ) : Type 0 where
+  pub pulls : new.pulls + after ≤ old.pulls + before
+  pub failures : old.failures ≤ new.failures
+  pub tells : IsSome old.to_come → IsSome new.to_come
+  pub bytes : IsSome old.to_come → length (known_bytes old.to_come) + after ≤ length (known_bytes new.to_come) + before
+
+-- ---- sinks
+
+-- a sink: the bytes that it holds, those that stood there before it was made included, where it tells them, and how often
+-- it failed
+pub record Outgoing : Type 0 where
+  pub bytes : Option (List ℕ)
+  pub failures : ℕ
+
+-- its count stands at its end
+abbrev pub IsSpent : Outgoing → Type 0
+IsSpent o = 2 ^ 64 - 1 ≤ o.failures
+
+-- a put took the front of what it was given; to take none of a slice that is not empty is counted as a failure
+pub record Accepted (old new : Outgoing) (count : ℕ) (from : List ℕ) : Type 0 where
+  pub fresh : old.failures < 2 ^ 64 - 1
+  pub fits : count ≤ length from
+  pub bytes : Appends old.bytes new.bytes (take count from)
+  pub failures : 0 < count → new.failures ≡ old.failures
+  pub failed : count ≡ 0 → 0 < length from → new.failures ≡ old.failures + 1
+  pub idle : length from ≡ 0 → new.failures ≡ old.failures
+
+-- a put or a flush failed: no byte was taken, and it is counted unless the sink was worn, which changes nothing
+pub record Declined (old new : Outgoing) : Type 0 where
+  pub bytes : Keeps old.bytes new.bytes
+  pub counted : old.failures < 2 ^ 64 - 1 → new.failures ≡ old.failures + 1
+  pub worn : IsSpent old → new ≡ old
+
+-- what a put of a slice does
+abbrev pub Puts : Outgoing → Outgoing → Result ℕ SinkFailed → List ℕ → Type 0
+Puts old new (Ok count) from = Accepted old new count from
+Puts old new (Err e) from = Declined old new
+
+-- a flush succeeded: no byte came or went
+pub record Flushed (old new : Outgoing) : Type 0 where
+  pub fresh : old.failures < 2 ^ 64 - 1
+  pub bytes : Keeps old.bytes new.bytes
+  pub failures : new.failures ≡ old.failures
+
+-- what a flush does
+abbrev pub Flushes : Outgoing → Outgoing → Result (Unit {0}) SinkFailed → Type 0
+Flushes old new (Ok _) = Flushed old new
+Flushes old new (Err e) = Declined old new

@@ -1,0 +1,186 @@
+-- The bits of a stream that a source still gives, and what taking them in leaves.
+use Rattle.std.specs.Prelude.{◌≡◌, ℕ, ◌+◌, ◌-◌, ◌*◌, ◌^◌, ◌<◌, ◌≤◌, min, Bool, true, false, if◌then◌else◌, List, [], ◌++◌, length, take, drop, IsSome, Result, Ok, Err, nat_lt, ◌&&◌, ◌⊎◌}
+use Rattle.std.specs.Io.KnownBytes.{IsAtEnd}
+use Rattle.bit_grammar.specs.Bits.{bits_of_bytes}
+use Rattle.bit_fields.specs.Devices.{Incoming, IsWorn, Spends, known_bytes}
+use Rattle.bit_fields.specs.declared.inflow.Missing.{Missing}
+use Rattle.bit_fields.specs.declared.inflow.Missing.TheVariants.{End, Limit, Read}
+
+pub record Flow : Type 0 where
+  -- bits that came and were not read yet
+  pub window : List Bool
+  pub incoming : Incoming
+  -- bytes that came
+  pub loaded : ℕ
+  -- the byte at which the stream ends, unless its source ends before
+  pub end : ℕ
+  -- the limit on bytes
+  pub limit : ℕ
+  -- the source has said that it is at its end
+  pub ended : Bool
+
+abbrev pub IsKnown : Flow → Type 0
+IsKnown f = IsSome f.incoming.to_come
+
+-- where the stream ends within the limit
+abbrev pub stop_of : Flow → ℕ
+stop_of f = min f.end f.limit
+
+-- the bits of the stream that are left, up to the limit
+abbrev pub left_of : Flow → List Bool
+left_of f = f.window ++ bits_of_bytes (take (stop_of f - f.loaded) (known_bytes f.incoming.to_come))
+
+-- how many bytes the whole input has
+abbrev pub total_of : Flow → ℕ
+total_of f = f.loaded + length (known_bytes f.incoming.to_come)
+
+-- the bits that are left end because of the limit
+abbrev pub is_cut : Flow → Bool
+is_cut f = nat_lt f.limit (total_of f) && nat_lt f.limit f.end
+
+-- how many pulls may still be made, and bytes taken
+abbrev pub budget_of : Flow → ℕ
+budget_of f = if f.ended then 0 else (f.limit + 1 - f.loaded)
+
+-- what holds between calls
+pub record IsFlow (f : Flow) : Type 0 where
+  pub held : length f.window ≤ 64
+  -- past the limit stands only the byte that shows that the input is longer
+  pub loaded : f.loaded ≤ f.limit + 1
+  pub limit : f.limit < 2 ^ 35
+  pub place : length f.window ≤ 8 * f.loaded
+  pub ended : f.ended ≡ true → IsAtEnd f.incoming.to_come × (f.loaded ≤ f.limit)
+
+-- the bits that came and were read, within the stream and the limit, are so many as before
+pub record SamePlace (old new : Flow) : Type 0 where
+  pub loaded : 8 * old.loaded + length new.window ≤ 8 * new.loaded + length old.window
+  pub exact : 8 * min old.loaded (stop_of old) + length new.window ≡ 8 * min new.loaded (stop_of new) + length old.window
+
+-- what is kept where bytes came, or none are left
+pub record Keeps (old new : Flow) : Type 0 where
+  pub end : new.end ≡ old.end
+  pub limit : new.limit ≡ old.limit
+  pub place : SamePlace old new
+  pub spends : Spends old.incoming (budget_of old) new.incoming (budget_of new)
+  pub left : IsKnown old → left_of new ≡ left_of old
+  pub total : IsKnown old → total_of new ≡ total_of old
+
+-- nothing more came within the limit
+pub record NoMore (old new : Flow) (by_limit : Bool) : Type 0 where
+  pub keeps : Keeps old new
+  pub window : new.window ≡ old.window
+  pub left : IsKnown old → left_of old ≡ old.window
+  pub cut : IsKnown old → is_cut old ≡ by_limit
+  pub left_now : left_of new ≡ new.window
+  pub cut_now : is_cut new ≡ by_limit
+
+-- the source failed
+pub record Lost (old new : Flow) : Type 0 where
+  pub place : SamePlace old new
+  pub spends : Spends old.incoming (budget_of old) new.incoming 0
+  pub failed : (old.incoming.failures < new.incoming.failures) ⊎ IsWorn new.incoming
+
+-- why no more bits came
+abbrev pub Misses : Flow → Flow → Missing → Type 0
+Misses old new End = NoMore old new false
+Misses old new Limit = NoMore old new true
+Misses old new Read = Lost old new
+
+-- what taking bytes in leaves
+abbrev pub Brings : Flow → Flow → Result (Unit {0}) Missing → Type 0
+Brings old new (Ok _) = Keeps old new × (length old.window < length new.window)
+Brings old new (Err missing) = Misses old new missing
+
+-- the stream has fewer bits left
+pub record RunsOut (old new : Flow) (n : ℕ) (by_limit : Bool) : Type 0 where
+  pub keeps : Keeps old new
+  pub left : IsKnown old → length (left_of old) < n
+  pub cut : IsKnown old → is_cut old ≡ by_limit
+  pub left_now : length (left_of new) < n
+  pub cut_now : is_cut new ≡ by_limit
+
+-- what making sure of n bits leaves
+abbrev pub Fills : ℕ → Flow → Flow → Result (Unit {0}) Missing → Type 0
+Fills n old new (Ok _) = Keeps old new × (n ≤ length new.window)
+Fills n old new (Err End) = RunsOut old new n false
+Fills n old new (Err Limit) = RunsOut old new n true
+Fills n old new (Err Read) = Lost old new
+
+-- the stream ends at a byte: the bits of the window that stand past it are away
+abbrev pub shortened : Flow → ℕ → Flow
+shortened f end = record f { window = take (length f.window - 8 * (min f.loaded f.limit - end)) f.window; end = end }
+
+-- bytes of the stream were passed that nobody reads
+pub record Passes (old new : Flow) (count : ℕ) : Type 0 where
+  pub some : 0 < count
+  pub window : new.window ≡ []
+  pub end : new.end ≡ old.end
+  pub limit : new.limit ≡ old.limit
+  pub loaded : new.loaded ≡ old.loaded + count
+  pub within : old.loaded + count ≤ stop_of old
+  pub spends : Spends old.incoming (budget_of old) new.incoming (budget_of new)
+  pub there : IsKnown old → 8 * count ≤ length (left_of old)
+  pub left : IsKnown old → left_of new ≡ drop (8 * count) (left_of old)
+  pub total : IsKnown old → total_of new ≡ total_of old
+
+-- what passing bytes of the stream leaves, at most so many
+abbrev pub Steps : ℕ → Flow → Flow → Result ℕ Missing → Type 0
+Steps most old new (Ok count) = Passes old new count × (count ≤ most)
+Steps most old new (Err missing) = Misses old new missing
+
+-- ---- all that is left, which nobody reads
+
+-- how far it came
+pub record Draining (old new : Flow) : Type 0 where
+  pub window : new.window ≡ old.window
+  pub end : new.end ≡ old.end
+  pub loaded : old.loaded ≤ new.loaded
+  pub limit : new.limit ≡ old.limit
+  pub spends : Spends old.incoming (budget_of old) new.incoming (budget_of new)
+  pub total : IsKnown old → total_of new ≡ total_of old
+
+-- the source has no byte left, and the whole input is within the limit
+pub record Drained (old new : Flow) : Type 0 where
+  pub window : new.window ≡ old.window
+  pub end : new.end ≡ old.end
+  pub loaded : old.loaded ≤ new.loaded
+  pub spends : Spends old.incoming (budget_of old) new.incoming 0
+  pub none : IsKnown old → known_bytes new.incoming.to_come ≡ []
+  pub within : IsKnown old → total_of old ≤ old.limit
+
+-- the input goes on past the limit
+pub record Overran (old new : Flow) : Type 0 where
+  pub window : new.window ≡ old.window
+  pub end : new.end ≡ old.end
+  pub loaded : old.loaded ≤ new.loaded
+  pub limit : new.limit ≡ old.limit
+  pub spends : Spends old.incoming (budget_of old) new.incoming 0
+  pub past : IsKnown old → old.limit < total_of old
+
+-- the source failed before it was at its end
+pub record DrainLost (old new : Flow) : Type 0 where
+  pub window : new.window ≡ old.window
+  pub end : new.end ≡ old.end
+  pub loaded : old.loaded ≤ new.loaded
+  pub spends : Spends old.incoming (budget_of old) new.incoming 0
+  pub failed : (old.incoming.failures < new.incoming.failures) ⊎ IsWorn new.incoming
+
+-- why it did not come to the end
+abbrev pub DrainFails : Flow → Flow → Missing → Type 0
+DrainFails old new End = ⊥
+DrainFails old new Limit = Overran old new
+DrainFails old new Read = DrainLost old new
+
+-- what taking some bytes away leaves
+abbrev pub DrainsSome : Flow → Flow → Result (Unit {0}) Missing → Type 0
+DrainsSome old new (Ok _) = Draining old new
+DrainsSome old new (Err missing) = DrainFails old new missing
+
+-- what taking all bytes away leaves
+abbrev pub Drains : Flow → Flow → Result (Unit {0}) Missing → Type 0
+Drains old new (Ok _) = Drained old new
+Drains old new (Err missing) = DrainFails old new missing
+
+-- how many more bytes may be taken away
+abbrev pub to_drain : Flow → ℕ
+to_drain f = if f.ended then 0 else (f.limit + 2 - f.loaded)

@@ -1,0 +1,65 @@
+-- What a reader is made of, and the parts of its calls.
+use Rattle.std.specs.Prelude.{◌≡◌, ℕ, ◌+◌, ◌-◌, ◌*◌, ◌^◌, ◌<◌, ◌≤◌, min, Bool, true, false, if◌then◌else◌, [], length}
+use Rattle.bit_grammar.specs.declared.reason.Reason.TheVariants.{Truncated, TooLong}
+use Rattle.bit_grammar.specs.Bits.{number}
+use Rattle.bit_grammar.specs.Grammar.{Grammar, gives, ◌>>=◌}
+use Rattle.bit_grammar.specs.Fields.{next_of, zeros}
+use Rattle.bit_fields.specs.declared.fault.Fault.{Fault}
+use Rattle.bit_fields.specs.declared.fault.Fault.TheVariants.{Refused, Read}
+use Rattle.bit_fields.specs.declared.inflow.Missing.{Missing}
+use Rattle.bit_fields.specs.declared.inflow.Missing.TheVariants.{End, Limit}
+use Rattle.bit_fields.specs.declared.inflow.Missing.TheVariants as missing
+use Rattle.bit_fields.specs.Inflow.{Flow, left_of, total_of, budget_of, stop_of}
+use Rattle.bit_fields.specs.Reader.{Reader, Took}
+
+-- a number of so many bits, which are a part of a field that began at start
+abbrev pub part_of : ℕ → ℕ → Grammar ℕ
+part_of start n = next_of start n >>= λ s. gives (number s)
+
+-- so many bits, whatever they are, of a gap that began at start
+abbrev pub gap_of : ℕ → ℕ → Grammar (Unit {0})
+gap_of start n = next_of start n >>= λ s. gives tt
+
+-- a number below, with what a rule gives above it, from a place on
+abbrev pub above : (low place : ℕ) → Grammar ℕ → Grammar ℕ
+above low place rule = rule >>= λ high. gives (low + 2 ^ place * high)
+
+-- what a reader stands for, by its parts
+abbrev pub reader_of : Bool → ℕ → Flow → Reader
+reader_of live position f = record {
+  live = live;
+  position = position;
+  left = if live then left_of f else [];
+  extent = record { total = total_of f; end = f.end; limit = f.limit };
+  incoming = f.incoming;
+  budget = if live then budget_of f else 0;
+}
+
+-- what holds of its parts between calls
+pub record IsReader (live : Bool) (position : ℕ) (f : Flow) : Type 0 where
+  pub place : position + length f.window ≤ 8 * f.loaded
+  pub exact : live ≡ true → position + length f.window ≡ 8 * min f.loaded (stop_of f)
+  pub empty : live ≡ false → f.window ≡ []
+
+-- what a reader is after a fault: it stands where the call that failed began
+abbrev pub stopped_at : Reader → ℕ → Reader
+stopped_at r start = record r { live = false; position = start; left = []; budget = 0 }
+
+-- the fault of a field that began at start, where bits are missing
+abbrev pub fault_of : Missing → ℕ → ℕ → Fault
+fault_of End start limit = Refused Truncated start
+fault_of Limit start limit = Refused TooLong (8 * limit)
+fault_of missing.Read start limit = Read
+
+-- zeros of a padding that began at start were taken, at least one and at most so many
+pub record TookZeros (start most count : ℕ) (old new : Reader) : Type 0 where
+  pub some : 0 < count
+  pub few : count ≤ most
+  pub took : Took (zeros start count) old tt new
+  pub moves : new.position ≡ old.position + count
+
+-- bits of a gap that began at start were taken, at least one and at most up to a bit
+pub record TookGap (start end : ℕ) (old new : Reader) : Type 0 where
+  pub some : old.position < new.position
+  pub few : new.position ≤ end
+  pub took : Took (gap_of start (new.position - old.position)) old tt new

@@ -1,0 +1,109 @@
+-- What a reader of bits stands for, and what a call of it takes. A call that reads is told by a rule of the grammar.
+use Rattle.std.specs.Prelude.{◌≡◌, ℕ, ◌+◌, ◌*◌, ◌<◌, ◌≤◌, ◌⊎◌, Bool, true, false, ◌&&◌, if◌then◌else◌, List, [], ◌++◌, length, IsSome, Result, Ok, Err, nat_lt}
+use Rattle.bit_grammar.specs.declared.reason.Reason.{Reason}
+use Rattle.bit_grammar.specs.declared.reason.Reason.TheVariants.{Truncated, TooLong}
+use Rattle.bit_grammar.specs.Grammar as grammar
+use Rattle.bit_grammar.specs.Grammar.{Grammar, at, Spells, reading}
+use Rattle.bit_fields.specs.declared.fault.Fault.{Fault}
+use Rattle.bit_fields.specs.declared.fault.Fault.TheVariants.{Refused, Read, Write, Memory, OutputTooLong, Failed}
+use Rattle.bit_fields.specs.Devices.{Incoming, IsWorn, Spends}
+
+-- how far a stream goes
+pub record Extent : Type 0 where
+  -- the bytes of the whole input, where its source tells them
+  pub total : ℕ
+  -- the byte at which the stream ends, unless the input ends before; 2 ^ 64 - 1 where no wrapper names one
+  pub end : ℕ
+  -- the limit on bytes
+  pub limit : ℕ
+
+pub record Reader : Type 0 where
+  -- no call failed so far, and it is not closed
+  pub live : Bool
+  -- in bits from the first bit of the input
+  pub position : ℕ
+  -- what is left of the stream, up to the limit on bytes, where the source tells its bytes
+  pub left : List Bool
+  pub extent : Extent
+  pub incoming : Incoming
+  -- how many pulls it may still make, and bytes take
+  pub budget : ℕ
+
+abbrev pub TellsBytes : Reader → Type 0
+TellsBytes r = IsSome r.incoming.to_come
+
+-- the stream goes on past the limit on bytes
+abbrev pub is_cut : Extent → Bool
+is_cut e = nat_lt e.limit e.total && nat_lt e.limit e.end
+
+-- the refusal for a fault of the rules: a stream that seems to end is too long where only the limit on bytes ends it
+abbrev pub within : Extent → Reason → ℕ → grammar.Fault
+within e Truncated bit = if is_cut e then at TooLong (8 * e.limit) else at Truncated bit
+within e reason bit = at reason bit
+
+-- what was read breaks, which is refused for this reason at this bit
+abbrev pub Breaks : {A : Type 0} → Extent → Result (A × ℕ × List Bool) grammar.Fault → Reason → ℕ → Type 0
+Breaks e (Ok x) reason bit = ⊥
+Breaks e (Err fault) reason bit = within e fault.reason fault.bit ≡ at reason bit
+
+-- what every call leaves: it paid for its pulls and bytes, and the source tells its bytes as before
+abbrev pub GoesOn : Reader → Reader → Type 0
+GoesOn old new = Spends old.incoming old.budget new.incoming new.budget
+
+-- a call that succeeded took what the rule reads, and gave its value
+pub record Took {A : Type 0} (rule : Grammar A) (old : Reader) (value : A) (new : Reader) : Type 0 where
+  pub was_live : old.live ≡ true
+  pub live : new.live ≡ true
+  pub goes_on : GoesOn old new
+  pub forward : old.position ≤ new.position
+  pub end : new.extent.end ≡ old.extent.end
+  pub limit : new.extent.limit ≡ old.extent.limit
+  pub extent : TellsBytes old → new.extent ≡ old.extent
+  pub reads : TellsBytes old → reading rule old.position old.left ≡ Ok (value, new.position, new.left)
+
+-- a call after which the reader has failed, or is closed
+pub record Stops (old new : Reader) : Type 0 where
+  pub was_live : old.live ≡ true
+  pub failed : new.live ≡ false
+  pub goes_on : GoesOn old new
+
+-- the source failed in the call, or is worn
+abbrev pub SourceFails : Incoming → Incoming → Type 0
+SourceFails old new = (old.failures < new.failures) ⊎ IsWorn new
+
+-- Why a call did not succeed: the rule breaks so; the source failed; no memory; or the reader had failed before, and
+-- nothing changed.
+abbrev pub Why : {A : Type 0} → Grammar A → Reader → Fault → Reader → Type 0
+Why rule old (Refused reason bit) new = Stops old new × (TellsBytes old → Breaks old.extent (reading rule old.position old.left) reason bit)
+Why rule old Read new = Stops old new × SourceFails old.incoming new.incoming
+Why rule old Memory new = Stops old new
+Why rule old Failed new = (old.live ≡ false) × (new ≡ old)
+Why rule old Write new = ⊥
+Why rule old OutputTooLong new = ⊥
+
+-- this call takes what this rule reads, or answers its break
+abbrev pub Takes : {A : Type 0} → Grammar A → Reader → Result A Fault → Reader → Type 0
+Takes rule old (Ok value) new = Took rule old value new
+Takes rule old (Err fault) new = Why rule old fault new
+
+-- what the code answers, as the rules have it
+abbrev pub told_by : {X A : Type 0} → (X → A) → Result X Fault → Result A Fault
+told_by view (Ok x) = Ok (view x)
+told_by view (Err fault) = Err fault
+
+-- a call that needs no memory of its own
+abbrev pub NeedsNoMemory : {A : Type 0} → Result A Fault → Type 0
+NeedsNoMemory (Ok value) = Unit {0}
+NeedsNoMemory (Err Memory) = ⊥
+NeedsNoMemory (Err fault) = Unit {0}
+
+-- After a success no other bits at the front of what is left, whatever follows it, spell a value of the rule; after a
+-- refusal no bits at the front of what is left up to the limit on bytes do.
+abbrev pub IsOnly : {A : Type 0} → Grammar A → Reader → Result A Fault → Reader → Type 0
+IsOnly {A} rule old (Ok value) new = TellsBytes old → (more s rest : List Bool) (v : A) → old.left ++ more ≡ s ++ rest → Spells rule old.position s v → (new.position ≡ old.position + length s) × (v ≡ value)
+IsOnly {A} rule old (Err (Refused reason bit)) new = TellsBytes old → (s rest : List Bool) (v : A) → old.left ≡ s ++ rest → Spells rule old.position s v → ⊥
+IsOnly rule old (Err fault) new = Unit {0}
+
+-- what a reader is once it has failed: it stays where it stands
+abbrev pub stopped : Reader → Reader
+stopped r = record r { live = false; left = []; budget = 0 }

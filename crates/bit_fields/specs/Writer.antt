@@ -1,0 +1,70 @@
+-- What a writer of bits stands for, and what a call of it does.
+use Rattle.std.specs.Prelude.{◌≡◌, ℕ, ◌+◌, ◌%◌, ◌<◌, ◌≤◌, Bool, true, false, List, ◌++◌, length, IsSome, Result, Ok, Err, ◌⊎◌}
+use Rattle.bit_grammar.specs.Bits.{bits_of_bytes}
+use Rattle.bit_fields.specs.Devices.{Outgoing, IsSpent, known_bytes}
+use Rattle.bit_fields.specs.declared.fault.Fault.{Fault}
+use Rattle.bit_fields.specs.declared.fault.Fault.TheVariants.{Refused, Read, Write, Memory, OutputTooLong, Failed}
+
+pub record Writer : Type 0 where
+  -- no call failed so far
+  pub live : Bool
+  -- how many bits were written
+  pub position : ℕ
+  -- bits that the sink has not got yet
+  pub held : List Bool
+  pub outgoing : Outgoing
+
+-- at most a word of bits is held, and the sink got whole bytes
+pub record IsWriter (w : Writer) : Type 0 where
+  pub most : length w.held ≤ 64
+  pub whole : w.live ≡ true → length w.held % 8 ≡ w.position % 8
+
+-- the sink tells which bytes it took
+abbrev pub TellsBytes : Writer → Type 0
+TellsBytes w = IsSome w.outgoing.bytes
+
+-- the bits of what the sink took
+abbrev pub taken : Writer → List Bool
+taken w = bits_of_bytes (known_bytes w.outgoing.bytes)
+
+-- those, and the bits that it has not got yet
+abbrev pub written : Writer → List Bool
+written w = taken w ++ w.held
+
+-- the sink took these bytes
+abbrev pub Gained : Writer → List ℕ → Writer → Type 0
+Gained old more new = known_bytes new.outgoing.bytes ≡ known_bytes old.outgoing.bytes ++ more
+
+-- the sink has all the bytes that it had, and possibly more
+abbrev pub Grows : Writer → Writer → Type 0
+Grows old new = (more : List ℕ) × Gained old more new
+
+-- bits were written: they stand behind what was written before
+pub record Wrote (old : Writer) (spelling : List Bool) (new : Writer) : Type 0 where
+  pub was_live : old.live ≡ true
+  pub live : new.live ≡ true
+  pub position : new.position ≡ old.position + length spelling
+  pub failures : new.outgoing.failures ≡ old.outgoing.failures
+  pub tells : TellsBytes old → TellsBytes new
+  pub kept : TellsBytes old → Grows old new
+  pub written : TellsBytes old → written new ≡ written old ++ spelling
+
+-- the sink failed, or was worn, while bits were written: it has a front of what was to stand there, with all that it had
+-- before
+pub record Lost (old : Writer) (spelling : List Bool) (new : Writer) : Type 0 where
+  pub was_live : old.live ≡ true
+  pub failed : new.live ≡ false
+  pub why : (old.outgoing.failures < new.outgoing.failures) ⊎ IsSpent old.outgoing
+  pub tells : TellsBytes old → TellsBytes new
+  pub kept : TellsBytes old → Grows old new
+  pub front : TellsBytes old → (rest : List Bool) × (taken new ++ rest ≡ written old ++ spelling)
+
+-- one call, or several in turn, that write these bits; after a failure nothing more is written
+abbrev pub Writes : List Bool → Writer → Result (Unit {0}) Fault → Writer → Type 0
+Writes spelling old (Ok _) new = Wrote old spelling new
+Writes spelling old (Err Write) new = Lost old spelling new
+Writes spelling old (Err Failed) new = (old.live ≡ false) × (new ≡ old)
+Writes spelling old (Err (Refused reason bit)) new = ⊥
+Writes spelling old (Err Read) new = ⊥
+Writes spelling old (Err Memory) new = ⊥
+Writes spelling old (Err OutputTooLong) new = ⊥

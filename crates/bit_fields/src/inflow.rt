@@ -1,0 +1,257 @@
+ghost use Rattle.std.specs.Prelude.{◌≡◌, ◌+◌, ◌*◌, ◌-◌, ◌<◌, ◌≤◌, ◌^◌, length, false, take, drop, [], OnOk};
+ghost use Rattle.bit_grammar.specs.Bits.{number};
+ghost use Rattle.bit_fields.specs.Inflow.{Brings, Misses, Fills, Steps, Drains, DrainsSome, stop_of, shortened, to_drain};
+
+use crate::source::{Source, SourceFailed};
+use crate::window::Window;
+use std::marker::Model;
+
+/// How many bytes that nobody reads are pulled at once.
+const BLOCK: usize = 512;
+
+/// Why bits are not there.
+#[derive(Clone, Copy, Debug, PartialEq, Eq)]
+pub enum Missing {
+    /// The stream ends.
+    End,
+    /// The limit on bytes is reached, and the stream goes on.
+    Limit,
+    /// The source failed.
+    Read,
+}
+
+/// A source with a window over its next bits, up to a limit on bytes.
+#[derive(Drop)]
+pub struct Inflow<S: Source> {
+    window: Window,
+    source: S,
+    loaded: u64,
+    end: u64,
+    limit: u64,
+    ended: bool,
+}
+
+impl<S: Source> Model for Inflow<S> {
+    ghost use Rattle.bit_fields.specs.Inflow.{Flow, IsFlow};
+
+    ghost Value = { Flow };
+
+    ghost view = { λ f. record { window = f.window; incoming = S.incoming f.source; loaded = f.loaded; end = f.end; limit = f.limit; ended = f.ended } };
+
+    ghost invariant = { λ f. IsFlow (record { window = f.window; incoming = S.incoming f.source; loaded = f.loaded; end = f.end; limit = f.limit; ended = f.ended }) };
+}
+
+impl<S: Source> Inflow<S> {
+    /// The whole of what a source has, up to a limit on bytes.
+    pub fn new(source: S, limit: u64) -> Inflow<S>
+        requires { limit < 2 ^ 35 }
+        ensures { result ≡ record { window = []; incoming = S.incoming source; loaded = 0; end = u64.MAX; limit = limit; ended = false } }
+    {
+        Inflow {
+            window: Window::new(),
+            source,
+            loaded: 0,
+            end: u64::MAX,
+            limit,
+            ended: false,
+        }
+    }
+
+    /// The source as it stands.
+    pub fn into_source(self) -> S
+        ensures { S.incoming result ≡ self.incoming }
+    {
+        self.source
+    }
+
+    /// How many bits are in the window.
+    pub fn held(&self) -> u32
+        ensures held { result ≡ length self.now.window }
+        ensures most { result ≤ 64 }
+    {
+        self.window.len()
+    }
+
+    /// Where the limit on bytes is reached, or the end that a wrapper named: whether the input goes on past the limit.
+    fn past(&mut self) -> Missing
+        requires going { self.old.ended ≡ false }
+        requires stop { stop_of self.old ≤ self.old.loaded }
+        ensures { Misses self.old self.new result }
+    {
+        if self.end <= self.limit {
+            return Missing::End;
+        }
+        if self.loaded > self.limit {
+            return Missing::Limit;
+        }
+        match self.source.pull(&mut [0]) {
+            Ok(0) => {
+                self.ended = true;
+                Missing::End
+            }
+            Ok(_) => {
+                self.loaded += 1;
+                Missing::Limit
+            }
+            Err(SourceFailed) => Missing::Read,
+        }
+    }
+
+    /// Takes bytes in, as many as there is room for.
+    fn more(&mut self) -> Result<(), Missing>
+        requires { length self.old.window ≤ 56 }
+        ensures { Brings self.old self.new result }
+    {
+        if self.ended {
+            return Err(Missing::End);
+        }
+        let stop = self.end.min(self.limit);
+        let mut bytes = [0; 8];
+        if self.loaded >= stop {
+            return Err(self.past());
+        }
+        let room = u64::from((64 - self.window.len()) / 8).min(stop - self.loaded) as usize;
+        match self.source.pull(&mut bytes[..room]) {
+            Ok(0) => {
+                self.ended = true; // and is not pulled again
+                Err(Missing::End)
+            }
+            Ok(count) => {
+                self.window.push_bytes(bytes, count);
+                self.loaded += count as u64;
+                Ok(())
+            }
+            Err(SourceFailed) => Err(Missing::Read),
+        }
+    }
+
+    /// Makes sure that n bits are in the window.
+    pub fn fill(&mut self, n: u32) -> Result<(), Missing>
+        requires { n ≤ 32 }
+        ensures { Fills n self.old self.new result }
+    {
+        while self.window.len() < n {
+            self.more()?;
+        }
+        Ok(())
+    }
+
+    /// Takes the number of the first n bits.
+    pub fn take(&mut self, n: u32) -> u64
+        requires few { n ≤ 32 }
+        requires there { n ≤ length self.old.window }
+        ensures value { result ≡ number (take n self.old.window) }
+        ensures rest { self.new ≡ record self.old { window = drop n self.old.window } }
+        ensures loaded { self.old.loaded ≤ 2 ^ 35 }
+        ensures below { result < 2 ^ n }
+    {
+        self.window.take(n)
+    }
+
+    /// The number of the first n bits.
+    pub fn peek(&self, n: u32) -> u64
+        requires few { n ≤ 32 }
+        requires there { n ≤ length self.now.window }
+        ensures { result ≡ number (take n self.now.window) }
+    {
+        self.window.peek(n)
+    }
+
+    /// Drops the bits that are in the window.
+    pub fn clear(&mut self)
+        ensures { self.new ≡ record self.old { window = [] } }
+    {
+        self.window = Window::new();
+    }
+
+    /// Ends the stream at a byte.
+    pub fn shorten(&mut self, end: u64)
+        requires { end < 2 ^ 60 }
+        ensures shortened { self.new ≡ shortened self.old end }
+        ensures limit { self.old.limit < 2 ^ 35 }
+    {
+        let over = 8 * self.loaded.min(self.limit).saturating_sub(end);
+        if over > 0 {
+            let kept = u64::from(self.window.len()).saturating_sub(over) as u32;
+            self.window.keep(kept);
+        }
+        self.end = end;
+    }
+
+    /// Takes bytes of the stream that nobody reads, at most so many, and answers how many.
+    pub fn pass(&mut self, most: u64) -> Result<u64, Missing>
+        requires some { 0 < most }
+        requires empty { self.old.window ≡ [] }
+        ensures { Steps most self.old self.new result }
+    {
+        if self.ended {
+            return Err(Missing::End);
+        }
+        let stop = self.end.min(self.limit);
+        let mut bytes = [0; BLOCK];
+        if self.loaded >= stop {
+            return Err(self.past());
+        }
+        let room = most.min(stop - self.loaded).min(BLOCK as u64) as usize;
+        match self.source.pull(&mut bytes[..room]) {
+            Ok(0) => {
+                self.ended = true;
+                Err(Missing::End)
+            }
+            Ok(count) => {
+                self.loaded += count as u64;
+                Ok(count as u64)
+            }
+            Err(SourceFailed) => Err(Missing::Read),
+        }
+    }
+
+    /// Takes some of the bytes that the source still has.
+    fn drain_some(&mut self) -> Result<(), Missing>
+        requires { self.old.ended ≡ false }
+        ensures drains { DrainsSome self.old self.new result }
+        ensures fewer { OnOk result (to_drain self.new < to_drain self.old) }
+    {
+        let mut bytes = [0; BLOCK];
+        if self.loaded > self.limit {
+            return Err(Missing::Limit);
+        }
+        let room = (self.limit + 1 - self.loaded).min(BLOCK as u64) as usize;
+        match self.source.pull(&mut bytes[..room]) {
+            Ok(0) => {
+                self.ended = true;
+                Ok(())
+            }
+            Ok(count) => {
+                self.loaded += count as u64;
+                Ok(())
+            }
+            Err(SourceFailed) => Err(Missing::Read),
+        }
+    }
+
+    /// Takes all bytes that the source still has.
+    pub fn drain(&mut self) -> Result<(), Missing>
+        ensures { Drains self.old self.new result }
+    {
+        while !self.ended {
+            self.drain_some()?;
+        }
+        Ok(())
+    }
+
+    /// The byte at which the stream ends, unless its source ends before.
+    pub fn end(&self) -> u64
+        ensures { result ≡ self.now.end }
+    {
+        self.end
+    }
+
+    /// The limit on bytes.
+    pub fn limit(&self) -> u64
+        ensures limit { result ≡ self.now.limit }
+        ensures most { result < 2 ^ 35 }
+    {
+        self.limit
+    }
+}

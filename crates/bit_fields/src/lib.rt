@@ -1,0 +1,28 @@
+//! Bits from the bytes of a source, and bytes for a sink from bits: the fields of the bitstream format of LLVM's
+//! "LLVM Bitcode File Format", each call told by a rule of `bit_grammar`.
+#![tactic(auto)]
+
+mod fault;
+mod head;
+mod inflow;
+mod limits;
+mod reader;
+mod sink;
+mod source;
+#[cfg(test)]
+mod tests;
+mod window;
+mod writer;
+mod writer_laws;
+#[cfg(test)]
+mod writer_tests;
+
+pub use bit_grammar::Reason;
+pub use fault::Fault;
+pub use head::{Head, Wrapper};
+pub use limits::Limits;
+pub use reader::BitReader;
+pub use sink::{Sink, SinkFailed, VecSink, WriteSink};
+pub use source::{ReadSource, SliceSource, Source, SourceFailed};
+pub use writer::BitWriter;
+pub use writer_laws::{bytes_of_writing, write_nothing, write_then_stop, write_then_write};

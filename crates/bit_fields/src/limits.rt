@@ -1,0 +1,90 @@
+ghost use Rattle.std.specs.Prelude.{◌≡◌, ◌≤◌, MatchOption};
+ghost use Rattle.bit_grammar.specs.Normal.{Capped};
+ghost use Rattle.bit_fields.specs.Opening.{PassCaps};
+
+use std::marker::Model;
+
+/// The most bytes that `Limits` allow: `4 * (2^32 - 1)`, so that every block's length of a normal form fits its field.
+const MOST_BYTES: u64 = 17_179_869_180;
+
+/// The deepest nesting that `Limits` allow.
+const MOST_DEPTH: u32 = 255;
+
+/// The most values that `Limits` allow: `2^32 - 1`.
+const MOST_VALUES: u64 = 4_294_967_295;
+
+/// How much of an input is taken. Zero is allowed for each.
+#[derive(Clone, Copy, Debug, PartialEq, Eq)]
+pub struct Limits {
+    bytes: u64,
+    depth: u32,
+    values: u64,
+}
+
+impl Model for Limits {
+    ghost use Rattle.bit_grammar.specs.Blocks.{Limits as Told};
+    ghost use Rattle.bit_grammar.specs.Normal.{Capped};
+
+    ghost Value = { Told };
+
+    ghost view = { λ l. record { bytes = l.bytes; depth = l.depth; values = l.values } };
+
+    ghost invariant = { λ l. Capped (record { bytes = l.bytes; depth = l.depth; values = l.values }) };
+
+    ghost inverse = { λ l. record { bytes = l.bytes; depth = l.depth; values = l.values } };
+}
+
+impl Limits {
+    /// Limits on the bytes of the whole input, wrapper included, on the depth of blocks, where a block at the top has
+    /// depth 1, and on the values of all records. `None` where one is past its cap: 17,179,869,180 bytes, depth 255,
+    /// 4,294,967,295 values.
+    pub fn new(bytes: u64, depth: u32, values: u64) -> Option<Limits>
+        ensures { MatchOption result (PassCaps (record { bytes = bytes; depth = depth; values = values })) (λ limits. (limits ≡ record { bytes = bytes; depth = depth; values = values }) × Capped limits) }
+    {
+        if bytes <= MOST_BYTES && depth <= MOST_DEPTH && values <= MOST_VALUES {
+            Some(Limits {
+                bytes,
+                depth,
+                values,
+            })
+        } else {
+            None
+        }
+    }
+
+    /// The limits that serve most inputs: 1 GiB, depth 64, 134,217,728 values.
+    pub fn usual() -> Limits
+        ensures usual { result ≡ record { bytes = 1073741824; depth = 64; values = 134217728 } }
+        ensures capped { Capped result }
+    {
+        Limits {
+            bytes: 1_073_741_824,
+            depth: 64,
+            values: 134_217_728,
+        }
+    }
+
+    /// The limit on the bytes of the whole input.
+    pub fn bytes(self) -> u64
+        ensures bytes { result ≡ self.bytes }
+        ensures capped { Capped self }
+    {
+        self.bytes
+    }
+
+    /// The limit on the depth of blocks.
+    pub fn depth(self) -> u32
+        ensures depth { result ≡ self.depth }
+        ensures capped { Capped self }
+    {
+        self.depth
+    }
+
+    /// The limit on the values of all records.
+    pub fn values(self) -> u64
+        ensures values { result ≡ self.values }
+        ensures capped { Capped self }
+    {
+        self.values
+    }
+}

@@ -1,0 +1,578 @@
+ghost use Rattle.std.specs.Prelude.{◌≡◌, ◌+◌, ◌*◌, ◌-◌, ◌<◌, ◌≤◌, ◌^◌, ◌%◌, length, true, false, take, drop, [], OnErr, OnOk, IfOk, IfErr, MatchOption, ◌&&◌, ◌==◌, nat_le};
+ghost use Rattle.bit_grammar.specs.Fields.{fixed, vbr, char6, align32, byte, character, chunks, chunk_limit, zeros};
+ghost use Rattle.bit_fields.specs.Reader.{Extent, Takes, Why, IsOnly, NeedsNoMemory, within, told_by, stopped};
+ghost use Rattle.bit_grammar.specs.Grammar.{at, test};
+ghost use Rattle.bit_grammar.specs.Input.{version, offset, wrapper, any_bits, inner_magic};
+ghost use Rattle.bit_fields.specs.Opening.{fresh, Opened, Declines, Opens, wrapper_told};
+ghost use Rattle.bit_fields.specs.Ending.{reach_of, Looks, Closes, IsThrough};
+ghost use Rattle.bit_fields.specs.Inside.{part_of, gap_of, above, stopped_at, fault_of, TookZeros, TookGap};
+
+use crate::fault::Fault;
+use crate::head::{Head, Wrapper};
+use crate::inflow::{Inflow, Missing};
+use crate::limits::Limits;
+use crate::source::Source;
+use bit_grammar::Reason;
+use std::marker::Model;
+
+/// The number that the first four bytes of a wrapped input spell.
+const WRAPPER_MAGIC: u64 = 0x0B17_C0DE;
+
+/// Reads the fields of a stream of bits.
+///
+/// After any fault, and after `close`, it has failed: every call that answers a `Result` then answers `Failed`, and
+/// `position` stays at the end of the last call that succeeded.
+#[derive(Drop)]
+pub struct BitReader<S: Source> {
+    inflow: Inflow<S>,
+    position: u64,
+    live: bool,
+}
+
+impl<S: Source> Model for BitReader<S> {
+    ghost use Rattle.bit_fields.specs.Reader.{Reader};
+    ghost use Rattle.bit_grammar.specs.Grammar.{at, test};
+    ghost use Rattle.bit_grammar.specs.Input.{version, offset, wrapper, any_bits, inner_magic};
+    ghost use Rattle.bit_fields.specs.Opening.{fresh, Opened, Declines, Opens, wrapper_told};
+    ghost use Rattle.bit_fields.specs.Ending.{reach_of, Looks, Closes, IsThrough};
+    ghost use Rattle.bit_fields.specs.Inside.{reader_of, IsReader};
+
+    ghost Value = { Reader };
+
+    ghost view = { λ r. reader_of r.live r.position r.inflow };
+
+    ghost invariant = { λ r. IsReader r.live r.position r.inflow };
+}
+
+impl<S: Source> BitReader<S> {
+    /// Begins the stream of a source: reads its wrapper, if there is one, and the magic of the stream, at which the head
+    /// stands then. Sources: "Magic Numbers", "Bitcode Wrapper Format".
+    ///
+    /// Fewer than 4 bytes are `Truncated` at bit 0. In a wrapper a number that is not whole is `Truncated` at its first
+    /// bit, a version other than 0 `WrapperVersion` at bit 32, an offset below 20 or no multiple of 4 `WrapperOffset` at
+    /// bit 64; an input that ends before the offset is `Truncated` at bit 160, and a stream without four bytes, or with
+    /// the magic of a wrapper, `Truncated` or `WrapperNested` at its first bit. Where only the limit on bytes ends the
+    /// input or the stream, `TooLong` at 8 times the limit stands for `Truncated`.
+    pub fn start(source: S, limits: Limits) -> Result<(BitReader<S>, Head), (Fault, S)>
+        ensures begun { IfOk result (λ begun. Opened (fresh (S.incoming source) limits.bytes) begun.1 begun.0) }
+        ensures refused { IfErr result (λ refused. Declines (fresh (S.incoming source) limits.bytes) refused.0 (S.incoming refused.1)) }
+    {
+        let mut reader = BitReader {
+            inflow: Inflow::new(source, limits.bytes()),
+            position: 0,
+            live: true,
+        };
+        match reader.begin() {
+            Ok(head) => Ok((reader, head)),
+            Err(fault) => Err((fault, reader.into_source())),
+        }
+    }
+
+    /// Reads all that stands before the blocks.
+    fn begin(&mut self) -> Result<Head, Fault>
+        requires live { self.old.live ≡ true }
+        requires position { self.old.position ≡ 0 }
+        requires end { self.old.extent.end ≡ 2 ^ 64 - 1 }
+        ensures { Opens self.old result self.new }
+    {
+        let first = self.fixed(32)?;
+        if first != WRAPPER_MAGIC {
+            return Ok(Head {
+                magic: (first as u32).to_le_bytes(),
+                wrapper: None,
+            });
+        }
+        let wrapper = self.wrapper()?;
+        let _place = self.position();
+        self.gap(wrapper.offset)?;
+        self.end_after(wrapper.offset, wrapper.size);
+        let magic = self.inner_magic()?;
+        Ok(Head {
+            magic: (magic as u32).to_le_bytes(),
+            wrapper: Some(wrapper),
+        })
+    }
+
+    /// Reads a wrapper after its magic.
+    fn wrapper(&mut self) -> Result<Wrapper, Fault>
+        requires live { self.old.live ≡ true }
+        requires position { self.old.position ≡ 32 }
+        ensures takes { Takes wrapper self.old (told_by wrapper_told result) self.new }
+        ensures memory { NeedsNoMemory result }
+        ensures place { OnOk result (self.new.position ≡ 160) }
+        ensures offset { IfOk result (λ w. (20 ≤ w.offset) × (w.offset % 4 ≡ 0)) }
+        ensures fits { IfOk result (λ w. (w.offset < 2 ^ 32) × (w.size < 2 ^ 32)) }
+    {
+        self.version()?;
+        let offset = self.offset()?;
+        let size = self.fixed(32)?;
+        let cpu = self.fixed(32)?;
+        Ok(Wrapper {
+            offset: offset as u32,
+            size: size as u32,
+            cpu: cpu as u32,
+        })
+    }
+
+    /// Reads the version of a wrapper.
+    fn version(&mut self) -> Result<(), Fault>
+        ensures takes { Takes version self.old result self.new }
+        ensures memory { NeedsNoMemory result }
+        ensures place { OnOk result (self.new.position ≡ self.old.position + 32) }
+    {
+        let start = self.position;
+        let version = self.fixed(32)?;
+        self.judge(version == 0, Reason::WrapperVersion, start)
+    }
+
+    /// Reads the byte at which the stream of a wrapper begins.
+    fn offset(&mut self) -> Result<u64, Fault>
+        ensures takes { Takes offset self.old result self.new }
+        ensures memory { NeedsNoMemory result }
+        ensures place { OnOk result (self.new.position ≡ self.old.position + 32) }
+        ensures lawful { IfOk result (λ offset. (20 ≤ offset) × (offset % 4 ≡ 0)) }
+        ensures fits { IfOk result (λ offset. offset < 2 ^ 32) }
+    {
+        let start = self.position;
+        let offset = self.fixed(32)?;
+        self.judge(is_lawful(offset), Reason::WrapperOffset, start)?;
+        Ok(offset)
+    }
+
+    /// Skips what stands between a wrapper and its stream, whatever it is.
+    fn gap(&mut self, offset: u32) -> Result<(), Fault>
+        requires live { self.old.live ≡ true }
+        requires position { self.old.position ≡ 160 }
+        requires least { 20 ≤ offset }
+        ensures takes { Takes (any_bits (8 * (offset - 20))) self.old result self.new }
+        ensures memory { NeedsNoMemory result }
+        ensures place { OnOk result (self.new.position ≡ 8 * offset) }
+    {
+        let start = self.position;
+        let end = 8 * u64::from(offset);
+        while self.position < end {
+            self.some_gap(start, end)?;
+        }
+        Ok(())
+    }
+
+    /// Skips bits of a gap that began at a bit, at least one and at most up to its end: those that are at hand, or else
+    /// a block of bytes.
+    fn some_gap(&mut self, start: u64, end: u64) -> Result<(), Fault>
+        requires live { self.old.live ≡ true }
+        requires start { start ≤ self.old.position }
+        requires some { self.old.position < end }
+        requires bytes { self.old.position % 8 ≡ 0 }
+        requires whole { end % 8 ≡ 0 }
+        ensures takes { OnOk result (TookGap start end self.old self.new) }
+        ensures misses { IfErr result (λ fault. Why (gap_of start (end - self.old.position)) self.old fault self.new) }
+        ensures memory { NeedsNoMemory result }
+        ensures bytes { OnOk result (self.new.position % 8 ≡ 0) }
+    {
+        let held = self.inflow.held();
+        let left = end - self.position;
+        if held > 0 {
+            let count = left.min(u64::from(held.min(32))) as u32;
+            self.inflow.take(count);
+            self.position += u64::from(count);
+            return Ok(());
+        }
+        match self.inflow.pass(left / 8) {
+            Ok(count) => {
+                self.position += 8 * count;
+                Ok(())
+            }
+            Err(missing) => Err(self.miss(missing, start)),
+        }
+    }
+
+    /// Ends the stream so many bytes behind the byte at which the reader stands.
+    fn end_after(&mut self, offset: u32, size: u32)
+        requires live { self.old.live ≡ true }
+        requires position { self.old.position ≡ 8 * offset }
+        requires end { self.old.extent.end ≡ 2 ^ 64 - 1 }
+        ensures { self.new ≡ record self.old { left = take (8 * size) self.old.left; extent = record self.old.extent { end = offset + size } } }
+    {
+        self.inflow.shorten(u64::from(offset) + u64::from(size));
+    }
+
+    /// Reads the magic of the stream in a wrapper.
+    fn inner_magic(&mut self) -> Result<u64, Fault>
+        ensures takes { Takes inner_magic self.old result self.new }
+        ensures memory { NeedsNoMemory result }
+        ensures below { IfOk result (λ magic. magic < 2 ^ 32) }
+    {
+        let start = self.position;
+        let magic = self.fixed(32)?;
+        self.judge(magic != WRAPPER_MAGIC, Reason::WrapperNested, start)?;
+        Ok(magic)
+    }
+
+    /// Fails where a judgement does not hold.
+    fn judge(&mut self, holds: bool, reason: Reason, bit: u64) -> Result<(), Fault>
+        requires live { self.old.live ≡ true }
+        requires stays { (e : Extent) → within e reason bit ≡ at reason bit }
+        ensures takes { Takes (test holds (at reason bit)) self.old result self.new }
+        ensures memory { NeedsNoMemory result }
+        ensures same { OnOk result (self.new ≡ self.old) }
+        ensures holds { OnOk result (holds ≡ true) }
+    {
+        if holds {
+            return Ok(());
+        }
+        Err(self.fail(Fault::Refused { reason, bit }))
+    }
+
+    /// The source as it stands.
+    pub fn into_source(self) -> S
+        ensures { S.incoming result ≡ self.incoming }
+    {
+        self.inflow.into_source()
+    }
+
+    /// The bit at which what is left of the stream begins, counted from the first bit of the input.
+    pub fn position(&self) -> u64
+        ensures position { result ≡ self.now.position }
+        ensures reach { self.now.live ≡ true → result + length self.now.left ≡ reach_of self.now.extent }
+    {
+        self.position
+    }
+
+    /// Whether no call failed so far, and it is not closed.
+    pub fn is_live(&self) -> bool
+        ensures { result ≡ self.now.live }
+    {
+        self.live
+    }
+
+    /// Marks the reader as failed, at the bit at which the call that failed began.
+    fn stop(&mut self, fault: Fault, start: u64) -> Fault
+        requires { start ≤ self.old.position }
+        ensures fault { result ≡ fault }
+        ensures stopped { self.new ≡ stopped_at self.old start }
+    {
+        self.live = false;
+        self.position = start;
+        self.inflow.clear();
+        fault
+    }
+
+    /// Fails where bits are missing of a field that began at a bit.
+    fn miss(&mut self, missing: Missing, start: u64) -> Fault
+        requires { start ≤ self.old.position }
+        ensures fault { result ≡ fault_of missing start self.old.extent.limit }
+        ensures stopped { self.new ≡ stopped_at self.old start }
+    {
+        let fault = match missing {
+            Missing::End => Fault::Refused {
+                reason: Reason::Truncated,
+                bit: start,
+            },
+            Missing::Limit => Fault::Refused {
+                reason: Reason::TooLong,
+                bit: 8 * self.inflow.limit(),
+            },
+            Missing::Read => Fault::Read,
+        };
+        self.stop(fault, start)
+    }
+
+    /// Takes n bits, which are a part of a field that began at a bit.
+    fn part(&mut self, n: u32, start: u64) -> Result<u64, Fault>
+        requires some { 0 < n }
+        requires few { n ≤ 32 }
+        requires start { start ≤ self.old.position }
+        ensures takes { Takes (part_of start n) self.old result self.new }
+        ensures memory { NeedsNoMemory result }
+        ensures below { IfOk result (λ value. value < 2 ^ n) }
+        ensures stays { self.old.live ≡ true → OnErr result (self.new.position ≡ start) }
+        ensures moves { OnOk result (self.new.position ≡ self.old.position + n) }
+    {
+        if self.inflow.held() < n {
+            if !self.live {
+                return Err(Fault::Failed);
+            }
+            match self.inflow.fill(n) {
+                Ok(()) => {}
+                Err(missing) => return Err(self.miss(missing, start)),
+            }
+        }
+        let value = self.inflow.take(n);
+        self.position += u64::from(n);
+        Ok(value)
+    }
+
+    /// Reads a number of n bits, n from 1 to 32, the lowest bit first. Source: "Fixed Width Integers".
+    ///
+    /// Fewer bits are `Truncated` at the first bit of the field.
+    pub fn fixed(&mut self, n: u32) -> Result<u64, Fault>
+        requires some { 0 < n }
+        requires few { n ≤ 32 }
+        ensures takes { Takes (fixed n) self.old result self.new }
+        ensures only { IsOnly (fixed n) self.old result self.new }
+        ensures memory { NeedsNoMemory result }
+        ensures below { IfOk result (λ value. value < 2 ^ n) }
+        ensures stays { OnErr result (self.new.position ≡ self.old.position) }
+        ensures moves { OnOk result (self.new.position ≡ self.old.position + n) }
+    {
+        let start = self.position;
+        self.part(n, start)
+    }
+
+    /// Reads a byte. The position is a multiple of 8.
+    ///
+    /// Fewer than 8 bits are `Truncated` at the first bit of the byte.
+    pub fn byte(&mut self) -> Result<u8, Fault>
+        requires { self.old.position % 8 ≡ 0 }
+        ensures takes { Takes byte self.old result self.new }
+        ensures only { IsOnly byte self.old result self.new }
+        ensures memory { NeedsNoMemory result }
+        ensures stays { OnErr result (self.new.position ≡ self.old.position) }
+        ensures moves { OnOk result (self.new.position ≡ self.old.position + 8) }
+    {
+        let byte = self.fixed(8)?;
+        Ok(byte as u8)
+    }
+
+    /// Reads a character in six bits and answers its ASCII code: a letter, a digit, '.' or '_'. Source: "6-bit
+    /// characters".
+    ///
+    /// Fewer bits are `Truncated` at the first bit of the field.
+    pub fn char6(&mut self) -> Result<u64, Fault>
+        ensures takes { Takes char6 self.old result self.new }
+        ensures only { IsOnly char6 self.old result self.new }
+        ensures memory { NeedsNoMemory result }
+        ensures stays { OnErr result (self.new.position ≡ self.old.position) }
+        ensures moves { OnOk result (self.new.position ≡ self.old.position + 6) }
+    {
+        let code = self.fixed(6)?;
+        Ok(character(code))
+    }
+
+    /// Reads a number in chunks of n bits, n from 2 to 32: of each chunk the top bit says whether another one follows, and
+    /// the others are payload, the lowest first. Source: "Variable Width Integers".
+    ///
+    /// A chunk that is not whole is `Truncated` at the first bit of the number. A whole chunk with a payload bit at place
+    /// 64 or above, or more chunks than 64 bits take, is `ValueTooWide` there.
+    pub fn vbr(&mut self, n: u32) -> Result<u64, Fault>
+        requires some { 2 ≤ n }
+        requires few { n ≤ 32 }
+        ensures takes { Takes (vbr n) self.old result self.new }
+        ensures only { IsOnly (vbr n) self.old result self.new }
+        ensures memory { NeedsNoMemory result }
+        ensures stays { OnErr result (self.new.position ≡ self.old.position) }
+    {
+        let start = self.position;
+        let chunk = self.part(n, start)?;
+        if chunk < 1 << (n - 1) {
+            return Ok(chunk);
+        }
+        self.later_chunks(n, start, payload_of(chunk, n))
+    }
+
+    /// Reads the chunks after the first one of a number that began at a bit.
+    fn later_chunks(&mut self, n: u32, start: u64, first: u64) -> Result<u64, Fault>
+        requires some { 2 ≤ n }
+        requires few { n ≤ 32 }
+        requires first { first < 2 ^ (n - 1) }
+        requires live { self.old.live ≡ true }
+        requires start { start ≤ self.old.position }
+        ensures takes { Takes (above first (n - 1) (chunks (n - 1) start (chunk_limit (n - 1) - 1) (64 - (n - 1)))) self.old result self.new }
+        ensures memory { NeedsNoMemory result }
+        ensures stays { OnErr result (self.new.position ≡ start) }
+    {
+        let too_wide = Fault::Refused {
+            reason: Reason::ValueTooWide,
+            bit: start,
+        };
+        let mut value = first;
+        let mut place = n - 1;
+        while place < 64 {
+            let chunk = self.part(n, start)?;
+            match placed(payload_of(chunk, n), place) {
+                Some(worth) => value += worth,
+                None => return Err(self.stop(too_wide, start)),
+            }
+            if chunk < 1 << (n - 1) {
+                return Ok(value);
+            }
+            place += n - 1;
+        }
+        Err(self.stop(too_wide, start))
+    }
+
+    /// Reads zeros up to the next position that is a multiple of 32, possibly none. Source: "Abbreviation IDs", align32.
+    ///
+    /// A one is `DirtyPadding` at that bit; fewer bits are `Truncated` at the first bit of the padding.
+    pub fn pad(&mut self) -> Result<(), Fault>
+        ensures takes { Takes align32 self.old result self.new }
+        ensures only { IsOnly align32 self.old result self.new }
+        ensures memory { NeedsNoMemory result }
+        ensures stays { OnErr result (self.new.position ≡ self.old.position) }
+        ensures aligned { OnOk result (self.new.position % 32 ≡ 0) }
+    {
+        if !self.live {
+            return Err(Fault::Failed);
+        }
+        let start = self.position;
+        let mut left = ((32 - start % 32) % 32) as u32;
+        while left > 0 {
+            let count = self.some_zeros(start, left)?;
+            left -= count;
+        }
+        Ok(())
+    }
+
+    /// Takes zeros of a padding that began at a bit, at least one and at most so many, and answers how many.
+    fn some_zeros(&mut self, start: u64, most: u32) -> Result<u32, Fault>
+        requires some { 0 < most }
+        requires few { most < 32 }
+        requires start { start ≤ self.old.position }
+        requires live { self.old.live ≡ true }
+        ensures takes { IfOk result (λ count. TookZeros start most count self.old self.new) }
+        ensures misses { IfErr result (λ fault. Why (zeros start most) self.old fault self.new) }
+        ensures memory { NeedsNoMemory result }
+        ensures stays { OnErr result (self.new.position ≡ start) }
+    {
+        let count = self.inflow.held().min(most);
+        if count == 0 || self.inflow.peek(count) != 0 {
+            self.one_zero(start)?;
+            return Ok(1);
+        }
+        self.inflow.take(count);
+        self.position += u64::from(count);
+        Ok(count)
+    }
+
+    /// Takes a zero of a padding that began at a bit.
+    fn one_zero(&mut self, start: u64) -> Result<(), Fault>
+        requires start { start ≤ self.old.position }
+        requires live { self.old.live ≡ true }
+        ensures takes { Takes (zeros start 1) self.old result self.new }
+        ensures memory { NeedsNoMemory result }
+        ensures stays { OnErr result (self.new.position ≡ start) }
+        ensures moves { OnOk result (self.new.position ≡ self.old.position + 1) }
+    {
+        let place = self.position;
+        let bit = self.part(1, start)?;
+        if bit != 0 {
+            let dirty = Fault::Refused {
+                reason: Reason::DirtyPadding,
+                bit: place,
+            };
+            return Err(self.stop(dirty, start));
+        }
+        Ok(())
+    }
+
+    /// Tells whether the stream has no byte left. The position is a multiple of 8.
+    ///
+    /// `TooLong` where the position is 8 times the limit on bytes and the stream goes on.
+    pub fn at_end(&mut self) -> Result<bool, Fault>
+        requires { self.old.position % 8 ≡ 0 }
+        ensures looks { Looks self.old result self.new }
+        ensures through { IfOk result (λ end. end ≡ true → IsThrough self.new) }
+        ensures stays { self.new.position ≡ self.old.position }
+    {
+        if self.inflow.held() > 0 {
+            return Ok(false);
+        }
+        if !self.live {
+            return Err(Fault::Failed);
+        }
+        let place = self.position;
+        match self.inflow.fill(1) {
+            Ok(()) => Ok(false),
+            Err(Missing::End) => Ok(true),
+            Err(Missing::Limit) => Err(self.miss(Missing::Limit, place)),
+            Err(Missing::Read) => Err(self.miss(Missing::Read, place)),
+        }
+    }
+
+    /// Ends the reading of an input whose stream has no byte left, as `at_end` tells: takes what stands behind the
+    /// stream of a wrapper, whatever it is. The reader has then failed, and the position stays.
+    ///
+    /// A wrapper whose stream is shorter than its size is `WrapperSize` at bit 96; an input past the limit on bytes is
+    /// `TooLong`.
+    pub fn close(&mut self) -> Result<(), Fault>
+        requires { IsThrough self.old }
+        ensures closes { Closes self.old result self.new }
+        ensures stays { self.new.position ≡ self.old.position }
+    {
+        if !self.live {
+            return Err(Fault::Failed);
+        }
+        self.live = false;
+        self.inflow.clear();
+        let end = self.inflow.end();
+        if end < u64::MAX && self.position / 8 < end {
+            return Err(Fault::Refused {
+                reason: Reason::WrapperSize,
+                bit: 96,
+            });
+        }
+        match self.inflow.drain() {
+            Ok(()) => Ok(()),
+            Err(Missing::Limit) => Err(Fault::Refused {
+                reason: Reason::TooLong,
+                bit: 8 * self.inflow.limit(),
+            }),
+            Err(_) => Err(Fault::Read),
+        }
+    }
+
+    /// Marks the reader as failed, for a judgement of the caller's, and hands the fault back.
+    pub fn fail(&mut self, fault: Fault) -> Fault
+        ensures fault { result ≡ fault }
+        ensures failed { self.new ≡ stopped self.old }
+    {
+        self.stop(fault, self.position)
+    }
+}
+
+/// Whether the stream of a wrapper may begin at a byte.
+fn is_lawful(offset: u64) -> bool
+    ensures { result ≡ (nat_le 20 offset && (offset % 4 == 0)) }
+{
+    offset >= 20 && offset % 4 == 0
+}
+
+/// The bits of a chunk without the top one.
+fn payload_of(chunk: u64, n: u32) -> u64
+    requires some { 2 ≤ n }
+    requires few { n ≤ 32 }
+    ensures { result ≡ chunk % 2 ^ (n - 1) }
+{
+    chunk & ((1 << (n - 1)) - 1)
+}
+
+/// A payload moved up to a place, if it fits 64 bits there.
+fn placed(payload: u64, place: u32) -> Option<u64>
+    requires some { 0 < place }
+    requires few { place < 64 }
+    ensures { MatchOption result (2 ^ (64 - place) ≤ payload) (λ worth. (worth ≡ payload * 2 ^ place) × (payload < 2 ^ (64 - place))) }
+{
+    if payload >> (64 - place) == 0 {
+        Some(payload << place)
+    } else {
+        None
+    }
+}
+
+/// The character of a code of six bits.
+fn character(code: u64) -> u64
+    requires { code < 64 }
+    ensures { result ≡ character code }
+{
+    if code < 26 {
+        97 + code
+    } else if code < 52 {
+        65 + (code - 26)
+    } else if code < 62 {
+        48 + (code - 52)
+    } else if code == 62 {
+        46
+    } else {
+        95
+    }
+}

@@ -1,0 +1,139 @@
+ghost use Rattle.std.specs.Prelude.{◌≡◌, [], length, Some, IfOk};
+ghost use Rattle.bit_fields.specs.Devices.{Flushes};
+
+use std::alloc::Global;
+use std::io::Write;
+use thiserror::Error;
+
+/// A sink took no bytes, or could not hand them on.
+#[derive(Clone, Copy, Debug, PartialEq, Eq, Error)]
+#[error("the sink failed")]
+pub struct SinkFailed;
+
+/// What takes bytes in order, and counts how often it failed. A sink is worn once the count stands at `u64::MAX`.
+pub trait Sink {
+    ghost use Rattle.bit_fields.specs.Devices.{Outgoing, Puts};
+
+    // The bytes that it holds, where it tells them, and the count.
+    ghost outgoing: { Self → Outgoing };
+
+    /// Takes the front of a slice and answers how many bytes it took. To take none of a slice that is not empty is
+    /// counted as a failure.
+    ///
+    /// `SinkFailed` takes no byte and is counted as a failure too. A worn sink answers it and changes nothing.
+    fn put(&mut self, from: &[u8]) -> Result<usize, SinkFailed>
+        ensures { Puts (outgoing self.old) (outgoing self.new) result from.now };
+}
+
+/// A vector of bytes. It fails where the growth of the vector is refused.
+#[derive(Drop)]
+pub struct VecSink {
+    bytes: Vec<u8>,
+    failures: u64,
+}
+
+impl VecSink {
+    /// A sink that has taken no byte.
+    pub fn new(alloc: Global) -> VecSink
+        ensures { ⟦<VecSink as Sink>⟧.outgoing result ≡ record { bytes = Some []; failures = 0 } }
+    {
+        VecSink {
+            bytes: Vec::new(alloc),
+            failures: 0,
+        }
+    }
+
+    /// What it took.
+    pub fn bytes(&self) -> &[u8]
+        ensures { (⟦<VecSink as Sink>⟧.outgoing self.now).bytes ≡ Some result.now }
+    {
+        self.bytes.as_slice()
+    }
+}
+
+impl Sink for VecSink {
+    ghost use Rattle.bit_fields.specs.Devices.{Puts};
+
+    ghost outgoing = { λ s. record { bytes = Some s.bytes.items; failures = s.failures } };
+
+    /// Takes all bytes of a slice, or none.
+    fn put(&mut self, from: &[u8]) -> Result<usize, SinkFailed>
+        ensures puts { Puts (⟦<VecSink as Sink>⟧.outgoing self.old) (⟦<VecSink as Sink>⟧.outgoing self.new) result from.now }
+        ensures whole { IfOk result (λ count. count ≡ length from.now) }
+    {
+        if self.failures == u64::MAX {
+            return Err(SinkFailed);
+        }
+        match self.bytes.extend_from_slice(from) {
+            Ok(()) => Ok(from.len()),
+            Err(_) => {
+                self.failures += 1;
+                Err(SinkFailed)
+            }
+        }
+    }
+}
+
+/// What goes to a writer. Any error of the writer is a failure, and so is a write that takes nothing.
+#[derive(Drop)]
+pub struct WriteSink<W> {
+    writer: W,
+    failures: u64,
+}
+
+impl<W: Write> WriteSink<W> {
+    /// A sink over a writer as it stands.
+    pub fn new(writer: W) -> WriteSink<W>
+        ensures { ⟦<WriteSink<W> as Sink>⟧.outgoing result ≡ record { bytes = W.contents writer; failures = 0 } }
+    {
+        WriteSink {
+            writer,
+            failures: 0,
+        }
+    }
+
+    /// Has the writer hand on what it holds back. `SinkFailed` is counted as a failure unless the sink was worn.
+    pub fn flush(&mut self) -> Result<(), SinkFailed>
+        ensures { Flushes (⟦<WriteSink<W> as Sink>⟧.outgoing self.old) (⟦<WriteSink<W> as Sink>⟧.outgoing self.new) result }
+    {
+        if self.failures == u64::MAX {
+            return Err(SinkFailed);
+        }
+        match self.writer.flush() {
+            Ok(()) => Ok(()),
+            Err(_) => {
+                self.failures += 1;
+                Err(SinkFailed)
+            }
+        }
+    }
+
+    /// The writer as it stands.
+    pub fn into_inner(self) -> W
+        ensures { W.contents result ≡ (⟦<WriteSink<W> as Sink>⟧.outgoing self).bytes }
+    {
+        self.writer
+    }
+}
+
+impl<W: Write> Sink for WriteSink<W> {
+    ghost outgoing = { λ s. record { bytes = W.contents s.writer; failures = s.failures } };
+
+    fn put(&mut self, from: &[u8]) -> Result<usize, SinkFailed> {
+        if self.failures == u64::MAX {
+            return Err(SinkFailed);
+        }
+        match self.writer.write(from) {
+            Ok(count) => {
+                if count == 0 && !from.is_empty() {
+                    self.failures += 1;
+                }
+                Ok(count)
+            }
+            Err(_) => {
+                self.failures += 1;
+                Err(SinkFailed)
+            }
+        }
+    }
+}

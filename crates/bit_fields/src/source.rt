@@ -1,0 +1,102 @@
+ghost use Rattle.std.specs.Prelude.{◌≡◌, Some};
+
+use std::io::Read;
+use thiserror::Error;
+
+/// A source gave no bytes.
+#[derive(Clone, Copy, Debug, PartialEq, Eq, Error)]
+#[error("the source failed")]
+pub struct SourceFailed;
+
+/// What gives bytes in order, and counts how often it was asked and how often it failed. A source is worn once a count
+/// stands at `u64::MAX`.
+pub trait Source {
+    ghost use Rattle.bit_fields.specs.Devices.{Incoming, Pulls};
+
+    // The bytes still to come, where the source tells them, and the counts.
+    ghost incoming: { Self → Incoming };
+
+    /// Puts the next bytes into the front of a slice and answers how many; 0 for a slice that is not empty says that no
+    /// byte is left. Each pull is counted.
+    ///
+    /// `SourceFailed` takes no byte and is counted as a failure too. A worn source answers it and changes nothing.
+    fn pull(&mut self, into: &mut [u8]) -> Result<usize, SourceFailed>
+        ensures { Pulls (incoming self.old) (incoming self.new) result into.new };
+}
+
+/// The bytes of a slice. It fails only once it is worn.
+#[derive(Drop)]
+pub struct SliceSource<'a> {
+    rest: &'a [u8],
+    pulls: u64,
+}
+
+impl<'a> SliceSource<'a> {
+    /// A source of all bytes of a slice.
+    pub fn new(bytes: &'a [u8]) -> SliceSource<'a>
+        ensures { ⟦<SliceSource<'a> as Source>⟧.incoming result ≡ record { to_come = Some bytes.now; pulls = 0; failures = 0 } }
+    {
+        SliceSource {
+            rest: bytes,
+            pulls: 0,
+        }
+    }
+}
+
+impl<'a> Source for SliceSource<'a> {
+    ghost incoming = { λ s. record { to_come = Some s.rest.now; pulls = s.pulls; failures = 0 } };
+
+    fn pull(&mut self, into: &mut [u8]) -> Result<usize, SourceFailed> {
+        if self.pulls == u64::MAX {
+            return Err(SourceFailed);
+        }
+        self.pulls += 1;
+        self.rest.read(into).map_err(|_| SourceFailed)
+    }
+}
+
+/// What a reader gives. Any error of the reader is a failure; no read is tried again.
+#[derive(Drop)]
+pub struct ReadSource<R> {
+    reader: R,
+    pulls: u64,
+    failures: u64,
+}
+
+impl<R: Read> ReadSource<R> {
+    /// A source of all that a reader still has.
+    pub fn new(reader: R) -> ReadSource<R>
+        ensures { ⟦<ReadSource<R> as Source>⟧.incoming result ≡ record { to_come = R.remaining reader; pulls = 0; failures = 0 } }
+    {
+        ReadSource {
+            reader,
+            pulls: 0,
+            failures: 0,
+        }
+    }
+
+    /// The reader as it stands.
+    pub fn into_inner(self) -> R
+        ensures { R.remaining result ≡ (⟦<ReadSource<R> as Source>⟧.incoming self).to_come }
+    {
+        self.reader
+    }
+}
+
+impl<R: Read> Source for ReadSource<R> {
+    ghost incoming = { λ s. record { to_come = R.remaining s.reader; pulls = s.pulls; failures = s.failures } };
+
+    fn pull(&mut self, into: &mut [u8]) -> Result<usize, SourceFailed> {
+        if self.pulls == u64::MAX || self.failures == u64::MAX {
+            return Err(SourceFailed);
+        }
+        self.pulls += 1;
+        match self.reader.read(into) {
+            Ok(count) => Ok(count),
+            Err(_) => {
+                self.failures += 1;
+                Err(SourceFailed)
+            }
+        }
+    }
+}

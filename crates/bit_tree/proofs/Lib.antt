@@ -1,0 +1,7 @@
+pub mod Copies
+pub mod Depths
+pub mod Documents
+pub mod Growing
+pub mod Magics
+pub mod MarkedFlats
+pub mod Placing

@@ -1,0 +1,12 @@
+pub mod EventView
+pub mod Judging
+pub mod MarkedFalls
+pub mod MarkedFrames
+pub mod MarkedView
+pub mod MarksCode
+pub mod Nesting
+pub mod TreeCode
+pub mod TreeFalls
+pub mod TreeFrames
+pub mod TreeSize
+pub mod TreeView

@@ -1,0 +1,136 @@
+ghost use Rattle.std.specs.Prelude.{◌≡◌, ◌^◌, ◌<◌, ◌≤◌, ◌↔◌, IsTrue, true, false, nat_lt};
+ghost use Rattle.std.specs.List.{AllByRecursion};
+ghost use Rattle.bit_grammar.specs.Forest.{names_block, forest_depth, wrapper_magic};
+ghost use Rattle.bit_fields.specs.Opening.{magic_number};
+ghost use Rattle.bit_tree.specs.Judging.{InRange, describes_blocks, keeps_info_rule};
+ghost use Rattle.bit_tree.specs.TreeView.{forest_of_blocks};
+
+use crate::tree::{Block, Item, Items};
+
+/// The code of the records of a BLOCKINFO block that say which block is described.
+const SET_BID: u64 = 1;
+
+/// The magic with which a wrapper begins, its low byte first.
+const WRAPPER_MAGIC: u32 = 0x0B17C0DE;
+
+/// Whether the magic is that of a wrapper.
+pub(crate) fn is_wrapper(magic: [u8; 4]) -> bool
+    ensures wrapper { IsTrue result ↔ (magic_number magic ≡ wrapper_magic) }
+    ensures fits { magic_number magic < 2 ^ 32 }
+{
+    u32::from_le_bytes(magic) == WRAPPER_MAGIC
+}
+
+/// Whether the first value is a block id.
+fn names_block(values: &[u64]) -> bool
+    ensures { result ≡ names_block values.now }
+{
+    match values {
+        [] => false,
+        [id, ..] => *id < 1 << 32,
+    }
+}
+
+/// Whether these are records only, the first of which says which block is described, and each that says so names one.
+fn describes_blocks(items: &Items) -> bool
+    ensures { result ≡ describes_blocks false items.now }
+{
+    let mut described = false;
+    for item in &items.0 {
+        match item {
+            Item::Block(_) => return false,
+            Item::Record(record) => {
+                let good = if record.code == SET_BID {
+                    names_block(&record.values.0)
+                } else {
+                    described
+                };
+                if !good {
+                    return false;
+                }
+                described = true;
+            }
+        }
+    }
+    true
+}
+
+/// An id has 32 bits, as its type has it.
+fn known_id(id: u32)
+    ensures { id < 2 ^ 32 }
+{}
+
+/// A code and values have 64 bits, as their types have it.
+fn known_record(code: u64, values: &[u64])
+    ensures code { code < 2 ^ 64 }
+    ensures values { AllByRecursion (λ v. v < 2 ^ 64) values.now }
+{}
+
+/// Whether the items go deeper than a number of levels. It goes down no further than that.
+fn is_deep(items: &Items, levels: u32) -> bool
+    ensures deep { result ≡ nat_lt levels (forest_depth items.now) }
+    ensures range { result ≡ false → InRange items.now }
+{
+    for item in &items.0 {
+        match item {
+            Item::Block(block) => {
+                known_id(block.id);
+                if levels == 0 || is_deep(&block.items, levels - 1) {
+                    return true;
+                }
+            }
+            Item::Record(record) => {
+                known_record(record.code, &record.values.0);
+            }
+        }
+    }
+    false
+}
+
+/// Whether each BLOCKINFO block in the items describes blocks.
+fn keeps_info_rule(items: &Items) -> bool
+    requires { forest_depth items.now ≤ 255 }
+    ensures { result ≡ keeps_info_rule items.now }
+{
+    for item in &items.0 {
+        if let Item::Block(block) = item {
+            if block.id == 0 && !describes_blocks(&block.items) {
+                return false;
+            }
+            if !keeps_info_rule(&block.items) {
+                return false;
+            }
+        }
+    }
+    true
+}
+
+/// Whether the blocks go deeper than 255 levels.
+pub(crate) fn are_deep(blocks: &[Block]) -> bool
+    ensures deep { result ≡ nat_lt 255 (forest_depth (forest_of_blocks blocks.now)) }
+    ensures range { result ≡ false → InRange (forest_of_blocks blocks.now) }
+{
+    for block in blocks {
+        known_id(block.id);
+        if is_deep(&block.items, 254) {
+            return true;
+        }
+    }
+    false
+}
+
+/// Whether each BLOCKINFO block, at any depth, describes blocks.
+pub(crate) fn keep_info_rule(blocks: &[Block]) -> bool
+    requires { forest_depth (forest_of_blocks blocks.now) ≤ 255 }
+    ensures { result ≡ keeps_info_rule (forest_of_blocks blocks.now) }
+{
+    for block in blocks {
+        if block.id == 0 && !describes_blocks(&block.items) {
+            return false;
+        }
+        if !keeps_info_rule(&block.items) {
+            return false;
+        }
+    }
+    true
+}

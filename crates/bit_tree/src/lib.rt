@@ -1,0 +1,22 @@
+//! Trees of blocks and records, and the events of a stream.
+#![tactic(auto)]
+
+mod copying;
+mod document;
+mod event;
+mod judging;
+mod marked;
+mod marked_builder;
+#[cfg(test)]
+mod tests;
+mod tree;
+mod tree_builder;
+
+pub use bit_grammar::Info;
+pub use copying::{tree_of, tree_with};
+pub use document::{BadDocument, Document, DocumentReason};
+pub use event::Event;
+pub use marked::{
+    Marked, MarkedBlock, MarkedBlocks, MarkedDefine, MarkedItem, MarkedItems, MarkedRecord,
+};
+pub use tree::{Block, Item, Items, Record, Values};
