@@ -85,6 +85,7 @@ both_repeat f h same (suc count) p r = ap (λ x. x and_then rest f) (same p r) �
   where
     rest : Grammar ℕ → ℕ × ℕ × List Bool → Result (List ℕ × ℕ × List Bool) grammar.Fault
     rest k x = reading (repeat count k >>= λ others. gives (x.0 ∷ others)) x.1 x.2
+
     by : (first : Result (ℕ × ℕ × List Bool) grammar.Fault) → ((q : ℕ) (t : List Bool) → reading (repeat count f) q t ≡ reading (repeat count h) q t) → (first and_then rest f) ≡ (first and_then rest h)
     by (Ok x) others = rw (others x.1 x.2) refl
     by (Err fault) others = refl

@@ -110,6 +110,7 @@ too_wide (Vbr w) reason e = by (vbr_lawful w) refl e
   where
     wide : (w : ℕ) → vbr_lawful w ≡ false → (32 < w) ⊎ (w ≡ 1)
     wide w bad = elim (and_cases _ _ bad) [ inl x ↦ inl (leb-false _ _ x) | inr x ↦ inr (eqb-true _ _ (not-false _ x)) ]
+
     by : (b : Bool) → vbr_lawful w ≡ b → cond b None (Some FieldWidth) ≡ Some reason → (reason ≡ FieldWidth) × ((32 < w) ⊎ (w ≡ 1))
     by true is e = absurd cc
     by false is e = (cc, wide w is)

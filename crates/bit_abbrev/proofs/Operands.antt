@@ -60,12 +60,12 @@ go_on count a done place b ops op c less h t fit value =
     record {
       live = t.live;
       so = λ result d k.
-        subst (λ (x : Result (List Op) Fault). Takes (operands count first) a x d) (both_ahead ops op result) (
+          subst (λ (x : Result (List Op) Fault). Takes (operands count first) a x d) (both_ahead ops op result) (
           h.so (told_by (λ others. op ∷ others) result) d (
-            subst (λ (n : ℕ). Takes (operands n place) b (told_by (λ others. op ∷ others) result) d) (sym left) (
-              one_more (count - 1 - done) place b op c result d t (subst (λ (n : ℕ). Takes (operands n (place_after op)) c result d) next k))));
+          subst (λ (n : ℕ). Takes (operands n place) b (told_by (λ others. op ∷ others) result) d) (sym left) (
+          one_more (count - 1 - done) place b op c result d t (subst (λ (n : ℕ). Takes (operands n (place_after op)) c result d) next k))));
       lawful = λ others len k.
-        subst (LawfulFrom first) (sym (append_assoc ops (op ∷ []) others)) (
+          subst (LawfulFrom first) (sym (append_assoc ops (op ∷ []) others)) (
           h.lawful (op ∷ others) (omega (arith, len, left, next)) (subst (λ (n : ℕ). fits place n (kind_of op) ≡ true) (sym (len ∙ next)) fit, value, k));
       length_is = omega (arith, length-append ops (op ∷ []), h.length_is);
     }

@@ -68,7 +68,7 @@ pub placed : (es : List (ℕ × Vec (List Op))) (id : ℕ) (o : Option ℕ) → 
 placed es id None h = tt
 placed es id (Some place) h =
     ap (λ (e : Option (ℕ × List (List Op))). option_map_or (λ x. x.1) e []) (slice_get-map (λ (e : ℕ × Vec (List Op)). (e.0, e.1.items)) es place)
-        ∙ (by (slice_get es place) ∙ sym (at_lookup es id (option_map (λ (e : ℕ × Vec (List Op)). e.1) (slice_get es place)) (sym h ∙ slice_get-map (λ (e : ℕ × Vec (List Op)). e.1) es place)))
+    ∙ (by (slice_get es place) ∙ sym (at_lookup es id (option_map (λ (e : ℕ × Vec (List Op)). e.1) (slice_get es place)) (sym h ∙ slice_get-map (λ (e : ℕ × Vec (List Op)). e.1) es place)))
   where
     by : (o : Option (ℕ × Vec (List Op))) → option_map_or (λ (x : ℕ × List (List Op)). x.1) (option_map (λ (e : ℕ × Vec (List Op)). (e.0, e.1.items)) o) [] ≡ unwrap_or (option_map items_of (option_map (λ (e : ℕ × Vec (List Op)). e.1) o)) []
     by None = refl

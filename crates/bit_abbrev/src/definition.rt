@@ -75,11 +75,7 @@ fn read_value<S: Source>(reader: &mut BitReader<S>, kind: Kind) -> Result<Op, Fa
 
 /// Reads an operand at a place with so many operands after it.
 #[tactic(auto, unfolding(bit_grammar::specs::Definition::operand))]
-fn read_operand<S: Source>(
-    reader: &mut BitReader<S>,
-    place: Place,
-    after: u64,
-) -> Result<Op, Fault>
+fn read_operand<S: Source>(reader: &mut BitReader<S>, place: Place, after: u64) -> Result<Op, Fault>
     ensures takes { Takes (operand place after) reader.old result reader.new }
     ensures fits { IfOk result (λ op. fits place after (kind_of op) ≡ true) }
     ensures lawful { IfOk result HasLawfulValue }

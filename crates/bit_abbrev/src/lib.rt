@@ -6,6 +6,8 @@ mod definition;
 mod in_force;
 mod info;
 mod laws;
+#[cfg(test)]
+mod reading_tests;
 mod record;
 #[cfg(test)]
 mod tests;

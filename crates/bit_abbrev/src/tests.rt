@@ -43,11 +43,7 @@ fn unlawful_lists_come_back(rt: HostRuntime) -> Result<(), Fail> {
             1,
             Reason::FieldWidth,
         ),
-        (
-            &[Op::Fixed(33), Op::Blob, Op::Char6],
-            0,
-            Reason::FieldWidth,
-        ),
+        (&[Op::Fixed(33), Op::Blob, Op::Char6], 0, Reason::FieldWidth),
         (
             &[Op::Literal(1), Op::Array, Op::Vbr(1)],
             2,
@@ -106,7 +102,10 @@ fn a_refused_list_says_why(rt: HostRuntime) -> Result<(), Fail> {
     let Err(bad) = Abbrev::new(list(rt.alloc(), &[Op::Literal(1), Op::Array])?) else {
         return Err("it was taken".into());
     };
-    assert_eq!(rt; format!(in rt.alloc(); "{bad}")?.as_str(), "operand 1: AbbrevShape");
+    assert_eq!(rt;
+        format!(in rt.alloc(); "{bad}")?.as_str(),
+        "operand 1: AbbrevShape"
+    );
     Ok(())
 }
 
@@ -133,7 +132,10 @@ fn the_table_keeps_the_order_of_each_id(rt: HostRuntime) -> Result<(), Fail> {
     for (id, value) in [(8, 1), (0, 2), (8, 3), (u32::MAX, 4), (8, 5)] {
         let before = firsts(rt.alloc(), table.for_block(id))?;
         if let Err(refused) = table.define(id, constant(rt.alloc(), value)?) {
-            assert_eq!(rt; firsts(rt.alloc(), table.for_block(id))?.as_slice(), before.as_slice());
+            assert_eq!(rt;
+                firsts(rt.alloc(), table.for_block(id))?.as_slice(),
+                before.as_slice()
+            );
             return Err(refused.into());
         }
     }
@@ -144,7 +146,11 @@ fn the_table_keeps_the_order_of_each_id(rt: HostRuntime) -> Result<(), Fail> {
         (9, &[]),
     ];
     for (id, ops) in rows {
-        assert_eq!(rt; firsts(rt.alloc(), table.for_block(id))?.as_slice(), ops, "{id}");
+        assert_eq!(rt;
+            firsts(rt.alloc(), table.for_block(id))?.as_slice(),
+            ops,
+            "{id}"
+        );
     }
     Ok(())
 }
@@ -179,7 +185,15 @@ fn open_blocks_keep_what_they_had(rt: HostRuntime) -> Result<(), Fail> {
     shared = SharedInfo::share(alloc, later)?;
     outer.define(constant(alloc, 5)?)?;
     let rows: [(&InForce, &[Op]); 6] = [
-        (&outer, &[Op::Literal(1), Op::Literal(2), Op::Literal(3), Op::Literal(5)]),
+        (
+            &outer,
+            &[
+                Op::Literal(1),
+                Op::Literal(2),
+                Op::Literal(3),
+                Op::Literal(5),
+            ],
+        ),
         (&inner, &[Op::Literal(1), Op::Literal(2)]),
         (&other, &[]),
         (&shared.enter(alloc, 8)?, &[]),
@@ -199,7 +213,10 @@ fn a_refused_definition_leaves_the_others(rt: HostRuntime) -> Result<(), Fail> {
     for value in 0..8 {
         let before = in_force(alloc, &definitions)?;
         if let Err(refused) = definitions.define(constant(alloc, value)?) {
-            assert_eq!(rt; in_force(alloc, &definitions)?.as_slice(), before.as_slice());
+            assert_eq!(rt;
+                in_force(alloc, &definitions)?.as_slice(),
+                before.as_slice()
+            );
             return Err(refused.into());
         }
     }

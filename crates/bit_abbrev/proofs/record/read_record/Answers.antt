@@ -15,8 +15,8 @@ returns-then-singles-room g c =
     let parts = sym (in_parts c.args.ops.now c.in-len1-up.len_at_least) in
     let many = rw c.singles-singles.ensures at c.if-singles-room.true in
     rw (c.fail.ensures.fault, c.fail.ensures.failed) (
-      subst (λ (ops : List Op). AddsRecord (abbreviated c.args.at c.args.room ops) c.args.reader.now (Err (Refused TooManyValues c.args.at)) c.args.values.now.items c.args.values.now.items (stopped c.args.reader.now)) parts (
-        record_crowded c.args.at c.args.room (op_at c.args.ops.now 0) (behind_first c.args.ops.now) c.args.reader.now c.args.values.now.items (sym c.if-not-is_live.ensures) many))
+    subst (λ (ops : List Op). AddsRecord (abbreviated c.args.at c.args.room ops) c.args.reader.now (Err (Refused TooManyValues c.args.at)) c.args.values.now.items c.args.values.now.items (stopped c.args.reader.now)) parts (
+    record_crowded c.args.at c.args.room (op_at c.args.ops.now 0) (behind_first c.args.ops.now) c.args.reader.now c.args.values.now.items (sym c.if-not-is_live.ensures) many))
 
 pub returns-in_err-code : goal.returns-in_err-code
 returns-in_err-code g c =
@@ -24,8 +24,8 @@ returns-in_err-code g c =
     let few = rw c.singles-singles.ensures at c.if-singles-room.false in
     let failed = err_from_is_err_and c.from_residual.result c.from_residual.ensures.1 in
     rw (failed.1, failed.2) (
-      subst (λ (ops : List Op). AddsRecord (abbreviated c.args.at c.args.room ops) c.args.reader.now (Err c.in_err-code.field-0.0) c.args.values.now.items c.args.values.now.items c.read_scalar.new.reader) parts (
-        record_coded c.args.at c.args.room (op_at c.args.ops.now 0) (behind_first c.args.ops.now) c.args.reader.now c.in_err-code.field-0.0 c.args.values.now.items c.read_scalar.new.reader few c.in_err-code.ensures))
+    subst (λ (ops : List Op). AddsRecord (abbreviated c.args.at c.args.room ops) c.args.reader.now (Err c.in_err-code.field-0.0) c.args.values.now.items c.args.values.now.items c.read_scalar.new.reader) parts (
+    record_coded c.args.at c.args.room (op_at c.args.ops.now 0) (behind_first c.args.ops.now) c.args.reader.now c.in_err-code.field-0.0 c.args.values.now.items c.read_scalar.new.reader few c.in_err-code.ensures))
 
 pub read_values-requires-clause-elements : goal.read_values-requires-clause-elements
 read_values-requires-clause-elements g c = elements_behind c.args.ops.now c.in-len1-up.len_at_least c.requires
@@ -37,8 +37,8 @@ returns-in_err-read_values g c =
     let failed = err_from_is_err_and c.from_residual-in_err-read_values.result c.from_residual-in_err-read_values.ensures.1 in
     let rest = rw c.singles-singles.ensures at c.in_err-read_values.ensures in
     rw (failed.1, failed.2) (
-      subst (λ (ops : List Op). AddsRecord (abbreviated c.args.at c.args.room ops) c.args.reader.now (Err c.in_err-read_values.field-0.0) c.args.values.now.items c.read_values.new.values.items c.read_values.new.reader) parts (
-        record_fails c.args.at c.args.room (op_at c.args.ops.now 0) (behind_first c.args.ops.now) c.args.reader.now c.in_ok-code.code c.read_scalar.new.reader c.in_err-read_values.field-0.0 c.args.values.now.items c.read_values.new.values.items c.read_values.new.reader few c.in_ok-code.ensures rest))
+    subst (λ (ops : List Op). AddsRecord (abbreviated c.args.at c.args.room ops) c.args.reader.now (Err c.in_err-read_values.field-0.0) c.args.values.now.items c.read_values.new.values.items c.read_values.new.reader) parts (
+    record_fails c.args.at c.args.room (op_at c.args.ops.now 0) (behind_first c.args.ops.now) c.args.reader.now c.in_ok-code.code c.read_scalar.new.reader c.in_err-read_values.field-0.0 c.args.values.now.items c.read_values.new.values.items c.read_values.new.reader few c.in_ok-code.ensures rest))
 
 pub returns : goal.returns
 returns g c =
@@ -46,4 +46,4 @@ returns g c =
     let few = rw c.singles-singles.ensures at c.if-singles-room.false in
     let rest = rw c.singles-singles.ensures at c.in_ok-read_values.ensures in
     subst (λ (ops : List Op). AddsRecord (abbreviated c.args.at c.args.room ops) c.args.reader.now (Ok c.in_ok-code.code) c.args.values.now.items c.read_values.new.values.items c.read_values.new.reader) parts (
-      record_read c.args.at c.args.room (op_at c.args.ops.now 0) (behind_first c.args.ops.now) c.args.reader.now c.in_ok-code.code c.read_scalar.new.reader c.args.values.now.items c.read_values.new.values.items c.read_values.new.reader few c.in_ok-code.ensures rest)
+    record_read c.args.at c.args.room (op_at c.args.ops.now 0) (behind_first c.args.ops.now) c.args.reader.now c.in_ok-code.code c.read_scalar.new.reader c.args.values.now.items c.read_values.new.values.items c.read_values.new.reader few c.in_ok-code.ensures rest)
