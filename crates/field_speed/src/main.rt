@@ -1,10 +1,10 @@
-//! Reads standard input as fields of one kind and prints what they add up to: `field_speed fixed|vbr slice|buffered`.
+//! Reads standard input as fields of one kind and prints what they add up to, for `bench/fields.sh` to time:
+//! `field_speed fixed|vbr slice|buffered`.
 #![tactic(auto)]
 
 use bit_fields::{BitReader, Fault, Limits, ReadSource, SliceSource, Source};
-use std::env;
-use std::io;
 use std::io::{BufReader, Read};
+use std::{env, io};
 
 /// All fields of six bits, added up, until one fails.
 fn sum_of_fixed<S: Source + Drop>(source: S) -> u64 {
