@@ -83,8 +83,8 @@ impl<S: Source> BitReader<S> {
             });
         }
         let wrapper = self.wrapper()?;
-        let _place = self.position();
-        self.gap(wrapper.offset)?;
+        let start = self.position;
+        self.gap(start, wrapper.offset)?;
         self.end_after(wrapper.offset, wrapper.size);
         let magic = self.inner_magic()?;
         Ok(Head {
@@ -139,16 +139,16 @@ impl<S: Source> BitReader<S> {
         Ok(offset)
     }
 
-    /// Skips what stands between a wrapper and its stream, whatever it is.
-    fn gap(&mut self, offset: u32) -> Result<(), Fault>
+    /// Skips what stands between a wrapper and its stream, whatever it is, from the bit where it begins.
+    fn gap(&mut self, start: u64, offset: u32) -> Result<(), Fault>
         requires live { self.old.live ≡ true }
         requires position { self.old.position ≡ 160 }
+        requires start { start ≡ 160 }
         requires least { 20 ≤ offset }
         ensures takes { Takes (any_bits (8 * (offset - 20))) self.old result self.new }
         ensures memory { NeedsNoMemory result }
         ensures place { OnOk result (self.new.position ≡ 8 * offset) }
     {
-        let start = self.position;
         let end = 8 * u64::from(offset);
         while self.position < end {
             self.some_gap(start, end)?;

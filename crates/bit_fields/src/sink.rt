@@ -137,3 +137,26 @@ impl<W: Write> Sink for WriteSink<W> {
         }
     }
 }
+
+#[cfg(test)]
+mod tests {
+    use super::*;
+
+    #[test]
+    fn worn(rt: HostRuntime) {
+        let mut list = VecSink::new(rt.alloc());
+        list.failures = u64::MAX;
+        assert_eq!(rt; list.put(&[7]), Err(SinkFailed));
+        assert_eq!(rt; (list.bytes(), list.failures), ([].as_slice(), u64::MAX));
+        let mut room = [0; 2];
+        let mut writer = WriteSink {
+            writer: room.as_mut_slice(),
+            failures: u64::MAX - 1,
+        };
+        assert_eq!(rt; writer.put(&[7, 8, 9]), Ok(2));
+        assert_eq!(rt; writer.put(&[9]), Ok(0));
+        assert_eq!(rt; writer.put(&[9]), Err(SinkFailed));
+        assert_eq!(rt; writer.flush(), Err(SinkFailed));
+        assert_eq!(rt; writer.failures, u64::MAX);
+    }
+}

@@ -100,3 +100,27 @@ impl<R: Read> Source for ReadSource<R> {
         }
     }
 }
+
+#[cfg(test)]
+mod tests {
+    use super::*;
+
+    #[test]
+    fn worn(rt: HostRuntime) {
+        let mut into = [0; 2];
+        let mut slice = SliceSource {
+            rest: &[7, 8, 9],
+            pulls: u64::MAX - 1,
+        };
+        assert_eq!(rt; slice.pull(&mut into), Ok(2));
+        assert_eq!(rt; slice.pull(&mut into), Err(SourceFailed));
+        assert_eq!(rt; (slice.pulls, slice.rest), (u64::MAX, [9].as_slice()));
+        let mut reader = ReadSource {
+            reader: [7, 8, 9].as_slice(),
+            pulls: 5,
+            failures: u64::MAX,
+        };
+        assert_eq!(rt; reader.pull(&mut into), Err(SourceFailed));
+        assert_eq!(rt; (reader.pulls, reader.reader.len()), (5, 3));
+    }
+}
