@@ -6,7 +6,7 @@ use Rattle.bit_grammar.specs.Grammar as grammar
 use Rattle.bit_grammar.specs.Grammar.{Grammar, gives, ◌>>=◌, ◌>>◌, ◌and_then◌, repeat, reading}
 use Rattle.bit_grammar.specs.Fields.{fixed, align32}
 use Rattle.bit_fields.specs.declared.fault.Fault.{Fault}
-use Rattle.bit_fields.specs.declared.fault.Fault.TheVariants.{Refused, Read, Write, Memory, OutputTooLong, Failed}
+use Rattle.bit_fields.specs.declared.fault.Fault.TheVariants.{Memory}
 use Rattle.bit_fields.specs.Reader.{Reader, Took, Why, Takes, told_by, stopped}
 use Rattle.bit_fields.proofs.Composing.{fault_then, took_then, took_nothing, stops_here, stops_later, same_reading}
 use Rattle.bit_abbrev.specs.Values.{Adds}

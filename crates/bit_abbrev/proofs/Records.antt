@@ -1,6 +1,5 @@
 -- Reading the values of a record, operand by operand.
-use Rattle.std.proofs.Common.{◌≡◌, ℕ, zero, suc, ◌+◌, ◌-◌, ◌<◌, ◌≤◌, Bool, true, false, List, [], ◌∷◌, ◌++◌, length, take, drop, Result, Ok, Err, refl, sym, ap, ◌∙◌, subst, arith, add-one}
-use Rattle.std.specs.List.{AllByRecursion}
+use Rattle.std.proofs.Common.{◌≡◌, ℕ, zero, suc, ◌+◌, ◌-◌, ◌<◌, ◌≤◌, true, List, [], ◌∷◌, ◌++◌, length, take, drop, Result, Ok, Err, refl, sym, ap, ◌∙◌, subst, arith, add-one}
 use Rattle.std.proofs.lemmas.Bool.{le-leb, lt-leb}
 use Rattle.std.proofs.lemmas.List.{append-nil, take_at, take_all}
 use Rattle.std.proofs.Math.Seq.{drop-cons}
@@ -10,9 +9,9 @@ use Rattle.bit_grammar.specs.declared.reason.Reason.TheVariants.{TooManyValues}
 use Rattle.bit_grammar.specs.Grammar.{Grammar, at, gives, test, ◌>>=◌, ◌>>◌, repeat}
 use Rattle.bit_grammar.specs.Fields.{fixed, align32, byte}
 use Rattle.bit_grammar.specs.Record.{Entry, value_count, scalar, singles, values_of, abbreviated}
-use Rattle.bit_grammar.specs.FormatDefinition.{op_at, IsElement, HasLawfulValue, Lawful}
+use Rattle.bit_grammar.specs.FormatDefinition.{op_at, IsElement, Lawful}
 use Rattle.bit_fields.specs.declared.fault.Fault.{Fault}
-use Rattle.bit_fields.specs.declared.fault.Fault.TheVariants.{Refused, Memory, Failed}
+use Rattle.bit_fields.specs.declared.fault.Fault.TheVariants.{Refused, Memory}
 use Rattle.bit_fields.specs.Reader.{Reader, Took, Why, Takes, IsOnly, stopped}
 use Rattle.bit_fields.proofs.Composing.{fault_then, took_then, fails_here, holds_then, only}
 use Rattle.bit_abbrev.specs.Values.{Adds, AddsRecord, Recorded}

@@ -42,9 +42,7 @@ impl SharedInfo {
         let table = Rc::new(alloc, table)?;
         Ok(SharedInfo { table: Some(table) })
     }
-}
 
-impl SharedInfo {
     /// The definitions that are in force where a block with this id begins. It is refused only where the table has some for
     /// the id and is shared as often as can be counted.
     pub fn enter(&self, alloc: Global, id: u32) -> Result<InForce, AllocError>

@@ -1,5 +1,5 @@
 -- Judging how deep a tree goes.
-use Rattle.std.proofs.Common.{◌≡◌, ℕ, suc, ◌-◌, ◌<◌, ◌≤◌, ◌^◌, Bool, true, false, max, nat_lt, List, [], ◌∷◌, get_or, arith, ap, sym, ◌∙◌}
+use Rattle.std.proofs.Common.{◌≡◌, ℕ, suc, ◌-◌, ◌<◌, ◌^◌, false, max, nat_lt, List, [], ◌∷◌, get_or, arith, ap, sym, ◌∙◌}
 use Rattle.std.proofs.lemmas.Bool.Decides.{nat_tests}
 use Rattle.std.specs.List.{AllByRecursion}
 use Rattle.bit_grammar.specs.Forest.{Forest, a_block, a_record, forest_depth}

@@ -1,14 +1,14 @@
 -- A tree that is partly built, and what follows.
-use Rattle.std.proofs.Common.{◌≡◌, ℕ, zero, suc, Bool, true, false, if◌then◌else◌, List, [], ◌∷◌, ◌++◌, length, get_or, refl, sym, ap, ◌∙◌, arith, length-append, length-set}
+use Rattle.std.proofs.Common.{◌≡◌, ℕ, zero, suc, true, false, if◌then◌else◌, List, [], ◌∷◌, ◌++◌, length, get_or, refl, sym, ap, ◌∙◌, arith, length-append, length-set}
 use Rattle.std.proofs.Math.ListN.{set}
 use Rattle.std.specs.Global.{Vec}
 use Rattle.bit_grammar.specs.declared.info.Info.{Info}
 use Rattle.bit_grammar.specs.Forest.{Forest, empty, a_block, a_record}
-use Rattle.bit_grammar.specs.Machine.{Event, Opened, enters, defines, notes, leaves, flat}
+use Rattle.bit_grammar.specs.Machine.{Event, Opened, enters, leaves, flat}
 use Rattle.bit_grammar.specs.Marks.{Marks, no_marks, marked_block, marked_record, marked_definition, keeps, forest_of}
 use Rattle.bit_tree.proofs.Copies.{put_items-push, put_blocks-push}
 use Rattle.bit_tree.specs.TreeFrames.{told_at_level, forest_of_frames}
-use Rattle.bit_tree.specs.TreeView.{put_item, put_items, put_block, put_blocks}
+use Rattle.bit_tree.specs.TreeView.{put_item, put_items, put_blocks}
 use Rattle.bit_tree.specs.declared.tree.Block.{Block}
 use Rattle.bit_tree.specs.declared.tree.Item.{Item}
 use Rattle.bit_tree.specs.declared.tree.Item.TheVariants.{Block as block_item}

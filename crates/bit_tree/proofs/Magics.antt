@@ -1,7 +1,7 @@
 -- The number of a magic.
-use Rattle.std.proofs.Common.{◌≡◌, ℕ, suc, ◌+◌, ◌*◌, ◌^◌, ◌<◌, List, [], ◌∷◌, length, get_or, arith}
+use Rattle.std.proofs.Common.{◌≡◌, ℕ, ◌+◌, ◌*◌, ◌<◌, List, [], ◌∷◌, length, get_or, arith}
 use Rattle.std.specs.Int.{w32, from_le_bytes}
-use Rattle.bit_grammar.specs.Bits.{number, bits_of, bits_of_bytes}
+use Rattle.bit_grammar.specs.Bits.{bits_of, bits_of_bytes}
 use Rattle.bit_grammar.proofs.Numbers.{number-append, number-bits_of, length-bits_of}
 use Rattle.bit_fields.specs.Opening.{magic_number}
 

@@ -3,7 +3,7 @@ use Rattle.std.proofs.Common.{◌≡◌, ℕ, zero, suc, List, [], ◌∷◌, �
 use Rattle.std.proofs.Math.ListN.{set}
 use Rattle.std.specs.Global.{Vec}
 use Rattle.bit_grammar.specs.Machine.{Event, Opened, enters, defines, notes, leaves, flat}
-use Rattle.bit_grammar.specs.Marks.{BlockMark, RecordMark, DefinitionMark, Marks, no_marks, marked_block, marked_record, marked_definition}
+use Rattle.bit_grammar.specs.Marks.{BlockMark, Marks, no_marks, marked_block, marked_record, marked_definition}
 use Rattle.bit_tree.specs.MarkedFrames.{flat_frames, flat_item}
 use Rattle.bit_tree.specs.MarkedView.{put_marked, marks_of_items, marks_of_blocks}
 use Rattle.bit_tree.specs.declared.marked.MarkedBlock.{MarkedBlock}

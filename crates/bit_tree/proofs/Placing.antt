@@ -1,7 +1,6 @@
 -- Items and blocks, one after the other.
-use Rattle.std.proofs.Common.{◌≡◌, ℕ, suc, ◌+◌, ◌<◌, List, [], ◌∷◌, ◌++◌, length, drop, get_or, refl, sym, ap, ◌∙◌, drop-cons, add-one}
-use Rattle.bit_grammar.specs.Forest.{Forest}
-use Rattle.bit_tree.specs.TreeView.{put_item, put_items, put_block, put_blocks, forest_of_items, forest_of_blocks}
+use Rattle.std.proofs.Common.{◌≡◌, ℕ, suc, ◌+◌, ◌<◌, List, length, drop, get_or, sym, ap, ◌∙◌, drop-cons, add-one}
+use Rattle.bit_tree.specs.TreeView.{put_item, put_block, forest_of_items, forest_of_blocks}
 use Rattle.bit_tree.specs.declared.tree.Block.{Block}
 use Rattle.bit_tree.specs.declared.tree.Item.{Item}
 

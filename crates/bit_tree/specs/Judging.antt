@@ -1,5 +1,5 @@
 -- What is judged of blocks before they are a document.
-use Rattle.std.specs.Prelude.{◌≡◌, ◌≢◌, ℕ, ◌^◌, ◌<◌, ◌≤◌, Bool, true, false, ◌&&◌, List, ◌==◌, if◌then◌else◌}
+use Rattle.std.specs.Prelude.{◌≡◌, ◌≢◌, ◌^◌, ◌<◌, ◌≤◌, Bool, true, false, ◌&&◌, ◌==◌, if◌then◌else◌}
 use Rattle.std.specs.List.{AllByRecursion}
 use Rattle.bit_grammar.specs.Forest.{Forest, empty, a_block, a_record, Tree, forest_depth, set_bid, names_block, DescribesBlocks, wrapper_magic}
 use Rattle.bit_tree.specs.declared.document.DocumentReason.{DocumentReason}

@@ -1,5 +1,5 @@
 -- How a proof tells marked trees apart.
-use Rattle.std.specs.Prelude.{◌≡◌, ℕ, zero, suc, List, [], ◌∷◌, Option, Some, None, refl}
+use Rattle.std.specs.Prelude.{◌≡◌, ℕ, zero, suc, List, [], ◌∷◌, Option, refl}
 use Rattle.std.specs.Coded.{Coded, code_by, coded_ℕ, coded_list, coded×, coded_option}
 use Rattle.std.proofs.Common.{ap, ◌∙◌}
 use Rattle.bit_grammar.specs.declared.op.Op.{Op}

@@ -1,5 +1,5 @@
 -- Where events may stand.
-use Rattle.std.specs.Prelude.{◌≡◌, ◌+◌, ◌-◌, ◌<◌, ℕ, List, [], ◌∷◌}
+use Rattle.std.specs.Prelude.{◌+◌, ◌-◌, ◌<◌, ℕ}
 use Rattle.bit_grammar.specs.Machine.{Event, enters, defines, notes, leaves}
 
 -- the blocks that are open after an event
@@ -15,8 +15,3 @@ MayStand depth (enters opened) = Unit {0}
 MayStand depth (leaves after) = 0 < depth
 MayStand depth (defines mark) = 0 < depth
 MayStand depth (notes mark) = 0 < depth
-
--- each event may stand where it stands
-abbrev pub AreNested : ℕ → List Event → Type 0
-AreNested depth [] = Unit {0}
-AreNested depth (event ∷ events) = MayStand depth event × AreNested (depth_after depth event) events

@@ -1,6 +1,8 @@
 //! Trees of blocks and records, and the events of a stream.
 #![tactic(auto)]
 
+#[cfg(test)]
+mod builder_tests;
 mod copying;
 mod document;
 mod event;

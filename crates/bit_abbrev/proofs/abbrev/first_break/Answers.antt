@@ -1,6 +1,6 @@
-use Rattle.std.proofs.Common.{◌∙◌, sym, subst, ◌<◌, ℕ, arith}
+use Rattle.std.proofs.Common.{◌∙◌, sym, arith}
 use Rattle.std.proofs.lemmas.Bool.{eqb-false}
-use Rattle.bit_abbrev.proofs.Breaks.{HoldBefore, judged_at, next_place, hold_more, first_found, all_hold}
+use Rattle.bit_abbrev.proofs.Breaks.{judged_at, next_place, hold_more, first_found, all_hold}
 use Rattle.bit_abbrev.proofs.abbrev.first_break.Goals as goal
 
 pub returns-in-Some-clause-found : goal.returns-in-Some-clause-found

@@ -1,4 +1,3 @@
-use Rattle.bit_grammar.specs.declared.op.Place.TheVariants.{First}
 use Rattle.bit_abbrev.proofs.Operands.{Defines}
 use Rattle.bit_abbrev.proofs.definition.read_operands.Given as goal
 

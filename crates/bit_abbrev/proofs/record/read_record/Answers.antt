@@ -1,8 +1,8 @@
-use Rattle.std.proofs.Common.{List, Err, Ok, ◌≤◌, subst, sym, arith}
+use Rattle.std.proofs.Common.{List, Err, Ok, subst, sym}
 use Rattle.std.proofs.lemmas.Result.{err_from_is_err_and}
 use Rattle.bit_grammar.specs.declared.op.Op.{Op}
 use Rattle.bit_grammar.specs.declared.reason.Reason.TheVariants.{TooManyValues}
-use Rattle.bit_grammar.specs.Record.{singles, abbreviated}
+use Rattle.bit_grammar.specs.Record.{abbreviated}
 use Rattle.bit_grammar.specs.FormatDefinition.{op_at}
 use Rattle.bit_fields.specs.declared.fault.Fault.TheVariants.{Refused}
 use Rattle.bit_fields.specs.Reader.{stopped}

@@ -1,6 +1,5 @@
-use Rattle.std.proofs.Common.{◌≡◌, ◌^◌, ◌<◌, true, refl, sym, ◌∙◌, arith, length, rules, ℕ, get_or}
+use Rattle.std.proofs.Common.{◌≡◌, sym, ◌∙◌, arith, rules}
 use Rattle.std.proofs.lemmas.Bool.{eq-eqb, eqb-true}
-use Rattle.bit_grammar.specs.Forest.{wrapper_magic}
 use Rattle.bit_fields.specs.Opening.{magic_number}
 use Rattle.bit_tree.proofs.Magics.{magic_is}
 use Rattle.bit_tree.proofs.judging.is_wrapper.Goals as goal

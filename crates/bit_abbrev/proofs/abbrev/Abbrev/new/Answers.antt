@@ -1,4 +1,3 @@
-use Rattle.std.proofs.Common.{subst}
 use Rattle.bit_abbrev.proofs.Breaks.{not_lawful}
 use Rattle.bit_abbrev.proofs.abbrev.Abbrev.new.Goals as goal
 

@@ -1,5 +1,4 @@
-use Rattle.std.proofs.Common.{◌∙◌, sym, ap}
-use Rattle.bit_abbrev.specs.Table.{definitions_at}
+use Rattle.std.proofs.Common.{◌∙◌, sym}
 use Rattle.bit_abbrev.proofs.Table.{found_at, none_at}
 use Rattle.bit_abbrev.proofs.info.InfoTable.for_block.Goals as goal
 

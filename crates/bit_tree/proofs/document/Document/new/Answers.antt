@@ -1,4 +1,3 @@
-use Rattle.std.proofs.Common.{false, true}
 use Rattle.bit_tree.specs.TreeView.{tree_with}
 use Rattle.bit_tree.proofs.Documents.{unfit}
 use Rattle.bit_tree.proofs.document.Document.new.Goals as goal
