@@ -11,3 +11,4 @@ pub mod Gap
 pub mod Starting
 pub mod WriterLaws
 pub mod WriterChunks
+pub mod Cutting

@@ -1,8 +1,8 @@
 ghost use Rattle.std.specs.Prelude.{◌≡◌, ◌+◌, ◌*◌, ◌-◌, ◌<◌, ◌≤◌, ◌^◌, ◌%◌, length, true, false, take, drop, [], OnErr, OnOk, IfOk, IfErr, MatchOption, ◌&&◌, ◌==◌, nat_le};
 ghost use Rattle.bit_grammar.specs.Fields.{fixed, vbr, char6, align32, byte, character, chunks, chunk_limit, zeros};
-ghost use Rattle.bit_fields.specs.Reader.{Extent, Takes, Why, IsOnly, NeedsNoMemory, within, told_by, stopped};
 ghost use Rattle.bit_grammar.specs.Grammar.{at, test};
 ghost use Rattle.bit_grammar.specs.Input.{version, offset, wrapper, any_bits, inner_magic};
+ghost use Rattle.bit_fields.specs.Reader.{Extent, Takes, Why, IsOnly, NeedsNoMemory, within, told_by, stopped};
 ghost use Rattle.bit_fields.specs.Opening.{fresh, Opened, Declines, Opens, wrapper_told};
 ghost use Rattle.bit_fields.specs.Ending.{reach_of, Looks, Closes, IsThrough};
 ghost use Rattle.bit_fields.specs.Inside.{part_of, gap_of, above, stopped_at, fault_of, TookZeros, TookGap};
@@ -31,10 +31,6 @@ pub struct BitReader<S: Source> {
 
 impl<S: Source> Model for BitReader<S> {
     ghost use Rattle.bit_fields.specs.Reader.{Reader};
-    ghost use Rattle.bit_grammar.specs.Grammar.{at, test};
-    ghost use Rattle.bit_grammar.specs.Input.{version, offset, wrapper, any_bits, inner_magic};
-    ghost use Rattle.bit_fields.specs.Opening.{fresh, Opened, Declines, Opens, wrapper_told};
-    ghost use Rattle.bit_fields.specs.Ending.{reach_of, Looks, Closes, IsThrough};
     ghost use Rattle.bit_fields.specs.Inside.{reader_of, IsReader};
 
     ghost Value = { Reader };
@@ -45,8 +41,8 @@ impl<S: Source> Model for BitReader<S> {
 }
 
 impl<S: Source> BitReader<S> {
-    /// Begins the stream of a source: reads its wrapper, if there is one, and the magic of the stream, at which the head
-    /// stands then. Sources: "Magic Numbers", "Bitcode Wrapper Format".
+    /// Begins the stream of a source: reads its wrapper, if there is one, and the magic of the stream, and answers them as
+    /// the head. Sources: "Magic Numbers", "Bitcode Wrapper Format".
     ///
     /// Fewer than 4 bytes are `Truncated` at bit 0. In a wrapper a number that is not whole is `Truncated` at its first
     /// bit, a version other than 0 `WrapperVersion` at bit 32, an offset below 20 or no multiple of 4 `WrapperOffset` at
