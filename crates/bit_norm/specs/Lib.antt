@@ -1,0 +1,2 @@
+pub mod Saturated
+pub mod Writing
