@@ -1,6 +1,6 @@
 //! The table that blocks share, and the definitions in force in a block.
 
-ghost use Rattle.std.specs.Prelude.{◌≡◌, ◌++◌, [], ◌∷◌, IfOk, OnOk, OnErr, length, slice_get};
+ghost use Rattle.std.specs.Prelude.{◌≡◌, ◌-◌, ◌++◌, [], ◌∷◌, IfOk, OnOk, OnErr, length, slice_get};
 ghost use Rattle.std.specs.Option.{option_copied};
 ghost use Rattle.bit_abbrev.specs.Table.{definitions_at};
 
@@ -113,6 +113,19 @@ impl InForce {
             shared.get(index)
         } else {
             self.own.get(index - shared.len())
+        }
+    }
+
+    /// The definition that the block added last, or the last one of the table.
+    pub fn last(&self) -> Option<&Abbrev>
+        ensures { option_copied result ≡ slice_get self.now (length self.now - 1) }
+    {
+        if let Some(own) = self.own.last() {
+            return Some(own);
+        }
+        match &self.shared {
+            Some((table, place)) => table.list_at(*place).last(),
+            None => None,
         }
     }
 }

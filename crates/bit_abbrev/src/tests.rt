@@ -202,6 +202,8 @@ fn open_blocks_keep_what_they_had(rt: HostRuntime) -> Result<(), Fail> {
     ];
     for (definitions, ops) in rows {
         assert_eq!(rt; in_force(alloc, definitions)?.as_slice(), ops);
+        let last = definitions.last().map(Abbrev::ops);
+        assert_eq!(rt; last.and_then(|last| last.first()), ops.last());
     }
     Ok(())
 }
