@@ -5,3 +5,9 @@ pub mod Growing
 pub mod Magics
 pub mod MarkedFlats
 pub mod Placing
+pub mod Entering
+pub mod Framing
+pub mod Ids
+pub mod Repeating
+pub mod Stepping
+pub mod Telling

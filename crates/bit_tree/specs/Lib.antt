@@ -1,5 +1,8 @@
 pub mod EventView
+pub mod FrameView
+pub mod HeadView
 pub mod Judging
+pub mod MachineView
 pub mod MarkedFalls
 pub mod MarkedFrames
 pub mod MarkedView

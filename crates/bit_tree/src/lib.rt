@@ -6,7 +6,10 @@ mod builder_tests;
 mod copying;
 mod document;
 mod event;
+mod frame;
+mod heads;
 mod judging;
+mod machine;
 mod marked;
 mod marked_builder;
 #[cfg(test)]
@@ -14,7 +17,7 @@ mod tests;
 mod tree;
 mod tree_builder;
 
-pub use bit_grammar::Info;
+pub use bit_grammar::{Info, not_both, one_fault, one_tree, tree_or_fault};
 pub use copying::{tree_of, tree_with};
 pub use document::{BadDocument, Document, DocumentReason};
 pub use event::Event;

@@ -1,0 +1,29 @@
+use Rattle.std.proofs.Common.{Ok}
+use Rattle.std.proofs.lemmas.Result.{err_from_is_err_and}
+use Rattle.bit_grammar.specs.Record.{unabbreviated}
+use Rattle.bit_tree.proofs.Telling.{told, why, andThen, breaks, ends}
+use Rattle.bit_tree.proofs.frame.unabbreviated.Goals as goal
+
+pub returns-in_err-code : goal.returns-in_err-code
+unfolding unabbreviated
+returns-in_err-code g c =
+    let p = err_from_is_err_and c.from_residual.result c.from_residual.ensures.1 in
+    rw (p.1, p.2) (why (unabbreviated c.args.room) c.args.reader.now c.in_err-code.field-0.0 c.vbr.new.self (breaks c.in_err-code.ensures.takes))
+
+pub returns-in_err-count : goal.returns-in_err-count
+unfolding unabbreviated
+returns-in_err-count g c =
+    let p = err_from_is_err_and c.from_residual-in_err-count.result c.from_residual-in_err-count.ensures.1 in
+    rw (p.1, p.2) (why (unabbreviated c.args.room) c.args.reader.now c.in_err-count.field-0.0 c.value_count.new.reader (andThen c.in_ok-code.ensures.takes (breaks c.in_err-count.ensures.takes)))
+
+pub returns-in_err-append_values : goal.returns-in_err-append_values
+unfolding unabbreviated
+returns-in_err-append_values g c =
+    let p = err_from_is_err_and c.from_residual-in_err-append_values.result c.from_residual-in_err-append_values.ensures.1 in
+    rw (p.1, p.2) (why (unabbreviated c.args.room) c.args.reader.now c.in_err-append_values.field-0.0 c.append_values.new.reader (andThen c.in_ok-code.ensures.takes (andThen c.in_ok-count.ensures.takes (breaks c.in_err-append_values.ensures))))
+
+pub returns : goal.returns
+unfolding unabbreviated
+returns g c =
+    told (unabbreviated c.args.room) c.args.reader.now (Ok (record { code = c.in_ok-code.code; values = c.append_values.new.values.items })) c.append_values.new.reader
+    (andThen c.in_ok-code.ensures.takes (andThen c.in_ok-count.ensures.takes (andThen c.in_ok-append_values.ensures (ends c.in_ok-append_values.ensures.live))))

@@ -1,0 +1,49 @@
+-- What is seen of the machine of the program.
+use Rattle.std.specs.Prelude.{◌≡◌, ℕ, List, ◌∷◌}
+use Rattle.bit_grammar.specs.Grammar.{Grammar, gives, ◌>>=◌}
+use Rattle.bit_grammar.specs.Blocks.{Handed, BlockHead, end_of_block, define, record_after, leave}
+use Rattle.bit_grammar.specs.Machine as machine
+use Rattle.bit_grammar.specs.Machine.{Event, enters, defines, notes, leaves, Frame, scope_of, inside}
+use Rattle.bit_abbrev.specs.Table.{definitions_at}
+use Rattle.bit_tree.specs.FrameView.{frames_shown}
+use Rattle.bit_tree.specs.declared.machine.Machine.{Machine}
+use Rattle.bit_tree.specs.declared.machine.Found.{Found}
+use Rattle.bit_tree.specs.declared.machine.Found.TheVariants.{Enter, Define, Record, Leave}
+
+abbrev pub handed_shown : Machine → Handed
+handed_shown m = record { table = definitions_at m.table; used = m.used }
+
+abbrev pub machine_shown : Machine → machine.Machine
+machine_shown m = record { frames = frames_shown m.frames.items; handed = handed_shown m }
+
+-- an event that was found, with the values of its record
+abbrev pub found_shown : List ℕ → Found → Event
+found_shown values (Enter id width first body) = enters (record { id = id; width = width; first = first; body = body })
+found_shown values (Define ops first after) = defines (record { ops = ops; first = first; after = after })
+found_shown values (Record abbreviation code first after) = notes (record { abbreviation = abbreviation; code = code; values = values; first = first; after = after })
+found_shown values (Leave after) = leaves after
+
+-- what a step gave, and the machine after it
+abbrev pub gave : Machine → Found → Event × machine.Machine
+gave m found = (found_shown m.values.items found, machine_shown m)
+
+-- ---- the steps of the innermost block f, within others
+
+-- its end
+abbrev pub ended : Frame → List Frame → Handed → Grammar (Event × machine.Machine)
+ended f outer handed = end_of_block f.head >>= λ after. gives (leaves after, record { frames = outer; handed = leave f.info handed })
+
+-- a definition, whose id began at first
+abbrev pub defined_in : Frame → List Frame → (first : ℕ) → Handed → Grammar (Event × machine.Machine)
+defined_in f outer first handed = define first (scope_of f handed) >>= λ definition. gives (defines definition.0, inside f.head outer definition.1)
+
+-- a record with this id, which began at first
+abbrev pub noted_in : (limit : ℕ) → Frame → List Frame → (first id : ℕ) → Handed → Grammar (Event × machine.Machine)
+noted_in limit f outer first id handed = record_after limit first id (scope_of f handed) >>= λ item. gives (notes item.0, inside f.head outer item.1)
+
+-- a block with this head stands first
+pub record Innermost (frames : List Frame) (head : BlockHead) : Type 0 where
+  pub f : Frame
+  pub outer : List Frame
+  pub split : frames ≡ f ∷ outer
+  pub is : f.head ≡ head

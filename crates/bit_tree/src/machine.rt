@@ -1,0 +1,333 @@
+ghost use Rattle.std.specs.Prelude.{◌≡◌, ◌<◌, ◌≤◌, ◌+◌, ◌%◌, true, [], ◌∷◌, ℕ, List, OnOk, length, vec_len, is_none, IfSome, IfNone};
+ghost use Rattle.bit_grammar.specs.Blocks as blocks;
+ghost use Rattle.bit_grammar.specs.Blocks.{enter, leave, info_for};
+ghost use Rattle.bit_grammar.specs.Machine as machine;
+ghost use Rattle.bit_grammar.specs.Machine.{at_start, open_block, open_nested, step_in, step_top, step, scope_of, inside};
+ghost use Rattle.bit_fields.specs.Reader.{Takes, told_by};
+ghost use Rattle.bit_tree.specs.HeadView.{head_shown};
+ghost use Rattle.bit_tree.specs.FrameView.{info_shown, frame_shown, frames_shown, HaveIds};
+ghost use Rattle.bit_tree.specs.MachineView.{handed_shown, machine_shown, gave, Innermost, ended, defined_in, noted_in};
+
+use crate::frame::{Describing, Frame, define, record_after};
+use crate::heads::{BlockHead, block_head, end_of_block, granted, judge};
+use bit_abbrev::{Abbrev, InfoTable, SharedInfo};
+use bit_fields::{BitReader, Fault, Limits, Reason, Source};
+use std::alloc::{AllocError, Global};
+
+/// An event, without the values of a record.
+#[derive(Drop)]
+pub(crate) enum Found {
+    Enter {
+        id: u32,
+        width: u8,
+        first: u64,
+        body: u64,
+    },
+    Define {
+        abbrev: Abbrev,
+        first: u64,
+        after: u64,
+    },
+    Record {
+        abbrev: u32,
+        code: u64,
+        first: u64,
+        after: u64,
+    },
+    Leave {
+        after: u64,
+    },
+}
+
+/// What is known between two events: the open blocks, the outermost first, the table for the blocks to come, the number of
+/// values so far, and the values of the record that was read last.
+#[derive(Drop)]
+pub(crate) struct Machine {
+    pub(crate) frames: Vec<Frame>,
+    pub(crate) table: SharedInfo,
+    pub(crate) used: u64,
+    pub(crate) values: Vec<u64>,
+}
+
+/// What a block with this id describes at its beginning, if it is a BLOCKINFO block.
+fn info_for(alloc: Global, id: u32) -> Option<Describing>
+    ensures { info_shown result ≡ info_for id }
+{
+    if id == 0 {
+        Some(Describing {
+            described: None,
+            made: InfoTable::new(alloc),
+        })
+    } else {
+        None
+    }
+}
+
+impl Machine {
+    /// No block is open, and nothing was read.
+    pub(crate) fn new(alloc: Global) -> Machine
+        ensures machine { machine_shown result ≡ at_start }
+        ensures ids { HaveIds result.frames.items }
+        ensures values { result.values.items ≡ [] }
+    {
+        Machine {
+            frames: Vec::new(alloc),
+            table: SharedInfo::new(),
+            used: 0,
+            values: Vec::new(alloc),
+        }
+    }
+
+    /// Opens a block.
+    fn enter(&mut self, alloc: Global, head: BlockHead) -> Result<(), AllocError>
+        ensures made { OnOk result (machine_shown self.new ≡ inside (head_shown head) (frames_shown self.old.frames.items) (enter head.id (handed_shown self.old))) }
+        ensures ids { 1 ≤ head.width → head.width ≤ 32 → HaveIds self.old.frames.items → HaveIds self.new.frames.items }
+        ensures some { OnOk result (0 < vec_len self.new.frames) }
+        ensures few { vec_len self.new.frames ≤ vec_len self.old.frames + 1 }
+    {
+        let definitions = self.table.enter(alloc, head.id)?;
+        let info = info_for(alloc, head.id);
+        self.frames.push(Frame {
+            head,
+            definitions,
+            info,
+        })?;
+        Ok(())
+    }
+
+    /// Reads a block's beginning, after its id, which began at a bit. Source: "ENTER_SUBBLOCK Encoding".
+    fn open_block<S: Source>(
+        &mut self,
+        alloc: Global,
+        reader: &mut BitReader<S>,
+        limits: Limits,
+        first: u64,
+    ) -> Result<Found, Fault>
+        requires { reader.old.live ≡ true }
+        ensures takes { Takes (open_block limits (frames_shown self.old.frames.items) first (handed_shown self.old)) reader.old (told_by (gave self.new) result) reader.new }
+        ensures ids { HaveIds self.old.frames.items → HaveIds self.new.frames.items }
+        ensures aligned { OnOk result (vec_len self.new.frames ≡ 0 → reader.new.position % 32 ≡ 0) }
+        ensures depth { vec_len self.old.frames ≤ limits.depth → vec_len self.new.frames ≤ limits.depth }
+    {
+        let fits = self.frames.len() < limits.depth() as usize;
+        judge(reader, fits, Reason::TooDeep, first)?;
+        let head = block_head(reader)?;
+        granted(reader, self.enter(alloc, head))?;
+        Ok(Found::Enter {
+            id: head.id,
+            width: head.width,
+            first,
+            body: head.body,
+        })
+    }
+
+    /// Reads the beginning of a block in a block.
+    fn open_nested<S: Source>(
+        &mut self,
+        alloc: Global,
+        reader: &mut BitReader<S>,
+        limits: Limits,
+        first: u64,
+    ) -> Result<Found, Fault>
+        requires live { reader.old.live ≡ true }
+        requires some { 0 < vec_len self.old.frames }
+        ensures takes { (f : machine.Frame) (outer : List machine.Frame) → frames_shown self.old.frames.items ≡ f ∷ outer → Takes (open_nested limits f.head outer first (scope_of f (handed_shown self.old))) reader.old (told_by (gave self.new) result) reader.new }
+        ensures ids { HaveIds self.old.frames.items → HaveIds self.new.frames.items }
+        ensures aligned { OnOk result (vec_len self.new.frames ≡ 0 → reader.new.position % 32 ≡ 0) }
+        ensures depth { vec_len self.old.frames ≤ limits.depth → vec_len self.new.frames ≤ limits.depth }
+    {
+        let plain = self.is_plain();
+        judge(reader, plain, Reason::NestedInBlockInfo, first)?;
+        self.open_block(alloc, reader, limits, first)
+    }
+
+    /// Whether the innermost block is no BLOCKINFO block.
+    fn is_plain(&self) -> bool
+        requires { 0 < vec_len self.now.frames }
+        ensures { (f : machine.Frame) (outer : List machine.Frame) → frames_shown self.now.frames.items ≡ f ∷ outer → result ≡ is_none f.info }
+    {
+        match self.frames.last() {
+            Some(frame) => frame.info.is_none(),
+            None => true,
+        }
+    }
+
+    /// Reads the end of the innermost block, after its id. Source: "END_BLOCK Encoding".
+    fn end_block<S: Source>(
+        &mut self,
+        alloc: Global,
+        reader: &mut BitReader<S>,
+    ) -> Result<Found, Fault>
+        requires live { reader.old.live ≡ true }
+        requires some { 0 < vec_len self.old.frames }
+        ensures takes { (f : machine.Frame) (outer : List machine.Frame) → frames_shown self.old.frames.items ≡ f ∷ outer → Takes (ended f outer (handed_shown self.old)) reader.old (told_by (gave self.new) result) reader.new }
+        ensures ids { HaveIds self.old.frames.items → HaveIds self.new.frames.items }
+        ensures aligned { OnOk result (vec_len self.new.frames ≡ 0 → reader.new.position % 32 ≡ 0) }
+        ensures depth { vec_len self.new.frames ≤ vec_len self.old.frames }
+    {
+        let Some(frame) = self.frames.pop() else {
+            return Err(reader.fail(Fault::Memory));
+        };
+        let after = end_of_block(reader, frame.head)?;
+        granted(reader, self.leave(alloc, frame.info))?;
+        Ok(Found::Leave { after })
+    }
+
+    /// Takes the table that a BLOCKINFO block made.
+    fn leave(&mut self, alloc: Global, info: Option<Describing>) -> Result<(), AllocError>
+        ensures made { OnOk result (machine_shown self.new ≡ record { frames = frames_shown self.old.frames.items; handed = leave (info_shown info) (handed_shown self.old) }) }
+        ensures frames { self.new.frames ≡ self.old.frames }
+    {
+        match info {
+            Some(info) => {
+                self.table = SharedInfo::share(alloc, info.made)?;
+                Ok(())
+            }
+            None => Ok(()),
+        }
+    }
+
+    /// Reads a definition in the innermost block, after its id, which began at a bit.
+    fn define<S: Source>(
+        &mut self,
+        alloc: Global,
+        reader: &mut BitReader<S>,
+        first: u64,
+    ) -> Result<Found, Fault>
+        requires live { reader.old.live ≡ true }
+        requires some { 0 < vec_len self.old.frames }
+        ensures takes { (f : machine.Frame) (outer : List machine.Frame) → frames_shown self.old.frames.items ≡ f ∷ outer → Takes (defined_in f outer first (handed_shown self.old)) reader.old (told_by (gave self.new) result) reader.new }
+        ensures ids { HaveIds self.old.frames.items → HaveIds self.new.frames.items }
+        ensures aligned { OnOk result (vec_len self.new.frames ≡ 0 → reader.new.position % 32 ≡ 0) }
+        ensures depth { vec_len self.new.frames ≤ vec_len self.old.frames }
+    {
+        let Some(frame) = self.frames.last_mut() else {
+            return Err(reader.fail(Fault::Memory));
+        };
+        let (abbrev, after) = define(alloc, reader, frame, first)?;
+        Ok(Found::Define {
+            abbrev,
+            first,
+            after,
+        })
+    }
+
+    /// Reads a record in the innermost block, after its id, which began at a bit.
+    fn note<S: Source>(
+        &mut self,
+        reader: &mut BitReader<S>,
+        limits: Limits,
+        id: u32,
+        first: u64,
+    ) -> Result<Found, Fault>
+        requires live { reader.old.live ≡ true }
+        requires some { 0 < vec_len self.old.frames }
+        requires id { 3 ≤ id }
+        ensures takes { (f : machine.Frame) (outer : List machine.Frame) → frames_shown self.old.frames.items ≡ f ∷ outer → Takes (noted_in limits.values f outer first id (handed_shown self.old)) reader.old (told_by (gave self.new) result) reader.new }
+        ensures ids { HaveIds self.old.frames.items → HaveIds self.new.frames.items }
+        ensures aligned { OnOk result (vec_len self.new.frames ≡ 0 → reader.new.position % 32 ≡ 0) }
+        ensures depth { vec_len self.new.frames ≤ vec_len self.old.frames }
+    {
+        let room = limits.values().saturating_sub(self.used);
+        self.values.clear();
+        let Some(frame) = self.frames.last_mut() else {
+            return Err(reader.fail(Fault::Memory));
+        };
+        let (code, after) = record_after(reader, frame, room, &mut self.values, id, first)?;
+        // No record has more values than there was room for, but the contract of `record_after` does not say so.
+        let count = self.values.len() as u64;
+        if count > room {
+            return Err(reader.fail(Fault::Memory));
+        }
+        self.used += count;
+        Ok(Found::Record {
+            abbrev: id,
+            code,
+            first,
+            after,
+        })
+    }
+
+    /// Reads one item of the innermost block, or its end.
+    fn step_in<S: Source>(
+        &mut self,
+        alloc: Global,
+        reader: &mut BitReader<S>,
+        limits: Limits,
+        head: BlockHead,
+    ) -> Result<Found, Fault>
+        requires some { 0 < vec_len self.old.frames }
+        requires least { 1 ≤ head.width }
+        requires most { head.width ≤ 32 }
+        ensures takes { (f : machine.Frame) (outer : List machine.Frame) → frames_shown self.old.frames.items ≡ f ∷ outer → f.head ≡ head_shown head → Takes (step_in limits f.head outer (scope_of f (handed_shown self.old))) reader.old (told_by (gave self.new) result) reader.new }
+        ensures ids { HaveIds self.old.frames.items → HaveIds self.new.frames.items }
+        ensures aligned { OnOk result (vec_len self.new.frames ≡ 0 → reader.new.position % 32 ≡ 0) }
+        ensures depth { vec_len self.old.frames ≤ limits.depth → vec_len self.new.frames ≤ limits.depth }
+    {
+        let first = reader.position();
+        let id = reader.fixed(u32::from(head.width))?;
+        if id == 0 {
+            return self.end_block(alloc, reader);
+        }
+        if id == 1 {
+            return self.open_nested(alloc, reader, limits, first);
+        }
+        if id == 2 {
+            return self.define(alloc, reader, first);
+        }
+        self.note(reader, limits, id as u32, first)
+    }
+
+    /// Reads the beginning of a block at the top.
+    fn step_top<S: Source>(
+        &mut self,
+        alloc: Global,
+        reader: &mut BitReader<S>,
+        limits: Limits,
+    ) -> Result<Found, Fault>
+        requires { vec_len self.old.frames ≡ 0 }
+        ensures takes { Takes (step_top limits (handed_shown self.old)) reader.old (told_by (gave self.new) result) reader.new }
+        ensures ids { HaveIds self.old.frames.items → HaveIds self.new.frames.items }
+        ensures aligned { OnOk result (vec_len self.new.frames ≡ 0 → reader.new.position % 32 ≡ 0) }
+        ensures depth { vec_len self.old.frames ≤ limits.depth → vec_len self.new.frames ≤ limits.depth }
+    {
+        let first = reader.position();
+        let id = reader.fixed(2)?;
+        judge(reader, id == 1, Reason::TopLevel, first)?;
+        self.open_block(alloc, reader, limits, first)
+    }
+
+    /// The head of the innermost block.
+    fn innermost(&self) -> Option<BlockHead>
+        requires { HaveIds self.now.frames.items }
+        ensures some { IfSome result (λ head. Innermost (frames_shown self.now.frames.items) (head_shown head)) }
+        ensures open { IfSome result (λ _. 0 < vec_len self.now.frames) }
+        ensures least { IfSome result (λ head. 1 ≤ head.width) }
+        ensures most { IfSome result (λ head. head.width ≤ 32) }
+        ensures none { IfNone result (vec_len self.now.frames ≡ 0) }
+    {
+        match self.frames.last() {
+            Some(frame) => Some(frame.head),
+            None => None,
+        }
+    }
+
+    /// Finds one event.
+    pub(crate) fn step<S: Source>(
+        &mut self,
+        alloc: Global,
+        reader: &mut BitReader<S>,
+        limits: Limits,
+    ) -> Result<Found, Fault>
+        requires { HaveIds self.old.frames.items }
+        ensures takes { Takes (step limits (machine_shown self.old)) reader.old (told_by (gave self.new) result) reader.new }
+        ensures ids { HaveIds self.old.frames.items → HaveIds self.new.frames.items }
+        ensures aligned { OnOk result (vec_len self.new.frames ≡ 0 → reader.new.position % 32 ≡ 0) }
+        ensures depth { vec_len self.old.frames ≤ limits.depth → vec_len self.new.frames ≤ limits.depth }
+    {
+        match self.innermost() {
+            Some(head) => self.step_in(alloc, reader, limits, head),
+            None => self.step_top(alloc, reader, limits),
+        }
+    }
+}
