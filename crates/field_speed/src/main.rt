@@ -2,7 +2,7 @@
 //! `field_speed fixed|vbr slice|buffered`.
 #![tactic(auto)]
 
-use bit_fields::{BitReader, Fault, Limits, ReadSource, SliceSource, Source};
+use bit_fields::{BitReader, Limits, ReadSource, SliceSource, Source};
 use std::io::{BufReader, Read};
 use std::{env, io};
 
