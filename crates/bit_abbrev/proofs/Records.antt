@@ -88,6 +88,13 @@ from_fails room ops a before i b now fault c less m n h why =
 pub from_refused : (room : ℕ) (ops : List Op) (a : Reader) (before : List ℕ) (i : ℕ) (b : Reader) (now : List ℕ) (op : Op) (value : ℕ) (c : Reader) → CompletesFrom room ops a before i b now → Took (scalar op) b value c → Adds (values_of room ops) a (Err Memory) before now (stopped c)
 from_refused room ops a before i b now op value c h t = h.so (Err Memory) now (stopped c) (no_room (scalar op) (values_of room (drop i ops)) b value c now t)
 
+-- an operand that is the element of an array stands in the list
+pub element_inside : (ops : List Op) (i : ℕ) → IsElement (op_at ops i) → i < length ops
+element_inside [] zero is = absurd is
+element_inside [] (suc i) is = absurd is
+element_inside (op ∷ ops) zero is = omega arith
+element_inside (op ∷ ops) (suc i) is = omega (arith, element_inside ops i is)
+
 -- an array, where its element stands behind it
 pub from_array : (room : ℕ) (ops : List Op) (a : Reader) (before : List ℕ) (i : ℕ) (b : Reader) (now : List ℕ) (result : Result (Unit {0}) Fault) (new : List ℕ) (c : Reader) → i + 1 < length ops → op_at ops i ≡ Array → CompletesFrom room ops a before i b now
     → ((others : List Op) → Adds (values_of room (Array ∷ op_at ops (i + 1) ∷ others)) b result now new c) → Adds (values_of room ops) a result before new c
@@ -99,6 +106,20 @@ pub from_blob : (room : ℕ) (ops : List Op) (a : Reader) (before : List ℕ) (i
     → ((others : List Op) → Adds (values_of room (Blob ∷ others)) b result now new c) → Adds (values_of room ops) a result before new c
 from_blob room ops a before i b now result new c less is h k =
     (at_index room ops a before i b now less h).so result new c (rw is (k (drop (i + 1) ops)))
+
+-- one more of the operands that stand for one value each
+pub single_counted : (ops : List Op) (i : ℕ) → i < length ops → (op_at ops i ≡ Array → ⊥) → (op_at ops i ≡ Blob → ⊥) → i + singles (drop i ops) ≡ singles ops → i + 1 + singles (drop (i + 1) ops) ≡ singles ops
+single_counted ops i less m n so =
+    let one : singles (drop i ops) ≡ suc (singles (drop (i + 1) ops)) = rw (from_index ops i less) (counts_one (op_at ops i) (drop (i + 1) ops) m n) in
+    omega (arith, one, so)
+  where
+    counts_one : (op : Op) (others : List Op) → (op ≡ Array → ⊥) → (op ≡ Blob → ⊥) → singles (op ∷ others) ≡ suc (singles others)
+    counts_one (Literal v) others m n = refl
+    counts_one (Fixed w) others m n = refl
+    counts_one (Vbr w) others m n = refl
+    counts_one Char6 others m n = refl
+    counts_one Array others m n = absurd (m refl)
+    counts_one Blob others m n = absurd (n refl)
 
 none_left : (ops : List Op) (i : ℕ) → length ops ≤ i → drop i ops ≡ []
 none_left [] zero most = refl

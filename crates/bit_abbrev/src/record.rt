@@ -30,6 +30,7 @@ fn singles(ops: &[Op]) -> u64
 }
 
 /// Reads the field of an operand that stands for one value.
+#[inline(always)]
 #[tactic(auto, unfolding(bit_grammar::specs::Record::scalar, bit_grammar::specs::Fields::vbr))]
 fn read_scalar<S: Source>(reader: &mut BitReader<S>, op: Op) -> Result<u64, Fault>
     requires lawful { HasLawfulValue op }
@@ -49,7 +50,8 @@ fn read_scalar<S: Source>(reader: &mut BitReader<S>, op: Op) -> Result<u64, Faul
 /// Reads a number of values, of which there is room for so many.
 #[tactic(auto, unfolding(bit_grammar::specs::Record::value_count))]
 fn read_count<S: Source>(reader: &mut BitReader<S>, room: u64) -> Result<u64, Fault>
-    ensures { Takes (value_count room) reader.old result reader.new }
+    ensures takes { Takes (value_count room) reader.old result reader.new }
+    ensures few { IfOk result (λ count. count ≤ room) }
 {
     let place = reader.position();
     let count = reader.vbr(6)?;
@@ -88,7 +90,8 @@ fn read_fixed<S: Source>(
     requires some { 0 < n }
     requires few { n ≤ 32 }
     requires live { reader.old.live ≡ true }
-    ensures { Adds (repeat count (fixed n)) reader.old result values.old.items values.new.items reader.new }
+    ensures adds { Adds (repeat count (fixed n)) reader.old result values.old.items values.new.items reader.new }
+    ensures many { OnOk result (length values.new.items ≡ length values.old.items + count) }
 {
     for _ in 0..count {
         let value = reader.fixed(n)?;
@@ -107,7 +110,8 @@ fn read_vbrs<S: Source>(
     requires some { 2 ≤ n }
     requires few { n ≤ 32 }
     requires live { reader.old.live ≡ true }
-    ensures { Adds (repeat count (vbr n)) reader.old result values.old.items values.new.items reader.new }
+    ensures adds { Adds (repeat count (vbr n)) reader.old result values.old.items values.new.items reader.new }
+    ensures many { OnOk result (length values.new.items ≡ length values.old.items + count) }
 {
     for _ in 0..count {
         let value = reader.vbr(n)?;
@@ -123,7 +127,8 @@ fn read_characters<S: Source>(
     values: &mut Vec<u64>,
 ) -> Result<(), Fault>
     requires { reader.old.live ≡ true }
-    ensures { Adds (repeat count char6) reader.old result values.old.items values.new.items reader.new }
+    ensures adds { Adds (repeat count char6) reader.old result values.old.items values.new.items reader.new }
+    ensures many { OnOk result (length values.new.items ≡ length values.old.items + count) }
 {
     for _ in 0..count {
         let value = reader.char6()?;
@@ -139,7 +144,8 @@ fn add_zeros<S: Source>(
     values: &mut Vec<u64>,
 ) -> Result<(), Fault>
     requires { reader.old.live ≡ true }
-    ensures { Adds (repeat count (gives 0)) reader.old result values.old.items values.new.items reader.new }
+    ensures adds { Adds (repeat count (gives 0)) reader.old result values.old.items values.new.items reader.new }
+    ensures many { OnOk result (length values.new.items ≡ length values.old.items + count) }
 {
     for _ in 0..count {
         push(reader, values, 0)?;
@@ -157,7 +163,8 @@ fn read_elements<S: Source>(
     requires element { IsElement element }
     requires lawful { HasLawfulValue element }
     requires live { reader.old.live ≡ true }
-    ensures { Adds (repeat count (scalar element)) reader.old result values.old.items values.new.items reader.new }
+    ensures adds { Adds (repeat count (scalar element)) reader.old result values.old.items values.new.items reader.new }
+    ensures many { OnOk result (length values.new.items ≡ length values.old.items + count) }
 {
     match element {
         Op::Fixed(0) => add_zeros(reader, count, values),
@@ -178,7 +185,8 @@ fn read_array<S: Source>(
 ) -> Result<(), Fault>
     requires element { IsElement element }
     requires lawful { HasLawfulValue element }
-    ensures { (others : List Op) → Adds (values_of room (Array ∷ element ∷ others)) reader.old result values.old.items values.new.items reader.new }
+    ensures adds { (others : List Op) → Adds (values_of room (Array ∷ element ∷ others)) reader.old result values.old.items values.new.items reader.new }
+    ensures few { OnOk result (length values.new.items ≤ length values.old.items + room) }
 {
     let count = read_count(reader, room)?;
     read_elements(reader, count, element, values)
@@ -190,7 +198,8 @@ fn read_blob<S: Source>(
     room: u64,
     values: &mut Vec<u64>,
 ) -> Result<(), Fault>
-    ensures { (others : List Op) → Adds (values_of room (Blob ∷ others)) reader.old result values.old.items values.new.items reader.new }
+    ensures adds { (others : List Op) → Adds (values_of room (Blob ∷ others)) reader.old result values.old.items values.new.items reader.new }
+    ensures few { OnOk result (length values.new.items ≤ length values.old.items + room) }
 {
     let count = read_count(reader, room)?;
     reader.pad()?;
@@ -208,7 +217,8 @@ fn read_values<S: Source>(
     requires elements { (i : ℕ) → op_at ops.now i ≡ Array → IsElement (op_at ops.now (i + 1)) }
     requires lawful { AllByRecursion HasLawfulValue ops.now }
     requires live { reader.old.live ≡ true }
-    ensures { Adds (values_of room ops.now) reader.old result values.old.items values.new.items reader.new }
+    ensures adds { Adds (values_of room ops.now) reader.old result values.old.items values.new.items reader.new }
+    ensures few { OnOk result (length values.new.items ≤ length values.old.items + (singles ops.now + room)) }
 {
     for (index, op) in ops.iter().enumerate() {
         match op {
@@ -231,7 +241,8 @@ fn read_record<S: Source>(
     values: &mut Vec<u64>,
 ) -> Result<u64, Fault>
     requires { Lawful ops.now }
-    ensures { AddsRecord (abbreviated at room ops.now) reader.old result values.old.items values.new.items reader.new }
+    ensures adds { AddsRecord (abbreviated at room ops.now) reader.old result values.old.items values.new.items reader.new }
+    ensures few { OnOk result (length values.new.items ≤ length values.old.items + room) }
 {
     if !reader.is_live() {
         return Err(Fault::Failed);
@@ -266,6 +277,7 @@ pub fn read_abbreviated<S: Source>(
 ) -> Result<u64, Fault>
     ensures takes { Recorded (λ r. Takes (abbreviated at room «abbrev».now) reader.old r reader.new) result values.old.items values.new.items }
     ensures only { Recorded (λ r. IsOnly (abbreviated at room «abbrev».now) reader.old r reader.new) result values.old.items values.new.items }
+    ensures few { OnOk result (length values.new.items ≤ length values.old.items + room) }
 {
     let before = values.len();
     match read_record(reader, abbrev.ops(), at, room, values) {

@@ -125,7 +125,10 @@ impl<S: Source> Inflow<S> {
         }
     }
 
-    /// Makes sure that n bits are in the window.
+    /// Makes sure that n bits are in the window. It is kept out of the callers, so that these take few instructions where
+    /// the bits are there.
+    #[cold]
+    #[inline(never)]
     pub fn fill(&mut self, n: u32) -> Result<(), Missing>
         requires { n ≤ 32 }
         ensures { Fills n self.old self.new result }

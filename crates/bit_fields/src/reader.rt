@@ -42,7 +42,8 @@ impl<S: Source> Model for BitReader<S> {
 
 impl<S: Source> BitReader<S> {
     /// Begins the stream of a source: reads its wrapper, if there is one, and the magic of the stream, and answers them as
-    /// the head. Sources: "Magic Numbers", "Bitcode Wrapper Format".
+    /// the head. The reader stands behind the magic, at a multiple of 32 bits. Sources: "Magic Numbers", "Bitcode Wrapper
+    /// Format".
     ///
     /// Fewer than 4 bytes are `Truncated` at bit 0. In a wrapper a number that is not whole is `Truncated` at its first
     /// bit, a version other than 0 `WrapperVersion` at bit 32, an offset below 20 or no multiple of 4 `WrapperOffset` at
@@ -51,6 +52,7 @@ impl<S: Source> BitReader<S> {
     /// input or the stream, `TooLong` at 8 times the limit stands for `Truncated`.
     pub fn start(source: S, limits: Limits) -> Result<(BitReader<S>, Head), (Fault, S)>
         ensures begun { IfOk result (λ begun. Opened (fresh (S.incoming source) limits.bytes) begun.1 begun.0) }
+        ensures place { IfOk result (λ begun. begun.0.position % 32 ≡ 0) }
         ensures refused { IfErr result (λ refused. Declines (fresh (S.incoming source) limits.bytes) refused.0 (S.incoming refused.1)) }
     {
         let mut reader = BitReader {
@@ -69,7 +71,8 @@ impl<S: Source> BitReader<S> {
         requires live { self.old.live ≡ true }
         requires position { self.old.position ≡ 0 }
         requires end { self.old.extent.end ≡ 2 ^ 64 - 1 }
-        ensures { Opens self.old result self.new }
+        ensures opens { Opens self.old result self.new }
+        ensures place { OnOk result (self.new.position % 32 ≡ 0) }
     {
         let first = self.fixed(32)?;
         if first != WRAPPER_MAGIC {
@@ -196,6 +199,7 @@ impl<S: Source> BitReader<S> {
     fn inner_magic(&mut self) -> Result<u64, Fault>
         ensures takes { Takes inner_magic self.old result self.new }
         ensures memory { NeedsNoMemory result }
+        ensures place { OnOk result (self.new.position ≡ self.old.position + 32) }
         ensures below { IfOk result (λ magic. magic < 2 ^ 32) }
     {
         let start = self.position;
@@ -254,6 +258,8 @@ impl<S: Source> BitReader<S> {
     }
 
     /// Fails where bits are missing of a field that began at a bit.
+    #[cold]
+    #[inline(never)]
     fn miss(&mut self, missing: Missing, start: u64) -> Fault
         requires { start ≤ self.old.position }
         ensures fault { result ≡ fault_of missing start self.old.extent.limit }
@@ -274,6 +280,7 @@ impl<S: Source> BitReader<S> {
     }
 
     /// Takes n bits, which are a part of a field that began at a bit.
+    #[inline(always)]
     fn part(&mut self, n: u32, start: u64) -> Result<u64, Fault>
         requires some { 0 < n }
         requires few { n ≤ 32 }
@@ -350,6 +357,7 @@ impl<S: Source> BitReader<S> {
     ///
     /// A chunk that is not whole is `Truncated` at the first bit of the number. A whole chunk with a payload bit at place
     /// 64 or above, or more chunks than 64 bits take, is `ValueTooWide` there.
+    #[inline(always)]
     pub fn vbr(&mut self, n: u32) -> Result<u64, Fault>
         requires some { 2 ≤ n }
         requires few { n ≤ 32 }

@@ -1,17 +1,18 @@
+use Rattle.std.proofs.Common.{arith, length-append}
 use Rattle.std.proofs.lemmas.Result.{err_from_is_err_and}
 use Rattle.bit_grammar.specs.Grammar.{gives}
 use Rattle.bit_fields.proofs.Composing.{took_nothing}
 use Rattle.bit_abbrev.proofs.Adding.{all_refused, all_go_on, all_done}
 use Rattle.bit_abbrev.proofs.record.add_zeros.Goals as goal
 
-pub returns-in_err-push : goal.returns-in_err-push
-returns-in_err-push g c =
+pub returns-in_err-push-clause-adds : goal.returns-in_err-push-clause-adds
+returns-in_err-push-clause-adds g c =
     let failed = err_from_is_err_and c.from_residual.result c.from_residual.ensures.1 in
-    rw (failed.1, failed.2, c.in_err-push.ensures.err.0, c.in_err-push.ensures.err.1, c.in_err-push.ensures.err.2) (all_refused (gives 0) c.args.count c.args.reader.now c.args.values.now.items c.loop.counter c.loop.reader c.loop.values.items 0 c.loop.reader c.loop.invariant (took_nothing 0 c.loop.reader c.loop.invariant.live))
+    rw (failed.1, failed.2, c.in_err-push.ensures.err.0, c.in_err-push.ensures.err.1, c.in_err-push.ensures.err.2) (all_refused (gives 0) c.args.count c.args.reader.now c.args.values.now.items c.loop.counter c.loop.reader c.loop.values.items 0 c.loop.reader c.loop.invariant.all (took_nothing 0 c.loop.reader c.loop.invariant.all.live))
 
 pub loop-preserved : goal.loop-preserved
 loop-preserved g c =
-    rw (c.in_ok-push.ensures.ok.0, c.in_ok-push.ensures.ok.1) (all_go_on (gives 0) c.args.count c.args.reader.now c.args.values.now.items c.loop.counter c.loop.reader c.loop.values.items 0 c.loop.reader c.loop-test.true c.loop.invariant (took_nothing 0 c.loop.reader c.loop.invariant.live))
+    rw (c.in_ok-push.ensures.ok.0, c.in_ok-push.ensures.ok.1) (record { all = all_go_on (gives 0) c.args.count c.args.reader.now c.args.values.now.items c.loop.counter c.loop.reader c.loop.values.items 0 c.loop.reader c.loop-test.true c.loop.invariant.all (took_nothing 0 c.loop.reader c.loop.invariant.all.live); many = simp length-append (omega (arith, c.loop.invariant.many)) })
 
-pub returns : goal.returns
-returns g c = all_done (gives 0) c.args.count c.args.reader.now c.args.values.now.items c.loop.counter c.loop.reader c.loop.values.items c.loop-test.false c.loop.invariant
+pub returns-clause-adds : goal.returns-clause-adds
+returns-clause-adds g c = all_done (gives 0) c.args.count c.args.reader.now c.args.values.now.items c.loop.counter c.loop.reader c.loop.values.items c.loop-test.false c.loop.invariant.all

@@ -1,21 +1,22 @@
+use Rattle.std.proofs.Common.{arith, length-append}
 use Rattle.std.proofs.lemmas.Result.{err_from_is_err_and}
 use Rattle.bit_grammar.specs.Fields.{vbr}
 use Rattle.bit_abbrev.proofs.Adding.{all_fail, all_refused, all_go_on, all_done}
 use Rattle.bit_abbrev.proofs.record.read_vbrs.Goals as goal
 
-pub returns-in_err-value : goal.returns-in_err-value
-returns-in_err-value g c =
+pub returns-in_err-value-clause-adds : goal.returns-in_err-value-clause-adds
+returns-in_err-value-clause-adds g c =
     let failed = err_from_is_err_and c.from_residual.result c.from_residual.ensures.1 in
-    rw (failed.1, failed.2) (all_fail (vbr c.args.n) c.args.count c.args.reader.now c.args.values.now.items c.loop.counter c.loop.reader c.loop.values.items c.in_err-value.field-0.0 c.vbr.new.self c.loop-test.true c.loop.invariant c.in_err-value.ensures.takes)
+    rw (failed.1, failed.2) (all_fail (vbr c.args.n) c.args.count c.args.reader.now c.args.values.now.items c.loop.counter c.loop.reader c.loop.values.items c.in_err-value.field-0.0 c.vbr.new.self c.loop-test.true c.loop.invariant.all c.in_err-value.ensures.takes)
 
-pub returns-in_err-push : goal.returns-in_err-push
-returns-in_err-push g c =
+pub returns-in_err-push-clause-adds : goal.returns-in_err-push-clause-adds
+returns-in_err-push-clause-adds g c =
     let failed = err_from_is_err_and c.from_residual-in_err-push.result c.from_residual-in_err-push.ensures.1 in
-    rw (failed.1, failed.2, c.in_err-push.ensures.err.0, c.in_err-push.ensures.err.1, c.in_err-push.ensures.err.2) (all_refused (vbr c.args.n) c.args.count c.args.reader.now c.args.values.now.items c.loop.counter c.loop.reader c.loop.values.items c.in_ok-value.value c.vbr.new.self c.loop.invariant c.in_ok-value.ensures.takes)
+    rw (failed.1, failed.2, c.in_err-push.ensures.err.0, c.in_err-push.ensures.err.1, c.in_err-push.ensures.err.2) (all_refused (vbr c.args.n) c.args.count c.args.reader.now c.args.values.now.items c.loop.counter c.loop.reader c.loop.values.items c.in_ok-value.value c.vbr.new.self c.loop.invariant.all c.in_ok-value.ensures.takes)
 
 pub loop-preserved : goal.loop-preserved
 loop-preserved g c =
-    rw (c.in_ok-push.ensures.ok.0, c.in_ok-push.ensures.ok.1) (all_go_on (vbr c.args.n) c.args.count c.args.reader.now c.args.values.now.items c.loop.counter c.loop.reader c.loop.values.items c.in_ok-value.value c.vbr.new.self c.loop-test.true c.loop.invariant c.in_ok-value.ensures.takes)
+    rw (c.in_ok-push.ensures.ok.0, c.in_ok-push.ensures.ok.1) (record { all = all_go_on (vbr c.args.n) c.args.count c.args.reader.now c.args.values.now.items c.loop.counter c.loop.reader c.loop.values.items c.in_ok-value.value c.vbr.new.self c.loop-test.true c.loop.invariant.all c.in_ok-value.ensures.takes; many = simp length-append (omega (arith, c.loop.invariant.many)) })
 
-pub returns : goal.returns
-returns g c = all_done (vbr c.args.n) c.args.count c.args.reader.now c.args.values.now.items c.loop.counter c.loop.reader c.loop.values.items c.loop-test.false c.loop.invariant
+pub returns-clause-adds : goal.returns-clause-adds
+returns-clause-adds g c = all_done (vbr c.args.n) c.args.count c.args.reader.now c.args.values.now.items c.loop.counter c.loop.reader c.loop.values.items c.loop-test.false c.loop.invariant.all
