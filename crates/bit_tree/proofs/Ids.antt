@@ -1,5 +1,5 @@
 -- The abbreviation ids of open blocks have from 1 to 32 bits, whatever happens to the blocks.
-use Rattle.std.proofs.Common.{◌≡◌, ℕ, zero, suc, ◌≤◌, List, [], ◌∷◌, ◌++◌, length, get_or, set, sym, ap, ◌∙◌, subst, arith}
+use Rattle.std.proofs.Common.{◌≡◌, ℕ, zero, suc, ◌≤◌, List, [], ◌∷◌, ◌++◌, length, get_or, set, ap, ◌∙◌, subst, arith}
 use Rattle.bit_tree.specs.declared.heads.BlockHead.{BlockHead}
 use Rattle.bit_tree.specs.declared.frame.Frame.{Frame}
 use Rattle.bit_tree.specs.FrameView.{HaveIds}

@@ -11,3 +11,8 @@ pub mod Ids
 pub mod Repeating
 pub mod Stepping
 pub mod Telling
+pub mod Advancing
+pub mod Beginnings
+pub mod Faults
+pub mod Collecting
+pub mod WholeInputs

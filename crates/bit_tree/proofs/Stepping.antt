@@ -147,9 +147,6 @@ define_took f outer first handed a mark scope b new t made = rw made (told (defi
 pub record_missed : (limit : ℕ) (f : machine.Frame) (outer : List machine.Frame) (first id : ℕ) (handed : Handed) (a : Reader) (fault : Fault) (b : Reader) → Why (record_after limit first id (scope_of f handed)) a fault b → Why (noted_in limit f outer first id handed) a fault b
 record_missed limit f outer first id handed a fault b h = why (noted_in limit f outer first id handed) a fault b (breaks h)
 
-pub record_lost : (limit : ℕ) (f : machine.Frame) (outer : List machine.Frame) (first id : ℕ) (handed : Handed) (a : Reader) (v : RecordMark × Scope) (b c : Reader) → Took (record_after limit first id (scope_of f handed)) a v b → c ≡ stopped b → Why (noted_in limit f outer first id handed) a Memory c
-record_lost limit f outer first id handed a v b c t is = why (noted_in limit f outer first id handed) a Memory c (andThen t (without_memory t.live is))
-
 pub record_took : (limit : ℕ) (f : machine.Frame) (outer : List machine.Frame) (first id : ℕ) (handed : Handed) (a : Reader) (mark : RecordMark) (scope : Scope) (b : Reader) (new : machine.Machine) → Took (record_after limit first id (scope_of f handed)) a (mark, scope) b → new ≡ inside f.head outer scope → Took (noted_in limit f outer first id handed) a (notes mark, new) b
 record_took limit f outer first id handed a mark scope b new t made = rw made (told (noted_in limit f outer first id handed) a (Ok (notes mark, inside f.head outer scope)) b (andThen t (ends t.live)))
 
@@ -217,11 +214,6 @@ pub held_record_missed : (limit : ℕ) (frames : List Frame) (k : ℕ) (f : Fram
     → Why (record_after limit first id (scope_of (frame_shown f) handed)) a fault b → Why (noted_in limit shown outer first id handed) a fault b
 held_record_missed limit frames k f shown outer first id handed a fault b n is split h =
     record_missed limit shown outer first id handed a fault b (subst (λ (x : machine.Frame). Why (record_after limit first id (scope_of x handed)) a fault b) (innermost frames k f shown outer n is split) h)
-
-pub held_record_lost : (limit : ℕ) (frames : List Frame) (k : ℕ) (f : Frame) (shown : machine.Frame) (outer : List machine.Frame) (first id : ℕ) (handed : Handed) (a : Reader) (v : RecordMark × Scope) (b c : Reader) → length frames ≡ suc k → f ≡ get_or frames k f → frames_shown frames ≡ shown ∷ outer
-    → Took (record_after limit first id (scope_of (frame_shown f) handed)) a v b → c ≡ stopped b → Why (noted_in limit shown outer first id handed) a Memory c
-held_record_lost limit frames k f shown outer first id handed a v b c n is split t lost =
-    record_lost limit shown outer first id handed a v b c (subst (λ (x : machine.Frame). Took (record_after limit first id (scope_of x handed)) a v b) (innermost frames k f shown outer n is split) t) lost
 
 pub held_record_took : (limit : ℕ) (frames : List Frame) (k : ℕ) (f new : Frame) (shown : machine.Frame) (outer : List machine.Frame) (first id : ℕ) (handed more made : Handed) (a : Reader) (mark : RecordMark) (b : Reader) → length frames ≡ suc k → f ≡ get_or frames k f → frames_shown frames ≡ shown ∷ outer → new.head ≡ f.head → made ≡ more
     → Took (record_after limit first id (scope_of (frame_shown f) handed)) a (mark, scope_of (frame_shown new) more) b → Took (noted_in limit shown outer first id handed) a (notes mark, record { frames = frames_shown (set frames k new); handed = made }) b

@@ -1,4 +1,7 @@
+pub mod Building
+pub mod Coming
 pub mod EventView
+pub mod Events
 pub mod FrameView
 pub mod HeadView
 pub mod Judging
@@ -8,6 +11,7 @@ pub mod MarkedFrames
 pub mod MarkedView
 pub mod MarksCode
 pub mod Nesting
+pub mod Reading
 pub mod TreeCode
 pub mod TreeFalls
 pub mod TreeFrames

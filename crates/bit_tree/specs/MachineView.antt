@@ -1,10 +1,12 @@
 -- What is seen of the machine of the program.
-use Rattle.std.specs.Prelude.{◌≡◌, ℕ, List, ◌∷◌}
+use Rattle.std.specs.Prelude.{◌≡◌, ℕ, List, ◌∷◌, vec_len}
 use Rattle.bit_grammar.specs.Grammar.{Grammar, gives, ◌>>=◌}
 use Rattle.bit_grammar.specs.Blocks.{Handed, BlockHead, end_of_block, define, record_after, leave}
 use Rattle.bit_grammar.specs.Machine as machine
 use Rattle.bit_grammar.specs.Machine.{Event, enters, defines, notes, leaves, Frame, scope_of, inside}
+use Rattle.bit_grammar.specs.Steps.{MayStand, open_after}
 use Rattle.bit_abbrev.specs.Table.{definitions_at}
+use Rattle.bit_tree.specs.Coming.{held_after}
 use Rattle.bit_tree.specs.FrameView.{frames_shown}
 use Rattle.bit_tree.specs.declared.machine.Machine.{Machine}
 use Rattle.bit_tree.specs.declared.machine.Found.{Found}
@@ -26,6 +28,12 @@ found_shown values (Leave after) = leaves after
 -- what a step gave, and the machine after it
 abbrev pub gave : Machine → Found → Event × machine.Machine
 gave m found = (found_shown m.values.items found, machine_shown m)
+
+-- what an event that was found leaves of the open blocks and of the values
+pub record Leaves (deepest : ℕ) (old : Machine) (found : Found) (new : Machine) : Type 0 where
+  pub stands : MayStand deepest (found_shown new.values.items found) (vec_len old.frames)
+  pub opens : vec_len new.frames ≡ open_after (found_shown new.values.items found) (vec_len old.frames)
+  pub holds : new.values.items ≡ held_after (found_shown new.values.items found) old.values.items
 
 -- ---- the steps of the innermost block f, within others
 

@@ -96,7 +96,8 @@ fn append_values<S: Source>(
 ) -> Result<(), Fault>
     requires live { reader.old.live ≡ true }
     requires none { values.old.items ≡ [] }
-    ensures { Takes (repeat count (vbr 6)) reader.old (told_by (λ _. values.new.items) result) reader.new }
+    ensures takes { Takes (repeat count (vbr 6)) reader.old (told_by (λ _. values.new.items) result) reader.new }
+    ensures many { OnOk result (length values.new.items ≡ count) }
 {
     for _ in 0..count {
         let value = reader.vbr(6)?;
@@ -112,7 +113,8 @@ fn unabbreviated<S: Source>(
     values: &mut Vec<u64>,
 ) -> Result<u64, Fault>
     requires none { values.old.items ≡ [] }
-    ensures { Takes (unabbreviated room) reader.old (told_by (λ code. record { code = code; values = values.new.items }) result) reader.new }
+    ensures takes { Takes (unabbreviated room) reader.old (told_by (λ code. record { code = code; values = values.new.items }) result) reader.new }
+    ensures few { OnOk result (length values.new.items ≤ room) }
 {
     let code = reader.vbr(6)?;
     let count = value_count(reader, room)?;
@@ -132,7 +134,8 @@ fn entry<S: Source>(
     requires live { reader.old.live ≡ true }
     requires none { values.old.items ≡ [] }
     requires id { 3 ≤ id }
-    ensures { (limit : ℕ) (scope : Scope) → scope.definitions ≡ definitions.now → limit - scope.handed.used ≡ room → Takes (entry limit first id scope) reader.old (told_by (λ code. record { code = code; values = values.new.items }) result) reader.new }
+    ensures takes { (limit : ℕ) (scope : Scope) → scope.definitions ≡ definitions.now → limit - scope.handed.used ≡ room → Takes (entry limit first id scope) reader.old (told_by (λ code. record { code = code; values = values.new.items }) result) reader.new }
+    ensures few { OnOk result (length values.new.items ≤ room) }
 {
     if id == 3 {
         return unabbreviated(reader, room, values);
@@ -213,6 +216,7 @@ pub(crate) fn record_after<S: Source>(
     requires none { values.old.items ≡ [] }
     requires id { 3 ≤ id }
     ensures takes { (limit : ℕ) (handed : Handed) → limit - handed.used ≡ room → Takes (record_after limit first id (scope_of (frame_shown frame.old) handed)) reader.old (told_by (λ r. (record { abbreviation = id; code = r.0; values = values.new.items; first = first; after = r.1 }, scope_of (frame_shown frame.new) (record { table = handed.table; used = handed.used + length values.new.items }))) result) reader.new }
+    ensures few { OnOk result (length values.new.items ≤ room) }
     ensures head { frame.new.head ≡ frame.old.head }
 {
     let code = entry(reader, &frame.definitions, room, values, id, first)?;

@@ -1,13 +1,15 @@
-ghost use Rattle.std.specs.Prelude.{◌≡◌, ◌<◌, ◌≤◌, ◌+◌, ◌%◌, true, [], ◌∷◌, ℕ, List, OnOk, length, vec_len, is_none, IfSome, IfNone};
+ghost use Rattle.std.specs.Prelude.{◌≡◌, ◌<◌, ◌≤◌, ◌+◌, ◌%◌, true, [], ◌∷◌, ℕ, List, OnOk, IfOk, length, vec_len, is_none, IfSome, IfNone, IsTrue, ◌↔◌};
 ghost use Rattle.bit_grammar.specs.Blocks as blocks;
 ghost use Rattle.bit_grammar.specs.Blocks.{enter, leave, info_for};
 ghost use Rattle.bit_grammar.specs.Machine as machine;
 ghost use Rattle.bit_grammar.specs.Machine.{at_start, open_block, open_nested, step_in, step_top, step, scope_of, inside};
 ghost use Rattle.bit_fields.specs.Reader.{Takes, told_by};
+ghost use Rattle.bit_tree.specs.EventView.{shown};
 ghost use Rattle.bit_tree.specs.HeadView.{head_shown};
 ghost use Rattle.bit_tree.specs.FrameView.{info_shown, frame_shown, frames_shown, HaveIds};
-ghost use Rattle.bit_tree.specs.MachineView.{handed_shown, machine_shown, gave, Innermost, ended, defined_in, noted_in};
+ghost use Rattle.bit_tree.specs.MachineView.{handed_shown, machine_shown, found_shown, gave, Leaves, Innermost, ended, defined_in, noted_in};
 
+use crate::event::Event;
 use crate::frame::{Describing, Frame, define, record_after};
 use crate::heads::{BlockHead, block_head, end_of_block, granted, judge};
 use bit_abbrev::{Abbrev, InfoTable, SharedInfo};
@@ -69,6 +71,7 @@ impl Machine {
         ensures machine { machine_shown result ≡ at_start }
         ensures ids { HaveIds result.frames.items }
         ensures values { result.values.items ≡ [] }
+        ensures none { vec_len result.frames ≡ 0 }
     {
         Machine {
             frames: Vec::new(alloc),
@@ -84,6 +87,8 @@ impl Machine {
         ensures ids { 1 ≤ head.width → head.width ≤ 32 → HaveIds self.old.frames.items → HaveIds self.new.frames.items }
         ensures some { OnOk result (0 < vec_len self.new.frames) }
         ensures few { vec_len self.new.frames ≤ vec_len self.old.frames + 1 }
+        ensures more { OnOk result (vec_len self.new.frames ≡ vec_len self.old.frames + 1) }
+        ensures values { self.new.values ≡ self.old.values }
     {
         let definitions = self.table.enter(alloc, head.id)?;
         let info = info_for(alloc, head.id);
@@ -108,6 +113,8 @@ impl Machine {
         ensures ids { HaveIds self.old.frames.items → HaveIds self.new.frames.items }
         ensures aligned { OnOk result (vec_len self.new.frames ≡ 0 → reader.new.position % 32 ≡ 0) }
         ensures depth { vec_len self.old.frames ≤ limits.depth → vec_len self.new.frames ≤ limits.depth }
+        ensures forward { OnOk result (reader.old.position ≤ reader.new.position) }
+        ensures after { IfOk result (λ found. Leaves limits.depth self.old found self.new) }
     {
         let fits = self.frames.len() < limits.depth() as usize;
         judge(reader, fits, Reason::TooDeep, first)?;
@@ -135,6 +142,8 @@ impl Machine {
         ensures ids { HaveIds self.old.frames.items → HaveIds self.new.frames.items }
         ensures aligned { OnOk result (vec_len self.new.frames ≡ 0 → reader.new.position % 32 ≡ 0) }
         ensures depth { vec_len self.old.frames ≤ limits.depth → vec_len self.new.frames ≤ limits.depth }
+        ensures forward { OnOk result (reader.old.position ≤ reader.new.position) }
+        ensures after { IfOk result (λ found. Leaves limits.depth self.old found self.new) }
     {
         let plain = self.is_plain();
         judge(reader, plain, Reason::NestedInBlockInfo, first)?;
@@ -164,9 +173,11 @@ impl Machine {
         ensures ids { HaveIds self.old.frames.items → HaveIds self.new.frames.items }
         ensures aligned { OnOk result (vec_len self.new.frames ≡ 0 → reader.new.position % 32 ≡ 0) }
         ensures depth { vec_len self.new.frames ≤ vec_len self.old.frames }
+        ensures forward { OnOk result (reader.old.position ≤ reader.new.position) }
+        ensures after { (deepest : ℕ) → IfOk result (λ found. Leaves deepest self.old found self.new) }
     {
         let Some(frame) = self.frames.pop() else {
-            return Err(reader.fail(Fault::Memory));
+            unreachable!();
         };
         let after = end_of_block(reader, frame.head)?;
         granted(reader, self.leave(alloc, frame.info))?;
@@ -177,6 +188,7 @@ impl Machine {
     fn leave(&mut self, alloc: Global, info: Option<Describing>) -> Result<(), AllocError>
         ensures made { OnOk result (machine_shown self.new ≡ record { frames = frames_shown self.old.frames.items; handed = leave (info_shown info) (handed_shown self.old) }) }
         ensures frames { self.new.frames ≡ self.old.frames }
+        ensures values { self.new.values ≡ self.old.values }
     {
         match info {
             Some(info) => {
@@ -200,9 +212,11 @@ impl Machine {
         ensures ids { HaveIds self.old.frames.items → HaveIds self.new.frames.items }
         ensures aligned { OnOk result (vec_len self.new.frames ≡ 0 → reader.new.position % 32 ≡ 0) }
         ensures depth { vec_len self.new.frames ≤ vec_len self.old.frames }
+        ensures forward { OnOk result (reader.old.position ≤ reader.new.position) }
+        ensures after { (deepest : ℕ) → IfOk result (λ found. Leaves deepest self.old found self.new) }
     {
         let Some(frame) = self.frames.last_mut() else {
-            return Err(reader.fail(Fault::Memory));
+            unreachable!();
         };
         let (abbrev, after) = define(alloc, reader, frame, first)?;
         Ok(Found::Define {
@@ -227,18 +241,16 @@ impl Machine {
         ensures ids { HaveIds self.old.frames.items → HaveIds self.new.frames.items }
         ensures aligned { OnOk result (vec_len self.new.frames ≡ 0 → reader.new.position % 32 ≡ 0) }
         ensures depth { vec_len self.new.frames ≤ vec_len self.old.frames }
+        ensures forward { OnOk result (reader.old.position ≤ reader.new.position) }
+        ensures after { IfOk result (λ found. Leaves limits.depth self.old found self.new) }
     {
         let room = limits.values().saturating_sub(self.used);
         self.values.clear();
         let Some(frame) = self.frames.last_mut() else {
-            return Err(reader.fail(Fault::Memory));
+            unreachable!();
         };
         let (code, after) = record_after(reader, frame, room, &mut self.values, id, first)?;
-        // No record has more values than there was room for, but the contract of `record_after` does not say so.
         let count = self.values.len() as u64;
-        if count > room {
-            return Err(reader.fail(Fault::Memory));
-        }
         self.used += count;
         Ok(Found::Record {
             abbrev: id,
@@ -263,6 +275,8 @@ impl Machine {
         ensures ids { HaveIds self.old.frames.items → HaveIds self.new.frames.items }
         ensures aligned { OnOk result (vec_len self.new.frames ≡ 0 → reader.new.position % 32 ≡ 0) }
         ensures depth { vec_len self.old.frames ≤ limits.depth → vec_len self.new.frames ≤ limits.depth }
+        ensures moves { OnOk result (reader.old.position < reader.new.position) }
+        ensures after { IfOk result (λ found. Leaves limits.depth self.old found self.new) }
     {
         let first = reader.position();
         let id = reader.fixed(u32::from(head.width))?;
@@ -290,6 +304,8 @@ impl Machine {
         ensures ids { HaveIds self.old.frames.items → HaveIds self.new.frames.items }
         ensures aligned { OnOk result (vec_len self.new.frames ≡ 0 → reader.new.position % 32 ≡ 0) }
         ensures depth { vec_len self.old.frames ≤ limits.depth → vec_len self.new.frames ≤ limits.depth }
+        ensures moves { OnOk result (reader.old.position < reader.new.position) }
+        ensures after { IfOk result (λ found. Leaves limits.depth self.old found self.new) }
     {
         let first = reader.position();
         let id = reader.fixed(2)?;
@@ -324,10 +340,62 @@ impl Machine {
         ensures ids { HaveIds self.old.frames.items → HaveIds self.new.frames.items }
         ensures aligned { OnOk result (vec_len self.new.frames ≡ 0 → reader.new.position % 32 ≡ 0) }
         ensures depth { vec_len self.old.frames ≤ limits.depth → vec_len self.new.frames ≤ limits.depth }
+        ensures moves { OnOk result (reader.old.position < reader.new.position) }
+        ensures after { IfOk result (λ found. Leaves limits.depth self.old found self.new) }
     {
         match self.innermost() {
             Some(head) => self.step_in(alloc, reader, limits, head),
             None => self.step_top(alloc, reader, limits),
+        }
+    }
+
+    /// Whether no block is open.
+    pub(crate) fn is_outside(&self) -> bool
+        ensures { IsTrue result ↔ (vec_len self.now.frames ≡ 0) }
+    {
+        self.frames.is_empty()
+    }
+}
+
+impl Found {
+    /// The event, with the values of its record.
+    pub(crate) fn event<'a>(&'a self, values: &'a [u64]) -> Event<'a>
+        ensures { shown result ≡ found_shown values.now self.now }
+    {
+        match self {
+            Found::Enter {
+                id,
+                width,
+                first,
+                body,
+            } => Event::Enter {
+                id: *id,
+                width: *width,
+                first: *first,
+                body: *body,
+            },
+            Found::Define {
+                abbrev,
+                first,
+                after,
+            } => Event::Define {
+                abbrev,
+                first: *first,
+                after: *after,
+            },
+            Found::Record {
+                abbrev,
+                code,
+                first,
+                after,
+            } => Event::Record {
+                abbrev: *abbrev,
+                code: *code,
+                values,
+                first: *first,
+                after: *after,
+            },
+            Found::Leave { after } => Event::Leave { after: *after },
         }
     }
 }

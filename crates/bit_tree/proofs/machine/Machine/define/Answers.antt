@@ -22,3 +22,6 @@ returns-clause-ids g c = λ ids. ids-set c.args.self.now.frames.items (vec_len c
 
 pub returns-clause-aligned : goal.returns-clause-aligned
 returns-clause-aligned g c = λ none. absurd (omega (arith, c.requires.some, none))
+
+pub returns-clause-forward : goal.returns-clause-forward
+returns-clause-forward g c = (c.in_ok-abbrev.ensures.takes (handed_shown c.args.self.now)).forward

@@ -1,9 +1,6 @@
 use Rattle.std.proofs.lemmas.Result.{err_from_is_err_and}
 use Rattle.bit_tree.specs.MachineView.{handed_shown, machine_shown}
 use Rattle.bit_tree.proofs.Stepping.{held_end_missed, held_end_lost, held_end_took}
-use Rattle.std.specs.Global.{Vec}
-use Rattle.bit_tree.specs.declared.frame.Frame.{Frame}
-use Rattle.bit_tree.specs.FrameView.{HaveIds}
 use Rattle.bit_tree.proofs.Ids.{ids-popped}
 use Rattle.bit_tree.proofs.machine.Machine.end_block.Goals as goal
 

@@ -1,9 +1,8 @@
 use Rattle.std.proofs.Common.{◌≡◌, ◌-◌, ◌+◌, length, vec_len, arith, refl}
 use Rattle.std.proofs.lemmas.Result.{err_from_is_err_and}
-use Rattle.bit_fields.specs.Reader.{stopped}
 use Rattle.bit_abbrev.specs.Table.{definitions_at}
 use Rattle.bit_tree.specs.MachineView.{handed_shown}
-use Rattle.bit_tree.proofs.Stepping.{held_record_missed, held_record_lost, held_record_took}
+use Rattle.bit_tree.proofs.Stepping.{held_record_missed, held_record_took}
 use Rattle.bit_tree.proofs.Ids.{ids-set}
 use Rattle.bit_tree.proofs.machine.Machine.note.Goals as goal
 
@@ -12,11 +11,6 @@ returns-in_err-code-clause-takes g c = λ f outer split.
     let p = err_from_is_err_and c.from_residual.result c.from_residual.ensures.1 in
     let room : c.args.limits.values - c.args.self.now.used ≡ c.saturating_sub-room.result = omega (arith, c.saturating_sub-room.ensures, c.values.ensures.values) in
     rw (p.1, p.2) (held_record_missed c.args.limits.values c.args.self.now.frames.items (vec_len c.args.self.now.frames - 1) c.in-Some.frame.now f outer c.args.first c.args.id (handed_shown c.args.self.now) c.args.reader.now c.in_err-code.field-0.0 c.record_after.new.reader (omega (arith, c.requires.some, c.args.self.now.frames.ok.0)) c.in-Some.ensures.value split (c.in_err-code.ensures.takes c.args.limits.values (handed_shown c.args.self.now) room))
-
-pub returns-then-count-room-clause-takes : goal.returns-then-count-room-clause-takes
-returns-then-count-room-clause-takes g c = λ f outer split.
-    let room : c.args.limits.values - c.args.self.now.used ≡ c.saturating_sub-room.result = omega (arith, c.saturating_sub-room.ensures, c.values.ensures.values) in
-    rw (c.fail-then-count-room.ensures.fault, c.fail-then-count-room.ensures.failed) (held_record_lost c.args.limits.values c.args.self.now.frames.items (vec_len c.args.self.now.frames - 1) c.in-Some.frame.now f outer c.args.first c.args.id (handed_shown c.args.self.now) c.args.reader.now _ c.record_after.new.reader (stopped c.record_after.new.reader) (omega (arith, c.requires.some, c.args.self.now.frames.ok.0)) c.in-Some.ensures.value split (c.in_ok-code.ensures.takes c.args.limits.values (handed_shown c.args.self.now) room) refl)
 
 pub returns-clause-takes : goal.returns-clause-takes
 returns-clause-takes g c = λ f outer split.
@@ -27,11 +21,13 @@ returns-clause-takes g c = λ f outer split.
 pub returns-in_err-code-clause-ids : goal.returns-in_err-code-clause-ids
 returns-in_err-code-clause-ids g c = λ ids. ids-set c.args.self.now.frames.items (vec_len c.args.self.now.frames - 1) c.in-Some.frame.now c.record_after.new.frame (omega (arith, c.requires.some, c.args.self.now.frames.ok.0)) c.in-Some.ensures.value c.in_err-code.ensures.head ids
 
-pub returns-then-count-room-clause-ids : goal.returns-then-count-room-clause-ids
-returns-then-count-room-clause-ids g c = λ ids. ids-set c.args.self.now.frames.items (vec_len c.args.self.now.frames - 1) c.in-Some.frame.now c.record_after.new.frame (omega (arith, c.requires.some, c.args.self.now.frames.ok.0)) c.in-Some.ensures.value c.in_ok-code.ensures.head ids
-
 pub returns-clause-ids : goal.returns-clause-ids
 returns-clause-ids g c = λ ids. ids-set c.args.self.now.frames.items (vec_len c.args.self.now.frames - 1) c.in-Some.frame.now c.record_after.new.frame (omega (arith, c.requires.some, c.args.self.now.frames.ok.0)) c.in-Some.ensures.value c.in_ok-code.ensures.head ids
 
 pub returns-clause-aligned : goal.returns-clause-aligned
 returns-clause-aligned g c = λ none. absurd (omega (arith, c.requires.some, none))
+
+pub returns-clause-forward : goal.returns-clause-forward
+returns-clause-forward g c =
+    let room : c.args.limits.values - c.args.self.now.used ≡ c.saturating_sub-room.result = omega (arith, c.saturating_sub-room.ensures, c.values.ensures.values) in
+    (c.in_ok-code.ensures.takes c.args.limits.values (handed_shown c.args.self.now) room).forward

@@ -1,0 +1,126 @@
+-- What is to come of an input that is read event by event, and what a call for the next event does.
+use Rattle.std.specs.Prelude.{◌≡◌, ℕ, ◌*◌, ◌^◌, ◌<◌, List, [], ◌∷◌, Bool, if◌then◌else◌, Option, Some, None, IsSome, Result, Ok, Err}
+use Rattle.bit_grammar.specs.declared.reason.Reason.TheVariants.{TooLong}
+use Rattle.bit_grammar.specs.Grammar as grammar
+use Rattle.bit_grammar.specs.Grammar.{at}
+use Rattle.bit_grammar.specs.Blocks.{Limits}
+use Rattle.bit_grammar.specs.Input.{Head}
+use Rattle.bit_grammar.specs.Machine.{Event, enters, defines, notes, leaves, Machine, Ending, accepted, broke, Told, to_come}
+use Rattle.bit_grammar.specs.Steps.{MayStand, open_after}
+use Rattle.bit_fields.specs.declared.fault.Fault.{Fault}
+use Rattle.bit_fields.specs.declared.fault.Fault.TheVariants.{Refused, Read, Write, Memory, OutputTooLong, Failed}
+use Rattle.bit_fields.specs.Devices.{Incoming, Spends, known_bytes}
+use Rattle.bit_fields.specs.Reader.{Extent, is_cut, within, SourceFails}
+use Rattle.bit_fields.specs.Ending.{verdict}
+
+-- ---- how a stream ends, by how far it goes
+
+abbrev pub judged : Result (Unit {0}) grammar.Fault → ℕ → Ending
+judged (Ok _) p = accepted p
+judged (Err fault) p = broke fault
+
+-- a stream whose blocks are whole ends by the limit on bytes where it goes on past it, else as is said of its input
+abbrev pub end_at : Extent → ℕ → Ending
+end_at e p = if is_cut e then broke (at TooLong (8 * e.limit)) else judged (verdict e) p
+
+-- the end of a stream of this extent, where so ends what is read of it
+abbrev pub end_by : Extent → Ending → Ending
+end_by e (accepted p) = end_at e p
+end_by e (broke fault) = broke (within e fault.reason fault.bit)
+
+-- the events to come, and their end, of what is left of a stream of this extent
+abbrev pub told_of : Limits → Extent → Machine → ℕ → List Bool → Told
+told_of limits e m p left = (let told = to_come limits m p left in (told.0, end_by e told.1))
+
+-- ---- an input that is read event by event
+
+-- events come; the whole input was accepted; or a call failed
+pub data Stage : Type 0 where
+  going : Stage
+  over : Stage
+  failed : Stage
+
+pub record Coming : Type 0 where
+  pub stage : Stage
+  pub head : Head
+  -- the events to come and their end, where the source tells its bytes
+  pub told : Told
+  -- how many blocks are open, and how many may be
+  pub depth : ℕ
+  pub deepest : ℕ
+  -- the values of the record that was given last
+  pub held : List ℕ
+  -- the event that was given last
+  pub last : Option Event
+  -- in bits from the first bit of the input
+  pub position : ℕ
+  pub incoming : Incoming
+  -- how many pulls it may still make, and bytes take
+  pub budget : ℕ
+
+-- the source tells its bytes
+abbrev pub Tells : Coming → Type 0
+Tells c = IsSome c.incoming.to_come
+
+-- each pull and each byte was paid for
+abbrev pub Pays : Coming → Coming → Type 0
+Pays old new = Spends old.incoming old.budget new.incoming new.budget
+
+-- the values that are held after an event
+abbrev pub held_after : Event → List ℕ → List ℕ
+held_after (notes mark) held = mark.values
+held_after (enters o) held = held
+held_after (defines mark) held = held
+held_after (leaves after) held = held
+
+-- an event before others
+abbrev pub before : Event → Told → Told
+before event told = (event ∷ told.0, told.1)
+
+-- an event came, and the others are left
+pub record Gives (old : Coming) (event : Event) (new : Coming) : Type 0 where
+  pub went : old.stage ≡ going
+  pub goes : new.stage ≡ going
+  pub pays : Pays old new
+  pub head : new.head ≡ old.head
+  pub stands : MayStand old.deepest event old.depth
+  pub depth : new.depth ≡ open_after event old.depth
+  pub deepest : new.deepest ≡ old.deepest
+  pub held : new.held ≡ held_after event old.held
+  pub forward : old.position < new.position
+  pub below : new.position < 2 ^ 64
+  pub told : Tells old → old.told ≡ before event new.told
+
+-- no event was left: the whole input is accepted, and its source has no byte left
+pub record Ends (old new : Coming) : Type 0 where
+  pub held_on : old.stage ≡ failed → ⊥
+  pub ends : new.stage ≡ over
+  pub again : old.stage ≡ over → new ≡ old
+  pub pays : Pays old new
+  pub head : new.head ≡ old.head
+  pub depth : old.depth ≡ 0
+  pub none_open : new.depth ≡ 0
+  pub told : Tells old → (old.told ≡ ([], accepted new.position)) × (new.told ≡ ([], accepted new.position))
+  pub none : old.stage ≡ going → Tells old → known_bytes new.incoming.to_come ≡ []
+
+-- a call failed
+pub record Stops (old new : Coming) : Type 0 where
+  pub went : old.stage ≡ going
+  pub stopped : new.stage ≡ failed
+  pub pays : Pays old new
+
+-- Why no event came: the events end with this fault; the source failed; no memory; or a call before had failed, and nothing
+-- changed.
+abbrev pub Breaks : Coming → Fault → Coming → Type 0
+Breaks old (Refused reason bit) new = Stops old new × (Tells old → old.told ≡ ([], broke (at reason bit)))
+Breaks old Read new = Stops old new × SourceFails old.incoming new.incoming
+Breaks old Memory new = Stops old new
+Breaks old Failed new = (old.stage ≡ failed) × (new ≡ old)
+Breaks old Write new = ⊥
+Breaks old OutputTooLong new = ⊥
+
+-- what a call for the next event does
+abbrev pub Goes : Coming → Result (Option Event) Fault → Coming → Type 0
+Goes old (Ok (Some event)) new = Gives old event new
+Goes old (Ok None) new = Ends old new
+Goes old (Err fault) new = Breaks old fault new
