@@ -1,5 +1,5 @@
 -- The parts of a normal form.
-use Rattle.std.proofs.Common.{◌≡◌, ℕ, ◌+◌, ◌/◌, ◌%◌, ◌^◌, ◌<◌, ◌≤◌, Bool, true, List, [], ◌++◌, length, get_or, drop, Err, refl, sym, ap, ◌∙◌, subst, arith, append_assoc, length-append, drop-cons, add-one}
+use Rattle.std.proofs.Common.{◌≡◌, ℕ, ◌+◌, ◌/◌, ◌%◌, ◌^◌, ◌<◌, ◌≤◌, Bool, true, List, [], ◌∷◌, ◌++◌, length, get_or, drop, Err, refl, sym, ap, ◌∙◌, subst, arith, append_assoc, length-append, drop-cons, add-one}
 use Rattle.std.proofs.lemmas.List.{drop_all, append-nil}
 use Rattle.bit_grammar.specs.Bits.{bits_of}
 use Rattle.bit_grammar.specs.FormatFields.{shortest}
@@ -138,6 +138,10 @@ module _ (id : ℕ) (inner : Forest) (w : Writer) (words : ℕ) (room : HasRoom 
   after_front a wrote = goes_on (whole_block id inner w.position) w (front_text id words) (body_text inner) w a (block_starts id inner w words room counted) wrote
 
 -- ---- the whole
+
+pub are_blocks : (blocks : List Block) → AreBlocks (forest_of_blocks blocks)
+are_blocks [] = tt
+are_blocks (b ∷ blocks) = are_blocks blocks
 
 -- the magic, the blocks, and nothing more
 abbrev pub from_blocks : Tree → Text

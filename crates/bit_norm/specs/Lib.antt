@@ -1,2 +1,3 @@
 pub mod Saturated
+pub mod Whole
 pub mod Writing

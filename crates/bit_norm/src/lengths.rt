@@ -1,4 +1,5 @@
 ghost use Rattle.std.specs.Prelude.{◌≡◌, ◌+◌, ◌/◌, ◌^◌, ◌<◌, ◌≤◌, IfSome, MatchOption};
+ghost use Rattle.bit_grammar.specs.Forest.{Tree};
 ghost use Rattle.bit_grammar.specs.Size.{shortest_length, values_length, record_length, aligned, body_at, body_length, end_of, size_of};
 ghost use Rattle.bit_norm.specs.Saturated.{saturated};
 ghost use Rattle.bit_tree.specs.TreeView.{forest_of_blocks};
@@ -98,15 +99,23 @@ pub(crate) fn body_words(items: &Items) -> u64
     body_bits(end_of_items(items, 0)) / 32
 }
 
-/// How many bytes the normal form of a document has, or `None` where they pass the limit on bytes. It takes no memory.
-pub fn normal_len(doc: &Document, limits: Limits) -> Option<u64>
-    ensures len { MatchOption result (limits.bytes < size_of doc.now) (λ bytes. (bytes ≡ size_of doc.now) × (bytes ≤ limits.bytes)) }
+/// How many bytes the normal form of a tree with these blocks has, or `None` where they pass the limit on bytes.
+pub(crate) fn form_len(blocks: &[Block], limits: Limits) -> Option<u64>
+    ensures len { (tree : Tree) → tree.blocks ≡ forest_of_blocks blocks.now → MatchOption result (limits.bytes < size_of tree) (λ bytes. (bytes ≡ size_of tree) × (bytes ≤ limits.bytes)) }
     ensures capped { IfSome result (λ bytes. bytes ≤ 17179869180) }
 {
-    let bytes = end_of_blocks(doc.blocks(), 32) / 8;
+    let bytes = end_of_blocks(blocks, 32) / 8;
     if bytes <= limits.bytes() {
         Some(bytes)
     } else {
         None
     }
+}
+
+/// How many bytes the normal form of a document has, or `None` where they pass the limit on bytes. It takes no memory.
+pub fn normal_len(doc: &Document, limits: Limits) -> Option<u64>
+    ensures len { MatchOption result (limits.bytes < size_of doc.now) (λ bytes. (bytes ≡ size_of doc.now) × (bytes ≤ limits.bytes)) }
+    ensures capped { IfSome result (λ bytes. bytes ≤ 17179869180) }
+{
+    form_len(doc.blocks(), limits)
 }

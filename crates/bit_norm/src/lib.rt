@@ -1,10 +1,22 @@
-//! The normal form of a document: its length, and writing it.
+//! The normal form of a document or an input: its length, and writing it; and whether two inputs hold the same.
 #![tactic(auto)]
 
+mod comparing;
+#[cfg(test)]
+mod fault_tests;
+#[cfg(test)]
+mod input_tests;
 mod lengths;
+mod normalising;
+#[cfg(test)]
+mod same_tests;
 #[cfg(test)]
 mod tests;
 mod writing;
 
+pub use bit_grammar::{normal_once, normal_spelled};
+pub use bit_tree::Info;
+pub use comparing::{SameFault, Which, same};
 pub use lengths::normal_len;
+pub use normalising::normalise;
 pub use writing::write_normal;

@@ -9,15 +9,15 @@ use std::test::Fail;
 
 /// A sink that takes few bytes a put, and fails after some puts.
 #[derive(Drop)]
-struct Pieces {
-    bytes: Vec<u8>,
+pub(crate) struct Pieces {
+    pub(crate) bytes: Vec<u8>,
     most: usize,
     puts_left: u64,
-    failures: u64,
+    pub(crate) failures: u64,
 }
 
 impl Pieces {
-    fn new(alloc: Global, most: usize, puts_left: u64) -> Pieces {
+    pub(crate) fn new(alloc: Global, most: usize, puts_left: u64) -> Pieces {
         Pieces {
             bytes: Vec::new(alloc),
             most,
@@ -56,10 +56,10 @@ impl Sink for Pieces {
 }
 
 /// The magic of LLVM's bitcode.
-static MAGIC: [u8; 4] = [0x42, 0x43, 0xc0, 0xde];
+pub(crate) static MAGIC: [u8; 4] = [0x42, 0x43, 0xc0, 0xde];
 
 /// Limits with this one on bytes.
-fn within(rt: &impl Abort, bytes: u64) -> Limits {
+pub(crate) fn within(rt: &impl Abort, bytes: u64) -> Limits {
     Limits::new(bytes, 64, 1000).expect(rt, "limits within their caps")
 }
 

@@ -2,10 +2,11 @@ ghost use Rattle.std.specs.Prelude.{◌≡◌, ◌<◌, ◌^◌, [], OnOk};
 ghost use Rattle.bit_grammar.specs.Bits.{bits_of};
 ghost use Rattle.bit_grammar.specs.Normal.{put, chain, head_text, end_text, values_text, normal, normal_form};
 ghost use Rattle.bit_fields.specs.Writer.{Writes};
-ghost use Rattle.bit_tree.specs.TreeView.{forest_of_blocks};
+ghost use Rattle.bit_fields.specs.Opening.{magic_number};
+ghost use Rattle.bit_tree.specs.TreeView.{forest_of_blocks, tree_with};
 ghost use Rattle.bit_norm.specs.Writing.{record_text, whole_block, HasRoom, WritesForm};
 
-use crate::lengths::{body_words, normal_len};
+use crate::lengths::{body_words, form_len};
 use bit_fields::{BitWriter, Fault, Limits, Sink};
 use bit_tree::{Block, Document, Item, Items};
 
@@ -90,24 +91,49 @@ fn write_blocks<K: Sink>(writer: &mut BitWriter<K>, blocks: &[Block]) -> Result<
     Ok(())
 }
 
-/// The number that the bytes of the magic spell.
-fn magic_number(doc: &Document) -> u64
-    ensures magic { result ≡ doc.now.magic }
+/// The number that the bytes of a magic spell.
+pub(crate) fn number_of_magic(magic: [u8; 4]) -> u64
+    ensures magic { result ≡ magic_number magic }
     ensures fits { result < 2 ^ 32 }
 {
-    u64::from(u32::from_le_bytes(doc.magic()))
+    u64::from(u32::from_le_bytes(magic))
 }
 
-/// Writes a document, and gives the sink all of it.
-fn write_document<K: Sink>(writer: &mut BitWriter<K>, doc: &Document) -> Result<(), Fault>
-    requires room { HasRoom writer.old (normal_form doc.now) }
+/// Writes a tree, and gives the sink all of it.
+fn write_tree<K: Sink>(
+    writer: &mut BitWriter<K>,
+    magic: [u8; 4],
+    blocks: &[Block],
+) -> Result<(), Fault>
+    requires room { HasRoom writer.old (normal_form (tree_with magic blocks.now)) }
     requires begins { writer.old.position ≡ 0 }
-    ensures writes { Writes (normal_form doc.now) writer.old result writer.new }
+    ensures writes { Writes (normal_form (tree_with magic blocks.now)) writer.old result writer.new }
     ensures all { OnOk result (writer.new.held ≡ []) }
 {
-    writer.fixed(32, magic_number(doc))?;
-    write_blocks(writer, doc.blocks())?;
+    writer.fixed(32, number_of_magic(magic))?;
+    write_blocks(writer, blocks)?;
     writer.finish()
+}
+
+/// Gives a sink the normal form of a tree, and answers how many bytes that are.
+pub(crate) fn write_form<K: Sink>(
+    magic: [u8; 4],
+    blocks: &[Block],
+    sink: K,
+    limits: Limits,
+) -> (Result<u64, Fault>, K)
+    ensures { WritesForm (tree_with magic blocks.now) limits.bytes (K.outgoing sink) result.0 (K.outgoing result.1) }
+{
+    match form_len(blocks, limits) {
+        None => (Err(Fault::OutputTooLong), sink),
+        Some(bytes) => {
+            let mut writer = BitWriter::new(sink);
+            match write_tree(&mut writer, magic, blocks) {
+                Ok(()) => (Ok(bytes), writer.into_sink()),
+                Err(fault) => (Err(fault), writer.into_sink()),
+            }
+        }
+    }
 }
 
 /// Gives a sink the normal form of a document, and answers how many bytes that are. It takes no memory.
@@ -116,14 +142,5 @@ fn write_document<K: Sink>(writer: &mut BitWriter<K>, doc: &Document) -> Result<
 pub fn write_normal<K: Sink>(doc: &Document, sink: K, limits: Limits) -> (Result<u64, Fault>, K)
     ensures { WritesForm doc.now limits.bytes (K.outgoing sink) result.0 (K.outgoing result.1) }
 {
-    match normal_len(doc, limits) {
-        None => (Err(Fault::OutputTooLong), sink),
-        Some(bytes) => {
-            let mut writer = BitWriter::new(sink);
-            match write_document(&mut writer, doc) {
-                Ok(()) => (Ok(bytes), writer.into_sink()),
-                Err(fault) => (Err(fault), writer.into_sink()),
-            }
-        }
-    }
+    write_form(doc.magic(), doc.blocks(), sink, limits)
 }

@@ -1,6 +1,0 @@
-use Rattle.std.proofs.Common.{◌∙◌, rules}
-use Rattle.bit_tree.proofs.Magics.{magic_is}
-use Rattle.bit_norm.proofs.writing.magic_number.Goals as goal
-
-pub returns-clause-magic : goal.returns-clause-magic
-returns-clause-magic c = c.from.ensures ∙ c.from_le_bytes.ensures ∙ magic_is c.magic.result (search rules) (search rules) ∙ c.magic.ensures.magic

@@ -1,0 +1,51 @@
+-- What the calls on whole inputs do.
+use Rattle.std.specs.Prelude.{◌≡◌, ◌↔◌, ℕ, Bool, IsTrue, Result, Ok, Err}
+use Rattle.bit_grammar.specs.declared.info.Info.{Info}
+use Rattle.bit_grammar.specs.Forest.{Tree}
+use Rattle.bit_grammar.specs.Blocks.{Limits}
+use Rattle.bit_fields.specs.declared.fault.Fault.{Fault}
+use Rattle.bit_fields.specs.declared.fault.Fault.TheVariants.{Refused, Read, Write, Memory, OutputTooLong, Failed}
+use Rattle.bit_fields.specs.Devices.{Incoming, Outgoing}
+use Rattle.bit_tree.specs.Reading.{ReadsWhole, HasFit}
+use Rattle.bit_norm.specs.Writing.{WritesForm}
+use Rattle.bit_norm.specs.declared.comparing.Which.{Which}
+use Rattle.bit_norm.specs.declared.comparing.Which.TheVariants.{First, Second}
+use Rattle.bit_norm.specs.declared.comparing.SameFault.{SameFault}
+
+-- An input was read as its tree under a setting: it has this one, if it is known, and its source has no byte left; or it was
+-- not, for this reason.
+abbrev pub ReadsTree : Info → Limits → Incoming → Result Tree Fault → Incoming → Type 0
+ReadsTree info limits = ReadsWhole (HasFit info limits) limits
+
+-- ---- normal forms
+
+-- an input was read as a tree, and this was done with the normal form of it
+abbrev pub ReadsAndWrites : Info → Limits → Incoming → Outgoing → Result ℕ Fault → Incoming → Outgoing → Type 0
+ReadsAndWrites info limits i old answer now new = (tree : Tree) × ReadsTree info limits i (Ok tree) now × WritesForm tree limits.bytes old answer new
+
+-- an input was not read, and nothing was written
+abbrev pub WritesNothing : Info → Limits → Incoming → Outgoing → Fault → Incoming → Outgoing → Type 0
+WritesNothing info limits i old fault now new = ReadsTree info limits i (Err fault) now × (new ≡ old)
+
+-- The sink took the normal form of the tree that the input has, and the answer is the number of bytes; or a front of it; or
+-- nothing, since it has more bytes than the limit; or the input was not read, and the sink took nothing.
+abbrev pub Normalises : Info → Limits → Incoming → Outgoing → Result ℕ Fault → Incoming → Outgoing → Type 0
+Normalises info limits i old (Ok count) now new = ReadsAndWrites info limits i old (Ok count) now new
+Normalises info limits i old (Err Write) now new = ReadsAndWrites info limits i old (Err Write) now new
+Normalises info limits i old (Err OutputTooLong) now new = ReadsAndWrites info limits i old (Err OutputTooLong) now new
+Normalises info limits i old (Err (Refused reason bit)) now new = WritesNothing info limits i old (Refused reason bit) now new
+Normalises info limits i old (Err Read) now new = WritesNothing info limits i old Read now new
+Normalises info limits i old (Err Memory) now new = WritesNothing info limits i old Memory now new
+Normalises info limits i old (Err Failed) now new = ⊥
+
+-- ---- two inputs
+
+-- an input that was not read: the first, and the second was asked for nothing; or the second, after the first
+abbrev pub Misreads : Info → Limits → Which → Fault → (i j now later : Incoming) → Type 0
+Misreads info limits First fault i j now later = ReadsTree info limits i (Err fault) now × (later ≡ j)
+Misreads info limits Second fault i j now later = (a : Tree) × ReadsTree info limits i (Ok a) now × ReadsTree info limits j (Err fault) later
+
+-- Both inputs were read, and the answer says whether their trees are the same; or one was not.
+abbrev pub Compares : Info → Limits → (i j : Incoming) → Result Bool SameFault → (now later : Incoming) → Type 0
+Compares info limits i j (Ok answer) now later = (a : Tree) × (b : Tree) × ReadsTree info limits i (Ok a) now × ReadsTree info limits j (Ok b) later × (IsTrue answer ↔ (a ≡ b))
+Compares info limits i j (Err e) now later = Misreads info limits e.which e.fault i j now later
