@@ -1,0 +1,71 @@
+-- Texts that grow, and bytes of a magic.
+use Rattle.std.proofs.Common.{◌≡◌, ℕ, zero, suc, ◌+◌, ◌*◌, ◌/◌, ◌%◌, ◌<◌, List, [], ◌∷◌, ◌++◌, length, get_or, replicate, Result, Ok, Err, refl, sym, ap, ◌∙◌, append_assoc, arith}
+use Rattle.std.specs.Prelude.{OnOk, codes, decimal, flat_map}
+use Rattle.std.specs.declared.alloc.AllocError.{AllocError}
+use Rattle.std.specs.Int.{w32, from_le_bytes}
+use Rattle.bit_grammar.specs.Texts.{magic_bytes, hex_text, magic_text}
+use Rattle.bit_fields.specs.Opening.{magic_number}
+use Rattle.bit_scan.specs.Lines.{block_row_text, block_start, block_middle, block_end}
+use Rattle.bit_scan.specs.declared.rows.BlockRow.{BlockRow}
+use Rattle.bit_tree.proofs.Magics.{magic_is}
+
+-- two spaces more
+pub two_more : (n : ℕ) → replicate {A = ℕ} (2 * (n + 1)) 32 ≡ replicate {A = ℕ} (2 * n) 32 ++ 32 ∷ 32 ∷ []
+two_more n =
+    let twice : 2 * (n + 1) ≡ 2 * n + 2 = omega arith in
+    rw (twice) (pairs (2 * n))
+  where
+    pairs : (k : ℕ) → replicate {A = ℕ} (k + 2) 32 ≡ replicate {A = ℕ} k 32 ++ 32 ∷ 32 ∷ []
+    pairs zero = refl
+    pairs (suc k) =
+        let more : suc k + 2 ≡ suc (k + 2) = omega arith in
+        rw more (ap (λ (l : List ℕ). 32 ∷ l) (pairs k))
+
+bytes_of_sum : (a b c d n : ℕ) → n ≡ a + 256 * (b + 256 * (c + 256 * d)) → a < 256 → b < 256 → c < 256 → d < 256 → magic_bytes n ≡ a ∷ b ∷ c ∷ d ∷ []
+bytes_of_sum a b c d n is ha hb hc hd =
+    let one : n % 0x100 ≡ a = omega (arith, is) in
+    let two : n / 0x100 % 0x100 ≡ b = omega (arith, is) in
+    let three : n / 0x10000 % 0x100 ≡ c = omega (arith, is) in
+    let four : n / 0x1000000 % 0x100 ≡ d = omega (arith, is) in
+    rw (one, two, three, four) refl
+
+-- the bytes of the number of four bytes
+bytes_back : (bytes : List ℕ) → length bytes ≡ 4 → ((k : ℕ) → get_or bytes k 0 < 256) → magic_bytes (magic_number bytes) ≡ bytes
+bytes_back [] n h = absurd (omega arith)
+bytes_back (a ∷ []) n h = absurd (omega arith)
+bytes_back (a ∷ b ∷ []) n h = absurd (omega arith)
+bytes_back (a ∷ b ∷ c ∷ []) n h = absurd (omega arith)
+bytes_back (a ∷ b ∷ c ∷ d ∷ []) n h =
+    let is = magic_is (a ∷ b ∷ c ∷ d ∷ []) refl h in
+    bytes_of_sum a b c d (magic_number (a ∷ b ∷ c ∷ d ∷ [])) (sym is ∙ (let sum : from_le_bytes w32 (a ∷ b ∷ c ∷ d ∷ []) ≡ a + 256 * (b + 256 * (c + 256 * d)) = omega arith in sum)) (h 0) (h 1) (h 2) (h 3)
+bytes_back (a ∷ b ∷ c ∷ d ∷ e ∷ bytes) n h = absurd (omega arith)
+
+-- the text of a magic is the digits of its bytes
+pub magic_digits : (bytes : List ℕ) → length bytes ≡ 4 → ((k : ℕ) → get_or bytes k 0 < 256) → magic_text (magic_number bytes) ≡ codes "magic " ++ flat_map hex_text bytes
+magic_digits bytes n h = ap (λ (l : List ℕ). codes "magic " ++ flat_map hex_text l) (bytes_back bytes n h)
+
+pub magic_pushed : (bytes : List ℕ) → length bytes ≡ 4 → ((k : ℕ) → get_or bytes k 0 < 256) → (r : Result (Unit {0}) AllocError) (old middle new : List ℕ) → middle ≡ old ++ codes "magic " → OnOk r (new ≡ middle ++ flat_map hex_text bytes)
+    → OnOk r (new ≡ old ++ magic_text (magic_number bytes))
+magic_pushed bytes n h (Ok x) old middle new first second =
+    second ∙ ap (λ (l : List ℕ). l ++ flat_map hex_text bytes) first ∙ append_assoc old (codes "magic ") (flat_map hex_text bytes) ∙ ap (λ (l : List ℕ). old ++ l) (sym (magic_digits bytes n h))
+magic_pushed bytes n h (Err x) old middle new first second = tt
+
+-- ---- the line of a block id in a report
+
+regrouped : (a b c d e f g h i j k l m n z : List ℕ)
+    → (a ++ b ++ c ++ d ++ e ++ f ++ g ++ h ++ i ++ j ++ k ++ l ++ m ++ n) ++ z ≡ (a ++ b ++ c ++ d ++ e ++ f) ++ ((g ++ h ++ i ++ j) ++ (k ++ l ++ m ++ n ++ z))
+regrouped a b c d e f g h i j k l m n z = simp append_assoc
+
+block_parts : (e : ℕ × BlockRow) → block_row_text e ≡ block_start e ++ (block_middle e ++ block_end e)
+block_parts e =
+    regrouped (codes "block ") (decimal e.0) (codes " count ") (decimal e.1.blocks) (codes " bits ") (decimal e.1.bits) (codes " definitions ") (decimal e.1.definitions) (codes " records ") (decimal e.1.records)
+    (codes " abbreviated ") (decimal e.1.abbreviated) (codes " values ") (decimal e.1.values) (codes "\n")
+
+-- the three parts, one after the other
+pub all_parts : (e : ℕ × BlockRow) (r : Result (Unit {0}) AllocError) (old one two new : List ℕ) → one ≡ old ++ block_start e → two ≡ one ++ block_middle e → OnOk r (new ≡ two ++ block_end e) → OnOk r (new ≡ old ++ block_row_text e)
+all_parts e (Ok x) old one two new first second third =
+    third ∙ ap (λ (l : List ℕ). l ++ block_end e) (second ∙ ap (λ (l : List ℕ). l ++ block_middle e) first) ∙ joined old (block_start e) (block_middle e) (block_end e) ∙ ap (λ (l : List ℕ). old ++ l) (sym (block_parts e))
+  where
+    joined : (a b c d : List ℕ) → ((a ++ b) ++ c) ++ d ≡ a ++ (b ++ (c ++ d))
+    joined a b c d = simp append_assoc
+all_parts e (Err x) old one two new first second third = tt

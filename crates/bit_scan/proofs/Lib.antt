@@ -1,0 +1,16 @@
+pub mod Appending
+pub mod Bounds
+pub mod Changes
+pub mod Changing
+pub mod Exact
+pub mod Inner
+pub mod Lists
+pub mod OpenBlocks
+pub mod Prints
+pub mod Puts
+pub mod Reports
+pub mod Saturating
+pub mod Spans
+pub mod Counted
+pub mod Analysed
+pub mod Showings

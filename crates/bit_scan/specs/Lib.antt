@@ -1,0 +1,11 @@
+pub mod Additions
+pub mod Analysing
+pub mod CodesView
+pub mod Counting
+pub mod Cut
+pub mod Fitting
+pub mod Lines
+pub mod Printing
+pub mod Rows
+pub mod Showing
+pub mod Written

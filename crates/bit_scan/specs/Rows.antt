@@ -1,0 +1,21 @@
+-- What is seen of the rows of an analysis.
+use Rattle.std.specs.Prelude.{ℕ, List, map}
+use Rattle.bit_grammar.specs.Tally.{BlockTally}
+use Rattle.bit_scan.specs.CodesView.{code_tallies}
+use Rattle.bit_scan.specs.declared.rows.BlockRow.{BlockRow}
+
+-- a block id and its row
+abbrev pub block_tally : ℕ × BlockRow → BlockTally
+block_tally e = record {
+  id = e.0;
+  blocks = e.1.blocks;
+  bits = e.1.bits;
+  definitions = e.1.definitions;
+  records = e.1.records;
+  abbreviated = e.1.abbreviated;
+  values = e.1.values;
+  codes = code_tallies e.1.codes;
+}
+
+abbrev pub block_tallies : List (ℕ × BlockRow) → List BlockTally
+block_tallies rows = map block_tally rows

@@ -1,0 +1,130 @@
+ghost use Rattle.std.specs.Prelude.{◌≡◌, List, map, OnOk};
+ghost use Rattle.bit_grammar.specs.Machine.{Opened, enters, leaves};
+ghost use Rattle.bit_grammar.specs.Counting.{OpenCount, Counts, no_counts, count_event};
+ghost use Rattle.bit_tree.specs.EventView.{shown};
+ghost use Rattle.bit_scan.specs.Counting.{open_counts, added_here, Closes};
+ghost use Rattle.bit_scan.specs.Cut.{cut, cut_open};
+ghost use Rattle.bit_scan.specs.Rows.{block_tallies};
+
+use crate::rows::{Addition, BlockRow, add_to_row};
+use bit_tree::Event;
+use indexmap::IndexMap;
+use std::alloc::{AllocError, Global};
+use std::marker::Model;
+
+/// A block that is open: its id, its first bit, and the bits of the blocks in it that have ended.
+#[derive(Clone, Copy, Debug)]
+struct OpenBlock {
+    id: u32,
+    first: u64,
+    inside: u64,
+}
+
+/// What the events so far add up to: a row for each block id in order of first entry, and the open blocks, the innermost
+/// last. It holds no tree.
+#[derive(Drop)]
+pub(crate) struct Counter {
+    alloc: Global,
+    rows: IndexMap<u32, BlockRow>,
+    open: Vec<OpenBlock>,
+}
+
+/// Takes the innermost open block off, which ends before a bit. All its bits go to the block round it.
+/// Answers its id and the bits that are its own.
+fn close_block(blocks: &mut Vec<OpenBlock>, after: u64) -> Option<(u32, u64)>
+    ensures { (around : List OpenCount) → open_counts blocks.old.items ≡ map cut_open around → Closes around after result (open_counts blocks.new.items) }
+{
+    let block = blocks.pop()?;
+    let bits = after.saturating_sub(block.first);
+    if let Some(outer) = blocks.last_mut() {
+        outer.inside = outer.inside.saturating_add(bits);
+    }
+    Some((block.id, bits.saturating_sub(block.inside)))
+}
+
+impl Model for Counter {
+    ghost use Rattle.bit_grammar.specs.Counting.{Counts};
+
+    ghost Value = { Counts };
+
+    ghost use Rattle.bit_scan.specs.Counting.{open_counts};
+    ghost use Rattle.bit_scan.specs.Rows.{block_tallies};
+
+    ghost view = { λ counter. record { rows = block_tallies counter.rows.entries; around = open_counts counter.open.items } };
+}
+
+impl Counter {
+    /// Before the first event.
+    pub(crate) fn new(alloc: Global) -> Counter
+        ensures { result ≡ no_counts }
+    {
+        Counter {
+            alloc,
+            rows: IndexMap::new(alloc),
+            open: Vec::new(alloc),
+        }
+    }
+
+    /// A block with this id begins at a bit.
+    fn enter(&mut self, id: u32, first: u64) -> Result<(), AllocError>
+        ensures { (counts : Counts) (opened : Opened) → opened.id ≡ id → opened.first ≡ first → self.old ≡ cut counts → OnOk result (self.new ≡ cut (count_event (enters opened) counts)) }
+    {
+        add_to_row(self.alloc, &mut self.rows, id, Addition::Block)?;
+        self.open.push(OpenBlock {
+            id,
+            first,
+            inside: 0,
+        })?;
+        Ok(())
+    }
+
+    /// The innermost block ends before a bit.
+    fn leave(&mut self, after: u64) -> Result<(), AllocError>
+        ensures { (counts : Counts) → self.old ≡ cut counts → OnOk result (self.new ≡ cut (count_event (leaves after) counts)) }
+    {
+        match close_block(&mut self.open, after) {
+            Some((id, bits)) => add_to_row(self.alloc, &mut self.rows, id, Addition::Bits(bits)),
+            None => Ok(()),
+        }
+    }
+
+    /// Counts what stands in the innermost open block.
+    pub(crate) fn count_here(&mut self, addition: Addition) -> Result<(), AllocError>
+        ensures { (counts : Counts) → self.old ≡ cut counts → OnOk result (self.new ≡ cut (added_here addition counts)) }
+    {
+        match self.open.last() {
+            Some(block) => add_to_row(self.alloc, &mut self.rows, block.id, addition),
+            None => Ok(()),
+        }
+    }
+
+    /// Counts an event. A number that would pass the greatest of 64 bits stays there.
+    pub(crate) fn add(&mut self, event: Event<'_>) -> Result<(), AllocError>
+        ensures { (counts : Counts) → self.old ≡ cut counts → OnOk result (self.new ≡ cut (count_event (shown event.entry) counts)) }
+    {
+        match event {
+            Event::Enter { id, first, .. } => self.enter(id, first),
+            Event::Define { .. } => self.count_here(Addition::Definition),
+            Event::Record {
+                abbrev,
+                code,
+                values,
+                first,
+                after,
+            } => self.count_here(Addition::Record {
+                code,
+                abbreviated: abbrev >= 4,
+                values: values.len() as u64,
+                bits: after.saturating_sub(first),
+            }),
+            Event::Leave { after } => self.leave(after),
+        }
+    }
+
+    /// The rows.
+    pub(crate) fn into_rows(self) -> IndexMap<u32, BlockRow>
+        ensures { block_tallies result.entries ≡ self.rows }
+    {
+        self.rows
+    }
+}

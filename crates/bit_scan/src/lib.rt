@@ -1,0 +1,20 @@
+//! What a stream holds: the analysis by block id and record code, its report, and the listing of a tree.
+#![tactic(auto)]
+
+mod analysing;
+mod analysis;
+mod counter;
+mod laws;
+mod lines;
+mod listing;
+mod printer;
+mod rows;
+mod showing;
+#[cfg(test)]
+mod tests;
+
+pub use analysing::analyse;
+pub use analysis::Analysis;
+pub use laws::numbers_fit;
+pub use rows::{BlockRow, CodeRow, Codes};
+pub use showing::write_show;

@@ -1,0 +1,126 @@
+ghost use Rattle.std.specs.Prelude.{◌≡◌, ℕ, ◌*◌, ◌++◌, ◌∷◌, OnOk, decimal, flat_map, replicate, string_bytes};
+ghost use Rattle.bit_grammar.specs.Texts.{hex_text, magic_text, block_line};
+ghost use Rattle.bit_fields.specs.Opening.{magic_number};
+ghost use Rattle.bit_scan.specs.Lines.{report_head, listing_head, block_row_text, block_start, block_middle, block_end, code_row_text, record_head};
+
+use crate::rows::{BlockRow, CodeRow};
+use std::alloc::AllocError;
+
+/// Appends two digits.
+fn push_byte(text: &mut String, byte: u8) -> Result<(), AllocError>
+    ensures { OnOk result (string_bytes text.new ≡ string_bytes text.old ++ hex_text byte) }
+{
+    write!(text, "{byte:02x}")
+}
+
+/// Appends two digits for each byte.
+fn push_bytes(text: &mut String, bytes: &[u8]) -> Result<(), AllocError>
+    ensures { OnOk result (string_bytes text.new ≡ string_bytes text.old ++ flat_map hex_text bytes.now) }
+{
+    for byte in bytes {
+        push_byte(text, *byte)?;
+    }
+    Ok(())
+}
+
+/// Appends the word magic and eight digits.
+fn push_magic(text: &mut String, magic: [u8; 4]) -> Result<(), AllocError>
+    ensures { OnOk result (string_bytes text.new ≡ string_bytes text.old ++ magic_text (magic_number magic)) }
+{
+    text.push_str("magic ")?;
+    push_bytes(text, &magic)
+}
+
+/// Appends the first line of a report.
+pub(crate) fn push_report_head(
+    text: &mut String,
+    magic: [u8; 4],
+    bits: u64,
+) -> Result<(), AllocError>
+    ensures { OnOk result (string_bytes text.new ≡ string_bytes text.old ++ report_head (magic_number magic) bits) }
+{
+    push_magic(text, magic)?;
+    writeln!(text, " bits {bits}")
+}
+
+/// Appends the first line of a listing.
+pub(crate) fn push_listing_head(text: &mut String, magic: [u8; 4]) -> Result<(), AllocError>
+    ensures { OnOk result (string_bytes text.new ≡ string_bytes text.old ++ listing_head (magic_number magic)) }
+{
+    push_magic(text, magic)?;
+    text.push_str("\n")
+}
+
+/// Appends the first part of the line of a block id in a report.
+fn push_block_start(text: &mut String, id: u32, row: &BlockRow) -> Result<(), AllocError>
+    ensures { OnOk result (string_bytes text.new ≡ string_bytes text.old ++ block_start (id, row.now)) }
+{
+    let (blocks, bits) = (row.blocks, row.bits);
+    write!(text, "block {id} count {blocks} bits {bits}")
+}
+
+/// Appends the second part.
+fn push_block_middle(text: &mut String, row: &BlockRow) -> Result<(), AllocError>
+    ensures { (id : ℕ) → OnOk result (string_bytes text.new ≡ string_bytes text.old ++ block_middle (id, row.now)) }
+{
+    let (definitions, records) = (row.definitions, row.records);
+    write!(text, " definitions {definitions} records {records}")
+}
+
+/// Appends the last part.
+fn push_block_end(text: &mut String, row: &BlockRow) -> Result<(), AllocError>
+    ensures { (id : ℕ) → OnOk result (string_bytes text.new ≡ string_bytes text.old ++ block_end (id, row.now)) }
+{
+    let (abbreviated, values) = (row.abbreviated, row.values);
+    writeln!(text, " abbreviated {abbreviated} values {values}")
+}
+
+/// Appends the line of a block id in a report, without those of its codes.
+pub(crate) fn push_block_row(text: &mut String, id: u32, row: &BlockRow) -> Result<(), AllocError>
+    ensures { OnOk result (string_bytes text.new ≡ string_bytes text.old ++ block_row_text (id, row.now)) }
+{
+    push_block_start(text, id, row)?;
+    push_block_middle(text, row)?;
+    push_block_end(text, row)
+}
+
+/// Appends the line of a code in a report.
+pub(crate) fn push_code_row(text: &mut String, code: u64, row: CodeRow) -> Result<(), AllocError>
+    ensures { OnOk result (string_bytes text.new ≡ string_bytes text.old ++ code_row_text (code, row)) }
+{
+    let CodeRow { count, bits } = row;
+    writeln!(text, "  record {code} count {count} bits {bits}")
+}
+
+/// Appends two spaces for each block around.
+fn push_indent(text: &mut String, around: u32) -> Result<(), AllocError>
+    ensures { OnOk result (string_bytes text.new ≡ string_bytes text.old ++ replicate (2 * around) 32) }
+{
+    for _ in 0..around {
+        text.push_str("  ")?;
+    }
+    Ok(())
+}
+
+/// Appends the line of a block in a listing.
+pub(crate) fn push_block_line(text: &mut String, around: u32, id: u32) -> Result<(), AllocError>
+    ensures { OnOk result (string_bytes text.new ≡ string_bytes text.old ++ block_line around id) }
+{
+    push_indent(text, around)?;
+    writeln!(text, "block {id}")
+}
+
+/// Appends the line of a record in a listing, up to its values.
+pub(crate) fn push_record_head(text: &mut String, around: u32, code: u64) -> Result<(), AllocError>
+    ensures { OnOk result (string_bytes text.new ≡ string_bytes text.old ++ record_head around code) }
+{
+    push_indent(text, around)?;
+    write!(text, "record {code}")
+}
+
+/// Appends a value of a record in a listing.
+pub(crate) fn push_value(text: &mut String, value: u64) -> Result<(), AllocError>
+    ensures { OnOk result (string_bytes text.new ≡ string_bytes text.old ++ (32 ∷ decimal value)) }
+{
+    write!(text, " {value}")
+}

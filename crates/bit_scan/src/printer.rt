@@ -1,0 +1,168 @@
+ghost use Rattle.std.specs.Prelude.{◌≡◌, ◌∷◌, [], OnOk, decimal};
+ghost use Rattle.bit_grammar.specs.Texts.{block_line};
+ghost use Rattle.bit_fields.specs.Opening.{magic_number};
+ghost use Rattle.bit_scan.specs.Lines.{report_head, listing_head, block_row_text, code_row_text, record_head};
+ghost use Rattle.bit_scan.specs.Printing.{Prints};
+ghost use Rattle.bit_scan.specs.Written.{WritesText};
+
+use crate::lines::{
+    push_block_line, push_block_row, push_code_row, push_listing_head, push_record_head,
+    push_report_head, push_value,
+};
+use crate::rows::{BlockRow, CodeRow};
+use bit_fields::{Fault, Sink, SinkFailed};
+use std::alloc::{AllocError, Global};
+use std::marker::Model;
+
+/// How many bytes are held before they are put.
+const HELD: usize = 8192;
+
+/// Gives a sink all of some bytes, in as many puts as it takes.
+fn put_all<K: Sink>(sink: &mut K, bytes: &[u8]) -> Result<(), Fault>
+    ensures { WritesText bytes.now (K.outgoing sink.old) result (K.outgoing sink.new) }
+{
+    let mut rest = bytes;
+    while !rest.is_empty() {
+        match sink.put(rest) {
+            Ok(0) => return Err(Fault::Write),
+            Ok(count) => rest = &rest[count..],
+            Err(SinkFailed) => return Err(Fault::Write),
+        }
+    }
+    Ok(())
+}
+
+/// Text on its way to a sink, held until there is much of it. After a fault no more of it is put.
+#[derive(Drop)]
+pub(crate) struct Printer<K: Sink> {
+    sink: K,
+    held: String,
+}
+
+impl<K: Sink> Model for Printer<K> {
+    ghost use Rattle.std.specs.Prelude.{string_bytes};
+    ghost use Rattle.bit_scan.specs.Printing.{Printing};
+
+    ghost Value = { Printing };
+
+    ghost view = { λ printer. record { outgoing = K.outgoing printer.sink; held = string_bytes printer.held } };
+}
+
+impl<K: Sink> Printer<K> {
+    /// Nothing is held.
+    pub(crate) fn new(alloc: Global, sink: K) -> Printer<K>
+        ensures { result ≡ record { outgoing = K.outgoing sink; held = [] } }
+    {
+        Printer {
+            sink,
+            held: String::new(alloc),
+        }
+    }
+
+    /// The sink as it stands, without the text that is held.
+    pub(crate) fn into_sink(self) -> K
+        ensures { K.outgoing result ≡ self.outgoing }
+    {
+        self.sink
+    }
+
+    /// Gives the sink all that is held.
+    pub(crate) fn finish(&mut self) -> Result<(), Fault>
+        ensures prints { Prints [] self.old result self.new }
+        ensures all { OnOk result (self.new.held ≡ []) }
+    {
+        put_all(&mut self.sink, self.held.as_bytes())?;
+        self.held.clear();
+        Ok(())
+    }
+
+    /// Gives the sink what is held once there is enough of it.
+    fn settle(&mut self) -> Result<(), Fault>
+        ensures { Prints [] self.old result self.new }
+    {
+        if self.held.len() >= HELD {
+            return self.finish();
+        }
+        Ok(())
+    }
+
+    /// The first line of a report.
+    pub(crate) fn report_head(&mut self, magic: [u8; 4], bits: u64) -> Result<(), Fault>
+        ensures { Prints (report_head (magic_number magic) bits) self.old result self.new }
+    {
+        match push_report_head(&mut self.held, magic, bits) {
+            Ok(()) => self.settle(),
+            Err(AllocError) => Err(Fault::Memory),
+        }
+    }
+
+    /// The line of a block id in a report, without those of its codes.
+    pub(crate) fn block_row(&mut self, id: u32, row: &BlockRow) -> Result<(), Fault>
+        ensures { Prints (block_row_text (id, row.now)) self.old result self.new }
+    {
+        match push_block_row(&mut self.held, id, row) {
+            Ok(()) => self.settle(),
+            Err(AllocError) => Err(Fault::Memory),
+        }
+    }
+
+    /// The line of a code in a report.
+    pub(crate) fn code_row(&mut self, code: u64, row: CodeRow) -> Result<(), Fault>
+        ensures { Prints (code_row_text (code, row)) self.old result self.new }
+    {
+        match push_code_row(&mut self.held, code, row) {
+            Ok(()) => self.settle(),
+            Err(AllocError) => Err(Fault::Memory),
+        }
+    }
+
+    /// The first line of a listing.
+    pub(crate) fn listing_head(&mut self, magic: [u8; 4]) -> Result<(), Fault>
+        ensures { Prints (listing_head (magic_number magic)) self.old result self.new }
+    {
+        match push_listing_head(&mut self.held, magic) {
+            Ok(()) => self.settle(),
+            Err(AllocError) => Err(Fault::Memory),
+        }
+    }
+
+    /// The line of a block in a listing, with so many blocks around it.
+    pub(crate) fn block_line(&mut self, around: u32, id: u32) -> Result<(), Fault>
+        ensures { Prints (block_line around id) self.old result self.new }
+    {
+        match push_block_line(&mut self.held, around, id) {
+            Ok(()) => self.settle(),
+            Err(AllocError) => Err(Fault::Memory),
+        }
+    }
+
+    /// The line of a record in a listing, up to its values.
+    pub(crate) fn record_head(&mut self, around: u32, code: u64) -> Result<(), Fault>
+        ensures { Prints (record_head around code) self.old result self.new }
+    {
+        match push_record_head(&mut self.held, around, code) {
+            Ok(()) => self.settle(),
+            Err(AllocError) => Err(Fault::Memory),
+        }
+    }
+
+    /// A value of a record in a listing.
+    pub(crate) fn value(&mut self, value: u64) -> Result<(), Fault>
+        ensures { Prints (32 ∷ decimal value) self.old result self.new }
+    {
+        match push_value(&mut self.held, value) {
+            Ok(()) => self.settle(),
+            Err(AllocError) => Err(Fault::Memory),
+        }
+    }
+
+    /// The end of a line.
+    pub(crate) fn line_end(&mut self) -> Result<(), Fault>
+        ensures { Prints (10 ∷ []) self.old result self.new }
+    {
+        match self.held.push_str("\n") {
+            Ok(()) => self.settle(),
+            Err(AllocError) => Err(Fault::Memory),
+        }
+    }
+}
