@@ -1,0 +1,165 @@
+-- Comparing the first bytes of an input with the rest.
+use Rattle.std.proofs.Common.{◌≡◌, ◌≢◌, ◌∙◌, ◌⊎◌, ℕ, ◌+◌, ◌<◌, ◌≤◌, min, Bool, true, false, List, [], ◌++◌, length, take, drop, Option, Some, None, Result, Ok, Err, refl, sym, ap, subst, inl, inr, arith, codes, length-append, length-take}
+use Rattle.std.specs.Prelude.{IfSome, IsSome, IsTrue, Result}
+use Rattle.std.specs.Io.KnownBytes.{Consumes, IsAtEnd}
+use Rattle.std.proofs.lemmas.List.{append-nil, length-take-le, take_all, take_at, drop_at, take-take}
+use Rattle.std.proofs.Math.ListN.{drop_of_length-le}
+use Rattle.std.proofs.lemmas.Bool.{cases_lt}
+use Rattle.bit_grammar.specs.declared.info.Info.{Info}
+use Rattle.bit_grammar.specs.Bits.{bits_of_bytes}
+use Rattle.bit_grammar.specs.Grammar.{Fault, at}
+use Rattle.bit_grammar.specs.Forest.{Tree}
+use Rattle.bit_grammar.specs.Blocks.{Limits}
+use Rattle.bit_grammar.specs.Input.{BreaksInput, Cut, front_broken, front_of, front_spelled, is_closed}
+use Rattle.bit_grammar.specs.Normal.{HasTree}
+use Rattle.bit_fields.specs.declared.fault.Fault as code
+use Rattle.bit_fields.specs.declared.fault.Fault.TheVariants as fault
+use Rattle.bit_fields.specs.Devices.{Incoming, known_bytes}
+use Rattle.bit_norm.specs.declared.comparing.Which.{Which}
+use Rattle.bit_norm.specs.declared.comparing.Which.TheVariants.{First, Second}
+use Rattle.bit_norm.specs.declared.comparing.SameFault.{SameFault}
+use Rattle.bit_norm.specs.Whole.{Compares, Misreads}
+use Rattle.bitstool.specs.declared.outcome.Outcome.{Outcome}
+use Rattle.bitstool.specs.declared.outcome.Outcome.TheVariants.{Done, Different, Refused, RefusedOf, TooLong, Usage, Read, Write, Memory}
+use Rattle.bitstool.specs.declared.task.Task.TheVariants.{Same}
+use Rattle.bitstool.specs.Performing.{ComparesWith, Finds, TakesFirst, outcome_in, outcome_of}
+use Rattle.bitstool.specs.Runs.{Told, Accepts}
+use Rattle.bitstool.proofs.Known.{if_told}
+
+-- ---- what a comparison found
+
+-- a fact of an input that is known
+known_first : (i : Incoming) (first : List ℕ) (P : List ℕ → Type 0) → i.to_come ≡ Some first → (IsSome i.to_come → P (known_bytes i.to_come)) → P first
+known_first i first P is h = subst (λ (o : Told). (IsSome o → P (known_bytes o)) → P first) (sym is) (λ of_first. of_first refl) h
+
+-- the trees are one
+pub found_same : (info : Info) (limits : Limits) (first : List ℕ) (i j now later : Incoming) (answer : Bool) → answer ≡ true → i.to_come ≡ Some first → Compares info limits i j (Ok answer) now later → ComparesWith info limits first j.to_come Done
+found_same info limits first i j now later false bad is h = absurd (cc)
+found_same info limits first i j now later true _ is h =
+    let same : h.0 ≡ h.1 = h.4.0 refl in
+    let has : HasTree info limits first h.0 = known_first i first (λ bytes. HasTree info limits bytes h.0) is (λ tells. (h.2.1 tells).0.0) in
+    (h.1, subst (λ (t : Tree). HasTree info limits first t) same has, if_told j.to_come (λ bytes. HasTree info limits bytes h.1) (λ tells. (h.3.1 tells).0.0))
+
+-- they are two
+pub found_different : (info : Info) (limits : Limits) (first : List ℕ) (i j now later : Incoming) (answer : Bool) → answer ≡ false → i.to_come ≡ Some first → Compares info limits i j (Ok answer) now later → ComparesWith info limits first j.to_come Different
+found_different info limits first i j now later true bad is h = absurd (cc)
+found_different info limits first i j now later false _ is h =
+    let has : HasTree info limits first h.0 = known_first i first (λ bytes. HasTree info limits bytes h.0) is (λ tells. (h.2.1 tells).0.0) in
+    (h.0, h.1, has, if_told j.to_come (λ bytes. HasTree info limits bytes h.1) (λ tells. (h.3.1 tells).0.0), λ same. let bad : IsTrue false = h.4.1 same in absurd (cc))
+
+-- one was not read
+pub found_fault : (info : Info) (limits : Limits) (first : List ℕ) (i j now later : Incoming) (which : Which) (why : code.Fault) → i.to_come ≡ Some first → Misreads info limits which why i j now later → ComparesWith info limits first j.to_come (outcome_in which limits.bytes why)
+found_fault info limits first i j now later First (fault.Refused reason bit) is h = known_first i first (λ bytes. BreaksInput limits bytes (at reason bit)) is h.0.1
+found_fault info limits first i j now later Second (fault.Refused reason bit) is h =
+    let has : HasTree info limits first h.0 = known_first i first (λ bytes. HasTree info limits bytes h.0) is (λ tells. (h.1.1 tells).0.0) in
+    ((has.0, has.1), if_told j.to_come (λ bytes. BreaksInput limits bytes (at reason bit)) h.2.1)
+found_fault info limits first i j now later First fault.Read is h = tt
+found_fault info limits first i j now later Second fault.Read is h = tt
+found_fault info limits first i j now later First fault.Memory is h = tt
+found_fault info limits first i j now later Second fault.Memory is h = tt
+found_fault info limits first i j now later First fault.Write is h = absurd h.0
+found_fault info limits first i j now later Second fault.Write is h = absurd h.2
+found_fault info limits first i j now later First fault.OutputTooLong is h = absurd h.0
+found_fault info limits first i j now later Second fault.OutputTooLong is h = absurd h.2
+found_fault info limits first i j now later First fault.Failed is h = absurd h.0
+found_fault info limits first i j now later Second fault.Failed is h = absurd h.2
+
+-- ---- the bytes that were taken first
+
+-- they are the first ones, and the others are left
+taken_all : (input bytes rest : List ℕ) (count : ℕ) → input ≡ bytes ++ rest → length bytes ≡ count → (bytes ≡ take count input) × (rest ≡ drop count input)
+taken_all input bytes rest count is long = (sym (ap (take count) is ∙ take_at bytes rest count long), sym (ap (drop count) is ∙ drop_at bytes rest count long))
+
+taken_few : (input bytes rest : List ℕ) (count : ℕ) → input ≡ bytes ++ rest → length bytes ≤ count → rest ≡ [] → (bytes ≡ take count input) × (rest ≡ drop count input)
+taken_few input bytes rest count is few none =
+    let whole : input ≡ bytes = is ∙ ap (λ (r : List ℕ). bytes ++ r) none ∙ append-nil bytes in
+    let short : length input ≤ count = omega (arith, ap length whole) in
+    (sym (take_all count input short ∙ whole), none ∙ sym (drop_of_length-le input short))
+
+-- an input breaks as another one does that begins with the same bytes up to the limit, and goes on past it as well
+breaks_alike : (limits : Limits) (a b : List ℕ) (fault : Fault) → limits.bytes < length a → limits.bytes < length b → take limits.bytes a ≡ take limits.bytes b → BreaksInput limits a fault → BreaksInput limits b fault
+breaks_alike limits a b fault long_a long_b same (inl within) = absurd (omega (arith, within.0))
+breaks_alike limits a b fault long_a long_b same (inr past) = inr (long_b, cut past.1)
+  where
+    cut : Cut limits a fault → Cut limits b fault
+    cut (front_spelled m spelled is) = front_spelled m (rw (← same) spelled) is
+    cut (front_broken own stops is) = front_broken own (rw (← same) stops) (rw (← same) is)
+
+-- What was taken are the first bytes, so many; or the limit on bytes came before that, and they go past it, as the first bytes
+-- do, and begin as these.
+data Taken (limits : Limits) (first : ℕ) (input bytes rest : List ℕ) : Type 0 where
+  whole : bytes ≡ take first input → rest ≡ drop first input → Taken limits first input bytes rest
+  past : limits.bytes < length bytes → limits.bytes < length (take first input) → take limits.bytes bytes ≡ take limits.bytes (take first input) → Taken limits first input bytes rest
+
+taken : (limits : Limits) (first count : ℕ) (input bytes rest : List ℕ) → count ≡ min first (limits.bytes + 1) → input ≡ bytes ++ rest → length bytes ≤ count → (length bytes < count → rest ≡ []) → Taken limits first input bytes rest
+taken limits first count input bytes rest counted is few ended =
+    elim (cases_lt (length bytes) count) [
+      | inl short ↦ let parts = taken_few input bytes rest first is (omega arith) (ended short) in whole parts.0 parts.1
+      | inr long ↦ elim (cases_lt count first) [
+        | inl cut ↦
+            let parts = taken_all input bytes rest count is (omega arith) in
+            let there : count ≤ length input = omega (arith, ap length is, length-append bytes rest) in
+            let front : take limits.bytes bytes ≡ take limits.bytes (take first input) = ap (take limits.bytes) parts.0 ∙ take-take limits.bytes count input (omega arith) ∙ sym (take-take limits.bytes first input (omega arith)) in
+            past (omega arith) (omega (arith, length-take first input)) front
+        | inr all ↦ let parts = taken_all input bytes rest first is (omega arith) in whole parts.0 parts.1
+      ]
+    ]
+
+-- what was found of the bytes that were taken and of the rest is so of the first bytes and the others
+of_whole : (info : Info) (limits : Limits) (first : ℕ) (input bytes rest : List ℕ) (outcome : Outcome) → bytes ≡ take first input → rest ≡ drop first input → ComparesWith info limits bytes (Some rest) outcome → Finds (Same first limits info) (Some input) outcome
+of_whole info limits first input bytes rest Done is left h = (bits_of_bytes (codes "same\n"), (refl, (h.0, rw (← is) h.1, rw (← left) h.2)))
+of_whole info limits first input bytes rest Different is left h = (bits_of_bytes (codes "different\n"), (refl, (h.0, h.1, rw (← is) h.2, rw (← left) h.3, h.4)))
+of_whole info limits first input bytes rest (RefusedOf First reason bit) is left h = rw (← is) h
+of_whole info limits first input bytes rest (RefusedOf Second reason bit) is left h = (rw (← is) h.0, rw (← left) h.1)
+of_whole info limits first input bytes rest Read is left h = tt
+of_whole info limits first input bytes rest Memory is left h = tt
+of_whole info limits first input bytes rest (Refused reason bit) is left h = absurd h
+of_whole info limits first input bytes rest (TooLong limit) is left h = absurd h
+of_whole info limits first input bytes rest Usage is left h = absurd h
+of_whole info limits first input bytes rest Write is left h = absurd h
+
+of_past : (info : Info) (limits : Limits) (first : ℕ) (input bytes rest : List ℕ) (outcome : Outcome) → limits.bytes < length bytes → limits.bytes < length (take first input) → take limits.bytes bytes ≡ take limits.bytes (take first input)
+    → ComparesWith info limits bytes (Some rest) outcome → Finds (Same first limits info) (Some input) outcome
+of_past info limits first input bytes rest Done long also same h = absurd (omega (arith, h.1.1.fits))
+of_past info limits first input bytes rest Different long also same h = absurd (omega (arith, h.2.1.fits))
+of_past info limits first input bytes rest (RefusedOf First reason bit) long also same h = breaks_alike limits bytes (take first input) (at reason bit) long also same h
+of_past info limits first input bytes rest (RefusedOf Second reason bit) long also same h = absurd (omega (arith, h.0.1.fits))
+of_past info limits first input bytes rest Read long also same h = tt
+of_past info limits first input bytes rest Memory long also same h = tt
+of_past info limits first input bytes rest (Refused reason bit) long also same h = absurd h
+of_past info limits first input bytes rest (TooLong limit) long also same h = absurd h
+of_past info limits first input bytes rest Usage long also same h = absurd h
+of_past info limits first input bytes rest Write long also same h = absurd h
+
+-- nothing is said of an input that does not tell its bytes
+of_none : (info : Info) (limits : Limits) (first : ℕ) (bytes : List ℕ) (rest : Told) (outcome : Outcome) → ComparesWith info limits bytes rest outcome → Finds (Same first limits info) None outcome
+of_none info limits first bytes rest Done h = (bits_of_bytes (codes "same\n"), (refl, tt))
+of_none info limits first bytes rest Different h = (bits_of_bytes (codes "different\n"), (refl, tt))
+of_none info limits first bytes rest (RefusedOf First reason bit) h = tt
+of_none info limits first bytes rest (RefusedOf Second reason bit) h = tt
+of_none info limits first bytes rest Read h = tt
+of_none info limits first bytes rest Memory h = tt
+of_none info limits first bytes rest (Refused reason bit) h = absurd h
+of_none info limits first bytes rest (TooLong limit) h = absurd h
+of_none info limits first bytes rest Usage h = absurd h
+of_none info limits first bytes rest Write h = absurd h
+
+-- the comparison of what was taken is that of the first bytes and the others
+pub compared : (info : Info) (limits : Limits) (first count : ℕ) (told left : Told) (bytes : List ℕ) (outcome : Outcome) → count ≡ min first (limits.bytes + 1)
+    → Consumes told left bytes → length bytes ≤ count → (length bytes < count → IsAtEnd left) → ComparesWith info limits bytes left outcome → Finds (Same first limits info) told outcome
+compared info limits first count None left bytes outcome counted takes few ended h = of_none info limits first bytes left outcome h
+compared info limits first count (Some input) None bytes outcome counted takes few ended h = absurd takes
+compared info limits first count (Some input) (Some rest) bytes outcome counted takes few ended h = go (taken limits first count input bytes rest counted takes few ended)
+  where
+    go : Taken limits first input bytes rest → Finds (Same first limits info) (Some input) outcome
+    go (whole is rest_is) = of_whole info limits first input bytes rest outcome is rest_is h
+    go (past long also same) = of_past info limits first input bytes rest outcome long also same h
+
+-- they were not taken
+pub not_taken : (info : Info) (limits : Limits) (first count : ℕ) (i now : Incoming) (why : code.Fault) → TakesFirst count i (Err why) now → Finds (Same first limits info) i.to_come (outcome_of limits.bytes why)
+not_taken info limits first count i now fault.Read h = tt
+not_taken info limits first count i now fault.Memory h = tt
+not_taken info limits first count i now fault.Write h = absurd h
+not_taken info limits first count i now fault.OutputTooLong h = absurd h
+not_taken info limits first count i now fault.Failed h = absurd h
+not_taken info limits first count i now (fault.Refused reason bit) h = absurd h

@@ -1,0 +1,66 @@
+-- What is read of a parse is what it found.
+use Rattle.std.proofs.Common.{◌≡◌, ◌∙◌, ℕ, Bool, true, false, ◌&&◌, not, Option, Some, None, refl, sym, ap, codes}
+use Rattle.std.specs.Prelude.{IfSome, Result, Ok}
+use Rattle.std.specs.Bool.{MatchBool}
+use Rattle.std.specs.Str.Parse.{IsNumeral, ParsesUnsigned, digits_value, without_leading_plus, true_text, false_text}
+use Rattle.clap.specs.Words.{App, Text, app_of, one_of, one_text, rows_of}
+use Rattle.clap.specs.Matches.{ReadsOne}
+use Rattle.clap.specs.declared.parser.matches.Found.{Found}
+use Rattle.clap.specs.declared.builder.command.Command.{Command}
+use Rattle.clap.proofs.WalkLemmas.{one_text-rows}
+use Rattle.bitstool.specs.Words.{HasNumber}
+
+-- a numeral that was read
+numeral_found : (f : Found) (id : Text) (n : ℕ) → (one_text f id ≡ None → Some n ≡ None)
+    → ((t : Text) → one_text f id ≡ Some t → IsNumeral 10 (without_leading_plus t) × (n ≡ digits_value 10 (without_leading_plus t)))
+    → HasNumber id (rows_of f) n
+numeral_found f id n none value = go (one_text f id) refl
+  where
+    go : (o : Option Text) → one_text f id ≡ o → HasNumber id (rows_of f) n
+    go None e = let bad = none e in absurd (cc)
+    go (Some t) e = let v = value t e in (t, sym (one_text-rows f id) ∙ e, v.0, sym v.1)
+
+-- what was read as a number, if anything was
+pub number_found : {E : Type 0} (f : Found) (id : Text) (gives : Text → Result ℕ E → Type 0) (o : Option ℕ)
+    → ((t : Text) (r : Result ℕ E) → gives t r → ParsesUnsigned 64 10 t r)
+    → (one_text f id ≡ None → o ≡ None) → ((t : Text) → one_text f id ≡ Some t → ReadsOne gives t o)
+    → IfSome o (λ n. HasNumber id (rows_of f) n)
+number_found f id gives None reads none value = tt
+number_found f id gives (Some n) reads none value = numeral_found f id n none (λ t e. let p = reads t (Ok n) (value t e) in (p.0.0, p.1))
+
+-- a flag that was read as given
+pub flag_found : (f : Found) (id : Text) (b : Bool) → b ≡ true → (one_text f id ≡ None → Some b ≡ None)
+    → ((t : Text) → one_text f id ≡ Some t → MatchBool b (t ≡ true_text) (t ≡ false_text)) → one_of id (rows_of f) ≡ Some (codes "true")
+flag_found f id false e none value = absurd (cc)
+flag_found f id true is none value = go (one_text f id) refl
+  where
+    go : (o : Option Text) → one_text f id ≡ o → one_of id (rows_of f) ≡ Some (codes "true")
+    go None e = let bad = none e in absurd (cc)
+    go (Some t) e = sym (one_text-rows f id) ∙ e ∙ ap Some (value t e)
+
+-- a flag that was read as not given
+pub flag_not_found : (f : Found) (id : Text) → ((t : Text) → one_text f id ≡ Some t → t ≡ codes "true" → ⊥) → one_of id (rows_of f) ≡ Some (codes "true") → ⊥
+flag_not_found f id value found = value (codes "true") (one_text-rows f id ∙ found) refl
+
+pub flag_denied : (f : Found) (id : Text) (b : Bool) → b ≡ false
+    → ((t : Text) → one_text f id ≡ Some t → MatchBool b (t ≡ true_text) (t ≡ false_text)) → one_of id (rows_of f) ≡ Some (codes "true") → ⊥
+flag_denied f id true is value found = absurd (cc)
+flag_denied f id false is value found = let other : true_text ≡ false_text = value true_text (one_text-rows f id ∙ found) in absurd (cc)
+
+-- ---- commands
+
+and_right : (a b : Bool) → (a && b) ≡ true → b ≡ true
+and_right true b e = e
+and_right false b e = absurd (cc)
+
+and_left : (a b : Bool) → (a && b) ≡ true → a ≡ true
+and_left true b e = refl
+and_left false b e = absurd (cc)
+
+pub no_is_false : (b : Bool) → not b ≡ true → b ≡ false
+no_is_false false e = refl
+no_is_false true e = absurd (cc)
+
+-- the third of conditions that all hold does not hold of what it denies
+pub third_denied : (a b d rest : Bool) → (a && (b && (not d && rest))) ≡ true → d ≡ false
+third_denied a b d rest e = no_is_false d (and_left _ rest (and_right b _ (and_right a _ e)))

@@ -1,0 +1,25 @@
+-- What the words mean, from what clap says of a command that it reads as this one.
+use Rattle.std.proofs.Common.{◌≡◌, ◌∙◌, ◌⊎◌, true, List, [], Option, ap, subst, sym, inl, inr}
+use Rattle.clap.specs.Words.{App, Row, Text, is_simple, subcommand_of}
+use Rattle.clap.specs.Kinds.{IsAmong, Kinds}
+use Rattle.clap.specs.Faults.{fault_of, is_simple_and_free}
+use Rattle.clap.specs.declared.error.kind.ErrorKind.{ErrorKind}
+use Rattle.clap.specs.declared.error.kind.ErrorKind.TheVariants.{OutOfMemory}
+use Rattle.bitstool.specs.declared.task.Task.{Task}
+use Rattle.bitstool.specs.Words.{Fails, Means, bitstool, faults_of, named_by}
+
+pub faultless : (app : App) (words : List Text) → app ≡ bitstool → (is_simple_and_free app ≡ true → fault_of app words ≡ []) → faults_of words ≡ []
+unfolding faults_of
+faultless app words is none = subst (λ (a : App). fault_of a words ≡ []) is (none (ap is_simple_and_free is))
+
+pub meant : (app : App) (words : List Text) (rows : Option (Text × List Row)) (task : Task) → app ≡ bitstool → (is_simple app ≡ true → rows ≡ subcommand_of app words) → Means rows task → Means (named_by words) task
+unfolding named_by
+meant app words rows task is found means = subst (λ (o : Option (Text × List Row)). Means o task) (found (ap is_simple is) ∙ ap (λ (a : App). subcommand_of a words) is) means
+
+pub faulty : (app : App) (words : List Text) (kind : ErrorKind) → app ≡ bitstool → (is_simple_and_free app ≡ true → (kind ≡ OutOfMemory) ⊎ IsAmong kind (fault_of app words)) → Fails words kind
+unfolding faults_of
+faulty app words kind is why = go (why (ap is_simple_and_free is))
+  where
+    go : (kind ≡ OutOfMemory) ⊎ IsAmong kind (fault_of app words) → Fails words kind
+    go (inl memory) = inl memory
+    go (inr among) = inr (inl (subst (λ (a : App). IsAmong kind (fault_of a words)) is among))

@@ -1,0 +1,19 @@
+use Rattle.std.proofs.Common.{◌≡◌, ◌∙◌, ap, ap₂, rules}
+use Rattle.std.proofs.lemmas.Result.{IfOk-weaker}
+use Rattle.clap.specs.Words.{App, app_of, with_subcommand}
+use Rattle.bitstool.specs.Words.{above}
+use Rattle.bitstool.proofs.Found.{third_denied}
+use Rattle.bitstool.proofs.parse.command.Goals as goal
+
+pub returns : goal.returns
+returns c =
+    let check = c.in_ok-check.ensures in
+    let normal = c.in_ok-normal.ensures in
+    let same = c.in_ok-same.ensures in
+    let base : app_of c.subcommand_required.result ≡ above = search rules in
+    let first = c.in_ok-subcommand.ensures.shape (third_denied _ _ _ _ (ap (λ (a : App). a.top.is_plain) check))
+    ∙ ap₂ with_subcommand base (ap (λ (a : App). a.top) check) in
+    let second = c.in_ok-subcommand-2.ensures.shape (third_denied _ _ _ _ (ap (λ (a : App). a.top.is_plain) normal))
+    ∙ ap₂ with_subcommand first (ap (λ (a : App). a.top) normal) in
+    IfOk-weaker c.subcommand-3.result _ _ (λ r h. h.shape (third_denied _ _ _ _ (ap (λ (a : App). a.top.is_plain) same))
+    ∙ ap₂ with_subcommand second (ap (λ (a : App). a.top) same)) c.subcommand-3.ensures

@@ -1,0 +1,5 @@
+pub mod Words
+pub mod Outcome
+pub mod Runs
+pub mod Checking
+pub mod Performing

@@ -1,0 +1,81 @@
+-- The steps of carrying out a command.
+use Rattle.std.specs.Prelude.{◌≡◌, ◌≢◌, ◌⊎◌, ⊤, ℕ, ◌<◌, ◌≤◌, Bool, List, length, Result, Ok, Err, IfSome}
+use Rattle.std.specs.Io.KnownBytes.{Consumes, IsAtEnd}
+use Rattle.bit_grammar.specs.Bits.{bits_of_bytes}
+use Rattle.bit_grammar.specs.declared.info.Info.{Info}
+use Rattle.bit_grammar.specs.Grammar.{at}
+use Rattle.bit_grammar.specs.Forest.{Tree}
+use Rattle.bit_grammar.specs.Blocks.{Limits}
+use Rattle.bit_grammar.specs.Input.{BreaksInput}
+use Rattle.bit_grammar.specs.Normal.{HasTree}
+use Rattle.bit_fields.specs.declared.fault.Fault.{Fault}
+use Rattle.bit_fields.specs.declared.fault.Fault.TheVariants as fault
+use Rattle.bit_fields.specs.Devices.{Incoming, Outgoing}
+use Rattle.bit_norm.specs.declared.comparing.Which.{Which}
+use Rattle.bit_norm.specs.declared.comparing.Which.TheVariants.{First, Second}
+use Rattle.bitstool.specs.declared.outcome.Outcome.{Outcome}
+use Rattle.bitstool.specs.declared.outcome.Outcome.TheVariants.{Done, Different, Refused, RefusedOf, TooLong, Usage, Read, Write, Memory}
+use Rattle.bitstool.specs.declared.task.Task.{Task}
+use Rattle.bitstool.specs.Runs.{Told, Accepts, Answers, Refuses, Gains, GainsFront}
+
+-- a sink took all of a text, or a front of it
+abbrev pub Puts : List ℕ → Outgoing → Result (Unit {0}) Fault → Outgoing → Type 0
+Puts text old (Ok _) new = Gains (bits_of_bytes text) old.bytes new.bytes
+Puts text old (Err fault.Write) new = GainsFront (bits_of_bytes text) old.bytes new.bytes
+Puts text old (Err fault) new = ⊥
+
+-- Bytes were taken from a source: so many, or all where it had fewer; or it failed, or no memory.
+abbrev pub TakesFirst : ℕ → Incoming → Result (List ℕ) Fault → Incoming → Type 0
+TakesFirst count i (Ok bytes) now = Consumes i.to_come now.to_come bytes × (length bytes ≤ count) × (length bytes < count → IsAtEnd now.to_come)
+TakesFirst count i (Err fault.Read) now = ⊤
+TakesFirst count i (Err fault.Memory) now = ⊤
+TakesFirst count i (Err fault) now = ⊥
+
+-- the outcome of a fault, under this limit on bytes; a call of a whole input never answers that it had failed before
+abbrev pub outcome_of : ℕ → Fault → Outcome
+outcome_of limit (fault.Refused reason bit) = Refused reason bit
+outcome_of limit fault.Read = Read
+outcome_of limit fault.Write = Write
+outcome_of limit fault.Memory = Memory
+outcome_of limit fault.OutputTooLong = TooLong limit
+outcome_of limit fault.Failed = Read
+
+-- the same for a fault of one of two inputs
+abbrev pub outcome_in : Which → ℕ → Fault → Outcome
+outcome_in which limit (fault.Refused reason bit) = RefusedOf which reason bit
+outcome_in which limit fault.Read = Read
+outcome_in which limit fault.Write = Write
+outcome_in which limit fault.Memory = Memory
+outcome_in which limit fault.OutputTooLong = TooLong limit
+outcome_in which limit fault.Failed = Read
+
+-- what a command has found before it writes
+abbrev pub Finds : Task → Told → Outcome → Type 0
+Finds task input Done = (bits : List Bool) × Answers task input Done bits
+Finds task input Different = (bits : List Bool) × Answers task input Different bits
+Finds task input (Refused reason bit) = Refuses task input (Refused reason bit)
+Finds task input (RefusedOf which reason bit) = Refuses task input (RefusedOf which reason bit)
+Finds task input (TooLong limit) = Refuses task input (TooLong limit)
+Finds task input Usage = ⊥
+Finds task input Read = ⊤
+Finds task input Write = ⊥
+Finds task input Memory = ⊤
+
+-- Two inputs were compared, of which the first is known: both have this tree; or they have these two; or one breaks so, the
+-- second after the first was accepted; or the source failed, or no memory.
+abbrev pub ComparesWith : Info → Limits → List ℕ → Told → Outcome → Type 0
+ComparesWith info limits first rest Done = (tree : Tree) × HasTree info limits first tree × IfSome rest (λ bytes. HasTree info limits bytes tree)
+ComparesWith info limits first rest Different = (a : Tree) × (b : Tree) × HasTree info limits first a × IfSome rest (λ bytes. HasTree info limits bytes b) × (a ≢ b)
+ComparesWith info limits first rest (RefusedOf First reason bit) = BreaksInput limits first (at reason bit)
+ComparesWith info limits first rest (RefusedOf Second reason bit) = Accepts limits first × IfSome rest (λ bytes. BreaksInput limits bytes (at reason bit))
+ComparesWith info limits first rest Read = ⊤
+ComparesWith info limits first rest Memory = ⊤
+ComparesWith info limits first rest outcome = ⊥
+
+-- an answer was written as this line; or the output failed, and took a front of it
+abbrev pub Tells : Outcome → List ℕ → Told → Outcome → Told → Type 0
+Tells answer line old after new = ((after ≡ answer) × Gains (bits_of_bytes line) old new) ⊎ ((after ≡ Write) × GainsFront (bits_of_bytes line) old new)
+
+-- the outcome after a step that writes or flushes: as it was, or the output failed
+abbrev pub IsOrWrite : Outcome → Outcome → Type 0
+IsOrWrite outcome after = (after ≡ outcome) ⊎ (after ≡ Write)

@@ -1,0 +1,119 @@
+-- What the words of a command line ask for: the options that the program tells `clap` of, and how a task is read from what
+-- `clap` finds. The words `App`, `Rule`, `Shape`, `subcommand_of` and `fault_of` are clap's own: what a command is, and what a
+-- parse of words finds or why it fails.
+use Rattle.std.specs.Prelude.{◌≡◌, ◌≢◌, ◌⊎◌, ⊤, ℕ, List, [], ◌∷◌, true, Option, Some, None, codes}
+use Rattle.std.specs.Str.Parse.{IsNumeral, digits_value, without_leading_plus}
+use Rattle.clap.specs.Words.{App, Row, Rule, Text, new_app, new_rule, one_of, subcommand_of, with_rule, with_subcommand}
+use Rattle.clap.specs.Kinds.{Kinds, IsAmong}
+use Rattle.clap.specs.Faults.{fault_of}
+use Rattle.clap.specs.declared.builder.action.ArgAction.TheVariants.{SetTrue}
+use Rattle.clap.specs.declared.builder.value_parser.ValueParser.TheVariants.{Unsigned}
+use Rattle.clap.specs.declared.error.kind.ErrorKind.{ErrorKind}
+use Rattle.clap.specs.declared.error.kind.ErrorKind.TheVariants.{DisplayHelp, DisplayVersion, InvalidValue, OutOfMemory}
+use Rattle.bit_grammar.specs.declared.info.Info.{Info}
+use Rattle.bit_grammar.specs.declared.info.Info.TheVariants.{Keep, Drop}
+use Rattle.bit_grammar.specs.Blocks.{Limits}
+use Rattle.bitstool.specs.declared.task.Task.{Task}
+use Rattle.bitstool.specs.declared.task.Task.TheVariants.{Check, Normal, Same}
+use Rattle.bitstool.specs.declared.task.Parsed.{Parsed}
+use Rattle.bitstool.specs.declared.task.Parsed.TheVariants as parsed
+
+-- ---- the options
+
+-- an option with a number from 0 to `most`, which is `usual` where it is not given
+abbrev pub limit_rule : (name usual : Text) → (most : ℕ) → Rule
+limit_rule name usual most = record (new_rule name) { long = Some name; value_names = 1; parser = Some (Unsigned 0 most); defaults = usual ∷ [] }
+
+abbrev pub bytes_rule : Rule
+bytes_rule = limit_rule (codes "bytes") (codes "1073741824") 17179869180
+
+abbrev pub depth_rule : Rule
+depth_rule = limit_rule (codes "depth") (codes "64") 255
+
+abbrev pub values_rule : Rule
+values_rule = limit_rule (codes "values") (codes "134217728") 4294967295
+
+-- a flag
+abbrev pub drop_rule : Rule
+drop_rule = record (new_rule (codes "drop-info")) { long = Some (codes "drop-info"); action = Some SetTrue }
+
+-- an option with a number that has to be given
+abbrev pub first_rule : Rule
+first_rule = record (new_rule (codes "first")) { long = Some (codes "first"); value_names = 1; parser = Some (Unsigned 0 17179869180); required = true }
+
+-- ---- the commands
+
+-- a command with the limits as its options
+abbrev pub limited : Text → App
+limited name = with_rule (with_rule (with_rule (new_app name) bytes_rule) depth_rule) values_rule
+
+-- a command that has the flag too
+abbrev pub dropping : Text → App
+dropping name = with_rule (limited name) drop_rule
+
+abbrev pub comparing : App
+comparing = with_rule (dropping (codes "same")) first_rule
+
+abbrev pub above : App
+above = record { top = record (new_app (codes "bitstool")).top { no_binary_name = true; disable_help_subcommand = true; subcommand_required = true }; subs = [] }
+
+-- the whole command line
+abbrev pub bitstool : App
+bitstool = with_subcommand (with_subcommand (with_subcommand above (limited (codes "check")).top) (dropping (codes "normal")).top) comparing.top
+
+-- ---- what was found
+
+-- the text that was found for this option is a numeral of this number
+abbrev pub HasNumber : Text → List Row → ℕ → Type 0
+HasNumber id rows n = (text : Text) × (one_of id rows ≡ Some text) × IsNumeral 10 (without_leading_plus text) × (digits_value 10 (without_leading_plus text) ≡ n)
+
+abbrev pub HasLimits : List Row → Limits → Type 0
+HasLimits rows limits = HasNumber (codes "bytes") rows limits.bytes × HasNumber (codes "depth") rows limits.depth × HasNumber (codes "values") rows limits.values
+
+-- BLOCKINFO blocks are dropped exactly where the flag was given
+abbrev pub HasSetting : List Row → Info → Type 0
+HasSetting rows Keep = one_of (codes "drop-info") rows ≢ Some (codes "true")
+HasSetting rows Drop = one_of (codes "drop-info") rows ≡ Some (codes "true")
+
+-- a command with what was found for its options asks for this
+abbrev pub Asks : Text → List Row → Task → Type 0
+Asks name rows (Check limits) = (name ≡ codes "check") × HasLimits rows limits
+Asks name rows (Normal limits info) = (name ≡ codes "normal") × HasLimits rows limits × HasSetting rows info
+Asks name rows (Same first limits info) = (name ≡ codes "same") × HasNumber (codes "first") rows first × HasLimits rows limits × HasSetting rows info
+
+abbrev pub Means : Option (Text × List Row) → Task → Type 0
+Means None task = ⊥
+Means (Some found) task = Asks found.0 found.1 task
+
+-- ---- what the words say
+
+-- what clap finds in the words: the command that they name, with what is found for its options
+unfoldable pub named_by : List Text → Option (Text × List Row)
+named_by words = subcommand_of bitstool words
+
+-- the kinds of fault that clap may find with the words, none where it finds none
+unfoldable pub faults_of : List Text → Kinds
+faults_of words = fault_of bitstool words
+
+-- this kind of error is a wish for help
+abbrev pub IsHelp : ErrorKind → Type 0
+IsHelp kind = (kind ≡ DisplayHelp) ⊎ (kind ≡ DisplayVersion)
+
+-- why no task came of the words: no memory; or clap finds this fault with them; or they mean none
+abbrev pub Fails : List Text → ErrorKind → Type 0
+Fails words kind = (kind ≡ OutOfMemory) ⊎ (IsAmong kind (faults_of words) ⊎ ((kind ≡ InvalidValue) × (faults_of words ≡ [])))
+
+-- where the text of an error belongs
+abbrev pub Shows : ErrorKind → Parsed → Type 0
+Shows kind (parsed.Task task) = ⊥
+Shows kind (parsed.Help text) = IsHelp kind
+Shows kind (parsed.Usage text) = IsHelp kind → ⊥
+Shows kind parsed.Memory = ⊥
+
+-- What is made of the words: a task that they mean, where clap finds no fault with them; help, where they ask for it; a usage
+-- fault, where clap finds another fault, or they mean no task; or there was no memory to read them.
+abbrev pub Says : List Text → Parsed → Type 0
+Says words (parsed.Task task) = (faults_of words ≡ []) × Means (named_by words) task
+Says words (parsed.Help text) = (kind : ErrorKind) × IsHelp kind × IsAmong kind (faults_of words)
+Says words (parsed.Usage text) = ((kind : ErrorKind) × (IsHelp kind → ⊥) × IsAmong kind (faults_of words)) ⊎ (faults_of words ≡ [])
+Says words parsed.Memory = ⊤

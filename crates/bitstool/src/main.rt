@@ -1,0 +1,52 @@
+//! The program: checks, normalises and compares inputs in the LLVM bitstream container, from the command line.
+#![tactic(auto)]
+
+mod check;
+mod outcome;
+mod parse;
+mod perform;
+mod run;
+mod task;
+#[cfg(test)]
+mod tests;
+
+use crate::outcome::Outcome;
+use crate::run::run;
+use std::alloc::Global;
+use std::io::{BufReader, BufWriter};
+use std::process::ExitCode;
+use std::{env, io};
+
+/// How many bytes are read or written at once.
+const CHUNK: usize = 65536;
+
+/// The words of the command line, without the program's name.
+fn words_of(alloc: Global, rt: &HostRuntime) -> io::Result<Vec<String>> {
+    let mut words = Vec::new(alloc);
+    for word in env::args(rt)?.skip(1) {
+        words.push(word)?;
+    }
+    Ok(words)
+}
+
+/// Runs the program on standard input, output and errors, each with a buffer but the last.
+fn run_here(alloc: Global, rt: &HostRuntime, words: Vec<String>) -> io::Result<u8> {
+    let input = BufReader::with_capacity(alloc, CHUNK, rt.stdin())?;
+    let output = BufWriter::with_capacity(alloc, CHUNK, rt.stdout())?;
+    Ok(run(alloc, words, input, output, rt.stderr()).status)
+}
+
+/// Says that the run could not begin.
+fn refuse(rt: &HostRuntime, outcome: Outcome) -> u8 {
+    outcome.report(&mut rt.stderr());
+    outcome.status()
+}
+
+fn main(rt: HostRuntime) -> ExitCode {
+    let alloc = rt.alloc();
+    let status = match words_of(alloc, &rt) {
+        Ok(words) => run_here(alloc, &rt, words).unwrap_or_else(|_| refuse(&rt, Outcome::Memory)),
+        Err(_) => refuse(&rt, Outcome::Usage),
+    };
+    ExitCode::from(status)
+}

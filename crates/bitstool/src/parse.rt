@@ -1,0 +1,218 @@
+//! What the words say, by `clap`.
+
+ghost use Rattle.std.specs.Prelude.{◌≡◌, false, map, string_bytes, IfOk, IfErr, IfSome};
+ghost use Rattle.bitstool.specs.declared.task.Parsed.{Parsed as ParsedValue};
+ghost use Rattle.clap.specs.Words.{app_of, found_of, kind_of, rows_of, rule_of, subcommand_rows_of};
+ghost use Rattle.bitstool.specs.Words.{HasLimits, HasNumber, HasSetting, Means, Says, Fails, Shows, bitstool, limit_rule, limited, dropping, comparing};
+
+use crate::task::{Parsed, Task};
+use bit_fields::Limits;
+use bit_tree::Info;
+use clap::builder::ValueParser;
+use clap::error::ErrorKind;
+use clap::{Arg, ArgAction, ArgMatches, Command, Error};
+use std::alloc::{AllocError, Global};
+
+/// The greatest number of bytes of an input.
+const MOST_BYTES: u64 = 17_179_869_180;
+
+const ABOUT: &str =
+    "Reads files in the LLVM bitstream container: bitcode modules, precompiled headers, diagnostics. \
+The input is standard input; the output is standard output.
+
+With no arguments it writes the normal form of the input, as `bitstool normal` does. An input that breaks the rules is \
+refused with one line on standard error, which names the rule and the bit.
+
+Example: bitstool same --first 16 < FILE";
+
+const AFTER: &str =
+    "Exit status: 0 done, or found the same; 1 refused, or found different; 2 wrong arguments; \
+3 a read or a write failed, or no memory.";
+
+const CHECK: &str =
+    "Prints `accepted` if the input spells a tree of blocks and records, and otherwise the reason and the bit \
+of the refusal";
+
+const NORMAL: &str =
+    "Writes the normal form of the input: equal trees have equal normal forms, whatever abbreviations, widths \
+and wrapper the input has";
+
+const SAME: &str =
+    "Compares the trees of two inputs that stand in standard input one behind the other, and prints `same` or \
+`different`";
+
+/// An option for a limit.
+fn limit<'a>(alloc: Global, name: &'a str, usual: &'a str, most: u64, help: &'a str) -> Arg<'a>
+    ensures rule { rule_of result ≡ limit_rule name.entry.now usual.entry.now most }
+    ensures local { result.global ≡ false }
+{
+    Arg::new(alloc, name)
+        .long(name)
+        .value_name("N")
+        .value_parser(ValueParser::unsigned(0, most))
+        .default_value(usual)
+        .help(help)
+}
+
+/// A command with the limits as its options.
+fn limited<'a>(alloc: Global, name: &'a str, about: &'a str) -> Result<Command<'a>, AllocError>
+    ensures { IfOk result (λ command. app_of command ≡ (limited name.entry.now)) }
+{
+    let bytes = limit(
+        alloc,
+        "bytes",
+        "1073741824",
+        MOST_BYTES,
+        "The most bytes that the input may have, and a normal form too; at most 17179869180",
+    );
+    let depth = limit(
+        alloc,
+        "depth",
+        "64",
+        255,
+        "How deep blocks may stand in one another; at most 255",
+    );
+    let values = limit(
+        alloc,
+        "values",
+        "134217728",
+        4_294_967_295,
+        "The most values that the records may have in all; at most 4294967295",
+    );
+    Command::new(alloc, name)
+        .about(about)
+        .arg(bytes)?
+        .arg(depth)?
+        .arg(values)
+}
+
+/// A command with the limits and the setting as its options.
+fn dropping<'a>(alloc: Global, name: &'a str, about: &'a str) -> Result<Command<'a>, AllocError>
+    ensures { IfOk result (λ command. app_of command ≡ (dropping name.entry.now)) }
+{
+    let setting = Arg::new(alloc, "drop-info")
+        .long("drop-info")
+        .action(ArgAction::SetTrue)
+        .help(
+            "Leave out all BLOCKINFO blocks, which hold definitions for other blocks and no content",
+        );
+    limited(alloc, name, about)?.arg(setting)
+}
+
+/// The command that compares two inputs.
+fn comparing<'a>(alloc: Global) -> Result<Command<'a>, AllocError>
+    ensures { IfOk result (λ command. app_of command ≡ comparing) }
+{
+    let first = Arg::new(alloc, "first")
+        .long("first")
+        .value_name("N")
+        .value_parser(ValueParser::unsigned(0, MOST_BYTES))
+        .required(true)
+        .help("How many bytes the first input has; the second is the rest; at most 17179869180");
+    dropping(alloc, "same", SAME)?.arg(first)
+}
+
+/// The whole command line.
+fn command<'a>(alloc: Global) -> Result<Command<'a>, AllocError>
+    ensures { IfOk result (λ command. app_of command ≡ bitstool) }
+{
+    let check = limited(alloc, "check", CHECK)?;
+    let normal = dropping(alloc, "normal", NORMAL)?;
+    let same = comparing(alloc)?;
+    Command::new(alloc, "bitstool")
+        .about(ABOUT)
+        .after_help(AFTER)
+        .no_binary_name(true)
+        .disable_help_subcommand(true)
+        .subcommand_required(true)
+        .subcommand(check)?
+        .subcommand(normal)?
+        .subcommand(same)
+}
+
+/// The number that an option was given.
+fn number(matches: &ArgMatches<'_>, name: &str) -> Option<u64>
+    ensures { IfSome result (λ n. HasNumber name.now (rows_of (found_of matches.now)) n) }
+{
+    matches.get_one(name)
+}
+
+/// The limits that a command was given.
+fn limits_of(matches: &ArgMatches<'_>) -> Option<Limits>
+    ensures { IfSome result (λ limits. HasLimits (rows_of (found_of matches.now)) limits) }
+{
+    let bytes = number(matches, "bytes")?;
+    let depth = u32::try_from(number(matches, "depth")?).ok()?;
+    let values = number(matches, "values")?;
+    Limits::new(bytes, depth, values)
+}
+
+/// The setting that a command was given.
+fn setting_of(matches: &ArgMatches<'_>) -> Info
+    ensures { HasSetting (rows_of (found_of matches.now)) result }
+{
+    match matches.get_one::<bool>("drop-info") {
+        Some(true) => Info::Drop,
+        Some(false) => Info::Keep,
+        None => Info::Keep,
+    }
+}
+
+/// The command that was given.
+fn task_of(matches: &ArgMatches<'_>) -> Option<Task>
+    ensures { IfSome result (λ task. Means (subcommand_rows_of matches.now) task) }
+{
+    let (name, inner) = matches.subcommand()?;
+    let limits = limits_of(inner)?;
+    match name {
+        "check" => Some(Task::Check { limits }),
+        "normal" => Some(Task::Normal {
+            limits,
+            info: setting_of(inner),
+        }),
+        "same" => Some(Task::Same {
+            first: number(inner, "first")?,
+            limits,
+            info: setting_of(inner),
+        }),
+        _ => None,
+    }
+}
+
+/// The task that the words mean.
+fn task(alloc: Global, words: &[String]) -> Result<Task, Error>
+    ensures ok { IfOk result (λ task. Says (map string_bytes words.now) (ParsedValue.Task task)) }
+    ensures err { IfErr result (λ error. Fails (map string_bytes words.now) (kind_of error)) }
+{
+    let mut command = command(alloc)?;
+    let matches = command.try_get_matches_from_mut(words)?;
+    match task_of(&matches) {
+        Some(task) => Ok(task),
+        None => Err(command.error(ErrorKind::InvalidValue, "no such command")?),
+    }
+}
+
+/// The text of an error, and where it belongs.
+fn told(alloc: Global, error: &Error) -> Result<Parsed, AllocError>
+    ensures { IfOk result (λ parsed. Shows (kind_of error.now) parsed) }
+{
+    let text = error.to_string(alloc)?;
+    if error.use_stderr() {
+        Ok(Parsed::Usage(text))
+    } else {
+        Ok(Parsed::Help(text))
+    }
+}
+
+/// What these words say.
+pub fn parse(alloc: Global, words: &[String]) -> Parsed
+    ensures { Says (map string_bytes words.now) result }
+{
+    match task(alloc, words) {
+        Ok(task) => Parsed::Task(task),
+        Err(error) => match error.kind() {
+            ErrorKind::OutOfMemory => Parsed::Memory,
+            _ => told(alloc, &error).unwrap_or(Parsed::Memory),
+        },
+    }
+}

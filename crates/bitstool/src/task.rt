@@ -1,0 +1,37 @@
+//! What the words ask for.
+
+use bit_fields::Limits;
+use bit_tree::Info;
+
+/// A command, with what it was given.
+#[derive(Clone, Copy, Debug, PartialEq, Eq)]
+pub enum Task {
+    /// Say whether the input is accepted.
+    Check {
+        limits: Limits,
+    },
+    /// Write the normal form of the input.
+    Normal {
+        limits: Limits,
+        info: Info,
+    },
+    /// Compare the first bytes of the input, so many, with the rest.
+    Same {
+        first: u64,
+        limits: Limits,
+        info: Info,
+    },
+}
+
+/// What the words say.
+#[derive(Debug, Drop)]
+pub enum Parsed {
+    /// A command to carry out.
+    Task(Task),
+    /// A text for the output.
+    Help(String),
+    /// A text for the errors.
+    Usage(String),
+    /// The words could not be read for want of memory.
+    Memory,
+}
