@@ -47,16 +47,16 @@ chunk_parts payload s len =
     two_parts payload (number low) (number s) top below (sum ∙ ap (λ (k : ℕ). number low + 2 ^ payload * k) one)
 
 -- what follows a whole chunk with this payload, where it says whether another one follows
-abbrev after_chunk : (payload start permitted places low : ℕ) → Bool → Grammar ℕ
+abbrev pub after_chunk : (payload start permitted places low : ℕ) → Bool → Grammar ℕ
 after_chunk payload start permitted places low more =
     judge (ltb low (2 ^ places)) ValueTooWide start >>
     choose more (above low payload (chunks payload start permitted (places - payload))) (gives low)
 
 -- what follows a whole chunk with this number
-abbrev after_number : (payload start permitted places x : ℕ) → Grammar ℕ
+abbrev pub after_number : (payload start permitted places x : ℕ) → Grammar ℕ
 after_number payload start permitted places x = after_chunk payload start permitted places (x % 2 ^ payload) (leb (2 ^ payload) x)
 
-chunk_step : (payload start permitted places p : ℕ) (r : List Bool) → reading (part_of start (suc payload) >>= after_number payload start permitted places) p r ≡ reading (chunks payload start (suc permitted) places) p r
+pub chunk_step : (payload start permitted places p : ℕ) (r : List Bool) → reading (part_of start (suc payload) >>= after_number payload start permitted places) p r ≡ reading (chunks payload start (suc permitted) places) p r
 chunk_step payload start permitted places p r = elim (cases_lt (length r) (suc payload)) [
   | inl lt ↦ rw (lt-ltb (length r) (suc payload) lt) refl
   | inr le ↦

@@ -82,7 +82,7 @@ passed_is_reader was p count q f g is empty live passed q_is =
 -- no more bytes
 pub gap_missed : (was : Bool) (start n p : ℕ) (f g : Flow) (missing : Missing) (fault : Fault) (now new : Reader) → reader_of was p f ≡ now → was ≡ true → f.window ≡ [] → 0 < n → Misses f g missing → fault ≡ fault_of missing start g.limit → new ≡ stopped_at (reader_of was p g) start → Why (gap_of start n) now fault new
 gap_missed was start n p f g missing fault now new view live empty some misses fault_is new_is =
-    rw (fault_is, new_is, ← view, live) (window_missed (gap_of start n) n start p f g missing (λ r short. gap_short n start p r short) (not_filled n f f g missing (Keeps-refl f) (omega (arith, ap length empty)) misses))
+    rw (fault_is, new_is, ← view, live) (window_missed (gap_of start n) n start p f g missing (λ more short. gap_short n start p (f.window ++ more) short) (not_filled n f f g missing (Keeps-refl f) (omega (arith, ap length empty)) misses))
 
 pub missed_is_reader : (was : Bool) (n p : ℕ) (f g : Flow) (missing : Missing) → IsReader was p f → was ≡ true → f.window ≡ [] → 0 < n → Misses f g missing → IsReader was p g
 missed_is_reader was n p f g missing is live empty some misses =

@@ -12,3 +12,4 @@ pub mod Starting
 pub mod WriterLaws
 pub mod WriterChunks
 pub mod Cutting
+pub mod Short

@@ -10,7 +10,7 @@ use Rattle.bit_fields.specs.declared.fault.Fault.{Fault}
 use Rattle.bit_fields.specs.declared.inflow.Missing.{Missing}
 use Rattle.bit_fields.specs.declared.inflow.Missing.TheVariants.{End, Limit, Read}
 use Rattle.bit_fields.specs.Devices.{known_bytes}
-use Rattle.bit_fields.specs.Inflow.{Flow, stop_of, left_of, budget_of, Keeps, Fills}
+use Rattle.bit_fields.specs.Inflow.{Flow, stop_of, budget_of, Keeps, Fills}
 use Rattle.bit_fields.specs.Reader.{Reader, Took, Why, Takes}
 use Rattle.bit_fields.specs.Inside.{part_of, reader_of, stopped_at, fault_of}
 use Rattle.bit_fields.proofs.InflowLaws.{Spends-none}
@@ -19,12 +19,12 @@ use Rattle.bit_fields.proofs.Composing.{fault_then, took_then, took_nothing, fro
 -- ---- the reading
 
 -- n bits at the front
-part_at : (n start p : ℕ) (w rest : List Bool) → n ≤ length w → reading (part_of start n) p (w ++ rest) ≡ Ok (number (take n w), p + n, drop n w ++ rest)
+pub part_at : (n start p : ℕ) (w rest : List Bool) → n ≤ length w → reading (part_of start n) p (w ++ rest) ≡ Ok (number (take n w), p + n, drop n w ++ rest)
 part_at n start p w rest there =
     rw (le-ltb (length (w ++ rest)) n (omega (arith, length-append w rest)), take-append-le n w rest there, drop-append-le n w rest there) refl
 
 -- fewer bits
-part_short : (n start p : ℕ) (r : List Bool) → length r < n → reading (part_of start n) p r ≡ Err (at Truncated start)
+pub part_short : (n start p : ℕ) (r : List Bool) → length r < n → reading (part_of start n) p r ≡ Err (at Truncated start)
 part_short n start p r short = rw (lt-ltb (length r) n short) refl
 
 -- ---- the call
@@ -43,14 +43,14 @@ window_took rule value n p f g kept read = record {
 }
 
 -- a rule that is truncated where fewer than n bits are left
-pub window_missed : {A : Type 0} (rule : Grammar A) (n start p : ℕ) (f g : Flow) (missing : Missing) → ((r : List Bool) → length r < n → reading rule p r ≡ Err (at Truncated start)) → Fills n f g (Err missing) → Why rule (reader_of true p f) (fault_of missing start g.limit) (stopped_at (reader_of true p g) start)
+pub window_missed : {A : Type 0} (rule : Grammar A) (n start p : ℕ) (f g : Flow) (missing : Missing) → ((more : List Bool) → length (f.window ++ more) < n → reading rule p (f.window ++ more) ≡ Err (at Truncated start)) → Fills n f g (Err missing) → Why rule (reader_of true p f) (fault_of missing start g.limit) (stopped_at (reader_of true p g) start)
 window_missed rule n start p f g End short out = (
   record { was_live = refl; failed = refl; goes_on = Spends-none f.incoming (budget_of f) g.incoming (budget_of g) out.keeps.spends },
-  λ k. rw (short (left_of f) (out.left k)) (rw (out.cut k) refl),
+  λ k. rw (short (bits_of_bytes (take (stop_of f - f.loaded) (known_bytes f.incoming.to_come))) (out.left k)) (rw (out.cut k) refl),
 )
 window_missed rule n start p f g Limit short out = (
   record { was_live = refl; failed = refl; goes_on = Spends-none f.incoming (budget_of f) g.incoming (budget_of g) out.keeps.spends },
-  λ k. rw (short (left_of f) (out.left k)) (rw (out.cut k, out.keeps.limit) refl),
+  λ k. rw (short (bits_of_bytes (take (stop_of f - f.loaded) (known_bytes f.incoming.to_come))) (out.left k)) (rw (out.cut k, out.keeps.limit) refl),
 )
 window_missed rule n start p f g Read short lost = (record { was_live = refl; failed = refl; goes_on = lost.spends }, lost.failed)
 
@@ -85,7 +85,7 @@ took_as n start p q value after_q was live f g after now was_live now_is filled 
 pub missed_as : (n start p : ℕ) (was : Bool) (f g : Flow) (missing : Missing) (now new : Reader) (fault : Fault) → was ≡ true → reader_of was p f ≡ now → Fills n f g (Err missing) → fault ≡ fault_of missing start g.limit → new ≡ stopped_at (reader_of was p g) start
     → Why (part_of start n) now fault new
 missed_as n start p was f g missing now new fault was_live now_is fills fault_is new_is =
-    rw (← now_is, new_is, was_live, fault_is) (window_missed (part_of start n) n start p f g missing (λ r short. part_short n start p r short) fills)
+    rw (← now_is, new_is, was_live, fault_is) (window_missed (part_of start n) n start p f g missing (λ more short. part_short n start p (f.window ++ more) short) fills)
 
 -- ---- fields of one part
 

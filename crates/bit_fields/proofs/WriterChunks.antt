@@ -1,5 +1,5 @@
 -- The chunks of a VBR, written one after the other.
-use Rattle.std.proofs.Common.{◌≡◌, ℕ, zero, suc, ◌+◌, ◌*◌, ◌-◌, ◌/◌, ◌%◌, ◌^◌, ◌<◌, ◌≤◌, Bool, true, false, ltb, List, [], ◌∷◌, ◌++◌, bit_and, Result, Err, refl, sym, ap, ◌∙◌, subst, arith, append_assoc}
+use Rattle.std.proofs.Common.{◌≡◌, ℕ, zero, suc, ◌+◌, ◌*◌, ◌-◌, ◌/◌, ◌%◌, ◌^◌, ◌<◌, ◌≤◌, Bool, true, false, ltb, List, [], ◌∷◌, ◌++◌, length, bit_and, Result, Err, refl, sym, ap, ◌∙◌, subst, arith, append_assoc}
 use Rattle.std.proofs.Math.Nat.{div-add-mod, div-le_of_le-mul, div-lt_self}
 use Rattle.std.proofs.Math.Pow.{pow_mono, shr_lt}
 use Rattle.std.proofs.lemmas.Nat.{and_mask, one_shl, mod_below, pow_pos}
@@ -9,6 +9,7 @@ use Rattle.bit_grammar.specs.Fields.{chunk_limit}
 use Rattle.bit_grammar.specs.FormatFields.{chunked, shortest_payloads, shortest}
 use Rattle.bit_fields.specs.Writer.{Writer, Wrote, Writes}
 use Rattle.bit_fields.specs.declared.fault.Fault.{Fault}
+use Rattle.std.proofs.lemmas.List.{length-append}
 use Rattle.bit_grammar.proofs.Numbers.{length-bits_of}
 use Rattle.bit_fields.proofs.BitLaws.{bits_of-above, bits_of-mod}
 use Rattle.bit_fields.proofs.WriterLaws.{wrote_nothing, wrote_then_wrote, wrote_then, not_written}
@@ -143,3 +144,83 @@ pub chunking_ends : (n value : ℕ) (start now next : Writer) (rest : ℕ) (r : 
 chunking_ends n value start now next rest r some lt c writes =
     let is : shortest n value ≡ c.done ++ bits_of n rest = c.whole ∙ ap (λ (s : List Bool). c.done ++ s) (tail_last (n - 1) c.permitted rest lt ∙ sym (last_bits n rest some lt)) in
     subst (λ (s : List Bool). Writes s start r next) (sym is) (wrote_then start now next c.done (bits_of n rest) r c.wrote writes)
+
+-- ---- chunks that are collected before they are written
+
+-- chunks of a value were collected: one at least is permitted for what is left of it, and so many have room
+pub record Collecting (n value : ℕ) (chunks : List Bool) (rest : ℕ) : Type 0 where
+  pub permitted : ℕ
+  pub whole : shortest n value ≡ chunks ++ tail (n - 1) (suc permitted) rest
+  pub below : rest < 2 ^ ((n - 1) * suc permitted)
+  pub more : ℕ
+  pub short : rest < 2 ^ ((n - 1) * suc more)
+  pub room : length chunks + n * suc more ≤ 64
+
+few_chunks : (a b : ℕ) → a + b ≡ 30 → 31 + suc a ≤ suc a * suc (suc b)
+few_chunks a b e = omega (arith, e)
+
+next_chunk : (payload permitted fewer rest : ℕ) → permitted ≡ suc fewer → rest < 2 ^ (payload * suc permitted) → rest < 2 ^ (payload * suc fewer + payload)
+next_chunk payload permitted fewer rest is lt =
+    let more : payload * suc (suc fewer) ≡ payload * suc fewer + payload = omega arith in
+    subst (λ (e : ℕ). rest < 2 ^ e) (ap (λ k. payload * suc k) is ∙ more) lt
+
+next_room : (n more fewer held : ℕ) → more ≡ suc fewer → held + n * suc more ≤ 64 → held + n + n * suc fewer ≤ 64
+next_room n more fewer held is room =
+    let next : n * suc (suc fewer) ≡ n + n * suc fewer = omega arith in
+    let fits : held + n * suc (suc fewer) ≤ 64 = subst (λ k. held + n * suc k ≤ 64) is room in
+    omega arith
+
+-- the chunks of a value of 32 bits have room
+chunks_fit : (n : ℕ) → 2 ≤ n → n ≤ 32 → (more : ℕ) × (32 ≤ (n - 1) * suc more) × (n * suc more ≤ 64)
+chunks_fit n some few =
+    let m : ℕ = n - 1 in
+    let k : ℕ = (31 + m) / m in
+    let whole : m * k + (31 + m) % m ≡ 31 + m = div-add-mod (31 + m) m in
+    let part : (31 + m) % m < m = mod_below (31 + m) m (omega arith) in
+    let one : suc (m - 1) ≡ m = omega arith in
+    let two : suc (suc (31 - m)) ≡ 33 - m = omega arith in
+    let most : 31 + m ≤ m * (33 - m) = rw (← two) (subst (λ j. 31 + j ≤ j * suc (suc (31 - m))) one (few_chunks (m - 1) (31 - m) (omega arith))) in
+    let least : k ≤ 33 - m = div-le_of_le-mul m most in
+    fits k (omega arith) (omega arith) least
+  where
+    fits : (k : ℕ) → 32 ≤ (n - 1) * k → (n - 1) * k ≤ 31 + (n - 1) → k ≤ 33 - (n - 1) → (more : ℕ) × (32 ≤ (n - 1) * suc more) × (n * suc more ≤ 64)
+    fits zero enough most least = absurd (omega arith)
+    fits (suc more) enough most least =
+        let width : n ≡ suc (n - 1) = omega arith in
+        let all : suc (n - 1) * suc more ≡ (n - 1) * suc more + suc more = omega arith in
+        (more, enough, subst (λ j. j * suc more ≤ 64) (sym width) (omega arith))
+
+pub collecting_starts : (n value : ℕ) → 2 ≤ n → n ≤ 32 → value < 2 ^ 32 → Collecting n value [] value
+collecting_starts n value some few short =
+    let is : chunk_limit (n - 1) ≡ suc (chunk_limit (n - 1) - 1) = limit_is (n - 1) (omega arith) in
+    let enough : 64 ≤ (n - 1) * suc (chunk_limit (n - 1) - 1) = subst (λ k. 64 ≤ (n - 1) * k) is (limit_is_enough (n - 1) (omega arith)) in
+    let fit = chunks_fit n some few in
+    record {
+      permitted = chunk_limit (n - 1) - 1;
+      whole = ap (λ k. tail (n - 1) k value) is;
+      below = omega (arith, short, pow_mono enough);
+      more = fit.0;
+      short = omega (arith, short, pow_mono fit.1);
+      room = omega (arith, fit.2);
+    }
+
+pub collecting_room : (n value : ℕ) (chunks : List Bool) (rest : ℕ) → Collecting n value chunks rest → length chunks + n ≤ 64
+collecting_room n value chunks rest c = let some : n * suc c.more ≡ n + n * c.more = omega arith in omega (arith, c.room)
+
+pub collecting_goes_on : (n value : ℕ) (chunks next : List Bool) (rest : ℕ) → 2 ≤ n → n ≤ 32 → 2 ^ (n - 1) ≤ rest → Collecting n value chunks rest → next ≡ chunks ++ bits_of n (chunk n rest) → Collecting n value next (rest / 2 ^ (n - 1))
+collecting_goes_on n value chunks next rest some few le c next_is =
+    let k = another (n - 1) c.permitted rest le c.below in
+    let j = another (n - 1) c.more rest le c.short in
+    let len : length next ≡ length chunks + n = ap length next_is ∙ length-append chunks (bits_of n (chunk n rest)) ∙ ap (λ i. length chunks + i) (length-bits_of n (chunk n rest)) in
+    record {
+      permitted = k.0;
+      whole = chunks_left n value rest c.permitted k.0 chunks some few le c.whole k.1 ∙ ap (λ (s : List Bool). s ++ tail (n - 1) (suc k.0) (rest / 2 ^ (n - 1))) (sym next_is);
+      below = shr_lt ((n - 1) * suc k.0) (n - 1) (next_chunk (n - 1) c.permitted k.0 rest k.1 c.below);
+      more = j.0;
+      short = shr_lt ((n - 1) * suc j.0) (n - 1) (next_chunk (n - 1) c.more j.0 rest j.1 c.short);
+      room = subst (λ i. i + n * suc j.0 ≤ 64) (sym len) (next_room n c.more j.0 (length chunks) j.1 c.room);
+    }
+
+pub collecting_ends : (n value : ℕ) (chunks : List Bool) (rest : ℕ) → 2 ≤ n → rest < 2 ^ (n - 1) → Collecting n value chunks rest → chunks ++ bits_of n rest ≡ shortest n value
+collecting_ends n value chunks rest some lt c =
+    sym (c.whole ∙ ap (λ (s : List Bool). chunks ++ s) (tail_last (n - 1) c.permitted rest lt ∙ sym (last_bits n rest some lt)))

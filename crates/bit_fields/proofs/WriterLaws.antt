@@ -104,6 +104,16 @@ lost_more a b s t p = record {
   front = λ k. let f = p.front k in (f.0 ++ t, sym (append_assoc (bits_of_bytes (known_bytes b.outgoing.bytes)) f.0 t) ∙ ap (λ (x : List Bool). x ++ t) f.1 ∙ append_assoc (written a) s t);
 }
 
+-- what is held goes to the sink, or is lost, behind some of what is to be written
+pub wrote_no_more : (a b c : Writer) (s : List Bool) → Wrote a s b → Wrote b [] c → Wrote a s c
+wrote_no_more a b c s p q = subst (λ (x : List Bool). Wrote a x c) (append-nil s) (wrote_then_wrote a b c s [] p q)
+
+pub lost_between : (a b c : Writer) (s t all : List Bool) → s ++ t ≡ all → Wrote a s b → Lost b [] c → Lost a all c
+lost_between a b c s t all is p q = subst (λ (x : List Bool). Lost a x c) (ap (λ (x : List Bool). x ++ t) (append-nil s) ∙ is) (lost_more a c (s ++ []) t (wrote_then_lost a b c s [] p q))
+
+pub wrote_in_parts : (a b c : Writer) (s t all : List Bool) → s ++ t ≡ all → Wrote a s b → Wrote b t c → Wrote a all c
+wrote_in_parts a b c s t all is p q = subst (λ (x : List Bool). Wrote a x c) is (wrote_then_wrote a b c s t p q)
+
 pub wrote_then : (a b c : Writer) (s t : List Bool) (r : Result (Unit {0}) Fault) → Wrote a s b → Writes t b r c → Writes (s ++ t) a r c
 wrote_then a b c s t (Ok _) p q = wrote_then_wrote a b c s t p q
 wrote_then a b c s t (Err Write) p q = wrote_then_lost a b c s t p q

@@ -5,3 +5,4 @@ pub mod Inside
 pub mod Opening
 pub mod Ending
 pub mod Writer
+pub mod Short

@@ -1,5 +1,6 @@
-ghost use Rattle.std.specs.Prelude.{◌≡◌, ◌+◌, ◌*◌, ◌-◌, ◌<◌, ◌≤◌, ◌^◌, length, false, take, drop, [], OnOk};
+ghost use Rattle.std.specs.Prelude.{ℕ, ◌≡◌, ◌+◌, ◌*◌, ◌-◌, ◌<◌, ◌≤◌, ◌^◌, length, false, take, drop, [], OnOk};
 ghost use Rattle.bit_grammar.specs.Bits.{number};
+ghost use Rattle.bit_fields.specs.Short.{EndsAt, gathered};
 ghost use Rattle.bit_fields.specs.Inflow.{Brings, Misses, Fills, Steps, Drains, DrainsSome, stop_of, shortened, to_drain};
 
 use crate::source::{Source, SourceFailed};
@@ -130,7 +131,7 @@ impl<S: Source> Inflow<S> {
     #[cold]
     #[inline(never)]
     pub fn fill(&mut self, n: u32) -> Result<(), Missing>
-        requires { n ≤ 32 }
+        requires { n ≤ 57 }
         ensures { Fills n self.old self.new result }
     {
         while self.window.len() < n {
@@ -158,6 +159,32 @@ impl<S: Source> Inflow<S> {
         ensures { result ≡ number (take n self.now.window) }
     {
         self.window.peek(n)
+    }
+
+    /// How many bits the number in chunks of n bits at the front takes, where it takes at most four chunks and zeros stand
+    /// behind the window; 65 where it takes more.
+    #[inline(always)]
+    pub fn number_bits(&self, n: u32) -> u32
+        requires some { 2 ≤ n }
+        requires few { n ≤ 14 }
+        ensures ends { result ≤ 64 → EndsAt n result (number self.now.window) }
+        ensures some { 0 < result }
+    {
+        self.window.number_bits(n)
+    }
+
+    /// Takes the payloads of the chunks of n bits in so many bits, at most four, one above the other.
+    #[inline(always)]
+    pub fn take_number(&mut self, n: u32, bits: u32) -> u64
+        requires some { 2 ≤ n }
+        requires few { n ≤ 14 }
+        requires most { bits ≤ 56 }
+        requires there { bits ≤ length self.old.window }
+        ensures value { (count : ℕ) → count ≤ 4 → bits ≡ n * count → result ≡ gathered (n - 1) count (number self.old.window) }
+        ensures rest { self.new ≡ record self.old { window = drop bits self.old.window } }
+        ensures loaded { self.old.loaded ≤ 2 ^ 35 }
+    {
+        self.window.take_number(n, bits)
     }
 
     /// Drops the bits that are in the window.

@@ -2,7 +2,8 @@ ghost use Rattle.std.specs.Prelude.{◌≡◌, ◌+◌, ◌*◌, ◌-◌, ◌<�
 ghost use Rattle.bit_grammar.specs.Fields.{fixed, vbr, char6, align32, byte, character, chunks, chunk_limit, zeros};
 ghost use Rattle.bit_grammar.specs.Grammar.{at, test};
 ghost use Rattle.bit_grammar.specs.Input.{version, offset, wrapper, any_bits, inner_magic};
-ghost use Rattle.bit_fields.specs.Reader.{Extent, Takes, Why, IsOnly, NeedsNoMemory, within, told_by, stopped};
+ghost use Rattle.bit_fields.specs.Reader.{Extent, Takes, Took, Why, IsOnly, NeedsNoMemory, within, told_by, stopped};
+ghost use Rattle.bit_fields.specs.Short.{TookNothing};
 ghost use Rattle.bit_fields.specs.Opening.{fresh, Opened, Declines, Opens, wrapper_told};
 ghost use Rattle.bit_fields.specs.Ending.{reach_of, Looks, Closes, IsThrough};
 ghost use Rattle.bit_fields.specs.Inside.{part_of, gap_of, above, stopped_at, fault_of, TookZeros, TookGap};
@@ -17,6 +18,9 @@ use std::marker::Model;
 
 /// The number that the first four bytes of a wrapped input spell.
 const WRAPPER_MAGIC: u64 = 0x0B17_C0DE;
+
+/// The greatest width of chunks of which four are read at once.
+const MOST_SHORT: u32 = 14;
 
 /// Reads the fields of a stream of bits.
 ///
@@ -363,6 +367,84 @@ impl<S: Source> BitReader<S> {
         requires few { n ≤ 32 }
         ensures takes { Takes (vbr n) self.old result self.new }
         ensures only { IsOnly (vbr n) self.old result self.new }
+        ensures memory { NeedsNoMemory result }
+        ensures stays { OnErr result (self.new.position ≡ self.old.position) }
+    {
+        match self.short_vbr(n) {
+            Some(value) => Ok(value),
+            None => self.long_vbr(n),
+        }
+    }
+
+    /// Takes a number in chunks of n bits, where it takes at most four of them and they are all in the window.
+    #[inline(always)]
+    fn short_vbr(&mut self, n: u32) -> Option<u64>
+        requires some { 2 ≤ n }
+        ensures { MatchOption result (self.new ≡ self.old) (λ value. Took (vbr n) self.old value self.new) }
+    {
+        if n > MOST_SHORT {
+            return None;
+        }
+        let bits = self.inflow.number_bits(n);
+        if bits > self.inflow.held() {
+            return None;
+        }
+        let value = self.inflow.take_number(n, bits);
+        self.position += u64::from(bits);
+        Some(value)
+    }
+
+    /// Reads a number in chunks of n bits that is not whole in the window, or takes more than four chunks.
+    #[inline(always)]
+    fn long_vbr(&mut self, n: u32) -> Result<u64, Fault>
+        requires some { 2 ≤ n }
+        requires few { n ≤ 32 }
+        ensures takes { Takes (vbr n) self.old result self.new }
+        ensures memory { NeedsNoMemory result }
+        ensures stays { OnErr result (self.new.position ≡ self.old.position) }
+    {
+        self.fill_chunks(n)?;
+        match self.short_vbr(n) {
+            Some(value) => Ok(value),
+            None => self.chunk_by_chunk(n),
+        }
+    }
+
+    /// Takes bytes in where the window shows that a chunk of a number is missing, which is then one of the first four. It is
+    /// kept out of the callers, so that these take few instructions where the number is in the window.
+    #[cold]
+    #[inline(never)]
+    fn fill_chunks(&mut self, n: u32) -> Result<(), Fault>
+        requires some { 2 ≤ n }
+        ensures filled { OnOk result (TookNothing self.old self.new) }
+        ensures missed { IfErr result (λ fault. Why (vbr n) self.old fault self.new) }
+        ensures memory { NeedsNoMemory result }
+        ensures stays { self.new.position ≡ self.old.position }
+    {
+        if !self.live {
+            return Err(Fault::Failed);
+        }
+        if n > MOST_SHORT {
+            return Ok(());
+        }
+        let bits = self.inflow.number_bits(n);
+        if bits > 64 {
+            return Ok(());
+        }
+        let start = self.position;
+        match self.inflow.fill(bits) {
+            Ok(()) => Ok(()),
+            Err(missing) => Err(self.miss(missing, start)),
+        }
+    }
+
+    /// Reads a number in chunks of n bits, chunk by chunk.
+    #[cold]
+    #[inline(never)]
+    fn chunk_by_chunk(&mut self, n: u32) -> Result<u64, Fault>
+        requires some { 2 ≤ n }
+        requires few { n ≤ 32 }
+        ensures takes { Takes (vbr n) self.old result self.new }
         ensures memory { NeedsNoMemory result }
         ensures stays { OnErr result (self.new.position ≡ self.old.position) }
     {

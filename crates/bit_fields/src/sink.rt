@@ -119,6 +119,7 @@ impl<W: Write> WriteSink<W> {
 impl<W: Write> Sink for WriteSink<W> {
     ghost outgoing = { λ s. record { bytes = W.contents s.writer; failures = s.failures } };
 
+    #[inline]
     fn put(&mut self, from: &[u8]) -> Result<usize, SinkFailed> {
         if self.failures == u64::MAX {
             return Err(SinkFailed);

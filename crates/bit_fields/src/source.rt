@@ -46,6 +46,7 @@ impl<'a> SliceSource<'a> {
 impl<'a> Source for SliceSource<'a> {
     ghost incoming = { λ s. record { to_come = Some s.rest.now; pulls = s.pulls; failures = 0 } };
 
+    #[inline]
     fn pull(&mut self, into: &mut [u8]) -> Result<usize, SourceFailed> {
         if self.pulls == u64::MAX {
             return Err(SourceFailed);
@@ -86,6 +87,7 @@ impl<R: Read> ReadSource<R> {
 impl<R: Read> Source for ReadSource<R> {
     ghost incoming = { λ s. record { to_come = R.remaining s.reader; pulls = s.pulls; failures = s.failures } };
 
+    #[inline]
     fn pull(&mut self, into: &mut [u8]) -> Result<usize, SourceFailed> {
         if self.pulls == u64::MAX || self.failures == u64::MAX {
             return Err(SourceFailed);

@@ -1,5 +1,6 @@
-ghost use Rattle.std.specs.Prelude.{ℕ, ◌≡◌, ◌+◌, ◌*◌, ◌-◌, ◌<◌, ◌≤◌, ◌^◌, ◌++◌, [], length, take, drop};
+ghost use Rattle.std.specs.Prelude.{ℕ, ◌≡◌, ◌+◌, ◌*◌, ◌/◌, ◌%◌, ◌-◌, ◌<◌, ◌≤◌, ◌^◌, ◌++◌, [], length, take, drop};
 ghost use Rattle.bit_grammar.specs.Bits.{bits_of, number, bits_of_bytes};
+ghost use Rattle.bit_fields.specs.Short.{EndsAt, gathered};
 
 use std::marker::Model;
 
@@ -60,6 +61,39 @@ impl Window {
         value
     }
 
+    /// How many bits the number in chunks of n bits at the front takes, where it takes at most four chunks and zeros stand
+    /// behind the bits that are here; 65 where it takes more.
+    #[inline(always)]
+    pub fn number_bits(&self, n: u32) -> u32
+        requires some { 2 ≤ n }
+        requires few { n ≤ 14 }
+        ensures ends { result ≤ 64 → EndsAt n result (number self.now) }
+        ensures some { 0 < result }
+    {
+        let tops = 1 << (n - 1) | 1 << (2 * n - 1) | 1 << (3 * n - 1) | 1 << (4 * n - 1);
+        let lasts: u64 = tops & !self.word;
+        if lasts == 0 {
+            return 65;
+        }
+        lasts.trailing_zeros() + 1
+    }
+
+    /// Takes the payloads of the chunks of n bits in so many bits, at most four, one above the other.
+    #[inline(always)]
+    pub fn take_number(&mut self, n: u32, bits: u32) -> u64
+        requires some { 2 ≤ n }
+        requires few { n ≤ 14 }
+        requires most { bits ≤ 56 }
+        requires there { bits ≤ length self.old }
+        ensures value { (count : ℕ) → count ≤ 4 → bits ≡ n * count → result ≡ gathered (n - 1) count (number self.old) }
+        ensures rest { self.new ≡ drop bits self.old }
+    {
+        let chunks = self.word & ((1 << bits) - 1);
+        self.word >>= bits;
+        self.held -= bits;
+        four_payloads(chunks, n)
+    }
+
     /// Puts the low n bits of a word behind those that are here.
     pub fn push(&mut self, word: u64, n: u32)
         requires fits { word < 2 ^ n }
@@ -118,4 +152,63 @@ impl Window {
             self.held = held - n;
         }
     }
+
+    /// The low n bits of a word that has no others.
+    pub fn of(word: u64, n: u32) -> Window
+        requires fits { word < 2 ^ n }
+        requires most { n ≤ 64 }
+        ensures { result ≡ bits_of n word }
+    {
+        Window { word, held: n }
+    }
+
+    /// Puts the bits of another window behind those that are here.
+    pub fn append(&mut self, other: Window)
+        requires some { 0 < length other }
+        requires room { length self.old + length other ≤ 64 }
+        ensures { self.new ≡ self.old ++ other }
+    {
+        self.push(other.word, other.held);
+    }
+
+    /// Takes the first n bits away, and answers them.
+    pub fn split(&mut self, n: u32) -> Window
+        requires there { n ≤ length self.old }
+        requires few { n < 64 }
+        ensures front { result ≡ take n self.old }
+        ensures rest { self.new ≡ drop n self.old }
+    {
+        let front = Window {
+            word: self.word & ((1 << n) - 1),
+            held: n,
+        };
+        self.word >>= n;
+        self.held -= n;
+        front
+    }
+}
+
+/// The payloads of the first four chunks of n bits of a word, one above the other.
+#[inline(always)]
+fn four_payloads(word: u64, n: u32) -> u64
+    requires some { 2 ≤ n }
+    requires few { n ≤ 14 }
+    ensures { result ≡ gathered (n - 1) 4 word }
+{
+    let place = n - 1;
+    let mask = (1 << place) - 1;
+    let fourth = (word >> (3 * n)) & mask;
+    let third = above(word >> (2 * n) & mask, fourth, place);
+    let second = above(word >> n & mask, third, place);
+    above(word & mask, second, place)
+}
+
+/// A number below, with another one above it, from a place on.
+#[inline(always)]
+fn above(low: u64, high: u64, place: u32) -> u64
+    requires place { place < 64 }
+    requires fits { low + 2 ^ place * high < 2 ^ 64 }
+    ensures { result ≡ low + 2 ^ place * high }
+{
+    low + (high << place)
 }

@@ -2,7 +2,7 @@ ghost use Rattle.std.specs.Prelude.{◌≡◌, ◌+◌, ◌-◌, ◌*◌, ◌%�
 ghost use Rattle.bit_grammar.specs.Bits.{bits_of};
 ghost use Rattle.bit_grammar.specs.FormatFields.{shortest};
 ghost use Rattle.bit_grammar.specs.Normal.{padding};
-ghost use Rattle.bit_fields.specs.Writer.{Writes};
+ghost use Rattle.bit_fields.specs.Writer.{Wrote, Lost, Writes};
 
 use crate::fault::Fault;
 use crate::sink::{Sink, SinkFailed};
@@ -55,20 +55,22 @@ impl<K: Sink> BitWriter<K> {
         self.sink
     }
 
-    /// Gives the sink the whole bytes that are held, of which it may take some.
-    fn put_some(&mut self) -> Result<(), Fault>
+    /// Gives the sink the first bytes that are held, of which it may take some.
+    #[inline(always)]
+    fn put(&mut self, count: usize) -> Result<(), SinkFailed>
         requires live { self.old.live ≡ true }
-        requires whole { 8 ≤ length self.old.held }
-        ensures writes { Writes [] self.old result self.new }
+        requires some { 0 < count }
+        requires held { 8 * count ≤ length self.old.held }
+        ensures wrote { OnOk result (Wrote self.old [] self.new) }
+        ensures lost { OnErr result (Lost self.old [] self.new) }
         ensures fewer { OnOk result (length self.new.held < length self.old.held) }
         ensures stays { OnErr result (self.new.position ≡ self.old.position) }
     {
         let bytes = self.window.bytes();
-        let count = (self.window.len() / 8) as usize;
         match self.sink.put(&bytes[..count]) {
             Ok(0) => {
                 self.live = false;
-                Err(Fault::Write)
+                Err(SinkFailed)
             }
             Ok(taken) => {
                 self.window.skip_bytes(taken);
@@ -76,22 +78,115 @@ impl<K: Sink> BitWriter<K> {
             }
             Err(SinkFailed) => {
                 self.live = false;
-                Err(Fault::Write)
+                Err(SinkFailed)
             }
         }
     }
 
-    /// Makes room for n bits more.
-    fn make_room(&mut self, n: u32) -> Result<(), Fault>
+    /// Gives the sink all that is held. The position is a multiple of 8.
+    fn put_all(&mut self) -> Result<(), SinkFailed>
         requires live { self.old.live ≡ true }
-        requires few { n ≤ 32 }
-        ensures writes { Writes [] self.old result self.new }
-        ensures room { OnOk result (length self.new.held + n ≤ 64) }
+        requires whole { self.old.position % 8 ≡ 0 }
+        ensures wrote { OnOk result (Wrote self.old [] self.new) }
+        ensures lost { OnErr result (Lost self.old [] self.new) }
+        ensures all { OnOk result (self.new.held ≡ []) }
         ensures stays { OnErr result (self.new.position ≡ self.old.position) }
     {
-        while self.window.len() + n > 64 {
-            self.put_some()?;
+        while self.window.len() > 0 {
+            let bytes = self.window.len() / 8;
+            self.put(bytes as usize)?;
         }
+        Ok(())
+    }
+
+    /// Holds bits for which there is room.
+    #[inline(always)]
+    fn hold(&mut self, bits: Window)
+        requires live { self.old.live ≡ true }
+        requires some { 0 < length bits }
+        requires room { length self.old.held + length bits ≤ 64 }
+        requires position { self.old.position + length bits < 2 ^ 64 }
+        ensures wrote { Wrote self.old bits self.new }
+        ensures held { self.new.held ≡ self.old.held ++ bits }
+    {
+        self.position += u64::from(bits.len());
+        self.window.append(bits);
+    }
+
+    /// Holds as many of the bits as there is room for, and answers the others.
+    fn hold_front(&mut self, bits: Window) -> Window
+        requires live { self.old.live ≡ true }
+        requires most { length bits ≤ 64 }
+        requires more { 64 < length self.old.held + length bits }
+        requires position { self.old.position + length bits < 2 ^ 64 }
+        ensures wrote { Wrote self.old (take (64 - length self.old.held) bits) self.new }
+        ensures full { length self.new.held ≡ 64 }
+        ensures whole { self.new.position % 8 ≡ 0 }
+        ensures rest { result ≡ drop (64 - length self.old.held) bits }
+        ensures some { 0 < length result }
+    {
+        let mut rest = bits;
+        let room = 64 - self.window.len();
+        if room > 0 {
+            self.hold(rest.split(room));
+        }
+        rest
+    }
+
+    /// Holds some of the bits, gives the sink the full window, and holds the others; after a failure the position is
+    /// anywhere.
+    fn hold_in_parts(&mut self, bits: Window) -> Result<(), SinkFailed>
+        requires live { self.old.live ≡ true }
+        requires most { length bits ≤ 64 }
+        requires more { 64 < length self.old.held + length bits }
+        requires position { self.old.position + length bits < 2 ^ 64 }
+        ensures wrote { OnOk result (Wrote self.old bits self.new) }
+        ensures lost { OnErr result (Lost self.old bits self.new) }
+    {
+        let rest = self.hold_front(bits);
+        self.put(8)?;
+        self.put_all()?;
+        self.hold(rest);
+        Ok(())
+    }
+
+    /// Writes bits for which there is no room. It is kept out of the callers, so that these take few instructions where
+    /// there is room.
+    #[cold]
+    #[inline(never)]
+    fn overflow(&mut self, bits: Window) -> Result<(), SinkFailed>
+        requires live { self.old.live ≡ true }
+        requires most { length bits ≤ 64 }
+        requires more { 64 < length self.old.held + length bits }
+        requires position { self.old.position + length bits < 2 ^ 64 }
+        ensures wrote { OnOk result (Wrote self.old bits self.new) }
+        ensures lost { OnErr result (Lost self.old bits self.new) }
+        ensures stays { OnErr result (self.new.position ≡ self.old.position) }
+    {
+        let start = self.position;
+        match self.hold_in_parts(bits) {
+            Ok(()) => Ok(()),
+            Err(SinkFailed) => {
+                self.position = start;
+                Err(SinkFailed)
+            }
+        }
+    }
+
+    /// Writes bits, at a position below the last ones that a number counts.
+    #[inline(always)]
+    fn append(&mut self, bits: Window) -> Result<(), SinkFailed>
+        requires live { self.old.live ≡ true }
+        requires some { 0 < length bits }
+        requires position { self.old.position + length bits < 2 ^ 64 }
+        ensures wrote { OnOk result (Wrote self.old bits self.new) }
+        ensures lost { OnErr result (Lost self.old bits self.new) }
+        ensures stays { OnErr result (self.new.position ≡ self.old.position) }
+    {
+        if self.window.len() + bits.len() > 64 {
+            return self.overflow(bits);
+        }
+        self.hold(bits);
         Ok(())
     }
 
@@ -106,10 +201,10 @@ impl<K: Sink> BitWriter<K> {
         ensures writes { Writes (bits_of n value) self.old result self.new }
         ensures stays { OnErr result (self.new.position ≡ self.old.position) }
     {
-        self.make_room(n)?;
-        self.window.push(value, n);
-        self.position += u64::from(n);
-        Ok(())
+        match self.append(Window::of(value, n)) {
+            Ok(()) => Ok(()),
+            Err(SinkFailed) => Err(Fault::Write),
+        }
     }
 
     /// Writes a number of n bits, n from 1 to 32, the lowest bit first.
@@ -128,23 +223,65 @@ impl<K: Sink> BitWriter<K> {
     }
 
     /// Writes a number in chunks of n bits, as few as it takes; after a failure the position is anywhere.
-    fn chunks(&mut self, n: u32, value: u64) -> Result<(), Fault>
+    fn chunks(&mut self, n: u32, value: u64) -> Result<(), SinkFailed>
         requires live { self.old.live ≡ true }
         requires some { 2 ≤ n }
         requires few { n ≤ 32 }
         requires position { self.old.position < 2 ^ 63 }
-        ensures { Writes (shortest n value) self.old result self.new }
+        ensures wrote { OnOk result (Wrote self.old (shortest n value) self.new) }
+        ensures lost { OnErr result (Lost self.old (shortest n value) self.new) }
     {
         let more = 1 << (n - 1);
         let mut rest = value;
         while rest >= more {
-            self.field(n, (rest & (more - 1)) + more)?;
+            self.append(Window::of((rest & (more - 1)) + more, n))?;
             rest >>= n - 1;
         }
-        self.field(n, rest)
+        self.append(Window::of(rest, n))?;
+        Ok(())
+    }
+
+    /// Writes a number whose chunks are possibly too many for a window. It is kept out of the callers.
+    #[cold]
+    #[inline(never)]
+    fn long_vbr(&mut self, n: u32, value: u64) -> Result<(), SinkFailed>
+        requires live { self.old.live ≡ true }
+        requires some { 2 ≤ n }
+        requires few { n ≤ 32 }
+        requires position { self.old.position < 2 ^ 63 }
+        ensures wrote { OnOk result (Wrote self.old (shortest n value) self.new) }
+        ensures lost { OnErr result (Lost self.old (shortest n value) self.new) }
+        ensures stays { OnErr result (self.new.position ≡ self.old.position) }
+    {
+        let start = self.position;
+        match self.chunks(n, value) {
+            Ok(()) => Ok(()),
+            Err(SinkFailed) => {
+                self.position = start;
+                Err(SinkFailed)
+            }
+        }
+    }
+
+    /// Writes the chunks of a number of 32 bits, or of a longer one.
+    #[inline(always)]
+    fn any_vbr(&mut self, n: u32, value: u64) -> Result<(), SinkFailed>
+        requires live { self.old.live ≡ true }
+        requires some { 2 ≤ n }
+        requires few { n ≤ 32 }
+        requires position { self.old.position < 2 ^ 63 }
+        ensures wrote { OnOk result (Wrote self.old (shortest n value) self.new) }
+        ensures lost { OnErr result (Lost self.old (shortest n value) self.new) }
+        ensures stays { OnErr result (self.new.position ≡ self.old.position) }
+    {
+        if value >= 1 << 32 {
+            return self.long_vbr(n, value);
+        }
+        self.append(chunks_of(n, value))
     }
 
     /// Writes a number in chunks of n bits, n from 2 to 32, as few as it takes.
+    #[inline(always)]
     pub fn vbr(&mut self, n: u32, value: u64) -> Result<(), Fault>
         requires some { 2 ≤ n }
         requires few { n ≤ 32 }
@@ -155,16 +292,9 @@ impl<K: Sink> BitWriter<K> {
         if !self.live {
             return Err(Fault::Failed);
         }
-        if value < 1 << (n - 1) {
-            return self.field(n, value);
-        }
-        let start = self.position;
-        match self.chunks(n, value) {
+        match self.any_vbr(n, value) {
             Ok(()) => Ok(()),
-            Err(fault) => {
-                self.position = start;
-                Err(fault)
-            }
+            Err(SinkFailed) => Err(Fault::Write),
         }
     }
 
@@ -194,9 +324,30 @@ impl<K: Sink> BitWriter<K> {
         if !self.live {
             return Err(Fault::Failed);
         }
-        while self.window.len() > 0 {
-            self.put_some()?;
+        match self.put_all() {
+            Ok(()) => Ok(()),
+            Err(SinkFailed) => Err(Fault::Write),
         }
-        Ok(())
     }
+}
+
+/// The chunks of n bits that spell a number of 32 bits, as few as it takes.
+#[inline(always)]
+fn chunks_of(n: u32, value: u64) -> Window
+    requires some { 2 ≤ n }
+    requires few { n ≤ 32 }
+    requires short { value < 2 ^ 32 }
+    ensures spelled { result ≡ shortest n value }
+    ensures least { 0 < length result }
+    ensures most { length result ≤ 64 }
+{
+    let more = 1 << (n - 1);
+    let mut chunks = Window::new();
+    let mut left = value;
+    while left >= more {
+        chunks.push((left & (more - 1)) + more, n);
+        left >>= n - 1;
+    }
+    chunks.push(left, n);
+    chunks
 }

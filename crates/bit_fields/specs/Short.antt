@@ -1,0 +1,24 @@
+-- Numbers in few chunks, as a word holds them: the first chunk lowest, of each chunk the top bit the one that says whether
+-- another one follows.
+use Rattle.std.specs.Prelude.{◌≡◌, ℕ, zero, suc, ◌+◌, ◌*◌, ◌-◌, ◌/◌, ◌%◌, ◌^◌, ◌≤◌}
+use Rattle.bit_grammar.specs.Grammar.{gives}
+use Rattle.bit_fields.specs.Reader.{Reader, Took}
+
+-- the number at the low end of a word takes so many chunks
+abbrev pub Ends : (payload count word : ℕ) → Type 0
+Ends payload zero word = ⊥
+Ends payload (suc zero) word = word / 2 ^ payload % 2 ≡ 0
+Ends payload (suc (suc count)) word = (word / 2 ^ payload % 2 ≡ 1) × Ends payload (suc count) (word / 2 ^ suc payload)
+
+-- the number at the low end of a word takes so many bits, which are at most four chunks
+abbrev pub EndsAt : (n bits word : ℕ) → Type 0
+EndsAt n bits word = (count : ℕ) × (count ≤ 4) × (bits ≡ n * count) × Ends (n - 1) count word
+
+-- the payloads of so many chunks, one above the other
+abbrev pub gathered : (payload count word : ℕ) → ℕ
+gathered payload zero word = 0
+gathered payload (suc count) word = word % 2 ^ payload + 2 ^ payload * gathered payload count (word / 2 ^ suc payload)
+
+-- a call that succeeded and took nothing
+abbrev pub TookNothing : Reader → Reader → Type 0
+TookNothing old new = Took (gives (tt {0})) old (tt {0}) new
