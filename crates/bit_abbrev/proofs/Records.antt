@@ -96,13 +96,13 @@ element_inside (op ∷ ops) zero is = omega arith
 element_inside (op ∷ ops) (suc i) is = omega (arith, element_inside ops i is)
 
 -- an array, where its element stands behind it
-pub from_array : (room : ℕ) (ops : List Op) (a : Reader) (before : List ℕ) (i : ℕ) (b : Reader) (now : List ℕ) (result : Result (Unit {0}) Fault) (new : List ℕ) (c : Reader) → i + 1 < length ops → op_at ops i ≡ Array → CompletesFrom room ops a before i b now
+from_array : (room : ℕ) (ops : List Op) (a : Reader) (before : List ℕ) (i : ℕ) (b : Reader) (now : List ℕ) (result : Result (Unit {0}) Fault) (new : List ℕ) (c : Reader) → i + 1 < length ops → op_at ops i ≡ Array → CompletesFrom room ops a before i b now
     → ((others : List Op) → Adds (values_of room (Array ∷ op_at ops (i + 1) ∷ others)) b result now new c) → Adds (values_of room ops) a result before new c
 from_array room ops a before i b now result new c less is h k =
     let whole : Array ∷ op_at ops (i + 1) ∷ drop (i + 1 + 1) ops ≡ op_at ops i ∷ drop (i + 1) ops = rw (is, from_index ops (i + 1) less) refl in
     (at_index room ops a before i b now (omega (arith, less)) h).so result new c (subst (λ (rest : List Op). Adds (values_of room rest) b result now new c) whole (k (drop (i + 1 + 1) ops)))
 
-pub from_blob : (room : ℕ) (ops : List Op) (a : Reader) (before : List ℕ) (i : ℕ) (b : Reader) (now : List ℕ) (result : Result (Unit {0}) Fault) (new : List ℕ) (c : Reader) → i < length ops → op_at ops i ≡ Blob → CompletesFrom room ops a before i b now
+from_blob : (room : ℕ) (ops : List Op) (a : Reader) (before : List ℕ) (i : ℕ) (b : Reader) (now : List ℕ) (result : Result (Unit {0}) Fault) (new : List ℕ) (c : Reader) → i < length ops → op_at ops i ≡ Blob → CompletesFrom room ops a before i b now
     → ((others : List Op) → Adds (values_of room (Blob ∷ others)) b result now new c) → Adds (values_of room ops) a result before new c
 from_blob room ops a before i b now result new c less is h k =
     (at_index room ops a before i b now less h).so result new c (rw is (k (drop (i + 1) ops)))
@@ -120,6 +120,38 @@ single_counted ops i less m n so =
     counts_one Char6 others m n = refl
     counts_one Array others m n = absurd (m refl)
     counts_one Blob others m n = absurd (n refl)
+
+-- no more of them than operands
+pub singles_within : (ops : List Op) → singles ops ≤ length ops
+singles_within [] = omega arith
+singles_within (Literal v ∷ ops) = omega (arith, singles_within ops)
+singles_within (Fixed w ∷ ops) = omega (arith, singles_within ops)
+singles_within (Vbr w ∷ ops) = omega (arith, singles_within ops)
+singles_within (Char6 ∷ ops) = omega (arith, singles_within ops)
+singles_within (Array ∷ ops) = omega arith
+singles_within (Blob ∷ ops) = omega arith
+
+-- all of them stand before an array or a blob
+counted_array : (ops : List Op) (i : ℕ) → i < length ops → op_at ops i ≡ Array → i + singles (drop i ops) ≡ singles ops → i ≡ singles ops
+counted_array ops i less is so =
+    let none : singles (drop i ops) ≡ 0 = rw (from_index ops i less, is) refl in
+    omega (arith, none, so)
+
+counted_blob : (ops : List Op) (i : ℕ) → i < length ops → op_at ops i ≡ Blob → i + singles (drop i ops) ≡ singles ops → i ≡ singles ops
+counted_blob ops i less is so =
+    let none : singles (drop i ops) ≡ 0 = rw (from_index ops i less, is) refl in
+    omega (arith, none, so)
+
+-- the same, with the room that the single operands leave
+pub array_then : (room : ℕ) (ops : List Op) (a : Reader) (before : List ℕ) (i : ℕ) (b : Reader) (now : List ℕ) (result : Result (Unit {0}) Fault) (new : List ℕ) (c : Reader) → i + 1 < length ops → op_at ops i ≡ Array → i + singles (drop i ops) ≡ singles ops → CompletesFrom (room - singles ops) ops a before i b now
+    → ((others : List Op) → Adds (values_of (room - i) (Array ∷ op_at ops (i + 1) ∷ others)) b result now new c) → Adds (values_of (room - singles ops) ops) a result before new c
+array_then room ops a before i b now result new c less is so h k =
+    from_array (room - singles ops) ops a before i b now result new c less is h (subst (λ (n : ℕ). (others : List Op) → Adds (values_of (room - n) (Array ∷ op_at ops (i + 1) ∷ others)) b result now new c) (counted_array ops i (omega (arith, less)) is so) k)
+
+pub blob_then : (room : ℕ) (ops : List Op) (a : Reader) (before : List ℕ) (i : ℕ) (b : Reader) (now : List ℕ) (result : Result (Unit {0}) Fault) (new : List ℕ) (c : Reader) → i < length ops → op_at ops i ≡ Blob → i + singles (drop i ops) ≡ singles ops → CompletesFrom (room - singles ops) ops a before i b now
+    → ((others : List Op) → Adds (values_of (room - i) (Blob ∷ others)) b result now new c) → Adds (values_of (room - singles ops) ops) a result before new c
+blob_then room ops a before i b now result new c less is so h k =
+    from_blob (room - singles ops) ops a before i b now result new c less is h (subst (λ (n : ℕ). (others : List Op) → Adds (values_of (room - n) (Blob ∷ others)) b result now new c) (counted_blob ops i less is so) k)
 
 none_left : (ops : List Op) (i : ℕ) → length ops ≤ i → drop i ops ≡ []
 none_left [] zero most = refl

@@ -1,6 +1,6 @@
 //! Reading abbreviated records.
 
-ghost use Rattle.std.specs.Prelude.{◌≡◌, ◌+◌, ◌-◌, ◌<◌, ◌≤◌, ℕ, List, [], ◌∷◌, ◌++◌, IfOk, IfErr, OnOk, length, true};
+ghost use Rattle.std.specs.Prelude.{◌≡◌, ◌+◌, ◌-◌, ◌<◌, ◌≤◌, ℕ, List, [], ◌∷◌, ◌++◌, IfOk, IfErr, OnOk, length, true, false};
 ghost use Rattle.std.specs.List.{AllByRecursion};
 ghost use Rattle.bit_grammar.specs.Grammar.{gives, repeat};
 ghost use Rattle.bit_grammar.specs.Fields.{fixed, vbr, char6, align32, byte};
@@ -27,6 +27,14 @@ fn singles(ops: &[Op]) -> u64
         count += 1;
     }
     count
+}
+
+/// Whether there is room for the values of the single operands. They are counted only where the list is longer than that.
+fn have_room(ops: &[Op], room: u64) -> bool
+    ensures yes { result ≡ true → singles ops.now ≤ room }
+    ensures no { result ≡ false → room < singles ops.now }
+{
+    ops.len() as u64 <= room || singles(ops) <= room
 }
 
 /// Reads the field of an operand that stands for one value.
@@ -207,7 +215,7 @@ fn read_blob<S: Source>(
     reader.pad()
 }
 
-/// Reads the values of operands, where an array or a blob has room for so many.
+/// Reads the values of operands, with room for so many.
 fn read_values<S: Source>(
     reader: &mut BitReader<S>,
     room: u64,
@@ -217,13 +225,14 @@ fn read_values<S: Source>(
     requires elements { (i : ℕ) → op_at ops.now i ≡ Array → IsElement (op_at ops.now (i + 1)) }
     requires lawful { AllByRecursion HasLawfulValue ops.now }
     requires live { reader.old.live ≡ true }
-    ensures adds { Adds (values_of room ops.now) reader.old result values.old.items values.new.items reader.new }
-    ensures few { OnOk result (length values.new.items ≤ length values.old.items + (singles ops.now + room)) }
+    requires fits { singles ops.now ≤ room }
+    ensures adds { Adds (values_of (room - singles ops.now) ops.now) reader.old result values.old.items values.new.items reader.new }
+    ensures few { OnOk result (length values.new.items ≤ length values.old.items + room) }
 {
     for (index, op) in ops.iter().enumerate() {
         match op {
-            Op::Array => return read_array(reader, room, ops[index + 1], values),
-            Op::Blob => return read_blob(reader, room, values),
+            Op::Array => return read_array(reader, room - index as u64, ops[index + 1], values),
+            Op::Blob => return read_blob(reader, room - index as u64, values),
             _ => {}
         }
         let value = read_scalar(reader, *op)?;
@@ -250,15 +259,14 @@ fn read_record<S: Source>(
     let [first, others @ ..] = ops else {
         unreachable!();
     };
-    let singles = singles(others);
-    if singles > room {
+    if !have_room(others, room) {
         return Err(reader.fail(Fault::Refused {
             reason: Reason::TooManyValues,
             bit: at,
         }));
     }
     let code = read_scalar(reader, *first)?;
-    read_values(reader, room - singles, others, values)?;
+    read_values(reader, room, others, values)?;
     Ok(code)
 }
 
