@@ -24,9 +24,9 @@ use Rattle.bit_tree.specs.declared.frame.Frame.{Frame}
 use Rattle.bit_tree.specs.declared.machine.Found.{Found}
 use Rattle.bit_tree.specs.declared.machine.Machine.{Machine}
 use Rattle.bit_tree.specs.FrameView.{frame_shown, frames_onto, frames_shown, HaveIds}
-use Rattle.bit_tree.specs.MachineView.{machine_shown, found_shown, gave, Leaves}
+use Rattle.bit_tree.specs.MachineView.{machine_shown, found_shown, lent, gave, Leaves}
 use Rattle.bit_tree.specs.Coming.{over as over_stage}
-use Rattle.bit_tree.specs.Coming.{failed, Gives, Ends, Breaks, Stops, before, end_at, end_by, told_of}
+use Rattle.bit_tree.specs.Coming.{failed, Goes, Gives, Ends, Breaks, Stops, before, end_at, end_by, told_of}
 use Rattle.bit_tree.specs.Events.{stage_of, coming_of, IsEvents, Over, Shuts, Begun, Declines}
 use Rattle.bit_tree.proofs.Beginnings.{outlook_begun, outlook_declined}
 
@@ -116,7 +116,7 @@ stops limits head m new found next_found a b c h s = record { went = rw h.1.was_
 -- an event came
 pub gives : (limits : Limits) (head : Head) (m new : Machine) (found : Option Found) (next_found : Found) (a b c : Reader) → Going limits m found a b
     → Took (step limits (machine_shown m)) b (gave new next_found) c → Leaves limits.depth m next_found new → b.position < c.position → c.position < 2 ^ 64
-    → Gives (coming_of false limits head m found a) (found_shown new.values.items next_found) (coming_of false limits head new (Some next_found) c)
+    → Gives (coming_of false limits head m found a) (found_shown new next_found) (coming_of false limits head new (Some next_found) c)
 gives limits head m new found next_found a b c h took leaves forward below = record {
   went = rw h.1.was_live refl;
   goes = rw took.live refl;
@@ -131,11 +131,11 @@ gives limits head m new found next_found a b c h took leaves forward below = rec
   told = λ tells. told tells (h.1.goes_on.tells tells);
 }
   where
-    told : TellsBytes a → TellsBytes b → told_of limits a.extent (machine_shown m) a.position a.left ≡ before (found_shown new.values.items next_found) (told_of limits c.extent (machine_shown new) c.position c.left)
+    told : TellsBytes a → TellsBytes b → told_of limits a.extent (machine_shown m) a.position a.left ≡ before (found_shown new next_found) (told_of limits c.extent (machine_shown new) c.position c.left)
     told tells_a tells_b =
         let read : reading (step limits (machine_shown m)) a.position a.left ≡ Ok (gave new next_found, c.position, c.left) = subst (λ (left : List Bool). reading (step limits (machine_shown m)) a.position left ≡ Ok (gave new next_found, c.position, c.left)) (h.1.left tells_a) (subst (λ (p : ℕ). reading (step limits (machine_shown m)) p b.left ≡ Ok (gave new next_found, c.position, c.left)) h.1.position (took.reads tells_b)) in
-        told_event limits a.extent (machine_shown m) (machine_shown new) a.position c.position a.left c.left (found_shown new.values.items next_found) (wide m.frames.items h.0.ids) (not_done limits m found a b h tells_a) read
-        ∙ ap (λ (e : Extent). before (found_shown new.values.items next_found) (told_of limits e (machine_shown new) c.position c.left)) (sym (took.extent tells_b ∙ h.1.extent tells_a))
+        told_event limits a.extent (machine_shown m) (machine_shown new) a.position c.position a.left c.left (found_shown new next_found) (wide m.frames.items h.0.ids) (not_done limits m found a b h tells_a) read
+        ∙ ap (λ (e : Extent). before (found_shown new next_found) (told_of limits e (machine_shown new) c.position c.left)) (sym (took.extent tells_b ∙ h.1.extent tells_a))
 
 -- no event came
 pub misses : (limits : Limits) (head : Head) (m new : Machine) (found next_found : Option Found) (a b c : Reader) (fault : Fault) → Going limits m found a b
@@ -240,12 +240,20 @@ not_over : {is_over : Bool} {limits : Limits} {m : Machine} {found : Option Foun
 not_over {limits = limits} {m = m} {found = found} {r = r} e h = subst (λ (b : Bool). Inv b limits m found r) e h
 
 -- an event came
-pub kept_gives : (is_over : Bool) (limits : Limits) (head : Head) (m new : Machine) (found : Option Found) (next_found : Found) (a b c : Reader) (outside : Bool) → is_over ≡ false → Inv is_over limits m found a
+kept_gives : (is_over : Bool) (limits : Limits) (head : Head) (m new : Machine) (found : Option Found) (next_found : Found) (a b c : Reader) (outside : Bool) → is_over ≡ false → Inv is_over limits m found a
     → (vec_len m.frames ≡ 0 → outside ≡ true) → Shuts outside a (Ok false) b → Took (step limits (machine_shown m)) b (gave new next_found) c → Leaves limits.depth m next_found new → b.position < c.position → c.position < 2 ^ 64
-    → Gives (coming_of is_over limits head m found a) (found_shown new.values.items next_found) (coming_of is_over limits head new (Some next_found) c)
+    → Gives (coming_of is_over limits head m found a) (found_shown new next_found) (coming_of is_over limits head new (Some next_found) c)
 kept_gives is_over limits head m new found next_found a b c outside e h out shut took leaves forward below =
-    subst (λ (x : Bool). Gives (coming_of x limits head m found a) (found_shown new.values.items next_found) (coming_of x limits head new (Some next_found) c)) (sym e)
+    subst (λ (x : Bool). Gives (coming_of x limits head m found a) (found_shown new next_found) (coming_of x limits head new (Some next_found) c)) (sym e)
     (gives limits head m new found next_found a b c (not_over e h, shut.0, λ none. shut.1 (out none)) took leaves forward below)
+
+-- an event came, and it is lent
+pub kept_goes : (is_over : Bool) (limits : Limits) (head : Head) (m new : Machine) (found : Option Found) (next_found : Found) (a b c : Reader) (outside : Bool) → is_over ≡ false → Inv is_over limits m found a
+    → (vec_len m.frames ≡ 0 → outside ≡ true) → Shuts outside a (Ok false) b → Took (step limits (machine_shown m)) b (gave new next_found) c → Leaves limits.depth m next_found new → b.position < c.position → c.position < 2 ^ 64
+    → Goes (coming_of is_over limits head m found a) (Ok (lent new next_found)) (coming_of is_over limits head new (Some next_found) c)
+kept_goes is_over limits head m new found next_found a b c outside e h out shut took leaves forward below =
+    subst (λ (o : Option Event). Goes (coming_of is_over limits head m found a) (Ok o) (coming_of is_over limits head new (Some next_found) c)) (sym leaves.lends)
+    (kept_gives is_over limits head m new found next_found a b c outside e h out shut took leaves forward below)
 
 -- no event came
 pub kept_misses : (is_over : Bool) (limits : Limits) (head : Head) (m new : Machine) (found : Option Found) (a b c : Reader) (outside : Bool) (fault : Fault) → is_over ≡ false → Inv is_over limits m found a

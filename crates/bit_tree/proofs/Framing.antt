@@ -1,5 +1,6 @@
 -- Records and definitions in a block, as its frame holds them.
-use Rattle.std.proofs.Common.{◌≡◌, ◌≢◌, ◌⊎◌, ℕ, ◌+◌, ◌-◌, ◌^◌, ◌<◌, Bool, true, false, cond, eqb, ltb, List, [], ◌∷◌, ◌++◌, length, get_or, Option, Some, None, Result, Ok, Err, is_some, refl, sym, ap, ◌∙◌, subst, slice_get, eq-eqb, inl, inr}
+use Rattle.std.proofs.Common.{◌≡◌, ◌≢◌, ◌⊎◌, ℕ, ◌+◌, ◌-◌, ◌^◌, ◌<◌, Bool, true, false, cond, eqb, ltb, List, [], ◌∷◌, ◌++◌, length, length-append, get_or, Option, Some, None, Result, Ok, Err, is_some, refl, sym, ap, ◌∙◌, subst, slice_get, eq-eqb, arith, inl, inr}
+use Rattle.std.proofs.Math.Seq.{get_or-append_seam}
 use Rattle.std.proofs.Math.Path.{fun_ext}
 use Rattle.std.proofs.lemmas.Bool.{ne_eqb, lt-ltb}
 use borrow.Author.Tests.{ltb-true}
@@ -11,7 +12,7 @@ use Rattle.bit_grammar.specs.declared.reason.Reason.TheVariants.{UndefinedAbbrev
 use Rattle.bit_grammar.specs.Grammar.{Grammar, at, gives, refuses, test, choose, ◌>>◌}
 use Rattle.bit_grammar.specs.Record.{Entry, unabbreviated, abbreviated}
 use Rattle.bit_grammar.specs.Forest.{set_bid, names_block}
-use Rattle.bit_grammar.specs.Blocks.{Handed, Scope, BlockInfo, defined, defined_at, may_define, define, entry, describe, record_after}
+use Rattle.bit_grammar.specs.Blocks.{Handed, Scope, BlockInfo, Table, made_for, defined, defined_at, may_define, define, entry, describe, record_after}
 use Rattle.bit_grammar.specs.Machine.{scope_of}
 use Rattle.bit_fields.specs.declared.fault.Fault.{Fault}
 use Rattle.bit_fields.specs.declared.fault.Fault.TheVariants.{Refused, Memory}
@@ -23,7 +24,7 @@ use Rattle.bit_abbrev.specs.Values.{Recorded}
 use Rattle.bit_tree.proofs.Telling.{told, why, andThen, breaks, ends, here, without_memory}
 use Rattle.bit_tree.specs.declared.frame.Describing.{Describing}
 use Rattle.bit_tree.specs.declared.frame.Frame.{Frame}
-use Rattle.bit_tree.specs.FrameView.{info_shown, named, frame_shown}
+use Rattle.bit_tree.specs.FrameView.{info_shown, named, frame_shown, last_one, newest_for, newest_of, newest_in}
 
 -- ---- definitions
 
@@ -34,6 +35,30 @@ put_described f d id ops made (Ok x) is described puts = λ handed.
     let same : definitions_at made ≡ defined_at id ops (definitions_at d.made) = fun_ext puts in
     rw (is, described, same) refl
 put_described f d id ops made (Err e) is described puts = tt
+
+last_put : (xs : List (List Op)) (x : List Op) → last_one (xs ++ x ∷ []) ≡ Some x
+last_put xs x =
+    let one : length (xs ++ x ∷ []) ≡ length xs + 1 = length-append xs (x ∷ []) in
+    slice_get-get_or (xs ++ x ∷ []) (length (xs ++ x ∷ []) - 1) x (omega (arith, one))
+    ∙ ap (λ (i : ℕ). Some (get_or (xs ++ x ∷ []) i x)) (omega (arith, one))
+    ∙ ap Some (get_or-append_seam xs x [] x)
+
+newest_made : (described : Option ℕ) (ops : List Op) (made : Table) → is_some described ≡ true → newest_for described (made_for described ops made) ≡ Some ops
+newest_made None ops made h = absurd cc
+newest_made (Some id) ops made h = rw (eq-eqb id id refl) (last_put (made id) ops)
+
+abbrev newest_here : Scope → Option (List Op)
+newest_here scope = newest_of scope.definitions scope.info
+
+newest_defined : (info : Option BlockInfo) (ops : List Op) (definitions : List (List Op)) (handed : Handed) → may_define info ≡ true → newest_here (defined info ops (record { definitions = definitions; info = info; handed = handed })) ≡ Some ops
+newest_defined None ops definitions handed h = last_put definitions ops
+newest_defined (Some info) ops definitions handed h = newest_made info.described ops info.made h
+
+-- the definition that was put is the newest one
+pub newest_put : (f new : Frame) (ops : List Op) → may_define (info_shown f.info) ≡ true → ((handed : Handed) → scope_of (frame_shown new) handed ≡ defined (info_shown f.info) ops (scope_of (frame_shown f) handed)) → newest_in (frame_shown new) ≡ Some ops
+newest_put f new ops may puts =
+    let some : Handed = record { table = λ id. []; used = 0 } in
+    ap newest_here (puts some) ∙ newest_defined (info_shown f.info) ops f.definitions some may
 
 -- ---- records
 

@@ -1,5 +1,9 @@
 -- One step of the machine: what its parts take, by the rule for a step.
-use Rattle.std.proofs.Common.{◌≡◌, ℕ, zero, suc, ◌+◌, ◌<◌, ◌≤◌, Bool, true, false, not, is_some, eqb, ltb, List, [], ◌∷◌, ◌++◌, length, get_or, take, set, Option, Some, None, Result, Ok, is_none, refl, sym, ap, ◌∙◌, subst, arith}
+use Rattle.std.proofs.Common.{◌≡◌, ℕ, zero, suc, ◌+◌, ◌<◌, ◌≤◌, Bool, true, false, not, is_some, eqb, ltb, List, [], ◌∷◌, ◌++◌, length, get_or, take, set, Option, Some, None, Result, Ok, IsSome, is_none, vec_len, refl, sym, ap, ◌∙◌, subst, arith}
+use Rattle.std.specs.Prelude.{unwrap_or}
+use Rattle.std.specs.Option.{option_map}
+use Rattle.std.proofs.lemmas.Bool.{ne_eqb}
+use Rattle.bit_grammar.specs.declared.op.Op.{Op}
 use Rattle.bit_grammar.specs.declared.reason.Reason.TheVariants.{TooDeep, TopLevel, NestedInBlockInfo}
 use Rattle.bit_grammar.specs.Grammar.{Grammar, at, gives, test}
 use Rattle.bit_grammar.specs.Fields.{fixed}
@@ -13,9 +17,11 @@ use Rattle.bit_fields.specs.declared.fault.Fault.TheVariants.{Memory}
 use Rattle.bit_fields.specs.Reader.{Reader, Took, Why, Takes, stopped}
 use Rattle.bit_tree.specs.declared.frame.Frame.{Frame}
 use Rattle.bit_tree.specs.declared.frame.Describing.{Describing}
+use Rattle.bit_tree.specs.declared.machine.Machine.{Machine}
+use Rattle.bit_tree.specs.declared.machine.Found.TheVariants.{Define}
 use Rattle.bit_tree.specs.HeadView.{head_shown}
-use Rattle.bit_tree.specs.FrameView.{info_shown, frame_shown, frames_onto, frames_shown, HaveIds}
-use Rattle.bit_tree.specs.MachineView.{ended, defined_in, noted_in}
+use Rattle.bit_tree.specs.FrameView.{info_shown, frame_shown, newest_in, frames_onto, frames_shown, HaveIds}
+use Rattle.bit_tree.specs.MachineView.{newest, defined_so, Leaves, ended, defined_in, noted_in}
 use Rattle.bit_tree.proofs.Telling.{told, why, answers, andThen, breaks, ends, here, first_rule, second_rule, without_memory}
 
 -- ---- the open blocks
@@ -152,6 +158,10 @@ record_took limit f outer first id handed a mark scope b new t made = rw made (t
 
 -- ---- an item
 
+-- an id that is another one
+pub other_than : (id k : ℕ) → 3 ≤ id → k < 3 → eqb id k ≡ false
+other_than id k most less = ne_eqb id k (λ same. omega (arith, most, less, same))
+
 pub in_missed : (limits : Limits) (h : blocks.BlockHead) (frames : List machine.Frame) (scope : Scope) (a : Reader) (fault : Fault) (b : Reader) → Why (fixed h.width) a fault b → Why (step_in limits h frames scope) a fault b
 unfolding step_in
 in_missed limits h frames scope a fault b w = why (step_in limits h frames scope) a fault b (here a.position refl (breaks w))
@@ -188,6 +198,13 @@ not-not false = refl
 
 pub plain_is : (frames : List Frame) (k : ℕ) (f : Frame) (plain : Bool) (shown : machine.Frame) (outer : List machine.Frame) → length frames ≡ suc k → f ≡ get_or frames k f → is_some f.info ≡ not plain → frames_shown frames ≡ shown ∷ outer → plain ≡ is_none shown.info
 plain_is frames k f plain shown outer n is e split = not-not plain ∙ ap not (sym e) ∙ is_none-shown f.info ∙ ap (λ (x : machine.Frame). is_none x.info) (innermost frames k f shown outer n is split)
+
+-- the newest definition of the innermost block
+pub newest_is : (frames : List Frame) (k : ℕ) (f : Frame) (found : Option (List Op)) → length frames ≡ suc k → f ≡ get_or frames k f → found ≡ newest_in (frame_shown f) → found ≡ newest (frames_shown frames)
+newest_is frames k f found n is same = same ∙ sym (ap newest (frames-some frames k f n is))
+
+pub newest_set : (frames : List Frame) (k : ℕ) (new : Frame) → length frames ≡ suc k → newest (frames_shown (set frames k new)) ≡ newest_in (frame_shown new)
+newest_set frames k new n = ap newest (frames_onto-set frames k new [] n)
 
 -- the machine with another innermost block
 pub set_inside : (frames : List Frame) (k : ℕ) (f new : Frame) (shown : machine.Frame) (outer : List machine.Frame) (handed : Handed) → length frames ≡ suc k → f ≡ get_or frames k f → frames_shown frames ≡ shown ∷ outer → new.head ≡ f.head
@@ -240,6 +257,20 @@ held_end_took frames others f shown outer handed a after b c new is split t same
     let popped = frames-pop frames others f shown outer is split in
     let left : record { frames = frames_shown others; handed = leave (info_shown f.info) handed } ≡ record { frames = outer; handed = leave shown.info handed } = rw (popped.1, ← popped.0) refl in
     end_took shown outer handed a after b c new (subst (λ (x : machine.Frame). Took (end_of_block x.head) a after b) popped.0 t) same (made ∙ left)
+
+-- ---- what a definition leaves
+
+newest_lent : (first after : ℕ) (o : Option (List Op)) → IsSome o → option_map (defined_so first after) o ≡ Some (defined_so first after (unwrap_or o []))
+newest_lent first after None some = absurd cc
+newest_lent first after (Some ops) some = refl
+
+pub defined_leaves : (deepest : ℕ) (old new : Machine) (first after : ℕ) → 0 < vec_len old.frames → vec_len new.frames ≡ vec_len old.frames → new.values.items ≡ old.values.items → IsSome (newest (frames_shown new.frames.items)) → Leaves deepest old (Define first after) new
+defined_leaves deepest old new first after some same held newest_some = record {
+  stands = some;
+  opens = same;
+  holds = held;
+  lends = newest_lent first after (newest (frames_shown new.frames.items)) newest_some;
+}
 
 -- the abbreviation ids of a block that is held have from 1 to 32 bits
 pub ids_at : (frames : List Frame) (k : ℕ) (f : Frame) → k < length frames → f ≡ get_or frames k f → HaveIds frames → (1 ≤ f.head.width) × (f.head.width ≤ 32)

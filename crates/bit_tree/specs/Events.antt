@@ -1,5 +1,5 @@
 -- What is seen of the events of a stream, by what the program keeps.
-use Rattle.std.specs.Prelude.{◌≡◌, ℕ, ◌+◌, ◌<◌, ◌≤◌, ◌%◌, vec_len, Bool, true, false, List, [], Option, Some, None, IsSome, Result, Ok, Err, length}
+use Rattle.std.specs.Prelude.{◌≡◌, ◌+◌, ◌<◌, ◌≤◌, ◌%◌, vec_len, Bool, true, false, [], Option, Some, None, IsSome, Result, Ok, Err, length}
 use Rattle.bit_grammar.specs.Grammar.{at}
 use Rattle.bit_grammar.specs.Blocks.{Limits}
 use Rattle.bit_grammar.specs.Machine as machine
@@ -16,9 +16,9 @@ use Rattle.bit_fields.specs.Opening.{head_told}
 use Rattle.bit_tree.specs.declared.event.Event.{Event}
 use Rattle.bit_tree.specs.declared.machine.Found.{Found}
 use Rattle.bit_tree.specs.declared.machine.Machine.{Machine}
-use Rattle.bit_tree.specs.EventView.{shown}
+use Rattle.bit_tree.specs.EventView.{shown_if_any}
 use Rattle.bit_tree.specs.FrameView.{HaveIds}
-use Rattle.bit_tree.specs.MachineView.{machine_shown, found_shown}
+use Rattle.bit_tree.specs.MachineView.{machine_shown, lent}
 use Rattle.bit_tree.specs.Coming.{Stage, going, over, failed, Coming, end_at, told_of, Goes}
 
 -- ---- what the program keeps
@@ -32,9 +32,9 @@ abbrev pub told_from : (is_over : Bool) → Limits → Machine → Reader → To
 told_from true limits m r = ([], accepted r.position)
 told_from false limits m r = told_of limits r.extent (machine_shown m) r.position r.left
 
-abbrev pub last_of : List ℕ → Option Found → Option machine.Event
-last_of values None = None
-last_of values (Some found) = Some (found_shown values found)
+abbrev pub last_of : Machine → Option Found → Option machine.Event
+last_of m None = None
+last_of m (Some found) = lent m found
 
 abbrev pub coming_of : (is_over : Bool) → Limits → Head → Machine → Option Found → Reader → Coming
 coming_of is_over limits head m found r = record {
@@ -44,7 +44,7 @@ coming_of is_over limits head m found r = record {
   depth = vec_len m.frames;
   deepest = limits.depth;
   held = m.values.items;
-  last = last_of m.values.items found;
+  last = last_of m found;
   position = r.position;
   incoming = r.incoming;
   budget = r.budget;
@@ -63,10 +63,6 @@ pub record IsEvents (is_over : Bool) (limits : Limits) (m : Machine) (found : Op
   pub closed : is_over ≡ true → IsClosed m found
 
 -- ---- events that are lent
-
-abbrev pub shown_if_any : Option Event → Option machine.Event
-shown_if_any None = None
-shown_if_any (Some event) = Some (shown event)
 
 abbrev pub answer_shown : Result (Option Event) Fault → Result (Option machine.Event) Fault
 answer_shown (Ok event) = Ok (shown_if_any event)

@@ -1,6 +1,7 @@
 -- What is seen of an open block of the program.
-use Rattle.std.specs.Prelude.{ℕ, ◌^◌, ◌≤◌, List, [], ◌∷◌, Option, Some, None, nat_lt, if◌then◌else◌}
-use Rattle.bit_grammar.specs.Blocks.{BlockInfo}
+use Rattle.std.specs.Prelude.{ℕ, ◌^◌, ◌≤◌, List, [], ◌∷◌, Option, Some, None, nat_lt, if◌then◌else◌, ◌-◌, length, slice_get}
+use Rattle.bit_grammar.specs.declared.op.Op.{Op}
+use Rattle.bit_grammar.specs.Blocks.{BlockInfo, Table}
 use Rattle.bit_grammar.specs.Machine as machine
 use Rattle.bit_abbrev.specs.Table.{definitions_at}
 use Rattle.bit_tree.specs.HeadView.{head_shown}
@@ -21,6 +22,26 @@ named (id ∷ values) = if nat_lt id (2 ^ 32) then Some id else None
 
 abbrev pub frame_shown : Frame → machine.Frame
 frame_shown f = record { head = head_shown f.head; definitions = f.definitions; info = info_shown f.info }
+
+-- ---- the newest definition
+
+abbrev pub last_one : List (List Op) → Option (List Op)
+last_one definitions = slice_get definitions (length definitions - 1)
+
+abbrev pub newest_for : Option ℕ → Table → Option (List Op)
+newest_for None made = None
+newest_for (Some id) made = last_one (made id)
+
+abbrev pub newest_of : List (List Op) → Option BlockInfo → Option (List Op)
+newest_of definitions None = last_one definitions
+newest_of definitions (Some info) = newest_for info.described info.made
+
+-- The definition that stands last where a block puts one: among those in force, or in a BLOCKINFO block among those that were
+-- made for the block that is described.
+abbrev pub newest_in : machine.Frame → Option (List Op)
+newest_in f = newest_of f.definitions f.info
+
+-- ---- the open blocks
 
 -- open blocks, the outermost first, within others
 abbrev pub frames_onto : List Frame → List machine.Frame → List machine.Frame

@@ -4,7 +4,8 @@ ghost use Rattle.std.specs.Prelude.{◌≡◌, ⊤, ◌%◌, true, IfOk, IfErr};
 ghost use Rattle.std.specs.Borrow.{sem, follows_so};
 ghost use mathlib.Core.Option.{none};
 ghost use Rattle.bit_fields.specs.Opening.{head_told};
-ghost use Rattle.bit_tree.specs.Events.{shown_if_any, Lends, Finds, Shuts, Begun, Declines};
+ghost use Rattle.bit_tree.specs.EventView.{shown_if_any};
+ghost use Rattle.bit_tree.specs.Events.{Lends, Finds, Shuts, Begun, Declines};
 
 use crate::event::Event;
 use crate::machine::{Found, Machine};
@@ -118,7 +119,7 @@ impl<S: Source> Events<S> {
         }
         let found = self
             .machine
-            .step(self.alloc, &mut self.reader, self.limits)?;
+            .step(self.alloc, &mut self.reader, &self.limits)?;
         // Positions are below 2^64 and rise, so that the events end.
         let _position = self.reader.position();
         self.found = Some(found);
@@ -126,12 +127,13 @@ impl<S: Source> Events<S> {
     }
 
     /// The event that was found last.
+    #[inline(always)]
     pub(crate) fn event(&self) -> Option<Event<'_>>
         ensures { shown_if_any result ≡ self.now.last }
     {
         match &self.found {
             None => None,
-            Some(found) => Some(found.event(self.machine.values.as_slice())),
+            Some(found) => found.event(&self.machine),
         }
     }
 

@@ -1,4 +1,5 @@
-ghost use Rattle.std.specs.Prelude.{◌≡◌, ◌-◌, ◌+◌, ◌≤◌, true, [], ℕ, Some, OnOk, IfOk, length};
+ghost use Rattle.std.specs.Prelude.{◌≡◌, ◌-◌, ◌+◌, ◌≤◌, true, [], ℕ, Some, OnOk, IfOk, IsSome, length, unwrap_or};
+ghost use Rattle.std.specs.Option.{option_copied};
 ghost use Rattle.bit_grammar.specs.Grammar.{repeat};
 ghost use Rattle.bit_grammar.specs.Fields.{vbr};
 ghost use Rattle.bit_grammar.specs.Blocks as blocks;
@@ -6,7 +7,7 @@ ghost use Rattle.bit_grammar.specs.Blocks.{Handed, Scope, Table, defined, define
 ghost use Rattle.bit_grammar.specs.Record.{value_count, unabbreviated};
 ghost use Rattle.bit_grammar.specs.Machine.{scope_of};
 ghost use Rattle.bit_fields.specs.Reader.{Takes, NeedsNoMemory, told_by};
-ghost use Rattle.bit_tree.specs.FrameView.{describing_shown, info_shown, named, frame_shown};
+ghost use Rattle.bit_tree.specs.FrameView.{describing_shown, info_shown, named, frame_shown, newest_in};
 
 use crate::heads::{BlockHead, granted, judge, push};
 use bit_abbrev::{Abbrev, InForce, InfoTable, read_abbreviated, read_define};
@@ -42,6 +43,20 @@ impl Frame {
         }
     }
 
+    /// The definition that stands last where one is put: among those in force, or in a BLOCKINFO block among those that were
+    /// made for the block that is described.
+    pub(crate) fn newest(&self) -> Option<&Abbrev>
+        ensures { option_copied result ≡ newest_in (frame_shown self.now) }
+    {
+        match &self.info {
+            None => self.definitions.last(),
+            Some(info) => match info.described {
+                Some(id) => info.made.for_block(id).last(),
+                None => None,
+            },
+        }
+    }
+
     /// Takes a definition: the block's own, or in a BLOCKINFO block one for the block that is described.
     fn put(&mut self, abbrev: Abbrev) -> Result<(), AllocError>
         requires { may_define (info_shown self.old.info) ≡ true }
@@ -58,23 +73,23 @@ impl Frame {
     }
 }
 
-/// Reads a definition, after its id, which began at a bit; answers it and the bit after it.
+/// Reads a definition, after its id, which began at a bit; answers the bit after it. It is the newest one.
 pub(crate) fn define<S: Source>(
     alloc: Global,
     reader: &mut BitReader<S>,
     frame: &mut Frame,
     first: u64,
-) -> Result<(Abbrev, u64), Fault>
+) -> Result<u64, Fault>
     requires { reader.old.live ≡ true }
-    ensures takes { (handed : Handed) → Takes (define first (scope_of (frame_shown frame.old) handed)) reader.old (told_by (λ d. (record { ops = d.0; first = first; after = d.1 }, scope_of (frame_shown frame.new) handed)) result) reader.new }
+    ensures takes { (handed : Handed) → Takes (define first (scope_of (frame_shown frame.old) handed)) reader.old (told_by (λ after. (record { ops = unwrap_or (newest_in (frame_shown frame.new)) []; first = first; after = after }, scope_of (frame_shown frame.new) handed)) result) reader.new }
+    ensures newest { OnOk result (IsSome (newest_in (frame_shown frame.new))) }
     ensures head { frame.new.head ≡ frame.old.head }
 {
     judge(reader, frame.may_define(), Reason::NoBlockSet, first)?;
     let abbrev = read_define(alloc, reader)?;
     let after = reader.position();
-    let copy = granted(reader, abbrev.copy(alloc))?;
     granted(reader, frame.put(abbrev))?;
-    Ok((copy, after))
+    Ok(after)
 }
 
 /// Reads a number of values, of which there is room for so many.

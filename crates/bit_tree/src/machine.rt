@@ -2,12 +2,13 @@ ghost use Rattle.std.specs.Prelude.{◌≡◌, ◌<◌, ◌≤◌, ◌+◌, ◌%
 ghost use Rattle.bit_grammar.specs.Blocks as blocks;
 ghost use Rattle.bit_grammar.specs.Blocks.{enter, leave, info_for};
 ghost use Rattle.bit_grammar.specs.Machine as machine;
-ghost use Rattle.bit_grammar.specs.Machine.{at_start, open_block, open_nested, step_in, step_top, step, scope_of, inside};
+ghost use Rattle.bit_grammar.specs.Machine.{at_start, open_block, open_nested, step_after, step_in, step_top, step, scope_of, inside};
 ghost use Rattle.bit_fields.specs.Reader.{Takes, told_by};
-ghost use Rattle.bit_tree.specs.EventView.{shown};
+ghost use Rattle.bit_tree.specs.EventView.{shown_if_any};
 ghost use Rattle.bit_tree.specs.HeadView.{head_shown};
 ghost use Rattle.bit_tree.specs.FrameView.{info_shown, frame_shown, frames_shown, HaveIds};
-ghost use Rattle.bit_tree.specs.MachineView.{handed_shown, machine_shown, found_shown, gave, Leaves, Innermost, ended, defined_in, noted_in};
+ghost use Rattle.std.specs.Option.{option_copied};
+ghost use Rattle.bit_tree.specs.MachineView.{handed_shown, machine_shown, newest, lent, gave, Leaves, Innermost, ended, defined_in, noted_in};
 
 use crate::event::Event;
 use crate::frame::{Describing, Frame, define, record_after};
@@ -16,8 +17,8 @@ use bit_abbrev::{Abbrev, InfoTable, SharedInfo};
 use bit_fields::{BitReader, Fault, Limits, Reason, Source};
 use std::alloc::{AllocError, Global};
 
-/// An event, without the values of a record.
-#[derive(Drop)]
+/// An event, without what the machine holds of it: the values of a record, and a definition, which is the newest one.
+#[derive(Clone, Copy)]
 pub(crate) enum Found {
     Enter {
         id: u32,
@@ -26,7 +27,6 @@ pub(crate) enum Found {
         body: u64,
     },
     Define {
-        abbrev: Abbrev,
         first: u64,
         after: u64,
     },
@@ -101,20 +101,22 @@ impl Machine {
     }
 
     /// Reads a block's beginning, after its id, which began at a bit. Source: "ENTER_SUBBLOCK Encoding".
+    #[cold]
+    #[inline(never)]
     fn open_block<S: Source>(
         &mut self,
         alloc: Global,
         reader: &mut BitReader<S>,
-        limits: Limits,
+        limits: &Limits,
         first: u64,
     ) -> Result<Found, Fault>
         requires { reader.old.live ≡ true }
-        ensures takes { Takes (open_block limits (frames_shown self.old.frames.items) first (handed_shown self.old)) reader.old (told_by (gave self.new) result) reader.new }
+        ensures takes { Takes (open_block limits.now (frames_shown self.old.frames.items) first (handed_shown self.old)) reader.old (told_by (gave self.new) result) reader.new }
         ensures ids { HaveIds self.old.frames.items → HaveIds self.new.frames.items }
         ensures aligned { OnOk result (vec_len self.new.frames ≡ 0 → reader.new.position % 32 ≡ 0) }
-        ensures depth { vec_len self.old.frames ≤ limits.depth → vec_len self.new.frames ≤ limits.depth }
+        ensures depth { vec_len self.old.frames ≤ limits.now.depth → vec_len self.new.frames ≤ limits.now.depth }
         ensures forward { OnOk result (reader.old.position ≤ reader.new.position) }
-        ensures after { IfOk result (λ found. Leaves limits.depth self.old found self.new) }
+        ensures after { IfOk result (λ found. Leaves limits.now.depth self.old found self.new) }
     {
         let fits = self.frames.len() < limits.depth() as usize;
         judge(reader, fits, Reason::TooDeep, first)?;
@@ -133,17 +135,17 @@ impl Machine {
         &mut self,
         alloc: Global,
         reader: &mut BitReader<S>,
-        limits: Limits,
+        limits: &Limits,
         first: u64,
     ) -> Result<Found, Fault>
         requires live { reader.old.live ≡ true }
         requires some { 0 < vec_len self.old.frames }
-        ensures takes { (f : machine.Frame) (outer : List machine.Frame) → frames_shown self.old.frames.items ≡ f ∷ outer → Takes (open_nested limits f.head outer first (scope_of f (handed_shown self.old))) reader.old (told_by (gave self.new) result) reader.new }
+        ensures takes { (f : machine.Frame) (outer : List machine.Frame) → frames_shown self.old.frames.items ≡ f ∷ outer → Takes (open_nested limits.now f.head outer first (scope_of f (handed_shown self.old))) reader.old (told_by (gave self.new) result) reader.new }
         ensures ids { HaveIds self.old.frames.items → HaveIds self.new.frames.items }
         ensures aligned { OnOk result (vec_len self.new.frames ≡ 0 → reader.new.position % 32 ≡ 0) }
-        ensures depth { vec_len self.old.frames ≤ limits.depth → vec_len self.new.frames ≤ limits.depth }
+        ensures depth { vec_len self.old.frames ≤ limits.now.depth → vec_len self.new.frames ≤ limits.now.depth }
         ensures forward { OnOk result (reader.old.position ≤ reader.new.position) }
-        ensures after { IfOk result (λ found. Leaves limits.depth self.old found self.new) }
+        ensures after { IfOk result (λ found. Leaves limits.now.depth self.old found self.new) }
     {
         let plain = self.is_plain();
         judge(reader, plain, Reason::NestedInBlockInfo, first)?;
@@ -218,31 +220,27 @@ impl Machine {
         let Some(frame) = self.frames.last_mut() else {
             unreachable!();
         };
-        let (abbrev, after) = define(alloc, reader, frame, first)?;
-        Ok(Found::Define {
-            abbrev,
-            first,
-            after,
-        })
+        let after = define(alloc, reader, frame, first)?;
+        Ok(Found::Define { first, after })
     }
 
     /// Reads a record in the innermost block, after its id, which began at a bit.
     fn note<S: Source>(
         &mut self,
         reader: &mut BitReader<S>,
-        limits: Limits,
+        limits: &Limits,
         id: u32,
         first: u64,
     ) -> Result<Found, Fault>
         requires live { reader.old.live ≡ true }
         requires some { 0 < vec_len self.old.frames }
         requires id { 3 ≤ id }
-        ensures takes { (f : machine.Frame) (outer : List machine.Frame) → frames_shown self.old.frames.items ≡ f ∷ outer → Takes (noted_in limits.values f outer first id (handed_shown self.old)) reader.old (told_by (gave self.new) result) reader.new }
+        ensures takes { (f : machine.Frame) (outer : List machine.Frame) → frames_shown self.old.frames.items ≡ f ∷ outer → Takes (noted_in limits.now.values f outer first id (handed_shown self.old)) reader.old (told_by (gave self.new) result) reader.new }
         ensures ids { HaveIds self.old.frames.items → HaveIds self.new.frames.items }
         ensures aligned { OnOk result (vec_len self.new.frames ≡ 0 → reader.new.position % 32 ≡ 0) }
         ensures depth { vec_len self.new.frames ≤ vec_len self.old.frames }
         ensures forward { OnOk result (reader.old.position ≤ reader.new.position) }
-        ensures after { IfOk result (λ found. Leaves limits.depth self.old found self.new) }
+        ensures after { IfOk result (λ found. Leaves limits.now.depth self.old found self.new) }
     {
         let room = limits.values().saturating_sub(self.used);
         self.values.clear();
@@ -260,52 +258,79 @@ impl Machine {
         })
     }
 
-    /// Reads one item of the innermost block, or its end.
-    fn step_in<S: Source>(
+    /// Reads what is no record in the innermost block, after its id, which began at a bit: the end of the block, a block or a
+    /// definition. It is kept out of the way of records, which are far more.
+    #[cold]
+    #[inline(never)]
+    fn step_aside<S: Source>(
         &mut self,
         alloc: Global,
         reader: &mut BitReader<S>,
-        limits: Limits,
-        head: BlockHead,
+        limits: &Limits,
+        id: u64,
+        first: u64,
     ) -> Result<Found, Fault>
+        requires live { reader.old.live ≡ true }
         requires some { 0 < vec_len self.old.frames }
-        requires least { 1 ≤ head.width }
-        requires most { head.width ≤ 32 }
-        ensures takes { (f : machine.Frame) (outer : List machine.Frame) → frames_shown self.old.frames.items ≡ f ∷ outer → f.head ≡ head_shown head → Takes (step_in limits f.head outer (scope_of f (handed_shown self.old))) reader.old (told_by (gave self.new) result) reader.new }
+        requires id { id < 3 }
+        ensures takes { (f : machine.Frame) (outer : List machine.Frame) → frames_shown self.old.frames.items ≡ f ∷ outer → Takes (step_after limits.now f.head outer first (scope_of f (handed_shown self.old)) id) reader.old (told_by (gave self.new) result) reader.new }
         ensures ids { HaveIds self.old.frames.items → HaveIds self.new.frames.items }
         ensures aligned { OnOk result (vec_len self.new.frames ≡ 0 → reader.new.position % 32 ≡ 0) }
-        ensures depth { vec_len self.old.frames ≤ limits.depth → vec_len self.new.frames ≤ limits.depth }
-        ensures moves { OnOk result (reader.old.position < reader.new.position) }
-        ensures after { IfOk result (λ found. Leaves limits.depth self.old found self.new) }
+        ensures depth { vec_len self.old.frames ≤ limits.now.depth → vec_len self.new.frames ≤ limits.now.depth }
+        ensures forward { OnOk result (reader.old.position ≤ reader.new.position) }
+        ensures after { IfOk result (λ found. Leaves limits.now.depth self.old found self.new) }
     {
-        let first = reader.position();
-        let id = reader.fixed(u32::from(head.width))?;
         if id == 0 {
             return self.end_block(alloc, reader);
         }
         if id == 1 {
             return self.open_nested(alloc, reader, limits, first);
         }
-        if id == 2 {
-            return self.define(alloc, reader, first);
+        self.define(alloc, reader, first)
+    }
+
+    /// Reads one item of the innermost block, or its end.
+    fn step_in<S: Source>(
+        &mut self,
+        alloc: Global,
+        reader: &mut BitReader<S>,
+        limits: &Limits,
+        head: BlockHead,
+    ) -> Result<Found, Fault>
+        requires some { 0 < vec_len self.old.frames }
+        requires least { 1 ≤ head.width }
+        requires most { head.width ≤ 32 }
+        ensures takes { (f : machine.Frame) (outer : List machine.Frame) → frames_shown self.old.frames.items ≡ f ∷ outer → f.head ≡ head_shown head → Takes (step_in limits.now f.head outer (scope_of f (handed_shown self.old))) reader.old (told_by (gave self.new) result) reader.new }
+        ensures ids { HaveIds self.old.frames.items → HaveIds self.new.frames.items }
+        ensures aligned { OnOk result (vec_len self.new.frames ≡ 0 → reader.new.position % 32 ≡ 0) }
+        ensures depth { vec_len self.old.frames ≤ limits.now.depth → vec_len self.new.frames ≤ limits.now.depth }
+        ensures moves { OnOk result (reader.old.position < reader.new.position) }
+        ensures after { IfOk result (λ found. Leaves limits.now.depth self.old found self.new) }
+    {
+        let first = reader.position();
+        let id = reader.fixed(u32::from(head.width))?;
+        if id < 3 {
+            return self.step_aside(alloc, reader, limits, id, first);
         }
         self.note(reader, limits, id as u32, first)
     }
 
     /// Reads the beginning of a block at the top.
+    #[cold]
+    #[inline(never)]
     fn step_top<S: Source>(
         &mut self,
         alloc: Global,
         reader: &mut BitReader<S>,
-        limits: Limits,
+        limits: &Limits,
     ) -> Result<Found, Fault>
         requires { vec_len self.old.frames ≡ 0 }
-        ensures takes { Takes (step_top limits (handed_shown self.old)) reader.old (told_by (gave self.new) result) reader.new }
+        ensures takes { Takes (step_top limits.now (handed_shown self.old)) reader.old (told_by (gave self.new) result) reader.new }
         ensures ids { HaveIds self.old.frames.items → HaveIds self.new.frames.items }
         ensures aligned { OnOk result (vec_len self.new.frames ≡ 0 → reader.new.position % 32 ≡ 0) }
-        ensures depth { vec_len self.old.frames ≤ limits.depth → vec_len self.new.frames ≤ limits.depth }
+        ensures depth { vec_len self.old.frames ≤ limits.now.depth → vec_len self.new.frames ≤ limits.now.depth }
         ensures moves { OnOk result (reader.old.position < reader.new.position) }
-        ensures after { IfOk result (λ found. Leaves limits.depth self.old found self.new) }
+        ensures after { IfOk result (λ found. Leaves limits.now.depth self.old found self.new) }
     {
         let first = reader.position();
         let id = reader.fixed(2)?;
@@ -333,19 +358,29 @@ impl Machine {
         &mut self,
         alloc: Global,
         reader: &mut BitReader<S>,
-        limits: Limits,
+        limits: &Limits,
     ) -> Result<Found, Fault>
         requires { HaveIds self.old.frames.items }
-        ensures takes { Takes (step limits (machine_shown self.old)) reader.old (told_by (gave self.new) result) reader.new }
+        ensures takes { Takes (step limits.now (machine_shown self.old)) reader.old (told_by (gave self.new) result) reader.new }
         ensures ids { HaveIds self.old.frames.items → HaveIds self.new.frames.items }
         ensures aligned { OnOk result (vec_len self.new.frames ≡ 0 → reader.new.position % 32 ≡ 0) }
-        ensures depth { vec_len self.old.frames ≤ limits.depth → vec_len self.new.frames ≤ limits.depth }
+        ensures depth { vec_len self.old.frames ≤ limits.now.depth → vec_len self.new.frames ≤ limits.now.depth }
         ensures moves { OnOk result (reader.old.position < reader.new.position) }
-        ensures after { IfOk result (λ found. Leaves limits.depth self.old found self.new) }
+        ensures after { IfOk result (λ found. Leaves limits.now.depth self.old found self.new) }
     {
         match self.innermost() {
             Some(head) => self.step_in(alloc, reader, limits, head),
             None => self.step_top(alloc, reader, limits),
+        }
+    }
+
+    /// The definition that stands last where the innermost block puts one.
+    fn newest(&self) -> Option<&Abbrev>
+        ensures { option_copied result ≡ newest (frames_shown self.now.frames.items) }
+    {
+        match self.frames.last() {
+            Some(frame) => frame.newest(),
+            None => None,
         }
     }
 
@@ -358,44 +393,44 @@ impl Machine {
 }
 
 impl Found {
-    /// The event, with the values of its record.
-    pub(crate) fn event<'a>(&'a self, values: &'a [u64]) -> Event<'a>
-        ensures { shown result ≡ found_shown values.now self.now }
+    /// The event, with what the machine that found it holds.
+    #[inline(always)]
+    pub(crate) fn event<'a>(&self, machine: &'a Machine) -> Option<Event<'a>>
+        ensures { shown_if_any result ≡ lent machine.now self.now }
     {
-        match self {
+        match *self {
             Found::Enter {
                 id,
                 width,
                 first,
                 body,
-            } => Event::Enter {
-                id: *id,
-                width: *width,
-                first: *first,
-                body: *body,
-            },
-            Found::Define {
-                abbrev,
+            } => Some(Event::Enter {
+                id,
+                width,
                 first,
-                after,
-            } => Event::Define {
-                abbrev,
-                first: *first,
-                after: *after,
+                body,
+            }),
+            Found::Define { first, after } => match machine.newest() {
+                Some(abbrev) => Some(Event::Define {
+                    abbrev,
+                    first,
+                    after,
+                }),
+                None => None,
             },
             Found::Record {
                 abbrev,
                 code,
                 first,
                 after,
-            } => Event::Record {
-                abbrev: *abbrev,
-                code: *code,
-                values,
-                first: *first,
-                after: *after,
-            },
-            Found::Leave { after } => Event::Leave { after: *after },
+            } => Some(Event::Record {
+                abbrev,
+                code,
+                values: machine.values.as_slice(),
+                first,
+                after,
+            }),
+            Found::Leave { after } => Some(Event::Leave { after }),
         }
     }
 }

@@ -23,6 +23,7 @@ struct TreeFrame {
 }
 
 /// Adds an item to the innermost open block.
+#[inline(always)]
 fn add_item(frames: &mut Vec<TreeFrame>, item: Item) -> Result<(), AllocError>
     requires { 0 < vec_len frames.old }
     ensures items { OnOk result ((info : Info) (old new : ℕ → Forest) → old 0 ≡ put_item item (new 0) → ((level : ℕ) → old (suc level) ≡ new (suc level)) → forest_of_frames info frames.new.items new ≡ forest_of_frames info frames.old.items old) }
@@ -76,6 +77,7 @@ impl TreeBuilder {
     }
 
     /// Takes one more event.
+    #[inline(always)]
     pub(crate) fn add(&mut self, alloc: Global, event: Event<'_>) -> Result<(), AllocError>
         requires { MayStand (vec_len self.old.frames) (shown event) }
         ensures events { OnOk result ((following : List machine.Event) → built_with self.new following ≡ built_with self.old (shown event.entry ∷ following)) }

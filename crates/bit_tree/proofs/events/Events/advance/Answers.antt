@@ -1,7 +1,9 @@
-use Rattle.std.proofs.Common.{Bool, arith, subst, Ok}
+use Rattle.std.proofs.Common.{Bool, arith, subst, Some, Ok}
 use Rattle.std.proofs.lemmas.Result.{err_from_is_err_and}
-use Rattle.bit_tree.specs.Events.{Shuts}
-use Rattle.bit_tree.proofs.Advancing.{kept_gives, kept_misses, kept_ends, kept_refuses, closed}
+use Rattle.bit_tree.specs.Coming.{Coming, Goes}
+use Rattle.bit_tree.specs.MachineView.{lent}
+use Rattle.bit_tree.specs.Events.{coming_of, Shuts}
+use Rattle.bit_tree.proofs.Advancing.{kept_goes, kept_misses, kept_ends, kept_refuses, closed}
 use Rattle.bit_tree.proofs.events.Events.advance.Goals as goal
 
 pub returns-in_err-shuts : goal.returns-in_err-shuts
@@ -33,4 +35,4 @@ pub returns : goal.returns
 returns g c =
     let s = c.self.inside in
     let shut = subst (λ (b : Bool). Shuts c.is_outside-outside.result s.reader (Ok b) c.shuts.new.reader) c.if-branch.false c.in_ok-shuts.ensures in
-    rw (← c.self.view_is) (kept_gives s.over s.limits s.head s.machine c.step.new.self s.found c.in_ok-found.found s.reader c.shuts.new.reader c.step.new.reader c.is_outside-outside.result c.if-self.false c.self.invariant c.is_outside-outside.ensures.1 shut c.in_ok-found.ensures.takes c.in_ok-found.ensures.after c.in_ok-found.ensures.moves (omega (arith, c.position-position.ensures.position)))
+    subst (λ (old : Coming). Goes old (Ok (lent c.step.new.self c.in_ok-found.found)) (coming_of s.over s.limits s.head c.step.new.self (Some c.in_ok-found.found) c.step.new.reader)) c.self.view_is (kept_goes s.over s.limits s.head s.machine c.step.new.self s.found c.in_ok-found.found s.reader c.shuts.new.reader c.step.new.reader c.is_outside-outside.result c.if-self.false c.self.invariant c.is_outside-outside.ensures.1 shut c.in_ok-found.ensures.takes c.in_ok-found.ensures.after c.in_ok-found.ensures.moves (omega (arith, c.position-position.ensures.position)))
