@@ -1,8 +1,8 @@
 -- Counting the chunks of a VBR.
-use Rattle.std.proofs.Common.{◌≡◌, ℕ, zero, suc, ◌+◌, ◌*◌, ◌-◌, ◌/◌, ◌^◌, ◌<◌, ◌≤◌, true, false, ltb, refl, ap, ◌∙◌, subst, arith}
-use Rattle.std.proofs.Math.Nat.{div-add-mod, div-le_of_le-mul, mul-le-mul_left}
+use Rattle.std.proofs.Common.{◌≡◌, ℕ, zero, suc, ◌+◌, ◌*◌, ◌-◌, ◌/◌, ◌^◌, ◌<◌, ◌≤◌, true, false, ltb, max, refl, ap, ◌∙◌, subst, arith}
+use Rattle.std.proofs.Math.Nat.{div-add-mod, div-le_of_le-mul, mul-le-mul_left, pow-suc}
 use Rattle.std.proofs.Math.Pow.{pow_mono, shr_lt}
-use Rattle.std.proofs.lemmas.Nat.{mod_below}
+use Rattle.std.proofs.lemmas.Nat.{mod_below, pow_pos, pow-add, le-div}
 use Rattle.std.proofs.lemmas.Bool.{lt-ltb, le-ltb}
 use Rattle.bit_grammar.specs.Fields.{chunk_limit}
 use Rattle.bit_grammar.specs.Size.{chunk_count, shortest_length}
@@ -81,3 +81,34 @@ pub counting_ends : (n value bits rest : ℕ) → rest < 2 ^ (n - 1) → Countin
 counting_ends n value bits rest lt c =
     let one : n * chunk_count (n - 1) (suc c.permitted) rest ≡ n * 1 = ap (λ x. n * x) (count_of_one (n - 1) c.permitted rest lt) in
     omega (arith, c.whole, one)
+
+-- ---- chunks counted by the highest bit
+
+-- so many chunks more than one are there where the value has a bit that high, and none higher
+count_by_size : (payload permitted count value : ℕ) → 0 < payload → count ≤ permitted → 2 ^ (payload * count) ≤ max value 1 → value < 2 ^ (payload * suc count) → chunk_count payload (suc permitted) value ≡ suc count
+count_by_size payload permitted zero value some few least most =
+    let one : payload * 1 ≡ payload = omega arith in
+    count_of_one payload permitted value (subst (λ k. value < 2 ^ k) one most)
+count_by_size payload zero (suc count) value some few least most = absurd (omega arith)
+count_by_size payload (suc permitted) (suc count) value some few least most =
+    let width : payload * suc count ≡ payload * count + payload = omega arith in
+    let above : payload * suc (suc count) ≡ payload * suc count + payload = omega arith in
+    let two : 2 ^ 1 ≤ 2 ^ (payload * suc count) = pow_mono {i = 1} {j = payload * suc count} (omega (arith, width)) in
+    let least_value : 2 ^ (payload * suc count) ≤ value = omega (arith, two, least) in
+    let one : 2 ^ payload ≤ value = omega (arith, least_value, pow_mono {i = payload} {j = payload * suc count} (omega (arith, width))) in
+    let product : 2 ^ (payload * count) * 2 ^ payload ≤ value = subst (λ k. k ≤ value) (ap (λ k. 2 ^ k) width ∙ pow-add 2 (payload * count) payload) least_value in
+    let rest : 2 ^ (payload * count) ≤ value / 2 ^ payload = le-div (2 ^ (payload * count)) value (2 ^ payload) (pow_pos payload) product in
+    let below : value / 2 ^ payload < 2 ^ (payload * suc count) = shr_lt (payload * suc count) payload (subst (λ k. value < 2 ^ k) above most) in
+    count_of_more payload (suc permitted) value one
+    ∙ ap suc (count_by_size payload permitted count (value / 2 ^ payload) some (omega arith) (omega (arith, rest)) below)
+
+-- the chunks of six bits, by the place of the highest bit
+pub six_by_size : (value top : ℕ) → 2 ^ top ≤ max value 1 → max value 1 < 2 * 2 ^ top → top < 64 → shortest_length 6 value ≡ 6 * (1 + top / 5)
+unfolding shortest_length
+six_by_size value top least most few =
+    let count : ℕ = top / 5 in
+    let low : 2 ^ (5 * count) ≤ 2 ^ top = pow_mono {i = 5 * count} {j = top} (omega arith) in
+    let high : 2 ^ suc top ≤ 2 ^ (5 * suc count) = pow_mono {i = suc top} {j = 5 * suc count} (omega arith) in
+    let twice : 2 ^ suc top ≡ 2 * 2 ^ top = rw pow-suc (omega arith) in
+    let one : suc count ≡ 1 + count = omega arith in
+    ap (λ k. 6 * k) (count_by_size 5 12 count value (omega arith) (omega arith) (omega (arith, low, least)) (omega (arith, most, twice, high)) ∙ one)

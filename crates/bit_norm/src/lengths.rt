@@ -1,4 +1,4 @@
-ghost use Rattle.std.specs.Prelude.{◌≡◌, ◌+◌, ◌/◌, ◌^◌, ◌<◌, ◌≤◌, IfSome, MatchOption};
+ghost use Rattle.std.specs.Prelude.{◌≡◌, ◌+◌, ◌*◌, ◌/◌, ◌^◌, ◌<◌, ◌≤◌, length, IfSome, MatchOption};
 ghost use Rattle.bit_grammar.specs.Forest.{Tree};
 ghost use Rattle.bit_grammar.specs.Size.{shortest_length, values_length, record_length, aligned, body_at, body_length, end_of, size_of};
 ghost use Rattle.bit_norm.specs.Saturated.{saturated};
@@ -31,23 +31,37 @@ fn aligned(from: u64) -> u64
     from.saturating_add((32 - from % 32) % 32)
 }
 
-/// The position after the values of a record.
-fn end_of_values(values: &[u64], from: u64) -> u64
-    ensures { result ≡ saturated (from + values_length values.now) }
+/// How many chunks of six bits the shortest VBR has: one, and another for each five bits below the highest.
+#[inline(always)]
+fn chunks_of(value: u64) -> u64
+    ensures chunks { shortest_length 6 value ≡ 6 * result }
+    ensures few { result ≤ 13 }
 {
-    let mut at = from;
+    1 + u64::from(value.max(1).ilog2() / 5)
+}
+
+/// How many chunks of six bits the values of a record have.
+#[inline(always)]
+fn chunks_of_values(values: &[u64]) -> u64
+    ensures chunks { values_length values.now ≡ 6 * result }
+    ensures few { result ≤ 13 * length values.now }
+{
+    let mut chunks = 0;
     for value in values {
-        at = at.saturating_add(vbr_bits(6, *value));
+        chunks += chunks_of(*value);
     }
-    at
+    chunks
 }
 
 /// The position after a record.
+#[inline(always)]
 fn end_of_record(code: u64, values: &[u64], from: u64) -> u64
     ensures { result ≡ saturated (from + record_length code values.now) }
 {
-    let bits = 2 + vbr_bits(6, code) + vbr_bits(6, values.len() as u64);
-    end_of_values(values, from.saturating_add(bits))
+    let count = chunks_of(values.len() as u64);
+    let chunks = chunks_of(code) + count + chunks_of_values(values);
+    from.saturating_add(2)
+        .saturating_add(chunks.saturating_mul(6))
 }
 
 /// How many bits a block's body has, where its items, begun at 0, end at a position.
