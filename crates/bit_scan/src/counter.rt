@@ -89,6 +89,7 @@ impl Counter {
     }
 
     /// Counts what stands in the innermost open block.
+    #[inline(always)]
     pub(crate) fn count_here(&mut self, addition: Addition) -> Result<(), AllocError>
         ensures { (counts : Counts) → self.old ≡ cut counts → OnOk result (self.new ≡ cut (added_here addition counts)) }
     {

@@ -4,6 +4,7 @@ ghost use Rattle.bit_fields.specs.Opening.{magic_number};
 ghost use Rattle.bit_scan.specs.Lines.{report_head, listing_head, block_row_text, block_start, block_middle, block_end, code_row_text, record_head};
 
 use crate::rows::{BlockRow, CodeRow};
+use itoa::Buffer;
 use std::alloc::AllocError;
 
 /// Appends two digits.
@@ -92,6 +93,18 @@ pub(crate) fn push_code_row(text: &mut String, code: u64, row: CodeRow) -> Resul
     writeln!(text, "  record {code} count {count} bits {bits}")
 }
 
+/// Appends the digits of a number. Of the numbers in a stream many have one digit.
+#[inline(always)]
+fn push_number(text: &mut String, number: u64) -> Result<(), AllocError>
+    ensures { OnOk result (string_bytes text.new ≡ string_bytes text.old ++ decimal number) }
+{
+    if number < 10 {
+        return text.push(char::from(b'0' + number as u8));
+    }
+    let mut buffer = Buffer::new();
+    text.push_str(buffer.format(number))
+}
+
 /// Appends two spaces for each block around.
 fn push_indent(text: &mut String, around: u32) -> Result<(), AllocError>
     ensures { OnOk result (string_bytes text.new ≡ string_bytes text.old ++ replicate (2 * around) 32) }
@@ -115,12 +128,14 @@ pub(crate) fn push_record_head(text: &mut String, around: u32, code: u64) -> Res
     ensures { OnOk result (string_bytes text.new ≡ string_bytes text.old ++ record_head around code) }
 {
     push_indent(text, around)?;
-    write!(text, "record {code}")
+    text.push_str("record ")?;
+    push_number(text, code)
 }
 
 /// Appends a value of a record in a listing.
 pub(crate) fn push_value(text: &mut String, value: u64) -> Result<(), AllocError>
     ensures { OnOk result (string_bytes text.new ≡ string_bytes text.old ++ (32 ∷ decimal value)) }
 {
-    write!(text, " {value}")
+    text.push(' ')?;
+    push_number(text, value)
 }

@@ -1,4 +1,5 @@
-ghost use Rattle.std.specs.Prelude.{◌≡◌, ℕ, map, List, OnOk};
+ghost use Rattle.std.specs.Prelude.{◌≡◌, ℕ, map, nat_eq, List, None, OnOk};
+ghost use Rattle.std.specs.Map.{lookup};
 ghost use Rattle.bit_grammar.specs.Tally.{CodeTally, BlockTally};
 ghost use Rattle.bit_grammar.specs.Counting.{fresh_row, with_row};
 ghost use Rattle.bit_scan.specs.Additions.{with_added};
@@ -34,6 +35,7 @@ impl Model for Codes {
 
 impl Codes {
     /// Counts one more record.
+    #[inline(always)]
     fn add(&mut self, code: u64, bits: u64) -> Result<(), AllocError>
         ensures { (tallies : List CodeTally) → code_tallies self.old ≡ map cut_code tallies → OnOk result (code_tallies self.new ≡ map cut_code (with_use code bits tallies)) }
     {
@@ -42,6 +44,7 @@ impl Codes {
 }
 
 /// Counts one more record in the row of its code.
+#[inline(always)]
 fn count_use(rows: &mut IndexMap<u64, CodeRow>, code: u64, bits: u64) -> Result<(), AllocError>
     ensures { (tallies : List CodeTally) → code_tallies rows.old.entries ≡ map cut_code tallies → OnOk result (code_tallies rows.new.entries ≡ map cut_code (with_use code bits tallies)) }
 {
@@ -112,6 +115,7 @@ impl BlockRow {
     }
 
     /// Counts what an event adds. A sum that would pass the greatest number stays there.
+    #[inline(always)]
     fn add(&mut self, addition: Addition) -> Result<(), AllocError>
         ensures { (id : ℕ) (tally : BlockTally) → block_tally (id, self.old) ≡ cut_row tally → OnOk result (block_tally (id, self.new) ≡ cut_row (with_added addition tally)) }
     {
@@ -141,7 +145,26 @@ impl BlockRow {
     }
 }
 
+/// Begins the row of an id that has none, at the end, with what an event adds.
+#[cold]
+#[inline(never)]
+fn begin_row(
+    alloc: Global,
+    rows: &mut IndexMap<u32, BlockRow>,
+    id: u32,
+    addition: Addition,
+) -> Result<(), AllocError>
+    requires { lookup (nat_eq id) rows.old.entries ≡ None }
+    ensures { (tallies : List BlockTally) → block_tallies rows.old.entries ≡ cut_rows tallies → OnOk result (block_tallies rows.new.entries ≡ cut_rows (with_row (with_added addition) id tallies)) }
+{
+    let mut row = BlockRow::new(alloc);
+    row.add(addition)?;
+    rows.insert(id, row)?;
+    Ok(())
+}
+
 /// Counts what an event adds to the row of an id, which is a new one at the end if there is none.
+#[inline(always)]
 pub(crate) fn add_to_row(
     alloc: Global,
     rows: &mut IndexMap<u32, BlockRow>,
@@ -152,11 +175,6 @@ pub(crate) fn add_to_row(
 {
     match rows.get_mut(&id) {
         Some(row) => row.add(addition),
-        None => {
-            let mut row = BlockRow::new(alloc);
-            row.add(addition)?;
-            rows.insert(id, row)?;
-            Ok(())
-        }
+        None => begin_row(alloc, rows, id, addition),
     }
 }

@@ -1,10 +1,10 @@
 -- An input whose events all came is accepted.
-use Rattle.std.proofs.Common.{◌≡◌, ◌∙◌, ℕ, ◌+◌, List, Result, Ok, Err, sym, ap, arith, inl, inr}
+use Rattle.std.proofs.Common.{◌≡◌, ◌∙◌, ℕ, ◌+◌, List, Ok, sym, ap, inl, inr}
 use Rattle.std.specs.Prelude.{IsSome}
 use Rattle.bit_grammar.specs.Grammar.{Fault}
 use Rattle.bit_grammar.specs.Blocks.{Limits}
-use Rattle.bit_grammar.specs.Input.{Head, Marked, SpellsInput}
-use Rattle.bit_grammar.specs.Machine.{Event, Ending, accepted, broke, Told}
+use Rattle.bit_grammar.specs.Input.{Head}
+use Rattle.bit_grammar.specs.Machine.{Ending, accepted, broke, Told}
 use Rattle.bit_grammar.specs.Outlook.{outlook, EndsBy}
 use Rattle.bit_grammar.proofs.Inputs.{tree_or_fault}
 use Rattle.bit_grammar.proofs.Telling.{told_if_broken}

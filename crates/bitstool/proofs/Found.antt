@@ -3,10 +3,9 @@ use Rattle.std.proofs.Common.{◌≡◌, ◌∙◌, ℕ, Bool, true, false, ◌&
 use Rattle.std.specs.Prelude.{IfSome, Result, Ok}
 use Rattle.std.specs.Bool.{MatchBool}
 use Rattle.std.specs.Str.Parse.{IsNumeral, ParsesUnsigned, digits_value, without_leading_plus, true_text, false_text}
-use Rattle.clap.specs.Words.{App, Text, app_of, one_of, one_text, rows_of}
+use Rattle.clap.specs.Words.{Text, one_of, one_text, rows_of}
 use Rattle.clap.specs.Matches.{ReadsOne}
 use Rattle.clap.specs.declared.parser.matches.Found.{Found}
-use Rattle.clap.specs.declared.builder.command.Command.{Command}
 use Rattle.clap.proofs.WalkLemmas.{one_text-rows}
 use Rattle.bitstool.specs.Words.{HasNumber}
 

@@ -1,14 +1,13 @@
 -- What follows for a part of a text that a sink took, and for bytes that a source gave.
-use Rattle.std.proofs.Common.{◌≡◌, ◌∙◌, ℕ, ◌-◌, ◌<◌, ◌≤◌, min, Bool, List, [], ◌++◌, length, take, drop, refl, sym, ap, subst, append_assoc, arith, Option, Some, None, length-drop, length-append}
-use Rattle.std.specs.Prelude.{IsSome, IfSome, is_some, true}
+use Rattle.std.proofs.Common.{◌≡◌, ◌∙◌, ℕ, ◌-◌, Bool, List, [], ◌++◌, length, take, drop, refl, sym, ap, subst, append_assoc, arith, Some, None, length-drop}
+use Rattle.std.specs.Prelude.{IsSome, IfSome}
 use Rattle.std.proofs.lemmas.List.{take-append-drop, nil_from_length, append-nil}
 use Rattle.std.proofs.lemmas.Grind.{common_steps}
 use Rattle.std.specs.Io.KnownBytes.{Appends, Keeps}
 use Rattle.std.proofs.KnownBytes.{Appends-trans}
 use Rattle.bit_grammar.specs.Bits.{bits_of_bytes}
-use Rattle.bit_fields.specs.Devices.{Outgoing, known_bytes}
+use Rattle.bit_fields.specs.Devices.{known_bytes}
 use Rattle.bit_fields.proofs.BitLaws.{bits_of_bytes-append}
-use Rattle.bit_norm.specs.Writing.{Gained, GainedFront}
 use Rattle.bitstool.specs.Runs.{Told, Gains, GainsFront}
 
 -- one more put takes the front of the rest

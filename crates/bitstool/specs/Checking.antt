@@ -1,5 +1,5 @@
 -- Going over all events of an input.
-use Rattle.std.specs.Prelude.{◌≡◌, List, Bool, true, false, Result, Ok, Err}
+use Rattle.std.specs.Prelude.{List, Bool, true, false, Result, Ok, Err}
 use Rattle.bit_grammar.specs.Machine.{Event}
 use Rattle.bit_fields.specs.declared.fault.Fault.{Fault}
 use Rattle.bit_fields.specs.Devices.{Incoming}

@@ -49,6 +49,11 @@ outcome_in which limit fault.Memory = Memory
 outcome_in which limit fault.OutputTooLong = TooLong limit
 outcome_in which limit fault.Failed = Read
 
+-- the outcome of a text's writing, under this limit on bytes
+abbrev pub ended : ℕ → Result (Unit {0}) Fault → Outcome
+ended limit (Ok _) = Done
+ended limit (Err fault) = outcome_of limit fault
+
 -- what a command has found before it writes
 abbrev pub Finds : Task → Told → Outcome → Type 0
 Finds task input Done = (bits : List Bool) × Answers task input Done bits

@@ -14,7 +14,7 @@ use Rattle.bit_grammar.specs.declared.info.Info.{Info}
 use Rattle.bit_grammar.specs.declared.info.Info.TheVariants.{Keep, Drop}
 use Rattle.bit_grammar.specs.Blocks.{Limits}
 use Rattle.bitstool.specs.declared.task.Task.{Task}
-use Rattle.bitstool.specs.declared.task.Task.TheVariants.{Check, Normal, Same}
+use Rattle.bitstool.specs.declared.task.Task.TheVariants.{Check, Normal, Same, Analyse, Show}
 use Rattle.bitstool.specs.declared.task.Parsed.{Parsed}
 use Rattle.bitstool.specs.declared.task.Parsed.TheVariants as parsed
 
@@ -54,12 +54,17 @@ dropping name = with_rule (limited name) drop_rule
 abbrev pub comparing : App
 comparing = with_rule (dropping (codes "same")) first_rule
 
+-- nothing but what goes for all commands
 abbrev pub above : App
 above = record { top = record (new_app (codes "bitstool")).top { no_binary_name = true; disable_help_subcommand = true; subcommand_required = true }; subs = [] }
 
--- the whole command line
+-- with the commands that judge, write and compare
+abbrev pub three : App
+three = with_subcommand (with_subcommand (with_subcommand above (limited (codes "check")).top) (dropping (codes "normal")).top) comparing.top
+
+-- the whole command line, with those that tell what an input holds
 abbrev pub bitstool : App
-bitstool = with_subcommand (with_subcommand (with_subcommand above (limited (codes "check")).top) (dropping (codes "normal")).top) comparing.top
+bitstool = with_subcommand (with_subcommand three (limited (codes "analyse")).top) (limited (codes "show")).top
 
 -- ---- what was found
 
@@ -80,6 +85,8 @@ abbrev pub Asks : Text → List Row → Task → Type 0
 Asks name rows (Check limits) = (name ≡ codes "check") × HasLimits rows limits
 Asks name rows (Normal limits info) = (name ≡ codes "normal") × HasLimits rows limits × HasSetting rows info
 Asks name rows (Same first limits info) = (name ≡ codes "same") × HasNumber (codes "first") rows first × HasLimits rows limits × HasSetting rows info
+Asks name rows (Analyse limits) = (name ≡ codes "analyse") × HasLimits rows limits
+Asks name rows (Show limits) = (name ≡ codes "show") × HasLimits rows limits
 
 abbrev pub Means : Option (Text × List Row) → Task → Type 0
 Means None task = ⊥

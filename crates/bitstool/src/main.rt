@@ -1,4 +1,4 @@
-//! The program: checks, normalises and compares inputs in the LLVM bitstream container, from the command line.
+//! The program: checks, normalises, compares, analyses and lists inputs in the LLVM bitstream container, from the command line.
 #![tactic(auto)]
 
 mod check;
@@ -13,7 +13,7 @@ mod tests;
 use crate::outcome::Outcome;
 use crate::run::run;
 use std::alloc::Global;
-use std::io::{BufReader, BufWriter};
+use std::io::{BufReader, BufWriter, Write};
 use std::process::ExitCode;
 use std::{env, io};
 
@@ -37,16 +37,23 @@ fn run_here(alloc: Global, rt: &HostRuntime, words: Vec<String>) -> io::Result<u
 }
 
 /// Says that the run could not begin.
-fn refuse(rt: &HostRuntime, outcome: Outcome) -> u8 {
-    outcome.report(&mut rt.stderr());
+fn refuse(rt: &HostRuntime, error: io::Error) -> u8 {
+    let mut errors = rt.stderr();
+    let outcome = match error.kind() {
+        io::ErrorKind::OutOfMemory => Outcome::Memory,
+        _ => {
+            let _ = errors.write_all(b"error: an argument is not text\n");
+            Outcome::Usage
+        }
+    };
+    outcome.report(&mut errors);
     outcome.status()
 }
 
 fn main(rt: HostRuntime) -> ExitCode {
     let alloc = rt.alloc();
-    let status = match words_of(alloc, &rt) {
-        Ok(words) => run_here(alloc, &rt, words).unwrap_or_else(|_| refuse(&rt, Outcome::Memory)),
-        Err(_) => refuse(&rt, Outcome::Usage),
-    };
+    let status = words_of(alloc, &rt)
+        .and_then(|words| run_here(alloc, &rt, words))
+        .unwrap_or_else(|error| refuse(&rt, error));
     ExitCode::from(status)
 }

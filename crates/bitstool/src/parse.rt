@@ -21,9 +21,13 @@ const ABOUT: &str =
 The input is standard input; the output is standard output.
 
 With no arguments it writes the normal form of the input, as `bitstool normal` does. An input that breaks the rules is \
-refused with one line on standard error, which names the rule and the bit.
+refused with one line on standard error, which names the rule and the bit, and nothing is written.
 
-Example: bitstool same --first 16 < FILE";
+Examples:
+  bitstool analyse < FILE        which blocks and records it has, and where its bits go
+  bitstool show < FILE | less    all of them, in order
+  bitstool normal --drop-info < FILE > NORMAL
+  cat FILE OTHER | bitstool same --first $(stat -c %s FILE)";
 
 const AFTER: &str =
     "Exit status: 0 done, or found the same; 1 refused, or found different; 2 wrong arguments; \
@@ -40,6 +44,14 @@ and wrapper the input has";
 const SAME: &str =
     "Compares the trees of two inputs that stand in standard input one behind the other, and prints `same` or \
 `different`";
+
+const ANALYSE: &str =
+    "Prints what the input adds up to: a line for each block id, and under it one for each code of its records, with \
+their numbers and bits";
+
+const SHOW: &str =
+    "Prints the tree of the input: a line for each block, with its id, and for each record, with its code and values, \
+indented by the blocks around it";
 
 /// An option for a limit.
 fn limit<'a>(alloc: Global, name: &'a str, usual: &'a str, most: u64, help: &'a str) -> Arg<'a>
@@ -119,6 +131,8 @@ fn command<'a>(alloc: Global) -> Result<Command<'a>, AllocError>
     let check = limited(alloc, "check", CHECK)?;
     let normal = dropping(alloc, "normal", NORMAL)?;
     let same = comparing(alloc)?;
+    let analyse = limited(alloc, "analyse", ANALYSE)?;
+    let show = limited(alloc, "show", SHOW)?;
     Command::new(alloc, "bitstool")
         .about(ABOUT)
         .after_help(AFTER)
@@ -127,7 +141,9 @@ fn command<'a>(alloc: Global) -> Result<Command<'a>, AllocError>
         .subcommand_required(true)
         .subcommand(check)?
         .subcommand(normal)?
-        .subcommand(same)
+        .subcommand(same)?
+        .subcommand(analyse)?
+        .subcommand(show)
 }
 
 /// The number that an option was given.
@@ -175,6 +191,8 @@ fn task_of(matches: &ArgMatches<'_>) -> Option<Task>
             limits,
             info: setting_of(inner),
         }),
+        "analyse" => Some(Task::Analyse { limits }),
+        "show" => Some(Task::Show { limits }),
         _ => None,
     }
 }

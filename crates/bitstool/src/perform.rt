@@ -4,7 +4,7 @@ ghost use Rattle.std.specs.Prelude.{◌≡◌, ◌<◌, ◌^◌, vec_items};
 ghost use Rattle.std.specs.Io.KnownBytes.{Keeps};
 ghost use Rattle.bit_fields.specs.Reader.{told_by};
 ghost use Rattle.bitstool.specs.declared.task.Task.{Task as TaskValue};
-ghost use Rattle.bitstool.specs.Performing.{ComparesWith, Finds, IsOrWrite, Puts, TakesFirst, Tells, outcome_in, outcome_of};
+ghost use Rattle.bitstool.specs.Performing.{ComparesWith, Finds, IsOrWrite, Puts, TakesFirst, Tells, ended, outcome_in, outcome_of};
 ghost use Rattle.bitstool.specs.Runs.{Does};
 
 use crate::check::check;
@@ -12,6 +12,7 @@ use crate::outcome::Outcome;
 use crate::task::Task;
 use bit_fields::{Fault, Limits, ReadSource, Sink, SliceSource, Source, WriteSink};
 use bit_norm::{Which, normalise, same};
+use bit_scan::{analyse, write_show};
 use bit_tree::Info;
 use std::alloc::Global;
 use std::io::{Read, Write};
@@ -41,6 +42,16 @@ fn outcome_in(which: Which, limit: u64, fault: Fault) -> Outcome
     match fault {
         Fault::Refused { reason, bit } => Outcome::RefusedOf { which, reason, bit },
         other => outcome_of(limit, other),
+    }
+}
+
+/// The outcome of a text's writing, under a limit on bytes.
+fn ended(limit: u64, answer: Result<(), Fault>) -> Outcome
+    ensures { result ≡ ended limit answer }
+{
+    match answer {
+        Ok(()) => Outcome::Done,
+        Err(fault) => outcome_of(limit, fault),
     }
 }
 
@@ -200,6 +211,51 @@ fn perform_same<R: Read, W: Write>(
     (outcome, source.into_inner(), sink.into_inner())
 }
 
+/// Writes the report of a source's analysis into a sink.
+fn report<S: Source, K: Sink>(alloc: Global, limits: Limits, source: S, sink: K) -> (Outcome, S, K)
+    ensures { Does (TaskValue.Analyse limits) (S.incoming source).to_come (K.outgoing sink).bytes (K.outgoing result.2).bytes result.0 }
+{
+    let (answer, source) = analyse(alloc, source, limits);
+    match answer {
+        Ok(analysis) => {
+            let (written, sink) = analysis.write(sink);
+            (ended(limits.bytes(), written), source, sink)
+        }
+        Err(fault) => (outcome_of(limits.bytes(), fault), source, sink),
+    }
+}
+
+/// Writes the report of the input's analysis.
+fn perform_analyse<R: Read, W: Write>(
+    alloc: Global,
+    limits: Limits,
+    input: R,
+    output: W,
+) -> (Outcome, R, W)
+    ensures { Does (TaskValue.Analyse limits) (R.remaining input) (W.contents output) (W.contents result.2) result.0 }
+{
+    let source = ReadSource::new(input);
+    let sink = WriteSink::new(output);
+    let (outcome, source, sink) = report(alloc, limits, source, sink);
+    (outcome, source.into_inner(), sink.into_inner())
+}
+
+/// Writes the listing of the input.
+fn perform_show<R: Read, W: Write>(
+    alloc: Global,
+    limits: Limits,
+    input: R,
+    output: W,
+) -> (Outcome, R, W)
+    ensures { Does (TaskValue.Show limits) (R.remaining input) (W.contents output) (W.contents result.2) result.0 }
+{
+    let source = ReadSource::new(input);
+    let sink = WriteSink::new(output);
+    let (answer, source, sink) = write_show(alloc, source, sink, limits);
+    let outcome = ended(limits.bytes(), answer);
+    (outcome, source.into_inner(), sink.into_inner())
+}
+
 /// Flushes the output of a command that answered or refused.
 fn settle<W: Write>(outcome: Outcome, output: &mut W) -> Outcome
     ensures kept { Keeps (W.contents output.old) (W.contents output.new) }
@@ -226,6 +282,8 @@ fn carry_out<R: Read, W: Write>(alloc: Global, task: Task, input: R, output: W) 
             limits,
             info,
         } => perform_same(alloc, first, limits, info, input, output),
+        Task::Analyse { limits } => perform_analyse(alloc, limits, input, output),
+        Task::Show { limits } => perform_show(alloc, limits, input, output),
     }
 }
 

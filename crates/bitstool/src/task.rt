@@ -21,6 +21,14 @@ pub enum Task {
         limits: Limits,
         info: Info,
     },
+    /// Report what the input adds up to.
+    Analyse {
+        limits: Limits,
+    },
+    /// List the blocks and records of the input.
+    Show {
+        limits: Limits,
+    },
 }
 
 /// What the words say.

@@ -21,6 +21,21 @@ static INFO: [u8; 32] = [
     0, 1, 0, 0, 0, 0x24, 3, 0, 0,
 ];
 
+/// What `analyse` and `show` print of it.
+const REPORT: &str = "magic 4243c0de bits 256
+block 0 count 1 bits 128 definitions 1 records 1 abbreviated 0 values 1
+  record 1 count 1 bits 20
+block 8 count 1 bits 96 definitions 0 records 1 abbreviated 1 values 1
+  record 1 count 1 bits 10
+";
+
+const LISTING: &str = "magic 4243c0de
+block 0
+  record 1 8
+block 8
+  record 1 100
+";
+
 /// A writer that takes so many bytes and then fails, and may fail when it is flushed.
 #[derive(Drop)]
 struct Room {
@@ -186,6 +201,126 @@ fn normal_forms_that_are_too_long(rt: HostRuntime) -> Result<(), Fail> {
     Ok(())
 }
 
+/// A report or a listing is the whole output.
+fn tells(
+    rt: &impl Abort,
+    alloc: Global,
+    line: &str,
+    input: &[u8],
+    text: &str,
+) -> Result<(), AllocError> {
+    ends(rt, alloc, line, input, (0, text.as_bytes(), ""))
+}
+
+#[test]
+fn reports_and_listings(rt: HostRuntime) -> Result<(), Fail> {
+    let alloc = rt.alloc();
+    tells(&rt, alloc, "analyse", &INFO, REPORT)?;
+    tells(&rt, alloc, "show", &INFO, LISTING)?;
+    let exact = "analyse --bytes 32 --depth 1 --values 2";
+    tells(&rt, alloc, exact, &INFO, REPORT)?;
+    let exact = "show --values=2 --depth=1 --bytes=32";
+    tells(&rt, alloc, exact, &INFO, LISTING)?;
+    tells(&rt, alloc, "show", &INFO[..4], "magic 4243c0de\n")?;
+    let report = "magic 4243c0de bits 32\n";
+    tells(&rt, alloc, "analyse", &INFO[..4], report)?;
+    Ok(())
+}
+
+#[test]
+fn inputs_without_a_report(rt: HostRuntime) -> Result<(), Fail> {
+    let alloc = rt.alloc();
+    let lines = [
+        ("", "refused: Truncated at bit 224\n"),
+        ("--bytes 15", "refused: TooLong at bit 120\n"),
+        ("--depth 0", "refused: TooDeep at bit 32\n"),
+        ("--values 0", "refused: TooManyValues at bit 104\n"),
+    ];
+    for (options, line) in lines {
+        let analyse = format!(in alloc; "analyse {options}")?;
+        ends(&rt, alloc, &analyse, &INFO[..28], (1, b"", line))?;
+        let show = format!(in alloc; "show {options}")?;
+        ends(&rt, alloc, &show, &INFO[..28], (1, b"", line))?;
+    }
+    Ok(())
+}
+
+/// A block 9 in a block 8.
+static NESTED: [u8; 28] = [
+    0x42, 0x43, 0xc0, 0xde, 0x21, 4, 0, 0, 4, 0, 0, 0, 0x13, 4, 0, 0, 1, 0, 0, 0, 0, 0, 0, 0, 0, 0,
+    0, 0,
+];
+
+/// A record of three values without bits, which are those of an array.
+static ZEROS: [u8; 20] = [
+    0x42, 0x43, 0xc0, 0xde, 0x21, 0xc, 0, 0, 2, 0, 0, 0, 0x1a, 3, 0x4c, 0, 7, 0, 0, 0,
+];
+
+/// The same tree without a definition.
+static PLAIN_ZEROS: [u8; 20] = [
+    0x42, 0x43, 0xc0, 0xde, 0x21, 8, 0, 0, 2, 0, 0, 0, 7, 3, 0, 0, 0, 0, 0, 0,
+];
+
+/// A definition of a field of 0 bits for the code, which a record goes by.
+static CODE_WITHOUT_BITS: [u8; 16] = [
+    0x42, 0x43, 0xc0, 0xde, 0x21, 0xc, 0, 0, 1, 0, 0, 0, 0xa, 2, 8, 0,
+];
+
+/// A definition with a variable field of 0 bits before one of 4, which a record goes by.
+static VALUE_WITHOUT_BITS: [u8; 20] = [
+    0x42, 0x43, 0xc0, 0xde, 0x21, 0xc, 0, 0, 2, 0, 0, 0, 0x1a, 3, 8, 8, 0x61, 2, 0, 0,
+];
+
+/// A definition with a variable field of 1 bit.
+static WIDTH_1: [u8; 16] = [
+    0x42, 0x43, 0xc0, 0xde, 0x21, 0xc, 0, 0, 1, 0, 0, 0, 0xa, 0x14, 0, 0,
+];
+
+const NESTED_REPORT: &str = "magic 4243c0de bits 224
+block 8 count 1 bits 96 definitions 0 records 0 abbreviated 0 values 0
+block 9 count 1 bits 96 definitions 0 records 0 abbreviated 0 values 0
+";
+
+const ZEROS_REPORT: &str = "magic 4243c0de bits 160
+block 8 count 1 bits 128 definitions 1 records 1 abbreviated 1 values 3
+  record 1 count 1 bits 9
+";
+
+#[test]
+fn fields_without_bits(rt: HostRuntime) -> Result<(), Fail> {
+    let alloc = rt.alloc();
+    let rows: [(&str, &[u8], &str); 7] = [
+        ("analyse", &NESTED, NESTED_REPORT),
+        ("show", &NESTED, "magic 4243c0de\nblock 8\n  block 9\n"),
+        ("analyse", &ZEROS, ZEROS_REPORT),
+        (
+            "show",
+            &ZEROS,
+            "magic 4243c0de\nblock 8\n  record 1 0 0 0\n",
+        ),
+        (
+            "show",
+            &CODE_WITHOUT_BITS,
+            "magic 4243c0de\nblock 8\n  record 0\n",
+        ),
+        (
+            "show",
+            &VALUE_WITHOUT_BITS,
+            "magic 4243c0de\nblock 8\n  record 1 0 9\n",
+        ),
+        ("check", &ZEROS, "accepted\n"),
+    ];
+    for (line, input, text) in rows {
+        tells(&rt, alloc, line, input, text)?;
+    }
+    ends(&rt, alloc, "normal", &ZEROS, (0, &PLAIN_ZEROS, ""))?;
+    let many = "refused: TooManyValues at bit 129\n";
+    ends(&rt, alloc, "analyse --values 2", &ZEROS, (1, b"", many))?;
+    let width = "refused: FieldWidth at bit 108\n";
+    ends(&rt, alloc, "show", &WIDTH_1, (1, b"", width))?;
+    Ok(())
+}
+
 /// The first bytes, and then the others.
 fn joined(alloc: Global, first: &[u8], second: &[u8]) -> Result<Vec<u8>, AllocError> {
     let mut bytes = Vec::from_slice(alloc, first)?;
@@ -263,8 +398,10 @@ fn same_without_definitions(rt: HostRuntime) -> Result<(), Fail> {
 fn words_that_are_no_command(rt: HostRuntime) -> Result<(), Fail> {
     let alloc = rt.alloc();
     let lines = [
-        "analyse",
-        "show",
+        "analyse --drop-info",
+        "show --drop-info",
+        "show --first 4",
+        "show analyse",
         "--bytes 4",
         "--bytes 4 check",
         "check --drop-info",
@@ -296,7 +433,16 @@ fn words_that_are_no_command(rt: HostRuntime) -> Result<(), Fail> {
 #[test]
 fn help(rt: HostRuntime) -> Result<(), Fail> {
     let alloc = rt.alloc();
-    for line in ["--help", "-h", "check --help", "normal -h", "same --help"] {
+    let lines = [
+        "--help",
+        "-h",
+        "check --help",
+        "normal -h",
+        "same --help",
+        "analyse --help",
+        "show -h",
+    ];
+    for line in lines {
         let ran = ran(alloc, line, &SHORT)?;
         assert_eq!(&rt; ran.status, 0, "{line}");
         assert!(&rt; ran.output.len() > 100, "{line}");
@@ -334,6 +480,22 @@ fn outputs_that_fail(rt: HostRuntime) -> Result<(), Fail> {
     ends_in(&rt, alloc, "--help", room, (3, b"", failed))?;
     let room = Room::new(alloc, 100, false);
     ends_in(&rt, alloc, "check", room, (3, b"accepted\n", failed))?;
+    let room = Room::new(alloc, 20, true);
+    ends_in(
+        &rt,
+        alloc,
+        "analyse",
+        room,
+        (3, b"magic 4243c0de bits ", failed),
+    )?;
+    let room = Room::new(alloc, 20, true);
+    ends_in(
+        &rt,
+        alloc,
+        "show",
+        room,
+        (3, b"magic 4243c0de\nblock", failed),
+    )?;
     // The line is that of the failure alone.
     let room = Room::new(alloc, 100, false);
     ends_in(&rt, alloc, "check --bytes 1", room, (3, b"", failed))?;
@@ -346,7 +508,16 @@ fn outputs_that_fail(rt: HostRuntime) -> Result<(), Fail> {
 #[test]
 fn inputs_that_fail(rt: HostRuntime) -> Result<(), Fail> {
     let alloc = rt.alloc();
-    for line in ["", "check", "normal", "same --first 16", "same --first 64"] {
+    let lines = [
+        "",
+        "check",
+        "normal",
+        "same --first 16",
+        "same --first 64",
+        "analyse",
+        "show",
+    ];
+    for line in lines {
         let words = words_of(alloc, line)?;
         let input = Broken { bytes: &LONG };
         let ran = run(alloc, words, input, Vec::new(alloc), Vec::new(alloc));

@@ -1,4 +1,4 @@
-use Rattle.std.proofs.Common.{◌≡◌, ◌-◌, ◌^◌}
+use Rattle.std.proofs.Common.{◌-◌, ◌^◌}
 use Rattle.bit_tree.specs.Building.{Going}
 use Rattle.bitstool.specs.Checking.{nothing}
 use Rattle.bitstool.proofs.check.go_over.Given as goal

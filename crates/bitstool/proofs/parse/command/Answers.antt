@@ -10,10 +10,16 @@ returns c =
     let check = c.in_ok-check.ensures in
     let normal = c.in_ok-normal.ensures in
     let same = c.in_ok-same.ensures in
+    let analyse = c.in_ok-analyse.ensures in
+    let show = c.in_ok-show.ensures in
     let base : app_of c.subcommand_required.result ≡ above = search rules in
     let first = c.in_ok-subcommand.ensures.shape (third_denied _ _ _ _ (ap (λ (a : App). a.top.is_plain) check))
     ∙ ap₂ with_subcommand base (ap (λ (a : App). a.top) check) in
     let second = c.in_ok-subcommand-2.ensures.shape (third_denied _ _ _ _ (ap (λ (a : App). a.top.is_plain) normal))
     ∙ ap₂ with_subcommand first (ap (λ (a : App). a.top) normal) in
-    IfOk-weaker c.subcommand-3.result _ _ (λ r h. h.shape (third_denied _ _ _ _ (ap (λ (a : App). a.top.is_plain) same))
-    ∙ ap₂ with_subcommand second (ap (λ (a : App). a.top) same)) c.subcommand-3.ensures
+    let third = c.in_ok-subcommand-3.ensures.shape (third_denied _ _ _ _ (ap (λ (a : App). a.top.is_plain) same))
+    ∙ ap₂ with_subcommand second (ap (λ (a : App). a.top) same) in
+    let fourth = c.in_ok-subcommand-4.ensures.shape (third_denied _ _ _ _ (ap (λ (a : App). a.top.is_plain) analyse))
+    ∙ ap₂ with_subcommand third (ap (λ (a : App). a.top) analyse) in
+    IfOk-weaker c.subcommand-5.result _ _ (λ r h. h.shape (third_denied _ _ _ _ (ap (λ (a : App). a.top.is_plain) show))
+    ∙ ap₂ with_subcommand fourth (ap (λ (a : App). a.top) show)) c.subcommand-5.ensures

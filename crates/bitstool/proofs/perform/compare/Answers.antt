@@ -1,5 +1,5 @@
 use Rattle.std.proofs.Common.{◌≡◌, ◌+◌, min, arith}
-use Rattle.bitstool.proofs.Comparing.{compared, not_taken}
+use Rattle.bitstool.proofs.Comparing.{compared}
 use Rattle.bitstool.proofs.perform.compare.Goals as goal
 
 pub returns-in-Ok : goal.returns-in-Ok

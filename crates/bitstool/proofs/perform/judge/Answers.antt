@@ -1,4 +1,4 @@
-use Rattle.bitstool.proofs.Doing.{accepted_here, refused_here}
+use Rattle.bitstool.proofs.Doing.{refused_here}
 use Rattle.bitstool.proofs.perform.judge.Goals as goal
 
 pub returns-in-Err : goal.returns-in-Err

@@ -1,6 +1,6 @@
 use Rattle.std.proofs.Common.{◌≡◌, [], refl, rules, length}
 use Rattle.std.proofs.KnownBytes.{Appends-nil}
-use Rattle.bitstool.proofs.Known.{part_grows, gains_whole, gains_part, part_stays}
+use Rattle.bitstool.proofs.Known.{part_grows, gains_whole}
 use Rattle.bitstool.proofs.perform.put_all.Goals as goal
 
 pub loop-rest-init : goal.loop-rest-init
