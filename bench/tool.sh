@@ -1,5 +1,6 @@
 #!/usr/bin/env bash
-# The program beside other tools, on one input, side by side: seconds of processor time, MB/s of the input and peak memory.
+# The program beside other tools, on one input, side by side: seconds of processor time, MB/s of the input and peak memory; its
+# listing has about three times the input's bytes.
 # Usage: bench/tool.sh [FILE]. Without a file it makes a module of bitcode of about 32 MB, for which it needs clang. LLVM's own
 # cursor is measured where a program that walks over a file with it is named in WALK.
 set -eu
@@ -32,7 +33,9 @@ for round in 1 2 3; do
     measure cat cat
     measure sha256sum sha256sum
     measure check "$program" check
+    measure analyse "$program" analyse
     measure normal "$program"
+    measure show "$program" show
     if [ -n "${WALK:-}" ]; then
         measure cursor "$WALK" "$module"
     fi

@@ -1,17 +1,15 @@
-//! Goes over the events of standard input and prints how many there are, for `bench/events.sh` to time and `bench/real.sh`
-//! to compare: `event_speed slice|buffered [ids]`. With `ids` it prints a line for each block id too.
+//! Goes over the events of standard input and prints how many there are, for `bench/events.sh` to time:
+//! `event_speed slice|buffered`.
 #![tactic(auto)]
-
-ghost use Rattle.std.specs.Prelude.{◌<◌, All, IfOk, vec_len};
 
 use bit_fields::{Fault, Limits, ReadSource, SliceSource, Source};
 use bit_tree::{Event, Events};
-use std::alloc::{AllocError, Global};
+use std::alloc::Global;
 use std::fmt::{self, Display, Formatter, Write};
 use std::io::{BufReader, Read};
 use std::{env, io};
 
-/// What there is of a stream, or of the blocks with one id without the blocks in them.
+/// What there is of a stream.
 #[derive(Clone, Copy, Default)]
 struct Counts {
     blocks: u64,
@@ -42,53 +40,6 @@ impl Display for Counts {
             "blocks {} definitions {} records {} values {}",
             self.blocks, self.definitions, self.records, self.values
         )
-    }
-}
-
-/// What there is of the blocks with one id.
-#[derive(Drop)]
-struct Row {
-    id: u32,
-    counts: Counts,
-}
-
-/// A row for each block id, in order of first entry, and the rows of the open blocks, the innermost last.
-#[derive(Drop)]
-struct Rows {
-    rows: Vec<Row>,
-    entered: Vec<usize>,
-    ghost entered_rows: { All (λ place. place < vec_len rows) entered.items },
-}
-
-impl Rows {
-    /// The row of a block id, made where there is none yet.
-    fn place_of(&mut self, id: u32) -> Result<usize, AllocError>
-        ensures { IfOk result (λ place. place < vec_len self.new.rows) }
-    {
-        if let Some(place) = self.rows.iter().position(|row| row.id == id) {
-            return Ok(place);
-        }
-        let place = self.rows.len();
-        self.rows.push(Row {
-            id,
-            counts: Counts::default(),
-        })?;
-        Ok(place)
-    }
-
-    /// Counts one more event.
-    fn add(&mut self, event: &Event<'_>) -> Result<(), AllocError> {
-        if let Event::Enter { id, .. } = event {
-            let place = self.place_of(*id)?;
-            self.entered.push(place)?;
-        }
-        if let Some(place) = self.entered.last() {
-            self.rows[*place].counts.add(event);
-        }
-        if let Event::Leave { .. } = event {
-            self.entered.pop();
-        }
-        Ok(())
     }
 }
 
@@ -137,38 +88,8 @@ fn count_events<S: Source + Drop>(alloc: Global, source: S) -> (Counts, Ending) 
     )
 }
 
-/// Counts all events by block id.
-fn count_by_id<S: Source + Drop>(alloc: Global, source: S) -> Result<Vec<Row>, Fault> {
-    let mut rows = Rows {
-        rows: Vec::new(alloc),
-        entered: Vec::new(alloc),
-    };
-    let mut events = match Events::start(alloc, source, widest()) {
-        Ok(events) => events,
-        Err((fault, _)) => return Err(fault),
-    };
-    for _ in 0..u64::MAX {
-        match events.next()? {
-            Some(event) => rows.add(&event).map_err(|_| Fault::Memory)?,
-            None => break,
-        }
-    }
-    Ok(rows.rows)
-}
-
-/// Prints what there is of an input, in all or by block id.
-fn print_counts<S: Source + Drop>(rt: &HostRuntime, source: S, by_id: bool) -> io::Result<()> {
-    if by_id {
-        match count_by_id(rt.alloc(), source) {
-            Ok(rows) => {
-                for row in &rows {
-                    println!(rt; "block {} {}", row.id, row.counts)?;
-                }
-            }
-            Err(fault) => println!(rt; "{fault}")?,
-        }
-        return Ok(());
-    }
+/// Prints what there is of an input.
+fn print_counts<S: Source + Drop>(rt: &HostRuntime, source: S) -> io::Result<()> {
     let (counts, ending) = count_events(rt.alloc(), source);
     println!(rt; "{counts} bits {}", ending.bits)?;
     if let Some(fault) = ending.fault {
@@ -179,16 +100,14 @@ fn print_counts<S: Source + Drop>(rt: &HostRuntime, source: S, by_id: bool) -> i
 
 fn main(rt: HostRuntime) -> io::Result<()> {
     let mut buffered = false;
-    let mut by_id = false;
     for word in env::args(&rt)? {
         buffered = buffered || word.as_str() == "buffered";
-        by_id = by_id || word.as_str() == "ids";
     }
     if buffered {
         let reader = BufReader::new(rt.alloc(), rt.reader())?;
-        return print_counts(&rt, ReadSource::new(reader), by_id);
+        return print_counts(&rt, ReadSource::new(reader));
     }
     let mut bytes = Vec::new(rt.alloc());
     rt.reader().read_to_end(&mut bytes)?;
-    print_counts(&rt, SliceSource::new(bytes.as_slice()), by_id)
+    print_counts(&rt, SliceSource::new(bytes.as_slice()))
 }
