@@ -1,20 +1,39 @@
 # make              builds the program to one file, which needs nothing of the toolchain: crates/bitstool/out/bitstool
 # make run < FILE   writes the normal form of a file; make run WORDS="check" < FILE gives the program these words
 # make install      copies the program to PREFIX/bin
-# make bench        the program beside other tools, on a module that it makes
+# make bench        the program beside other tools; bench/tool says on which files
 # make test         the gate: every proof from nothing, the edits that must be refused, and the tests; then make ask-program
 # make ask-program  the scripts of tests/ alone, which ask the built program; README.md tells what they do
 PREFIX ?= /usr/local
+JOBS ?= $(shell nproc)
 PROGRAM := crates/bitstool/out/bitstool
-SOURCES := crates.txt $(shell find crates -path '*/out' -prune -o \( -name '*.rt' -o -name '*.antt' \) -print)
+LIBRARIES := $(patsubst crates/%/src/lib.rt,%,$(wildcard crates/*/src/lib.rt))
+sources = $(shell find crates/$(1) -path '*/out' -prune -o \( -name '*.rt' -o -name '*.antt' \) -print)
+below = $(filter $(LIBRARIES),$(shell sed -n 's/^$(1)://p' crates.txt))
 
-.PHONY: all run install bench test ask-program
+.PHONY: all libraries run install bench test ask-program
 all: $(PROGRAM)
 
 # Proved, built, and run once on its stored input.
-$(PROGRAM): $(SOURCES)
-	cd crates/bitstool && rt run < stdin | cmp - stdout
-	touch $(PROGRAM)
+$(PROGRAM): crates.txt $(foreach name,$(LIBRARIES) bitstool,$(call sources,$(name)))
+	@echo "Proving and building: about 6 minutes on 4 cores from nothing, and less after a change."
+	@$(MAKE) --no-print-directory -j2 libraries
+	@echo "proving bitstool"
+	@cd crates/bitstool && rt run --jobs $(JOBS) < stdin 2> out/make.log | cmp - stdout || { cat out/make.log; exit 1; }
+	@touch $(PROGRAM)
+	@echo "built $(PROGRAM)"
+
+# Libraries that do not need each other are proved side by side.
+libraries: $(LIBRARIES:%=crates/%/out/built)
+
+define library
+crates/$(1)/out/built: crates.txt $(call sources,$(1)) $(patsubst %,crates/%/out/built,$(call below,$(1)))
+	@echo "proving $(1)"
+	@mkdir -p crates/$(1)/out
+	@cd crates/$(1) && rt lib --jobs $(JOBS) > out/make.log 2>&1 || { cat out/make.log; exit 1; }
+	@touch $$@
+endef
+$(foreach name,$(LIBRARIES),$(eval $(call library,$(name))))
 
 run: $(PROGRAM)
 	@$(PROGRAM) $(WORDS)
@@ -23,7 +42,7 @@ install: $(PROGRAM)
 	install -D $(PROGRAM) $(DESTDIR)$(PREFIX)/bin/bitstool
 
 bench: $(PROGRAM)
-	bench/tool.sh
+	bench/tool
 
 # The gate leaves the program that it proved and built in the place of $(PROGRAM).
 test:

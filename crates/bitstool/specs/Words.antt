@@ -20,9 +20,13 @@ use Rattle.bitstool.specs.declared.task.Parsed.TheVariants as parsed
 
 -- ---- the options
 
--- an option with a number from 0 to `most`, which is `usual` where it is not given
+-- an option with a number from 0 to `most`
+abbrev pub number_rule : (name : Text) → (most : ℕ) → Rule
+number_rule name most = record (new_rule name) { long = Some name; value_names = 1; parser = Some (Unsigned 0 most) }
+
+-- such an option, whose number is `usual` where it is not given
 abbrev pub limit_rule : (name usual : Text) → (most : ℕ) → Rule
-limit_rule name usual most = record (new_rule name) { long = Some name; value_names = 1; parser = Some (Unsigned 0 most); defaults = usual ∷ [] }
+limit_rule name usual most = record (number_rule name most) { defaults = usual ∷ [] }
 
 abbrev pub bytes_rule : Rule
 bytes_rule = limit_rule (codes "bytes") (codes "1073741824") 17179869180
@@ -39,7 +43,7 @@ drop_rule = record (new_rule (codes "drop-info")) { long = Some (codes "drop-inf
 
 -- an option with a number that has to be given
 abbrev pub first_rule : Rule
-first_rule = record (new_rule (codes "first")) { long = Some (codes "first"); value_names = 1; parser = Some (Unsigned 0 17179869180); required = true }
+first_rule = record (number_rule (codes "first") 17179869180) { required = true }
 
 -- ---- the commands
 

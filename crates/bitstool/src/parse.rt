@@ -3,7 +3,7 @@
 ghost use Rattle.std.specs.Prelude.{◌≡◌, false, map, string_bytes, IfOk, IfErr, IfSome};
 ghost use Rattle.bitstool.specs.declared.task.Parsed.{Parsed as ParsedValue};
 ghost use Rattle.clap.specs.Words.{app_of, found_of, kind_of, rows_of, rule_of, subcommand_rows_of};
-ghost use Rattle.bitstool.specs.Words.{HasLimits, HasNumber, HasSetting, Means, Says, Fails, Shows, bitstool, limit_rule, limited, dropping, comparing};
+ghost use Rattle.bitstool.specs.Words.{HasLimits, HasNumber, HasSetting, Means, Says, Fails, Shows, bitstool, limit_rule, limited, number_rule, dropping, comparing};
 
 use crate::task::{Parsed, Task};
 use bit_fields::Limits;
@@ -53,15 +53,23 @@ const SHOW: &str =
     "Prints the tree of the input: a line for each block, with its id, and for each record, with its code and values, \
 indented by the blocks around it";
 
-/// An option for a limit.
-fn limit<'a>(alloc: Global, name: &'a str, usual: &'a str, most: u64, help: &'a str) -> Arg<'a>
-    ensures rule { rule_of result ≡ limit_rule name.entry.now usual.entry.now most }
+/// An option with a number from 0 to `most`.
+fn number_option<'a>(alloc: Global, name: &'a str, most: u64) -> Arg<'a>
+    ensures rule { rule_of result ≡ number_rule name.entry.now most }
     ensures local { result.global ≡ false }
 {
     Arg::new(alloc, name)
         .long(name)
         .value_name("N")
         .value_parser(ValueParser::unsigned(0, most))
+}
+
+/// An option for a limit.
+fn limit<'a>(alloc: Global, name: &'a str, usual: &'a str, most: u64, help: &'a str) -> Arg<'a>
+    ensures rule { rule_of result ≡ limit_rule name.entry.now usual.entry.now most }
+    ensures local { result.global ≡ false }
+{
+    number_option(alloc, name, most)
         .default_value(usual)
         .help(help)
 }
@@ -115,10 +123,7 @@ fn dropping<'a>(alloc: Global, name: &'a str, about: &'a str) -> Result<Command<
 fn comparing<'a>(alloc: Global) -> Result<Command<'a>, AllocError>
     ensures { IfOk result (λ command. app_of command ≡ comparing) }
 {
-    let first = Arg::new(alloc, "first")
-        .long("first")
-        .value_name("N")
-        .value_parser(ValueParser::unsigned(0, MOST_BYTES))
+    let first = number_option(alloc, "first", MOST_BYTES)
         .required(true)
         .help("How many bytes the first input has; the second is the rest; at most 17179869180");
     dropping(alloc, "same", SAME)?.arg(first)
