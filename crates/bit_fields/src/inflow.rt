@@ -107,18 +107,17 @@ impl<S: Source> Inflow<S> {
             return Err(Missing::End);
         }
         let stop = self.end.min(self.limit);
-        let mut bytes = [0; 8];
         if self.loaded >= stop {
             return Err(self.past());
         }
         let room = u64::from((64 - self.window.len()) / 8).min(stop - self.loaded) as usize;
-        match self.source.pull(&mut bytes[..room]) {
-            Ok(0) => {
+        match self.source.pull_word(room) {
+            Ok((_, 0)) => {
                 self.ended = true; // and is not pulled again
                 Err(Missing::End)
             }
-            Ok(count) => {
-                self.window.push_bytes(bytes, count);
+            Ok((word, count)) => {
+                self.window.push(word, 8 * count as u32);
                 self.loaded += count as u64;
                 Ok(())
             }

@@ -1,5 +1,5 @@
-use Rattle.std.proofs.Common.{◌≡◌, rules, arith, subst, refl}
-use Rattle.std.specs.Io.BufRead.{FillKeeps, DropsConsumable}
+use Rattle.std.proofs.Common.{arith, subst, refl}
+use Rattle.std.specs.Io.BufRead.{FillKeeps}
 use Rattle.std.proofs.BufReadLemmas.{Consumes_shown}
 use Rattle.bit_fields.proofs.Words.{front_taken}
 use Rattle.bit_fields.proofs.source.BufSourceSource.pull_word.Goals as goal
