@@ -74,6 +74,8 @@ impl<S: Source> Inflow<S> {
     }
 
     /// Where the limit on bytes is reached, or the end that a wrapper named: whether the input goes on past the limit.
+    #[cold]
+    #[inline(never)]
     fn past(&mut self) -> Missing
         requires going { self.old.ended ≡ false }
         requires stop { stop_of self.old ≤ self.old.loaded }
@@ -99,6 +101,7 @@ impl<S: Source> Inflow<S> {
     }
 
     /// Takes bytes in, as many as there is room for.
+    #[inline(always)]
     fn more(&mut self) -> Result<(), Missing>
         requires { length self.old.window ≤ 56 }
         ensures { Brings self.old self.new result }

@@ -36,6 +36,7 @@ pub fn front_of(bytes: &[u8], most: usize) -> (u64, usize)
 
 /// The same for a slice of few bytes.
 #[cold]
+#[inline(never)]
 fn few_of(bytes: &[u8], most: usize) -> (u64, usize)
     requires short { length bytes.now < 8 }
     requires few { most ≤ 8 }

@@ -2,7 +2,7 @@
 //! `field_speed fixed|vbr slice|buffered`.
 #![tactic(auto)]
 
-use bit_fields::{BitReader, Limits, ReadSource, SliceSource, Source};
+use bit_fields::{BitReader, BufSource, Limits, SliceSource, Source};
 use std::io::{BufReader, Read};
 use std::{env, io};
 
@@ -51,7 +51,7 @@ fn main(rt: HostRuntime) -> io::Result<()> {
     }
     let sum = if buffered {
         let reader = BufReader::new(rt.alloc(), rt.reader())?;
-        sum_of(ReadSource::new(reader), in_chunks)
+        sum_of(BufSource::new(reader), in_chunks)
     } else {
         let mut bytes = Vec::new(rt.alloc());
         rt.reader().read_to_end(&mut bytes)?;
