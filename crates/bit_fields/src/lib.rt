@@ -13,6 +13,8 @@ mod source;
 mod tests;
 mod window;
 mod word;
+#[cfg(test)]
+mod word_tests;
 mod writer;
 mod writer_laws;
 #[cfg(test)]

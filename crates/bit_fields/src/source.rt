@@ -208,4 +208,23 @@ mod tests {
         assert_eq!(rt; reader.pull(&mut into), Err(SourceFailed));
         assert_eq!(rt; (reader.pulls, reader.reader.len()), (5, 3));
     }
+
+    #[test]
+    fn worn_words(rt: HostRuntime) {
+        let mut slice = SliceSource {
+            rest: &[7, 8, 9],
+            pulls: u64::MAX - 1,
+        };
+        assert_eq!(rt; slice.pull_word(2), Ok((0x0807, 2)));
+        assert_eq!(rt; slice.pull_word(2), Err(SourceFailed));
+        assert_eq!(rt; (slice.pulls, slice.rest), (u64::MAX, [9].as_slice()));
+        let mut buffered = BufSource::new([7, 8, 9].as_slice());
+        assert_eq!(rt; buffered.pull_word(2), Ok((0x0807, 2)));
+        buffered.source.failures = u64::MAX;
+        assert_eq!(rt; buffered.pull_word(2), Err(SourceFailed));
+        assert_eq!(rt;
+            (buffered.source.pulls, buffered.into_inner()),
+            (1, [9].as_slice())
+        );
+    }
 }

@@ -4,11 +4,11 @@
 ghost use Rattle.std.specs.Prelude.{◌≤◌};
 
 use crate::{
-    BitReader, BitWriter, Fault, Head, Limits, ReadSource, Reason, SliceSource, Source, VecSink,
-    Wrapper, WriteSink,
+    BitReader, BitWriter, BufSource, Fault, Head, Limits, ReadSource, Reason, SliceSource, Source,
+    VecSink, Wrapper, WriteSink,
 };
 use std::io;
-use std::io::{Error, ErrorKind, Read, Write};
+use std::io::{BufRead, Error, ErrorKind, Read, Write};
 use std::process::Abort;
 use std::test::Fail;
 
@@ -27,7 +27,7 @@ const WRAPPER: [u8; 20] = [
 
 /// A reader that gives at most so many bytes at a time, and fails at one of its reads.
 #[derive(Drop)]
-struct Chopped<'a> {
+pub(crate) struct Chopped<'a> {
     rest: &'a [u8],
     step: usize,
     reads: u64,
@@ -45,8 +45,35 @@ impl<'a> Read for Chopped<'a> {
     }
 }
 
+/// It shows as many bytes at a time.
+impl<'a> BufRead for Chopped<'a> {
+    fn fill_buf(&mut self) -> io::Result<&[u8]> {
+        self.reads = self.reads.saturating_add(1);
+        if self.reads == self.fails_at {
+            return Err(Error::from(ErrorKind::Other));
+        }
+        let most = self.step.min(self.rest.len());
+        Ok(&self.rest[..most])
+    }
+
+    fn consume(&mut self, amount: usize) {
+        let count = amount.min(self.rest.len());
+        self.rest = &self.rest[count..];
+    }
+}
+
+/// A source over what such a reader shows.
+pub(crate) fn shown(bytes: &[u8], step: usize, fails_at: u64) -> BufSource<Chopped<'_>> {
+    BufSource::new(Chopped {
+        rest: bytes,
+        step,
+        reads: 0,
+        fails_at,
+    })
+}
+
 /// A source over such a reader.
-fn in_steps(bytes: &[u8], step: usize, fails_at: u64) -> ReadSource<Chopped<'_>> {
+pub(crate) fn in_steps(bytes: &[u8], step: usize, fails_at: u64) -> ReadSource<Chopped<'_>> {
     ReadSource::new(Chopped {
         rest: bytes,
         step,
