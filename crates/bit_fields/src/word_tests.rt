@@ -62,6 +62,14 @@ fn value(bytes: &[u8]) -> u64 {
     value
 }
 
+/// The first word of a source and its count, and 0 and 99 where it failed.
+fn first<S: Source + Drop>(mut source: S, room: usize) -> (u64, usize) {
+    match source.pull_word(room.clamp(1, 8)) {
+        Ok(taken) => taken,
+        Err(_) => (0, 99),
+    }
+}
+
 #[test]
 fn first_words(rt: HostRuntime) {
     for (room, word) in [
@@ -70,18 +78,19 @@ fn first_words(rt: HostRuntime) {
         (7, 0xF7_06F5_04F3_02F1),
         (8, 0x08F7_06F5_04F3_02F1),
     ] {
-        let answer = Ok((word, room));
-        assert_eq!(rt; SliceSource::new(&BYTES).pull_word(room), answer);
-        assert_eq!(rt; in_steps(&BYTES, 9, 0).pull_word(room), answer);
-        assert_eq!(rt; shown(&BYTES, 9, 0).pull_word(room), answer);
-        assert_eq!(rt; shown(&BYTES[..room], 9, 0).pull_word(room), answer);
+        let bytes = &BYTES[..room.min(8)];
+        assert_eq!(rt; first(SliceSource::new(&BYTES), room), (word, room));
+        assert_eq!(rt; first(SliceSource::new(bytes), room), (word, room));
+        assert_eq!(rt; first(in_steps(&BYTES, 9, 0), room), (word, room));
+        assert_eq!(rt; first(shown(&BYTES, 9, 0), room), (word, room));
+        assert_eq!(rt; first(shown(bytes, 9, 0), room), (word, room));
     }
 }
 
 #[test]
 fn slices_and_words(rt: HostRuntime) {
-    for room in 1..9 {
-        for length in 0..22 {
+    for room in 1..9usize {
+        for length in 0..22usize {
             let bytes = &BYTES[..length];
             let words = by_words(SliceSource::new(bytes), room);
             assert_eq!(rt;
@@ -115,13 +124,11 @@ fn steps_and_words(rt: HostRuntime) {
 #[test]
 fn failures_and_words(rt: HostRuntime) {
     for room in 1..9 {
-        for fails_at in 1..9 {
+        for fails_at in 1..6 {
             let given = by_slices(in_steps(&BYTES, 5, fails_at), room);
-            assert_eq!(rt;
-                by_words(in_steps(&BYTES, 5, fails_at), room),
-                given,
-                "{room} {fails_at}"
-            );
+            let stepped = by_words(in_steps(&BYTES, 5, fails_at), room);
+            let shown = by_words(shown(&BYTES, 5, fails_at), room);
+            assert_eq!(rt; (stepped, shown), (given, given), "{room} {fails_at}");
         }
     }
 }
