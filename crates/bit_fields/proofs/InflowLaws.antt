@@ -3,10 +3,11 @@ use Rattle.std.proofs.Common.{◌≡◌, ℕ, zero, suc, ◌+◌, ◌*◌, ◌-�
 use Rattle.std.specs.Prelude.{IsSome}
 use Rattle.std.specs.Io.KnownBytes as bytes
 use Rattle.std.proofs.lemmas.Bool.{cases_lt, false≢true, le-ltb, lt-ltb, and_right, and_left, and_from}
-use Rattle.std.proofs.lemmas.List.{append-nil, length-append, length-take-le, take-append-le}
+use Rattle.std.proofs.lemmas.List.{append-nil, length-append, length-take-le}
 use Rattle.std.proofs.Math.Seq.{take-append-add}
-use Rattle.bit_grammar.specs.Bits.{bits_of_bytes}
-use Rattle.bit_fields.specs.Devices.{Incoming, Gave, GaveNone, Spends, known_bytes}
+use Rattle.bit_grammar.specs.Bits.{bits_of, bits_of_bytes}
+use Rattle.bit_grammar.proofs.Numbers.{length-bits_of}
+use Rattle.bit_fields.specs.Devices.{Incoming, Gave, GaveNone, GaveWord, Spends, known_bytes}
 use Rattle.bit_fields.specs.Inflow.{Flow, IsKnown, stop_of, left_of, total_of, is_cut, budget_of, IsFlow, SamePlace, Keeps, NoMore, Lost, RunsOut, Misses, Fills}
 use Rattle.bit_fields.specs.declared.inflow.Missing.{Missing}
 use Rattle.bit_fields.specs.declared.inflow.Missing.TheVariants.{End, Limit, Read}
@@ -220,24 +221,22 @@ bytes_came f i count into going le some gave =
       total = λ k. omega (arith, (came f.incoming i count into gave k).1);
     }
 
--- the same, as the window has them
-pub bytes_came_as : (f : Flow) (i : Incoming) (count : ℕ) (into rest : List ℕ) (window : List Bool) → f.ended ≡ false → length into ≤ stop_of f - f.loaded → f.loaded ≤ stop_of f → (count ≡ 0 → ⊥) → Gave f.incoming i count into
-    → window ≡ f.window ++ bits_of_bytes (take count (into ++ rest)) → Keeps f (record f { window = window; incoming = i; loaded = f.loaded + count }) × (length f.window < length window)
-bytes_came_as f i count into rest window going le fits some gave is =
-    let same : take count (into ++ rest) ≡ take count into = take-append-le count into rest gave.fits in
-    let w : window ≡ f.window ++ bits_of_bytes (take count into) = is ∙ ap (λ (b : List ℕ). f.window ++ bits_of_bytes b) same in
+-- the same, as a word
+pub word_came : (f : Flow) (i : Incoming) (room word count : ℕ) (window : List Bool) → f.ended ≡ false → room ≤ stop_of f - f.loaded → f.loaded ≤ stop_of f → (count ≡ 0 → ⊥) → GaveWord f.incoming i room word count
+    → window ≡ f.window ++ bits_of (8 * count) word → Keeps f (record f { window = window; incoming = i; loaded = f.loaded + count }) × (length f.window < length window)
+word_came f i room word count window going le fits some taken is =
+    let gave = taken.gave in
+    let w : window ≡ f.window ++ bits_of_bytes (take count taken.into) = is ∙ ap (λ (s : List Bool). f.window ++ s) taken.bits in
     let positive : 0 < count = omega arith in
-    (rw w (bytes_came f i count into going (omega (arith, gave.fits)) positive gave), omega (arith, ap length w, length-append f.window (bits_of_bytes (take count into)), length-bits_of_bytes (take count into), length-take-le count into gave.fits))
+    (rw w (bytes_came f i count taken.into going (omega (arith, gave.fits, taken.wide)) positive gave), omega (arith, ap length w, length-append f.window (bits_of_bytes (take count taken.into)), length-bits_of_bytes (take count taken.into), length-take-le count taken.into gave.fits))
 
-pub flow_after : (f : Flow) (i : Incoming) (count : ℕ) (into rest : List ℕ) (window : List Bool) → IsFlow f → f.ended ≡ false → length into ≤ stop_of f - f.loaded → f.loaded ≤ stop_of f → 8 * length into + length f.window ≤ 64 → Gave f.incoming i count into
-    → window ≡ f.window ++ bits_of_bytes (take count (into ++ rest)) → IsFlow (record f { window = window; incoming = i; loaded = f.loaded + count })
-flow_after f i count into rest window was going le fits room gave is =
-    let same : take count (into ++ rest) ≡ take count into = take-append-le count into rest gave.fits in
-    let w : window ≡ f.window ++ bits_of_bytes (take count into) = is ∙ ap (λ (b : List ℕ). f.window ++ bits_of_bytes b) same in
-    let len : length window ≡ length f.window + 8 * count = omega (arith, ap length w, length-append f.window (bits_of_bytes (take count into)), length-bits_of_bytes (take count into), length-take-le count into gave.fits) in
+pub flow_after : (f : Flow) (i : Incoming) (room word count : ℕ) (window : List Bool) → IsFlow f → f.ended ≡ false → room ≤ stop_of f - f.loaded → f.loaded ≤ stop_of f → 8 * room + length f.window ≤ 64 → GaveWord f.incoming i room word count
+    → window ≡ f.window ++ bits_of (8 * count) word → IsFlow (record f { window = window; incoming = i; loaded = f.loaded + count })
+flow_after f i room word count window was going le fits free taken is =
+    let len : length window ≡ length f.window + 8 * count = omega (arith, ap length is, length-append f.window (bits_of (8 * count) word), length-bits_of (8 * count) word) in
     record {
-      held = omega (arith, gave.fits);
-      loaded = omega (arith, gave.fits);
+      held = omega (arith, taken.gave.fits, taken.wide);
+      loaded = omega (arith, taken.gave.fits, taken.wide);
       limit = was.limit;
       place = omega (arith, was.place);
       ended = λ e. absurd (false≢true (sym going ∙ e));

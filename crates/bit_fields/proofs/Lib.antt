@@ -1,4 +1,5 @@
 pub mod BitLaws
+pub mod Words
 pub mod InflowLaws
 pub mod Shortening
 pub mod Draining

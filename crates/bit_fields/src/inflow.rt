@@ -74,6 +74,8 @@ impl<S: Source> Inflow<S> {
     }
 
     /// Where the limit on bytes is reached, or the end that a wrapper named: whether the input goes on past the limit.
+    #[cold]
+    #[inline(never)]
     fn past(&mut self) -> Missing
         requires going { self.old.ended ≡ false }
         requires stop { stop_of self.old ≤ self.old.loaded }
@@ -99,6 +101,7 @@ impl<S: Source> Inflow<S> {
     }
 
     /// Takes bytes in, as many as there is room for.
+    #[inline(always)]
     fn more(&mut self) -> Result<(), Missing>
         requires { length self.old.window ≤ 56 }
         ensures { Brings self.old self.new result }
@@ -107,18 +110,17 @@ impl<S: Source> Inflow<S> {
             return Err(Missing::End);
         }
         let stop = self.end.min(self.limit);
-        let mut bytes = [0; 8];
         if self.loaded >= stop {
             return Err(self.past());
         }
         let room = u64::from((64 - self.window.len()) / 8).min(stop - self.loaded) as usize;
-        match self.source.pull(&mut bytes[..room]) {
-            Ok(0) => {
+        match self.source.pull_word(room) {
+            Ok((_, 0)) => {
                 self.ended = true; // and is not pulled again
                 Err(Missing::End)
             }
-            Ok(count) => {
-                self.window.push_bytes(bytes, count);
+            Ok((word, count)) => {
+                self.window.push(word, 8 * count as u32);
                 self.loaded += count as u64;
                 Ok(())
             }

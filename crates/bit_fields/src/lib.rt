@@ -12,6 +12,9 @@ mod source;
 #[cfg(test)]
 mod tests;
 mod window;
+mod word;
+#[cfg(test)]
+mod word_tests;
 mod writer;
 mod writer_laws;
 #[cfg(test)]
@@ -23,6 +26,6 @@ pub use head::{Head, Wrapper};
 pub use limits::Limits;
 pub use reader::BitReader;
 pub use sink::{Sink, SinkFailed, VecSink, WriteSink};
-pub use source::{ReadSource, SliceSource, Source, SourceFailed};
+pub use source::{BufSource, ReadSource, SliceSource, Source, SourceFailed};
 pub use writer::BitWriter;
 pub use writer_laws::{bytes_of_writing, write_nothing, write_then_stop, write_then_write};

@@ -212,8 +212,11 @@ impl<S: Source> BitReader<S> {
         Ok(magic)
     }
 
-    /// Fails where a judgement does not hold.
-    fn judge(&mut self, holds: bool, reason: Reason, bit: u64) -> Result<(), Fault>
+    /// Fails where a judgement of the caller's does not hold: refuses the input for a reason at a bit. This is the one call
+    /// for judgements of what was read; the reader has then failed, at the bit at which it stands. A reason for which
+    /// another one stands where only the limit on bytes ends the input, `Truncated`, is no judgement.
+    #[inline]
+    pub fn judge(&mut self, holds: bool, reason: Reason, bit: u64) -> Result<(), Fault>
         requires live { self.old.live ≡ true }
         requires stays { (e : Extent) → within e reason bit ≡ at reason bit }
         ensures takes { Takes (test holds (at reason bit)) self.old result self.new }

@@ -1,6 +1,7 @@
 ghost use Rattle.std.specs.Prelude.{◌≡◌, Some};
 
-use std::io::Read;
+use crate::word::{front_of, word_of};
+use std::io::{BufRead, Read};
 use thiserror::Error;
 
 /// A source gave no bytes.
@@ -11,7 +12,8 @@ pub struct SourceFailed;
 /// What gives bytes in order, and counts how often it was asked and how often it failed. A source is worn once a count
 /// stands at `u64::MAX`.
 pub trait Source {
-    ghost use Rattle.bit_fields.specs.Devices.{Incoming, Pulls};
+    ghost use Rattle.std.specs.Prelude.{◌<◌, ◌≤◌};
+    ghost use Rattle.bit_fields.specs.Devices.{Incoming, Pulls, PullsWord};
 
     // The bytes still to come, where the source tells them, and the counts.
     ghost incoming: { Self → Incoming };
@@ -22,6 +24,19 @@ pub trait Source {
     /// `SourceFailed` takes no byte and is counted as a failure too. A worn source answers it and changes nothing.
     fn pull(&mut self, into: &mut [u8]) -> Result<usize, SourceFailed>
         ensures { Pulls (incoming self.old) (incoming self.new) result into.new };
+
+    /// Takes the next bytes, at most so many, from 1 to 8, as a word, the first one lowest and zeros behind the last, and
+    /// answers how many they are; 0 says that no byte is left. It is one pull, and fails as `pull` does.
+    #[inline]
+    fn pull_word(&mut self, room: usize) -> Result<(u64, usize), SourceFailed>
+        requires some { 0 < room }
+        requires few { room ≤ 8 }
+        ensures { PullsWord room (incoming self.old) (incoming self.new) result }
+    {
+        let mut bytes = [0; 8];
+        let count = self.pull(&mut bytes[..room])?;
+        Ok((word_of(bytes, count), count))
+    }
 }
 
 /// The bytes of a slice. It fails only once it is worn.
@@ -53,6 +68,17 @@ impl<'a> Source for SliceSource<'a> {
         }
         self.pulls += 1;
         self.rest.read(into).map_err(|_| SourceFailed)
+    }
+
+    #[inline]
+    fn pull_word(&mut self, room: usize) -> Result<(u64, usize), SourceFailed> {
+        if self.pulls == u64::MAX {
+            return Err(SourceFailed);
+        }
+        self.pulls += 1;
+        let (word, count) = front_of(self.rest, room);
+        self.rest = &self.rest[count..];
+        Ok((word, count))
     }
 }
 
@@ -103,6 +129,63 @@ impl<R: Read> Source for ReadSource<R> {
     }
 }
 
+/// What a reader with a buffer gives. A word comes out of the buffer, and no byte is taken ahead. Any error of the reader
+/// is a failure; no read is tried again.
+#[derive(Drop)]
+pub struct BufSource<R> {
+    source: ReadSource<R>,
+}
+
+impl<R: BufRead> BufSource<R> {
+    /// A source of all that a reader still has.
+    pub fn new(reader: R) -> BufSource<R>
+        ensures { ⟦<BufSource<R> as Source>⟧.incoming result ≡ record { to_come = R.remaining reader; pulls = 0; failures = 0 } }
+    {
+        BufSource {
+            source: ReadSource::new(reader),
+        }
+    }
+
+    /// The reader as it stands.
+    pub fn into_inner(self) -> R
+        ensures { R.remaining result ≡ (⟦<BufSource<R> as Source>⟧.incoming self).to_come }
+    {
+        self.source.into_inner()
+    }
+}
+
+impl<R: BufRead> Source for BufSource<R> {
+    ghost incoming = { λ s. record { to_come = R.remaining s.source.reader; pulls = s.source.pulls; failures = s.source.failures } };
+
+    #[inline]
+    fn pull(&mut self, into: &mut [u8]) -> Result<usize, SourceFailed> {
+        self.source.pull(into)
+    }
+
+    #[inline]
+    fn pull_word(&mut self, room: usize) -> Result<(u64, usize), SourceFailed> {
+        let source = &mut self.source;
+        if source.pulls == u64::MAX || source.failures == u64::MAX {
+            return Err(SourceFailed);
+        }
+        let (word, count) = match source.reader.fill_buf() {
+            Ok(bytes) => front_of(bytes, room),
+            Err(_) => {
+                source.pulls += 1;
+                source.failures += 1;
+                return Err(SourceFailed);
+            }
+        };
+        if count == 0 {
+            // only a read says that no byte is left
+            return source.pull_word(room);
+        }
+        source.reader.consume(count);
+        source.pulls += 1;
+        Ok((word, count))
+    }
+}
+
 #[cfg(test)]
 mod tests {
     use super::*;
@@ -124,5 +207,24 @@ mod tests {
         };
         assert_eq!(rt; reader.pull(&mut into), Err(SourceFailed));
         assert_eq!(rt; (reader.pulls, reader.reader.len()), (5, 3));
+    }
+
+    #[test]
+    fn worn_words(rt: HostRuntime) {
+        let mut slice = SliceSource {
+            rest: &[7, 8, 9],
+            pulls: u64::MAX - 1,
+        };
+        assert_eq!(rt; slice.pull_word(2), Ok((0x0807, 2)));
+        assert_eq!(rt; slice.pull_word(2), Err(SourceFailed));
+        assert_eq!(rt; (slice.pulls, slice.rest), (u64::MAX, [9].as_slice()));
+        let mut buffered = BufSource::new([7, 8, 9].as_slice());
+        assert_eq!(rt; buffered.pull_word(2), Ok((0x0807, 2)));
+        buffered.source.failures = u64::MAX;
+        assert_eq!(rt; buffered.pull_word(2), Err(SourceFailed));
+        assert_eq!(rt;
+            (buffered.source.pulls, buffered.into_inner()),
+            (1, [9].as_slice())
+        );
     }
 }

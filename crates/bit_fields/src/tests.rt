@@ -4,11 +4,11 @@
 ghost use Rattle.std.specs.Prelude.{◌≤◌};
 
 use crate::{
-    BitReader, BitWriter, Fault, Head, Limits, ReadSource, Reason, SliceSource, Source, VecSink,
-    Wrapper, WriteSink,
+    BitReader, BitWriter, BufSource, Fault, Head, Limits, ReadSource, Reason, SliceSource, Source,
+    VecSink, Wrapper, WriteSink,
 };
 use std::io;
-use std::io::{Error, ErrorKind, Read, Write};
+use std::io::{BufRead, Error, ErrorKind, Read, Write};
 use std::process::Abort;
 use std::test::Fail;
 
@@ -27,7 +27,7 @@ const WRAPPER: [u8; 20] = [
 
 /// A reader that gives at most so many bytes at a time, and fails at one of its reads.
 #[derive(Drop)]
-struct Chopped<'a> {
+pub(crate) struct Chopped<'a> {
     rest: &'a [u8],
     step: usize,
     reads: u64,
@@ -45,8 +45,35 @@ impl<'a> Read for Chopped<'a> {
     }
 }
 
+/// It shows as many bytes at a time.
+impl<'a> BufRead for Chopped<'a> {
+    fn fill_buf(&mut self) -> io::Result<&[u8]> {
+        self.reads = self.reads.saturating_add(1);
+        if self.reads == self.fails_at {
+            return Err(Error::from(ErrorKind::Other));
+        }
+        let most = self.step.min(self.rest.len());
+        Ok(&self.rest[..most])
+    }
+
+    fn consume(&mut self, amount: usize) {
+        let count = amount.min(self.rest.len());
+        self.rest = &self.rest[count..];
+    }
+}
+
+/// A source over what such a reader shows.
+pub(crate) fn shown(bytes: &[u8], step: usize, fails_at: u64) -> BufSource<Chopped<'_>> {
+    BufSource::new(Chopped {
+        rest: bytes,
+        step,
+        reads: 0,
+        fails_at,
+    })
+}
+
 /// A source over such a reader.
-fn in_steps(bytes: &[u8], step: usize, fails_at: u64) -> ReadSource<Chopped<'_>> {
+pub(crate) fn in_steps(bytes: &[u8], step: usize, fails_at: u64) -> ReadSource<Chopped<'_>> {
     ReadSource::new(Chopped {
         rest: bytes,
         step,
@@ -197,9 +224,13 @@ fn wholes(rt: HostRuntime) {
     ] {
         for step in 1..10 {
             let source = in_steps(&longer[..count], step, 0);
+            let other = shown(&longer[..count], step, 0);
             assert_eq!(rt;
-                words(source, limit_of(bytes)),
-                answer,
+                (
+                    words(source, limit_of(bytes)),
+                    words(other, limit_of(bytes))
+                ),
+                (answer, answer),
                 "{count} {bytes} {step}"
             );
         }
@@ -209,6 +240,15 @@ fn wholes(rt: HostRuntime) {
         let answer = if read == 18 { Ok(3) } else { Err(Fault::Read) };
         assert_eq!(rt;
             words(in_steps(&EMPTY_BLOCK, 1, read), Limits::usual()),
+            answer,
+            "{read}"
+        );
+    }
+    // the end is shown, and then read
+    for read in 1..20 {
+        let answer = if read == 19 { Ok(3) } else { Err(Fault::Read) };
+        assert_eq!(rt;
+            words(shown(&EMPTY_BLOCK, 1, read), Limits::usual()),
             answer,
             "{read}"
         );
@@ -382,6 +422,8 @@ fn numbers(rt: HostRuntime) {
         for step in 1..10 {
             let source = in_steps(&input[..count], step, 0);
             assert_eq!(rt; number(&rt, source, n), answer, "{count} {step}");
+            let source = shown(&input[..count], step, 0);
+            assert_eq!(rt; number(&rt, source, n), answer, "{count} {step}");
         }
     }
 }
@@ -409,6 +451,55 @@ fn paddings(rt: HostRuntime) {
         assert_eq!(rt; reader.pad(), Err(refused(Reason::DirtyPadding, 95)));
         assert_eq!(rt; reader.position(), 72);
         assert_eq!(rt; reader.pad(), Err(Fault::Failed));
+    }
+}
+
+/// A field of each kind after the magic: all values as one number, in digits of base 1000.
+fn some_fields<S: Source + Drop>(source: S) -> Result<u64, Fault> {
+    let mut reader = match BitReader::start(source, Limits::usual()) {
+        Ok((reader, _)) => reader,
+        Err((fault, _)) => return Err(fault),
+    };
+    let fixed = reader.fixed(7)?;
+    let code = reader.char6()?;
+    let short = reader.vbr(4)?;
+    reader.pad()?;
+    let byte = u64::from(reader.byte()?);
+    let long = reader.vbr(3)?;
+    let digits = [fixed, code, short, byte, long];
+    let mut all: u64 = 0;
+    for digit in digits {
+        all = all.wrapping_mul(1000).wrapping_add(digit);
+    }
+    Ok(all)
+}
+
+#[test]
+fn fields_at_an_end(rt: HostRuntime) {
+    // 93, 'z', 5 + 8 * 2; zeros; 200, and 3 + 4 * (3 + 4 * (3 + 4 * (2 + 4 * 1)))
+    let input = after_magic(&[0xDD, 0xAC, 0x05, 0, 0xC8, 0xFF, 0x1D]);
+    let answer = Ok(93_122_021_200_447);
+    assert_eq!(rt; some_fields(SliceSource::new(&input[..11])), answer);
+    for step in 1..12 {
+        assert_eq!(rt;
+            some_fields(in_steps(&input[..11], step, 0)),
+            answer,
+            "{step}"
+        );
+        assert_eq!(rt; some_fields(shown(&input[..11], step, 0)), answer, "{step}");
+    }
+    // eleven bytes one by one
+    for read in 1..12 {
+        assert_eq!(rt;
+            some_fields(in_steps(&input, 1, read)),
+            Err(Fault::Read),
+            "{read}"
+        );
+        assert_eq!(rt;
+            some_fields(shown(&input, 1, read)),
+            Err(Fault::Read),
+            "{read}"
+        );
     }
 }
 

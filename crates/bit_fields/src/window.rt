@@ -115,20 +115,6 @@ impl Window {
         self.held = n;
     }
 
-    /// Puts the bits of the first bytes behind those that are here.
-    #[inline(always)]
-    pub fn push_bytes(&mut self, bytes: [u8; 8], count: usize)
-        requires few { count ≤ 8 }
-        requires room { length self.old + 8 * count ≤ 64 }
-        requires some { 0 < count }
-        ensures { self.new ≡ self.old ++ bits_of_bytes (take count bytes) }
-    {
-        let word = u64::from_le_bytes(bytes);
-        let n = 8 * count as u32;
-        let mask = u64::MAX >> (64 - n);
-        self.push(word & mask, n);
-    }
-
     /// The bytes of the bits, the first eight bits as the first byte, with zeros behind.
     pub fn bytes(&self) -> [u8; 8]
         ensures front { (k : ℕ) → 8 * k ≤ length self.now → bits_of_bytes (take k result) ≡ take (8 * k) self.now }

@@ -1,0 +1,134 @@
+//! Bytes taken as words, against bytes taken into slices.
+
+ghost use Rattle.std.specs.Prelude.{◌<◌, ◌≤◌};
+
+use crate::tests::{in_steps, shown};
+use crate::{SliceSource, Source};
+
+/// Bytes of which no two are the same.
+const BYTES: [u8; 21] = [
+    0xF1, 0x02, 0xF3, 0x04, 0xF5, 0x06, 0xF7, 0x08, 0xF9, 0x0A, 0xFB, 0x0C, 0xFD, 0x0E, 0xFF, 0x10,
+    0xE1, 0x12, 0xE3, 0x14, 0xE5,
+];
+
+/// A number that tells apart what was given in which order.
+fn mixed(before: u64, word: u64, count: usize) -> u64 {
+    let with_word = before
+        .wrapping_mul(0x9E37_79B9_7F4A_7C15)
+        .wrapping_add(word);
+    with_word
+        .wrapping_mul(0x9E37_79B9_7F4A_7C15)
+        .wrapping_add(count as u64)
+}
+
+/// What a source gives up to its end or its first failure, by words.
+fn by_words<S: Source + Drop>(mut source: S, room: usize) -> u64
+    requires some { 0 < room }
+    requires few { room ≤ 8 }
+{
+    let mut given = 0;
+    for _ in 0..100 {
+        match source.pull_word(room) {
+            Ok((_, 0)) => return given,
+            Ok((word, count)) => given = mixed(given, word, count),
+            Err(_) => return mixed(given, 0, 99),
+        }
+    }
+    0
+}
+
+/// The same, by slices, with the number of the bytes counted up from the last one.
+fn by_slices<S: Source + Drop>(mut source: S, room: usize) -> u64
+    requires few { room ≤ 8 }
+{
+    let mut given = 0;
+    for _ in 0..100 {
+        let mut bytes = [0; 8];
+        match source.pull(&mut bytes[..room]) {
+            Ok(0) => return given,
+            Ok(count) => given = mixed(given, value(&bytes[..count]), count),
+            Err(_) => return mixed(given, 0, 99),
+        }
+    }
+    0
+}
+
+/// The number that bytes spell, the first one lowest.
+fn value(bytes: &[u8]) -> u64 {
+    let mut value: u64 = 0;
+    for byte in bytes.iter().rev() {
+        value = value.wrapping_mul(256).wrapping_add(u64::from(*byte));
+    }
+    value
+}
+
+/// The first word of a source and its count, and 0 and 99 where it failed.
+fn first<S: Source + Drop>(mut source: S, room: usize) -> (u64, usize) {
+    match source.pull_word(room.clamp(1, 8)) {
+        Ok(taken) => taken,
+        Err(_) => (0, 99),
+    }
+}
+
+#[test]
+fn first_words(rt: HostRuntime) {
+    for (room, word) in [
+        (1, 0xF1),
+        (3, 0xF3_02F1),
+        (7, 0xF7_06F5_04F3_02F1),
+        (8, 0x08F7_06F5_04F3_02F1),
+    ] {
+        let bytes = &BYTES[..room.min(8)];
+        assert_eq!(rt; first(SliceSource::new(&BYTES), room), (word, room));
+        assert_eq!(rt; first(SliceSource::new(bytes), room), (word, room));
+        assert_eq!(rt; first(in_steps(&BYTES, 9, 0), room), (word, room));
+        assert_eq!(rt; first(shown(&BYTES, 9, 0), room), (word, room));
+        assert_eq!(rt; first(shown(bytes, 9, 0), room), (word, room));
+    }
+}
+
+#[test]
+fn slices_and_words(rt: HostRuntime) {
+    for room in 1..9usize {
+        for length in 0..22usize {
+            let bytes = &BYTES[..length];
+            let words = by_words(SliceSource::new(bytes), room);
+            assert_eq!(rt;
+                words,
+                by_slices(SliceSource::new(bytes), room),
+                "{room} {length}"
+            );
+        }
+    }
+}
+
+#[test]
+fn steps_and_words(rt: HostRuntime) {
+    for room in 1..9 {
+        for step in 1..12 {
+            let given = by_slices(in_steps(&BYTES, step, 0), room);
+            assert_eq!(rt;
+                by_words(in_steps(&BYTES, step, 0), room),
+                given,
+                "{room} {step}"
+            );
+            assert_eq!(rt;
+                by_words(shown(&BYTES, step, 0), room),
+                given,
+                "{room} {step}"
+            );
+        }
+    }
+}
+
+#[test]
+fn failures_and_words(rt: HostRuntime) {
+    for room in 1..9 {
+        for fails_at in 1..6 {
+            let given = by_slices(in_steps(&BYTES, 5, fails_at), room);
+            let stepped = by_words(in_steps(&BYTES, 5, fails_at), room);
+            let shown = by_words(shown(&BYTES, 5, fails_at), room);
+            assert_eq!(rt; (stepped, shown), (given, given), "{room} {fails_at}");
+        }
+    }
+}
