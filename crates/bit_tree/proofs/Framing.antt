@@ -1,5 +1,5 @@
 -- Records and definitions in a block, as its frame holds them.
-use Rattle.std.proofs.Common.{◌≡◌, ◌≢◌, ◌⊎◌, ℕ, ◌+◌, ◌-◌, ◌^◌, ◌<◌, Bool, true, false, cond, eqb, ltb, List, [], ◌∷◌, ◌++◌, length, length-append, get_or, Option, Some, None, Result, Ok, Err, is_some, refl, sym, ap, ◌∙◌, subst, slice_get, eq-eqb, arith, inl, inr}
+use Rattle.std.proofs.Common.{◌≡◌, ◌≢◌, ◌⊎◌, ℕ, ◌+◌, ◌-◌, ◌^◌, ◌<◌, ◌≤◌, Bool, true, false, cond, eqb, ltb, List, [], ◌∷◌, ◌++◌, length, length-append, get_or, Option, Some, None, Result, Ok, Err, is_some, refl, sym, ap, ◌∙◌, subst, slice_get, eq-eqb, arith, inl, inr}
 use Rattle.std.proofs.Math.Seq.{get_or-append_seam}
 use Rattle.std.proofs.Math.Path.{fun_ext}
 use Rattle.std.proofs.lemmas.Bool.{ne_eqb, lt-ltb}
@@ -183,9 +183,16 @@ record_took limit first id scope a e b after info c t is u =
     told (record_after limit first id scope) a (Ok (record { abbreviation = id; code = e.code; values = e.values; first = first; after = after }, record scope { info = info; handed = record { table = scope.handed.table; used = scope.handed.used + length e.values } })) c
     (andThen t (here after is (andThen u (ends u.live))))
 
--- what read_abbreviated answers, for a list that was empty
-pub recorded : (rule : Grammar Entry) (a : Reader) (result : Result ℕ Fault) (before after : List ℕ) (b : Reader) → before ≡ [] → Recorded (λ r. Takes rule a r b) result before after → Takes rule a (told_by (λ code. record { code = code; values = after }) result) b
-recorded rule a (Ok code) before after b none h =
+-- what is read into a list that was empty
+recorded_from : (rule : Grammar Entry) (a : Reader) (result : Result ℕ Fault) (before after : List ℕ) (b : Reader) → before ≡ [] → Recorded (λ r. Takes rule a r b) result before after → Takes rule a (told_by (λ code. record { code = code; values = after }) result) b
+recorded_from rule a (Ok code) before after b none h =
     let same : after ≡ h.0 = h.1 ∙ ap (λ (vs : List ℕ). vs ++ h.0) none in
     rw same h.2
-recorded rule a (Err fault) before after b none h = h.1
+recorded_from rule a (Err fault) before after b none h = h.1
+
+pub recorded : (rule : Grammar Entry) (a : Reader) (result : Result ℕ Fault) (before now : List ℕ) (b : Reader) → before ≡ [] → ((after : List ℕ) × (now ≡ after) × Recorded (λ r. Takes rule a r b) result before after) → Takes rule a (told_by (λ code. record { code = code; values = now }) result) b
+recorded rule a result before now b none h = recorded_from rule a result before now b none (subst (Recorded (λ r. Takes rule a r b) result before) (sym h.1) h.2)
+
+pub recorded_few : (room : ℕ) (result : Result ℕ Fault) (before now : List ℕ) → before ≡ [] → ((after : List ℕ) × (now ≡ after) × OnOk result (length after ≤ length before + room)) → OnOk result (length now ≤ room)
+recorded_few room (Ok code) before now none h = omega (arith, ap length none, ap length h.1, h.2)
+recorded_few room (Err fault) before now none h = tt

@@ -8,7 +8,6 @@ pub mod Placing
 pub mod Entering
 pub mod Framing
 pub mod Ids
-pub mod Repeating
 pub mod Stepping
 pub mod Telling
 pub mod Advancing

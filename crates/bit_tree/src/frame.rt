@@ -1,16 +1,13 @@
 ghost use Rattle.std.specs.Prelude.{◌≡◌, ◌-◌, ◌+◌, ◌≤◌, true, [], ℕ, Some, OnOk, IfOk, IsSome, length, unwrap_or};
 ghost use Rattle.std.specs.Option.{option_copied};
-ghost use Rattle.bit_grammar.specs.Grammar.{repeat};
-ghost use Rattle.bit_grammar.specs.Fields.{vbr};
 ghost use Rattle.bit_grammar.specs.Blocks as blocks;
 ghost use Rattle.bit_grammar.specs.Blocks.{Handed, Scope, Table, defined, define, describe, entry, record_after, may_define};
-ghost use Rattle.bit_grammar.specs.Record.{value_count, unabbreviated};
 ghost use Rattle.bit_grammar.specs.Machine.{scope_of};
-ghost use Rattle.bit_fields.specs.Reader.{Takes, NeedsNoMemory, told_by};
+ghost use Rattle.bit_fields.specs.Reader.{Takes, told_by};
 ghost use Rattle.bit_tree.specs.FrameView.{describing_shown, info_shown, named, frame_shown, newest_in};
 
-use crate::heads::{BlockHead, granted, judge, push};
-use bit_abbrev::{Abbrev, InForce, InfoTable, read_abbreviated, read_define};
+use crate::heads::{BlockHead, granted};
+use bit_abbrev::{Abbrev, InForce, InfoTable, read_abbreviated, read_define, read_unabbreviated};
 use bit_fields::{BitReader, Fault, Reason, Source};
 use std::alloc::{AllocError, Global};
 
@@ -85,56 +82,11 @@ pub(crate) fn define<S: Source>(
     ensures newest { OnOk result (IsSome (newest_in (frame_shown frame.new))) }
     ensures head { frame.new.head ≡ frame.old.head }
 {
-    judge(reader, frame.may_define(), Reason::NoBlockSet, first)?;
+    reader.judge(frame.may_define(), Reason::NoBlockSet, first)?;
     let abbrev = read_define(alloc, reader)?;
     let after = reader.position();
     granted(reader, frame.put(abbrev))?;
     Ok(after)
-}
-
-/// Reads a number of values, of which there is room for so many.
-fn value_count<S: Source>(reader: &mut BitReader<S>, room: u64) -> Result<u64, Fault>
-    ensures takes { Takes (value_count room) reader.old result reader.new }
-    ensures few { IfOk result (λ count. count ≤ room) }
-{
-    let place = reader.position();
-    let count = reader.vbr(6)?;
-    judge(reader, count <= room, Reason::TooManyValues, place)?;
-    Ok(count)
-}
-
-/// Reads so many values, one after the other, at the end of a list.
-fn append_values<S: Source>(
-    reader: &mut BitReader<S>,
-    count: u64,
-    values: &mut Vec<u64>,
-) -> Result<(), Fault>
-    requires live { reader.old.live ≡ true }
-    requires none { values.old.items ≡ [] }
-    ensures takes { Takes (repeat count (vbr 6)) reader.old (told_by (λ _. values.new.items) result) reader.new }
-    ensures many { OnOk result (length values.new.items ≡ count) }
-{
-    for _ in 0..count {
-        let value = reader.vbr(6)?;
-        push(reader, values, value)?;
-    }
-    Ok(())
-}
-
-/// Reads the code and the values of a record that is not abbreviated, after its id. Source: "UNABBREV_RECORD Encoding".
-fn unabbreviated<S: Source>(
-    reader: &mut BitReader<S>,
-    room: u64,
-    values: &mut Vec<u64>,
-) -> Result<u64, Fault>
-    requires none { values.old.items ≡ [] }
-    ensures takes { Takes (unabbreviated room) reader.old (told_by (λ code. record { code = code; values = values.new.items }) result) reader.new }
-    ensures few { OnOk result (length values.new.items ≤ room) }
-{
-    let code = reader.vbr(6)?;
-    let count = value_count(reader, room)?;
-    append_values(reader, count, values)?;
-    Ok(code)
 }
 
 /// Reads the code and the values of a record, after its id, which began at a bit.
@@ -153,7 +105,7 @@ fn entry<S: Source>(
     ensures few { OnOk result (length values.new.items ≤ room) }
 {
     if id == 3 {
-        return unabbreviated(reader, room, values);
+        return read_unabbreviated(reader, room, values);
     }
     match definitions.get((id - 4) as usize) {
         Some(abbrev) => read_abbreviated(reader, abbrev, first, room, values),
@@ -192,11 +144,11 @@ fn describe_by<S: Source>(
     ensures { Takes (describe (Some (describing_shown info.old)) first (record { code = code; values = values.now })) reader.old (told_by (λ _. Some (describing_shown info.new)) result) reader.new }
 {
     if code != SET_BID {
-        judge(reader, info.described.is_some(), Reason::NoBlockSet, first)?;
+        reader.judge(info.described.is_some(), Reason::NoBlockSet, first)?;
         return Ok(());
     }
     let id = named(values);
-    judge(reader, id.is_some(), Reason::BadSetBid, first)?;
+    reader.judge(id.is_some(), Reason::BadSetBid, first)?;
     info.described = id;
     Ok(())
 }

@@ -1,7 +1,6 @@
-ghost use Rattle.std.specs.Prelude.{◌≡◌, ◌+◌, ◌*◌, ◌≤◌, ◌%◌, true, OnOk, IfOk, IfErr, ◌++◌, [], ◌∷◌, ◌==◌, ◌&&◌, nat_le};
-ghost use Rattle.bit_grammar.specs.Grammar.{at, test};
+ghost use Rattle.std.specs.Prelude.{◌≡◌, ◌+◌, ◌*◌, ◌≤◌, ◌%◌, true, OnOk, IfOk, IfErr, ◌==◌, ◌&&◌, nat_le};
 ghost use Rattle.bit_grammar.specs.Blocks.{block_id, new_width, block_head, end_of_block};
-ghost use Rattle.bit_fields.specs.Reader.{Extent, Takes, NeedsNoMemory, within, told_by, stopped};
+ghost use Rattle.bit_fields.specs.Reader.{Takes, NeedsNoMemory, told_by, stopped};
 ghost use Rattle.bit_tree.specs.HeadView.{head_shown};
 
 use bit_fields::{BitReader, Fault, Reason, Source};
@@ -18,26 +17,6 @@ pub(crate) struct BlockHead {
     pub(crate) body: u64,
 }
 
-/// Fails where a judgement does not hold.
-pub(crate) fn judge<S: Source>(
-    reader: &mut BitReader<S>,
-    holds: bool,
-    reason: Reason,
-    bit: u64,
-) -> Result<(), Fault>
-    requires live { reader.old.live ≡ true }
-    requires stays { (e : Extent) → within e reason bit ≡ at reason bit }
-    ensures takes { Takes (test holds (at reason bit)) reader.old result reader.new }
-    ensures memory { NeedsNoMemory result }
-    ensures same { OnOk result (reader.new ≡ reader.old) }
-    ensures holds { OnOk result (holds ≡ true) }
-{
-    if holds {
-        return Ok(());
-    }
-    Err(reader.fail(Fault::Refused { reason, bit }))
-}
-
 /// Fails where memory was refused.
 pub(crate) fn granted<S: Source, T>(
     reader: &mut BitReader<S>,
@@ -52,21 +31,6 @@ pub(crate) fn granted<S: Source, T>(
     }
 }
 
-/// Adds a value to a list; fails where memory was refused.
-pub(crate) fn push<S: Source>(
-    reader: &mut BitReader<S>,
-    values: &mut Vec<u64>,
-    value: u64,
-) -> Result<(), Fault>
-    ensures ok { OnOk result ((values.new.items ≡ values.old.items ++ value ∷ []) × (reader.new ≡ reader.old)) }
-    ensures err { IfErr result (λ fault. (fault ≡ Fault.Memory) × (reader.new ≡ stopped reader.old)) }
-{
-    match values.push(value) {
-        Ok(()) => Ok(()),
-        Err(_) => Err(reader.fail(Fault::Memory)),
-    }
-}
-
 /// Reads the id of a block.
 fn block_id<S: Source>(reader: &mut BitReader<S>) -> Result<u32, Fault>
     ensures takes { Takes block_id reader.old result reader.new }
@@ -74,7 +38,7 @@ fn block_id<S: Source>(reader: &mut BitReader<S>) -> Result<u32, Fault>
 {
     let start = reader.position();
     let id = reader.vbr(8)?;
-    judge(reader, id < 1 << 32, Reason::BlockId, start)?;
+    reader.judge(id < 1 << 32, Reason::BlockId, start)?;
     Ok(id as u32)
 }
 
@@ -96,7 +60,7 @@ fn new_width<S: Source>(reader: &mut BitReader<S>) -> Result<u8, Fault>
 {
     let start = reader.position();
     let width = reader.vbr(4)?;
-    judge(reader, is_width(width), Reason::AbbrevWidth, start)?;
+    reader.judge(is_width(width), Reason::AbbrevWidth, start)?;
     Ok(width as u8)
 }
 
@@ -144,11 +108,6 @@ pub(crate) fn end_of_block<S: Source>(
 {
     reader.pad()?;
     let after = reader.position();
-    judge(
-        reader,
-        ends_at(head, after),
-        Reason::BlockLength,
-        head.length_at,
-    )?;
+    reader.judge(ends_at(head, after), Reason::BlockLength, head.length_at)?;
     Ok(after)
 }

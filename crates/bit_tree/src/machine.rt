@@ -12,7 +12,7 @@ ghost use Rattle.bit_tree.specs.MachineView.{handed_shown, machine_shown, newest
 
 use crate::event::Event;
 use crate::frame::{Describing, Frame, define, record_after};
-use crate::heads::{BlockHead, block_head, end_of_block, granted, judge};
+use crate::heads::{BlockHead, block_head, end_of_block, granted};
 use bit_abbrev::{Abbrev, InfoTable, SharedInfo};
 use bit_fields::{BitReader, Fault, Limits, Reason, Source};
 use std::alloc::{AllocError, Global};
@@ -119,7 +119,7 @@ impl Machine {
         ensures after { IfOk result (λ found. Leaves limits.now.depth self.old found self.new) }
     {
         let fits = self.frames.len() < limits.depth() as usize;
-        judge(reader, fits, Reason::TooDeep, first)?;
+        reader.judge(fits, Reason::TooDeep, first)?;
         let head = block_head(reader)?;
         granted(reader, self.enter(alloc, head))?;
         Ok(Found::Enter {
@@ -148,7 +148,7 @@ impl Machine {
         ensures after { IfOk result (λ found. Leaves limits.now.depth self.old found self.new) }
     {
         let plain = self.is_plain();
-        judge(reader, plain, Reason::NestedInBlockInfo, first)?;
+        reader.judge(plain, Reason::NestedInBlockInfo, first)?;
         self.open_block(alloc, reader, limits, first)
     }
 
@@ -334,7 +334,7 @@ impl Machine {
     {
         let first = reader.position();
         let id = reader.fixed(2)?;
-        judge(reader, id == 1, Reason::TopLevel, first)?;
+        reader.judge(id == 1, Reason::TopLevel, first)?;
         self.open_block(alloc, reader, limits, first)
     }
 
