@@ -2,7 +2,7 @@
 //! `event_speed slice|buffered`.
 #![tactic(auto)]
 
-use bit_fields::{Fault, Limits, ReadSource, SliceSource, Source};
+use bit_fields::{BufSource, Fault, Limits, SliceSource, Source};
 use bit_tree::{Event, Events};
 use std::alloc::Global;
 use std::fmt::{self, Display, Formatter, Write};
@@ -105,7 +105,7 @@ fn main(rt: HostRuntime) -> io::Result<()> {
     }
     if buffered {
         let reader = BufReader::new(rt.alloc(), rt.reader())?;
-        return print_counts(&rt, ReadSource::new(reader));
+        return print_counts(&rt, BufSource::new(reader));
     }
     let mut bytes = Vec::new(rt.alloc());
     rt.reader().read_to_end(&mut bytes)?;
