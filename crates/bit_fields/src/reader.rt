@@ -232,9 +232,10 @@ impl<S: Source> BitReader<S> {
         Ok(magic)
     }
 
-    /// Fails where a judgement of the caller's does not hold: refuses the input for a reason at a bit. This is the one call
-    /// for judgements of what was read; the reader has then failed, at the bit at which it stands. A reason for which
-    /// another one stands where only the limit on bytes ends the input, `Truncated`, is no judgement.
+    /// Refuses the input for a reason at a bit where a judgement of what was read does not hold: the one call for every
+    /// such judgement, of this crate's and of a caller's. The reader has then failed, where it stands.
+    ///
+    /// The end of an input is no judgement: where only the limit on bytes ends it, `TooLong` stands for `Truncated`.
     #[inline]
     pub fn judge(&mut self, holds: bool, reason: Reason, bit: u64) -> Result<(), Fault>
         requires live { self.old.live ≡ true }

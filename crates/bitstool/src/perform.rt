@@ -10,12 +10,12 @@ ghost use Rattle.bitstool.specs.Runs.{Does};
 use crate::check::check;
 use crate::outcome::Outcome;
 use crate::task::Task;
-use bit_fields::{Fault, Limits, ReadSource, Sink, SliceSource, Source, WriteSink};
+use bit_fields::{BufSource, Fault, Limits, Sink, SliceSource, Source, WriteSink};
 use bit_norm::{Which, normalise, same};
 use bit_scan::{analyse, write_show};
 use bit_tree::Info;
 use std::alloc::Global;
-use std::io::{Read, Write};
+use std::io::{BufRead, Write};
 
 /// How many bytes of a first input are taken at once.
 const PIECE: usize = 4096;
@@ -153,7 +153,7 @@ fn tell<K: Sink>(answer: Outcome, line: &[u8], sink: &mut K) -> Outcome
 }
 
 /// Says whether the input is accepted.
-fn perform_check<R: Read, W: Write>(
+fn perform_check<R: BufRead, W: Write>(
     alloc: Global,
     limits: Limits,
     input: R,
@@ -161,7 +161,7 @@ fn perform_check<R: Read, W: Write>(
 ) -> (Outcome, R, W)
     ensures { Does (TaskValue.Check limits) (R.remaining input) (W.contents output) (W.contents result.2) result.0 }
 {
-    let (outcome, source) = judge(alloc, ReadSource::new(input), limits);
+    let (outcome, source) = judge(alloc, BufSource::new(input), limits);
     let mut sink = WriteSink::new(output);
     let outcome = match outcome {
         Outcome::Done => tell(Outcome::Done, b"accepted\n", &mut sink),
@@ -171,7 +171,7 @@ fn perform_check<R: Read, W: Write>(
 }
 
 /// Writes the normal form of the input.
-fn perform_normal<R: Read, W: Write>(
+fn perform_normal<R: BufRead, W: Write>(
     alloc: Global,
     limits: Limits,
     info: Info,
@@ -180,7 +180,7 @@ fn perform_normal<R: Read, W: Write>(
 ) -> (Outcome, R, W)
     ensures { Does (TaskValue.Normal limits info) (R.remaining input) (W.contents output) (W.contents result.2) result.0 }
 {
-    let source = ReadSource::new(input);
+    let source = BufSource::new(input);
     let sink = WriteSink::new(output);
     let (answer, source, sink) = normalise(alloc, source, sink, limits, info);
     let outcome = match answer {
@@ -191,7 +191,7 @@ fn perform_normal<R: Read, W: Write>(
 }
 
 /// Compares the first bytes of the input, so many, with the rest.
-fn perform_same<R: Read, W: Write>(
+fn perform_same<R: BufRead, W: Write>(
     alloc: Global,
     first: u64,
     limits: Limits,
@@ -201,7 +201,7 @@ fn perform_same<R: Read, W: Write>(
 ) -> (Outcome, R, W)
     ensures { Does (TaskValue.Same first limits info) (R.remaining input) (W.contents output) (W.contents result.2) result.0 }
 {
-    let (outcome, source) = compare(alloc, first, ReadSource::new(input), limits, info);
+    let (outcome, source) = compare(alloc, first, BufSource::new(input), limits, info);
     let mut sink = WriteSink::new(output);
     let outcome = match outcome {
         Outcome::Done => tell(Outcome::Done, b"same\n", &mut sink),
@@ -226,7 +226,7 @@ fn report<S: Source, K: Sink>(alloc: Global, limits: Limits, source: S, sink: K)
 }
 
 /// Writes the report of the input's analysis.
-fn perform_analyse<R: Read, W: Write>(
+fn perform_analyse<R: BufRead, W: Write>(
     alloc: Global,
     limits: Limits,
     input: R,
@@ -234,14 +234,14 @@ fn perform_analyse<R: Read, W: Write>(
 ) -> (Outcome, R, W)
     ensures { Does (TaskValue.Analyse limits) (R.remaining input) (W.contents output) (W.contents result.2) result.0 }
 {
-    let source = ReadSource::new(input);
+    let source = BufSource::new(input);
     let sink = WriteSink::new(output);
     let (outcome, source, sink) = report(alloc, limits, source, sink);
     (outcome, source.into_inner(), sink.into_inner())
 }
 
 /// Writes the listing of the input.
-fn perform_show<R: Read, W: Write>(
+fn perform_show<R: BufRead, W: Write>(
     alloc: Global,
     limits: Limits,
     input: R,
@@ -249,7 +249,7 @@ fn perform_show<R: Read, W: Write>(
 ) -> (Outcome, R, W)
     ensures { Does (TaskValue.Show limits) (R.remaining input) (W.contents output) (W.contents result.2) result.0 }
 {
-    let source = ReadSource::new(input);
+    let source = BufSource::new(input);
     let sink = WriteSink::new(output);
     let (answer, source, sink) = write_show(alloc, source, sink, limits);
     let outcome = ended(limits.bytes(), answer);
@@ -271,7 +271,12 @@ fn settle<W: Write>(outcome: Outcome, output: &mut W) -> Outcome
 }
 
 /// Carries out a command, up to the flush.
-fn carry_out<R: Read, W: Write>(alloc: Global, task: Task, input: R, output: W) -> (Outcome, R, W)
+fn carry_out<R: BufRead, W: Write>(
+    alloc: Global,
+    task: Task,
+    input: R,
+    output: W,
+) -> (Outcome, R, W)
     ensures { Does task (R.remaining input) (W.contents output) (W.contents result.2) result.0 }
 {
     match task {
@@ -288,7 +293,12 @@ fn carry_out<R: Read, W: Write>(alloc: Global, task: Task, input: R, output: W) 
 }
 
 /// Carries out a command, and answers how it ended; the output is flushed where the command answered or refused.
-pub fn perform<R: Read, W: Write>(alloc: Global, task: Task, input: R, output: W) -> (Outcome, R, W)
+pub fn perform<R: BufRead, W: Write>(
+    alloc: Global,
+    task: Task,
+    input: R,
+    output: W,
+) -> (Outcome, R, W)
     ensures { Does task (R.remaining input) (W.contents output) (W.contents result.2) result.0 }
 {
     let (outcome, input, mut output) = carry_out(alloc, task, input, output);

@@ -15,7 +15,7 @@ use crate::task::{Parsed, Task};
 use bit_fields::Limits;
 use bit_tree::Info;
 use std::alloc::Global;
-use std::io::{Read, Write};
+use std::io::{BufRead, Write};
 
 /// What a run hands back: its exit status, and the devices as they stand.
 #[derive(Debug, Drop)]
@@ -51,7 +51,7 @@ fn end<R, W, E: Write>(outcome: Outcome, input: R, output: W, mut errors: E) -> 
 }
 
 /// Does what the words said.
-fn obey<R: Read, W: Write, E: Write>(
+fn obey<R: BufRead, W: Write, E: Write>(
     alloc: Global,
     parsed: Parsed,
     input: R,
@@ -81,7 +81,7 @@ fn obey<R: Read, W: Write, E: Write>(
 /// errors where it refuses the input or fails. The status is 0 where it is done or found two inputs the same, 1 where it
 /// refused or found them different, 2 where the words are no command, and 3 where a read or a write failed or memory was
 /// refused.
-pub fn run<R: Read, W: Write, E: Write>(
+pub fn run<R: BufRead, W: Write, E: Write>(
     alloc: Global,
     words: Vec<String>,
     input: R,

@@ -1,7 +1,7 @@
 use crate::run::{Ran, run};
 use std::alloc::{AllocError, Global};
 use std::io;
-use std::io::{Read, Write};
+use std::io::{BufRead, Read, Write};
 use std::process::Abort;
 use std::test::Fail;
 
@@ -87,6 +87,22 @@ impl<'a> Read for Broken<'a> {
         }
         let most = into.len().min(3);
         self.bytes.read(&mut into[..most])
+    }
+}
+
+/// It shows at most three bytes at once.
+impl<'a> BufRead for Broken<'a> {
+    fn fill_buf(&mut self) -> io::Result<&[u8]> {
+        if self.bytes.is_empty() {
+            return Err(io::Error::from(io::ErrorKind::Other));
+        }
+        let most = self.bytes.len().min(3);
+        Ok(&self.bytes[..most])
+    }
+
+    fn consume(&mut self, amount: usize) {
+        let count = amount.min(self.bytes.len());
+        self.bytes = &self.bytes[count..];
     }
 }
 

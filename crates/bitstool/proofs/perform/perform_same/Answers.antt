@@ -9,7 +9,7 @@ use Rattle.bitstool.proofs.perform.perform_same.Goals as goal
 pub returns : goal.returns
 returns g c =
     let task = Same c.args.first c.args.limits c.args.info in
-    let input = g.R.Read.remaining c.new.result.reader in
+    let input = g.R.Read.remaining c.new.result.source.reader in
     let old = g.W.Write.contents c.new-sink.result.writer in
     let of_input = ap (λ (i : Incoming). i.to_come) c.new.ensures in
     let of_output = ap (λ (o : Outgoing). o.bytes) c.new-sink.ensures in
