@@ -2,6 +2,8 @@
 #![tactic(auto)]
 
 mod abbrev;
+#[cfg(test)]
+mod counting_tests;
 mod definition;
 mod elements;
 mod in_force;
