@@ -18,10 +18,11 @@ use Rattle.bit_fields.specs.declared.fault.Fault.TheVariants.{Refused, Read, Wri
 use Rattle.bit_fields.specs.Devices.{Incoming, known_bytes}
 use Rattle.bit_fields.specs.Reader.{SourceFails}
 use Rattle.bit_fields.proofs.InflowLaws.{Spends-trans, Spends-none}
-use Rattle.bit_tree.specs.Coming.{Coming, Pays}
-use Rattle.bit_tree.specs.Events.{Begun, Declines}
+use Rattle.bit_events.specs.Coming.{Coming, Pays}
+use Rattle.bit_events.specs.Events.{Begun, Declines}
 use Rattle.bit_tree.specs.Building.{as_they_are, blocks_told, Misses, Built}
-use Rattle.bit_tree.specs.Reading.{Spent, ReadsWhole, SpellsFit, HasFit}
+use Rattle.bit_events.specs.Reading.{Spent, ReadsWhole}
+use Rattle.bit_tree.specs.Reading.{SpellsFit, HasFit}
 use Rattle.bit_tree.proofs.Growing.{told_flat}
 
 pub spent : (limits : Limits) (i : Incoming) (a b : Coming) → Begun limits i a → Pays a b → Spent limits i b.incoming

@@ -1,0 +1,296 @@
+-- The next event of a stream, as what is to come of it has it.
+use Rattle.std.proofs.Common.{◌≡◌, ℕ, ◌-◌, ◌^◌, ◌<◌, Bool, true, false, List, [], ◌∷◌, length, Option, Some, None, IsSome, Ok, Err, refl, sym, ap, subst, ◌∙◌, arith, inl, inr, vec_len}
+use Rattle.bit_grammar.specs.Grammar as grammar
+use Rattle.bit_grammar.specs.Grammar.{at, reading}
+use Rattle.bit_grammar.specs.Blocks.{Limits}
+use Rattle.bit_grammar.specs.Machine as machine
+use Rattle.bit_grammar.specs.Machine.{Event, at_start, Ending, accepted, broke, Told, step, is_done, unless_done, told_by, to_come}
+use Rattle.bit_grammar.specs.Steps.{AreWide}
+use Rattle.bit_grammar.specs.Input.{front_of}
+use Rattle.bit_grammar.specs.Normal.{Capped}
+use Rattle.bit_grammar.specs.Outlook.{outlook}
+use Rattle.bit_grammar.proofs.Machines.{Step, comes}
+use Rattle.bit_fields.specs.declared.fault.Fault.{Fault}
+use Rattle.bit_fields.specs.declared.fault.Fault.TheVariants.{Refused, Read, Write, Memory, OutputTooLong, Failed}
+use Rattle.bit_fields.specs.declared.head.Head.{Head}
+use Rattle.bit_fields.specs.Devices.{Incoming, Spends, known_bytes}
+use Rattle.bit_fields.specs.Reader as fields
+use Rattle.bit_fields.specs.Reader.{Reader, Extent, TellsBytes, Took, Why, SourceFails, within}
+use Rattle.bit_fields.specs.Opening as opening
+use Rattle.bit_fields.specs.Opening.{head_told, Opened, fresh, beginning, Beginning, wrapper_of, end_of}
+use Rattle.bit_fields.specs.Ending.{Stays}
+use Rattle.bit_fields.proofs.InflowLaws.{Spends-trans}
+use Rattle.bit_events.specs.declared.frame.Frame.{Frame}
+use Rattle.bit_events.specs.declared.machine.Found.{Found}
+use Rattle.bit_events.specs.declared.machine.Machine.{Machine}
+use Rattle.bit_events.specs.FrameView.{frame_shown, frames_onto, frames_shown, HaveIds}
+use Rattle.bit_events.specs.MachineView.{machine_shown, found_shown, lent, gave, Leaves}
+use Rattle.bit_events.specs.Coming.{over as over_stage}
+use Rattle.bit_events.specs.Coming.{failed, Goes, Gives, Ends, Breaks, Stops, before, end_at, end_by, told_of}
+use Rattle.bit_events.specs.Events.{stage_of, coming_of, IsEvents, Over, Shuts, Begun, Declines}
+use Rattle.bit_events.proofs.Beginnings.{outlook_begun, outlook_declined}
+
+-- ---- open blocks
+
+wide_onto : (frames : List Frame) (outer : List machine.Frame) → HaveIds frames → AreWide outer → AreWide (frames_onto frames outer)
+wide_onto [] outer ids wide = wide
+wide_onto (f ∷ frames) outer ids wide = wide_onto frames (frame_shown f ∷ outer) ids.2 (ids.0, wide)
+
+-- each open block has ids of some bits
+wide : (frames : List Frame) → HaveIds frames → AreWide (frames_shown frames)
+wide frames ids = wide_onto frames [] ids tt
+
+some_onto : (frames : List Frame) (f : machine.Frame) (outer : List machine.Frame) → frames_onto frames (f ∷ outer) ≡ [] → ⊥
+some_onto [] f outer e = cc
+some_onto (g ∷ frames) f outer e = some_onto frames (frame_shown g) (f ∷ outer) e
+
+-- no block is open
+none_shown : (frames : List Frame) → frames_shown frames ≡ [] → length frames ≡ 0
+none_shown [] e = refl
+none_shown (f ∷ frames) e = absurd (some_onto frames (frame_shown f) [] e)
+
+shown_none : (frames : List Frame) → length frames ≡ 0 → frames_shown frames ≡ []
+shown_none [] e = refl
+shown_none (f ∷ frames) e = absurd (omega (arith, e))
+
+-- it isn't done
+goes_on : (frames : List machine.Frame) (r : List Bool) → (frames ≡ [] → 0 < length r) → is_done frames r ≡ false
+goes_on [] [] some = absurd (omega (arith, some refl))
+goes_on [] (b ∷ bits) some = refl
+goes_on (f ∷ frames) r some = refl
+
+-- ---- what is told
+
+abbrev ended : Extent → Told → Told
+ended e told = (told.0, end_by e told.1)
+
+-- an event that is read is the first to come
+told_event : (limits : Limits) (e : Extent) (m new : machine.Machine) (p q : ℕ) (left rest : List Bool) (event : Event) → AreWide m.frames → is_done m.frames left ≡ false
+    → reading (step limits m) p left ≡ Ok ((event, new), q, rest) → told_of limits e m p left ≡ before event (told_of limits e new q rest)
+told_event limits e m new p q left rest event ids more read =
+    ap (ended e) (comes limits m p left ids more ∙ ap (told_by (to_come limits)) read)
+
+-- a step that breaks is the end
+told_fault : (limits : Limits) (e : Extent) (m : machine.Machine) (p : ℕ) (left : List Bool) (reason : _) (bit : ℕ) → AreWide m.frames → is_done m.frames left ≡ false
+    → fields.Breaks e (reading (step limits m) p left) reason bit → told_of limits e m p left ≡ ([], broke (at reason bit))
+told_fault limits e m p left reason bit ids more breaks =
+    ap (ended e) (comes limits m p left ids more) ∙ go (reading (step limits m) p left) breaks
+  where
+    go : (read : Step) → fields.Breaks e read reason bit → ended e (told_by (to_come limits) read) ≡ ([], broke (at reason bit))
+    go (Ok x) k = absurd k
+    go (Err fault) k = ap (λ (f : grammar.Fault). ([], broke f)) k
+
+-- where no block is open and no bit is left, the input ends
+told_end : (limits : Limits) (e : Extent) (m : machine.Machine) (p : ℕ) (left : List Bool) → m.frames ≡ [] → left ≡ [] → told_of limits e m p left ≡ ([], end_at e p)
+unfolding to_come
+told_end limits e m p left none empty = rw (none, empty) refl
+
+-- ---- the reader between two events
+
+abbrev Pays : Reader → Reader → Type 0
+Pays a b = Spends a.incoming a.budget b.incoming b.budget
+
+pays_both : (a b c : Reader) → Pays a b → Pays b c → Pays a c
+pays_both a b c p q = Spends-trans a.incoming a.budget b.incoming b.budget c.incoming c.budget p q
+
+-- a source that failed later failed
+fails_later : (a b c : Reader) → Pays a b → SourceFails b.incoming c.incoming → SourceFails a.incoming c.incoming
+fails_later a b c p (inl more) = inl (omega (arith, p.failures, more))
+fails_later a b c p (inr worn) = inr worn
+
+-- ---- the answers
+
+-- what stands before a step: the reader looked whether its stream ends, and it doesn't
+abbrev Going : Limits → Machine → Option Found → Reader → Reader → Type 0
+Going limits m found a b = IsEvents false limits m found a × Stays a b × (vec_len m.frames ≡ 0 → TellsBytes a → 0 < length a.left)
+
+not_done : (limits : Limits) (m : Machine) (found : Option Found) (a b : Reader) → Going limits m found a b → TellsBytes a → is_done (frames_shown m.frames.items) a.left ≡ false
+not_done limits m found a b h tells = goes_on (frames_shown m.frames.items) a.left (λ e. h.2 (m.frames.ok.0 ∙ none_shown m.frames.items e) tells)
+
+dead : (live : Bool) → live ≡ true → live ≡ false → ⊥
+dead live is isnt = cc
+
+stops : (limits : Limits) (head : Head) (m new : Machine) (found next_found : Option Found) (a b c : Reader) → Going limits m found a b → fields.Stops b c → Stops (coming_of false limits head m found a) (coming_of false limits head new next_found c)
+stops limits head m new found next_found a b c h s = record { went = rw h.1.was_live refl; stopped = rw s.failed refl; pays = pays_both a b c h.1.goes_on s.goes_on }
+
+-- an event came
+pub gives : (limits : Limits) (head : Head) (m new : Machine) (found : Option Found) (next_found : Found) (a b c : Reader) → Going limits m found a b
+    → Took (step limits (machine_shown m)) b (gave new next_found) c → Leaves limits.depth m next_found new → b.position < c.position → c.position < 2 ^ 64
+    → Gives (coming_of false limits head m found a) (found_shown new next_found) (coming_of false limits head new (Some next_found) c)
+gives limits head m new found next_found a b c h took leaves forward below = record {
+  went = rw h.1.was_live refl;
+  goes = rw took.live refl;
+  pays = pays_both a b c h.1.goes_on took.goes_on;
+  head = refl;
+  stands = leaves.stands;
+  depth = leaves.opens;
+  deepest = refl;
+  held = leaves.holds;
+  forward = omega (arith, h.1.position, forward);
+  below = below;
+  told = λ tells. told tells (h.1.goes_on.tells tells);
+}
+  where
+    told : TellsBytes a → TellsBytes b → told_of limits a.extent (machine_shown m) a.position a.left ≡ before (found_shown new next_found) (told_of limits c.extent (machine_shown new) c.position c.left)
+    told tells_a tells_b =
+        let read : reading (step limits (machine_shown m)) a.position a.left ≡ Ok (gave new next_found, c.position, c.left) = subst (λ (left : List Bool). reading (step limits (machine_shown m)) a.position left ≡ Ok (gave new next_found, c.position, c.left)) (h.1.left tells_a) (subst (λ (p : ℕ). reading (step limits (machine_shown m)) p b.left ≡ Ok (gave new next_found, c.position, c.left)) h.1.position (took.reads tells_b)) in
+        told_event limits a.extent (machine_shown m) (machine_shown new) a.position c.position a.left c.left (found_shown new next_found) (wide m.frames.items h.0.ids) (not_done limits m found a b h tells_a) read
+        ∙ ap (λ (e : Extent). before (found_shown new next_found) (told_of limits e (machine_shown new) c.position c.left)) (sym (took.extent tells_b ∙ h.1.extent tells_a))
+
+-- no event came
+pub misses : (limits : Limits) (head : Head) (m new : Machine) (found next_found : Option Found) (a b c : Reader) (fault : Fault) → Going limits m found a b
+    → Why (step limits (machine_shown m)) b fault c → Breaks (coming_of false limits head m found a) fault (coming_of false limits head new next_found c)
+misses limits head m new found next_found a b c (Refused reason bit) h why = (stops limits head m new found next_found a b c h why.0, λ tells. told tells (h.1.goes_on.tells tells))
+  where
+    told : TellsBytes a → TellsBytes b → told_of limits a.extent (machine_shown m) a.position a.left ≡ ([], broke (at reason bit))
+    told tells_a tells_b =
+        let breaks : fields.Breaks a.extent (reading (step limits (machine_shown m)) a.position a.left) reason bit = subst (λ (left : List Bool). fields.Breaks a.extent (reading (step limits (machine_shown m)) a.position left) reason bit) (h.1.left tells_a) (subst (λ (p : ℕ). fields.Breaks a.extent (reading (step limits (machine_shown m)) p b.left) reason bit) h.1.position (subst (λ (e : Extent). fields.Breaks e (reading (step limits (machine_shown m)) b.position b.left) reason bit) (h.1.extent tells_a) (why.1 tells_b))) in
+        told_fault limits a.extent (machine_shown m) a.position a.left reason bit (wide m.frames.items h.0.ids) (not_done limits m found a b h tells_a) breaks
+misses limits head m new found next_found a b c Read h why = (stops limits head m new found next_found a b c h why.0, fails_later a b c h.1.goes_on why.1)
+misses limits head m new found next_found a b c Memory h why = stops limits head m new found next_found a b c h why
+misses limits head m new found next_found a b c Failed h why = absurd (dead b.live h.1.live why.0)
+misses limits head m new found next_found a b c Write h why = absurd why
+misses limits head m new found next_found a b c OutputTooLong h why = absurd why
+
+still : (live : Bool) → live ≡ true → stage_of false live ≡ failed → ⊥
+still true is e = cc
+still false is e = cc
+
+begun : (live : Bool) → stage_of false live ≡ over_stage → ⊥
+begun true e = cc
+begun false e = cc
+
+-- the input ends
+pub ends : (limits : Limits) (head : Head) (m : Machine) (found : Option Found) (a c : Reader) → IsEvents false limits m found a → vec_len m.frames ≡ 0 → a.live ≡ true → Over a c
+    → Ends (coming_of false limits head m found a) (coming_of true limits head m None c)
+ends limits head m found a c h none live over = record {
+  held_on = λ e. still a.live live e;
+  ends = refl;
+  again = λ e. absurd (begun a.live e);
+  pays = over.stops.goes_on;
+  head = refl;
+  depth = none;
+  none_open = none;
+  told = λ tells. (told tells, refl);
+  none = λ _ tells. over.none tells;
+}
+  where
+    told : TellsBytes a → told_of limits a.extent (machine_shown m) a.position a.left ≡ ([], accepted c.position)
+    told tells =
+        let o = over.told tells in
+        told_end limits a.extent (machine_shown m) a.position a.left (shown_none m.frames.items (sym m.frames.ok.0 ∙ none)) o.0 ∙ ap (λ (e : Ending). ([], e)) (o.1 ∙ ap accepted (sym over.position))
+
+-- outside of all blocks no event came
+pub refuses : (limits : Limits) (head : Head) (m : Machine) (found : Option Found) (a c : Reader) (fault : Fault) → vec_len m.frames ≡ 0 → Shuts true a (Err fault) c
+    → Breaks (coming_of false limits head m found a) fault (coming_of false limits head m found c)
+refuses limits head m found a c (Refused reason bit) none (_, s, told) = (
+  record { went = rw s.was_live refl; stopped = rw s.failed refl; pays = s.goes_on },
+  λ tells. told_end limits a.extent (machine_shown m) a.position a.left (shown_none m.frames.items (sym m.frames.ok.0 ∙ none)) (told tells).0 ∙ ap (λ (e : Ending). ([], e)) (told tells).1,
+)
+refuses limits head m found a c Read none (_, s, failed_so) = (record { went = rw s.was_live refl; stopped = rw s.failed refl; pays = s.goes_on }, failed_so)
+refuses limits head m found a c Memory none h = absurd h
+refuses limits head m found a c Failed none h = absurd h
+refuses limits head m found a c Write none h = absurd h
+refuses limits head m found a c OutputTooLong none h = absurd h
+
+-- ---- the beginning
+
+-- an input was begun
+pub began : (limits : Limits) (i : Incoming) (head : Head) (m : Machine) (r : Reader) → Capped limits → machine_shown m ≡ at_start → m.values.items ≡ [] → vec_len m.frames ≡ 0
+    → Opened (fresh i limits.bytes) head r → Begun limits i (coming_of false limits head m None r)
+began limits i head m r capped shown held none o = record {
+  capped = capped;
+  goes = rw o.live refl;
+  pays = o.goes_on;
+  depth = none;
+  deepest = refl;
+  held = held;
+  told = told;
+}
+  where
+    told : IsSome i.to_come → outlook limits (known_bytes i.to_come) ≡ Ok (head_told head, told_of limits r.extent (machine_shown m) r.position r.left)
+    told tells =
+        outlook_begun limits (known_bytes i.to_come) (head_told head) r.position r.left (omega (arith, capped.bytes)) (o.reads tells)
+        ∙ ap (λ (e : Extent). Ok (head_told head, told_of limits e at_start r.position r.left)) (sym (o.extent tells))
+        ∙ ap (λ (x : machine.Machine). Ok (head_told head, told_of limits r.extent x r.position r.left)) (sym shown)
+
+-- an input was not begun
+pub declined : (limits : Limits) (i : Incoming) (fault : Fault) (now : Incoming) → limits.bytes < 2 ^ 64 - 1 → opening.Declines (fresh i limits.bytes) fault now → Declines limits i fault now
+declined limits i (Refused reason bit) now low (leaves, breaks) = (leaves, λ tells. go (beginning (front_of limits (known_bytes i.to_come))) refl (breaks tells))
+  where
+    e : Extent
+    e = record { total = length (known_bytes i.to_come); end = end_of (wrapper_of (front_of limits (known_bytes i.to_come))); limit = limits.bytes }
+
+    go : (read : Beginning) → beginning (front_of limits (known_bytes i.to_come)) ≡ read → fields.Breaks e read reason bit → outlook limits (known_bytes i.to_come) ≡ Err (at reason bit)
+    go (Ok x) is k = absurd k
+    go (Err fault) is k = outlook_declined limits (known_bytes i.to_come) fault low is ∙ ap Err k
+declined limits i Read now low h = h
+declined limits i Memory now low h = absurd h
+declined limits i Failed now low h = absurd h
+declined limits i Write now low h = absurd h
+declined limits i OutputTooLong now low h = absurd h
+
+-- ---- as the program keeps it
+
+-- what holds between calls is kept where only the reader's place changes
+abbrev Inv : Bool → Limits → Machine → Option Found → Reader → Type 0
+Inv is_over limits m found r = IsEvents is_over limits m found r
+
+not_over : {is_over : Bool} {limits : Limits} {m : Machine} {found : Option Found} {r : Reader} → is_over ≡ false → Inv is_over limits m found r → Inv false limits m found r
+not_over {limits = limits} {m = m} {found = found} {r = r} e h = subst (λ (b : Bool). Inv b limits m found r) e h
+
+-- an event came
+kept_gives : (is_over : Bool) (limits : Limits) (head : Head) (m new : Machine) (found : Option Found) (next_found : Found) (a b c : Reader) (outside : Bool) → is_over ≡ false → Inv is_over limits m found a
+    → (vec_len m.frames ≡ 0 → outside ≡ true) → Shuts outside a (Ok false) b → Took (step limits (machine_shown m)) b (gave new next_found) c → Leaves limits.depth m next_found new → b.position < c.position → c.position < 2 ^ 64
+    → Gives (coming_of is_over limits head m found a) (found_shown new next_found) (coming_of is_over limits head new (Some next_found) c)
+kept_gives is_over limits head m new found next_found a b c outside e h out shut took leaves forward below =
+    subst (λ (x : Bool). Gives (coming_of x limits head m found a) (found_shown new next_found) (coming_of x limits head new (Some next_found) c)) (sym e)
+    (gives limits head m new found next_found a b c (not_over e h, shut.0, λ none. shut.1 (out none)) took leaves forward below)
+
+-- an event came, and it is lent
+pub kept_goes : (is_over : Bool) (limits : Limits) (head : Head) (m new : Machine) (found : Option Found) (next_found : Found) (a b c : Reader) (outside : Bool) → is_over ≡ false → Inv is_over limits m found a
+    → (vec_len m.frames ≡ 0 → outside ≡ true) → Shuts outside a (Ok false) b → Took (step limits (machine_shown m)) b (gave new next_found) c → Leaves limits.depth m next_found new → b.position < c.position → c.position < 2 ^ 64
+    → Goes (coming_of is_over limits head m found a) (Ok (lent new next_found)) (coming_of is_over limits head new (Some next_found) c)
+kept_goes is_over limits head m new found next_found a b c outside e h out shut took leaves forward below =
+    subst (λ (o : Option Event). Goes (coming_of is_over limits head m found a) (Ok o) (coming_of is_over limits head new (Some next_found) c)) (sym leaves.lends)
+    (kept_gives is_over limits head m new found next_found a b c outside e h out shut took leaves forward below)
+
+-- no event came
+pub kept_misses : (is_over : Bool) (limits : Limits) (head : Head) (m new : Machine) (found : Option Found) (a b c : Reader) (outside : Bool) (fault : Fault) → is_over ≡ false → Inv is_over limits m found a
+    → (vec_len m.frames ≡ 0 → outside ≡ true) → Shuts outside a (Ok false) b → Why (step limits (machine_shown m)) b fault c
+    → Breaks (coming_of is_over limits head m found a) fault (coming_of is_over limits head new found c)
+kept_misses is_over limits head m new found a b c outside fault e h out shut why =
+    subst (λ (x : Bool). Breaks (coming_of x limits head m found a) fault (coming_of x limits head new found c)) (sym e)
+    (misses limits head m new found found a b c fault (not_over e h, shut.0, λ none. shut.1 (out none)) why)
+
+-- the input ends
+pub kept_ends : (is_over : Bool) (limits : Limits) (head : Head) (m : Machine) (found : Option Found) (a c : Reader) (outside : Bool) → is_over ≡ false → Inv is_over limits m found a → (outside ≡ true → vec_len m.frames ≡ 0)
+    → a.live ≡ true → Shuts outside a (Ok true) c → Ends (coming_of is_over limits head m found a) (coming_of true limits head m None c)
+kept_ends is_over limits head m found a c outside e h out live shut =
+    subst (λ (x : Bool). Ends (coming_of x limits head m found a) (coming_of true limits head m None c)) (sym e)
+    (ends limits head m found a c (not_over e h) (out shut.0) live shut.1)
+
+-- outside of all blocks no event came
+pub kept_refuses : (is_over : Bool) (limits : Limits) (head : Head) (m : Machine) (found : Option Found) (a c : Reader) (outside : Bool) (fault : Fault) → is_over ≡ false → (outside ≡ true → vec_len m.frames ≡ 0)
+    → Shuts outside a (Err fault) c → Breaks (coming_of is_over limits head m found a) fault (coming_of is_over limits head m found c)
+kept_refuses is_over limits head m found a c outside fault e out shut =
+    let outside_so = was_outside outside a fault c shut in
+    subst (λ (x : Bool). Breaks (coming_of x limits head m found a) fault (coming_of x limits head m found c)) (sym e)
+    (refuses limits head m found a c fault (out outside_so) (subst (λ (o : Bool). Shuts o a (Err fault) c) outside_so shut))
+  where
+    was_outside : (outside : Bool) (a : Reader) (fault : Fault) (c : Reader) → Shuts outside a (Err fault) c → outside ≡ true
+    was_outside outside a (Refused reason bit) c h = h.0
+    was_outside outside a Read c h = h.0
+    was_outside outside a Memory c h = absurd h
+    was_outside outside a Failed c h = absurd h
+    was_outside outside a Write c h = absurd h
+    was_outside outside a OutputTooLong c h = absurd h
+
+-- what holds where the input has ended
+pub closed : (is_over : Bool) (limits : Limits) (m : Machine) (found : Option Found) (a c : Reader) (outside : Bool) → Inv is_over limits m found a → (outside ≡ true → vec_len m.frames ≡ 0) → Shuts outside a (Ok true) c → Inv true limits m None c
+closed is_over limits m found a c outside h out shut = record {
+  ids = h.ids;
+  depth = h.depth;
+  aligned = λ live. absurd (dead c.live live shut.1.stops.failed);
+  closed = λ _. record { frames = out shut.0; last = refl };
+}

@@ -1,0 +1,9 @@
+pub mod Entering
+pub mod Framing
+pub mod Ids
+pub mod Repeating
+pub mod Stepping
+pub mod Telling
+pub mod Advancing
+pub mod Beginnings
+pub mod Faults

@@ -1,0 +1,13 @@
+//! The events of a stream: block begins, definitions, records and block ends, as a machine finds them.
+#![tactic(auto)]
+
+mod event;
+mod events;
+#[cfg(test)]
+mod events_tests;
+mod frame;
+mod heads;
+mod machine;
+
+pub use event::Event;
+pub use events::Events;
