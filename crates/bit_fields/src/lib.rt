@@ -11,6 +11,7 @@ mod sink;
 mod source;
 #[cfg(test)]
 mod tests;
+mod values;
 mod window;
 mod writer;
 mod writer_laws;
@@ -24,5 +25,6 @@ pub use limits::Limits;
 pub use reader::BitReader;
 pub use sink::{Sink, SinkFailed, VecSink, WriteSink};
 pub use source::{ReadSource, SliceSource, Source, SourceFailed};
+pub use values::{ValueCount, ValueTaker};
 pub use writer::BitWriter;
 pub use writer_laws::{bytes_of_writing, write_nothing, write_then_stop, write_then_write};

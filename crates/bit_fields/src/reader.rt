@@ -213,7 +213,7 @@ impl<S: Source> BitReader<S> {
     }
 
     /// Fails where a judgement does not hold.
-    fn judge(&mut self, holds: bool, reason: Reason, bit: u64) -> Result<(), Fault>
+    pub fn judge(&mut self, holds: bool, reason: Reason, bit: u64) -> Result<(), Fault>
         requires live { self.old.live ≡ true }
         requires stays { (e : Extent) → within e reason bit ≡ at reason bit }
         ensures takes { Takes (test holds (at reason bit)) self.old result self.new }
