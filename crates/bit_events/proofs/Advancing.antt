@@ -1,5 +1,6 @@
 -- The next event of a stream, as what is to come of it has it.
 use Rattle.std.proofs.Common.{◌≡◌, ℕ, ◌-◌, ◌^◌, ◌<◌, Bool, true, false, List, [], ◌∷◌, length, Option, Some, None, IsSome, Ok, Err, refl, sym, ap, subst, ◌∙◌, arith, inl, inr, vec_len}
+use Rattle.std.specs.Option.{option_map}
 use Rattle.bit_grammar.specs.Grammar as grammar
 use Rattle.bit_grammar.specs.Grammar.{at, reading}
 use Rattle.bit_grammar.specs.Blocks.{Limits}
@@ -23,8 +24,11 @@ use Rattle.bit_fields.proofs.InflowLaws.{Spends-trans}
 use Rattle.bit_events.specs.declared.frame.Frame.{Frame}
 use Rattle.bit_events.specs.declared.machine.Found.{Found}
 use Rattle.bit_events.specs.declared.machine.Machine.{Machine}
-use Rattle.bit_events.specs.FrameView.{frame_shown, frames_onto, frames_shown, HaveIds}
-use Rattle.bit_events.specs.MachineView.{machine_shown, found_shown, lent, gave, Leaves}
+use Rattle.bit_events.specs.FrameView.{frame_shown, frames_onto, frames_shown}
+use Rattle.bit_events.specs.declared.machine.Found.TheVariants as found
+use Rattle.bit_events.specs.declared.machine.Aside.TheVariants.{Enter, Define, Leave}
+use Rattle.bit_events.specs.Coming.{held_after}
+use Rattle.bit_events.specs.MachineView.{machine_shown, definition_of, found_shown, found_lent, after_found, HoldsDefinition, Leaves}
 use Rattle.bit_events.specs.Coming.{over as over_stage}
 use Rattle.bit_events.specs.Coming.{failed, Goes, Gives, Ends, Breaks, Stops, before, end_at, end_by, told_of}
 use Rattle.bit_events.specs.Events.{stage_of, coming_of, IsEvents, Over, Shuts, Begun, Declines}
@@ -32,13 +36,13 @@ use Rattle.bit_events.proofs.Beginnings.{outlook_begun, outlook_declined}
 
 -- ---- open blocks
 
-wide_onto : (frames : List Frame) (outer : List machine.Frame) → HaveIds frames → AreWide outer → AreWide (frames_onto frames outer)
-wide_onto [] outer ids wide = wide
-wide_onto (f ∷ frames) outer ids wide = wide_onto frames (frame_shown f ∷ outer) ids.2 (ids.0, wide)
+wide_onto : (frames : List Frame) (outer : List machine.Frame) → AreWide outer → AreWide (frames_onto frames outer)
+wide_onto [] outer wide = wide
+wide_onto (f ∷ frames) outer wide = wide_onto frames (frame_shown f ∷ outer) (f.head.least, wide)
 
 -- each open block has ids of some bits
-wide : (frames : List Frame) → HaveIds frames → AreWide (frames_shown frames)
-wide frames ids = wide_onto frames [] ids tt
+pub wide : (frames : List Frame) → AreWide (frames_shown frames)
+wide frames = wide_onto frames [] tt
 
 some_onto : (frames : List Frame) (f : machine.Frame) (outer : List machine.Frame) → frames_onto frames (f ∷ outer) ≡ [] → ⊥
 some_onto [] f outer e = cc
@@ -101,23 +105,23 @@ fails_later a b c p (inr worn) = inr worn
 -- ---- the answers
 
 -- what stands before a step: the reader looked whether its stream ends, and it doesn't
-abbrev Going : Limits → Machine → Option Found → Reader → Reader → Type 0
-Going limits m found a b = IsEvents false limits m found a × Stays a b × (vec_len m.frames ≡ 0 → TellsBytes a → 0 < length a.left)
+abbrev Going : Machine → Option Found → Reader → Reader → Type 0
+Going m found a b = IsEvents false m found a × Stays a b × (vec_len m.frames ≡ 0 → TellsBytes a → 0 < length a.left)
 
-not_done : (limits : Limits) (m : Machine) (found : Option Found) (a b : Reader) → Going limits m found a b → TellsBytes a → is_done (frames_shown m.frames.items) a.left ≡ false
-not_done limits m found a b h tells = goes_on (frames_shown m.frames.items) a.left (λ e. h.2 (m.frames.ok.0 ∙ none_shown m.frames.items e) tells)
+not_done : (m : Machine) (found : Option Found) (a b : Reader) → Going m found a b → TellsBytes a → is_done (frames_shown m.frames.items) a.left ≡ false
+not_done m found a b h tells = goes_on (frames_shown m.frames.items) a.left (λ e. h.2 (m.frames.ok.0 ∙ none_shown m.frames.items e) tells)
 
 dead : (live : Bool) → live ≡ true → live ≡ false → ⊥
 dead live is isnt = cc
 
-stops : (limits : Limits) (head : Head) (m new : Machine) (found next_found : Option Found) (a b c : Reader) → Going limits m found a b → fields.Stops b c → Stops (coming_of false limits head m found a) (coming_of false limits head new next_found c)
-stops limits head m new found next_found a b c h s = record { went = rw h.1.was_live refl; stopped = rw s.failed refl; pays = pays_both a b c h.1.goes_on s.goes_on }
+stops : (limits : Limits) (head : Head) (m new : Machine) (vs ws : List ℕ) (found next_found : Option Found) (a b c : Reader) → Going m found a b → fields.Stops b c → Stops (coming_of false limits head m vs found a) (coming_of false limits head new ws next_found c)
+stops limits head m new vs ws found next_found a b c h s = record { went = rw h.1.was_live refl; stopped = rw s.failed refl; pays = pays_both a b c h.1.goes_on s.goes_on }
 
 -- an event came
-pub gives : (limits : Limits) (head : Head) (m new : Machine) (found : Option Found) (next_found : Found) (a b c : Reader) → Going limits m found a b
-    → Took (step limits (machine_shown m)) b (gave new next_found) c → Leaves limits.depth m next_found new → b.position < c.position → c.position < 2 ^ 64
-    → Gives (coming_of false limits head m found a) (found_shown new next_found) (coming_of false limits head new (Some next_found) c)
-gives limits head m new found next_found a b c h took leaves forward below = record {
+pub gives : (limits : Limits) (head : Head) (m new : Machine) (vs ws : List ℕ) (found : Option Found) (next_found : Found) (a b c : Reader) → Going m found a b
+    → Took (step limits (machine_shown m)) b (after_found new ws next_found) c → Leaves limits.depth m b (found_shown new ws next_found) new c → ws ≡ held_after (found_shown new ws next_found) vs → b.position < c.position → c.position < 2 ^ 64
+    → Gives (coming_of false limits head m vs found a) (found_shown new ws next_found) (coming_of false limits head new ws (Some next_found) c)
+gives limits head m new vs ws found next_found a b c h took leaves held forward below = record {
   went = rw h.1.was_live refl;
   goes = rw took.live refl;
   pays = pays_both a b c h.1.goes_on took.goes_on;
@@ -125,32 +129,32 @@ gives limits head m new found next_found a b c h took leaves forward below = rec
   stands = leaves.stands;
   depth = leaves.opens;
   deepest = refl;
-  held = leaves.holds;
+  held = held;
   forward = omega (arith, h.1.position, forward);
   below = below;
   told = λ tells. told tells (h.1.goes_on.tells tells);
 }
   where
-    told : TellsBytes a → TellsBytes b → told_of limits a.extent (machine_shown m) a.position a.left ≡ before (found_shown new next_found) (told_of limits c.extent (machine_shown new) c.position c.left)
+    told : TellsBytes a → TellsBytes b → told_of limits a.extent (machine_shown m) a.position a.left ≡ before (found_shown new ws next_found) (told_of limits c.extent (machine_shown new) c.position c.left)
     told tells_a tells_b =
-        let read : reading (step limits (machine_shown m)) a.position a.left ≡ Ok (gave new next_found, c.position, c.left) = subst (λ (left : List Bool). reading (step limits (machine_shown m)) a.position left ≡ Ok (gave new next_found, c.position, c.left)) (h.1.left tells_a) (subst (λ (p : ℕ). reading (step limits (machine_shown m)) p b.left ≡ Ok (gave new next_found, c.position, c.left)) h.1.position (took.reads tells_b)) in
-        told_event limits a.extent (machine_shown m) (machine_shown new) a.position c.position a.left c.left (found_shown new next_found) (wide m.frames.items h.0.ids) (not_done limits m found a b h tells_a) read
-        ∙ ap (λ (e : Extent). before (found_shown new next_found) (told_of limits e (machine_shown new) c.position c.left)) (sym (took.extent tells_b ∙ h.1.extent tells_a))
+        let read : reading (step limits (machine_shown m)) a.position a.left ≡ Ok (after_found new ws next_found, c.position, c.left) = subst (λ (left : List Bool). reading (step limits (machine_shown m)) a.position left ≡ Ok (after_found new ws next_found, c.position, c.left)) (h.1.left tells_a) (subst (λ (p : ℕ). reading (step limits (machine_shown m)) p b.left ≡ Ok (after_found new ws next_found, c.position, c.left)) h.1.position (took.reads tells_b)) in
+        told_event limits a.extent (machine_shown m) (machine_shown new) a.position c.position a.left c.left (found_shown new ws next_found) (wide m.frames.items) (not_done m found a b h tells_a) read
+        ∙ ap (λ (e : Extent). before (found_shown new ws next_found) (told_of limits e (machine_shown new) c.position c.left)) (sym (took.extent tells_b ∙ h.1.extent tells_a))
 
 -- no event came
-pub misses : (limits : Limits) (head : Head) (m new : Machine) (found next_found : Option Found) (a b c : Reader) (fault : Fault) → Going limits m found a b
-    → Why (step limits (machine_shown m)) b fault c → Breaks (coming_of false limits head m found a) fault (coming_of false limits head new next_found c)
-misses limits head m new found next_found a b c (Refused reason bit) h why = (stops limits head m new found next_found a b c h why.0, λ tells. told tells (h.1.goes_on.tells tells))
+pub misses : (limits : Limits) (head : Head) (m new : Machine) (vs ws : List ℕ) (found next_found : Option Found) (a b c : Reader) (fault : Fault) → Going m found a b
+    → Why (step limits (machine_shown m)) b fault c → Breaks (coming_of false limits head m vs found a) fault (coming_of false limits head new ws next_found c)
+misses limits head m new vs ws found next_found a b c (Refused reason bit) h why = (stops limits head m new vs ws found next_found a b c h why.0, λ tells. told tells (h.1.goes_on.tells tells))
   where
     told : TellsBytes a → TellsBytes b → told_of limits a.extent (machine_shown m) a.position a.left ≡ ([], broke (at reason bit))
     told tells_a tells_b =
         let breaks : fields.Breaks a.extent (reading (step limits (machine_shown m)) a.position a.left) reason bit = subst (λ (left : List Bool). fields.Breaks a.extent (reading (step limits (machine_shown m)) a.position left) reason bit) (h.1.left tells_a) (subst (λ (p : ℕ). fields.Breaks a.extent (reading (step limits (machine_shown m)) p b.left) reason bit) h.1.position (subst (λ (e : Extent). fields.Breaks e (reading (step limits (machine_shown m)) b.position b.left) reason bit) (h.1.extent tells_a) (why.1 tells_b))) in
-        told_fault limits a.extent (machine_shown m) a.position a.left reason bit (wide m.frames.items h.0.ids) (not_done limits m found a b h tells_a) breaks
-misses limits head m new found next_found a b c Read h why = (stops limits head m new found next_found a b c h why.0, fails_later a b c h.1.goes_on why.1)
-misses limits head m new found next_found a b c Memory h why = stops limits head m new found next_found a b c h why
-misses limits head m new found next_found a b c Failed h why = absurd (dead b.live h.1.live why.0)
-misses limits head m new found next_found a b c Write h why = absurd why
-misses limits head m new found next_found a b c OutputTooLong h why = absurd why
+        told_fault limits a.extent (machine_shown m) a.position a.left reason bit (wide m.frames.items) (not_done m found a b h tells_a) breaks
+misses limits head m new vs ws found next_found a b c Read h why = (stops limits head m new vs ws found next_found a b c h why.0, fails_later a b c h.1.goes_on why.1)
+misses limits head m new vs ws found next_found a b c Memory h why = stops limits head m new vs ws found next_found a b c h why
+misses limits head m new vs ws found next_found a b c Failed h why = absurd (dead b.live h.1.live why.0)
+misses limits head m new vs ws found next_found a b c Write h why = absurd why
+misses limits head m new vs ws found next_found a b c OutputTooLong h why = absurd why
 
 still : (live : Bool) → live ≡ true → stage_of false live ≡ failed → ⊥
 still true is e = cc
@@ -161,9 +165,9 @@ begun true e = cc
 begun false e = cc
 
 -- the input ends
-pub ends : (limits : Limits) (head : Head) (m : Machine) (found : Option Found) (a c : Reader) → IsEvents false limits m found a → vec_len m.frames ≡ 0 → a.live ≡ true → Over a c
-    → Ends (coming_of false limits head m found a) (coming_of true limits head m None c)
-ends limits head m found a c h none live over = record {
+pub ends : (limits : Limits) (head : Head) (m : Machine) (vs : List ℕ) (found : Option Found) (a c : Reader) → vec_len m.frames ≡ 0 → a.live ≡ true → Over a c
+    → Ends (coming_of false limits head m vs found a) (coming_of true limits head m vs None c)
+ends limits head m vs found a c none live over = record {
   held_on = λ e. still a.live live e;
   ends = refl;
   again = λ e. absurd (begun a.live e);
@@ -181,24 +185,24 @@ ends limits head m found a c h none live over = record {
         told_end limits a.extent (machine_shown m) a.position a.left (shown_none m.frames.items (sym m.frames.ok.0 ∙ none)) o.0 ∙ ap (λ (e : Ending). ([], e)) (o.1 ∙ ap accepted (sym over.position))
 
 -- outside of all blocks no event came
-pub refuses : (limits : Limits) (head : Head) (m : Machine) (found : Option Found) (a c : Reader) (fault : Fault) → vec_len m.frames ≡ 0 → Shuts true a (Err fault) c
-    → Breaks (coming_of false limits head m found a) fault (coming_of false limits head m found c)
-refuses limits head m found a c (Refused reason bit) none (_, s, told) = (
+pub refuses : (limits : Limits) (head : Head) (m : Machine) (vs : List ℕ) (found : Option Found) (a c : Reader) (fault : Fault) → vec_len m.frames ≡ 0 → Shuts true a (Err fault) c
+    → Breaks (coming_of false limits head m vs found a) fault (coming_of false limits head m vs found c)
+refuses limits head m vs found a c (Refused reason bit) none (_, s, told) = (
   record { went = rw s.was_live refl; stopped = rw s.failed refl; pays = s.goes_on },
   λ tells. told_end limits a.extent (machine_shown m) a.position a.left (shown_none m.frames.items (sym m.frames.ok.0 ∙ none)) (told tells).0 ∙ ap (λ (e : Ending). ([], e)) (told tells).1,
 )
-refuses limits head m found a c Read none (_, s, failed_so) = (record { went = rw s.was_live refl; stopped = rw s.failed refl; pays = s.goes_on }, failed_so)
-refuses limits head m found a c Memory none h = absurd h
-refuses limits head m found a c Failed none h = absurd h
-refuses limits head m found a c Write none h = absurd h
-refuses limits head m found a c OutputTooLong none h = absurd h
+refuses limits head m vs found a c Read none (_, s, failed_so) = (record { went = rw s.was_live refl; stopped = rw s.failed refl; pays = s.goes_on }, failed_so)
+refuses limits head m vs found a c Memory none h = absurd h
+refuses limits head m vs found a c Failed none h = absurd h
+refuses limits head m vs found a c Write none h = absurd h
+refuses limits head m vs found a c OutputTooLong none h = absurd h
 
 -- ---- the beginning
 
 -- an input was begun
-pub began : (limits : Limits) (i : Incoming) (head : Head) (m : Machine) (r : Reader) → Capped limits → machine_shown m ≡ at_start → m.values.items ≡ [] → vec_len m.frames ≡ 0
-    → Opened (fresh i limits.bytes) head r → Begun limits i (coming_of false limits head m None r)
-began limits i head m r capped shown held none o = record {
+pub began : (limits : Limits) (i : Incoming) (head : Head) (m : Machine) (values : List ℕ) (r : Reader) → Capped limits → machine_shown m ≡ at_start → values ≡ [] → vec_len m.frames ≡ 0
+    → Opened (fresh i limits.bytes) head r → Begun limits i (coming_of false limits head m values None r)
+began limits i head m values r capped shown held none o = record {
   capped = capped;
   goes = rw o.live refl;
   pays = o.goes_on;
@@ -232,65 +236,60 @@ declined limits i OutputTooLong now low h = absurd h
 
 -- ---- as the program keeps it
 
--- what holds between calls is kept where only the reader's place changes
-abbrev Inv : Bool → Limits → Machine → Option Found → Reader → Type 0
-Inv is_over limits m found r = IsEvents is_over limits m found r
+not_over : {is_over : Bool} {m : Machine} {found : Option Found} {r : Reader} → is_over ≡ false → IsEvents is_over m found r → IsEvents false m found r
+not_over {m = m} {found = found} {r = r} e h = subst (λ (b : Bool). IsEvents b m found r) e h
 
-not_over : {is_over : Bool} {limits : Limits} {m : Machine} {found : Option Found} {r : Reader} → is_over ≡ false → Inv is_over limits m found r → Inv false limits m found r
-not_over {limits = limits} {m = m} {found = found} {r = r} e h = subst (λ (b : Bool). Inv b limits m found r) e h
-
--- an event came
-kept_gives : (is_over : Bool) (limits : Limits) (head : Head) (m new : Machine) (found : Option Found) (next_found : Found) (a b c : Reader) (outside : Bool) → is_over ≡ false → Inv is_over limits m found a
-    → (vec_len m.frames ≡ 0 → outside ≡ true) → Shuts outside a (Ok false) b → Took (step limits (machine_shown m)) b (gave new next_found) c → Leaves limits.depth m next_found new → b.position < c.position → c.position < 2 ^ 64
-    → Gives (coming_of is_over limits head m found a) (found_shown new next_found) (coming_of is_over limits head new (Some next_found) c)
-kept_gives is_over limits head m new found next_found a b c outside e h out shut took leaves forward below =
-    subst (λ (x : Bool). Gives (coming_of x limits head m found a) (found_shown new next_found) (coming_of x limits head new (Some next_found) c)) (sym e)
-    (gives limits head m new found next_found a b c (not_over e h, shut.0, λ none. shut.1 (out none)) took leaves forward below)
+-- a definition that is at hand is lent
+lends : (m : Machine) (values : List ℕ) (f : Found) → HoldsDefinition m (found_shown m values f) → found_lent m values f ≡ Some (found_shown m values f)
+lends m values (found.Aside (Enter id width first body)) h = refl
+lends m values (found.Aside (Define first after)) h = ap (option_map (definition_of first after)) h
+lends m values (found.Aside (Leave after)) h = refl
+lends m values (found.Record id code first after) h = refl
 
 -- an event came, and it is lent
-pub kept_goes : (is_over : Bool) (limits : Limits) (head : Head) (m new : Machine) (found : Option Found) (next_found : Found) (a b c : Reader) (outside : Bool) → is_over ≡ false → Inv is_over limits m found a
-    → (vec_len m.frames ≡ 0 → outside ≡ true) → Shuts outside a (Ok false) b → Took (step limits (machine_shown m)) b (gave new next_found) c → Leaves limits.depth m next_found new → b.position < c.position → c.position < 2 ^ 64
-    → Goes (coming_of is_over limits head m found a) (Ok (lent new next_found)) (coming_of is_over limits head new (Some next_found) c)
-kept_goes is_over limits head m new found next_found a b c outside e h out shut took leaves forward below =
-    subst (λ (o : Option Event). Goes (coming_of is_over limits head m found a) (Ok o) (coming_of is_over limits head new (Some next_found) c)) (sym leaves.lends)
-    (kept_gives is_over limits head m new found next_found a b c outside e h out shut took leaves forward below)
+pub kept_goes : (is_over : Bool) (limits : Limits) (head : Head) (m new : Machine) (vs ws : List ℕ) (found : Option Found) (next_found : Found) (a b c : Reader) (outside : Bool) → is_over ≡ false → IsEvents is_over m found a
+    → (vec_len m.frames ≡ 0 → outside ≡ true) → Shuts outside a (Ok false) b → Took (step limits (machine_shown m)) b (after_found new ws next_found) c → Leaves limits.depth m b (found_shown new ws next_found) new c → ws ≡ held_after (found_shown new ws next_found) vs
+    → b.position < c.position → c.position < 2 ^ 64
+    → Goes (coming_of is_over limits head m vs found a) (Ok (found_lent new ws next_found)) (coming_of is_over limits head new ws (Some next_found) c)
+kept_goes is_over limits head m new vs ws found next_found a b c outside e h out shut took leaves held forward below =
+    subst (λ (o : Option Event). Goes (coming_of is_over limits head m vs found a) (Ok o) (coming_of is_over limits head new ws (Some next_found) c)) (sym (lends new ws next_found leaves.holds))
+    (subst (λ (x : Bool). Gives (coming_of x limits head m vs found a) (found_shown new ws next_found) (coming_of x limits head new ws (Some next_found) c)) (sym e)
+    (gives limits head m new vs ws found next_found a b c (not_over e h, shut.0, λ none. shut.1 (out none)) took leaves held forward below))
 
 -- no event came
-pub kept_misses : (is_over : Bool) (limits : Limits) (head : Head) (m new : Machine) (found : Option Found) (a b c : Reader) (outside : Bool) (fault : Fault) → is_over ≡ false → Inv is_over limits m found a
+pub kept_misses : (is_over : Bool) (limits : Limits) (head : Head) (m new : Machine) (vs ws : List ℕ) (found : Option Found) (a b c : Reader) (outside : Bool) (fault : Fault) → is_over ≡ false → IsEvents is_over m found a
     → (vec_len m.frames ≡ 0 → outside ≡ true) → Shuts outside a (Ok false) b → Why (step limits (machine_shown m)) b fault c
-    → Breaks (coming_of is_over limits head m found a) fault (coming_of is_over limits head new found c)
-kept_misses is_over limits head m new found a b c outside fault e h out shut why =
-    subst (λ (x : Bool). Breaks (coming_of x limits head m found a) fault (coming_of x limits head new found c)) (sym e)
-    (misses limits head m new found found a b c fault (not_over e h, shut.0, λ none. shut.1 (out none)) why)
+    → Breaks (coming_of is_over limits head m vs found a) fault (coming_of is_over limits head new ws found c)
+kept_misses is_over limits head m new vs ws found a b c outside fault e h out shut why =
+    subst (λ (x : Bool). Breaks (coming_of x limits head m vs found a) fault (coming_of x limits head new ws found c)) (sym e)
+    (misses limits head m new vs ws found found a b c fault (not_over e h, shut.0, λ none. shut.1 (out none)) why)
 
 -- the input ends
-pub kept_ends : (is_over : Bool) (limits : Limits) (head : Head) (m : Machine) (found : Option Found) (a c : Reader) (outside : Bool) → is_over ≡ false → Inv is_over limits m found a → (outside ≡ true → vec_len m.frames ≡ 0)
-    → a.live ≡ true → Shuts outside a (Ok true) c → Ends (coming_of is_over limits head m found a) (coming_of true limits head m None c)
-kept_ends is_over limits head m found a c outside e h out live shut =
-    subst (λ (x : Bool). Ends (coming_of x limits head m found a) (coming_of true limits head m None c)) (sym e)
-    (ends limits head m found a c (not_over e h) (out shut.0) live shut.1)
+pub kept_ends : (is_over : Bool) (limits : Limits) (head : Head) (m : Machine) (vs : List ℕ) (found : Option Found) (a c : Reader) (outside : Bool) → is_over ≡ false → (outside ≡ true → vec_len m.frames ≡ 0)
+    → Shuts outside a (Ok true) c → Ends (coming_of is_over limits head m vs found a) (coming_of true limits head m vs None c)
+kept_ends is_over limits head m vs found a c outside e out shut =
+    subst (λ (x : Bool). Ends (coming_of x limits head m vs found a) (coming_of true limits head m vs None c)) (sym e)
+    (ends limits head m vs found a c (out shut.0) shut.1.stops.was_live shut.1)
+
+was_outside : (outside : Bool) (a : Reader) (fault : Fault) (c : Reader) → Shuts outside a (Err fault) c → outside ≡ true
+was_outside outside a (Refused reason bit) c h = h.0
+was_outside outside a Read c h = h.0
+was_outside outside a Memory c h = absurd h
+was_outside outside a Failed c h = absurd h
+was_outside outside a Write c h = absurd h
+was_outside outside a OutputTooLong c h = absurd h
 
 -- outside of all blocks no event came
-pub kept_refuses : (is_over : Bool) (limits : Limits) (head : Head) (m : Machine) (found : Option Found) (a c : Reader) (outside : Bool) (fault : Fault) → is_over ≡ false → (outside ≡ true → vec_len m.frames ≡ 0)
-    → Shuts outside a (Err fault) c → Breaks (coming_of is_over limits head m found a) fault (coming_of is_over limits head m found c)
-kept_refuses is_over limits head m found a c outside fault e out shut =
+pub kept_refuses : (is_over : Bool) (limits : Limits) (head : Head) (m : Machine) (vs : List ℕ) (found : Option Found) (a c : Reader) (outside : Bool) (fault : Fault) → is_over ≡ false → (outside ≡ true → vec_len m.frames ≡ 0)
+    → Shuts outside a (Err fault) c → Breaks (coming_of is_over limits head m vs found a) fault (coming_of is_over limits head m vs found c)
+kept_refuses is_over limits head m vs found a c outside fault e out shut =
     let outside_so = was_outside outside a fault c shut in
-    subst (λ (x : Bool). Breaks (coming_of x limits head m found a) fault (coming_of x limits head m found c)) (sym e)
-    (refuses limits head m found a c fault (out outside_so) (subst (λ (o : Bool). Shuts o a (Err fault) c) outside_so shut))
-  where
-    was_outside : (outside : Bool) (a : Reader) (fault : Fault) (c : Reader) → Shuts outside a (Err fault) c → outside ≡ true
-    was_outside outside a (Refused reason bit) c h = h.0
-    was_outside outside a Read c h = h.0
-    was_outside outside a Memory c h = absurd h
-    was_outside outside a Failed c h = absurd h
-    was_outside outside a Write c h = absurd h
-    was_outside outside a OutputTooLong c h = absurd h
+    subst (λ (x : Bool). Breaks (coming_of x limits head m vs found a) fault (coming_of x limits head m vs found c)) (sym e)
+    (refuses limits head m vs found a c fault (out outside_so) (subst (λ (o : Bool). Shuts o a (Err fault) c) outside_so shut))
 
 -- what holds where the input has ended
-pub closed : (is_over : Bool) (limits : Limits) (m : Machine) (found : Option Found) (a c : Reader) (outside : Bool) → Inv is_over limits m found a → (outside ≡ true → vec_len m.frames ≡ 0) → Shuts outside a (Ok true) c → Inv true limits m None c
-closed is_over limits m found a c outside h out shut = record {
-  ids = h.ids;
-  depth = h.depth;
+pub closed : (m : Machine) (a c : Reader) (outside : Bool) → (outside ≡ true → vec_len m.frames ≡ 0) → Shuts outside a (Ok true) c → IsEvents true m None c
+closed m a c outside out shut = record {
   aligned = λ live. absurd (dead c.live live shut.1.stops.failed);
   closed = λ _. record { frames = out shut.0; last = refl };
 }

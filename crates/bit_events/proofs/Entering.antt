@@ -7,7 +7,7 @@ use Rattle.bit_grammar.specs.Blocks.{no_definitions, info_for, enter}
 use Rattle.bit_grammar.specs.Machine as machine
 use Rattle.bit_grammar.specs.Machine.{inside}
 use Rattle.bit_abbrev.specs.Table.{definitions_at}
-use Rattle.bit_events.specs.declared.heads.BlockHead.{BlockHead}
+use Rattle.bit_events.specs.declared.head.BlockHead.{BlockHead}
 use Rattle.bit_events.specs.declared.frame.Describing.{Describing}
 use Rattle.bit_events.specs.declared.frame.Frame.{Frame}
 use Rattle.bit_events.specs.HeadView.{head_shown}

@@ -24,7 +24,7 @@ use Rattle.bit_abbrev.specs.Values.{Recorded}
 use Rattle.bit_events.proofs.Telling.{told, why, andThen, breaks, ends, here, without_memory}
 use Rattle.bit_events.specs.declared.frame.Describing.{Describing}
 use Rattle.bit_events.specs.declared.frame.Frame.{Frame}
-use Rattle.bit_events.specs.FrameView.{info_shown, named, frame_shown, last_one, newest_for, newest_of, newest_in}
+use Rattle.bit_events.specs.FrameView.{info_shown, described_id, frame_shown, last_one, newest_for, newest_of, newest_in}
 
 -- ---- definitions
 
@@ -96,17 +96,17 @@ no_entry limit first id scope definitions a other force none live =
 
 -- ---- what a BLOCKINFO block describes
 
-is_some-named : (values : List ℕ) → is_some (named values) ≡ names_block values
-is_some-named [] = refl
-is_some-named (id ∷ values) = by (ltb id (2 ^ 32))
+is_some-described_id : (values : List ℕ) → is_some (described_id values) ≡ names_block values
+is_some-described_id [] = refl
+is_some-described_id (id ∷ values) = by (ltb id (2 ^ 32))
   where
     by : (b : Bool) → is_some (cond b (Some id) None) ≡ b
     by true = refl
     by false = refl
 
-named-first : (values : List ℕ) → is_some (named values) ≡ true → named values ≡ Some (get_or values 0 0)
-named-first [] h = absurd cc
-named-first (id ∷ values) h = by (ltb id (2 ^ 32)) h
+described_id-first : (values : List ℕ) → is_some (described_id values) ≡ true → described_id values ≡ Some (get_or values 0 0)
+described_id-first [] h = absurd cc
+described_id-first (id ∷ values) h = by (ltb id (2 ^ 32)) h
   where
     by : (b : Bool) → is_some (cond b (Some id) None) ≡ true → cond b (Some id) None ≡ Some id
     by true h = refl
@@ -128,17 +128,17 @@ unfolding describe
 other_wrong info first code values a fault b other h =
     second_chosen (eqb code set_bid) (set_rule info first (record { code = code; values = values })) (other_rule info first) a (Err fault) b (ne_eqb code 1 other) (fault_then (test (is_some info.described) (at NoBlockSet first)) (λ v. gives (Some info)) a fault b h)
 
-pub set_took : (info : BlockInfo) (first code : ℕ) (values : List ℕ) (a b : Reader) → code ≡ 1 → is_some (named values) ≡ true → Took (test (is_some (named values)) (at BadSetBid first)) a tt b → Took (describe (Some info) first (record { code = code; values = values })) a (Some (record info { described = named values })) b
+pub set_took : (info : BlockInfo) (first code : ℕ) (values : List ℕ) (a b : Reader) → code ≡ 1 → is_some (described_id values) ≡ true → Took (test (is_some (described_id values)) (at BadSetBid first)) a tt b → Took (describe (Some info) first (record { code = code; values = values })) a (Some (record info { described = described_id values })) b
 unfolding describe
 set_took info first code values a b set holds t =
     let made : BlockInfo = record info { described = Some (get_or values 0 0) } in
-    let judged : Took (test (names_block values) (at BadSetBid first)) a tt b = subst (λ (h : Bool). Took (test h (at BadSetBid first)) a tt b) (is_some-named values) t in
-    rw (named-first values holds) (first_chosen (eqb code set_bid) (set_rule info first (record { code = code; values = values })) (other_rule info first) a (Ok (Some made)) b (eq-eqb code 1 set) (took_then (test (names_block values) (at BadSetBid first)) (λ v. gives (Some made)) a tt b (Ok (Some made)) b judged (took_nothing (Some made) b t.live)))
+    let judged : Took (test (names_block values) (at BadSetBid first)) a tt b = subst (λ (h : Bool). Took (test h (at BadSetBid first)) a tt b) (is_some-described_id values) t in
+    rw (described_id-first values holds) (first_chosen (eqb code set_bid) (set_rule info first (record { code = code; values = values })) (other_rule info first) a (Ok (Some made)) b (eq-eqb code 1 set) (took_then (test (names_block values) (at BadSetBid first)) (λ v. gives (Some made)) a tt b (Ok (Some made)) b judged (took_nothing (Some made) b t.live)))
 
-pub set_wrong : (info : BlockInfo) (first code : ℕ) (values : List ℕ) (a : Reader) (fault : Fault) (b : Reader) → code ≡ 1 → Why (test (is_some (named values)) (at BadSetBid first)) a fault b → Why (describe (Some info) first (record { code = code; values = values })) a fault b
+pub set_wrong : (info : BlockInfo) (first code : ℕ) (values : List ℕ) (a : Reader) (fault : Fault) (b : Reader) → code ≡ 1 → Why (test (is_some (described_id values)) (at BadSetBid first)) a fault b → Why (describe (Some info) first (record { code = code; values = values })) a fault b
 unfolding describe
 set_wrong info first code values a fault b set h =
-    let judged : Why (test (names_block values) (at BadSetBid first)) a fault b = subst (λ (t : Bool). Why (test t (at BadSetBid first)) a fault b) (is_some-named values) h in
+    let judged : Why (test (names_block values) (at BadSetBid first)) a fault b = subst (λ (t : Bool). Why (test t (at BadSetBid first)) a fault b) (is_some-described_id values) h in
     first_chosen (eqb code set_bid) (set_rule info first (record { code = code; values = values })) (other_rule info first) a (Err fault) b (eq-eqb code 1 set) (fault_then (test (names_block values) (at BadSetBid first)) (λ v. gives (Some (record info { described = Some (get_or values 0 0) }))) a fault b judged)
 
 -- a block that is no BLOCKINFO block

@@ -1,7 +1,6 @@
 -- One step of the machine: what its parts take, by the rule for a step.
-use Rattle.std.proofs.Common.{◌≡◌, ℕ, zero, suc, ◌+◌, ◌<◌, ◌≤◌, Bool, true, false, not, is_some, eqb, ltb, List, [], ◌∷◌, ◌++◌, length, get_or, take, set, Option, Some, None, Result, Ok, IsSome, is_none, vec_len, refl, sym, ap, ◌∙◌, subst, arith}
+use Rattle.std.proofs.Common.{◌≡◌, ℕ, zero, suc, ◌+◌, ◌<◌, ◌≤◌, Bool, true, false, not, is_some, eqb, ltb, List, [], ◌∷◌, ◌++◌, length, get_or, take, set, Option, Some, None, Result, Ok, IsSome, is_none, refl, sym, ap, ◌∙◌, subst, arith}
 use Rattle.std.specs.Prelude.{unwrap_or}
-use Rattle.std.specs.Option.{option_map}
 use Rattle.std.proofs.lemmas.Bool.{ne_eqb}
 use Rattle.bit_grammar.specs.declared.op.Op.{Op}
 use Rattle.bit_grammar.specs.declared.reason.Reason.TheVariants.{TooDeep, TopLevel, NestedInBlockInfo}
@@ -18,10 +17,10 @@ use Rattle.bit_fields.specs.Reader.{Reader, Took, Why, Takes, stopped}
 use Rattle.bit_events.specs.declared.frame.Frame.{Frame}
 use Rattle.bit_events.specs.declared.frame.Describing.{Describing}
 use Rattle.bit_events.specs.declared.machine.Machine.{Machine}
-use Rattle.bit_events.specs.declared.machine.Found.TheVariants.{Define}
+use Rattle.bit_events.specs.declared.machine.Aside.TheVariants.{Define}
 use Rattle.bit_events.specs.HeadView.{head_shown}
-use Rattle.bit_events.specs.FrameView.{info_shown, frame_shown, newest_in, frames_onto, frames_shown, HaveIds}
-use Rattle.bit_events.specs.MachineView.{newest, defined_so, Leaves, ended, defined_in, noted_in}
+use Rattle.bit_events.specs.FrameView.{info_shown, frame_shown, newest_in, frames_onto, frames_shown}
+use Rattle.bit_events.specs.MachineView.{newest, aside_shown, HoldsDefinition, end_rule, define_rule, record_rule}
 use Rattle.bit_events.proofs.Telling.{told, why, answers, andThen, breaks, ends, here, first_rule, second_rule, without_memory}
 
 -- ---- the open blocks
@@ -133,28 +132,28 @@ top_opens limits handed a id b start c result d is t u v = told (step_top limits
 
 -- ---- the end of a block
 
-pub end_missed : (f : machine.Frame) (outer : List machine.Frame) (handed : Handed) (a : Reader) (fault : Fault) (b : Reader) → Why (end_of_block f.head) a fault b → Why (ended f outer handed) a fault b
-end_missed f outer handed a fault b h = why (ended f outer handed) a fault b (breaks h)
+pub end_missed : (f : machine.Frame) (outer : List machine.Frame) (handed : Handed) (a : Reader) (fault : Fault) (b : Reader) → Why (end_of_block f.head) a fault b → Why (end_rule f outer handed) a fault b
+end_missed f outer handed a fault b h = why (end_rule f outer handed) a fault b (breaks h)
 
-pub end_lost : (f : machine.Frame) (outer : List machine.Frame) (handed : Handed) (a : Reader) (after : ℕ) (b c : Reader) → Took (end_of_block f.head) a after b → c ≡ stopped b → Why (ended f outer handed) a Memory c
-end_lost f outer handed a after b c t is = why (ended f outer handed) a Memory c (andThen t (without_memory t.live is))
+pub end_lost : (f : machine.Frame) (outer : List machine.Frame) (handed : Handed) (a : Reader) (after : ℕ) (b c : Reader) → Took (end_of_block f.head) a after b → c ≡ stopped b → Why (end_rule f outer handed) a Memory c
+end_lost f outer handed a after b c t is = why (end_rule f outer handed) a Memory c (andThen t (without_memory t.live is))
 
-pub end_took : (f : machine.Frame) (outer : List machine.Frame) (handed : Handed) (a : Reader) (after : ℕ) (b c : Reader) (new : machine.Machine) → Took (end_of_block f.head) a after b → c ≡ b → new ≡ record { frames = outer; handed = leave f.info handed } → Took (ended f outer handed) a (leaves after, new) c
-end_took f outer handed a after b c new t same made = rw (same, made) (told (ended f outer handed) a (Ok (leaves after, record { frames = outer; handed = leave f.info handed })) b (andThen t (ends t.live)))
+pub end_took : (f : machine.Frame) (outer : List machine.Frame) (handed : Handed) (a : Reader) (after : ℕ) (b c : Reader) (new : machine.Machine) → Took (end_of_block f.head) a after b → c ≡ b → new ≡ record { frames = outer; handed = leave f.info handed } → Took (end_rule f outer handed) a (leaves after, new) c
+end_took f outer handed a after b c new t same made = rw (same, made) (told (end_rule f outer handed) a (Ok (leaves after, record { frames = outer; handed = leave f.info handed })) b (andThen t (ends t.live)))
 
 -- ---- a definition and a record
 
-pub define_missed : (f : machine.Frame) (outer : List machine.Frame) (first : ℕ) (handed : Handed) (a : Reader) (fault : Fault) (b : Reader) → Why (define first (scope_of f handed)) a fault b → Why (defined_in f outer first handed) a fault b
-define_missed f outer first handed a fault b h = why (defined_in f outer first handed) a fault b (breaks h)
+pub define_missed : (f : machine.Frame) (outer : List machine.Frame) (first : ℕ) (handed : Handed) (a : Reader) (fault : Fault) (b : Reader) → Why (define first (scope_of f handed)) a fault b → Why (define_rule f outer first handed) a fault b
+define_missed f outer first handed a fault b h = why (define_rule f outer first handed) a fault b (breaks h)
 
-pub define_took : (f : machine.Frame) (outer : List machine.Frame) (first : ℕ) (handed : Handed) (a : Reader) (mark : DefinitionMark) (scope : Scope) (b : Reader) (new : machine.Machine) → Took (define first (scope_of f handed)) a (mark, scope) b → new ≡ inside f.head outer scope → Took (defined_in f outer first handed) a (defines mark, new) b
-define_took f outer first handed a mark scope b new t made = rw made (told (defined_in f outer first handed) a (Ok (defines mark, inside f.head outer scope)) b (andThen t (ends t.live)))
+pub define_took : (f : machine.Frame) (outer : List machine.Frame) (first : ℕ) (handed : Handed) (a : Reader) (mark : DefinitionMark) (scope : Scope) (b : Reader) (new : machine.Machine) → Took (define first (scope_of f handed)) a (mark, scope) b → new ≡ inside f.head outer scope → Took (define_rule f outer first handed) a (defines mark, new) b
+define_took f outer first handed a mark scope b new t made = rw made (told (define_rule f outer first handed) a (Ok (defines mark, inside f.head outer scope)) b (andThen t (ends t.live)))
 
-pub record_missed : (limit : ℕ) (f : machine.Frame) (outer : List machine.Frame) (first id : ℕ) (handed : Handed) (a : Reader) (fault : Fault) (b : Reader) → Why (record_after limit first id (scope_of f handed)) a fault b → Why (noted_in limit f outer first id handed) a fault b
-record_missed limit f outer first id handed a fault b h = why (noted_in limit f outer first id handed) a fault b (breaks h)
+pub record_missed : (limit : ℕ) (f : machine.Frame) (outer : List machine.Frame) (first id : ℕ) (handed : Handed) (a : Reader) (fault : Fault) (b : Reader) → Why (record_after limit first id (scope_of f handed)) a fault b → Why (record_rule limit f outer first id handed) a fault b
+record_missed limit f outer first id handed a fault b h = why (record_rule limit f outer first id handed) a fault b (breaks h)
 
-pub record_took : (limit : ℕ) (f : machine.Frame) (outer : List machine.Frame) (first id : ℕ) (handed : Handed) (a : Reader) (mark : RecordMark) (scope : Scope) (b : Reader) (new : machine.Machine) → Took (record_after limit first id (scope_of f handed)) a (mark, scope) b → new ≡ inside f.head outer scope → Took (noted_in limit f outer first id handed) a (notes mark, new) b
-record_took limit f outer first id handed a mark scope b new t made = rw made (told (noted_in limit f outer first id handed) a (Ok (notes mark, inside f.head outer scope)) b (andThen t (ends t.live)))
+pub record_took : (limit : ℕ) (f : machine.Frame) (outer : List machine.Frame) (first id : ℕ) (handed : Handed) (a : Reader) (mark : RecordMark) (scope : Scope) (b : Reader) (new : machine.Machine) → Took (record_after limit first id (scope_of f handed)) a (mark, scope) b → new ≡ inside f.head outer scope → Took (record_rule limit f outer first id handed) a (notes mark, new) b
+record_took limit f outer first id handed a mark scope b new t made = rw made (told (record_rule limit f outer first id handed) a (Ok (notes mark, inside f.head outer scope)) b (andThen t (ends t.live)))
 
 -- ---- an item
 
@@ -170,7 +169,7 @@ pub in_then : (limits : Limits) (h : blocks.BlockHead) (frames : List machine.Fr
 unfolding step_in
 in_then limits h frames scope a id b start result c is t u = told (step_in limits h frames scope) a result c (here start is (andThen t (answers u)))
 
-pub after_end : (limits : Limits) (f : machine.Frame) (outer : List machine.Frame) (first id : ℕ) (handed : Handed) (a : Reader) (result : Result (Event × machine.Machine) Fault) (b : Reader) → eqb id 0 ≡ true → Takes (ended f outer handed) a result b → Takes (step_after limits f.head outer first (scope_of f handed) id) a result b
+pub after_end : (limits : Limits) (f : machine.Frame) (outer : List machine.Frame) (first id : ℕ) (handed : Handed) (a : Reader) (result : Result (Event × machine.Machine) Fault) (b : Reader) → eqb id 0 ≡ true → Takes (end_rule f outer handed) a result b → Takes (step_after limits f.head outer first (scope_of f handed) id) a result b
 unfolding step_after
 after_end limits f outer first id handed a result b is t = told (step_after limits f.head outer first (scope_of f handed) id) a result b (first_rule is (answers t))
 
@@ -178,11 +177,11 @@ pub after_nested : (limits : Limits) (f : machine.Frame) (outer : List machine.F
 unfolding step_after
 after_nested limits f outer first id handed a result b no_end is t = told (step_after limits f.head outer first (scope_of f handed) id) a result b (second_rule no_end (first_rule is (answers t)))
 
-pub after_define : (limits : Limits) (f : machine.Frame) (outer : List machine.Frame) (first id : ℕ) (handed : Handed) (a : Reader) (result : Result (Event × machine.Machine) Fault) (b : Reader) → eqb id 0 ≡ false → eqb id 1 ≡ false → eqb id 2 ≡ true → Takes (defined_in f outer first handed) a result b → Takes (step_after limits f.head outer first (scope_of f handed) id) a result b
+pub after_define : (limits : Limits) (f : machine.Frame) (outer : List machine.Frame) (first id : ℕ) (handed : Handed) (a : Reader) (result : Result (Event × machine.Machine) Fault) (b : Reader) → eqb id 0 ≡ false → eqb id 1 ≡ false → eqb id 2 ≡ true → Takes (define_rule f outer first handed) a result b → Takes (step_after limits f.head outer first (scope_of f handed) id) a result b
 unfolding step_after
 after_define limits f outer first id handed a result b no_end no_block is t = told (step_after limits f.head outer first (scope_of f handed) id) a result b (second_rule no_end (second_rule no_block (first_rule is (answers t))))
 
-pub after_record : (limits : Limits) (f : machine.Frame) (outer : List machine.Frame) (first id : ℕ) (handed : Handed) (a : Reader) (result : Result (Event × machine.Machine) Fault) (b : Reader) → eqb id 0 ≡ false → eqb id 1 ≡ false → eqb id 2 ≡ false → Takes (noted_in limits.values f outer first id handed) a result b → Takes (step_after limits f.head outer first (scope_of f handed) id) a result b
+pub after_record : (limits : Limits) (f : machine.Frame) (outer : List machine.Frame) (first id : ℕ) (handed : Handed) (a : Reader) (result : Result (Event × machine.Machine) Fault) (b : Reader) → eqb id 0 ≡ false → eqb id 1 ≡ false → eqb id 2 ≡ false → Takes (record_rule limits.values f outer first id handed) a result b → Takes (step_after limits f.head outer first (scope_of f handed) id) a result b
 unfolding step_after
 after_record limits f outer first id handed a result b no_end no_block no_definition t = told (step_after limits f.head outer first (scope_of f handed) id) a result b (second_rule no_end (second_rule no_block (second_rule no_definition (answers t))))
 
@@ -216,43 +215,43 @@ set_inside frames k f new shown outer handed n is split same =
 -- ---- the parts of a step, by the innermost block as it is held
 
 pub held_define_missed : (frames : List Frame) (k : ℕ) (f : Frame) (shown : machine.Frame) (outer : List machine.Frame) (first : ℕ) (handed : Handed) (a : Reader) (fault : Fault) (b : Reader) → length frames ≡ suc k → f ≡ get_or frames k f → frames_shown frames ≡ shown ∷ outer
-    → Why (define first (scope_of (frame_shown f) handed)) a fault b → Why (defined_in shown outer first handed) a fault b
+    → Why (define first (scope_of (frame_shown f) handed)) a fault b → Why (define_rule shown outer first handed) a fault b
 held_define_missed frames k f shown outer first handed a fault b n is split h =
     define_missed shown outer first handed a fault b (subst (λ (x : machine.Frame). Why (define first (scope_of x handed)) a fault b) (innermost frames k f shown outer n is split) h)
 
 pub held_define_took : (frames : List Frame) (k : ℕ) (f new : Frame) (shown : machine.Frame) (outer : List machine.Frame) (first : ℕ) (handed : Handed) (a : Reader) (mark : DefinitionMark) (b : Reader) → length frames ≡ suc k → f ≡ get_or frames k f → frames_shown frames ≡ shown ∷ outer → new.head ≡ f.head
-    → Took (define first (scope_of (frame_shown f) handed)) a (mark, scope_of (frame_shown new) handed) b → Took (defined_in shown outer first handed) a (defines mark, record { frames = frames_shown (set frames k new); handed = handed }) b
+    → Took (define first (scope_of (frame_shown f) handed)) a (mark, scope_of (frame_shown new) handed) b → Took (define_rule shown outer first handed) a (defines mark, record { frames = frames_shown (set frames k new); handed = handed }) b
 held_define_took frames k f new shown outer first handed a mark b n is split same t =
     define_took shown outer first handed a mark (scope_of (frame_shown new) handed) b (record { frames = frames_shown (set frames k new); handed = handed })
     (subst (λ (x : machine.Frame). Took (define first (scope_of x handed)) a (mark, scope_of (frame_shown new) handed) b) (innermost frames k f shown outer n is split) t)
     (set_inside frames k f new shown outer handed n is split same)
 
 pub held_record_missed : (limit : ℕ) (frames : List Frame) (k : ℕ) (f : Frame) (shown : machine.Frame) (outer : List machine.Frame) (first id : ℕ) (handed : Handed) (a : Reader) (fault : Fault) (b : Reader) → length frames ≡ suc k → f ≡ get_or frames k f → frames_shown frames ≡ shown ∷ outer
-    → Why (record_after limit first id (scope_of (frame_shown f) handed)) a fault b → Why (noted_in limit shown outer first id handed) a fault b
+    → Why (record_after limit first id (scope_of (frame_shown f) handed)) a fault b → Why (record_rule limit shown outer first id handed) a fault b
 held_record_missed limit frames k f shown outer first id handed a fault b n is split h =
     record_missed limit shown outer first id handed a fault b (subst (λ (x : machine.Frame). Why (record_after limit first id (scope_of x handed)) a fault b) (innermost frames k f shown outer n is split) h)
 
 pub held_record_took : (limit : ℕ) (frames : List Frame) (k : ℕ) (f new : Frame) (shown : machine.Frame) (outer : List machine.Frame) (first id : ℕ) (handed more made : Handed) (a : Reader) (mark : RecordMark) (b : Reader) → length frames ≡ suc k → f ≡ get_or frames k f → frames_shown frames ≡ shown ∷ outer → new.head ≡ f.head → made ≡ more
-    → Took (record_after limit first id (scope_of (frame_shown f) handed)) a (mark, scope_of (frame_shown new) more) b → Took (noted_in limit shown outer first id handed) a (notes mark, record { frames = frames_shown (set frames k new); handed = made }) b
+    → Took (record_after limit first id (scope_of (frame_shown f) handed)) a (mark, scope_of (frame_shown new) more) b → Took (record_rule limit shown outer first id handed) a (notes mark, record { frames = frames_shown (set frames k new); handed = made }) b
 held_record_took limit frames k f new shown outer first id handed more made a mark b n is split same same_made t =
     rw same_made (record_took limit shown outer first id handed a mark (scope_of (frame_shown new) more) b (record { frames = frames_shown (set frames k new); handed = more })
     (subst (λ (x : machine.Frame). Took (record_after limit first id (scope_of x handed)) a (mark, scope_of (frame_shown new) more) b) (innermost frames k f shown outer n is split) t)
     (set_inside frames k f new shown outer more n is split same))
 
 pub held_end_missed : (frames others : List Frame) (f : Frame) (shown : machine.Frame) (outer : List machine.Frame) (handed : Handed) (a : Reader) (fault : Fault) (b : Reader) → frames ≡ others ++ f ∷ [] → frames_shown frames ≡ shown ∷ outer
-    → Why (end_of_block (head_shown f.head)) a fault b → Why (ended shown outer handed) a fault b
+    → Why (end_of_block (head_shown f.head)) a fault b → Why (end_rule shown outer handed) a fault b
 held_end_missed frames others f shown outer handed a fault b is split h =
     let popped = frames-pop frames others f shown outer is split in
     end_missed shown outer handed a fault b (subst (λ (x : machine.Frame). Why (end_of_block x.head) a fault b) popped.0 h)
 
 pub held_end_lost : (frames others : List Frame) (f : Frame) (shown : machine.Frame) (outer : List machine.Frame) (handed : Handed) (a : Reader) (after : ℕ) (b c : Reader) → frames ≡ others ++ f ∷ [] → frames_shown frames ≡ shown ∷ outer
-    → Took (end_of_block (head_shown f.head)) a after b → c ≡ stopped b → Why (ended shown outer handed) a Memory c
+    → Took (end_of_block (head_shown f.head)) a after b → c ≡ stopped b → Why (end_rule shown outer handed) a Memory c
 held_end_lost frames others f shown outer handed a after b c is split t lost =
     let popped = frames-pop frames others f shown outer is split in
     end_lost shown outer handed a after b c (subst (λ (x : machine.Frame). Took (end_of_block x.head) a after b) popped.0 t) lost
 
 pub held_end_took : (frames others : List Frame) (f : Frame) (shown : machine.Frame) (outer : List machine.Frame) (handed : Handed) (a : Reader) (after : ℕ) (b c : Reader) (new : machine.Machine) → frames ≡ others ++ f ∷ [] → frames_shown frames ≡ shown ∷ outer
-    → Took (end_of_block (head_shown f.head)) a after b → c ≡ b → new ≡ record { frames = frames_shown others; handed = leave (info_shown f.info) handed } → Took (ended shown outer handed) a (leaves after, new) c
+    → Took (end_of_block (head_shown f.head)) a after b → c ≡ b → new ≡ record { frames = frames_shown others; handed = leave (info_shown f.info) handed } → Took (end_rule shown outer handed) a (leaves after, new) c
 held_end_took frames others f shown outer handed a after b c new is split t same made =
     let popped = frames-pop frames others f shown outer is split in
     let left : record { frames = frames_shown others; handed = leave (info_shown f.info) handed } ≡ record { frames = outer; handed = leave shown.info handed } = rw (popped.1, ← popped.0) refl in
@@ -260,20 +259,9 @@ held_end_took frames others f shown outer handed a after b c new is split t same
 
 -- ---- what a definition leaves
 
-newest_lent : (first after : ℕ) (o : Option (List Op)) → IsSome o → option_map (defined_so first after) o ≡ Some (defined_so first after (unwrap_or o []))
-newest_lent first after None some = absurd cc
-newest_lent first after (Some ops) some = refl
+newest_some : (o : Option (List Op)) → IsSome o → o ≡ Some (unwrap_or o [])
+newest_some None some = absurd cc
+newest_some (Some ops) some = refl
 
-pub defined_leaves : (deepest : ℕ) (old new : Machine) (first after : ℕ) → 0 < vec_len old.frames → vec_len new.frames ≡ vec_len old.frames → new.values.items ≡ old.values.items → IsSome (newest (frames_shown new.frames.items)) → Leaves deepest old (Define first after) new
-defined_leaves deepest old new first after some same held newest_some = record {
-  stands = some;
-  opens = same;
-  holds = held;
-  lends = newest_lent first after (newest (frames_shown new.frames.items)) newest_some;
-}
-
--- the abbreviation ids of a block that is held have from 1 to 32 bits
-pub ids_at : (frames : List Frame) (k : ℕ) (f : Frame) → k < length frames → f ≡ get_or frames k f → HaveIds frames → (1 ≤ f.head.width) × (f.head.width ≤ 32)
-ids_at [] k f less is ids = absurd (omega arith)
-ids_at (a ∷ frames) zero f less is ids = rw is (ids.0, ids.1)
-ids_at (a ∷ frames) (suc k) f less is ids = ids_at frames k f (omega arith) is ids.2
+pub definition_held : (m : Machine) (first after : ℕ) → IsSome (newest (frames_shown m.frames.items)) → HoldsDefinition m (aside_shown m (Define first after))
+definition_held m first after some = newest_some (newest (frames_shown m.frames.items)) some

@@ -1,5 +1,5 @@
 -- What is seen of the events of a stream, by what the program keeps.
-use Rattle.std.specs.Prelude.{◌≡◌, ◌+◌, ◌<◌, ◌≤◌, ◌%◌, vec_len, Bool, true, false, [], Option, Some, None, IsSome, Result, Ok, Err, length}
+use Rattle.std.specs.Prelude.{◌≡◌, ℕ, ◌+◌, ◌<◌, ◌%◌, vec_len, List, Bool, true, false, [], Option, Some, None, IsSome, Result, Ok, Err, length}
 use Rattle.bit_grammar.specs.Grammar.{at}
 use Rattle.bit_grammar.specs.Blocks.{Limits}
 use Rattle.bit_grammar.specs.Machine as machine
@@ -17,8 +17,7 @@ use Rattle.bit_events.specs.declared.event.Event.{Event}
 use Rattle.bit_events.specs.declared.machine.Found.{Found}
 use Rattle.bit_events.specs.declared.machine.Machine.{Machine}
 use Rattle.bit_events.specs.EventView.{shown_if_any}
-use Rattle.bit_events.specs.FrameView.{HaveIds}
-use Rattle.bit_events.specs.MachineView.{machine_shown, lent}
+use Rattle.bit_events.specs.MachineView.{machine_shown, found_lent}
 use Rattle.bit_events.specs.Coming.{Stage, going, over, failed, Coming, end_at, told_of, Goes}
 
 -- ---- what the program keeps
@@ -32,19 +31,19 @@ abbrev pub told_from : (is_over : Bool) → Limits → Machine → Reader → To
 told_from true limits m r = ([], accepted r.position)
 told_from false limits m r = told_of limits r.extent (machine_shown m) r.position r.left
 
-abbrev pub last_of : Machine → Option Found → Option machine.Event
-last_of m None = None
-last_of m (Some found) = lent m found
+abbrev pub last_of : Machine → List ℕ → Option Found → Option machine.Event
+last_of m values None = None
+last_of m values (Some found) = found_lent m values found
 
-abbrev pub coming_of : (is_over : Bool) → Limits → Head → Machine → Option Found → Reader → Coming
-coming_of is_over limits head m found r = record {
+abbrev pub coming_of : (is_over : Bool) → Limits → Head → Machine → (values : List ℕ) → Option Found → Reader → Coming
+coming_of is_over limits head m values found r = record {
   stage = stage_of is_over r.live;
   head = head_told head;
   told = told_from is_over limits m r;
   depth = vec_len m.frames;
   deepest = limits.depth;
-  held = m.values.items;
-  last = last_of m found;
+  held = values;
+  last = last_of m values found;
   position = r.position;
   incoming = r.incoming;
   budget = r.budget;
@@ -55,10 +54,8 @@ pub record IsClosed (m : Machine) (found : Option Found) : Type 0 where
   pub frames : vec_len m.frames ≡ 0
   pub last : found ≡ None
 
--- what holds between calls: one frame for each open block, at most as many as may be open
-pub record IsEvents (is_over : Bool) (limits : Limits) (m : Machine) (found : Option Found) (r : Reader) : Type 0 where
-  pub ids : HaveIds m.frames.items
-  pub depth : vec_len m.frames ≤ limits.depth
+-- what holds between calls: outside of all blocks the reader stands at a byte
+pub record IsEvents (is_over : Bool) (m : Machine) (found : Option Found) (r : Reader) : Type 0 where
   pub aligned : r.live ≡ true → vec_len m.frames ≡ 0 → r.position % 8 ≡ 0
   pub closed : is_over ≡ true → IsClosed m found
 

@@ -1,5 +1,5 @@
 -- What is seen of the machine of the program.
-use Rattle.std.specs.Prelude.{◌≡◌, ℕ, List, [], ◌∷◌, Option, Some, None, unwrap_or, vec_len}
+use Rattle.std.specs.Prelude.{◌≡◌, ℕ, ◌≤◌, ◌%◌, List, [], ◌∷◌, Option, Some, None, unwrap_or, vec_len}
 use Rattle.std.specs.Option.{option_map}
 use Rattle.bit_grammar.specs.declared.op.Op.{Op}
 use Rattle.bit_grammar.specs.Grammar.{Grammar, gives, ◌>>=◌}
@@ -7,12 +7,14 @@ use Rattle.bit_grammar.specs.Blocks.{Handed, BlockHead, end_of_block, define, re
 use Rattle.bit_grammar.specs.Machine as machine
 use Rattle.bit_grammar.specs.Machine.{Event, enters, defines, notes, leaves, Frame, scope_of, inside}
 use Rattle.bit_grammar.specs.Steps.{MayStand, open_after}
+use Rattle.bit_fields.specs.Reader.{Reader}
 use Rattle.bit_abbrev.specs.Table.{definitions_at}
-use Rattle.bit_events.specs.Coming.{held_after}
 use Rattle.bit_events.specs.FrameView.{newest_in, frames_shown}
 use Rattle.bit_events.specs.declared.machine.Machine.{Machine}
+use Rattle.bit_events.specs.declared.machine.Aside.{Aside}
+use Rattle.bit_events.specs.declared.machine.Aside.TheVariants.{Enter, Define, Leave}
 use Rattle.bit_events.specs.declared.machine.Found.{Found}
-use Rattle.bit_events.specs.declared.machine.Found.TheVariants.{Enter, Define, Record, Leave}
+use Rattle.bit_events.specs.declared.machine.Found.TheVariants as found
 
 abbrev pub handed_shown : Machine → Handed
 handed_shown m = record { table = definitions_at m.table; used = m.used }
@@ -25,45 +27,73 @@ abbrev pub newest : List machine.Frame → Option (List Op)
 newest [] = None
 newest (f ∷ outer) = newest_in f
 
-abbrev pub defined_so : (first after : ℕ) → List Op → Event
-defined_so first after ops = defines (record { ops = ops; first = first; after = after })
+-- ---- events
 
--- an event that was found, with the values that the machine holds, and its newest definition
-abbrev pub found_shown : Machine → Found → Event
-found_shown m (Enter id width first body) = enters (record { id = id; width = width; first = first; body = body })
-found_shown m (Define first after) = defined_so first after (unwrap_or (newest (frames_shown m.frames.items)) [])
-found_shown m (Record abbreviation code first after) = notes (record { abbreviation = abbreviation; code = code; values = m.values.items; first = first; after = after })
-found_shown m (Leave after) = leaves after
+abbrev pub definition_of : (first after : ℕ) → List Op → Event
+definition_of first after ops = defines (record { ops = ops; first = first; after = after })
 
--- the event as it is lent, where the machine has what belongs to it
-abbrev pub lent : Machine → Found → Option Event
-lent m (Define first after) = option_map (defined_so first after) (newest (frames_shown m.frames.items))
-lent m found = Some (found_shown m found)
+-- the record with this id, whose code and the bit after it were read
+abbrev pub record_of : (id : ℕ) → List ℕ → (first : ℕ) → (read : ℕ × ℕ) → Event
+record_of id values first read = notes (record { abbreviation = id; code = read.0; values = values; first = first; after = read.1 })
 
--- what a step gave, and the machine after it
-abbrev pub gave : Machine → Found → Event × machine.Machine
-gave m found = (found_shown m found, machine_shown m)
+-- an event that is no record, where a definition is the machine's newest one
+abbrev pub aside_shown : Machine → Aside → Event
+aside_shown m (Enter id width first body) = enters (record { id = id; width = width; first = first; body = body })
+aside_shown m (Define first after) = definition_of first after (unwrap_or (newest (frames_shown m.frames.items)) [])
+aside_shown m (Leave after) = leaves after
 
--- what an event that was found leaves of the open blocks and of the values; it can be lent
-pub record Leaves (deepest : ℕ) (old : Machine) (found : Found) (new : Machine) : Type 0 where
-  pub stands : MayStand deepest (found_shown new found) (vec_len old.frames)
-  pub opens : vec_len new.frames ≡ open_after (found_shown new found) (vec_len old.frames)
-  pub holds : new.values.items ≡ held_after (found_shown new found) old.values.items
-  pub lends : lent new found ≡ Some (found_shown new found)
+-- an event that was found, with these values
+abbrev pub found_shown : Machine → List ℕ → Found → Event
+found_shown m values (found.Aside aside) = aside_shown m aside
+found_shown m values (found.Record id code first after) = record_of id values first (code, after)
 
--- ---- the steps of the innermost block f, within others
+-- the same as they are lent, where the machine has what belongs to them
+abbrev pub aside_lent : Machine → Aside → Option Event
+aside_lent m (Define first after) = option_map (definition_of first after) (newest (frames_shown m.frames.items))
+aside_lent m aside = Some (aside_shown m aside)
+
+abbrev pub found_lent : Machine → List ℕ → Found → Option Event
+found_lent m values (found.Aside aside) = aside_lent m aside
+found_lent m values f = Some (found_shown m values f)
+
+-- an event, and the machine after it
+abbrev pub after_aside : Machine → Aside → Event × machine.Machine
+after_aside m aside = (aside_shown m aside, machine_shown m)
+
+abbrev pub after_found : Machine → List ℕ → Found → Event × machine.Machine
+after_found m values f = (found_shown m values f, machine_shown m)
+
+-- ---- what an event leaves
+
+-- a definition that came is the newest one
+abbrev pub HoldsDefinition : Machine → Event → Type 0
+HoldsDefinition m (defines mark) = newest (frames_shown m.frames.items) ≡ Some mark.ops
+HoldsDefinition m (enters opened) = Unit {0}
+HoldsDefinition m (notes mark) = Unit {0}
+HoldsDefinition m (leaves after) = Unit {0}
+
+-- What a call leaves that found an event: the event may stand where so many blocks are open, and so many are open behind it;
+-- the reader didn't go back, and where no block is open it stands at a word; and a definition is at hand.
+pub record Leaves (deepest : ℕ) (old : Machine) (a : Reader) (event : Event) (new : Machine) (b : Reader) : Type 0 where
+  pub stands : MayStand deepest event (vec_len old.frames)
+  pub opens : vec_len new.frames ≡ open_after event (vec_len old.frames)
+  pub forward : a.position ≤ b.position
+  pub aligned : vec_len new.frames ≡ 0 → b.position % 32 ≡ 0
+  pub holds : HoldsDefinition new event
+
+-- ---- the rules of the innermost block f, within others
 
 -- its end
-abbrev pub ended : Frame → List Frame → Handed → Grammar (Event × machine.Machine)
-ended f outer handed = end_of_block f.head >>= λ after. gives (leaves after, record { frames = outer; handed = leave f.info handed })
+abbrev pub end_rule : Frame → List Frame → Handed → Grammar (Event × machine.Machine)
+end_rule f outer handed = end_of_block f.head >>= λ after. gives (leaves after, record { frames = outer; handed = leave f.info handed })
 
 -- a definition, whose id began at first
-abbrev pub defined_in : Frame → List Frame → (first : ℕ) → Handed → Grammar (Event × machine.Machine)
-defined_in f outer first handed = define first (scope_of f handed) >>= λ definition. gives (defines definition.0, inside f.head outer definition.1)
+abbrev pub define_rule : Frame → List Frame → (first : ℕ) → Handed → Grammar (Event × machine.Machine)
+define_rule f outer first handed = define first (scope_of f handed) >>= λ definition. gives (defines definition.0, inside f.head outer definition.1)
 
 -- a record with this id, which began at first
-abbrev pub noted_in : (limit : ℕ) → Frame → List Frame → (first id : ℕ) → Handed → Grammar (Event × machine.Machine)
-noted_in limit f outer first id handed = record_after limit first id (scope_of f handed) >>= λ item. gives (notes item.0, inside f.head outer item.1)
+abbrev pub record_rule : (limit : ℕ) → Frame → List Frame → (first id : ℕ) → Handed → Grammar (Event × machine.Machine)
+record_rule limit f outer first id handed = record_after limit first id (scope_of f handed) >>= λ item. gives (notes item.0, inside f.head outer item.1)
 
 -- a block with this head stands first
 pub record Innermost (frames : List Frame) (head : BlockHead) : Type 0 where

@@ -24,6 +24,8 @@ pub struct Events<S: Source> {
     head: Head,
     reader: BitReader<S>,
     machine: Machine,
+    /// The values of the record that was given last.
+    values: Vec<u64>,
     /// The event that was given last.
     found: Option<Found>,
     /// The whole input is accepted.
@@ -36,9 +38,9 @@ impl<S: Source> Model for Events<S> {
 
     ghost Value = { Coming };
 
-    ghost view = { λ e. coming_of e.over e.limits e.head e.machine e.found e.reader };
+    ghost view = { λ e. coming_of e.over e.limits e.head e.machine e.values.items e.found e.reader };
 
-    ghost invariant = { λ e. IsEvents e.over e.limits e.machine e.found e.reader };
+    ghost invariant = { λ e. IsEvents e.over e.machine e.found e.reader };
 }
 
 /// Outside of all blocks: whether the stream has no byte left, and then whether its whole input is accepted.
@@ -75,6 +77,7 @@ impl<S: Source> Events<S> {
             head,
             reader,
             machine: Machine::new(alloc),
+            values: Vec::new(alloc),
             found: None,
             over: false,
         })
@@ -117,9 +120,12 @@ impl<S: Source> Events<S> {
             self.over = true;
             return Ok(());
         }
-        let found = self
-            .machine
-            .step(self.alloc, &mut self.reader, &self.limits)?;
+        let found = self.machine.step(
+            self.alloc,
+            &mut self.reader,
+            &self.limits,
+            &mut self.values,
+        )?;
         // Positions are below 2^64 and rise, so that the events end.
         let _position = self.reader.position();
         self.found = Some(found);
@@ -133,7 +139,7 @@ impl<S: Source> Events<S> {
     {
         match &self.found {
             None => None,
-            Some(found) => found.event(&self.machine),
+            Some(found) => found.event(&self.machine, self.values.as_slice()),
         }
     }
 

@@ -7,9 +7,10 @@ ghost use Rattle.bit_grammar.specs.Blocks.{Handed, Scope, Table, defined, define
 ghost use Rattle.bit_grammar.specs.Record.{value_count, unabbreviated};
 ghost use Rattle.bit_grammar.specs.Machine.{scope_of};
 ghost use Rattle.bit_fields.specs.Reader.{Takes, NeedsNoMemory, told_by};
-ghost use Rattle.bit_events.specs.FrameView.{describing_shown, info_shown, named, frame_shown, newest_in};
+ghost use Rattle.bit_events.specs.FrameView.{describing_shown, info_shown, described_id, frame_shown, newest_in};
 
-use crate::heads::{BlockHead, granted, judge, push};
+use crate::head::BlockHead;
+use crate::heads::{granted, push};
 use bit_abbrev::{Abbrev, InForce, InfoTable, read_abbreviated, read_define};
 use bit_fields::{BitReader, Fault, Reason, Source};
 use std::alloc::{AllocError, Global};
@@ -85,7 +86,7 @@ pub(crate) fn define<S: Source>(
     ensures newest { OnOk result (IsSome (newest_in (frame_shown frame.new))) }
     ensures head { frame.new.head ≡ frame.old.head }
 {
-    judge(reader, frame.may_define(), Reason::NoBlockSet, first)?;
+    reader.judge(frame.may_define(), Reason::NoBlockSet, first)?;
     let abbrev = read_define(alloc, reader)?;
     let after = reader.position();
     granted(reader, frame.put(abbrev))?;
@@ -99,7 +100,7 @@ fn value_count<S: Source>(reader: &mut BitReader<S>, room: u64) -> Result<u64, F
 {
     let place = reader.position();
     let count = reader.vbr(6)?;
-    judge(reader, count <= room, Reason::TooManyValues, place)?;
+    reader.judge(count <= room, Reason::TooManyValues, place)?;
     Ok(count)
 }
 
@@ -165,8 +166,8 @@ fn entry<S: Source>(
 }
 
 /// The block id that the first of a record's values is, if it is one.
-fn named(values: &[u64]) -> Option<u32>
-    ensures { result ≡ named values.now }
+fn described_id(values: &[u64]) -> Option<u32>
+    ensures { result ≡ described_id values.now }
 {
     match values {
         [id, ..] => {
@@ -192,11 +193,11 @@ fn describe_by<S: Source>(
     ensures { Takes (describe (Some (describing_shown info.old)) first (record { code = code; values = values.now })) reader.old (told_by (λ _. Some (describing_shown info.new)) result) reader.new }
 {
     if code != SET_BID {
-        judge(reader, info.described.is_some(), Reason::NoBlockSet, first)?;
+        reader.judge(info.described.is_some(), Reason::NoBlockSet, first)?;
         return Ok(());
     }
-    let id = named(values);
-    judge(reader, id.is_some(), Reason::BadSetBid, first)?;
+    let id = described_id(values);
+    reader.judge(id.is_some(), Reason::BadSetBid, first)?;
     info.described = id;
     Ok(())
 }

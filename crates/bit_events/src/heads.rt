@@ -1,42 +1,11 @@
-ghost use Rattle.std.specs.Prelude.{◌≡◌, ◌+◌, ◌*◌, ◌≤◌, ◌%◌, true, OnOk, IfOk, IfErr, ◌++◌, [], ◌∷◌, ◌==◌, ◌&&◌, nat_le};
-ghost use Rattle.bit_grammar.specs.Grammar.{at, test};
+ghost use Rattle.std.specs.Prelude.{◌≡◌, ◌+◌, ◌*◌, ◌≤◌, ◌%◌, OnOk, IfOk, IfErr, ◌++◌, [], ◌∷◌, ◌==◌, ◌&&◌, nat_le};
 ghost use Rattle.bit_grammar.specs.Blocks.{block_id, new_width, block_head, end_of_block};
-ghost use Rattle.bit_fields.specs.Reader.{Extent, Takes, NeedsNoMemory, within, told_by, stopped};
+ghost use Rattle.bit_fields.specs.Reader.{Takes, told_by, stopped};
 ghost use Rattle.bit_events.specs.HeadView.{head_shown};
 
+use crate::head::BlockHead;
 use bit_fields::{BitReader, Fault, Reason, Source};
 use std::alloc::AllocError;
-
-/// What stands between a block's abbreviation id and its items: its id, the width of the ids in it, where its length
-/// stands, its length in words, and where its body begins.
-#[derive(Clone, Copy)]
-pub(crate) struct BlockHead {
-    pub(crate) id: u32,
-    pub(crate) width: u8,
-    pub(crate) length_at: u64,
-    pub(crate) words: u32,
-    pub(crate) body: u64,
-}
-
-/// Fails where a judgement does not hold.
-pub(crate) fn judge<S: Source>(
-    reader: &mut BitReader<S>,
-    holds: bool,
-    reason: Reason,
-    bit: u64,
-) -> Result<(), Fault>
-    requires live { reader.old.live ≡ true }
-    requires stays { (e : Extent) → within e reason bit ≡ at reason bit }
-    ensures takes { Takes (test holds (at reason bit)) reader.old result reader.new }
-    ensures memory { NeedsNoMemory result }
-    ensures same { OnOk result (reader.new ≡ reader.old) }
-    ensures holds { OnOk result (holds ≡ true) }
-{
-    if holds {
-        return Ok(());
-    }
-    Err(reader.fail(Fault::Refused { reason, bit }))
-}
 
 /// Fails where memory was refused.
 pub(crate) fn granted<S: Source, T>(
@@ -69,20 +38,17 @@ pub(crate) fn push<S: Source>(
 
 /// Reads the id of a block.
 fn block_id<S: Source>(reader: &mut BitReader<S>) -> Result<u32, Fault>
-    ensures takes { Takes block_id reader.old result reader.new }
-    ensures memory { NeedsNoMemory result }
+    ensures { Takes block_id reader.old result reader.new }
 {
     let start = reader.position();
     let id = reader.vbr(8)?;
-    judge(reader, id < 1 << 32, Reason::BlockId, start)?;
+    reader.judge(id < 1 << 32, Reason::BlockId, start)?;
     Ok(id as u32)
 }
 
 /// Whether abbreviation ids may have so many bits.
 fn is_width(width: u64) -> bool
-    ensures is { result ≡ (nat_le 1 width && nat_le width 32) }
-    ensures least { result ≡ true → 1 ≤ width }
-    ensures most { result ≡ true → width ≤ 32 }
+    ensures { result ≡ (nat_le 1 width && nat_le width 32) }
 {
     1 <= width && width <= 32
 }
@@ -90,22 +56,18 @@ fn is_width(width: u64) -> bool
 /// Reads the width of the abbreviation ids in a block.
 fn new_width<S: Source>(reader: &mut BitReader<S>) -> Result<u8, Fault>
     ensures takes { Takes new_width reader.old result reader.new }
-    ensures memory { NeedsNoMemory result }
     ensures least { IfOk result (λ width. 1 ≤ width) }
     ensures most { IfOk result (λ width. width ≤ 32) }
 {
     let start = reader.position();
     let width = reader.vbr(4)?;
-    judge(reader, is_width(width), Reason::AbbrevWidth, start)?;
+    reader.judge(is_width(width), Reason::AbbrevWidth, start)?;
     Ok(width as u8)
 }
 
 /// Reads what stands between a block's abbreviation id and its items. Source: "ENTER_SUBBLOCK Encoding".
 pub(crate) fn block_head<S: Source>(reader: &mut BitReader<S>) -> Result<BlockHead, Fault>
-    ensures takes { Takes block_head reader.old (told_by head_shown result) reader.new }
-    ensures memory { NeedsNoMemory result }
-    ensures least { IfOk result (λ head. 1 ≤ head.width) }
-    ensures most { IfOk result (λ head. head.width ≤ 32) }
+    ensures { Takes block_head reader.old (told_by head_shown result) reader.new }
 {
     let id = block_id(reader)?;
     let width = new_width(reader)?;
@@ -139,16 +101,10 @@ pub(crate) fn end_of_block<S: Source>(
     head: BlockHead,
 ) -> Result<u64, Fault>
     ensures takes { Takes (end_of_block (head_shown head)) reader.old result reader.new }
-    ensures memory { NeedsNoMemory result }
     ensures aligned { OnOk result (reader.new.position % 32 ≡ 0) }
 {
     reader.pad()?;
     let after = reader.position();
-    judge(
-        reader,
-        ends_at(head, after),
-        Reason::BlockLength,
-        head.length_at,
-    )?;
+    reader.judge(ends_at(head, after), Reason::BlockLength, head.length_at)?;
     Ok(after)
 }

@@ -6,6 +6,7 @@ mod events;
 #[cfg(test)]
 mod events_tests;
 mod frame;
+mod head;
 mod heads;
 mod machine;
 

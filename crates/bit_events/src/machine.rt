@@ -1,25 +1,26 @@
-ghost use Rattle.std.specs.Prelude.{◌≡◌, ◌<◌, ◌≤◌, ◌+◌, ◌%◌, true, [], ◌∷◌, ℕ, List, OnOk, IfOk, length, vec_len, is_none, IfSome, IfNone, IsTrue, ◌↔◌};
-ghost use Rattle.bit_grammar.specs.Blocks as blocks;
+ghost use Rattle.std.specs.Prelude.{◌≡◌, ◌<◌, ◌≤◌, ◌+◌, true, [], ◌∷◌, ℕ, List, OnOk, IfOk, vec_len, is_none, IfSome, IfNone, IsTrue, ◌↔◌};
+ghost use Rattle.std.specs.Option.{option_copied};
 ghost use Rattle.bit_grammar.specs.Blocks.{enter, leave, info_for};
 ghost use Rattle.bit_grammar.specs.Machine as machine;
 ghost use Rattle.bit_grammar.specs.Machine.{at_start, open_block, open_nested, step_after, step_in, step_top, step, scope_of, inside};
 ghost use Rattle.bit_fields.specs.Reader.{Takes, told_by};
+ghost use Rattle.bit_events.specs.Coming.{held_after};
 ghost use Rattle.bit_events.specs.EventView.{shown_if_any};
 ghost use Rattle.bit_events.specs.HeadView.{head_shown};
-ghost use Rattle.bit_events.specs.FrameView.{info_shown, frame_shown, frames_shown, HaveIds};
-ghost use Rattle.std.specs.Option.{option_copied};
-ghost use Rattle.bit_events.specs.MachineView.{handed_shown, machine_shown, newest, lent, gave, Leaves, Innermost, ended, defined_in, noted_in};
+ghost use Rattle.bit_events.specs.FrameView.{info_shown, frames_shown};
+ghost use Rattle.bit_events.specs.MachineView.{handed_shown, machine_shown, newest, aside_shown, aside_lent, found_shown, found_lent, after_aside, after_found, record_of, Leaves, Innermost, end_rule, define_rule, record_rule};
 
 use crate::event::Event;
 use crate::frame::{Describing, Frame, define, record_after};
-use crate::heads::{BlockHead, block_head, end_of_block, granted, judge};
+use crate::head::BlockHead;
+use crate::heads::{block_head, end_of_block, granted};
 use bit_abbrev::{Abbrev, InfoTable, SharedInfo};
 use bit_fields::{BitReader, Fault, Limits, Reason, Source};
 use std::alloc::{AllocError, Global};
 
-/// An event, without what the machine holds of it: the values of a record, and a definition, which is the newest one.
+/// An event that is no record. Of a definition, which is the newest one, the machine holds the operands.
 #[derive(Clone, Copy)]
-pub(crate) enum Found {
+pub(crate) enum Aside {
     Enter {
         id: u32,
         width: u8,
@@ -30,25 +31,30 @@ pub(crate) enum Found {
         first: u64,
         after: u64,
     },
+    Leave {
+        after: u64,
+    },
+}
+
+/// An event, without what is lent with it: the values of a record, and a definition.
+#[derive(Clone, Copy)]
+pub(crate) enum Found {
+    Aside(Aside),
     Record {
         abbrev: u32,
         code: u64,
         first: u64,
         after: u64,
     },
-    Leave {
-        after: u64,
-    },
 }
 
-/// What is known between two events: the open blocks, the outermost first, the table for the blocks to come, the number of
-/// values so far, and the values of the record that was read last.
+/// What is known between two events: the open blocks, the outermost first, the table for the blocks to come, and the number
+/// of values so far.
 #[derive(Drop)]
 pub(crate) struct Machine {
     pub(crate) frames: Vec<Frame>,
     pub(crate) table: SharedInfo,
     pub(crate) used: u64,
-    pub(crate) values: Vec<u64>,
 }
 
 /// What a block with this id describes at its beginning, if it is a BLOCKINFO block.
@@ -69,26 +75,19 @@ impl Machine {
     /// No block is open, and nothing was read.
     pub(crate) fn new(alloc: Global) -> Machine
         ensures machine { machine_shown result ≡ at_start }
-        ensures ids { HaveIds result.frames.items }
-        ensures values { result.values.items ≡ [] }
         ensures none { vec_len result.frames ≡ 0 }
     {
         Machine {
             frames: Vec::new(alloc),
             table: SharedInfo::new(),
             used: 0,
-            values: Vec::new(alloc),
         }
     }
 
     /// Opens a block.
     fn enter(&mut self, alloc: Global, head: BlockHead) -> Result<(), AllocError>
         ensures made { OnOk result (machine_shown self.new ≡ inside (head_shown head) (frames_shown self.old.frames.items) (enter head.id (handed_shown self.old))) }
-        ensures ids { 1 ≤ head.width → head.width ≤ 32 → HaveIds self.old.frames.items → HaveIds self.new.frames.items }
-        ensures some { OnOk result (0 < vec_len self.new.frames) }
-        ensures few { vec_len self.new.frames ≤ vec_len self.old.frames + 1 }
         ensures more { OnOk result (vec_len self.new.frames ≡ vec_len self.old.frames + 1) }
-        ensures values { self.new.values ≡ self.old.values }
     {
         let definitions = self.table.enter(alloc, head.id)?;
         let info = info_for(alloc, head.id);
@@ -109,20 +108,16 @@ impl Machine {
         reader: &mut BitReader<S>,
         limits: &Limits,
         first: u64,
-    ) -> Result<Found, Fault>
+    ) -> Result<Aside, Fault>
         requires { reader.old.live ≡ true }
-        ensures takes { Takes (open_block limits.now (frames_shown self.old.frames.items) first (handed_shown self.old)) reader.old (told_by (gave self.new) result) reader.new }
-        ensures ids { HaveIds self.old.frames.items → HaveIds self.new.frames.items }
-        ensures aligned { OnOk result (vec_len self.new.frames ≡ 0 → reader.new.position % 32 ≡ 0) }
-        ensures depth { vec_len self.old.frames ≤ limits.now.depth → vec_len self.new.frames ≤ limits.now.depth }
-        ensures forward { OnOk result (reader.old.position ≤ reader.new.position) }
-        ensures after { IfOk result (λ found. Leaves limits.now.depth self.old found self.new) }
+        ensures takes { Takes (open_block limits.now (frames_shown self.old.frames.items) first (handed_shown self.old)) reader.old (told_by (after_aside self.new) result) reader.new }
+        ensures leaves { IfOk result (λ aside. Leaves limits.now.depth self.old reader.old (aside_shown self.new aside) self.new reader.new) }
     {
         let fits = self.frames.len() < limits.depth() as usize;
-        judge(reader, fits, Reason::TooDeep, first)?;
+        reader.judge(fits, Reason::TooDeep, first)?;
         let head = block_head(reader)?;
         granted(reader, self.enter(alloc, head))?;
-        Ok(Found::Enter {
+        Ok(Aside::Enter {
             id: head.id,
             width: head.width,
             first,
@@ -137,18 +132,14 @@ impl Machine {
         reader: &mut BitReader<S>,
         limits: &Limits,
         first: u64,
-    ) -> Result<Found, Fault>
+    ) -> Result<Aside, Fault>
         requires live { reader.old.live ≡ true }
         requires some { 0 < vec_len self.old.frames }
-        ensures takes { (f : machine.Frame) (outer : List machine.Frame) → frames_shown self.old.frames.items ≡ f ∷ outer → Takes (open_nested limits.now f.head outer first (scope_of f (handed_shown self.old))) reader.old (told_by (gave self.new) result) reader.new }
-        ensures ids { HaveIds self.old.frames.items → HaveIds self.new.frames.items }
-        ensures aligned { OnOk result (vec_len self.new.frames ≡ 0 → reader.new.position % 32 ≡ 0) }
-        ensures depth { vec_len self.old.frames ≤ limits.now.depth → vec_len self.new.frames ≤ limits.now.depth }
-        ensures forward { OnOk result (reader.old.position ≤ reader.new.position) }
-        ensures after { IfOk result (λ found. Leaves limits.now.depth self.old found self.new) }
+        ensures takes { (f : machine.Frame) (outer : List machine.Frame) → frames_shown self.old.frames.items ≡ f ∷ outer → Takes (open_nested limits.now f.head outer first (scope_of f (handed_shown self.old))) reader.old (told_by (after_aside self.new) result) reader.new }
+        ensures leaves { IfOk result (λ aside. Leaves limits.now.depth self.old reader.old (aside_shown self.new aside) self.new reader.new) }
     {
         let plain = self.is_plain();
-        judge(reader, plain, Reason::NestedInBlockInfo, first)?;
+        reader.judge(plain, Reason::NestedInBlockInfo, first)?;
         self.open_block(alloc, reader, limits, first)
     }
 
@@ -168,29 +159,24 @@ impl Machine {
         &mut self,
         alloc: Global,
         reader: &mut BitReader<S>,
-    ) -> Result<Found, Fault>
+    ) -> Result<Aside, Fault>
         requires live { reader.old.live ≡ true }
         requires some { 0 < vec_len self.old.frames }
-        ensures takes { (f : machine.Frame) (outer : List machine.Frame) → frames_shown self.old.frames.items ≡ f ∷ outer → Takes (ended f outer (handed_shown self.old)) reader.old (told_by (gave self.new) result) reader.new }
-        ensures ids { HaveIds self.old.frames.items → HaveIds self.new.frames.items }
-        ensures aligned { OnOk result (vec_len self.new.frames ≡ 0 → reader.new.position % 32 ≡ 0) }
-        ensures depth { vec_len self.new.frames ≤ vec_len self.old.frames }
-        ensures forward { OnOk result (reader.old.position ≤ reader.new.position) }
-        ensures after { (deepest : ℕ) → IfOk result (λ found. Leaves deepest self.old found self.new) }
+        ensures takes { (f : machine.Frame) (outer : List machine.Frame) → frames_shown self.old.frames.items ≡ f ∷ outer → Takes (end_rule f outer (handed_shown self.old)) reader.old (told_by (after_aside self.new) result) reader.new }
+        ensures leaves { (deepest : ℕ) → IfOk result (λ aside. Leaves deepest self.old reader.old (aside_shown self.new aside) self.new reader.new) }
     {
         let Some(frame) = self.frames.pop() else {
             unreachable!();
         };
         let after = end_of_block(reader, frame.head)?;
         granted(reader, self.leave(alloc, frame.info))?;
-        Ok(Found::Leave { after })
+        Ok(Aside::Leave { after })
     }
 
     /// Takes the table that a BLOCKINFO block made.
     fn leave(&mut self, alloc: Global, info: Option<Describing>) -> Result<(), AllocError>
         ensures made { OnOk result (machine_shown self.new ≡ record { frames = frames_shown self.old.frames.items; handed = leave (info_shown info) (handed_shown self.old) }) }
         ensures frames { self.new.frames ≡ self.old.frames }
-        ensures values { self.new.values ≡ self.old.values }
     {
         match info {
             Some(info) => {
@@ -207,78 +193,62 @@ impl Machine {
         alloc: Global,
         reader: &mut BitReader<S>,
         first: u64,
-    ) -> Result<Found, Fault>
+    ) -> Result<Aside, Fault>
         requires live { reader.old.live ≡ true }
         requires some { 0 < vec_len self.old.frames }
-        ensures takes { (f : machine.Frame) (outer : List machine.Frame) → frames_shown self.old.frames.items ≡ f ∷ outer → Takes (defined_in f outer first (handed_shown self.old)) reader.old (told_by (gave self.new) result) reader.new }
-        ensures ids { HaveIds self.old.frames.items → HaveIds self.new.frames.items }
-        ensures aligned { OnOk result (vec_len self.new.frames ≡ 0 → reader.new.position % 32 ≡ 0) }
-        ensures depth { vec_len self.new.frames ≤ vec_len self.old.frames }
-        ensures forward { OnOk result (reader.old.position ≤ reader.new.position) }
-        ensures after { (deepest : ℕ) → IfOk result (λ found. Leaves deepest self.old found self.new) }
+        ensures takes { (f : machine.Frame) (outer : List machine.Frame) → frames_shown self.old.frames.items ≡ f ∷ outer → Takes (define_rule f outer first (handed_shown self.old)) reader.old (told_by (after_aside self.new) result) reader.new }
+        ensures leaves { (deepest : ℕ) → IfOk result (λ aside. Leaves deepest self.old reader.old (aside_shown self.new aside) self.new reader.new) }
     {
         let Some(frame) = self.frames.last_mut() else {
             unreachable!();
         };
         let after = define(alloc, reader, frame, first)?;
-        Ok(Found::Define { first, after })
+        Ok(Aside::Define { first, after })
     }
 
-    /// Reads a record in the innermost block, after its id, which began at a bit.
-    fn note<S: Source>(
+    /// Reads a record in the innermost block, after its id, which began at a bit; answers its code and the bit after it.
+    pub(crate) fn note<S: Source>(
         &mut self,
         reader: &mut BitReader<S>,
         limits: &Limits,
         id: u32,
         first: u64,
-    ) -> Result<Found, Fault>
+        values: &mut Vec<u64>,
+    ) -> Result<(u64, u64), Fault>
         requires live { reader.old.live ≡ true }
         requires some { 0 < vec_len self.old.frames }
         requires id { 3 ≤ id }
-        ensures takes { (f : machine.Frame) (outer : List machine.Frame) → frames_shown self.old.frames.items ≡ f ∷ outer → Takes (noted_in limits.now.values f outer first id (handed_shown self.old)) reader.old (told_by (gave self.new) result) reader.new }
-        ensures ids { HaveIds self.old.frames.items → HaveIds self.new.frames.items }
-        ensures aligned { OnOk result (vec_len self.new.frames ≡ 0 → reader.new.position % 32 ≡ 0) }
-        ensures depth { vec_len self.new.frames ≤ vec_len self.old.frames }
-        ensures forward { OnOk result (reader.old.position ≤ reader.new.position) }
-        ensures after { IfOk result (λ found. Leaves limits.now.depth self.old found self.new) }
+        ensures takes { (f : machine.Frame) (outer : List machine.Frame) → frames_shown self.old.frames.items ≡ f ∷ outer → Takes (record_rule limits.now.values f outer first id (handed_shown self.old)) reader.old (told_by (λ read. (record_of id values.new.items first read, machine_shown self.new)) result) reader.new }
+        ensures leaves { (deepest : ℕ) → IfOk result (λ read. Leaves deepest self.old reader.old (record_of id values.new.items first read) self.new reader.new) }
     {
         let room = limits.values().saturating_sub(self.used);
-        self.values.clear();
+        values.clear();
         let Some(frame) = self.frames.last_mut() else {
             unreachable!();
         };
-        let (code, after) = record_after(reader, frame, room, &mut self.values, id, first)?;
-        let count = self.values.len() as u64;
+        let (code, after) = record_after(reader, frame, room, values, id, first)?;
+        let count = values.len() as u64;
         self.used += count;
-        Ok(Found::Record {
-            abbrev: id,
-            code,
-            first,
-            after,
-        })
+        Ok((code, after))
     }
 
     /// Reads what is no record in the innermost block, after its id, which began at a bit: the end of the block, a block or a
     /// definition. It is kept out of the way of records, which are far more.
     #[cold]
     #[inline(never)]
-    fn step_aside<S: Source>(
+    pub(crate) fn step_aside<S: Source>(
         &mut self,
         alloc: Global,
         reader: &mut BitReader<S>,
         limits: &Limits,
         id: u64,
         first: u64,
-    ) -> Result<Found, Fault>
+    ) -> Result<Aside, Fault>
         requires live { reader.old.live ≡ true }
         requires some { 0 < vec_len self.old.frames }
         requires id { id < 3 }
-        ensures takes { (f : machine.Frame) (outer : List machine.Frame) → frames_shown self.old.frames.items ≡ f ∷ outer → Takes (step_after limits.now f.head outer first (scope_of f (handed_shown self.old)) id) reader.old (told_by (gave self.new) result) reader.new }
-        ensures ids { HaveIds self.old.frames.items → HaveIds self.new.frames.items }
-        ensures aligned { OnOk result (vec_len self.new.frames ≡ 0 → reader.new.position % 32 ≡ 0) }
-        ensures depth { vec_len self.old.frames ≤ limits.now.depth → vec_len self.new.frames ≤ limits.now.depth }
-        ensures forward { OnOk result (reader.old.position ≤ reader.new.position) }
-        ensures after { IfOk result (λ found. Leaves limits.now.depth self.old found self.new) }
+        ensures takes { (f : machine.Frame) (outer : List machine.Frame) → frames_shown self.old.frames.items ≡ f ∷ outer → Takes (step_after limits.now f.head outer first (scope_of f (handed_shown self.old)) id) reader.old (told_by (after_aside self.new) result) reader.new }
+        ensures leaves { IfOk result (λ aside. Leaves limits.now.depth self.old reader.old (aside_shown self.new aside) self.new reader.new) }
     {
         if id == 0 {
             return self.end_block(alloc, reader);
@@ -296,55 +266,54 @@ impl Machine {
         reader: &mut BitReader<S>,
         limits: &Limits,
         head: BlockHead,
+        values: &mut Vec<u64>,
     ) -> Result<Found, Fault>
-        requires some { 0 < vec_len self.old.frames }
-        requires least { 1 ≤ head.width }
-        requires most { head.width ≤ 32 }
-        ensures takes { (f : machine.Frame) (outer : List machine.Frame) → frames_shown self.old.frames.items ≡ f ∷ outer → f.head ≡ head_shown head → Takes (step_in limits.now f.head outer (scope_of f (handed_shown self.old))) reader.old (told_by (gave self.new) result) reader.new }
-        ensures ids { HaveIds self.old.frames.items → HaveIds self.new.frames.items }
-        ensures aligned { OnOk result (vec_len self.new.frames ≡ 0 → reader.new.position % 32 ≡ 0) }
-        ensures depth { vec_len self.old.frames ≤ limits.now.depth → vec_len self.new.frames ≤ limits.now.depth }
+        requires { 0 < vec_len self.old.frames }
+        ensures takes { (f : machine.Frame) (outer : List machine.Frame) → frames_shown self.old.frames.items ≡ f ∷ outer → f.head ≡ head_shown head → Takes (step_in limits.now f.head outer (scope_of f (handed_shown self.old))) reader.old (told_by (after_found self.new values.new.items) result) reader.new }
+        ensures leaves { IfOk result (λ found. Leaves limits.now.depth self.old reader.old (found_shown self.new values.new.items found) self.new reader.new) }
+        ensures holds { IfOk result (λ found. values.new.items ≡ held_after (found_shown self.new values.new.items found) values.old.items) }
         ensures moves { OnOk result (reader.old.position < reader.new.position) }
-        ensures after { IfOk result (λ found. Leaves limits.now.depth self.old found self.new) }
     {
         let first = reader.position();
         let id = reader.fixed(u32::from(head.width))?;
         if id < 3 {
-            return self.step_aside(alloc, reader, limits, id, first);
+            let aside = self.step_aside(alloc, reader, limits, id, first)?;
+            return Ok(Found::Aside(aside));
         }
-        self.note(reader, limits, id as u32, first)
+        let abbrev = id as u32;
+        let (code, after) = self.note(reader, limits, abbrev, first, values)?;
+        Ok(Found::Record {
+            abbrev,
+            code,
+            first,
+            after,
+        })
     }
 
     /// Reads the beginning of a block at the top.
     #[cold]
     #[inline(never)]
-    fn step_top<S: Source>(
+    pub(crate) fn step_top<S: Source>(
         &mut self,
         alloc: Global,
         reader: &mut BitReader<S>,
         limits: &Limits,
-    ) -> Result<Found, Fault>
+    ) -> Result<Aside, Fault>
         requires { vec_len self.old.frames ≡ 0 }
-        ensures takes { Takes (step_top limits.now (handed_shown self.old)) reader.old (told_by (gave self.new) result) reader.new }
-        ensures ids { HaveIds self.old.frames.items → HaveIds self.new.frames.items }
-        ensures aligned { OnOk result (vec_len self.new.frames ≡ 0 → reader.new.position % 32 ≡ 0) }
-        ensures depth { vec_len self.old.frames ≤ limits.now.depth → vec_len self.new.frames ≤ limits.now.depth }
+        ensures takes { Takes (step_top limits.now (handed_shown self.old)) reader.old (told_by (after_aside self.new) result) reader.new }
+        ensures leaves { IfOk result (λ aside. Leaves limits.now.depth self.old reader.old (aside_shown self.new aside) self.new reader.new) }
         ensures moves { OnOk result (reader.old.position < reader.new.position) }
-        ensures after { IfOk result (λ found. Leaves limits.now.depth self.old found self.new) }
     {
         let first = reader.position();
         let id = reader.fixed(2)?;
-        judge(reader, id == 1, Reason::TopLevel, first)?;
+        reader.judge(id == 1, Reason::TopLevel, first)?;
         self.open_block(alloc, reader, limits, first)
     }
 
     /// The head of the innermost block.
-    fn innermost(&self) -> Option<BlockHead>
-        requires { HaveIds self.now.frames.items }
+    pub(crate) fn innermost(&self) -> Option<BlockHead>
         ensures some { IfSome result (λ head. Innermost (frames_shown self.now.frames.items) (head_shown head)) }
         ensures open { IfSome result (λ _. 0 < vec_len self.now.frames) }
-        ensures least { IfSome result (λ head. 1 ≤ head.width) }
-        ensures most { IfSome result (λ head. head.width ≤ 32) }
         ensures none { IfNone result (vec_len self.now.frames ≡ 0) }
     {
         match self.frames.last() {
@@ -353,29 +322,30 @@ impl Machine {
         }
     }
 
-    /// Finds one event.
+    /// Finds one event. The values of a record are those that the list holds then.
     pub(crate) fn step<S: Source>(
         &mut self,
         alloc: Global,
         reader: &mut BitReader<S>,
         limits: &Limits,
+        values: &mut Vec<u64>,
     ) -> Result<Found, Fault>
-        requires { HaveIds self.old.frames.items }
-        ensures takes { Takes (step limits.now (machine_shown self.old)) reader.old (told_by (gave self.new) result) reader.new }
-        ensures ids { HaveIds self.old.frames.items → HaveIds self.new.frames.items }
-        ensures aligned { OnOk result (vec_len self.new.frames ≡ 0 → reader.new.position % 32 ≡ 0) }
-        ensures depth { vec_len self.old.frames ≤ limits.now.depth → vec_len self.new.frames ≤ limits.now.depth }
+        ensures takes { Takes (step limits.now (machine_shown self.old)) reader.old (told_by (after_found self.new values.new.items) result) reader.new }
+        ensures leaves { IfOk result (λ found. Leaves limits.now.depth self.old reader.old (found_shown self.new values.new.items found) self.new reader.new) }
+        ensures holds { IfOk result (λ found. values.new.items ≡ held_after (found_shown self.new values.new.items found) values.old.items) }
         ensures moves { OnOk result (reader.old.position < reader.new.position) }
-        ensures after { IfOk result (λ found. Leaves limits.now.depth self.old found self.new) }
     {
         match self.innermost() {
-            Some(head) => self.step_in(alloc, reader, limits, head),
-            None => self.step_top(alloc, reader, limits),
+            Some(head) => self.step_in(alloc, reader, limits, head, values),
+            None => {
+                let aside = self.step_top(alloc, reader, limits)?;
+                Ok(Found::Aside(aside))
+            }
         }
     }
 
     /// The definition that stands last where the innermost block puts one.
-    fn newest(&self) -> Option<&Abbrev>
+    pub(crate) fn newest(&self) -> Option<&Abbrev>
         ensures { option_copied result ≡ newest (frames_shown self.now.frames.items) }
     {
         match self.frames.last() {
@@ -392,14 +362,13 @@ impl Machine {
     }
 }
 
-impl Found {
-    /// The event, with what the machine that found it holds.
-    #[inline(always)]
-    pub(crate) fn event<'a>(&self, machine: &'a Machine) -> Option<Event<'a>>
-        ensures { shown_if_any result ≡ lent machine.now self.now }
+impl Aside {
+    /// The event, with the definition that the machine holds.
+    fn event<'a>(&self, machine: &'a Machine) -> Option<Event<'a>>
+        ensures { shown_if_any result ≡ aside_lent machine.now self.now }
     {
         match *self {
-            Found::Enter {
+            Aside::Enter {
                 id,
                 width,
                 first,
@@ -410,7 +379,7 @@ impl Found {
                 first,
                 body,
             }),
-            Found::Define { first, after } => match machine.newest() {
+            Aside::Define { first, after } => match machine.newest() {
                 Some(abbrev) => Some(Event::Define {
                     abbrev,
                     first,
@@ -418,6 +387,19 @@ impl Found {
                 }),
                 None => None,
             },
+            Aside::Leave { after } => Some(Event::Leave { after }),
+        }
+    }
+}
+
+impl Found {
+    /// The event, with what is lent with it.
+    #[inline(always)]
+    pub(crate) fn event<'a>(&self, machine: &'a Machine, values: &'a [u64]) -> Option<Event<'a>>
+        ensures { shown_if_any result ≡ found_lent machine.now values.now self.now }
+    {
+        match *self {
+            Found::Aside(aside) => aside.event(machine),
             Found::Record {
                 abbrev,
                 code,
@@ -426,11 +408,10 @@ impl Found {
             } => Some(Event::Record {
                 abbrev,
                 code,
-                values: machine.values.as_slice(),
+                values,
                 first,
                 after,
             }),
-            Found::Leave { after } => Some(Event::Leave { after }),
         }
     }
 }

@@ -1,7 +1,7 @@
+use Rattle.std.proofs.Common.{[], ◌∷◌, length, ap, arith, length-append}
 use Rattle.std.proofs.lemmas.Result.{err_from_is_err_and}
 use Rattle.bit_events.specs.MachineView.{handed_shown, machine_shown}
 use Rattle.bit_events.proofs.Stepping.{held_end_missed, held_end_lost, held_end_took}
-use Rattle.bit_events.proofs.Ids.{ids-popped}
 use Rattle.bit_events.proofs.machine.Machine.end_block.Goals as goal
 
 pub returns-in_err-after-clause-takes : goal.returns-in_err-after-clause-takes
@@ -19,14 +19,11 @@ returns-clause-takes g c = λ f outer split.
     let left = rw c.in_ok-granted.ensures.ok.0 at c.leave.ensures.made in
     held_end_took c.args.self.now.frames.items c.pop.new.self.items c.in-Some.frame f outer (handed_shown c.args.self.now) c.args.reader.now c.in_ok-after.after c.end_of_block.new.reader c.granted.new.reader (machine_shown c.leave.new.self) c.in-Some.ensures.items split c.in_ok-after.ensures.takes c.in_ok-granted.ensures.ok.1 left
 
-pub returns-in_err-after-clause-ids : goal.returns-in_err-after-clause-ids
-returns-in_err-after-clause-ids g c = λ ids. ids-popped c.args.self.now.frames.items c.pop.new.self.items c.in-Some.frame c.in-Some.ensures.items ids
-
-pub returns-in_err-granted-clause-ids : goal.returns-in_err-granted-clause-ids
-returns-in_err-granted-clause-ids g c = λ ids. rw c.leave.ensures.frames (ids-popped c.args.self.now.frames.items c.pop.new.self.items c.in-Some.frame c.in-Some.ensures.items ids)
-
-pub returns-clause-ids : goal.returns-clause-ids
-returns-clause-ids g c = λ ids. rw c.leave.ensures.frames (ids-popped c.args.self.now.frames.items c.pop.new.self.items c.in-Some.frame c.in-Some.ensures.items ids)
-
-pub returns-clause-aligned : goal.returns-clause-aligned
-returns-clause-aligned g c = λ none. rw c.in_ok-granted.ensures.ok.1 c.in_ok-after.ensures.aligned
+pub returns-clause-leaves : goal.returns-clause-leaves
+returns-clause-leaves g c = λ deepest. record {
+  stands = c.requires.some;
+  opens = rw c.leave.ensures.frames (let len = ap length c.in-Some.ensures.items in omega (arith, len, length-append c.pop.new.self.items (c.in-Some.frame ∷ []), c.args.self.now.frames.ok.0, c.pop.new.self.ok.0));
+  forward = rw c.in_ok-granted.ensures.ok.1 c.in_ok-after.ensures.takes.forward;
+  aligned = λ none. rw c.in_ok-granted.ensures.ok.1 c.in_ok-after.ensures.aligned;
+  holds = tt;
+}

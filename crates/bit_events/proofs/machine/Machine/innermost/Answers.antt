@@ -1,7 +1,7 @@
 use Rattle.std.proofs.Common.{◌<◌, ◌-◌, [], take, length, arith, refl, sym}
 use borrow.Author.Tests.{ltb-true}
 use Rattle.bit_events.specs.FrameView.{frame_shown, frames_onto}
-use Rattle.bit_events.proofs.Stepping.{frames-some, ids_at}
+use Rattle.bit_events.proofs.Stepping.{frames-some}
 use Rattle.bit_events.proofs.machine.Machine.innermost.Goals as goal
 
 pub returns-in-Some-clause-some : goal.returns-in-Some-clause-some
@@ -14,15 +14,3 @@ returns-in-Some-clause-some c =
       split = frames-some c.args.self.now.frames.items (length c.args.self.now.frames.items - 1) c.in-Some.frame.now (omega arith) (rw c.deref.ensures.value at c.in-Some.ensures.item.1);
       is = refl;
     }
-
-pub returns-in-Some-clause-least : goal.returns-in-Some-clause-least
-returns-in-Some-clause-least c =
-    let test = rw c.deref.ensures.value at c.in-Some.ensures.item.0 in
-    let some : 0 < length c.args.self.now.frames.items = ltb-true 0 (length c.args.self.now.frames.items) (sym test) in
-    (ids_at c.args.self.now.frames.items (length c.args.self.now.frames.items - 1) c.in-Some.frame.now (omega arith) (rw c.deref.ensures.value at c.in-Some.ensures.item.1) c.requires).0
-
-pub returns-in-Some-clause-most : goal.returns-in-Some-clause-most
-returns-in-Some-clause-most c =
-    let test = rw c.deref.ensures.value at c.in-Some.ensures.item.0 in
-    let some : 0 < length c.args.self.now.frames.items = ltb-true 0 (length c.args.self.now.frames.items) (sym test) in
-    (ids_at c.args.self.now.frames.items (length c.args.self.now.frames.items - 1) c.in-Some.frame.now (omega arith) (rw c.deref.ensures.value at c.in-Some.ensures.item.1) c.requires).1

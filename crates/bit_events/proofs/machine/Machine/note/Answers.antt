@@ -3,7 +3,6 @@ use Rattle.std.proofs.lemmas.Result.{err_from_is_err_and}
 use Rattle.bit_abbrev.specs.Table.{definitions_at}
 use Rattle.bit_events.specs.MachineView.{handed_shown}
 use Rattle.bit_events.proofs.Stepping.{held_record_missed, held_record_took}
-use Rattle.bit_events.proofs.Ids.{ids-set}
 use Rattle.bit_events.proofs.machine.Machine.note.Goals as goal
 
 pub returns-in_err-code-clause-takes : goal.returns-in_err-code-clause-takes
@@ -18,16 +17,13 @@ returns-clause-takes g c = λ f outer split.
     let counted : c.len-count.result ≡ length c.record_after.new.values.items = omega (arith, c.len-count.ensures, c.record_after.new.values.ok.0) in
     held_record_took c.args.limits.now.values c.args.self.now.frames.items (vec_len c.args.self.now.frames - 1) c.in-Some.frame.now c.record_after.new.frame f outer c.args.first c.args.id (handed_shown c.args.self.now) (record { table = definitions_at c.args.self.now.table; used = c.args.self.now.used + length c.record_after.new.values.items }) (record { table = definitions_at c.args.self.now.table; used = c.args.self.now.used + c.len-count.result }) c.args.reader.now (record { abbreviation = c.args.id; code = c.in_ok-code.code; values = c.record_after.new.values.items; first = c.args.first; after = c.in_ok-code.after }) c.record_after.new.reader (omega (arith, c.requires.some, c.args.self.now.frames.ok.0)) c.in-Some.ensures.value split c.in_ok-code.ensures.head (rw counted refl) (c.in_ok-code.ensures.takes c.args.limits.now.values (handed_shown c.args.self.now) room)
 
-pub returns-in_err-code-clause-ids : goal.returns-in_err-code-clause-ids
-returns-in_err-code-clause-ids g c = λ ids. ids-set c.args.self.now.frames.items (vec_len c.args.self.now.frames - 1) c.in-Some.frame.now c.record_after.new.frame (omega (arith, c.requires.some, c.args.self.now.frames.ok.0)) c.in-Some.ensures.value c.in_err-code.ensures.head ids
-
-pub returns-clause-ids : goal.returns-clause-ids
-returns-clause-ids g c = λ ids. ids-set c.args.self.now.frames.items (vec_len c.args.self.now.frames - 1) c.in-Some.frame.now c.record_after.new.frame (omega (arith, c.requires.some, c.args.self.now.frames.ok.0)) c.in-Some.ensures.value c.in_ok-code.ensures.head ids
-
-pub returns-clause-aligned : goal.returns-clause-aligned
-returns-clause-aligned g c = λ none. absurd (omega (arith, c.requires.some, none))
-
-pub returns-clause-forward : goal.returns-clause-forward
-returns-clause-forward g c =
+pub returns-clause-leaves : goal.returns-clause-leaves
+returns-clause-leaves g c = λ deepest.
     let room : c.args.limits.now.values - c.args.self.now.used ≡ c.saturating_sub-room.result = omega (arith, c.saturating_sub-room.ensures, c.values.ensures.values) in
-    (c.in_ok-code.ensures.takes c.args.limits.now.values (handed_shown c.args.self.now) room).forward
+    record {
+      stands = c.requires.some;
+      opens = refl;
+      forward = (c.in_ok-code.ensures.takes c.args.limits.now.values (handed_shown c.args.self.now) room).forward;
+      aligned = λ none. absurd (omega (arith, c.requires.some, none));
+      holds = tt;
+    }
