@@ -16,7 +16,7 @@ use Rattle.bit_fields.specs.declared.fault.Fault.TheVariants.{Refused, Read, Wri
 use Rattle.bit_fields.specs.declared.head.Head.{Head}
 use Rattle.bit_fields.specs.Devices.{Incoming, Spends, known_bytes}
 use Rattle.bit_fields.specs.Reader as fields
-use Rattle.bit_fields.specs.Reader.{Reader, Extent, TellsBytes, Took, Why, SourceFails, within}
+use Rattle.bit_fields.specs.Reader.{Reader, Extent, TellsBytes, GoesOn, Took, Why, SourceFails, within}
 use Rattle.bit_fields.specs.Opening as opening
 use Rattle.bit_fields.specs.Opening.{head_told, Opened, fresh, beginning, Beginning, wrapper_of, end_of}
 use Rattle.bit_fields.specs.Ending.{Stays}
@@ -31,6 +31,7 @@ use Rattle.bit_events.specs.Coming.{held_after}
 use Rattle.bit_events.specs.MachineView.{machine_shown, definition_of, found_shown, found_lent, after_found, HoldsDefinition, Leaves}
 use Rattle.bit_events.specs.Coming.{over as over_stage}
 use Rattle.bit_events.specs.Coming.{failed, Goes, Gives, Ends, Breaks, Stops, before, end_at, end_by, told_of}
+use Rattle.bit_events.specs.Folding.{left_to_tell}
 use Rattle.bit_events.specs.Events.{stage_of, coming_of, IsEvents, Over, Shuts, Begun, Declines}
 use Rattle.bit_events.proofs.Beginnings.{outlook_begun, outlook_declined}
 
@@ -41,7 +42,7 @@ wide_onto [] outer wide = wide
 wide_onto (f ∷ frames) outer wide = wide_onto frames (frame_shown f ∷ outer) (f.head.least, wide)
 
 -- each open block has ids of some bits
-pub wide : (frames : List Frame) → AreWide (frames_shown frames)
+wide : (frames : List Frame) → AreWide (frames_shown frames)
 wide frames = wide_onto frames [] tt
 
 some_onto : (frames : List Frame) (f : machine.Frame) (outer : List machine.Frame) → frames_onto frames (f ∷ outer) ≡ [] → ⊥
@@ -65,22 +66,22 @@ goes_on (f ∷ frames) r some = refl
 
 -- ---- what is told
 
-abbrev ended : Extent → Told → Told
-ended e told = (told.0, end_by e told.1)
+abbrev pub told_until : Extent → Told → Told
+told_until e told = (told.0, end_by e told.1)
 
 -- an event that is read is the first to come
 told_event : (limits : Limits) (e : Extent) (m new : machine.Machine) (p q : ℕ) (left rest : List Bool) (event : Event) → AreWide m.frames → is_done m.frames left ≡ false
     → reading (step limits m) p left ≡ Ok ((event, new), q, rest) → told_of limits e m p left ≡ before event (told_of limits e new q rest)
 told_event limits e m new p q left rest event ids more read =
-    ap (ended e) (comes limits m p left ids more ∙ ap (told_by (to_come limits)) read)
+    ap (told_until e) (comes limits m p left ids more ∙ ap (told_by (to_come limits)) read)
 
 -- a step that breaks is the end
 told_fault : (limits : Limits) (e : Extent) (m : machine.Machine) (p : ℕ) (left : List Bool) (reason : _) (bit : ℕ) → AreWide m.frames → is_done m.frames left ≡ false
     → fields.Breaks e (reading (step limits m) p left) reason bit → told_of limits e m p left ≡ ([], broke (at reason bit))
 told_fault limits e m p left reason bit ids more breaks =
-    ap (ended e) (comes limits m p left ids more) ∙ go (reading (step limits m) p left) breaks
+    ap (told_until e) (comes limits m p left ids more) ∙ go (reading (step limits m) p left) breaks
   where
-    go : (read : Step) → fields.Breaks e read reason bit → ended e (told_by (to_come limits) read) ≡ ([], broke (at reason bit))
+    go : (read : Step) → fields.Breaks e read reason bit → told_until e (told_by (to_come limits) read) ≡ ([], broke (at reason bit))
     go (Ok x) k = absurd k
     go (Err fault) k = ap (λ (f : grammar.Fault). ([], broke f)) k
 
@@ -91,68 +92,72 @@ told_end limits e m p left none empty = rw (none, empty) refl
 
 -- ---- the reader between two events
 
-abbrev Pays : Reader → Reader → Type 0
-Pays a b = Spends a.incoming a.budget b.incoming b.budget
-
-pays_both : (a b c : Reader) → Pays a b → Pays b c → Pays a c
+pub pays_both : (a b c : Reader) → GoesOn a b → GoesOn b c → GoesOn a c
 pays_both a b c p q = Spends-trans a.incoming a.budget b.incoming b.budget c.incoming c.budget p q
 
 -- a source that failed later failed
-fails_later : (a b c : Reader) → Pays a b → SourceFails b.incoming c.incoming → SourceFails a.incoming c.incoming
+pub fails_later : (a b c : Reader) → GoesOn a b → SourceFails b.incoming c.incoming → SourceFails a.incoming c.incoming
 fails_later a b c p (inl more) = inl (omega (arith, p.failures, more))
 fails_later a b c p (inr worn) = inr worn
 
 -- ---- the answers
 
--- what stands before a step: the reader looked whether its stream ends, and it doesn't
-abbrev Going : Machine → Option Found → Reader → Reader → Type 0
-Going m found a b = IsEvents false m found a × Stays a b × (vec_len m.frames ≡ 0 → TellsBytes a → 0 < length a.left)
+-- What stands before a step: a reader that looked whether its stream ends, where no block is open, and it doesn't.
+abbrev pub Ready : Machine → Reader → Reader → Type 0
+Ready m a b = Stays a b × (vec_len m.frames ≡ 0 → TellsBytes a → 0 < length a.left)
 
-not_done : (m : Machine) (found : Option Found) (a b : Reader) → Going m found a b → TellsBytes a → is_done (frames_shown m.frames.items) a.left ≡ false
-not_done m found a b h tells = goes_on (frames_shown m.frames.items) a.left (λ e. h.2 (m.frames.ok.0 ∙ none_shown m.frames.items e) tells)
+not_done : (m : Machine) (a b : Reader) → Ready m a b → TellsBytes a → is_done (frames_shown m.frames.items) a.left ≡ false
+not_done m a b h tells = goes_on (frames_shown m.frames.items) a.left (λ e. h.1 (m.frames.ok.0 ∙ none_shown m.frames.items e) tells)
 
-dead : (live : Bool) → live ≡ true → live ≡ false → ⊥
+pub dead : (live : Bool) → live ≡ true → live ≡ false → ⊥
 dead live is isnt = cc
 
-stops : (limits : Limits) (head : Head) (m new : Machine) (vs ws : List ℕ) (found next_found : Option Found) (a b c : Reader) → Going m found a b → fields.Stops b c → Stops (coming_of false limits head m vs found a) (coming_of false limits head new ws next_found c)
-stops limits head m new vs ws found next_found a b c h s = record { went = rw h.1.was_live refl; stopped = rw s.failed refl; pays = pays_both a b c h.1.goes_on s.goes_on }
+-- an event that came is the first to come
+pub event_told : (limits : Limits) (m new : Machine) (event : Event) (a b c : Reader) → Ready m a b → Took (step limits (machine_shown m)) b (event, machine_shown new) c → TellsBytes a → left_to_tell limits m a ≡ before event (left_to_tell limits new c)
+event_told limits m new event a b c h took tells =
+    let read : reading (step limits (machine_shown m)) a.position a.left ≡ Ok ((event, machine_shown new), c.position, c.left) = subst (λ (left : List Bool). reading (step limits (machine_shown m)) a.position left ≡ Ok ((event, machine_shown new), c.position, c.left)) (h.0.left tells) (subst (λ (p : ℕ). reading (step limits (machine_shown m)) p b.left ≡ Ok ((event, machine_shown new), c.position, c.left)) h.0.position (took.reads (h.0.goes_on.tells tells))) in
+    told_event limits a.extent (machine_shown m) (machine_shown new) a.position c.position a.left c.left event (wide m.frames.items) (not_done m a b h tells) read
+    ∙ ap (λ (e : Extent). before event (told_of limits e (machine_shown new) c.position c.left)) (sym (took.extent (h.0.goes_on.tells tells) ∙ h.0.extent tells))
+
+-- a step that breaks is the end
+pub break_told : (limits : Limits) (m : Machine) (reason : _) (bit : ℕ) (a b : Reader) → Ready m a b → (TellsBytes b → fields.Breaks b.extent (reading (step limits (machine_shown m)) b.position b.left) reason bit) → TellsBytes a → left_to_tell limits m a ≡ ([], broke (at reason bit))
+break_told limits m reason bit a b h broken tells =
+    let breaks : fields.Breaks a.extent (reading (step limits (machine_shown m)) a.position a.left) reason bit = subst (λ (left : List Bool). fields.Breaks a.extent (reading (step limits (machine_shown m)) a.position left) reason bit) (h.0.left tells) (subst (λ (p : ℕ). fields.Breaks a.extent (reading (step limits (machine_shown m)) p b.left) reason bit) h.0.position (subst (λ (e : Extent). fields.Breaks e (reading (step limits (machine_shown m)) b.position b.left) reason bit) (h.0.extent tells) (broken (h.0.goes_on.tells tells)))) in
+    told_fault limits a.extent (machine_shown m) a.position a.left reason bit (wide m.frames.items) (not_done m a b h tells) breaks
+
+-- outside of all blocks the end of the stream is told
+pub shut_told : (limits : Limits) (m : Machine) (a : Reader) (ending : Ending) → vec_len m.frames ≡ 0 → a.left ≡ [] → end_at a.extent a.position ≡ ending → left_to_tell limits m a ≡ ([], ending)
+shut_told limits m a ending none empty is =
+    told_end limits a.extent (machine_shown m) a.position a.left (shown_none m.frames.items (sym m.frames.ok.0 ∙ none)) empty ∙ ap (λ (e : Ending). ([], e)) is
+
+stops : (limits : Limits) (head : Head) (m new : Machine) (vs ws : List ℕ) (found next_found : Option Found) (a b c : Reader) → Stays a b → fields.Stops b c → Stops (coming_of false limits head m vs found a) (coming_of false limits head new ws next_found c)
+stops limits head m new vs ws found next_found a b c h s = record { went = rw h.was_live refl; stopped = rw s.failed refl; pays = pays_both a b c h.goes_on s.goes_on }
 
 -- an event came
-pub gives : (limits : Limits) (head : Head) (m new : Machine) (vs ws : List ℕ) (found : Option Found) (next_found : Found) (a b c : Reader) → Going m found a b
+gives : (limits : Limits) (head : Head) (m new : Machine) (vs ws : List ℕ) (found : Option Found) (next_found : Found) (a b c : Reader) → Ready m a b
     → Took (step limits (machine_shown m)) b (after_found new ws next_found) c → Leaves limits.depth m b (found_shown new ws next_found) new c → ws ≡ held_after (found_shown new ws next_found) vs → b.position < c.position → c.position < 2 ^ 64
     → Gives (coming_of false limits head m vs found a) (found_shown new ws next_found) (coming_of false limits head new ws (Some next_found) c)
 gives limits head m new vs ws found next_found a b c h took leaves held forward below = record {
-  went = rw h.1.was_live refl;
+  went = rw h.0.was_live refl;
   goes = rw took.live refl;
-  pays = pays_both a b c h.1.goes_on took.goes_on;
+  pays = pays_both a b c h.0.goes_on took.goes_on;
   head = refl;
   stands = leaves.stands;
   depth = leaves.opens;
   deepest = refl;
   held = held;
-  forward = omega (arith, h.1.position, forward);
+  forward = omega (arith, h.0.position, forward);
   below = below;
-  told = λ tells. told tells (h.1.goes_on.tells tells);
+  told = λ tells. event_told limits m new (found_shown new ws next_found) a b c h took tells;
 }
-  where
-    told : TellsBytes a → TellsBytes b → told_of limits a.extent (machine_shown m) a.position a.left ≡ before (found_shown new ws next_found) (told_of limits c.extent (machine_shown new) c.position c.left)
-    told tells_a tells_b =
-        let read : reading (step limits (machine_shown m)) a.position a.left ≡ Ok (after_found new ws next_found, c.position, c.left) = subst (λ (left : List Bool). reading (step limits (machine_shown m)) a.position left ≡ Ok (after_found new ws next_found, c.position, c.left)) (h.1.left tells_a) (subst (λ (p : ℕ). reading (step limits (machine_shown m)) p b.left ≡ Ok (after_found new ws next_found, c.position, c.left)) h.1.position (took.reads tells_b)) in
-        told_event limits a.extent (machine_shown m) (machine_shown new) a.position c.position a.left c.left (found_shown new ws next_found) (wide m.frames.items) (not_done m found a b h tells_a) read
-        ∙ ap (λ (e : Extent). before (found_shown new ws next_found) (told_of limits e (machine_shown new) c.position c.left)) (sym (took.extent tells_b ∙ h.1.extent tells_a))
 
 -- no event came
-pub misses : (limits : Limits) (head : Head) (m new : Machine) (vs ws : List ℕ) (found next_found : Option Found) (a b c : Reader) (fault : Fault) → Going m found a b
+misses : (limits : Limits) (head : Head) (m new : Machine) (vs ws : List ℕ) (found next_found : Option Found) (a b c : Reader) (fault : Fault) → Ready m a b
     → Why (step limits (machine_shown m)) b fault c → Breaks (coming_of false limits head m vs found a) fault (coming_of false limits head new ws next_found c)
-misses limits head m new vs ws found next_found a b c (Refused reason bit) h why = (stops limits head m new vs ws found next_found a b c h why.0, λ tells. told tells (h.1.goes_on.tells tells))
-  where
-    told : TellsBytes a → TellsBytes b → told_of limits a.extent (machine_shown m) a.position a.left ≡ ([], broke (at reason bit))
-    told tells_a tells_b =
-        let breaks : fields.Breaks a.extent (reading (step limits (machine_shown m)) a.position a.left) reason bit = subst (λ (left : List Bool). fields.Breaks a.extent (reading (step limits (machine_shown m)) a.position left) reason bit) (h.1.left tells_a) (subst (λ (p : ℕ). fields.Breaks a.extent (reading (step limits (machine_shown m)) p b.left) reason bit) h.1.position (subst (λ (e : Extent). fields.Breaks e (reading (step limits (machine_shown m)) b.position b.left) reason bit) (h.1.extent tells_a) (why.1 tells_b))) in
-        told_fault limits a.extent (machine_shown m) a.position a.left reason bit (wide m.frames.items) (not_done m found a b h tells_a) breaks
-misses limits head m new vs ws found next_found a b c Read h why = (stops limits head m new vs ws found next_found a b c h why.0, fails_later a b c h.1.goes_on why.1)
-misses limits head m new vs ws found next_found a b c Memory h why = stops limits head m new vs ws found next_found a b c h why
-misses limits head m new vs ws found next_found a b c Failed h why = absurd (dead b.live h.1.live why.0)
+misses limits head m new vs ws found next_found a b c (Refused reason bit) h why = (stops limits head m new vs ws found next_found a b c h.0 why.0, λ tells. break_told limits m reason bit a b h why.1 tells)
+misses limits head m new vs ws found next_found a b c Read h why = (stops limits head m new vs ws found next_found a b c h.0 why.0, fails_later a b c h.0.goes_on why.1)
+misses limits head m new vs ws found next_found a b c Memory h why = stops limits head m new vs ws found next_found a b c h.0 why
+misses limits head m new vs ws found next_found a b c Failed h why = absurd (dead b.live h.0.live why.0)
 misses limits head m new vs ws found next_found a b c Write h why = absurd why
 misses limits head m new vs ws found next_found a b c OutputTooLong h why = absurd why
 
@@ -165,7 +170,7 @@ begun true e = cc
 begun false e = cc
 
 -- the input ends
-pub ends : (limits : Limits) (head : Head) (m : Machine) (vs : List ℕ) (found : Option Found) (a c : Reader) → vec_len m.frames ≡ 0 → a.live ≡ true → Over a c
+ends : (limits : Limits) (head : Head) (m : Machine) (vs : List ℕ) (found : Option Found) (a c : Reader) → vec_len m.frames ≡ 0 → a.live ≡ true → Over a c
     → Ends (coming_of false limits head m vs found a) (coming_of true limits head m vs None c)
 ends limits head m vs found a c none live over = record {
   held_on = λ e. still a.live live e;
@@ -179,17 +184,15 @@ ends limits head m vs found a c none live over = record {
   none = λ _ tells. over.none tells;
 }
   where
-    told : TellsBytes a → told_of limits a.extent (machine_shown m) a.position a.left ≡ ([], accepted c.position)
-    told tells =
-        let o = over.told tells in
-        told_end limits a.extent (machine_shown m) a.position a.left (shown_none m.frames.items (sym m.frames.ok.0 ∙ none)) o.0 ∙ ap (λ (e : Ending). ([], e)) (o.1 ∙ ap accepted (sym over.position))
+    told : TellsBytes a → left_to_tell limits m a ≡ ([], accepted c.position)
+    told tells = (let o = over.told tells in shut_told limits m a (accepted c.position) none o.0 (o.1 ∙ ap accepted (sym over.position)))
 
 -- outside of all blocks no event came
-pub refuses : (limits : Limits) (head : Head) (m : Machine) (vs : List ℕ) (found : Option Found) (a c : Reader) (fault : Fault) → vec_len m.frames ≡ 0 → Shuts true a (Err fault) c
+refuses : (limits : Limits) (head : Head) (m : Machine) (vs : List ℕ) (found : Option Found) (a c : Reader) (fault : Fault) → vec_len m.frames ≡ 0 → Shuts true a (Err fault) c
     → Breaks (coming_of false limits head m vs found a) fault (coming_of false limits head m vs found c)
 refuses limits head m vs found a c (Refused reason bit) none (_, s, told) = (
   record { went = rw s.was_live refl; stopped = rw s.failed refl; pays = s.goes_on },
-  λ tells. told_end limits a.extent (machine_shown m) a.position a.left (shown_none m.frames.items (sym m.frames.ok.0 ∙ none)) (told tells).0 ∙ ap (λ (e : Ending). ([], e)) (told tells).1,
+  λ tells. shut_told limits m a (broke (at reason bit)) none (told tells).0 (told tells).1,
 )
 refuses limits head m vs found a c Read none (_, s, failed_so) = (record { went = rw s.was_live refl; stopped = rw s.failed refl; pays = s.goes_on }, failed_so)
 refuses limits head m vs found a c Memory none h = absurd h
@@ -236,9 +239,6 @@ declined limits i OutputTooLong now low h = absurd h
 
 -- ---- as the program keeps it
 
-not_over : {is_over : Bool} {m : Machine} {found : Option Found} {r : Reader} → is_over ≡ false → IsEvents is_over m found r → IsEvents false m found r
-not_over {m = m} {found = found} {r = r} e h = subst (λ (b : Bool). IsEvents b m found r) e h
-
 -- a definition that is at hand is lent
 lends : (m : Machine) (values : List ℕ) (f : Found) → HoldsDefinition m (found_shown m values f) → found_lent m values f ≡ Some (found_shown m values f)
 lends m values (found.Aside (Enter id width first body)) h = refl
@@ -247,22 +247,22 @@ lends m values (found.Aside (Leave after)) h = refl
 lends m values (found.Record id code first after) h = refl
 
 -- an event came, and it is lent
-pub kept_goes : (is_over : Bool) (limits : Limits) (head : Head) (m new : Machine) (vs ws : List ℕ) (found : Option Found) (next_found : Found) (a b c : Reader) (outside : Bool) → is_over ≡ false → IsEvents is_over m found a
+pub kept_goes : (is_over : Bool) (limits : Limits) (head : Head) (m new : Machine) (vs ws : List ℕ) (found : Option Found) (next_found : Found) (a b c : Reader) (outside : Bool) → is_over ≡ false
     → (vec_len m.frames ≡ 0 → outside ≡ true) → Shuts outside a (Ok false) b → Took (step limits (machine_shown m)) b (after_found new ws next_found) c → Leaves limits.depth m b (found_shown new ws next_found) new c → ws ≡ held_after (found_shown new ws next_found) vs
     → b.position < c.position → c.position < 2 ^ 64
     → Goes (coming_of is_over limits head m vs found a) (Ok (found_lent new ws next_found)) (coming_of is_over limits head new ws (Some next_found) c)
-kept_goes is_over limits head m new vs ws found next_found a b c outside e h out shut took leaves held forward below =
+kept_goes is_over limits head m new vs ws found next_found a b c outside e out shut took leaves held forward below =
     subst (λ (o : Option Event). Goes (coming_of is_over limits head m vs found a) (Ok o) (coming_of is_over limits head new ws (Some next_found) c)) (sym (lends new ws next_found leaves.holds))
     (subst (λ (x : Bool). Gives (coming_of x limits head m vs found a) (found_shown new ws next_found) (coming_of x limits head new ws (Some next_found) c)) (sym e)
-    (gives limits head m new vs ws found next_found a b c (not_over e h, shut.0, λ none. shut.1 (out none)) took leaves held forward below))
+    (gives limits head m new vs ws found next_found a b c (shut.0, λ none. shut.1 (out none)) took leaves held forward below))
 
 -- no event came
-pub kept_misses : (is_over : Bool) (limits : Limits) (head : Head) (m new : Machine) (vs ws : List ℕ) (found : Option Found) (a b c : Reader) (outside : Bool) (fault : Fault) → is_over ≡ false → IsEvents is_over m found a
+pub kept_misses : (is_over : Bool) (limits : Limits) (head : Head) (m new : Machine) (vs ws : List ℕ) (found : Option Found) (a b c : Reader) (outside : Bool) (fault : Fault) → is_over ≡ false
     → (vec_len m.frames ≡ 0 → outside ≡ true) → Shuts outside a (Ok false) b → Why (step limits (machine_shown m)) b fault c
     → Breaks (coming_of is_over limits head m vs found a) fault (coming_of is_over limits head new ws found c)
-kept_misses is_over limits head m new vs ws found a b c outside fault e h out shut why =
+kept_misses is_over limits head m new vs ws found a b c outside fault e out shut why =
     subst (λ (x : Bool). Breaks (coming_of x limits head m vs found a) fault (coming_of x limits head new ws found c)) (sym e)
-    (misses limits head m new vs ws found found a b c fault (not_over e h, shut.0, λ none. shut.1 (out none)) why)
+    (misses limits head m new vs ws found found a b c fault (shut.0, λ none. shut.1 (out none)) why)
 
 -- the input ends
 pub kept_ends : (is_over : Bool) (limits : Limits) (head : Head) (m : Machine) (vs : List ℕ) (found : Option Found) (a c : Reader) (outside : Bool) → is_over ≡ false → (outside ≡ true → vec_len m.frames ≡ 0)

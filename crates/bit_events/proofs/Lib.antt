@@ -6,3 +6,5 @@ pub mod Telling
 pub mod Advancing
 pub mod Beginnings
 pub mod Faults
+pub mod WholeInputs
+pub mod Folds

@@ -14,13 +14,14 @@ use Rattle.bit_grammar.specs.Machine.{Event, enters, defines, notes, leaves, sco
 use Rattle.bit_fields.specs.declared.fault.Fault.{Fault}
 use Rattle.bit_fields.specs.declared.fault.Fault.TheVariants.{Memory}
 use Rattle.bit_fields.specs.Reader.{Reader, Took, Why, Takes, stopped}
+use Rattle.bit_events.specs.declared.head.BlockHead.{BlockHead}
 use Rattle.bit_events.specs.declared.frame.Frame.{Frame}
 use Rattle.bit_events.specs.declared.frame.Describing.{Describing}
 use Rattle.bit_events.specs.declared.machine.Machine.{Machine}
 use Rattle.bit_events.specs.declared.machine.Aside.TheVariants.{Define}
 use Rattle.bit_events.specs.HeadView.{head_shown}
 use Rattle.bit_events.specs.FrameView.{info_shown, frame_shown, newest_in, frames_onto, frames_shown}
-use Rattle.bit_events.specs.MachineView.{newest, aside_shown, HoldsDefinition, end_rule, define_rule, record_rule}
+use Rattle.bit_events.specs.MachineView.{newest, aside_shown, innermost_head, HoldsDefinition, end_rule, define_rule, record_rule}
 use Rattle.bit_events.proofs.Telling.{told, why, answers, andThen, breaks, ends, here, first_rule, second_rule, without_memory}
 
 -- ---- the open blocks
@@ -256,6 +257,27 @@ held_end_took frames others f shown outer handed a after b c new is split t same
     let popped = frames-pop frames others f shown outer is split in
     let left : record { frames = frames_shown others; handed = leave (info_shown f.info) handed } ≡ record { frames = outer; handed = leave shown.info handed } = rw (popped.1, ← popped.0) refl in
     end_took shown outer handed a after b c new (subst (λ (x : machine.Frame). Took (end_of_block x.head) a after b) popped.0 t) same (made ∙ left)
+
+-- ---- the head of the innermost block
+
+-- it is that of the block that is held last
+pub head_held : (frames : List Frame) (k : ℕ) (f : Frame) → length frames ≡ suc k → f ≡ get_or frames k f → Some (head_shown f.head) ≡ innermost_head (frames_shown frames)
+head_held frames k f n is = sym (ap innermost_head (frames-some frames k f n is))
+
+-- another block with the same head in its place keeps it
+pub head_kept : (frames : List Frame) (k : ℕ) (f new : Frame) → length frames ≡ suc k → f ≡ get_or frames k f → new.head ≡ f.head → innermost_head (frames_shown (set frames k new)) ≡ innermost_head (frames_shown frames)
+head_kept frames k f new n is same = ap innermost_head (frames_onto-set frames k new [] n) ∙ ap (λ (h : BlockHead). Some (head_shown h)) same ∙ head_held frames k f n is
+
+-- a block stands first where its head is known
+pub record Innermost (frames : List machine.Frame) (head : blocks.BlockHead) : Type 0 where
+  pub f : machine.Frame
+  pub outer : List machine.Frame
+  pub split : frames ≡ f ∷ outer
+  pub is : f.head ≡ head
+
+pub innermost_of : (frames : List machine.Frame) (head : blocks.BlockHead) → Some head ≡ innermost_head frames → Innermost frames head
+innermost_of [] head e = absurd cc
+innermost_of (f ∷ outer) head e = record { f = f; outer = outer; split = refl; is = cc }
 
 -- ---- what a definition leaves
 

@@ -5,3 +5,5 @@ pub mod FrameView
 pub mod HeadView
 pub mod MachineView
 pub mod Reading
+pub mod Gathering
+pub mod Folding

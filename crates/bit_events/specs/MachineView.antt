@@ -72,6 +72,11 @@ HoldsDefinition m (enters opened) = Unit {0}
 HoldsDefinition m (notes mark) = Unit {0}
 HoldsDefinition m (leaves after) = Unit {0}
 
+-- the head of the innermost block, which stands first
+abbrev pub innermost_head : List machine.Frame → Option BlockHead
+innermost_head [] = None
+innermost_head (f ∷ outer) = Some f.head
+
 -- What a call leaves that found an event: the event may stand where so many blocks are open, and so many are open behind it;
 -- the reader didn't go back, and where no block is open it stands at a word; and a definition is at hand.
 pub record Leaves (deepest : ℕ) (old : Machine) (a : Reader) (event : Event) (new : Machine) (b : Reader) : Type 0 where
@@ -94,10 +99,3 @@ define_rule f outer first handed = define first (scope_of f handed) >>= λ defin
 -- a record with this id, which began at first
 abbrev pub record_rule : (limit : ℕ) → Frame → List Frame → (first id : ℕ) → Handed → Grammar (Event × machine.Machine)
 record_rule limit f outer first id handed = record_after limit first id (scope_of f handed) >>= λ item. gives (notes item.0, inside f.head outer item.1)
-
--- a block with this head stands first
-pub record Innermost (frames : List Frame) (head : BlockHead) : Type 0 where
-  pub f : Frame
-  pub outer : List Frame
-  pub split : frames ≡ f ∷ outer
-  pub is : f.head ≡ head

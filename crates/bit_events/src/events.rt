@@ -44,7 +44,7 @@ impl<S: Source> Model for Events<S> {
 }
 
 /// Outside of all blocks: whether the stream has no byte left, and then whether its whole input is accepted.
-fn shuts<S: Source>(reader: &mut BitReader<S>, outside: bool) -> Result<bool, Fault>
+pub(crate) fn shuts<S: Source>(reader: &mut BitReader<S>, outside: bool) -> Result<bool, Fault>
     requires live { reader.old.live ≡ true }
     requires aligned { outside ≡ true → reader.old.position % 8 ≡ 0 }
     ensures { Shuts outside reader.old result reader.new }

@@ -5,10 +5,14 @@ mod event;
 mod events;
 #[cfg(test)]
 mod events_tests;
+mod folding;
 mod frame;
+mod gatherer;
 mod head;
 mod heads;
 mod machine;
 
 pub use event::Event;
 pub use events::Events;
+pub use folding::{Folded, fold};
+pub use gatherer::Gatherer;

@@ -1,5 +1,5 @@
 ghost use Rattle.std.specs.Prelude.{◌≡◌, ◌<◌, ◌≤◌, ◌+◌, true, [], ◌∷◌, ℕ, List, OnOk, IfOk, vec_len, is_none, IfSome, IfNone, IsTrue, ◌↔◌};
-ghost use Rattle.std.specs.Option.{option_copied};
+ghost use Rattle.std.specs.Option.{option_copied, option_map};
 ghost use Rattle.bit_grammar.specs.Blocks.{enter, leave, info_for};
 ghost use Rattle.bit_grammar.specs.Machine as machine;
 ghost use Rattle.bit_grammar.specs.Machine.{at_start, open_block, open_nested, step_after, step_in, step_top, step, scope_of, inside};
@@ -8,7 +8,7 @@ ghost use Rattle.bit_events.specs.Coming.{held_after};
 ghost use Rattle.bit_events.specs.EventView.{shown_if_any};
 ghost use Rattle.bit_events.specs.HeadView.{head_shown};
 ghost use Rattle.bit_events.specs.FrameView.{info_shown, frames_shown};
-ghost use Rattle.bit_events.specs.MachineView.{handed_shown, machine_shown, newest, aside_shown, aside_lent, found_shown, found_lent, after_aside, after_found, record_of, Leaves, Innermost, end_rule, define_rule, record_rule};
+ghost use Rattle.bit_events.specs.MachineView.{handed_shown, machine_shown, newest, aside_shown, aside_lent, found_shown, found_lent, after_aside, after_found, record_of, innermost_head, Leaves, end_rule, define_rule, record_rule};
 
 use crate::event::Event;
 use crate::frame::{Describing, Frame, define, record_after};
@@ -220,6 +220,7 @@ impl Machine {
         requires id { 3 ≤ id }
         ensures takes { (f : machine.Frame) (outer : List machine.Frame) → frames_shown self.old.frames.items ≡ f ∷ outer → Takes (record_rule limits.now.values f outer first id (handed_shown self.old)) reader.old (told_by (λ read. (record_of id values.new.items first read, machine_shown self.new)) result) reader.new }
         ensures leaves { (deepest : ℕ) → IfOk result (λ read. Leaves deepest self.old reader.old (record_of id values.new.items first read) self.new reader.new) }
+        ensures head { OnOk result (innermost_head (frames_shown self.new.frames.items) ≡ innermost_head (frames_shown self.old.frames.items)) }
     {
         let room = limits.values().saturating_sub(self.used);
         values.clear();
@@ -312,7 +313,7 @@ impl Machine {
 
     /// The head of the innermost block.
     pub(crate) fn innermost(&self) -> Option<BlockHead>
-        ensures some { IfSome result (λ head. Innermost (frames_shown self.now.frames.items) (head_shown head)) }
+        ensures head { option_map head_shown result ≡ innermost_head (frames_shown self.now.frames.items) }
         ensures open { IfSome result (λ _. 0 < vec_len self.now.frames) }
         ensures none { IfNone result (vec_len self.now.frames ≡ 0) }
     {
