@@ -1,5 +1,6 @@
 pub mod Breaks
 pub mod Table
 pub mod Adding
+pub mod Taking
 pub mod Operands
 pub mod Records

@@ -4,15 +4,25 @@ use Rattle.std.proofs.lemmas.List.{append-nil, length-append}
 use Rattle.bit_grammar.specs.declared.op.Op.{Op}
 use Rattle.bit_grammar.specs.declared.op.Place.{Place}
 use Rattle.bit_grammar.specs.declared.op.Place.TheVariants.{First as first}
-use Rattle.bit_grammar.specs.Grammar.{gives, ◌>>=◌}
-use Rattle.bit_grammar.specs.Definition.{fits, operand, place_after, operands}
+use Rattle.bit_grammar.specs.declared.op.Kind.{Kind}
+use Rattle.bit_grammar.specs.declared.reason.Reason.TheVariants.{AbbrevShape}
+use Rattle.bit_grammar.specs.Grammar.{at, gives, test, ◌>>=◌, ◌>>◌}
+use Rattle.bit_grammar.specs.Definition.{fits, kind, valued, operand, place_after, operands}
 use Rattle.bit_grammar.specs.FormatDefinition.{HasLawfulValue, Lawful}
 use Rattle.bit_grammar.proofs.Definitions.{kind_of, LawfulFrom, is_lawful}
 use Rattle.bit_fields.specs.declared.fault.Fault.{Fault}
 use Rattle.bit_fields.specs.declared.fault.Fault.TheVariants.{Memory}
 use Rattle.bit_fields.specs.Reader.{Reader, Took, Why, Takes, told_by, stopped}
-use Rattle.bit_fields.proofs.Composing.{fault_then, took_then, took_nothing}
+use Rattle.bit_fields.proofs.Composing.{fault_then, took_then, took_nothing, from_here}
 use Rattle.bit_abbrev.proofs.Adding.{and_gives, memory_after}
+
+-- an operand that may not stand there
+pub misplaced : (place : Place) (after start : ℕ) (a : Reader) (k : Kind) (b : Reader) (fault : Fault) (c : Reader) → start ≡ a.position → Took kind a k b → Why (test (fits place after k) (at AbbrevShape start)) b fault c → Why (operand place after) a fault c
+unfolding operand
+misplaced place after start a k b fault c here t why =
+    from_here (λ start. kind >>= λ k. test (fits place after k) (at AbbrevShape start) >> valued k) a (Err fault) c
+    (took_then kind (λ k. test (fits place after k) (at AbbrevShape a.position) >> valued k) a k b (Err fault) c t
+    (fault_then (test (fits place after k) (at AbbrevShape a.position)) (λ x. valued k) b fault c (subst (λ (p : ℕ). Why (test (fits place after k) (at AbbrevShape p)) b fault c) here why)))
 
 -- operands behind others
 abbrev pub ahead : List Op → Result (List Op) Fault → Result (List Op) Fault

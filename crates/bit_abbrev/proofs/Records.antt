@@ -1,8 +1,9 @@
 -- Reading the values of a record, operand by operand.
-use Rattle.std.proofs.Common.{◌≡◌, ℕ, zero, suc, ◌+◌, ◌-◌, ◌<◌, ◌≤◌, true, List, [], ◌∷◌, ◌++◌, length, take, drop, Result, Ok, Err, refl, sym, ap, ◌∙◌, subst, arith, add-one}
-use Rattle.std.proofs.lemmas.Bool.{le-leb, lt-leb}
-use Rattle.std.proofs.lemmas.List.{append-nil, take_at, take_all}
+use Rattle.std.specs.Prelude.{nat_le}
+use Rattle.std.proofs.Common.{◌≡◌, ℕ, zero, suc, ◌+◌, ◌-◌, ◌<◌, ◌≤◌, List, [], ◌∷◌, ◌++◌, length, take, drop, Result, Ok, Err, refl, sym, ap, subst, arith, add-one}
+use Rattle.std.proofs.lemmas.List.{append-nil, take_all}
 use Rattle.std.proofs.Math.Seq.{drop-cons}
+use Rattle.std.specs.Result.{OnOk}
 use Rattle.bit_grammar.specs.declared.op.Op.{Op}
 use Rattle.bit_grammar.specs.declared.op.Op.TheVariants.{Literal, Fixed, Vbr, Array, Char6, Blob}
 use Rattle.bit_grammar.specs.declared.reason.Reason.TheVariants.{TooManyValues}
@@ -11,13 +12,29 @@ use Rattle.bit_grammar.specs.Fields.{fixed, align32, byte}
 use Rattle.bit_grammar.specs.Record.{Entry, value_count, scalar, singles, values_of, abbreviated}
 use Rattle.bit_grammar.specs.FormatDefinition.{op_at, IsElement, Lawful}
 use Rattle.bit_fields.specs.declared.fault.Fault.{Fault}
-use Rattle.bit_fields.specs.declared.fault.Fault.TheVariants.{Refused, Memory}
-use Rattle.bit_fields.specs.Reader.{Reader, Took, Why, Takes, IsOnly, stopped}
-use Rattle.bit_fields.proofs.Composing.{fault_then, took_then, fails_here, holds_then, only}
-use Rattle.bit_abbrev.specs.Values.{Adds, AddsRecord, Recorded}
+use Rattle.bit_fields.specs.declared.fault.Fault.TheVariants.{Memory}
+use Rattle.bit_fields.specs.Reader.{Reader, Took, Why, Takes, stopped}
+use Rattle.bit_fields.proofs.Composing.{fault_then, took_then}
+use Rattle.bit_abbrev.specs.Values.{Adds, AddsAll, AddsRecord}
 use Rattle.bit_abbrev.proofs.Adding.{and_gives, part_then, part_fails, values_fail, padding_then, value_then, value_fails, no_room, adds_none, Completes}
 
+-- ---- an array
+
+pub array_counted : (room : ℕ) (element : Op) (others : List Op) (a : Reader) (fault : Fault) (now : List ℕ) (c : Reader) → Why (value_count room) a fault c → Adds (values_of room (Array ∷ element ∷ others)) a (Err fault) now now c
+unfolding values_of
+array_counted room element others a fault now c why = part_fails (value_count room) (λ count. repeat count (scalar element)) a fault now c why
+
+pub array_read : (room : ℕ) (element : Op) (others : List Op) (a : Reader) (count : ℕ) (b : Reader) (result : Result (Unit {0}) Fault) (now new : List ℕ) (c : Reader) → Took (value_count room) a count b → count ≤ room → AddsAll (scalar element) count b result c now new
+    → Adds (values_of room (Array ∷ element ∷ others)) a result now new c × OnOk result (length new ≤ length now + room)
+unfolding values_of
+array_read room element others a count b (Ok x) now new c t few h = (part_then (value_count room) (λ count. repeat count (scalar element)) a count b (Ok x) now new c t h.0, omega (arith, few, h.1))
+array_read room element others a count b (Err fault) now new c t few h = (part_then (value_count room) (λ count. repeat count (scalar element)) a count b (Err fault) now new c t h.0, tt)
+
 -- ---- a blob
+
+pub blob_few : (result : Result (Unit {0}) Fault) (count room : ℕ) (now new : List ℕ) → count ≤ room → length new ≡ length now + count → OnOk result (length new ≤ length now + room)
+blob_few (Ok x) count room now new few h = omega (arith, few, h)
+blob_few (Err fault) count room now new few h = tt
 
 -- the bytes of a blob, and the padding behind them
 abbrev blob_bytes : ℕ → Grammar (List ℕ)
@@ -68,6 +85,11 @@ single_fails room Blob others a fault now c m n why = absurd (n refl)
 abbrev pub CompletesFrom : (room : ℕ) (ops : List Op) (a : Reader) (before : List ℕ) (i : ℕ) (b : Reader) (now : List ℕ) → Type 0
 CompletesFrom room ops a before i b now = Completes (values_of room ops) a before (values_of room (drop i ops)) b now
 
+-- that, and how many values there are
+pub record FarIn (room : ℕ) (ops : List Op) (a : Reader) (i : ℕ) (b : Reader) (before now : List ℕ) : Type 0 where
+  pub all : CompletesFrom room ops a before i b now
+  pub many : length now ≡ length before + i
+
 from_index : (ops : List Op) (i : ℕ) → i < length ops → drop i ops ≡ op_at ops i ∷ drop (i + 1) ops
 from_index ops i less = rw add-one (drop-cons ops i (Literal 0) less)
 
@@ -97,15 +119,15 @@ element_inside (op ∷ ops) (suc i) is = omega (arith, element_inside ops i is)
 
 -- an array, where its element stands behind it
 from_array : (room : ℕ) (ops : List Op) (a : Reader) (before : List ℕ) (i : ℕ) (b : Reader) (now : List ℕ) (result : Result (Unit {0}) Fault) (new : List ℕ) (c : Reader) → i + 1 < length ops → op_at ops i ≡ Array → CompletesFrom room ops a before i b now
-    → ((others : List Op) → Adds (values_of room (Array ∷ op_at ops (i + 1) ∷ others)) b result now new c) → Adds (values_of room ops) a result before new c
+    → Adds (values_of room (Array ∷ op_at ops (i + 1) ∷ drop (i + 1 + 1) ops)) b result now new c → Adds (values_of room ops) a result before new c
 from_array room ops a before i b now result new c less is h k =
     let whole : Array ∷ op_at ops (i + 1) ∷ drop (i + 1 + 1) ops ≡ op_at ops i ∷ drop (i + 1) ops = rw (is, from_index ops (i + 1) less) refl in
-    (at_index room ops a before i b now (omega (arith, less)) h).so result new c (subst (λ (rest : List Op). Adds (values_of room rest) b result now new c) whole (k (drop (i + 1 + 1) ops)))
+    (at_index room ops a before i b now (omega (arith, less)) h).so result new c (subst (λ (rest : List Op). Adds (values_of room rest) b result now new c) whole k)
 
 from_blob : (room : ℕ) (ops : List Op) (a : Reader) (before : List ℕ) (i : ℕ) (b : Reader) (now : List ℕ) (result : Result (Unit {0}) Fault) (new : List ℕ) (c : Reader) → i < length ops → op_at ops i ≡ Blob → CompletesFrom room ops a before i b now
-    → ((others : List Op) → Adds (values_of room (Blob ∷ others)) b result now new c) → Adds (values_of room ops) a result before new c
+    → Adds (values_of room (Blob ∷ drop (i + 1) ops)) b result now new c → Adds (values_of room ops) a result before new c
 from_blob room ops a before i b now result new c less is h k =
-    (at_index room ops a before i b now less h).so result new c (rw is (k (drop (i + 1) ops)))
+    (at_index room ops a before i b now less h).so result new c (rw is k)
 
 -- one more of the operands that stand for one value each
 pub single_counted : (ops : List Op) (i : ℕ) → i < length ops → (op_at ops i ≡ Array → ⊥) → (op_at ops i ≡ Blob → ⊥) → i + singles (drop i ops) ≡ singles ops → i + 1 + singles (drop (i + 1) ops) ≡ singles ops
@@ -144,14 +166,19 @@ counted_blob ops i less is so =
 
 -- the same, with the room that the single operands leave
 pub array_then : (room : ℕ) (ops : List Op) (a : Reader) (before : List ℕ) (i : ℕ) (b : Reader) (now : List ℕ) (result : Result (Unit {0}) Fault) (new : List ℕ) (c : Reader) → i + 1 < length ops → op_at ops i ≡ Array → i + singles (drop i ops) ≡ singles ops → CompletesFrom (room - singles ops) ops a before i b now
-    → ((others : List Op) → Adds (values_of (room - i) (Array ∷ op_at ops (i + 1) ∷ others)) b result now new c) → Adds (values_of (room - singles ops) ops) a result before new c
+    → Adds (values_of (room - i) (Array ∷ op_at ops (i + 1) ∷ drop (i + 1 + 1) ops)) b result now new c → Adds (values_of (room - singles ops) ops) a result before new c
 array_then room ops a before i b now result new c less is so h k =
-    from_array (room - singles ops) ops a before i b now result new c less is h (subst (λ (n : ℕ). (others : List Op) → Adds (values_of (room - n) (Array ∷ op_at ops (i + 1) ∷ others)) b result now new c) (counted_array ops i (omega (arith, less)) is so) k)
+    from_array (room - singles ops) ops a before i b now result new c less is h (subst (λ (n : ℕ). Adds (values_of (room - n) (Array ∷ op_at ops (i + 1) ∷ drop (i + 1 + 1) ops)) b result now new c) (counted_array ops i (omega (arith, less)) is so) k)
 
 pub blob_then : (room : ℕ) (ops : List Op) (a : Reader) (before : List ℕ) (i : ℕ) (b : Reader) (now : List ℕ) (result : Result (Unit {0}) Fault) (new : List ℕ) (c : Reader) → i < length ops → op_at ops i ≡ Blob → i + singles (drop i ops) ≡ singles ops → CompletesFrom (room - singles ops) ops a before i b now
-    → ((others : List Op) → Adds (values_of (room - i) (Blob ∷ others)) b result now new c) → Adds (values_of (room - singles ops) ops) a result before new c
+    → Adds (values_of (room - i) (Blob ∷ drop (i + 1) ops)) b result now new c → Adds (values_of (room - singles ops) ops) a result before new c
 blob_then room ops a before i b now result new c less is so h k =
-    from_blob (room - singles ops) ops a before i b now result new c less is h (subst (λ (n : ℕ). (others : List Op) → Adds (values_of (room - n) (Blob ∷ others)) b result now new c) (counted_blob ops i less is so) k)
+    from_blob (room - singles ops) ops a before i b now result new c less is h (subst (λ (n : ℕ). Adds (values_of (room - n) (Blob ∷ drop (i + 1) ops)) b result now new c) (counted_blob ops i less is so) k)
+
+-- no more values than there was room for at the beginning
+pub few_behind : (result : Result (Unit {0}) Fault) (i room : ℕ) (before now new : List ℕ) → i ≤ room → length now ≡ length before + i → OnOk result (length new ≤ length now + (room - i)) → OnOk result (length new ≤ length before + room)
+few_behind (Ok x) i room before now new within many h = omega (arith, within, many, h)
+few_behind (Err fault) i room before now new within many h = tt
 
 none_left : (ops : List Op) (i : ℕ) → length ops ≤ i → drop i ops ≡ []
 none_left [] zero most = refl
@@ -171,33 +198,35 @@ from_done room ops a before i b now most h =
 abbrev fields_of : ℕ → Op → List Op → Grammar Entry
 fields_of room op others = scalar op >>= λ code. values_of (room - singles others) others >>= λ values. gives (record { code = code; values = values })
 
-entry_of : ℕ → List ℕ → Entry
-entry_of code values = record { code = code; values = values }
+abbrev judged : (start room : ℕ) → List Op → Grammar (Unit {0})
+judged start room others = test (nat_le (singles others) room) (at TooManyValues start)
 
-pub record_crowded : (start room : ℕ) (op : Op) (others : List Op) (a : Reader) (now : List ℕ) → a.live ≡ true → room < singles others → AddsRecord (abbreviated start room (op ∷ others)) a (Err (Refused TooManyValues start)) now now (stopped a)
-unfolding abbreviated
-record_crowded start room op others a now live many =
-    ([], sym (append-nil now), fault_then (test _ (at TooManyValues start)) (λ holds. fields_of room op others) a (Refused TooManyValues start) (stopped a) (fails_here _ TooManyValues start a (lt-leb _ _ many) live (λ e. refl)))
+-- what follows a record's code
+abbrev values_after : (room : ℕ) → List Op → ℕ → Grammar Entry
+values_after room others code = values_of (room - singles others) others >>= λ values. gives (record { code = code; values = values })
 
-pub record_coded : (start room : ℕ) (op : Op) (others : List Op) (a : Reader) (fault : Fault) (now : List ℕ) (c : Reader) → singles others ≤ room → Why (scalar op) a fault c → AddsRecord (abbreviated start room (op ∷ others)) a (Err fault) now now c
+pub record_crowded : (start room : ℕ) (op : Op) (others : List Op) (a : Reader) (fault : Fault) (now : List ℕ) (c : Reader) → Why (judged start room others) a fault c → AddsRecord (abbreviated start room (op ∷ others)) a (Err fault) now now c
 unfolding abbreviated
-record_coded start room op others a fault now c few why =
-    ([], sym (append-nil now), holds_then _ (at TooManyValues start) (fields_of room op others) a (Err fault) c (le-leb _ _ few) (fault_then (scalar op) (λ code. values_of (room - singles others) others >>= λ values. gives (record { code = code; values = values })) a fault c why))
+record_crowded start room op others a fault now c why = ([], sym (append-nil now), fault_then (judged start room others) (λ holds. fields_of room op others) a fault c why)
 
-pub record_fails : (start room : ℕ) (op : Op) (others : List Op) (a : Reader) (code : ℕ) (b : Reader) (fault : Fault) (now new : List ℕ) (c : Reader) → singles others ≤ room → Took (scalar op) a code b → Adds (values_of (room - singles others) others) b (Err fault) now new c → AddsRecord (abbreviated start room (op ∷ others)) a (Err fault) now new c
+pub record_coded : (start room : ℕ) (op : Op) (others : List Op) (a b : Reader) (fault : Fault) (now : List ℕ) (c : Reader) → Took (judged start room others) a tt b → Why (scalar op) b fault c → AddsRecord (abbreviated start room (op ∷ others)) a (Err fault) now now c
 unfolding abbreviated
-record_fails start room op others a code b fault now new c few t h = (
+record_coded start room op others a b fault now c few why = ([], sym (append-nil now), took_then (judged start room others) (λ holds. fields_of room op others) a tt b (Err fault) c few (fault_then (scalar op) (values_after room others) b fault c why))
+
+pub record_fails : (start room : ℕ) (op : Op) (others : List Op) (a b : Reader) (code : ℕ) (d : Reader) (fault : Fault) (now new : List ℕ) (c : Reader) → Took (judged start room others) a tt b → Took (scalar op) b code d → Adds (values_of (room - singles others) others) d (Err fault) now new c → AddsRecord (abbreviated start room (op ∷ others)) a (Err fault) now new c
+unfolding abbreviated
+record_fails start room op others a b code d fault now new c few t h = (
   h.0,
   h.1,
-  holds_then _ (at TooManyValues start) (fields_of room op others) a (Err fault) c (le-leb _ _ few) (took_then (scalar op) (λ code. values_of (room - singles others) others >>= λ values. gives (record { code = code; values = values })) a code b (Err fault) c t (fault_then (values_of (room - singles others) others) (λ values. gives (record { code = code; values = values })) b fault c h.2)),
+  took_then (judged start room others) (λ holds. fields_of room op others) a tt b (Err fault) c few (took_then (scalar op) (values_after room others) b code d (Err fault) c t (fault_then (values_of (room - singles others) others) (λ values. gives (record { code = code; values = values })) d fault c h.2)),
 )
 
-pub record_read : (start room : ℕ) (op : Op) (others : List Op) (a : Reader) (code : ℕ) (b : Reader) (now new : List ℕ) (c : Reader) → singles others ≤ room → Took (scalar op) a code b → Adds (values_of (room - singles others) others) b (Ok tt) now new c → AddsRecord (abbreviated start room (op ∷ others)) a (Ok code) now new c
+pub record_read : (start room : ℕ) (op : Op) (others : List Op) (a b : Reader) (code : ℕ) (d : Reader) (now new : List ℕ) (c : Reader) → Took (judged start room others) a tt b → Took (scalar op) b code d → Adds (values_of (room - singles others) others) d (Ok tt) now new c → AddsRecord (abbreviated start room (op ∷ others)) a (Ok code) now new c
 unfolding abbreviated
-record_read start room op others a code b now new c few t h = (
+record_read start room op others a b code d now new c few t h = (
   h.0,
   h.1,
-  holds_then _ (at TooManyValues start) (fields_of room op others) a (Ok (record { code = code; values = h.0 })) c (le-leb _ _ few) (took_then (scalar op) (λ code. values_of (room - singles others) others >>= λ values. gives (record { code = code; values = values })) a code b (Ok (record { code = code; values = h.0 })) c t (and_gives (values_of (room - singles others) others) (λ values. record { code = code; values = values }) b (Ok h.0) c h.2)),
+  took_then (judged start room others) (λ holds. fields_of room op others) a tt b (Ok (record { code = code; values = h.0 })) c few (took_then (scalar op) (values_after room others) b code d (Ok (record { code = code; values = h.0 })) c t (and_gives (values_of (room - singles others) others) (λ values. record { code = code; values = values }) d (Ok h.0) c h.2)),
 )
 
 -- the elements of arrays behind the first operand
@@ -205,24 +234,6 @@ pub later_elements : (op : Op) (others : List Op) → Lawful (op ∷ others) →
 later_elements op others h i e =
     let next : suc i + 1 ≡ suc (i + 1) = omega arith in
     rw next at (h.element (suc i) e)
-
--- ---- the list after the call
-
--- what a record added, once the list is cut back after a fault
-pub recorded : (rule : Grammar Entry) (a : Reader) (code : ℕ) (before after : List ℕ) (c : Reader) → AddsRecord rule a (Ok code) before after c → Recorded (λ r. Takes rule a r c) (Ok code) before after
-recorded rule a code before after c h = h
-
-pub recorded_only : (rule : Grammar Entry) (a : Reader) (code : ℕ) (before after : List ℕ) (c : Reader) → AddsRecord rule a (Ok code) before after c → Recorded (λ r. IsOnly rule a r c) (Ok code) before after
-recorded_only rule a code before after c h = (h.0, h.1, only rule a (Ok (record { code = code; values = h.0 })) c h.2)
-
-cut_back : (before values after : List ℕ) → after ≡ before ++ values → take (length before) after ≡ before
-cut_back before values after e = ap (take (length before)) e ∙ take_at before values (length before) refl
-
-pub not_recorded : (rule : Grammar Entry) (a : Reader) (fault : Fault) (before after : List ℕ) (c : Reader) → AddsRecord rule a (Err fault) before after c → Recorded (λ r. Takes rule a r c) (Err fault) before (take (length before) after)
-not_recorded rule a fault before after c h = (cut_back before h.0 after h.1, h.2)
-
-pub not_recorded_only : (rule : Grammar Entry) (a : Reader) (fault : Fault) (before after : List ℕ) (c : Reader) → AddsRecord rule a (Err fault) before after c → Recorded (λ r. IsOnly rule a r c) (Err fault) before (take (length before) after)
-not_recorded_only rule a fault before after c h = (cut_back before h.0 after h.1, only rule a (Err fault) c h.2)
 
 -- ---- the first operand and those behind it
 

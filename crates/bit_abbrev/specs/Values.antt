@@ -1,14 +1,31 @@
--- What a call reads into a list of values.
-use Rattle.std.specs.Prelude.{◌≡◌, ℕ, List, ◌++◌, Result, Ok, Err}
-use Rattle.bit_grammar.specs.Grammar.{Grammar}
+-- What a call reads into what takes values.
+use Rattle.std.specs.Prelude.{◌≡◌, ℕ, ◌+◌, ◌<◌, ◌≤◌, List, ◌++◌, length, Result, Ok, Err}
+use Rattle.std.specs.Result.{OnOk}
+use Rattle.bit_grammar.specs.Grammar.{Grammar, repeat}
 use Rattle.bit_grammar.specs.Record.{Entry}
 use Rattle.bit_fields.specs.declared.fault.Fault.{Fault}
 use Rattle.bit_fields.specs.Reader.{Reader, Took, Why}
+
+-- it took values of which this holds
+abbrev pub Has : {V : Type 0} → (took : V → List ℕ → Type 0) → V → (List ℕ → Type 0) → Type 0
+Has took taker P = (values : List ℕ) × took taker values × P values
+
+-- whatever values it had before a call, it has values after it of which, with those, this holds
+abbrev pub Gains : {V : Type 0} → (took : V → List ℕ → Type 0) → (old new : V) → (List ℕ → List ℕ → Type 0) → Type 0
+Gains took old new P = (before : List ℕ) → took old before → Has took new (P before)
+
+-- the same, where it had some before
+abbrev pub GainsMore : {V : Type 0} → (took : V → List ℕ → Type 0) → (old new : V) → (List ℕ → List ℕ → Type 0) → Type 0
+GainsMore took old new P = (before : List ℕ) → took old before → 0 < length before → Has took new (P before)
 
 -- A call adds to a list the values that the rule reads; after a fault some values may stand behind those that were there.
 abbrev pub Adds : Grammar (List ℕ) → Reader → Result (Unit {0}) Fault → (before after : List ℕ) → Reader → Type 0
 Adds rule old (Ok x) before after new = (values : List ℕ) × (after ≡ before ++ values) × Took rule old values new
 Adds rule old (Err fault) before after new = (values : List ℕ) × (after ≡ before ++ values) × Why rule old fault new
+
+-- A call adds so many values to a list.
+abbrev pub AddsAll : Grammar ℕ → (count : ℕ) → Reader → Result (Unit {0}) Fault → Reader → (before after : List ℕ) → Type 0
+AddsAll rule count old result new before after = Adds (repeat count rule) old result before after new × OnOk result (length after ≡ length before + count)
 
 -- A call answers the code of a record and adds its values to a list, and what it answers has a property of records; after a
 -- fault the list is as it was.
@@ -21,3 +38,7 @@ Recorded P (Err fault) before after = (after ≡ before) × P (Err fault)
 abbrev pub AddsRecord : Grammar Entry → Reader → Result ℕ Fault → (before after : List ℕ) → Reader → Type 0
 AddsRecord rule old (Ok code) before after new = (values : List ℕ) × (after ≡ before ++ values) × Took rule old (record { code = code; values = values }) new
 AddsRecord rule old (Err fault) before after new = (values : List ℕ) × (after ≡ before ++ values) × Why rule old fault new
+
+-- the same, with room for so many
+abbrev pub AddsWithin : Grammar Entry → (room : ℕ) → Reader → Result ℕ Fault → Reader → (before after : List ℕ) → Type 0
+AddsWithin rule room old result new before after = AddsRecord rule old result before after new × OnOk result (length after ≤ length before + room)

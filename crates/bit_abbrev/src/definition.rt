@@ -48,23 +48,13 @@ fn read_value<S: Source>(reader: &mut BitReader<S>, kind: Kind) -> Result<Op, Fa
         Kind::Fixed => {
             let place = reader.position();
             let width = reader.vbr(5)?;
-            if width > 32 {
-                return Err(reader.fail(Fault::Refused {
-                    reason: Reason::FieldWidth,
-                    bit: place,
-                }));
-            }
+            reader.judge(width <= 32, Reason::FieldWidth, place)?;
             Ok(Op::Fixed(width as u8))
         }
         Kind::Vbr => {
             let place = reader.position();
             let width = reader.vbr(5)?;
-            if width > 32 || width == 1 {
-                return Err(reader.fail(Fault::Refused {
-                    reason: Reason::FieldWidth,
-                    bit: place,
-                }));
-            }
+            reader.judge(width <= 32 && width != 1, Reason::FieldWidth, place)?;
             Ok(Op::Vbr(width as u8))
         }
         Kind::Array => Ok(Op::Array),
@@ -82,12 +72,7 @@ fn read_operand<S: Source>(reader: &mut BitReader<S>, place: Place, after: u64) 
 {
     let start = reader.position();
     let kind = read_kind(reader)?;
-    if !fits(place, after, kind) {
-        return Err(reader.fail(Fault::Refused {
-            reason: Reason::AbbrevShape,
-            bit: start,
-        }));
-    }
+    reader.judge(fits(place, after, kind), Reason::AbbrevShape, start)?;
     read_value(reader, kind)
 }
 
@@ -122,12 +107,7 @@ fn read_definition<S: Source>(alloc: Global, reader: &mut BitReader<S>) -> Resul
 {
     let start = reader.position();
     let count = reader.vbr(5)?;
-    if count == 0 {
-        return Err(reader.fail(Fault::Refused {
-            reason: Reason::AbbrevEmpty,
-            bit: start,
-        }));
-    }
+    reader.judge(count != 0, Reason::AbbrevEmpty, start)?;
     let ops = read_operands(alloc, reader, count)?;
     Ok(Abbrev::from_lawful(ops))
 }

@@ -2,7 +2,10 @@
 #![tactic(auto)]
 
 mod abbrev;
+#[cfg(test)]
+mod counting_tests;
 mod definition;
+mod elements;
 mod in_force;
 mod info;
 mod laws;
@@ -11,6 +14,7 @@ mod reading_tests;
 mod record;
 #[cfg(test)]
 mod tests;
+mod unabbreviated;
 
 pub use abbrev::{Abbrev, BadAbbrev, Ops};
 pub use bit_grammar::Op;
@@ -19,3 +23,4 @@ pub use in_force::{InForce, SharedInfo};
 pub use info::InfoTable;
 pub use laws::lawful_unbroken;
 pub use record::read_abbreviated;
+pub use unabbreviated::read_unabbreviated;

@@ -1,5 +1,7 @@
 use crate::{read_abbreviated, read_define};
-use bit_fields::{BitReader, Fault, Limits, ReadSource, Reason, SliceSource, Source};
+use bit_fields::{
+    BitReader, Fault, Limits, ReadSource, Reason, SliceSource, Source, ValueCount, ValueTaker,
+};
 use std::alloc::{AllocError, Global};
 use std::io;
 use std::io::{Error, ErrorKind, Read};
@@ -10,7 +12,7 @@ use std::test::Fail;
 const HEAD: [u8; 12] = [0x42, 0x43, 0xC0, 0xDE, 0x21, 0x0C, 0, 0, 4, 0, 0, 0];
 
 /// A stream with this block.
-fn in_block(alloc: Global, body: &[u8]) -> Result<Vec<u8>, AllocError> {
+pub(super) fn in_block(alloc: Global, body: &[u8]) -> Result<Vec<u8>, AllocError> {
     let mut bytes = Vec::new(alloc);
     bytes.extend_from_slice(&HEAD)?;
     bytes.extend_from_slice(body)?;
@@ -18,7 +20,7 @@ fn in_block(alloc: Global, body: &[u8]) -> Result<Vec<u8>, AllocError> {
 }
 
 /// Reads what stands before the operands of a definition.
-fn open_block<S: Source + Drop>(reader: &mut BitReader<S>) -> Result<(), Fault> {
+pub(super) fn open_block<S: Source + Drop>(reader: &mut BitReader<S>) -> Result<(), Fault> {
     reader.fixed(32)?;
     reader.fixed(32)?;
     reader.fixed(3)?;
@@ -26,11 +28,11 @@ fn open_block<S: Source + Drop>(reader: &mut BitReader<S>) -> Result<(), Fault> 
 }
 
 /// Reads a definition and a record by it: its code, and the bit behind it.
-fn one_record<S: Source + Drop>(
+fn one_record<S: Source + Drop, V: ValueTaker>(
     alloc: Global,
     reader: &mut BitReader<S>,
     room: u64,
-    values: &mut Vec<u64>,
+    values: &mut V,
 ) -> Result<(u64, u64), Fault> {
     open_block(reader)?;
     let definition = read_define(alloc, reader)?;
@@ -41,12 +43,12 @@ fn one_record<S: Source + Drop>(
 }
 
 /// The same from a source; after a fault the reader has failed.
-fn record_of<S: Source + Drop>(
+pub(super) fn record_of<S: Source + Drop, V: ValueTaker>(
     rt: &impl Abort,
     alloc: Global,
     source: S,
     room: u64,
-    values: &mut Vec<u64>,
+    values: &mut V,
 ) -> Result<(u64, u64), Fault> {
     let mut reader = match BitReader::start(source, Limits::usual()) {
         Ok((reader, _)) => reader,
@@ -62,6 +64,18 @@ fn record_of<S: Source + Drop>(
 
 fn refused(reason: Reason, bit: u64) -> Fault {
     Fault::Refused { reason, bit }
+}
+
+/// The same, where the values are counted: the answer, how many there were, and the first one.
+fn counted_record(
+    rt: &impl Abort,
+    alloc: Global,
+    bytes: &[u8],
+    room: u64,
+) -> (Result<(u64, u64), Fault>, u64, Option<u64>) {
+    let mut values = ValueCount::new();
+    let answer = record_of(rt, alloc, SliceSource::new(bytes), room, &mut values);
+    (answer, values.count(), values.first_value())
 }
 
 /// An array of characters.
@@ -135,6 +149,12 @@ fn records(rt: HostRuntime) -> Result<(), Fail> {
         assert_eq!(rt; answer, Ok(record), "{body:?}");
         assert_eq!(rt; values.first().copied(), Some(7));
         assert_eq!(rt; &values[1..], wanted, "{body:?}");
+        let counted = (answer, wanted.len() as u64, wanted.first().copied());
+        assert_eq!(rt;
+            counted_record(&rt, rt.alloc(), &bytes, 9),
+            counted,
+            "{body:?}"
+        );
     }
     Ok(())
 }
@@ -175,6 +195,12 @@ fn refusals(rt: HostRuntime) -> Result<(), Fail> {
         let answer = record_of(&rt, rt.alloc(), source, room, &mut values);
         assert_eq!(rt; answer, Err(fault), "{body:?}");
         assert_eq!(rt; values.as_slice(), [7].as_slice(), "{body:?}");
+        let counted = (Err(fault), 0, None);
+        assert_eq!(rt;
+            counted_record(&rt, rt.alloc(), &bytes, room),
+            counted,
+            "{body:?}"
+        );
     }
     Ok(())
 }

@@ -14,7 +14,7 @@ use Rattle.bit_grammar.proofs.Machines.{Step, comes}
 use Rattle.bit_fields.specs.declared.fault.Fault.{Fault}
 use Rattle.bit_fields.specs.declared.fault.Fault.TheVariants.{Refused, Read, Write, Memory, OutputTooLong, Failed}
 use Rattle.bit_fields.specs.declared.head.Head.{Head}
-use Rattle.bit_fields.specs.Devices.{Incoming, Spends, known_bytes}
+use Rattle.bit_fields.specs.Devices.{Incoming, known_bytes}
 use Rattle.bit_fields.specs.Reader as fields
 use Rattle.bit_fields.specs.Reader.{Reader, Extent, TellsBytes, GoesOn, Took, Why, SourceFails, within}
 use Rattle.bit_fields.specs.Opening as opening

@@ -75,6 +75,11 @@ one_by gathered deepest rule whole m a b g n c h one forward from = record {
   gathers = one.gathers;
 }
 
+-- what holds for each list that was taken holds for this one
+pub for_list : (Taken P : List ℕ → Type 0) (got : Result (Unit {0}) AllocError) (list : List ℕ) → Taken list → OnOk got ((list : List ℕ) → Taken list → P list) → OnOk got (P list)
+for_list Taken P (Ok value) list took each = each list took
+for_list Taken P (Err e) list took each = tt
+
 -- an event was read, and memory was there to gather it
 pub one_granted : {G : Type 0} (gathered : G → List Event → G → Type 0) (deepest : ℕ) (rule : Grammar (Event × machine.Machine)) (m : Machine) (a : Reader) (g : G) (n : Machine) (b : Reader) (h : G) (event : Event) (got : Result (Unit {0}) AllocError) (result : Result (Unit {0}) Fault) (c : Reader) → Took rule a (event, machine_shown n) b → Leaves deepest m a event n b
     → OnOk got (Gathers gathered g event h) → IfOk result (λ value. (got ≡ Ok value) × (c ≡ b)) → IfErr result (λ fault. (fault ≡ Memory) × (c ≡ stopped b)) → TakesOne gathered deepest rule m a g result n c h

@@ -1,5 +1,5 @@
 -- Records and definitions in a block, as its frame holds them.
-use Rattle.std.proofs.Common.{◌≡◌, ◌≢◌, ◌⊎◌, ℕ, ◌+◌, ◌-◌, ◌^◌, ◌<◌, Bool, true, false, cond, eqb, ltb, List, [], ◌∷◌, ◌++◌, length, length-append, get_or, Option, Some, None, Result, Ok, Err, is_some, refl, sym, ap, ◌∙◌, subst, slice_get, eq-eqb, arith, inl, inr}
+use Rattle.std.proofs.Common.{◌≡◌, ◌≢◌, ◌⊎◌, ℕ, ◌+◌, ◌-◌, ◌^◌, ◌<◌, ◌≤◌, Bool, true, false, cond, eqb, ltb, List, [], ◌∷◌, ◌++◌, length, length-append, get_or, Option, Some, None, Result, Ok, Err, is_some, refl, sym, ap, ◌∙◌, subst, slice_get, eq-eqb, arith, inl, inr}
 use Rattle.std.proofs.Math.Seq.{get_or-append_seam}
 use Rattle.std.proofs.Math.Path.{fun_ext}
 use Rattle.std.proofs.lemmas.Bool.{ne_eqb, lt-ltb}
@@ -20,11 +20,11 @@ use Rattle.bit_fields.specs.Reader.{Reader, Took, Why, Takes, told_by, stopped}
 use Rattle.bit_fields.proofs.Composing.{took_then, fault_then, took_nothing, first_chosen, second_chosen, stops_here}
 use Rattle.bit_grammar.specs.Definition.{definition}
 use Rattle.bit_abbrev.specs.Table.{definitions_at}
-use Rattle.bit_abbrev.specs.Values.{Recorded}
+use Rattle.bit_abbrev.specs.Values.{Has, Recorded}
 use Rattle.bit_events.proofs.Telling.{told, why, andThen, breaks, ends, here, without_memory}
 use Rattle.bit_events.specs.declared.frame.Describing.{Describing}
 use Rattle.bit_events.specs.declared.frame.Frame.{Frame}
-use Rattle.bit_events.specs.FrameView.{info_shown, described_id, frame_shown, last_one, newest_for, newest_of, newest_in}
+use Rattle.bit_events.specs.FrameView.{info_shown, described_value, described_id, frame_shown, last_one, newest_for, newest_of, newest_in}
 
 -- ---- definitions
 
@@ -183,9 +183,16 @@ record_took limit first id scope a e b after info c t is u =
     told (record_after limit first id scope) a (Ok (record { abbreviation = id; code = e.code; values = e.values; first = first; after = after }, record scope { info = info; handed = record { table = scope.handed.table; used = scope.handed.used + length e.values } })) c
     (andThen t (here after is (andThen u (ends u.live))))
 
--- what read_abbreviated answers, for a list that was empty
-pub recorded : (rule : Grammar Entry) (a : Reader) (result : Result ℕ Fault) (before after : List ℕ) (b : Reader) → before ≡ [] → Recorded (λ r. Takes rule a r b) result before after → Takes rule a (told_by (λ code. record { code = code; values = after }) result) b
-recorded rule a (Ok code) before after b none h =
-    let same : after ≡ h.0 = h.1 ∙ ap (λ (vs : List ℕ). vs ++ h.0) none in
-    rw same h.2
-recorded rule a (Err fault) before after b none h = h.1
+-- what is read into what had no values
+pub recorded : (rule : Grammar Entry) (a : Reader) (result : Result ℕ Fault) (now : List ℕ) (b : Reader) → Recorded (λ r. Takes rule a r b) result [] now → Takes rule a (told_by (λ code. record { code = code; values = now }) result) b
+recorded rule a (Ok code) now b h = rw h.1 h.2
+recorded rule a (Err fault) now b h = h.1
+
+pub recorded_few : {V : Type 0} (took : V → List ℕ → Type 0) (v : V) (room : ℕ) (result : Result ℕ Fault) → Has took v (λ after. OnOk result (length after ≤ 0 + room)) → Has took v (λ after. OnOk result (length after ≤ room))
+recorded_few took v room (Ok code) h = (h.0, h.1, omega (arith, h.2))
+recorded_few took v room (Err fault) h = (h.0, h.1, tt)
+
+-- the first value tells which block is described
+pub described_first : (value : Option ℕ) (values : List ℕ) → value ≡ slice_get values 0 → described_value value ≡ described_id values
+described_first value [] is = ap described_value is
+described_first value (id ∷ values) is = ap described_value is

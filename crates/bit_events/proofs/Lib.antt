@@ -1,6 +1,5 @@
 pub mod Entering
 pub mod Framing
-pub mod Repeating
 pub mod Stepping
 pub mod Telling
 pub mod Advancing

@@ -15,10 +15,15 @@ abbrev pub info_shown : Option Describing → Option BlockInfo
 info_shown None = None
 info_shown (Some d) = Some (describing_shown d)
 
+-- the block id that a value is, if it is one
+abbrev pub described_value : Option ℕ → Option ℕ
+described_value None = None
+described_value (Some id) = if nat_lt id (2 ^ 32) then Some id else None
+
 -- the block id that the first of a record's values is, if it is one
 abbrev pub described_id : List ℕ → Option ℕ
 described_id [] = None
-described_id (id ∷ values) = if nat_lt id (2 ^ 32) then Some id else None
+described_id (id ∷ values) = described_value (Some id)
 
 abbrev pub frame_shown : Frame → machine.Frame
 frame_shown f = record { head = head_shown f.head; definitions = f.definitions; info = info_shown f.info }

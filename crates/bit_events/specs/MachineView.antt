@@ -63,6 +63,12 @@ after_aside m aside = (aside_shown m aside, machine_shown m)
 abbrev pub after_found : Machine → List ℕ → Found → Event × machine.Machine
 after_found m values f = (found_shown m values f, machine_shown m)
 
+-- ---- values
+
+-- it took some values
+abbrev pub TookSome : {V : Type 0} → (took : V → List ℕ → Type 0) → V → Type 0
+TookSome took taker = (values : List ℕ) × took taker values
+
 -- ---- what an event leaves
 
 -- a definition that came is the newest one

@@ -8,7 +8,7 @@ ghost use Rattle.bit_events.specs.Folding.{TakesOne, TakesSome, TakesAll, Gather
 ghost use Rattle.bit_events.specs.FrameView.{frames_shown};
 ghost use Rattle.bit_events.specs.Gathering.{Gathers};
 ghost use Rattle.bit_events.specs.HeadView.{head_shown};
-ghost use Rattle.bit_events.specs.MachineView.{aside_shown, handed_shown, innermost_head, record_rule, HoldsDefinition};
+ghost use Rattle.bit_events.specs.MachineView.{aside_shown, handed_shown, innermost_head, record_rule, HoldsDefinition, TookSome};
 ghost use Rattle.bit_events.specs.Reading.{ReadsWhole};
 
 use crate::events::shuts;
@@ -32,8 +32,6 @@ pub struct Folded<G> {
 struct Folding<S: Source, G: Gatherer> {
     reader: BitReader<S>,
     machine: Machine,
-    /// The values of the record that was read last.
-    values: Vec<u64>,
     gatherer: G,
 }
 
@@ -60,19 +58,25 @@ fn hand_on<G: Gatherer>(gatherer: &mut G, machine: &Machine, aside: Aside) -> Re
 impl<S: Source, G: Gatherer> Folding<S, G> {
     /// Gathers a record of the innermost block, after its id, which began at a bit.
     #[inline]
-    fn gather_record(&mut self, limits: &Limits, id: u32, first: u64) -> Result<(), Fault>
+    fn gather_record(
+        &mut self,
+        limits: &Limits,
+        id: u32,
+        first: u64,
+        values: &mut G::Values,
+    ) -> Result<(), Fault>
         requires live { self.old.reader.live ≡ true }
         requires some { 0 < vec_len self.old.machine.frames }
         requires id { 3 ≤ id }
+        requires took { TookSome G.Values.took values.old }
+        ensures took { TookSome G.Values.took values.new }
         ensures takes { (f : machine.Frame) (outer : List machine.Frame) → frames_shown self.old.machine.frames.items ≡ f ∷ outer → TakesOne G.gathered limits.now.depth (record_rule limits.now.values f outer first id (handed_shown self.old.machine)) self.old.machine self.old.reader self.old.gatherer result self.new.machine self.new.reader self.new.gatherer }
         ensures head { OnOk result (innermost_head (frames_shown self.new.machine.frames.items) ≡ innermost_head (frames_shown self.old.machine.frames.items)) }
     {
         let (code, after) = self
             .machine
-            .note(&mut self.reader, limits, id, first, &mut self.values)?;
-        let done = self
-            .gatherer
-            .record(id, code, self.values.as_slice(), first, after);
+            .note(&mut self.reader, limits, id, first, values)?;
+        let done = self.gatherer.record(id, code, values, first, after);
         granted(&mut self.reader, done)
     }
 
@@ -110,10 +114,18 @@ impl<S: Source, G: Gatherer> Folding<S, G> {
     }
 
     /// Gathers records of the innermost block, whose head this is, and what comes first that is none.
-    fn gather_block(&mut self, alloc: Global, limits: &Limits, head: BlockHead) -> Result<(), Fault>
+    fn gather_block(
+        &mut self,
+        alloc: Global,
+        limits: &Limits,
+        head: BlockHead,
+        values: &mut G::Values,
+    ) -> Result<(), Fault>
         requires live { self.old.reader.live ≡ true }
+        requires took { TookSome G.Values.took values.old }
         requires head { innermost_head (frames_shown self.old.machine.frames.items) ≡ Some (head_shown head) }
-        ensures { TakesSome G.gathered limits.now self.old.machine self.old.reader self.old.gatherer result self.new.machine self.new.reader self.new.gatherer }
+        ensures took { TookSome G.Values.took values.new }
+        ensures takes { TakesSome G.gathered limits.now self.old.machine self.old.reader self.old.gatherer result self.new.machine self.new.reader self.new.gatherer }
     {
         loop {
             let first = self.reader.position();
@@ -121,13 +133,19 @@ impl<S: Source, G: Gatherer> Folding<S, G> {
             if id < 3 {
                 return self.gather_aside(alloc, limits, id, first);
             }
-            self.gather_record(limits, id as u32, first)?;
+            self.gather_record(limits, id as u32, first, values)?;
         }
     }
 
     /// Gathers all events.
-    fn gather(&mut self, alloc: Global, limits: &Limits) -> Result<(), Fault>
+    fn gather(
+        &mut self,
+        alloc: Global,
+        limits: &Limits,
+        values: &mut G::Values,
+    ) -> Result<(), Fault>
         requires live { self.old.reader.live ≡ true }
+        requires took { TookSome G.Values.took values.old }
         requires aligned { vec_len self.old.machine.frames ≡ 0 → self.old.reader.position % 8 ≡ 0 }
         ensures { TakesAll G.gathered limits.now self.old.machine self.old.reader self.old.gatherer result self.new.reader self.new.gatherer }
     {
@@ -141,7 +159,7 @@ impl<S: Source, G: Gatherer> Folding<S, G> {
                 self.gather_top(alloc, limits)?;
                 continue;
             };
-            self.gather_block(alloc, limits, head)?;
+            self.gather_block(alloc, limits, head, values)?;
         }
     }
 }
@@ -165,18 +183,17 @@ pub fn fold<S: Source, G: Gatherer>(
         Ok(begun) => begun,
         Err((fault, source)) => return (Err(fault), source),
     };
+    let mut values = gatherer.values();
     let mut folding = Folding {
         reader,
         machine: Machine::new(alloc),
-        values: Vec::new(alloc),
         gatherer,
     };
-    let done = folding.gather(alloc, &limits);
+    let done = folding.gather(alloc, &limits, &mut values);
     let Folding {
         reader,
         gatherer,
         machine: _,
-        values: _,
     } = folding;
     let after = reader.position();
     let source = reader.into_source();

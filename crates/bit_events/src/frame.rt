@@ -1,18 +1,16 @@
-ghost use Rattle.std.specs.Prelude.{◌≡◌, ◌-◌, ◌+◌, ◌≤◌, true, [], ℕ, Some, OnOk, IfOk, IsSome, length, unwrap_or};
+ghost use Rattle.std.specs.Prelude.{◌≡◌, ◌-◌, ◌+◌, ◌≤◌, true, [], ℕ, List, Some, OnOk, IsSome, length, unwrap_or, slice_get};
 ghost use Rattle.std.specs.Option.{option_copied};
-ghost use Rattle.bit_grammar.specs.Grammar.{repeat};
-ghost use Rattle.bit_grammar.specs.Fields.{vbr};
 ghost use Rattle.bit_grammar.specs.Blocks as blocks;
 ghost use Rattle.bit_grammar.specs.Blocks.{Handed, Scope, Table, defined, define, describe, entry, record_after, may_define};
-ghost use Rattle.bit_grammar.specs.Record.{value_count, unabbreviated};
 ghost use Rattle.bit_grammar.specs.Machine.{scope_of};
-ghost use Rattle.bit_fields.specs.Reader.{Takes, NeedsNoMemory, told_by};
-ghost use Rattle.bit_events.specs.FrameView.{describing_shown, info_shown, described_id, frame_shown, newest_in};
+ghost use Rattle.bit_fields.specs.Reader.{Takes, told_by};
+ghost use Rattle.bit_abbrev.specs.Values.{Has};
+ghost use Rattle.bit_events.specs.FrameView.{describing_shown, info_shown, described_value, frame_shown, newest_in};
 
 use crate::head::BlockHead;
-use crate::heads::{granted, push};
-use bit_abbrev::{Abbrev, InForce, InfoTable, read_abbreviated, read_define};
-use bit_fields::{BitReader, Fault, Reason, Source};
+use crate::heads::granted;
+use bit_abbrev::{Abbrev, InForce, InfoTable, read_abbreviated, read_define, read_unabbreviated};
+use bit_fields::{BitReader, Fault, Reason, Source, ValueTaker};
 use std::alloc::{AllocError, Global};
 
 /// The code of the records of a BLOCKINFO block that say which block is described.
@@ -93,68 +91,23 @@ pub(crate) fn define<S: Source>(
     Ok(after)
 }
 
-/// Reads a number of values, of which there is room for so many.
-fn value_count<S: Source>(reader: &mut BitReader<S>, room: u64) -> Result<u64, Fault>
-    ensures takes { Takes (value_count room) reader.old result reader.new }
-    ensures few { IfOk result (λ count. count ≤ room) }
-{
-    let place = reader.position();
-    let count = reader.vbr(6)?;
-    reader.judge(count <= room, Reason::TooManyValues, place)?;
-    Ok(count)
-}
-
-/// Reads so many values, one after the other, at the end of a list.
-fn append_values<S: Source>(
-    reader: &mut BitReader<S>,
-    count: u64,
-    values: &mut Vec<u64>,
-) -> Result<(), Fault>
-    requires live { reader.old.live ≡ true }
-    requires none { values.old.items ≡ [] }
-    ensures takes { Takes (repeat count (vbr 6)) reader.old (told_by (λ _. values.new.items) result) reader.new }
-    ensures many { OnOk result (length values.new.items ≡ count) }
-{
-    for _ in 0..count {
-        let value = reader.vbr(6)?;
-        push(reader, values, value)?;
-    }
-    Ok(())
-}
-
-/// Reads the code and the values of a record that is not abbreviated, after its id. Source: "UNABBREV_RECORD Encoding".
-fn unabbreviated<S: Source>(
-    reader: &mut BitReader<S>,
-    room: u64,
-    values: &mut Vec<u64>,
-) -> Result<u64, Fault>
-    requires none { values.old.items ≡ [] }
-    ensures takes { Takes (unabbreviated room) reader.old (told_by (λ code. record { code = code; values = values.new.items }) result) reader.new }
-    ensures few { OnOk result (length values.new.items ≤ room) }
-{
-    let code = reader.vbr(6)?;
-    let count = value_count(reader, room)?;
-    append_values(reader, count, values)?;
-    Ok(code)
-}
-
-/// Reads the code and the values of a record, after its id, which began at a bit.
-fn entry<S: Source>(
+/// Reads the code and the values of a record, after its id, which began at a bit. What takes its values has none before.
+fn entry<S: Source, V: ValueTaker>(
     reader: &mut BitReader<S>,
     definitions: &InForce,
     room: u64,
-    values: &mut Vec<u64>,
+    values: &mut V,
     id: u32,
     first: u64,
 ) -> Result<u64, Fault>
     requires live { reader.old.live ≡ true }
-    requires none { values.old.items ≡ [] }
+    requires none { V.took values.old [] }
     requires id { 3 ≤ id }
-    ensures takes { (limit : ℕ) (scope : Scope) → scope.definitions ≡ definitions.now → limit - scope.handed.used ≡ room → Takes (entry limit first id scope) reader.old (told_by (λ code. record { code = code; values = values.new.items }) result) reader.new }
-    ensures few { OnOk result (length values.new.items ≤ room) }
+    ensures takes { Has V.took values.new (λ list. (limit : ℕ) (scope : Scope) → scope.definitions ≡ definitions.now → limit - scope.handed.used ≡ room → Takes (entry limit first id scope) reader.old (told_by (λ code. record { code = code; values = list }) result) reader.new) }
+    ensures few { Has V.took values.new (λ list. OnOk result (length list ≤ room)) }
 {
     if id == 3 {
-        return unabbreviated(reader, room, values);
+        return read_unabbreviated(reader, room, values);
     }
     match definitions.get((id - 4) as usize) {
         Some(abbrev) => read_abbreviated(reader, abbrev, first, room, values),
@@ -165,19 +118,13 @@ fn entry<S: Source>(
     }
 }
 
-/// The block id that the first of a record's values is, if it is one.
-fn described_id(values: &[u64]) -> Option<u32>
-    ensures { result ≡ described_id values.now }
+/// The block id that the first of a record's values is, if there is one and it is an id.
+fn described_id(value: Option<u64>) -> Option<u32>
+    ensures { result ≡ described_value value }
 {
-    match values {
-        [id, ..] => {
-            if *id < 1 << 32 {
-                Some(*id as u32)
-            } else {
-                None
-            }
-        }
-        [] => None,
+    match value {
+        Some(id) => { if id < 1 << 32 { Some(id as u32) } else { None } }
+        None => None,
     }
 }
 
@@ -187,56 +134,57 @@ fn describe_by<S: Source>(
     info: &mut Describing,
     first: u64,
     code: u64,
-    values: &[u64],
+    value: Option<u64>,
 ) -> Result<(), Fault>
     requires { reader.old.live ≡ true }
-    ensures { Takes (describe (Some (describing_shown info.old)) first (record { code = code; values = values.now })) reader.old (told_by (λ _. Some (describing_shown info.new)) result) reader.new }
+    ensures { (values : List ℕ) → value ≡ slice_get values 0 → Takes (describe (Some (describing_shown info.old)) first (record { code = code; values = values })) reader.old (told_by (λ _. Some (describing_shown info.new)) result) reader.new }
 {
     if code != SET_BID {
         reader.judge(info.described.is_some(), Reason::NoBlockSet, first)?;
         return Ok(());
     }
-    let id = described_id(values);
+    let id = described_id(value);
     reader.judge(id.is_some(), Reason::BadSetBid, first)?;
     info.described = id;
     Ok(())
 }
 
 /// Finds the block that is described after a record, if it stands in a BLOCKINFO block.
-fn describe<S: Source>(
+fn describe<S: Source, V: ValueTaker>(
     reader: &mut BitReader<S>,
     info: &mut Option<Describing>,
     first: u64,
     code: u64,
-    values: &[u64],
+    values: &V,
 ) -> Result<(), Fault>
     requires { reader.old.live ≡ true }
-    ensures { Takes (describe (info_shown info.old) first (record { code = code; values = values.now })) reader.old (told_by (λ _. info_shown info.new) result) reader.new }
+    ensures { (list : List ℕ) → V.took values.now list → Takes (describe (info_shown info.old) first (record { code = code; values = list })) reader.old (told_by (λ _. info_shown info.new) result) reader.new }
 {
     match info {
-        Some(info) => describe_by(reader, info, first, code, values),
+        Some(info) => describe_by(reader, info, first, code, values.first_value()),
         None => Ok(()),
     }
 }
 
-/// Reads a record, after its id, which began at a bit, into an empty list of values; answers its code and the bit after it.
-pub(crate) fn record_after<S: Source>(
+/// Reads a record, after its id, which began at a bit; answers its code and the bit after it. What takes its values has none
+/// before.
+pub(crate) fn record_after<S: Source, V: ValueTaker>(
     reader: &mut BitReader<S>,
     frame: &mut Frame,
     room: u64,
-    values: &mut Vec<u64>,
+    values: &mut V,
     id: u32,
     first: u64,
 ) -> Result<(u64, u64), Fault>
     requires live { reader.old.live ≡ true }
-    requires none { values.old.items ≡ [] }
+    requires none { V.took values.old [] }
     requires id { 3 ≤ id }
-    ensures takes { (limit : ℕ) (handed : Handed) → limit - handed.used ≡ room → Takes (record_after limit first id (scope_of (frame_shown frame.old) handed)) reader.old (told_by (λ r. (record { abbreviation = id; code = r.0; values = values.new.items; first = first; after = r.1 }, scope_of (frame_shown frame.new) (record { table = handed.table; used = handed.used + length values.new.items }))) result) reader.new }
-    ensures few { OnOk result (length values.new.items ≤ room) }
+    ensures takes { Has V.took values.new (λ list. (limit : ℕ) (handed : Handed) → limit - handed.used ≡ room → Takes (record_after limit first id (scope_of (frame_shown frame.old) handed)) reader.old (told_by (λ r. (record { abbreviation = id; code = r.0; values = list; first = first; after = r.1 }, scope_of (frame_shown frame.new) (record { table = handed.table; used = handed.used + length list }))) result) reader.new) }
+    ensures few { Has V.took values.new (λ list. OnOk result (length list ≤ room)) }
     ensures head { frame.new.head ≡ frame.old.head }
 {
     let code = entry(reader, &frame.definitions, room, values, id, first)?;
     let after = reader.position();
-    describe(reader, &mut frame.info, first, code, values.as_slice())?;
+    describe(reader, &mut frame.info, first, code, values)?;
     Ok((code, after))
 }

@@ -1,4 +1,4 @@
-ghost use Rattle.std.specs.Prelude.{◌≡◌, ◌+◌, ◌*◌, ◌≤◌, ◌%◌, OnOk, IfOk, IfErr, ◌++◌, [], ◌∷◌, ◌==◌, ◌&&◌, nat_le};
+ghost use Rattle.std.specs.Prelude.{◌≡◌, ◌+◌, ◌*◌, ◌≤◌, ◌%◌, OnOk, IfOk, IfErr, ◌==◌, ◌&&◌, nat_le};
 ghost use Rattle.bit_grammar.specs.Blocks.{block_id, new_width, block_head, end_of_block};
 ghost use Rattle.bit_fields.specs.Reader.{Takes, told_by, stopped};
 ghost use Rattle.bit_events.specs.HeadView.{head_shown};
@@ -17,21 +17,6 @@ pub(crate) fn granted<S: Source, T>(
 {
     match got {
         Ok(value) => Ok(value),
-        Err(_) => Err(reader.fail(Fault::Memory)),
-    }
-}
-
-/// Adds a value to a list; fails where memory was refused.
-pub(crate) fn push<S: Source>(
-    reader: &mut BitReader<S>,
-    values: &mut Vec<u64>,
-    value: u64,
-) -> Result<(), Fault>
-    ensures ok { OnOk result ((values.new.items ≡ values.old.items ++ value ∷ []) × (reader.new ≡ reader.old)) }
-    ensures err { IfErr result (λ fault. (fault ≡ Fault.Memory) × (reader.new ≡ stopped reader.old)) }
-{
-    match values.push(value) {
-        Ok(()) => Ok(()),
         Err(_) => Err(reader.fail(Fault::Memory)),
     }
 }

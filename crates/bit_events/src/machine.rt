@@ -4,18 +4,19 @@ ghost use Rattle.bit_grammar.specs.Blocks.{enter, leave, info_for};
 ghost use Rattle.bit_grammar.specs.Machine as machine;
 ghost use Rattle.bit_grammar.specs.Machine.{at_start, open_block, open_nested, step_after, step_in, step_top, step, scope_of, inside};
 ghost use Rattle.bit_fields.specs.Reader.{Takes, told_by};
+ghost use Rattle.bit_abbrev.specs.Values.{Has};
 ghost use Rattle.bit_events.specs.Coming.{held_after};
 ghost use Rattle.bit_events.specs.EventView.{shown_if_any};
 ghost use Rattle.bit_events.specs.HeadView.{head_shown};
 ghost use Rattle.bit_events.specs.FrameView.{info_shown, frames_shown};
-ghost use Rattle.bit_events.specs.MachineView.{handed_shown, machine_shown, newest, aside_shown, aside_lent, found_shown, found_lent, after_aside, after_found, record_of, innermost_head, Leaves, end_rule, define_rule, record_rule};
+ghost use Rattle.bit_events.specs.MachineView.{handed_shown, machine_shown, newest, aside_shown, aside_lent, found_shown, found_lent, after_aside, after_found, record_of, innermost_head, Leaves, TookSome, end_rule, define_rule, record_rule};
 
 use crate::event::Event;
 use crate::frame::{Describing, Frame, define, record_after};
 use crate::head::BlockHead;
 use crate::heads::{block_head, end_of_block, granted};
 use bit_abbrev::{Abbrev, InfoTable, SharedInfo};
-use bit_fields::{BitReader, Fault, Limits, Reason, Source};
+use bit_fields::{BitReader, Fault, Limits, Reason, Source, ValueTaker};
 use std::alloc::{AllocError, Global};
 
 /// An event that is no record. Of a definition, which is the newest one, the machine holds the operands.
@@ -207,28 +208,29 @@ impl Machine {
     }
 
     /// Reads a record in the innermost block, after its id, which began at a bit; answers its code and the bit after it.
-    pub(crate) fn note<S: Source>(
+    pub(crate) fn note<S: Source, V: ValueTaker>(
         &mut self,
         reader: &mut BitReader<S>,
         limits: &Limits,
         id: u32,
         first: u64,
-        values: &mut Vec<u64>,
+        values: &mut V,
     ) -> Result<(u64, u64), Fault>
         requires live { reader.old.live ≡ true }
         requires some { 0 < vec_len self.old.frames }
         requires id { 3 ≤ id }
-        ensures takes { (f : machine.Frame) (outer : List machine.Frame) → frames_shown self.old.frames.items ≡ f ∷ outer → Takes (record_rule limits.now.values f outer first id (handed_shown self.old)) reader.old (told_by (λ read. (record_of id values.new.items first read, machine_shown self.new)) result) reader.new }
-        ensures leaves { (deepest : ℕ) → IfOk result (λ read. Leaves deepest self.old reader.old (record_of id values.new.items first read) self.new reader.new) }
+        requires took { TookSome V.took values.old }
+        ensures takes { Has V.took values.new (λ list. (f : machine.Frame) (outer : List machine.Frame) → frames_shown self.old.frames.items ≡ f ∷ outer → Takes (record_rule limits.now.values f outer first id (handed_shown self.old)) reader.old (told_by (λ read. (record_of id list first read, machine_shown self.new)) result) reader.new) }
+        ensures leaves { (deepest : ℕ) (list : List ℕ) → IfOk result (λ read. Leaves deepest self.old reader.old (record_of id list first read) self.new reader.new) }
         ensures head { OnOk result (innermost_head (frames_shown self.new.frames.items) ≡ innermost_head (frames_shown self.old.frames.items)) }
     {
         let room = limits.values().saturating_sub(self.used);
-        values.clear();
+        values.truncate(0);
         let Some(frame) = self.frames.last_mut() else {
             unreachable!();
         };
         let (code, after) = record_after(reader, frame, room, values, id, first)?;
-        let count = values.len() as u64;
+        let count = values.count();
         self.used += count;
         Ok((code, after))
     }

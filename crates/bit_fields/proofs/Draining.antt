@@ -1,10 +1,10 @@
 -- Bytes that come and that nobody reads.
 use Rattle.std.proofs.Common.{◌≡◌, ℕ, ◌+◌, ◌*◌, ◌-◌, ◌<◌, ◌≤◌, Bool, true, false, List, [], ◌++◌, length, take, drop, refl, sym, ap, ◌∙◌, arith, inl, inr}
 use Rattle.std.proofs.lemmas.Bool.{false≢true}
-use Rattle.std.proofs.lemmas.List.{length-append, length-take-le, drop_at}
+use Rattle.std.proofs.lemmas.List.{length-append, length-take-le, length-drop, drop-append-le, drop_at}
 use Rattle.bit_grammar.specs.Bits.{bits_of_bytes}
 use Rattle.bit_fields.specs.Devices.{Incoming, Gave, GaveNone, known_bytes}
-use Rattle.bit_fields.specs.Inflow.{Flow, IsKnown, stop_of, left_of, budget_of, IsFlow, Passes, Draining, Drained, Overran, DrainLost, DrainFails}
+use Rattle.bit_fields.specs.Inflow.{Flow, IsKnown, stop_of, left_of, budget_of, IsFlow, Keeps, Passes, Skips, Draining, Drained, Overran, DrainLost, DrainFails}
 use Rattle.bit_fields.specs.declared.inflow.Missing.{Missing}
 use Rattle.bit_fields.specs.declared.inflow.Missing.TheVariants.{End, Limit, Read}
 use Rattle.bit_fields.proofs.BitLaws.{length-bits_of_bytes}
@@ -41,6 +41,42 @@ passed_is_flow f i count into was going fits le gave = record {
   place = omega (arith, was.place);
   ended = λ e. absurd (false≢true (sym going ∙ e));
 }
+
+-- ---- bits of the stream
+
+-- a block of bytes
+pub bytes_skipped : (f g : Flow) (count bits : ℕ) → f.window ≡ [] → Passes f g count → bits ≡ 8 * count → Skips f g bits
+bytes_skipped f g count bits empty p is =
+    let none : length f.window ≡ 0 = ap length empty in
+    let after : length g.window ≡ 0 = ap length p.window in
+    rw is (record {
+      some = omega (arith, p.some);
+      end = p.end;
+      limit = p.limit;
+      loaded = omega (arith, p.loaded);
+      exact = omega (arith, p.loaded, p.within, p.end, p.limit);
+      spends = p.spends;
+      there = p.there;
+      left = p.left;
+      total = p.total;
+    })
+
+-- bits of the window
+pub window_skipped : (f g h : Flow) (count : ℕ) → Keeps f g → 0 < count → count ≤ length g.window → h ≡ record g { window = drop count g.window } → Skips f h count
+window_skipped f g h count kept some there is =
+    let len : length (drop count g.window) ≡ length g.window - count = length-drop count g.window in
+    let behind : List Bool = bits_of_bytes (take (stop_of g - g.loaded) (known_bytes g.incoming.to_come)) in
+    rw is (record {
+      some = some;
+      end = kept.end;
+      limit = kept.limit;
+      loaded = omega (arith, len, kept.place.loaded);
+      exact = omega (arith, len, kept.place.exact);
+      spends = kept.spends;
+      there = λ k. omega (arith, ap length (kept.left k), length-append g.window behind);
+      left = λ k. sym (drop-append-le count g.window behind there) ∙ ap (drop count) (kept.left k);
+      total = kept.total;
+    })
 
 -- ---- all bytes that are left
 

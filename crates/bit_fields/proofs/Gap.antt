@@ -1,29 +1,31 @@
--- The gap between a wrapper and its stream.
-use Rattle.std.proofs.Common.{◌≡◌, ℕ, ◌+◌, ◌*◌, ◌-◌, ◌%◌, ◌<◌, ◌≤◌, Bool, true, List, [], ◌++◌, length, drop, Result, Ok, Err, refl, sym, ap, ◌∙◌, subst, arith, inl, inr}
+-- Bits that nobody reads: the gap between a wrapper and its stream.
+use Rattle.std.proofs.Common.{◌≡◌, ℕ, ◌+◌, ◌-◌, ◌<◌, ◌≤◌, Bool, true, List, ◌++◌, length, drop, Result, Ok, Err, refl, sym, ap, ◌∙◌, subst, arith, inl, inr}
 use Rattle.std.proofs.lemmas.Bool.{cases_lt, false≢true, le-ltb, lt-ltb}
 use Rattle.std.proofs.lemmas.List.{length-append, length-drop, drop-append-le}
+use Rattle.bit_grammar.specs.declared.reason.Reason.{Reason}
 use Rattle.bit_grammar.specs.declared.reason.Reason.TheVariants.{Truncated}
-use Rattle.bit_grammar.specs.Grammar.{at, gives, ◌>>◌, reading}
+use Rattle.bit_grammar.specs.Grammar as grammar
+use Rattle.bit_grammar.specs.Grammar.{Grammar, at, gives, ◌>>◌, reading}
 use Rattle.bit_grammar.specs.Input.{any_bits}
 use Rattle.bit_fields.specs.declared.fault.Fault.{Fault}
+use Rattle.bit_fields.specs.declared.fault.Fault.TheVariants.{Refused, Read, Write, Memory, OutputTooLong, Failed}
 use Rattle.bit_fields.specs.declared.inflow.Missing.{Missing}
-use Rattle.bit_fields.specs.Inflow.{Flow, left_of, Passes, Misses}
-use Rattle.bit_fields.specs.Reader.{Reader, Took, Why, Takes}
+use Rattle.bit_fields.specs.Inflow.{Flow, left_of, Skips, Fills}
+use Rattle.bit_fields.specs.Reader.{Reader, TellsBytes, Breaks, Took, Why}
 use Rattle.bit_fields.specs.Inside.{gap_of, TookGap, reader_of, stopped_at, fault_of, IsReader}
 use Rattle.bit_fields.proofs.BitLaws.{drop_more}
-use Rattle.bit_fields.proofs.InflowLaws.{Keeps-refl, not_filled}
 use Rattle.bit_fields.proofs.Composing.{took_then, took_nothing, same_reading, from_here}
-use Rattle.bit_fields.proofs.Parts.{window_took, window_missed, fills_place, fills_exact}
+use Rattle.bit_fields.proofs.Parts.{window_missed, fills_place, fills_exact}
 
 -- ---- what is read
 
-gap_whole : (n start p : ℕ) (r : List Bool) → n ≤ length r → reading (gap_of start n) p r ≡ Ok (tt, p + n, drop n r)
+pub gap_whole : (n start p : ℕ) (r : List Bool) → n ≤ length r → reading (gap_of start n) p r ≡ Ok (tt, p + n, drop n r)
 gap_whole n start p r there = rw (le-ltb (length r) n there) refl
 
 gap_at : (n start p : ℕ) (w rest : List Bool) → n ≤ length w → reading (gap_of start n) p (w ++ rest) ≡ Ok (tt, p + n, drop n w ++ rest)
 gap_at n start p w rest there = rw (le-ltb (length (w ++ rest)) n (omega (arith, length-append w rest)), drop-append-le n w rest there) refl
 
-gap_short : (n start p : ℕ) (r : List Bool) → length r < n → reading (gap_of start n) p r ≡ Err (at Truncated start)
+pub gap_short : (n start p : ℕ) (r : List Bool) → length r < n → reading (gap_of start n) p r ≡ Err (at Truncated start)
 gap_short n start p r short = rw (lt-ltb (length r) n short) refl
 
 -- so many bits, and then so many
@@ -40,100 +42,152 @@ gap_both n more start p r = elim (cases_lt (length r) n) [
 
 -- ---- what a step takes
 
--- bits at hand
-pub gap_took : (was : Bool) (start end count p q : ℕ) (f g : Flow) (now : Reader) → reader_of was p f ≡ now → was ≡ true → 0 < count → p + count ≤ end → count ≤ length f.window → g ≡ record f { window = drop count f.window } → q ≡ p + count → TookGap start end now (reader_of was q g)
-gap_took was start end count p q f g now view live some few there g_is q_is =
-    let n : p + count - p ≡ count = omega arith in
-    rw (← view, live, g_is, q_is) (record {
-      some = omega arith;
-      few = few;
-      took = rw n (window_took (gap_of start count) tt count p f f (Keeps-refl f) (λ rest. gap_at count start p f.window rest there));
-    })
-
--- a block of bytes
-pub gap_passed : (was : Bool) (start end count p q : ℕ) (f g : Flow) (now : Reader) → reader_of was p f ≡ now → was ≡ true → p + 8 * count ≤ end → Passes f g count → q ≡ p + 8 * count → TookGap start end now (reader_of was q g)
-gap_passed was start end count p q f g now view live few passed q_is =
-    let n : p + 8 * count - p ≡ 8 * count = omega arith in
+pub bits_skipped : (was : Bool) (start most count p q : ℕ) (f g : Flow) (now : Reader) → reader_of was p f ≡ now → was ≡ true → Skips f g count → count ≤ most → q ≡ p + count → TookGap start most count now (reader_of was q g)
+bits_skipped was start most count p q f g now view live skips few q_is =
     rw (← view, live, q_is) (record {
-      some = omega (arith, passed.some);
+      some = skips.some;
       few = few;
-      took = rw n (record {
+      took = record {
         was_live = refl;
         live = refl;
-        goes_on = passed.spends;
+        goes_on = skips.spends;
         forward = omega arith;
-        end = passed.end;
-        limit = passed.limit;
-        extent = λ k. rw (passed.total k, passed.end, passed.limit) refl;
-        reads = λ k. gap_whole (8 * count) start p (left_of f) (passed.there k) ∙ ap (λ (r : List Bool). Ok (tt, p + 8 * count, r)) (sym (passed.left k));
-      });
+        end = skips.end;
+        limit = skips.limit;
+        extent = λ k. rw (skips.total k, skips.end, skips.limit) refl;
+        reads = λ k. gap_whole count start p (left_of f) (skips.there k) ∙ ap (λ (r : List Bool). Ok (tt, p + count, r)) (sym (skips.left k));
+      };
+      moves = refl;
     })
 
-pub passed_is_reader : (was : Bool) (p count q : ℕ) (f g : Flow) → IsReader was p f → f.window ≡ [] → was ≡ true → Passes f g count → q ≡ p + 8 * count → IsReader was q g
-passed_is_reader was p count q f g is empty live passed q_is =
-    let none : length f.window ≡ 0 = ap length empty in
-    let after : length g.window ≡ 0 = ap length passed.window in
-    record {
-      place = omega (arith, is.place, passed.loaded, q_is);
-      exact = λ e. omega (arith, is.exact live, passed.loaded, passed.within, passed.end, passed.limit, q_is);
-      empty = λ e. passed.window;
-    }
+pub skipped_is_reader : (was : Bool) (p count q : ℕ) (f g : Flow) → IsReader was p f → was ≡ true → Skips f g count → q ≡ p + count → IsReader was q g
+skipped_is_reader was p count q f g is live skips q_is = record {
+  place = omega (arith, is.place, skips.loaded, q_is);
+  exact = λ e. omega (arith, is.exact live, skips.exact, q_is);
+  empty = λ e. absurd (false≢true (sym e ∙ live));
+}
 
--- no more bytes
-pub gap_missed : (was : Bool) (start n p : ℕ) (f g : Flow) (missing : Missing) (fault : Fault) (now new : Reader) → reader_of was p f ≡ now → was ≡ true → f.window ≡ [] → 0 < n → Misses f g missing → fault ≡ fault_of missing start g.limit → new ≡ stopped_at (reader_of was p g) start → Why (gap_of start n) now fault new
-gap_missed was start n p f g missing fault now new view live empty some misses fault_is new_is =
-    rw (fault_is, new_is, ← view, live) (window_missed (gap_of start n) n start p f g missing (λ more short. gap_short n start p (f.window ++ more) short) (not_filled n f f g missing (Keeps-refl f) (omega (arith, ap length empty)) misses))
+-- where a reader stands that has failed does not matter to why it did
+stopped_elsewhere : (rule : Grammar (Unit {0})) (a : Reader) (fault : Fault) (r : Reader) (s t : ℕ) → a.live ≡ true → Why rule a fault (stopped_at r s) → Why rule a fault (stopped_at r t)
+stopped_elsewhere rule a (Refused reason bit) r s t live why = (record { was_live = why.0.was_live; failed = why.0.failed; goes_on = why.0.goes_on }, why.1)
+stopped_elsewhere rule a Read r s t live why = (record { was_live = why.0.was_live; failed = why.0.failed; goes_on = why.0.goes_on }, why.1)
+stopped_elsewhere rule a Memory r s t live why = record { was_live = why.was_live; failed = why.failed; goes_on = why.goes_on }
+stopped_elsewhere rule a Failed r s t live why = absurd (false≢true (sym why.0 ∙ live))
+stopped_elsewhere rule a Write r s t live why = why
+stopped_elsewhere rule a OutputTooLong r s t live why = why
 
-pub missed_is_reader : (was : Bool) (n p : ℕ) (f g : Flow) (missing : Missing) → IsReader was p f → was ≡ true → f.window ≡ [] → 0 < n → Misses f g missing → IsReader was p g
-missed_is_reader was n p f g missing is live empty some misses =
-    let fills = not_filled n f f g missing (Keeps-refl f) (omega (arith, ap length empty)) misses in
-    record {
-      place = fills_place n p f g missing fills is.place;
-      exact = λ e. fills_exact n p f g missing fills (is.exact live);
-      empty = λ e. absurd (false≢true (sym e ∙ live));
-    }
+-- not one bit is left
+pub none_skipped : (was : Bool) (start field p : ℕ) (f g : Flow) (missing : Missing) (fault : Fault) (now new : Reader) → reader_of was p f ≡ now → was ≡ true → Fills 1 f g (Err missing) → fault ≡ fault_of missing field g.limit → new ≡ stopped_at (reader_of was p g) start → Why (gap_of field 1) now fault new
+none_skipped was start field p f g missing fault now new view live fills fault_is new_is =
+    rw (fault_is, new_is, ← view, live) (stopped_elsewhere (gap_of field 1) (reader_of true p f) (fault_of missing field g.limit) (reader_of true p g) field start refl
+    (window_missed (gap_of field 1) 1 field p f g missing (λ more short. gap_short 1 field p (f.window ++ more) short) fills))
+
+pub missed_is_reader : (was : Bool) (p : ℕ) (f g : Flow) (missing : Missing) → IsReader was p f → was ≡ true → Fills 1 f g (Err missing) → IsReader was p g
+missed_is_reader was p f g missing is live fills = record {
+  place = fills_place 1 p f g missing fills is.place;
+  exact = λ e. fills_exact 1 p f g missing fills (is.exact live);
+  empty = λ e. absurd (false≢true (sym e ∙ live));
+}
 
 -- ---- the loop
 
--- how far the loop has come: whatever skips what is left of the gap completes it
-pub record Skipping (start end : ℕ) (a b : Reader) : Type 0 where
+-- how far it has come: of so many bits so many are left to be skipped
+pub record Skipping (bits left : ℕ) (a b : Reader) : Type 0 where
   pub live : b.live ≡ true
-  pub ahead : start ≤ b.position
-  pub few : b.position ≤ end
-  pub bytes : b.position % 8 ≡ 0
-  pub rest : (result : Result (Unit {0}) Fault) (c : Reader) → Takes (gap_of start (end - b.position)) b result c → Takes (gap_of start (end - a.position)) a result c
+  pub few : left ≤ bits
+  pub moves : b.position ≡ a.position + (bits - left)
+  pub took : (start : ℕ) → Took (gap_of start (bits - left)) a tt b
 
-pub skipping_begins : (start end : ℕ) (a : Reader) → a.live ≡ true → start ≤ a.position → a.position ≤ end → a.position % 8 ≡ 0 → Skipping start end a a
-skipping_begins start end a live ahead few bytes = record { live = live; ahead = ahead; few = few; bytes = bytes; rest = λ result c t. t }
+pub skipping_begins : (bits : ℕ) (a : Reader) → a.live ≡ true → Skipping bits bits a a
+skipping_begins bits a live =
+    let none : bits - bits ≡ 0 = omega arith in
+    record {
+      live = live;
+      few = omega arith;
+      moves = omega arith;
+      took = λ start. rw none (same_reading (gives tt) (gap_of start 0) a (Ok tt) a (λ p r. no_gap start p r) (took_nothing tt a live));
+    }
+  where
+    no_gap : (start p : ℕ) (r : List Bool) → reading (gives tt) p r ≡ reading (gap_of start 0) p r
+    no_gap start p r = let same : p + 0 ≡ p = omega arith in rw (le-ltb (length r) 0 (omega arith), same) refl
 
-pub skipping_goes_on : (start end : ℕ) (a b c : Reader) → Skipping start end a b → TookGap start end b c → c.position % 8 ≡ 0 → Skipping start end a c
-skipping_goes_on start end a b c so t bytes =
-    let e : c.position - b.position + (end - c.position) ≡ end - b.position = omega (arith, t.some, t.few) in
+pub read_or_not : (fault : grammar.Fault) (x : (Unit {0}) × ℕ × List Bool) → Err fault ≡ Ok x → ⊥
+read_or_not fault x e = cc
+
+after_gap : (n field p : ℕ) (r : List Bool) → n ≤ length r → reading (gap_of field n >> gap_of field 1) p r ≡ reading (gap_of field 1) (p + n) (drop n r)
+after_gap n field p r there = rw (le-ltb (length r) n there) refl
+
+-- where a gap is said to begin matters only to its fault
+gap_elsewhere : (n s t : ℕ) (a b : Reader) → Took (gap_of s n) a tt b → Took (gap_of t n) a tt b
+gap_elsewhere n s t a b h = record {
+  was_live = h.was_live;
+  live = h.live;
+  goes_on = h.goes_on;
+  forward = h.forward;
+  end = h.end;
+  limit = h.limit;
+  extent = h.extent;
+  reads = λ k. elim (cases_lt (length a.left) n) [
+    | inl short ↦ absurd (read_or_not (at Truncated s) (tt, b.position, b.left) (sym (gap_short n s a.position a.left short) ∙ h.reads k))
+    | inr there ↦ gap_whole n t a.position a.left there ∙ sym (gap_whole n s a.position a.left there) ∙ h.reads k
+  ];
+}
+
+pub skipping_goes_on : (bits left field count : ℕ) (a b c : Reader) → Skipping bits left a b → TookGap field left count b c → Skipping bits (left - count) a c
+skipping_goes_on bits left field count a b c so t =
+    let e : bits - left + count ≡ bits - (left - count) = omega (arith, so.few, t.few) in
     record {
       live = t.took.live;
-      ahead = omega (arith, so.ahead, t.some);
-      few = t.few;
-      bytes = bytes;
-      rest = λ result d u. so.rest result d (subst (λ (n : ℕ). Takes (gap_of start n) b result d) e
-          (same_reading (gap_of start (c.position - b.position) >> gap_of start (end - c.position)) (gap_of start (c.position - b.position + (end - c.position))) b result d (λ p r. gap_both (c.position - b.position) (end - c.position) start p r)
-          (took_then (gap_of start (c.position - b.position)) (λ v. gap_of start (end - c.position)) b tt c result d t.took u)));
+      few = omega (arith, so.few);
+      moves = omega (arith, so.moves, t.moves, so.few, t.few);
+      took = λ start. subst (λ (n : ℕ). Took (gap_of start n) a tt c) e
+          (same_reading (gap_of start (bits - left) >> gap_of start count) (gap_of start (bits - left + count)) a (Ok tt) c (λ p r. gap_both (bits - left) count start p r)
+          (took_then (gap_of start (bits - left)) (λ v. gap_of start count) a tt b (Ok tt) c (so.took start) (gap_elsewhere count field start b c t.took)));
     }
 
-pub gap_fails : (start offset end : ℕ) (a b : Reader) (fault : Fault) (c : Reader) → Skipping start end a b → Why (gap_of start (end - b.position)) b fault c → start ≡ a.position → a.position ≡ 160 → end ≡ 8 * offset → 20 ≤ offset → Why (any_bits (8 * (offset - 20))) a fault c
-unfolding any_bits
-gap_fails start offset end a b fault c so why here at end_is least =
-    let n : end - a.position ≡ 8 * (offset - 20) = omega arith in
-    let all : Why (gap_of start (8 * (offset - 20))) a fault c = subst (λ (m : ℕ). Why (gap_of start m) a fault c) n (so.rest (Err fault) c why) in
-    from_here (λ s. gap_of s (8 * (offset - 20))) a (Err fault) c (subst (λ (s : ℕ). Why (gap_of s (8 * (offset - 20))) a fault c) here all)
+-- ---- the gap
 
-no_gap : (start n p : ℕ) (r : List Bool) → n ≡ 0 → reading (gives tt) p r ≡ reading (gap_of start n) p r
-no_gap start n p r none = let same : p + 0 ≡ p = omega arith in rw (none, le-ltb (length r) 0 (omega arith), same) refl
+-- a rule that breaks wherever another one does, and so
+pub breaks_too : {A B : Type 0} (f : Grammar A) (h : Grammar B) (a : Reader) (fault : Fault) (b : Reader) → ((reason : Reason) (bit : ℕ) → TellsBytes a → Breaks a.extent (reading f a.position a.left) reason bit → Breaks a.extent (reading h a.position a.left) reason bit) → Why f a fault b → Why h a fault b
+breaks_too f h a (Refused reason bit) b so why = (why.0, λ k. so reason bit k (why.1 k))
+breaks_too f h a Read b so why = why
+breaks_too f h a Memory b so why = why
+breaks_too f h a Failed b so why = why
+breaks_too f h a Write b so why = why
+breaks_too f h a OutputTooLong b so why = why
 
-pub gap_skipped : (start offset end : ℕ) (a b : Reader) → Skipping start end a b → end ≤ b.position → start ≡ a.position → a.position ≡ 160 → end ≡ 8 * offset → 20 ≤ offset → Took (any_bits (8 * (offset - 20))) a tt b
+-- so many bits are there, and then not one, which breaks a rule
+pub fails_after : {A : Type 0} (rule : Grammar A) (n field : ℕ) (a b : Reader) (fault : Fault) (c : Reader) → Took (gap_of field n) a tt b → (length a.left ≡ n → reading rule a.position a.left ≡ Err (at Truncated field)) → Why (gap_of field 1) b fault c → Why rule a fault c
+fails_after {A} rule n field a b fault c t ends why =
+    breaks_too (gap_of field n >> gap_of field 1) rule a fault c (λ reason bit k h. by reason bit (there k) h) (took_then (gap_of field n) (λ v. gap_of field 1) a tt b (Err fault) c t why)
+  where
+    there : TellsBytes a → n ≤ length a.left
+    there k = elim (cases_lt (length a.left) n) [
+      | inl short ↦ absurd (read_or_not (at Truncated field) (tt, b.position, b.left) (sym (gap_short n field a.position a.left short) ∙ t.reads k))
+      | inr enough ↦ enough
+    ]
+
+    by : (reason : Reason) (bit : ℕ) → n ≤ length a.left → Breaks a.extent (reading (gap_of field n >> gap_of field 1) a.position a.left) reason bit → Breaks a.extent (reading rule a.position a.left) reason bit
+    by reason bit enough h = elim (cases_lt (length (drop n a.left)) 1) [
+      | inl none ↦
+          let end : length a.left ≡ n = omega (arith, length-drop n a.left) in
+          let read : reading (gap_of field n >> gap_of field 1) a.position a.left ≡ Err (at Truncated field) = after_gap n field a.position a.left enough ∙ gap_short 1 field (a.position + n) (drop n a.left) none in
+          let so : Breaks {A = A} a.extent (Err (at Truncated field)) reason bit = subst (λ (x : Result ((Unit {0}) × ℕ × List Bool) grammar.Fault). Breaks a.extent x reason bit) read h in
+          subst (λ (x : Result (A × ℕ × List Bool) grammar.Fault). Breaks a.extent x reason bit) (sym (ends end)) so
+      | inr one ↦
+          let read : reading (gap_of field n >> gap_of field 1) a.position a.left ≡ Ok (tt, a.position + n + 1, drop 1 (drop n a.left)) = after_gap n field a.position a.left enough ∙ gap_whole 1 field (a.position + n) (drop n a.left) one in
+          absurd (subst (λ (x : Result ((Unit {0}) × ℕ × List Bool) grammar.Fault). Breaks a.extent x reason bit) read h)
+    ]
+
+pub gap_fails : (start bits left : ℕ) (a b : Reader) (fault : Fault) (c : Reader) → Skipping bits left a b → 0 < left → Why (gap_of start 1) b fault c → start ≡ a.position → Why (any_bits bits) a fault c
 unfolding any_bits
-gap_skipped start offset end a b so done here at end_is least =
-    let n : end - a.position ≡ 8 * (offset - 20) = omega arith in
-    let none : end - b.position ≡ 0 = omega arith in
-    let last : Took (gap_of start (end - b.position)) b tt b = same_reading (gives tt) (gap_of start (end - b.position)) b (Ok tt) b (λ p r. no_gap start (end - b.position) p r none) (took_nothing tt b so.live) in
-    let all : Took (gap_of start (8 * (offset - 20))) a tt b = subst (λ (m : ℕ). Took (gap_of start m) a tt b) n (so.rest (Ok tt) b last) in
-    from_here (λ s. gap_of s (8 * (offset - 20))) a (Ok tt) b (subst (λ (s : ℕ). Took (gap_of s (8 * (offset - 20))) a tt b) here all)
+gap_fails start bits left a b fault c so some why here =
+    let all : Why (gap_of start bits) a fault c = fails_after (gap_of start bits) (bits - left) start a b fault c (so.took start) (λ e. gap_short bits start a.position a.left (omega (arith, so.few, e))) why in
+    from_here (λ s. gap_of s bits) a (Err fault) c (subst (λ (s : ℕ). Why (gap_of s bits) a fault c) here all)
+
+pub gap_skipped : (start bits left : ℕ) (a b : Reader) → Skipping bits left a b → left ≤ 0 → start ≡ a.position → Took (any_bits bits) a tt b
+unfolding any_bits
+gap_skipped start bits left a b so done here =
+    let n : bits - left ≡ bits = omega arith in
+    let all : Took (gap_of start bits) a tt b = subst (λ (m : ℕ). Took (gap_of start m) a tt b) n (so.took start) in
+    from_here (λ s. gap_of s bits) a (Ok tt) b (subst (λ (s : ℕ). Took (gap_of s bits) a tt b) here all)

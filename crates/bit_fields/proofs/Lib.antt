@@ -8,6 +8,7 @@ pub mod Chunks
 pub mod Padding
 pub mod AtTheEnd
 pub mod Gap
+pub mod Skipping
 pub mod Starting
 pub mod WriterLaws
 pub mod WriterChunks

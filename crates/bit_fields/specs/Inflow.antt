@@ -128,6 +128,23 @@ abbrev pub Steps : ℕ → Flow → Flow → Result ℕ Missing → Type 0
 Steps most old new (Ok count) = Passes old new count × (count ≤ most)
 Steps most old new (Err missing) = Misses old new missing
 
+-- bits of the stream were taken that nobody reads
+pub record Skips (old new : Flow) (count : ℕ) : Type 0 where
+  pub some : 0 < count
+  pub end : new.end ≡ old.end
+  pub limit : new.limit ≡ old.limit
+  pub loaded : 8 * old.loaded + length new.window + count ≤ 8 * new.loaded + length old.window
+  pub exact : 8 * min old.loaded (stop_of old) + length new.window + count ≡ 8 * min new.loaded (stop_of new) + length old.window
+  pub spends : Spends old.incoming (budget_of old) new.incoming (budget_of new)
+  pub there : IsKnown old → count ≤ length (left_of old)
+  pub left : IsKnown old → left_of new ≡ drop count (left_of old)
+  pub total : IsKnown old → total_of new ≡ total_of old
+
+-- what skipping bits of the stream leaves, at most so many; where it fails there was not one
+abbrev pub SkipsSome : ℕ → Flow → Flow → Result ℕ Missing → Type 0
+SkipsSome most old new (Ok count) = Skips old new count × (count ≤ most)
+SkipsSome most old new (Err missing) = Fills 1 old new (Err missing)
+
 -- ---- all that is left, which nobody reads
 
 -- how far it came

@@ -1,5 +1,5 @@
 -- What a reader is made of, and the parts of its calls.
-use Rattle.std.specs.Prelude.{◌≡◌, ℕ, ◌+◌, ◌-◌, ◌*◌, ◌^◌, ◌<◌, ◌≤◌, min, Bool, true, false, if◌then◌else◌, [], length}
+use Rattle.std.specs.Prelude.{◌≡◌, ℕ, zero, suc, ◌+◌, ◌*◌, ◌<◌, ◌≤◌, ◌^◌, min, Bool, true, false, if◌then◌else◌, List, [], ◌∷◌, length, take, drop}
 use Rattle.bit_grammar.specs.declared.reason.Reason.TheVariants.{Truncated, TooLong}
 use Rattle.bit_grammar.specs.Bits.{number}
 use Rattle.bit_grammar.specs.Grammar.{Grammar, gives, ◌>>=◌}
@@ -51,6 +51,11 @@ fault_of End start limit = Refused Truncated start
 fault_of Limit start limit = Refused TooLong (8 * limit)
 fault_of missing.Read start limit = Read
 
+-- the numbers of so many fields of n bits
+abbrev pub numbers : (n count : ℕ) → List Bool → List ℕ
+numbers n zero r = []
+numbers n (suc count) r = number (take n r) ∷ numbers n count (drop n r)
+
 -- zeros of a padding that began at start were taken, at least one and at most so many
 pub record TookZeros (start most count : ℕ) (old new : Reader) : Type 0 where
   pub some : 0 < count
@@ -58,8 +63,9 @@ pub record TookZeros (start most count : ℕ) (old new : Reader) : Type 0 where
   pub took : Took (zeros start count) old tt new
   pub moves : new.position ≡ old.position + count
 
--- bits of a gap that began at start were taken, at least one and at most up to a bit
-pub record TookGap (start end : ℕ) (old new : Reader) : Type 0 where
-  pub some : old.position < new.position
-  pub few : new.position ≤ end
-  pub took : Took (gap_of start (new.position - old.position)) old tt new
+-- bits of a gap that began at start were taken, whatever they are, at least one and at most so many
+pub record TookGap (start most count : ℕ) (old new : Reader) : Type 0 where
+  pub some : 0 < count
+  pub few : count ≤ most
+  pub took : Took (gap_of start count) old tt new
+  pub moves : new.position ≡ old.position + count

@@ -1,7 +1,7 @@
 ghost use Rattle.std.specs.Prelude.{ℕ, ◌≡◌, ◌+◌, ◌*◌, ◌-◌, ◌<◌, ◌≤◌, ◌^◌, length, false, take, drop, [], OnOk};
 ghost use Rattle.bit_grammar.specs.Bits.{number};
 ghost use Rattle.bit_fields.specs.Short.{EndsAt, gathered};
-ghost use Rattle.bit_fields.specs.Inflow.{Brings, Misses, Fills, Steps, Drains, DrainsSome, stop_of, shortened, to_drain};
+ghost use Rattle.bit_fields.specs.Inflow.{Brings, Misses, Fills, Steps, SkipsSome, Drains, DrainsSome, stop_of, shortened, to_drain};
 
 use crate::source::{Source, SourceFailed};
 use crate::window::Window;
@@ -234,6 +234,25 @@ impl<S: Source> Inflow<S> {
             }
             Err(SourceFailed) => Err(Missing::Read),
         }
+    }
+
+    /// Takes bits of the stream that nobody reads, at least one and at most so many, and answers how many: those in the
+    /// window, or else a block of bytes.
+    pub fn skip(&mut self, most: u64) -> Result<u64, Missing>
+        requires { 0 < most }
+        ensures skips { SkipsSome most self.old self.new result }
+        ensures loaded { OnOk result (self.new.loaded ≤ 2 ^ 35) }
+    {
+        if self.window.len() == 0 {
+            if most >= 8 {
+                let count = self.pass(most / 8)?;
+                return Ok(8 * count);
+            }
+            self.fill(1)?;
+        }
+        let count = most.min(u64::from(self.window.len().min(32)));
+        self.take(count as u32);
+        Ok(count)
     }
 
     /// Takes some of the bytes that the source still has.

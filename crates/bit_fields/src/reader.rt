@@ -1,12 +1,12 @@
 ghost use Rattle.std.specs.Prelude.{◌≡◌, ◌+◌, ◌*◌, ◌-◌, ◌<◌, ◌≤◌, ◌^◌, ◌%◌, length, true, false, take, drop, [], OnErr, OnOk, IfOk, IfErr, MatchOption, ◌&&◌, ◌==◌, nat_le};
 ghost use Rattle.bit_grammar.specs.Fields.{fixed, vbr, char6, align32, byte, character, chunks, chunk_limit, zeros};
-ghost use Rattle.bit_grammar.specs.Grammar.{at, test};
+ghost use Rattle.bit_grammar.specs.Grammar.{at, test, repeat};
 ghost use Rattle.bit_grammar.specs.Input.{version, offset, wrapper, any_bits, inner_magic};
 ghost use Rattle.bit_fields.specs.Reader.{Extent, Takes, Took, Why, IsOnly, NeedsNoMemory, within, told_by, stopped};
 ghost use Rattle.bit_fields.specs.Short.{TookNothing};
 ghost use Rattle.bit_fields.specs.Opening.{fresh, Opened, Declines, Opens, wrapper_told};
 ghost use Rattle.bit_fields.specs.Ending.{reach_of, Looks, Closes, IsThrough};
-ghost use Rattle.bit_fields.specs.Inside.{part_of, gap_of, above, stopped_at, fault_of, TookZeros, TookGap};
+ghost use Rattle.bit_fields.specs.Inside.{part_of, gap_of, above, stopped_at, fault_of, numbers, TookZeros, TookGap};
 
 use crate::fault::Fault;
 use crate::head::{Head, Wrapper};
@@ -152,41 +152,61 @@ impl<S: Source> BitReader<S> {
         ensures memory { NeedsNoMemory result }
         ensures place { OnOk result (self.new.position ≡ 8 * offset) }
     {
-        let end = 8 * u64::from(offset);
-        while self.position < end {
-            self.some_gap(start, end)?;
+        let mut left = 8 * u64::from(offset - 20);
+        while left > 0 {
+            let count = self.skip_some(start, start, left)?;
+            left -= count;
         }
         Ok(())
     }
 
-    /// Skips bits of a gap that began at a bit, at least one and at most up to its end: those that are at hand, or else
-    /// a block of bytes.
-    fn some_gap(&mut self, start: u64, end: u64) -> Result<(), Fault>
+    /// Skips bits of what began at a bit, at least one and at most so many, and answers how many. Where not one is left it
+    /// fails, at the first bit of the field to which the next one belongs.
+    fn skip_some(&mut self, start: u64, field: u64, most: u64) -> Result<u64, Fault>
         requires live { self.old.live ≡ true }
         requires start { start ≤ self.old.position }
-        requires some { self.old.position < end }
-        requires bytes { self.old.position % 8 ≡ 0 }
-        requires whole { end % 8 ≡ 0 }
-        ensures takes { OnOk result (TookGap start end self.old self.new) }
-        ensures misses { IfErr result (λ fault. Why (gap_of start (end - self.old.position)) self.old fault self.new) }
+        requires some { 0 < most }
+        ensures takes { IfOk result (λ count. TookGap field most count self.old self.new) }
+        ensures misses { IfErr result (λ fault. Why (gap_of field 1) self.old fault self.new) }
         ensures memory { NeedsNoMemory result }
-        ensures bytes { OnOk result (self.new.position % 8 ≡ 0) }
+        ensures stays { OnErr result (self.new.position ≡ start) }
     {
-        let held = self.inflow.held();
-        let left = end - self.position;
-        if held > 0 {
-            let count = left.min(u64::from(held.min(32))) as u32;
-            self.inflow.take(count);
-            self.position += u64::from(count);
-            return Ok(());
-        }
-        match self.inflow.pass(left / 8) {
+        match self.inflow.skip(most) {
             Ok(count) => {
-                self.position += 8 * count;
-                Ok(())
+                self.position += count;
+                Ok(count)
             }
-            Err(missing) => Err(self.miss(missing, start)),
+            Err(missing) => {
+                let fault = self.fault_of(missing, field);
+                Err(self.stop(fault, start))
+            }
         }
+    }
+
+    /// Skips so many fields of n bits, n from 1 to 32, whatever they are.
+    ///
+    /// Fewer bits are `Truncated` at the first bit of the field that is not whole.
+    pub fn skip_fixed(&mut self, count: u64, n: u32) -> Result<(), Fault>
+        requires some { 0 < n }
+        requires few { n ≤ 32 }
+        requires fits { count < 2 ^ 32 }
+        ensures takes { Takes (repeat count (fixed n)) self.old (told_by (λ _. numbers n count self.old.left) result) self.new }
+        ensures memory { NeedsNoMemory result }
+        ensures stays { OnErr result (self.new.position ≡ self.old.position) }
+        ensures moves { OnOk result (self.new.position ≡ self.old.position + n * count) }
+    {
+        if !self.live {
+            return Err(Fault::Failed);
+        }
+        let start = self.position;
+        let bits = count * u64::from(n);
+        let mut left = bits;
+        while left > 0 {
+            let field = self.position - (bits - left) % u64::from(n);
+            let skipped = self.skip_some(start, field, left)?;
+            left -= skipped;
+        }
+        Ok(())
     }
 
     /// Ends the stream so many bytes behind the byte at which the reader stands.
@@ -269,18 +289,25 @@ impl<S: Source> BitReader<S> {
         ensures fault { result ≡ fault_of missing start self.old.extent.limit }
         ensures stopped { self.new ≡ stopped_at self.old start }
     {
-        let fault = match missing {
+        let fault = self.fault_of(missing, start);
+        self.stop(fault, start)
+    }
+
+    /// The fault of a field that begins at a bit, where bits of it are missing.
+    fn fault_of(&self, missing: Missing, field: u64) -> Fault
+        ensures { result ≡ fault_of missing field self.now.extent.limit }
+    {
+        match missing {
             Missing::End => Fault::Refused {
                 reason: Reason::Truncated,
-                bit: start,
+                bit: field,
             },
             Missing::Limit => Fault::Refused {
                 reason: Reason::TooLong,
                 bit: 8 * self.inflow.limit(),
             },
             Missing::Read => Fault::Read,
-        };
-        self.stop(fault, start)
+        }
     }
 
     /// Takes n bits, which are a part of a field that began at a bit.

@@ -1,17 +1,15 @@
-use Rattle.std.proofs.Common.{◌*◌, sym, ◌∙◌, arith, ap}
+use Rattle.std.proofs.Common.{◌*◌, ◌-◌, sym, ◌∙◌, arith}
 use Rattle.std.proofs.lemmas.Result.{err_from_is_err_and}
-use Rattle.bit_fields.specs.Reader.{Reader}
 use Rattle.bit_fields.proofs.Gap.{skipping_goes_on, gap_fails, gap_skipped}
 use Rattle.bit_fields.proofs.reader.BitReader.gap.Goals as goal
 
-pub loop-self-preserved : goal.loop-self-preserved
-loop-self-preserved g c = skipping_goes_on c.args.start (8 * c.from-end.result) c.args.self.now c.loop-self.self c.some_gap.new.self c.loop-self.invariant c.in_ok-some_gap.ensures.takes c.in_ok-some_gap.ensures.bytes
-
-pub returns-in_err-some_gap-clause-takes : goal.returns-in_err-some_gap-clause-takes
-returns-in_err-some_gap-clause-takes g c =
+pub returns-in_err-count-clause-takes : goal.returns-in_err-count-clause-takes
+returns-in_err-count-clause-takes g c =
     let p = err_from_is_err_and c.from_residual.result c.from_residual.ensures.1 in
-    rw (p.1, p.2) (gap_fails c.args.start c.args.offset (8 * c.from-end.result) c.args.self.now c.loop-self.self c.in_err-some_gap.field-0.0 c.some_gap.new.self c.loop-self.invariant c.in_err-some_gap.ensures.misses (c.requires.start ∙ sym c.requires.position) c.requires.position (omega (arith, c.from-end.ensures)) c.requires.least)
+    rw (p.1, p.2) (gap_fails c.args.start (8 * (c.args.offset - 20)) c.loop-left.left c.args.self.now c.loop-left.self c.in_err-count.field-0.0 c.skip_some.new.self c.loop-left.invariant c.loop-left-test.true c.in_err-count.ensures.misses (c.requires.start ∙ sym c.requires.position))
+
+pub loop-left-preserved : goal.loop-left-preserved
+loop-left-preserved g c = skipping_goes_on (8 * (c.args.offset - 20)) c.loop-left.left c.args.start c.in_ok-count.count c.args.self.now c.loop-left.self c.skip_some.new.self c.loop-left.invariant c.in_ok-count.ensures.takes
 
 pub returns-clause-takes : goal.returns-clause-takes
-returns-clause-takes g c =
-    gap_skipped c.args.start c.args.offset (8 * c.from-end.result) c.args.self.now c.loop-self.self c.loop-self.invariant (omega (arith, c.loop-self-test.false, ap (λ (r : Reader). r.position) c.self.view_is)) (c.requires.start ∙ sym c.requires.position) c.requires.position (omega (arith, c.from-end.ensures)) c.requires.least
+returns-clause-takes g c = gap_skipped c.args.start (8 * (c.args.offset - 20)) c.loop-left.left c.args.self.now c.loop-left.self c.loop-left.invariant (omega (arith, c.loop-left-test.false)) (c.requires.start ∙ sym c.requires.position)

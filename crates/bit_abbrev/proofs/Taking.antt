@@ -1,0 +1,180 @@
+-- Values that are read into what takes them.
+use Rattle.std.proofs.Common.{◌≡◌, ℕ, zero, suc, ◌+◌, ◌-◌, ◌^◌, ◌<◌, ◌≤◌, min, true, List, [], ◌∷◌, ◌++◌, length, Result, Ok, Err, Bool, refl, sym, ap, ◌∙◌, subst, arith, map, length-append}
+use Rattle.std.specs.Result.{OnOk}
+use Rattle.std.proofs.lemmas.List.{append-nil}
+use Rattle.bit_grammar.specs.Grammar as grammar
+use Rattle.bit_grammar.specs.Grammar.{Grammar, gives, ◌>>=◌, ◌and_then◌, repeat, reading}
+use Rattle.bit_grammar.specs.Fields.{fixed, vbr, char6, character}
+use Rattle.bit_grammar.specs.Record.{Entry, value_count, unabbreviated}
+use Rattle.bit_fields.specs.declared.fault.Fault.{Fault}
+use Rattle.bit_fields.specs.declared.fault.Fault.TheVariants.{Memory}
+use Rattle.bit_fields.specs.Inside.{numbers}
+use Rattle.bit_fields.specs.Reader.{Reader, Took, Why, Takes, IsOnly, told_by, stopped}
+use Rattle.bit_fields.proofs.Composing.{fault_then, took_then, took_nothing, same_reading, only}
+use Rattle.bit_abbrev.specs.Values.{Has, GainsMore, Adds, AddsAll, AddsWithin, Recorded}
+use Rattle.bit_abbrev.proofs.Adding.{and_gives, value_then, value_fails, no_room, adds_none, CompletesAll, all_begin, all_go_on, all_fail, all_refused, all_done}
+
+-- ---- loops
+
+-- so many values were taken behind those before
+pub record SoFar (rule : Grammar ℕ) (count : ℕ) (a : Reader) (done : ℕ) (b : Reader) (before now : List ℕ) : Type 0 where
+  pub all : CompletesAll rule count a before done b now
+  pub many : length now ≡ length before + done
+
+pub far_begins : {V : Type 0} (took : V → List ℕ → Type 0) (v : V) (rule : Grammar ℕ) (count : ℕ) (a : Reader) (before : List ℕ) → a.live ≡ true → took v before → Has took v (SoFar rule count a 0 a before)
+far_begins took v rule count a before live t = (before, t, record { all = all_begin rule count a before live; many = omega arith })
+
+pub far_goes_on : {V : Type 0} (took : V → List ℕ → Type 0) (v w : V) (rule : Grammar ℕ) (count : ℕ) (a : Reader) (before : List ℕ) (done : ℕ) (b : Reader) (value : ℕ) (c : Reader) → done < count → Has took v (SoFar rule count a done b before) → Took rule b value c → ((values : List ℕ) → took v values → took w (values ++ value ∷ []))
+    → Has took w (SoFar rule count a (done + 1) c before)
+far_goes_on took v w rule count a before done b value c less h t step = (
+  h.0 ++ value ∷ [],
+  step h.0 h.1,
+  record { all = all_go_on rule count a before done b h.0 value c less h.2.all t; many = omega (arith, length-append h.0 (value ∷ []), h.2.many) },
+)
+
+pub far_fails : {V : Type 0} (took : V → List ℕ → Type 0) (v : V) (rule : Grammar ℕ) (count : ℕ) (a : Reader) (before : List ℕ) (done : ℕ) (b : Reader) (fault : Fault) (c : Reader) → done < count → Has took v (SoFar rule count a done b before) → Why rule b fault c → Has took v (AddsAll rule count a (Err fault) c before)
+far_fails took v rule count a before done b fault c less h why = (h.0, h.1, (all_fail rule count a before done b h.0 fault c less h.2.all why, tt))
+
+pub far_refused : {V : Type 0} (took : V → List ℕ → Type 0) (v w : V) (rule : Grammar ℕ) (count : ℕ) (a : Reader) (before : List ℕ) (done : ℕ) (b : Reader) (value : ℕ) (c : Reader) → Has took v (SoFar rule count a done b before) → Took rule b value c → ((values : List ℕ) → took v values → took w values) → Has took w (AddsAll rule count a (Err Memory) (stopped c) before)
+far_refused took v w rule count a before done b value c h t same = (h.0, same h.0 h.1, (all_refused rule count a before done b h.0 value c h.2.all t, tt))
+
+pub far_ends : {V : Type 0} (took : V → List ℕ → Type 0) (v : V) (rule : Grammar ℕ) (count : ℕ) (a : Reader) (before : List ℕ) (done : ℕ) (b : Reader) → count ≤ done → done ≤ count → Has took v (SoFar rule count a done b before) → Has took v (AddsAll rule count a (Ok tt) b before)
+far_ends took v rule count a before done b most least h = (h.0, h.1, (all_done rule count a before done b h.0 most h.2.all, omega (arith, h.2.many)))
+
+-- ---- one value, and those behind it
+
+pub none_taken : {V : Type 0} (took : V → List ℕ → Type 0) (v : V) (rule : Grammar ℕ) (count : ℕ) (a : Reader) (before : List ℕ) → count ≡ 0 → a.live ≡ true → took v before → Has took v (AddsAll rule count a (Ok tt) a before)
+none_taken took v rule count a before none live t = (before, t, (subst (λ (n : ℕ). Adds (repeat n rule) a (Ok tt) before before a) (sym none) (adds_none a before live), omega (arith, none)))
+
+pub first_fails : {V : Type 0} (took : V → List ℕ → Type 0) (v : V) (rule : Grammar ℕ) (count : ℕ) (a : Reader) (before : List ℕ) (fault : Fault) (c : Reader) → 0 < count → Why rule a fault c → took v before → Has took v (AddsAll rule count a (Err fault) c before)
+first_fails took v rule count a before fault c some why t =
+    let all : suc (count - 1) ≡ count = omega arith in
+    (before, t, (subst (λ (n : ℕ). Adds (repeat n rule) a (Err fault) before before c) all (value_fails rule (repeat (count - 1) rule) a fault before c why), tt))
+
+pub first_refused : {V : Type 0} (took : V → List ℕ → Type 0) (v w : V) (rule : Grammar ℕ) (count : ℕ) (a : Reader) (before : List ℕ) (value : ℕ) (b : Reader) → Took rule a value b → ((values : List ℕ) → took v values → took w values) → took v before → Has took w (AddsAll rule count a (Err Memory) (stopped b) before)
+first_refused took v w rule count a before value b t same k = (before, same before k, (no_room rule (repeat count rule) a value b before t, tt))
+
+first_many : (result : Result (Unit {0}) Fault) (count : ℕ) (before after : List ℕ) (value : ℕ) → 0 < count → OnOk result (length after ≡ length (before ++ value ∷ []) + (count - 1)) → OnOk result (length after ≡ length before + count)
+first_many (Ok x) count before after value some h = omega (arith, length-append before (value ∷ []), h)
+first_many (Err fault) count before after value some h = tt
+
+pub first_then : {V : Type 0} (took : V → List ℕ → Type 0) (v w u : V) (rule : Grammar ℕ) (count : ℕ) (a : Reader) (before : List ℕ) (value : ℕ) (b : Reader) (result : Result (Unit {0}) Fault) (c : Reader) → 0 < count → Took rule a value b → ((values : List ℕ) → took v values → took w (values ++ value ∷ [])) → GainsMore took w u (AddsAll rule (count - 1) b result c) → took v before
+    → Has took u (AddsAll rule count a result c before)
+first_then took v w u rule count a before value b result c some t step more k =
+    let all : suc (count - 1) ≡ count = omega arith in
+    let h = more (before ++ value ∷ []) (step before k) (omega (arith, length-append before (value ∷ []))) in
+    (h.0, h.1, (subst (λ (n : ℕ). Adds (repeat n rule) a result before h.0 c) all (value_then rule (repeat (count - 1) rule) a value b result before h.0 c t h.2.0), first_many result count before h.0 value some h.2.1))
+
+-- ---- values that nobody looks at
+
+-- these values, read by a rule, are behind those before
+pub passed : {V : Type 0} (took : V → List ℕ → Type 0) (w : V) (rule : Grammar ℕ) (count : ℕ) (a : Reader) (before others : List ℕ) (result : Result (Unit {0}) Fault) (c : Reader) → length others ≡ count → took w (before ++ others) → Takes (repeat count rule) a (told_by (λ x. others) result) c → Has took w (AddsAll rule count a result c before)
+passed took w rule count a before others (Ok x) c many t takes = (before ++ others, t, ((others, refl, takes), omega (arith, length-append before others, many)))
+passed took w rule count a before others (Err fault) c many t takes = (before ++ others, t, ((others, refl, takes), tt))
+
+pub length-numbers : (n count : ℕ) (r : List Bool) → length (numbers n count r) ≡ count
+length-numbers n zero r = refl
+length-numbers n (suc count) r = ap suc (length-numbers n count _)
+
+-- zeros, which take no bits
+abbrev pub zeros_of : ℕ → List ℕ
+zeros_of zero = []
+zeros_of (suc count) = 0 ∷ zeros_of count
+
+pub length-zeros : (count : ℕ) → length (zeros_of count) ≡ count
+length-zeros zero = refl
+length-zeros (suc count) = ap suc (length-zeros count)
+
+pub zeros_took : (count : ℕ) (a : Reader) → a.live ≡ true → Took (repeat count (gives 0)) a (zeros_of count) a
+zeros_took count a live = same_reading (gives (zeros_of count)) (repeat count (gives 0)) a (Ok (zeros_of count)) a (λ p r. sym (read count p r)) (took_nothing (zeros_of count) a live)
+  where
+    read : (count p : ℕ) (r : List Bool) → reading (repeat count (gives 0)) p r ≡ Ok (zeros_of count, p, r)
+    read zero p r = refl
+    read (suc count) p r = ap (λ x. x and_then λ y. Ok (0 ∷ y.0, y.1, y.2)) (read count p r)
+
+-- characters, by their codes
+abbrev behind_one : ℕ → Result (List ℕ × ℕ × List Bool) grammar.Fault → Result (List ℕ × ℕ × List Bool) grammar.Fault
+behind_one x read = read and_then λ y. Ok (x ∷ y.0, y.1, y.2)
+
+abbrev as_characters : Result (List ℕ × ℕ × List Bool) grammar.Fault → Result (List ℕ × ℕ × List Bool) grammar.Fault
+as_characters read = read and_then λ y. Ok (map character y.0, y.1, y.2)
+
+abbrev codes_read : Result (ℕ × ℕ × List Bool) grammar.Fault → Result (ℕ × ℕ × List Bool) grammar.Fault
+codes_read read = read and_then λ y. Ok (character y.0, y.1, y.2)
+
+codes_of : (count p : ℕ) (r : List Bool) → reading (repeat count char6) p r ≡ as_characters (reading (repeat count (fixed 6)) p r)
+unfolding char6
+codes_of zero p r = refl
+codes_of (suc count) p r = first (reading (fixed 6) p r) (λ q t. codes_of count q t)
+  where
+    second : (x : ℕ) (read : Result (List ℕ × ℕ × List Bool) grammar.Fault) → behind_one (character x) (as_characters read) ≡ as_characters (behind_one x read)
+    second x (Ok y) = refl
+    second x (Err fault) = refl
+
+    first : (x : Result (ℕ × ℕ × List Bool) grammar.Fault) → ((q : ℕ) (t : List Bool) → reading (repeat count char6) q t ≡ as_characters (reading (repeat count (fixed 6)) q t))
+        → (codes_read x and_then λ y. behind_one y.0 (reading (repeat count char6) y.1 y.2)) ≡ as_characters (x and_then λ y. behind_one y.0 (reading (repeat count (fixed 6)) y.1 y.2))
+    first (Ok y) same = ap (behind_one (character y.0)) (same y.1 y.2) ∙ second y.0 (reading (repeat count (fixed 6)) y.1 y.2)
+    first (Err fault) same = refl
+
+pub characters_took : (count : ℕ) (a : Reader) (codes : List ℕ) (result : Result (Unit {0}) Fault) (c : Reader) → Takes (repeat count (fixed 6)) a (told_by (λ x. codes) result) c → Takes (repeat count char6) a (told_by (λ x. map character codes) result) c
+characters_took count a codes (Ok x) c t = same_reading (repeat count (fixed 6) >>= λ vs. gives (map character vs)) (repeat count char6) a (Ok (map character codes)) c (λ p r. sym (codes_of count p r)) (and_gives (repeat count (fixed 6)) (map character) a (Ok codes) c t)
+characters_took count a codes (Err fault) c t = same_reading (repeat count (fixed 6) >>= λ vs. gives (map character vs)) (repeat count char6) a (Err fault) c (λ p r. sym (codes_of count p r)) (and_gives (repeat count (fixed 6)) (map character) a (Err fault) c t)
+
+-- ---- records
+
+pub recorded : {V : Type 0} (took : V → List ℕ → Type 0) (v : V) (rule : Grammar Entry) (room : ℕ) (a : Reader) (code : ℕ) (c : Reader) (before : List ℕ) → Has took v (AddsWithin rule room a (Ok code) c before) → Has took v (Recorded (λ r. Takes rule a r c) (Ok code) before)
+recorded took v rule room a code c before h = (h.0, h.1, h.2.0)
+
+pub recorded_only : {V : Type 0} (took : V → List ℕ → Type 0) (v : V) (rule : Grammar Entry) (room : ℕ) (a : Reader) (code : ℕ) (c : Reader) (before : List ℕ) → Has took v (AddsWithin rule room a (Ok code) c before) → Has took v (Recorded (λ r. IsOnly rule a r c) (Ok code) before)
+recorded_only took v rule room a code c before h = (h.0, h.1, (h.2.0.0, h.2.0.1, only rule a (Ok (record { code = code; values = h.2.0.0 })) c h.2.0.2))
+
+pub recorded_few : {V : Type 0} (took : V → List ℕ → Type 0) (v : V) (rule : Grammar Entry) (room : ℕ) (a : Reader) (code : ℕ) (c : Reader) (before : List ℕ) → Has took v (AddsWithin rule room a (Ok code) c before) → Has took v (λ after. length after ≤ length before + room)
+recorded_few took v rule room a code c before h = (h.0, h.1, h.2.1)
+
+-- what is cut back to so many values as there were
+cut_back : {V : Type 0} (took : V → List ℕ → Type 0) (old read cut : V) (count : ℕ) (before after others : List ℕ) → ((values : List ℕ) → took old values → count ≡ min (length values) (2 ^ 64 - 1)) → ((values others : List ℕ) → took read (values ++ others) → count ≡ min (length values) (2 ^ 64 - 1) → took cut values) → took old before → took read after → after ≡ before ++ others → took cut before
+cut_back took old read cut count before after others counts cuts t u is = cuts before others (subst (took read) is u) (counts before t)
+
+pub not_recorded : {V : Type 0} (took : V → List ℕ → Type 0) (old read cut : V) (count : ℕ) (rule : Grammar Entry) (room : ℕ) (a : Reader) (fault : Fault) (c : Reader) (before : List ℕ) → ((values : List ℕ) → took old values → count ≡ min (length values) (2 ^ 64 - 1)) → ((values others : List ℕ) → took read (values ++ others) → count ≡ min (length values) (2 ^ 64 - 1) → took cut values)
+    → took old before → Has took read (AddsWithin rule room a (Err fault) c before) → Has took cut (Recorded (λ r. Takes rule a r c) (Err fault) before)
+not_recorded took old read cut count rule room a fault c before counts cuts t h = (before, cut_back took old read cut count before h.0 h.2.0.0 counts cuts t h.1 h.2.0.1, (refl, h.2.0.2))
+
+pub not_recorded_only : {V : Type 0} (took : V → List ℕ → Type 0) (old read cut : V) (count : ℕ) (rule : Grammar Entry) (room : ℕ) (a : Reader) (fault : Fault) (c : Reader) (before : List ℕ) → ((values : List ℕ) → took old values → count ≡ min (length values) (2 ^ 64 - 1)) → ((values others : List ℕ) → took read (values ++ others) → count ≡ min (length values) (2 ^ 64 - 1) → took cut values)
+    → took old before → Has took read (AddsWithin rule room a (Err fault) c before) → Has took cut (Recorded (λ r. IsOnly rule a r c) (Err fault) before)
+not_recorded_only took old read cut count rule room a fault c before counts cuts t h = (before, cut_back took old read cut count before h.0 h.2.0.0 counts cuts t h.1 h.2.0.1, (refl, only rule a (Err fault) c h.2.0.2))
+
+pub not_recorded_few : {V : Type 0} (took : V → List ℕ → Type 0) (old read cut : V) (count : ℕ) (rule : Grammar Entry) (room : ℕ) (a : Reader) (fault : Fault) (c : Reader) (before : List ℕ) → ((values : List ℕ) → took old values → count ≡ min (length values) (2 ^ 64 - 1)) → ((values others : List ℕ) → took read (values ++ others) → count ≡ min (length values) (2 ^ 64 - 1) → took cut values)
+    → took old before → Has took read (AddsWithin rule room a (Err fault) c before) → Has took cut (λ after. Unit {0})
+not_recorded_few took old read cut count rule room a fault c before counts cuts t h = (before, cut_back took old read cut count before h.0 h.2.0.0 counts cuts t h.1 h.2.0.1, tt)
+
+-- ---- records that are not abbreviated
+
+abbrev entry_of : ℕ → Grammar (List ℕ) → Grammar Entry
+entry_of code rule = rule >>= λ values. gives (record { code = code; values = values })
+
+abbrev counted : (room code : ℕ) → Grammar Entry
+counted room code = value_count room >>= λ count. entry_of code (repeat count (vbr 6))
+
+pub plain_coded : {V : Type 0} (took : V → List ℕ → Type 0) (v : V) (room : ℕ) (a : Reader) (fault : Fault) (c : Reader) (before : List ℕ) → Why (vbr 6) a fault c → took v before → Has took v (AddsWithin (unabbreviated room) room a (Err fault) c before)
+unfolding unabbreviated
+plain_coded took v room a fault c before why t = (before, t, (([], sym (append-nil before), fault_then (vbr 6) (counted room) a fault c why), tt))
+
+pub plain_counted : {V : Type 0} (took : V → List ℕ → Type 0) (v : V) (room : ℕ) (a : Reader) (code : ℕ) (b : Reader) (fault : Fault) (c : Reader) (before : List ℕ) → Took (vbr 6) a code b → Why (value_count room) b fault c → took v before → Has took v (AddsWithin (unabbreviated room) room a (Err fault) c before)
+unfolding unabbreviated
+plain_counted took v room a code b fault c before t why k = (before, k, (([], sym (append-nil before), took_then (vbr 6) (counted room) a code b (Err fault) c t (fault_then (value_count room) (λ count. entry_of code (repeat count (vbr 6))) b fault c why)), tt))
+
+pub plain_fails : {V : Type 0} (took : V → List ℕ → Type 0) (w : V) (room : ℕ) (a : Reader) (code : ℕ) (b : Reader) (count : ℕ) (d : Reader) (fault : Fault) (c : Reader) (before : List ℕ) → Took (vbr 6) a code b → Took (value_count room) b count d → Has took w (AddsAll (vbr 6) count d (Err fault) c before) → Has took w (AddsWithin (unabbreviated room) room a (Err fault) c before)
+unfolding unabbreviated
+plain_fails took w room a code b count d fault c before t u h = (
+  h.0,
+  h.1,
+  ((h.2.0.0, h.2.0.1, took_then (vbr 6) (counted room) a code b (Err fault) c t (took_then (value_count room) (λ count. entry_of code (repeat count (vbr 6))) b count d (Err fault) c u (fault_then (repeat count (vbr 6)) (λ values. gives (record { code = code; values = values })) d fault c h.2.0.2))), tt),
+)
+
+pub plain_read : {V : Type 0} (took : V → List ℕ → Type 0) (w : V) (room : ℕ) (a : Reader) (code : ℕ) (b : Reader) (count : ℕ) (d c : Reader) (before : List ℕ) → count ≤ room → Took (vbr 6) a code b → Took (value_count room) b count d → Has took w (AddsAll (vbr 6) count d (Ok tt) c before) → Has took w (AddsWithin (unabbreviated room) room a (Ok code) c before)
+unfolding unabbreviated
+plain_read took w room a code b count d c before few t u h = (
+  h.0,
+  h.1,
+  ((h.2.0.0, h.2.0.1, took_then (vbr 6) (counted room) a code b (Ok (record { code = code; values = h.2.0.0 })) c t (took_then (value_count room) (λ count. entry_of code (repeat count (vbr 6))) b count d (Ok (record { code = code; values = h.2.0.0 })) c u (and_gives (repeat count (vbr 6)) (λ values. record { code = code; values = values }) d (Ok h.2.0.0) c h.2.0.2))), omega (arith, h.2.1)),
+)

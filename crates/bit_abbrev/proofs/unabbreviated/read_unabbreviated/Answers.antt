@@ -1,0 +1,33 @@
+use Rattle.bit_grammar.specs.Record.{unabbreviated}
+use Rattle.bit_abbrev.proofs.Taking.{recorded, recorded_only, recorded_few, not_recorded, not_recorded_only, not_recorded_few}
+use Rattle.bit_abbrev.proofs.unabbreviated.read_unabbreviated.Goals as goal
+
+pub returns-in-Ok-clause-takes : goal.returns-in-Ok-clause-takes
+returns-in-Ok-clause-takes g c =
+    let added = c.in-Ok.ensures in λ before t.
+    recorded g.V.ValueTaker.took c.read_plain.new.values (unabbreviated c.args.room) c.args.room c.args.reader.now c.in-Ok.code c.read_plain.new.reader before (added before t)
+
+pub returns-in-Ok-clause-only : goal.returns-in-Ok-clause-only
+returns-in-Ok-clause-only g c =
+    let added = c.in-Ok.ensures in λ before t.
+    recorded_only g.V.ValueTaker.took c.read_plain.new.values (unabbreviated c.args.room) c.args.room c.args.reader.now c.in-Ok.code c.read_plain.new.reader before (added before t)
+
+pub returns-in-Ok-clause-few : goal.returns-in-Ok-clause-few
+returns-in-Ok-clause-few g c =
+    let added = c.in-Ok.ensures in λ before t.
+    recorded_few g.V.ValueTaker.took c.read_plain.new.values (unabbreviated c.args.room) c.args.room c.args.reader.now c.in-Ok.code c.read_plain.new.reader before (added before t)
+
+pub returns-in-Err-clause-takes : goal.returns-in-Err-clause-takes
+returns-in-Err-clause-takes g c =
+    let added = c.in-Err.ensures in λ before t.
+    not_recorded g.V.ValueTaker.took c.args.values.now c.read_plain.new.values c.truncate.new.self c.count-before.result (unabbreviated c.args.room) c.args.room c.args.reader.now c.in-Err.fault c.read_plain.new.reader before c.count-before.ensures c.truncate.ensures t (added before t)
+
+pub returns-in-Err-clause-only : goal.returns-in-Err-clause-only
+returns-in-Err-clause-only g c =
+    let added = c.in-Err.ensures in λ before t.
+    not_recorded_only g.V.ValueTaker.took c.args.values.now c.read_plain.new.values c.truncate.new.self c.count-before.result (unabbreviated c.args.room) c.args.room c.args.reader.now c.in-Err.fault c.read_plain.new.reader before c.count-before.ensures c.truncate.ensures t (added before t)
+
+pub returns-in-Err-clause-few : goal.returns-in-Err-clause-few
+returns-in-Err-clause-few g c =
+    let added = c.in-Err.ensures in λ before t.
+    not_recorded_few g.V.ValueTaker.took c.args.values.now c.read_plain.new.values c.truncate.new.self c.count-before.result (unabbreviated c.args.room) c.args.room c.args.reader.now c.in-Err.fault c.read_plain.new.reader before c.count-before.ensures c.truncate.ensures t (added before t)

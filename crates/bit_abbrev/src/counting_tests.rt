@@ -1,0 +1,157 @@
+use crate::read_unabbreviated;
+use crate::reading_tests::{in_block, open_block, record_of};
+use bit_fields::{BitReader, Fault, Limits, ReadSource, SliceSource, ValueCount, ValueTaker};
+use std::alloc::Global;
+use std::io;
+use std::io::Read;
+use std::process::Abort;
+use std::test::Fail;
+
+/// An array of 40 fields of seven bits.
+const FIELDS: [u8; 41] = [
+    0x1A, 3, 0x4C, 0x0E, 0xD1, 0x60, 1, 0xAB, 0xEA, 0x3F, 0xC4, 0xB4, 0x63, 0x86, 0xED, 0x8B, 0x8E,
+    0xEC, 0x88, 0x6D, 0x0B, 0x28, 0x29, 0xDF, 0x94, 0x9C, 0x77, 0x80, 0x6A, 0xCA, 0x2F, 0xBC, 0xB0,
+    0x61, 5, 0xAD, 0x6B, 0x7E, 0xE4, 0x84, 0x0B,
+];
+
+/// An array of 45 characters.
+const CHARACTERS: [u8; 39] = [
+    0x1A, 3, 0x0C, 0xD9, 6, 5, 0x37, 0x2B, 0x21, 0xFE, 0x98, 0x3D, 0xB5, 0x0A, 0x19, 0x7C, 0x78,
+    0x35, 0x33, 0xEA, 0x11, 0xFA, 0x5B, 0x2D, 0xB1, 0xC9, 9, 0x78, 0x3B, 0x25, 0x3F, 0xA9, 1, 0xF6,
+    0x1A, 0x1D, 0xBD, 0x88, 0x39,
+];
+
+/// A blob of 70 bytes.
+const BLOB: [u8; 80] = [
+    0x12, 3, 0x94, 0xA6, 0, 0, 0, 0, 3, 0x5E, 0xB9, 0x14, 0x6F, 0xCA, 0x25, 0x80, 0xDB, 0x36, 0x91,
+    0xEC, 0x47, 0xA2, 0xFD, 0x58, 0xB3, 0x0E, 0x69, 0xC4, 0x1F, 0x7A, 0xD5, 0x30, 0x8B, 0xE6, 0x41,
+    0x9C, 0xF7, 0x52, 0xAD, 8, 0x63, 0xBE, 0x19, 0x74, 0xCF, 0x2A, 0x85, 0xE0, 0x3B, 0x96, 0xF1,
+    0x4C, 0xA7, 2, 0x5D, 0xB8, 0x13, 0x6E, 0xC9, 0x24, 0x7F, 0xDA, 0x35, 0x90, 0xEB, 0x46, 0xA1,
+    0xFC, 0x57, 0xB2, 0x0D, 0x68, 0xC3, 0x1E, 0x79, 0xD4, 0x2F, 0x8A, 0, 0,
+];
+
+/// A record 5 that is not abbreviated, with the values 1, 40 and 2.
+const PLAIN: [u8; 5] = [0x2B, 0x86, 0, 0x0D, 4];
+
+/// A reader that gives at most so many bytes at a time.
+#[derive(Drop)]
+struct Few<'a> {
+    rest: &'a [u8],
+    most: usize,
+}
+
+impl<'a> Read for Few<'a> {
+    fn read(&mut self, buf: &mut [u8]) -> io::Result<usize> {
+        let most = buf.len().min(self.most);
+        self.rest.read(&mut buf[..most])
+    }
+}
+
+/// Reads a record into a list from a source that gives so many bytes at a time: the answer, how many values it has, and the
+/// first one.
+fn kept(
+    rt: &impl Abort,
+    alloc: Global,
+    rest: &[u8],
+    most: usize,
+) -> (Result<(u64, u64), Fault>, u64, Option<u64>) {
+    let mut values: Vec<u64> = Vec::new(alloc);
+    let answer = record_of(
+        rt,
+        alloc,
+        ReadSource::new(Few { rest, most }),
+        99,
+        &mut values,
+    );
+    (answer, values.count(), values.first_value())
+}
+
+/// The same, where the values are counted.
+fn counted(
+    rt: &impl Abort,
+    alloc: Global,
+    rest: &[u8],
+    most: usize,
+) -> (Result<(u64, u64), Fault>, u64, Option<u64>) {
+    let mut values = ValueCount::new();
+    let answer = record_of(
+        rt,
+        alloc,
+        ReadSource::new(Few { rest, most }),
+        99,
+        &mut values,
+    );
+    (answer, values.count(), values.first_value())
+}
+
+/// Compares both for a record that is cut at a byte.
+fn same_where_cut(rt: &impl Abort, alloc: Global, bytes: &[u8]) -> Result<(), Fail> {
+    for most in [1, 3, 64] {
+        let long = kept(rt, alloc, bytes, most);
+        if long.0 == Err(Fault::Memory) {
+            return Err("no memory".into());
+        }
+        assert_eq!(rt;
+            counted(rt, alloc, bytes, most),
+            long,
+            "{most} of {bytes:?}"
+        );
+    }
+    Ok(())
+}
+
+#[test]
+fn cut_records_are_counted_as_they_are_kept(rt: HostRuntime) -> Result<(), Fail> {
+    let rows: [(&[u8], (u64, u64), u64, u64); 3] = [
+        (&FIELDS, (1, 421), 40, 11),
+        (&CHARACTERS, (1, 406), 45, 102),
+        (&BLOB, (1, 736), 70, 3),
+    ];
+    for (body, record, count, first) in rows {
+        let bytes = in_block(rt.alloc(), body)?;
+        let whole = counted(&rt, rt.alloc(), &bytes, 64);
+        assert_eq!(rt; whole, (Ok(record), count, Some(first)), "{body:?}");
+        for end in 0..bytes.len() {
+            same_where_cut(&rt, rt.alloc(), &bytes[..end])?;
+        }
+    }
+    Ok(())
+}
+
+/// Reads a record that is not abbreviated: its code, and the bit behind it.
+fn plain_record<V: ValueTaker>(
+    bytes: &[u8],
+    room: u64,
+    values: &mut V,
+) -> Result<(u64, u64), Fault> {
+    let mut reader = match BitReader::start(SliceSource::new(bytes), Limits::usual()) {
+        Ok((reader, _)) => reader,
+        Err((fault, _)) => return Err(fault),
+    };
+    open_block(&mut reader)?;
+    let code = read_unabbreviated(&mut reader, room, values)?;
+    Ok((code, reader.position()))
+}
+
+#[test]
+fn plain_records_are_counted_as_they_are_kept(rt: HostRuntime) -> Result<(), Fail> {
+    let bytes = in_block(rt.alloc(), &PLAIN)?;
+    for room in 0..5 {
+        let mut values: Vec<u64> = Vec::new(rt.alloc());
+        let mut count = ValueCount::new();
+        let long = plain_record(&bytes, room, &mut values);
+        if long == Err(Fault::Memory) {
+            return Err("no memory".into());
+        }
+        assert_eq!(rt; plain_record(&bytes, room, &mut count), long);
+        assert_eq!(rt;
+            (count.count(), count.first_value()),
+            (values.count(), values.first_value())
+        );
+        if room >= 3 {
+            assert_eq!(rt; long, Ok((5, 135)));
+            assert_eq!(rt; values.as_slice(), [1, 40, 2].as_slice());
+        }
+    }
+    Ok(())
+}

@@ -1,0 +1,227 @@
+//! Reading many values by one rule.
+
+ghost use Rattle.std.specs.Prelude.{◌≡◌, ◌+◌, ◌<◌, ◌≤◌, ◌^◌, ℕ, List, [], ◌∷◌, ◌++◌, IfOk, IfErr, OnOk, length, true};
+ghost use Rattle.bit_grammar.specs.Grammar.{gives};
+ghost use Rattle.bit_grammar.specs.Fields.{fixed, vbr, char6};
+ghost use Rattle.bit_grammar.specs.Record.{scalar, value_count, values_of};
+ghost use Rattle.bit_grammar.specs.FormatDefinition.{IsElement, HasLawfulValue};
+ghost use Rattle.bit_grammar.specs.declared.op.Op.{Op};
+ghost use Rattle.bit_grammar.specs.declared.op.Op.TheVariants.{Array, Blob};
+ghost use Rattle.bit_fields.specs.Reader.{Takes, stopped};
+ghost use Rattle.bit_abbrev.specs.Values.{Adds, AddsAll, Gains, GainsMore};
+
+use bit_fields::{BitReader, Fault, Source, ValueTaker};
+use bit_grammar::{Op, Reason};
+
+/// How many values may be passed at once.
+const MOST_PASSED: u64 = u32::MAX as u64;
+
+/// Reads a number of values, of which there is room for so many.
+#[tactic(auto, unfolding(bit_grammar::specs::Record::value_count))]
+pub(crate) fn read_count<S: Source>(reader: &mut BitReader<S>, room: u64) -> Result<u64, Fault>
+    ensures takes { Takes (value_count room) reader.old result reader.new }
+    ensures few { IfOk result (λ count. count ≤ room) }
+{
+    let place = reader.position();
+    let count = reader.vbr(6)?;
+    reader.judge(count <= room, Reason::TooManyValues, place)?;
+    Ok(count)
+}
+
+/// Hands a value on; where memory is refused the reader fails.
+#[inline]
+pub(crate) fn take<S: Source, V: ValueTaker>(
+    reader: &mut BitReader<S>,
+    values: &mut V,
+    value: u64,
+) -> Result<(), Fault>
+    ensures ok { OnOk result ((reader.new ≡ reader.old) × ((before : List ℕ) → V.took values.old before → V.took values.new (before ++ value ∷ []))) }
+    ensures err { IfErr result (λ fault. (fault ≡ Fault.Memory) × (reader.new ≡ stopped reader.old) × ((before : List ℕ) → V.took values.old before → V.took values.new before)) }
+{
+    match values.take(value) {
+        Ok(()) => Ok(()),
+        Err(_) => Err(reader.fail(Fault::Memory)),
+    }
+}
+
+/// Reads so many numbers in chunks of n bits.
+pub(crate) fn read_vbrs<S: Source, V: ValueTaker>(
+    reader: &mut BitReader<S>,
+    count: u64,
+    n: u32,
+    values: &mut V,
+) -> Result<(), Fault>
+    requires some { 2 ≤ n }
+    requires few { n ≤ 32 }
+    requires live { reader.old.live ≡ true }
+    ensures { Gains V.took values.old values.new (AddsAll (vbr n) count reader.old result reader.new) }
+{
+    for _ in 0..count {
+        let value = reader.vbr(n)?;
+        take(reader, values, value)?;
+    }
+    Ok(())
+}
+
+/// Reads so many fields of n bits.
+fn read_fixed<S: Source, V: ValueTaker>(
+    reader: &mut BitReader<S>,
+    count: u64,
+    n: u32,
+    values: &mut V,
+) -> Result<(), Fault>
+    requires some { 0 < n }
+    requires few { n ≤ 32 }
+    requires live { reader.old.live ≡ true }
+    ensures { Gains V.took values.old values.new (AddsAll (fixed n) count reader.old result reader.new) }
+{
+    if count == 0 {
+        return Ok(());
+    }
+    let value = reader.fixed(n)?;
+    take(reader, values, value)?;
+    more_fixed(reader, count - 1, n, values)
+}
+
+/// Reads so many fields of n bits behind other values, or skips them where nobody looks at them.
+fn more_fixed<S: Source, V: ValueTaker>(
+    reader: &mut BitReader<S>,
+    count: u64,
+    n: u32,
+    values: &mut V,
+) -> Result<(), Fault>
+    requires some { 0 < n }
+    requires few { n ≤ 32 }
+    requires live { reader.old.live ≡ true }
+    ensures { GainsMore V.took values.old values.new (AddsAll (fixed n) count reader.old result reader.new) }
+{
+    if count <= MOST_PASSED && values.pass(count) {
+        return reader.skip_fixed(count, n);
+    }
+    for _ in 0..count {
+        let value = reader.fixed(n)?;
+        take(reader, values, value)?;
+    }
+    Ok(())
+}
+
+/// Reads so many characters.
+fn read_characters<S: Source, V: ValueTaker>(
+    reader: &mut BitReader<S>,
+    count: u64,
+    values: &mut V,
+) -> Result<(), Fault>
+    requires { reader.old.live ≡ true }
+    ensures { Gains V.took values.old values.new (AddsAll char6 count reader.old result reader.new) }
+{
+    if count == 0 {
+        return Ok(());
+    }
+    let value = reader.char6()?;
+    take(reader, values, value)?;
+    more_characters(reader, count - 1, values)
+}
+
+/// Reads so many characters behind other values, or skips them where nobody looks at them.
+fn more_characters<S: Source, V: ValueTaker>(
+    reader: &mut BitReader<S>,
+    count: u64,
+    values: &mut V,
+) -> Result<(), Fault>
+    requires { reader.old.live ≡ true }
+    ensures { GainsMore V.took values.old values.new (AddsAll char6 count reader.old result reader.new) }
+{
+    if count <= MOST_PASSED && values.pass(count) {
+        return reader.skip_fixed(count, 6);
+    }
+    for _ in 0..count {
+        let value = reader.char6()?;
+        take(reader, values, value)?;
+    }
+    Ok(())
+}
+
+/// Adds so many zeros, which take no bits.
+fn add_zeros<S: Source, V: ValueTaker>(
+    reader: &mut BitReader<S>,
+    count: u64,
+    values: &mut V,
+) -> Result<(), Fault>
+    requires { reader.old.live ≡ true }
+    ensures { Gains V.took values.old values.new (AddsAll (gives 0) count reader.old result reader.new) }
+{
+    if count == 0 {
+        return Ok(());
+    }
+    take(reader, values, 0)?;
+    more_zeros(reader, count - 1, values)
+}
+
+/// Adds so many zeros behind other values, or counts them where nobody looks at them.
+fn more_zeros<S: Source, V: ValueTaker>(
+    reader: &mut BitReader<S>,
+    count: u64,
+    values: &mut V,
+) -> Result<(), Fault>
+    requires { reader.old.live ≡ true }
+    ensures { GainsMore V.took values.old values.new (AddsAll (gives 0) count reader.old result reader.new) }
+{
+    if values.pass(count) {
+        return Ok(());
+    }
+    for _ in 0..count {
+        take(reader, values, 0)?;
+    }
+    Ok(())
+}
+
+/// Reads so many fields of an operand, which is the element of an array.
+fn read_elements<S: Source, V: ValueTaker>(
+    reader: &mut BitReader<S>,
+    count: u64,
+    element: Op,
+    values: &mut V,
+) -> Result<(), Fault>
+    requires element { IsElement element }
+    requires lawful { HasLawfulValue element }
+    requires live { reader.old.live ≡ true }
+    ensures { Gains V.took values.old values.new (AddsAll (scalar element) count reader.old result reader.new) }
+{
+    match element {
+        Op::Fixed(0) => add_zeros(reader, count, values),
+        Op::Vbr(0) => add_zeros(reader, count, values),
+        Op::Fixed(width) => read_fixed(reader, count, u32::from(width), values),
+        Op::Vbr(width) => read_vbrs(reader, count, u32::from(width), values),
+        Op::Char6 => read_characters(reader, count, values),
+        Op::Literal(_) | Op::Array | Op::Blob => unreachable!(),
+    }
+}
+
+/// Reads an array of fields of an operand, with room for so many values.
+pub(crate) fn read_array<S: Source, V: ValueTaker>(
+    reader: &mut BitReader<S>,
+    room: u64,
+    element: Op,
+    values: &mut V,
+) -> Result<(), Fault>
+    requires element { IsElement element }
+    requires lawful { HasLawfulValue element }
+    ensures { (others : List Op) → Gains V.took values.old values.new (λ before after. Adds (values_of room (Array ∷ element ∷ others)) reader.old result before after reader.new × OnOk result (length after ≤ length before + room)) }
+{
+    let count = read_count(reader, room)?;
+    read_elements(reader, count, element, values)
+}
+
+/// Reads a blob, with room for so many values.
+pub(crate) fn read_blob<S: Source, V: ValueTaker>(
+    reader: &mut BitReader<S>,
+    room: u64,
+    values: &mut V,
+) -> Result<(), Fault>
+    ensures { (others : List Op) → Gains V.took values.old values.new (λ before after. Adds (values_of room (Blob ∷ others)) reader.old result before after reader.new × OnOk result (length after ≤ length before + room)) }
+{
+    let count = read_count(reader, room)?;
+    reader.pad()?;
+    read_fixed(reader, count, 8, values)?;
+    reader.pad()
+}
