@@ -6,7 +6,8 @@ use Rattle.bit_grammar.specs.Blocks.{Limits}
 use Rattle.bit_fields.specs.declared.fault.Fault.{Fault}
 use Rattle.bit_fields.specs.declared.fault.Fault.TheVariants.{Refused, Read, Write, Memory, OutputTooLong, Failed}
 use Rattle.bit_fields.specs.Devices.{Incoming, Outgoing}
-use Rattle.bit_tree.specs.Reading.{ReadsWhole, HasFit}
+use Rattle.bit_events.specs.Reading.{ReadsWhole}
+use Rattle.bit_tree.specs.Reading.{HasFit}
 use Rattle.bit_norm.specs.Writing.{WritesForm}
 use Rattle.bit_norm.specs.declared.comparing.Which.{Which}
 use Rattle.bit_norm.specs.declared.comparing.Which.TheVariants.{First, Second}

@@ -7,9 +7,9 @@ use Rattle.bit_grammar.specs.Counting.{no_counts, count_events}
 use Rattle.bit_grammar.specs.Tally.{BlockTally, Tally, tally_of, stream_begin, stream_bits, bits_of_rows}
 use Rattle.bit_grammar.proofs.Tallies.{bits_add_up, rows_by_events}
 use Rattle.bit_fields.specs.Devices.{Incoming, known_bytes}
-use Rattle.bit_tree.specs.Coming.{Coming}
-use Rattle.bit_tree.specs.Events.{Begun}
-use Rattle.bit_tree.specs.Reading.{ReadsWhole}
+use Rattle.bit_events.specs.Coming.{Coming}
+use Rattle.bit_events.specs.Events.{Begun}
+use Rattle.bit_events.specs.Reading.{ReadsWhole}
 use Rattle.bit_tree.proofs.WholeInputs.{spent, Accepted, accepted_input}
 use Rattle.bit_scan.specs.Cut.{cut_rows}
 use Rattle.bit_scan.specs.Analysing.{CountedAll, HasTally}

@@ -3,7 +3,7 @@ use Rattle.std.proofs.Common.{◌≡◌, ℕ, List, [], ◌∷◌, ◌++◌, ref
 use Rattle.bit_grammar.specs.Machine.{Event, Ending, Told}
 use Rattle.bit_grammar.specs.Counting.{Counts, no_counts, count_event, count_events}
 use Rattle.bit_fields.specs.declared.fault.Fault.{Fault}
-use Rattle.bit_tree.specs.Coming.{going, Coming, Gives, before}
+use Rattle.bit_events.specs.Coming.{going, Coming, Gives, before}
 use Rattle.bit_tree.specs.Building.{told_with, as_they_are, Added, Going, Finished, Misses, Built}
 use Rattle.bit_tree.proofs.Collecting.{first_of, one_more, all_added, all_missed}
 use Rattle.bit_scan.specs.Cut.{cut, cut_rows}

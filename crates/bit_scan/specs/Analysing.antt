@@ -6,7 +6,7 @@ use Rattle.bit_grammar.specs.Blocks.{Limits}
 use Rattle.bit_grammar.specs.Input.{Marked, SpellsInput}
 use Rattle.bit_grammar.specs.Tally.{BlockTally, Tally, tally_of, bits_of_rows}
 use Rattle.bit_fields.specs.declared.fault.Fault.{Fault}
-use Rattle.bit_tree.specs.Coming.{Coming, Gives}
+use Rattle.bit_events.specs.Coming.{Coming, Gives}
 use Rattle.bit_tree.specs.Building.{as_they_are, Going, Finished, Misses, Built}
 use Rattle.bit_scan.specs.Cut.{cut, cut_rows}
 

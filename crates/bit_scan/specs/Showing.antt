@@ -7,7 +7,8 @@ use Rattle.bit_grammar.specs.Texts.{listing_of}
 use Rattle.bit_fields.specs.declared.fault.Fault.{Fault}
 use Rattle.bit_fields.specs.declared.fault.Fault.TheVariants.{Refused, Read, Write, Memory, OutputTooLong, Failed}
 use Rattle.bit_fields.specs.Devices.{Incoming, Outgoing}
-use Rattle.bit_tree.specs.Reading.{ReadsWhole, HasFit}
+use Rattle.bit_events.specs.Reading.{ReadsWhole}
+use Rattle.bit_tree.specs.Reading.{HasFit}
 use Rattle.bit_scan.specs.Written.{WritesText}
 
 -- an input was read as its whole tree, or not

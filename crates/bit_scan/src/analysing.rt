@@ -5,8 +5,8 @@ ghost use Rattle.bit_grammar.specs.Tally.{stream_begin};
 ghost use Rattle.bit_fields.specs.Opening.{head_told};
 ghost use Rattle.bit_fields.specs.Reader.{told_by};
 ghost use Rattle.bit_fields.specs.declared.fault.Fault.{Fault};
-ghost use Rattle.bit_tree.specs.Coming.{going};
-ghost use Rattle.bit_tree.specs.Reading.{ReadsWhole};
+ghost use Rattle.bit_events.specs.Coming.{going};
+ghost use Rattle.bit_events.specs.Reading.{ReadsWhole};
 ghost use Rattle.bit_scan.specs.Rows.{block_tallies};
 ghost use Rattle.bit_scan.specs.Analysing.{CountsNext, CountsAll, HasTally};
 

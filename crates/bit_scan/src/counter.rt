@@ -1,7 +1,7 @@
 ghost use Rattle.std.specs.Prelude.{◌≡◌, List, map, OnOk};
 ghost use Rattle.bit_grammar.specs.Machine.{Opened, enters, leaves};
 ghost use Rattle.bit_grammar.specs.Counting.{OpenCount, Counts, no_counts, count_event};
-ghost use Rattle.bit_tree.specs.EventView.{shown};
+ghost use Rattle.bit_events.specs.EventView.{shown};
 ghost use Rattle.bit_scan.specs.Counting.{open_counts, added_here, Closes};
 ghost use Rattle.bit_scan.specs.Cut.{cut, cut_open};
 ghost use Rattle.bit_scan.specs.Rows.{block_tallies};

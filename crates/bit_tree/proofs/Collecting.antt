@@ -5,7 +5,7 @@ use Rattle.bit_fields.specs.declared.fault.Fault.{Fault}
 use Rattle.bit_fields.specs.declared.fault.Fault.TheVariants.{Refused, Read, Write, Memory, OutputTooLong, Failed}
 use Rattle.bit_fields.specs.Reader.{SourceFails}
 use Rattle.bit_fields.proofs.InflowLaws.{Spends-refl, Spends-trans}
-use Rattle.bit_tree.specs.Coming.{going, Coming, Goes, Ends, Pays}
+use Rattle.bit_events.specs.Coming.{going, Coming, Goes, Ends, Pays}
 use Rattle.bit_tree.specs.Building.{told_with, Added, Going, Finished, Misses, Built}
 
 pays_both : (a b c : Coming) → Pays a b → Pays b c → Pays a c

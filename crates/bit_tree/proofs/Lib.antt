@@ -5,13 +5,5 @@ pub mod Growing
 pub mod Magics
 pub mod MarkedFlats
 pub mod Placing
-pub mod Entering
-pub mod Framing
-pub mod Ids
-pub mod Stepping
-pub mod Telling
-pub mod Advancing
-pub mod Beginnings
-pub mod Faults
 pub mod Collecting
 pub mod WholeInputs

@@ -12,7 +12,7 @@ use Rattle.bit_fields.specs.Reader.{SourceFails}
 use Rattle.bit_tree.specs.declared.marked_builder.MarkedBuilder.{MarkedBuilder}
 use Rattle.bit_tree.specs.declared.tree.Block.{Block}
 use Rattle.bit_tree.specs.declared.tree_builder.TreeBuilder.{TreeBuilder}
-use Rattle.bit_tree.specs.Coming.{going, Coming, Tells, Pays}
+use Rattle.bit_events.specs.Coming.{going, Coming, Tells, Pays}
 use Rattle.bit_tree.specs.MarkedFrames.{built_from}
 use Rattle.bit_tree.specs.TreeFrames.{told_at_level, built_with}
 use Rattle.bit_tree.specs.TreeView.{forest_of_blocks}

@@ -1,11 +1,5 @@
 pub mod Building
-pub mod Coming
-pub mod EventView
-pub mod Events
-pub mod FrameView
-pub mod HeadView
 pub mod Judging
-pub mod MachineView
 pub mod MarkedFalls
 pub mod MarkedFrames
 pub mod MarkedView

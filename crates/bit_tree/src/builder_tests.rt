@@ -1,5 +1,5 @@
 ghost use Rattle.std.specs.Prelude.{IsTrue};
-ghost use Rattle.bit_tree.specs.EventView.{shown};
+ghost use Rattle.bit_events.specs.EventView.{shown};
 ghost use Rattle.bit_tree.specs.Nesting.{MayStand};
 
 use crate::marked_builder::MarkedBuilder;

@@ -6,14 +6,7 @@ mod builder_tests;
 mod contents;
 mod copying;
 mod document;
-mod event;
-mod events;
-#[cfg(test)]
-mod events_tests;
-mod frame;
-mod heads;
 mod judging;
-mod machine;
 mod marked;
 mod marked_builder;
 mod reading;
@@ -24,12 +17,11 @@ mod tests;
 mod tree;
 mod tree_builder;
 
+pub use bit_events::{Event, Events};
 pub use bit_grammar::{Info, not_both, one_fault, one_tree, tree_or_fault};
 pub use contents::Contents;
 pub use copying::{tree_of, tree_with};
 pub use document::{BadDocument, Document, DocumentReason};
-pub use event::Event;
-pub use events::Events;
 pub use marked::{
     Marked, MarkedBlock, MarkedBlocks, MarkedDefine, MarkedItem, MarkedItems, MarkedRecord,
 };

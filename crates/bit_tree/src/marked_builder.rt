@@ -2,15 +2,15 @@ ghost use Rattle.std.specs.Prelude.{◌≡◌, ◌↔◌, ◌<◌, IfOk, OnOk, I
 ghost use Rattle.bit_grammar.specs.Machine as machine;
 ghost use Rattle.bit_grammar.specs.Machine.{flat};
 ghost use Rattle.bit_grammar.specs.Marks.{Marks};
-ghost use Rattle.bit_tree.specs.EventView.{shown};
+ghost use Rattle.bit_events.specs.EventView.{shown};
 ghost use Rattle.bit_tree.specs.MarkedFrames.{flat_item, flat_frames, built_from};
 ghost use Rattle.bit_tree.specs.Nesting.{MayStand, depth_after};
 
-use crate::event::Event;
 use crate::marked::{
     MarkedBlock, MarkedBlocks, MarkedDefine, MarkedItem, MarkedItems, MarkedRecord,
 };
 use crate::tree::Values;
+use bit_events::Event;
 use std::alloc::{AllocError, Global};
 
 /// A marked block that is open: its head, and the items that were read.

@@ -3,16 +3,17 @@
 ghost use Rattle.std.specs.Prelude.{◌≡◌, vec_len, Ok, OnOk, IfErr};
 ghost use Rattle.bit_fields.specs.declared.fault.Fault.{Fault};
 ghost use Rattle.bit_fields.specs.Reader.{told_by};
-ghost use Rattle.bit_tree.specs.Coming.{going};
-ghost use Rattle.bit_tree.specs.Reading.{ReadsWhole, SpellsFit, HasFit};
+ghost use Rattle.bit_events.specs.Coming.{going};
+ghost use Rattle.bit_events.specs.Reading.{ReadsWhole};
+ghost use Rattle.bit_tree.specs.Reading.{SpellsFit, HasFit};
 ghost use Rattle.bit_tree.specs.Building.{Adds, Builds, AddsToTree, BuildsTree};
 
 use crate::contents::Contents;
-use crate::events::Events;
 use crate::marked::{Marked, MarkedBlocks};
 use crate::marked_builder::MarkedBuilder;
 use crate::tree::Block;
 use crate::tree_builder::TreeBuilder;
+use bit_events::Events;
 use bit_fields::{Fault, Limits, Source};
 use bit_grammar::Info;
 use std::alloc::{AllocError, Global};
@@ -35,8 +36,7 @@ fn add_marked<S: Source>(
     requires depth { vec_len builder.old.frames ≡ events.old.depth }
     ensures { Adds events.old builder.old result events.new builder.new }
 {
-    events.advance()?;
-    match events.event() {
+    match events.next()? {
         Some(event) => {
             or_memory(builder.add(alloc, event))?;
             Ok(true)
@@ -92,8 +92,7 @@ fn add_to_tree<S: Source>(
     requires depth { vec_len builder.old.frames ≡ events.old.depth }
     ensures { AddsToTree events.old builder.old result events.new builder.new }
 {
-    events.advance()?;
-    match events.event() {
+    match events.next()? {
         Some(event) => {
             or_memory(builder.add(alloc, event))?;
             Ok(true)

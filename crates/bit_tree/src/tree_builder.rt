@@ -4,14 +4,14 @@ ghost use Rattle.bit_grammar.specs.Forest.{Forest};
 ghost use Rattle.bit_grammar.specs.Machine as machine;
 ghost use Rattle.bit_grammar.specs.Machine.{flat};
 ghost use Rattle.bit_grammar.specs.Marks.{Marks, keeps, forest_of};
-ghost use Rattle.bit_tree.specs.EventView.{shown};
+ghost use Rattle.bit_events.specs.EventView.{shown};
 ghost use Rattle.bit_tree.specs.Nesting.{MayStand, depth_after};
 ghost use Rattle.bit_tree.specs.TreeFrames.{told_at_level, forest_of_frames, built_with};
 ghost use Rattle.bit_tree.specs.TreeView.{put_item, forest_of_blocks};
 
 use crate::copying::{keeps, record_of};
-use crate::event::Event;
 use crate::tree::{Block, Item, Items};
+use bit_events::Event;
 use bit_grammar::Info;
 use std::alloc::{AllocError, Global};
 

@@ -10,8 +10,8 @@ use Rattle.bit_grammar.proofs.Inputs.{tree_or_fault}
 use Rattle.bit_grammar.proofs.Telling.{told_if_broken}
 use Rattle.bit_fields.specs.Devices.{Incoming, known_bytes}
 use Rattle.bit_fields.proofs.InflowLaws.{Spends-trans, Spends-none}
-use Rattle.bit_tree.specs.Coming.{Coming}
-use Rattle.bit_tree.specs.Events.{Begun}
+use Rattle.bit_events.specs.Coming.{Coming}
+use Rattle.bit_events.specs.Events.{Begun}
 use Rattle.bit_tree.specs.Building.{Built}
 use Rattle.bitstool.specs.Checking.{Judges, nothing}
 use Rattle.bitstool.specs.Runs.{Accepts}

@@ -15,7 +15,8 @@ use Rattle.bit_grammar.specs.Size.{size_of}
 use Rattle.bit_grammar.specs.Tally.{Tally}
 use Rattle.bit_grammar.specs.Texts.{report_of, listing_of}
 use Rattle.bit_grammar.specs.declared.info.Info.TheVariants.{Keep}
-use Rattle.bit_tree.specs.Reading.{HasFit, ReadsWhole}
+use Rattle.bit_events.specs.Reading.{ReadsWhole}
+use Rattle.bit_tree.specs.Reading.{HasFit}
 use Rattle.bit_scan.specs.Analysing.{HasTally}
 use Rattle.bit_scan.specs.Showing.{ListsNothing, ReadsAndLists, Shows}
 use Rattle.bit_scan.specs.Written.{WritesText}

@@ -4,9 +4,9 @@ use Rattle.bit_grammar.specs.Machine.{Event}
 use Rattle.bit_fields.specs.declared.fault.Fault.{Fault}
 use Rattle.bit_fields.specs.Devices.{Incoming}
 use Rattle.bit_grammar.specs.Blocks.{Limits}
-use Rattle.bit_tree.specs.Coming.{Coming}
+use Rattle.bit_events.specs.Coming.{Coming}
 use Rattle.bit_tree.specs.Building.{Added, Built, Finished, Misses}
-use Rattle.bit_tree.specs.Reading.{ReadsWhole}
+use Rattle.bit_events.specs.Reading.{ReadsWhole}
 use Rattle.bitstool.specs.Runs.{Accepts}
 
 -- nothing is built of events

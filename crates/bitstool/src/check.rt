@@ -1,7 +1,7 @@
 //! Checking an input: going over its events.
 
 ghost use Rattle.std.specs.Prelude.{◌≡◌};
-ghost use Rattle.bit_tree.specs.Coming.{going};
+ghost use Rattle.bit_events.specs.Coming.{going};
 ghost use Rattle.bitstool.specs.Checking.{PassesOver, GoesOver, Judges};
 
 use bit_fields::{Fault, Limits, Source};

@@ -1,0 +1,30 @@
+-- Entering a block and leaving it.
+use Rattle.std.proofs.Common.{◌≡◌, ◌≢◌, ℕ, List, [], ◌∷◌, ◌++◌, Option, Some, None, refl}
+use Rattle.std.proofs.Math.Path.{fun_ext}
+use Rattle.std.proofs.lemmas.Bool.{ne_eqb}
+use Rattle.bit_grammar.specs.declared.op.Op.{Op}
+use Rattle.bit_grammar.specs.Blocks.{no_definitions, info_for, enter}
+use Rattle.bit_grammar.specs.Machine as machine
+use Rattle.bit_grammar.specs.Machine.{inside}
+use Rattle.bit_abbrev.specs.Table.{definitions_at}
+use Rattle.bit_events.specs.declared.head.BlockHead.{BlockHead}
+use Rattle.bit_events.specs.declared.frame.Describing.{Describing}
+use Rattle.bit_events.specs.declared.frame.Frame.{Frame}
+use Rattle.bit_events.specs.HeadView.{head_shown}
+use Rattle.bit_events.specs.FrameView.{info_shown, frames_shown}
+use Rattle.bit_events.proofs.Stepping.{frames-push}
+
+pub info_made : (id : ℕ) (made : List (ℕ × List (List Op))) → id ≡ 0 → ((other : ℕ) → definitions_at made other ≡ no_definitions other) → info_shown (Some (record { described = None; made = made })) ≡ info_for id
+info_made id made zero none =
+    let same : definitions_at made ≡ no_definitions = fun_ext none in
+    rw (zero, same) refl
+
+pub info_none : (id : ℕ) → id ≢ 0 → info_shown None ≡ info_for id
+info_none id other = rw (ne_eqb id 0 other) refl
+
+abbrev machine_with : List Frame → List (ℕ × List (List Op)) → ℕ → machine.Machine
+machine_with frames table used = record { frames = frames_shown frames; handed = record { table = definitions_at table; used = used } }
+
+-- a block is open
+pub entered : (frames : List Frame) (head : BlockHead) (definitions : List (List Op)) (info : Option Describing) (table : List (ℕ × List (List Op))) (used : ℕ) → definitions ≡ definitions_at table head.id → info_shown info ≡ info_for head.id → machine_with (frames ++ record { head = head; definitions = definitions; info = info } ∷ []) table used ≡ inside (head_shown head) (frames_shown frames) (enter head.id (record { table = definitions_at table; used = used }))
+entered frames head definitions info table used is described = rw (frames-push, is, described) refl

@@ -1,0 +1,198 @@
+-- Records and definitions in a block, as its frame holds them.
+use Rattle.std.proofs.Common.{◌≡◌, ◌≢◌, ◌⊎◌, ℕ, ◌+◌, ◌-◌, ◌^◌, ◌<◌, ◌≤◌, Bool, true, false, cond, eqb, ltb, List, [], ◌∷◌, ◌++◌, length, length-append, get_or, Option, Some, None, Result, Ok, Err, is_some, refl, sym, ap, ◌∙◌, subst, slice_get, eq-eqb, arith, inl, inr}
+use Rattle.std.proofs.Math.Seq.{get_or-append_seam}
+use Rattle.std.proofs.Math.Path.{fun_ext}
+use Rattle.std.proofs.lemmas.Bool.{ne_eqb, lt-ltb}
+use borrow.Author.Tests.{ltb-true}
+use Rattle.std.proofs.lemmas.Option.{slice_get_within, get_or_from_slice_get, slice_get-get_or}
+use Rattle.std.specs.Result.{OnOk}
+use Rattle.std.specs.declared.alloc.AllocError.{AllocError}
+use Rattle.bit_grammar.specs.declared.op.Op.{Op}
+use Rattle.bit_grammar.specs.declared.reason.Reason.TheVariants.{UndefinedAbbrev, NoBlockSet, BadSetBid}
+use Rattle.bit_grammar.specs.Grammar.{Grammar, at, gives, refuses, test, choose, ◌>>◌}
+use Rattle.bit_grammar.specs.Record.{Entry, unabbreviated, abbreviated}
+use Rattle.bit_grammar.specs.Forest.{set_bid, names_block}
+use Rattle.bit_grammar.specs.Blocks.{Handed, Scope, BlockInfo, Table, made_for, defined, defined_at, may_define, define, entry, describe, record_after}
+use Rattle.bit_grammar.specs.Machine.{scope_of}
+use Rattle.bit_fields.specs.declared.fault.Fault.{Fault}
+use Rattle.bit_fields.specs.declared.fault.Fault.TheVariants.{Refused, Memory}
+use Rattle.bit_fields.specs.Reader.{Reader, Took, Why, Takes, told_by, stopped}
+use Rattle.bit_fields.proofs.Composing.{took_then, fault_then, took_nothing, first_chosen, second_chosen, stops_here}
+use Rattle.bit_grammar.specs.Definition.{definition}
+use Rattle.bit_abbrev.specs.Table.{definitions_at}
+use Rattle.bit_abbrev.specs.Values.{Has, Recorded}
+use Rattle.bit_events.proofs.Telling.{told, why, andThen, breaks, ends, here, without_memory}
+use Rattle.bit_events.specs.declared.frame.Describing.{Describing}
+use Rattle.bit_events.specs.declared.frame.Frame.{Frame}
+use Rattle.bit_events.specs.FrameView.{info_shown, described_value, described_id, frame_shown, last_one, newest_for, newest_of, newest_in}
+
+-- ---- definitions
+
+-- one more definition for the block that is described
+pub put_described : (f : Frame) (d : Describing) (id : ℕ) (ops : List Op) (made : List (ℕ × List (List Op))) (result : Result (Unit {0}) AllocError) → f.info ≡ Some d → d.described ≡ Some id → OnOk result ((other : ℕ) → definitions_at made other ≡ defined_at id ops (definitions_at d.made) other)
+    → OnOk result ((handed : Handed) → scope_of (frame_shown (record f { info = Some (record d { made = made }) })) handed ≡ defined (info_shown f.info) ops (scope_of (frame_shown f) handed))
+put_described f d id ops made (Ok x) is described puts = λ handed.
+    let same : definitions_at made ≡ defined_at id ops (definitions_at d.made) = fun_ext puts in
+    rw (is, described, same) refl
+put_described f d id ops made (Err e) is described puts = tt
+
+last_put : (xs : List (List Op)) (x : List Op) → last_one (xs ++ x ∷ []) ≡ Some x
+last_put xs x =
+    let one : length (xs ++ x ∷ []) ≡ length xs + 1 = length-append xs (x ∷ []) in
+    slice_get-get_or (xs ++ x ∷ []) (length (xs ++ x ∷ []) - 1) x (omega (arith, one))
+    ∙ ap (λ (i : ℕ). Some (get_or (xs ++ x ∷ []) i x)) (omega (arith, one))
+    ∙ ap Some (get_or-append_seam xs x [] x)
+
+newest_made : (described : Option ℕ) (ops : List Op) (made : Table) → is_some described ≡ true → newest_for described (made_for described ops made) ≡ Some ops
+newest_made None ops made h = absurd cc
+newest_made (Some id) ops made h = rw (eq-eqb id id refl) (last_put (made id) ops)
+
+abbrev newest_here : Scope → Option (List Op)
+newest_here scope = newest_of scope.definitions scope.info
+
+newest_defined : (info : Option BlockInfo) (ops : List Op) (definitions : List (List Op)) (handed : Handed) → may_define info ≡ true → newest_here (defined info ops (record { definitions = definitions; info = info; handed = handed })) ≡ Some ops
+newest_defined None ops definitions handed h = last_put definitions ops
+newest_defined (Some info) ops definitions handed h = newest_made info.described ops info.made h
+
+-- the definition that was put is the newest one
+pub newest_put : (f new : Frame) (ops : List Op) → may_define (info_shown f.info) ≡ true → ((handed : Handed) → scope_of (frame_shown new) handed ≡ defined (info_shown f.info) ops (scope_of (frame_shown f) handed)) → newest_in (frame_shown new) ≡ Some ops
+newest_put f new ops may puts =
+    let some : Handed = record { table = λ id. []; used = 0 } in
+    ap newest_here (puts some) ∙ newest_defined (info_shown f.info) ops f.definitions some may
+
+-- ---- records
+
+pub plain_entry : (limit first id room : ℕ) (scope : Scope) (a : Reader) (result : Result Entry Fault) (b : Reader) → id ≡ 3 → limit - scope.handed.used ≡ room → Takes (unabbreviated room) a result b → Takes (entry limit first id scope) a result b
+unfolding entry
+plain_entry limit first id room scope a result b plain is t =
+    first_chosen (eqb id 3) (unabbreviated (limit - scope.handed.used)) (choose (ltb (id - 4) (length scope.definitions)) (abbreviated first (limit - scope.handed.used) (get_or scope.definitions (id - 4) [])) (refuses (at UndefinedAbbrev first))) a result b (eq-eqb id 3 plain) (subst (λ (n : ℕ). Takes (unabbreviated n) a result b) (sym is) t)
+
+pub short_entry : (limit first id room : ℕ) (scope : Scope) (definitions : List (List Op)) (ops : List Op) (a : Reader) (result : Result Entry Fault) (b : Reader) → id ≢ 3 → scope.definitions ≡ definitions → limit - scope.handed.used ≡ room → slice_get definitions (id - 4) ≡ Some ops → Takes (abbreviated first room ops) a result b → Takes (entry limit first id scope) a result b
+unfolding entry
+short_entry limit first id room scope definitions ops a result b other force is found t =
+    let within : id - 4 < length scope.definitions = rw force (slice_get_within definitions (id - 4) ops found) in
+    let there : get_or scope.definitions (id - 4) [] ≡ ops = rw force (get_or_from_slice_get definitions (id - 4) ops [] found) in
+    second_chosen (eqb id 3) (unabbreviated (limit - scope.handed.used)) (choose (ltb (id - 4) (length scope.definitions)) (abbreviated first (limit - scope.handed.used) (get_or scope.definitions (id - 4) [])) (refuses (at UndefinedAbbrev first))) a result b (ne_eqb id 3 other)
+    (first_chosen (ltb (id - 4) (length scope.definitions)) (abbreviated first (limit - scope.handed.used) (get_or scope.definitions (id - 4) [])) (refuses (at UndefinedAbbrev first)) a result b (lt-ltb (id - 4) (length scope.definitions) within)
+    (rw (there, is) t))
+
+pub no_entry : (limit first id : ℕ) (scope : Scope) (definitions : List (List Op)) (a : Reader) → id ≢ 3 → scope.definitions ≡ definitions → slice_get definitions (id - 4) ≡ None → a.live ≡ true → Why (entry limit first id scope) a (Refused UndefinedAbbrev first) (stopped a)
+unfolding entry
+no_entry limit first id scope definitions a other force none live =
+    let past : ltb (id - 4) (length scope.definitions) ≡ false = elim (by (ltb (id - 4) (length scope.definitions)) refl) [
+      | inl past ↦ past
+      | inr contradiction ↦ absurd contradiction
+    ] in
+    second_chosen (eqb id 3) (unabbreviated (limit - scope.handed.used)) (choose (ltb (id - 4) (length scope.definitions)) (abbreviated first (limit - scope.handed.used) (get_or scope.definitions (id - 4) [])) (refuses (at UndefinedAbbrev first))) a (Err (Refused UndefinedAbbrev first)) (stopped a) (ne_eqb id 3 other)
+    (second_chosen (ltb (id - 4) (length scope.definitions)) (abbreviated first (limit - scope.handed.used) (get_or scope.definitions (id - 4) [])) (refuses (at UndefinedAbbrev first)) a (Err (Refused UndefinedAbbrev first)) (stopped a) past
+    (stops_here a live, λ k. refl))
+  where
+    by : (b : Bool) → ltb (id - 4) (length scope.definitions) ≡ b → (ltb (id - 4) (length scope.definitions) ≡ false) ⊎ ⊥
+    by false is = inl is
+    by true is =
+        let more : id - 4 < length definitions = subst (λ (ds : List (List Op)). id - 4 < length ds) force (ltb-true (id - 4) (length scope.definitions) is) in
+        let some : None ≡ Some (get_or definitions (id - 4) []) = sym none ∙ slice_get-get_or definitions (id - 4) [] more in
+        absurd cc
+
+-- ---- what a BLOCKINFO block describes
+
+is_some-described_id : (values : List ℕ) → is_some (described_id values) ≡ names_block values
+is_some-described_id [] = refl
+is_some-described_id (id ∷ values) = by (ltb id (2 ^ 32))
+  where
+    by : (b : Bool) → is_some (cond b (Some id) None) ≡ b
+    by true = refl
+    by false = refl
+
+described_id-first : (values : List ℕ) → is_some (described_id values) ≡ true → described_id values ≡ Some (get_or values 0 0)
+described_id-first [] h = absurd cc
+described_id-first (id ∷ values) h = by (ltb id (2 ^ 32)) h
+  where
+    by : (b : Bool) → is_some (cond b (Some id) None) ≡ true → cond b (Some id) None ≡ Some id
+    by true h = refl
+    by false h = absurd cc
+
+abbrev set_rule : (info : BlockInfo) (first : ℕ) (e : Entry) → Grammar (Option BlockInfo)
+set_rule info first e = test (names_block e.values) (at BadSetBid first) >> gives (Some (record info { described = Some (get_or e.values 0 0) }))
+
+abbrev other_rule : (info : BlockInfo) (first : ℕ) → Grammar (Option BlockInfo)
+other_rule info first = test (is_some info.described) (at NoBlockSet first) >> gives (Some info)
+
+pub other_took : (info : BlockInfo) (first code : ℕ) (values : List ℕ) (a b : Reader) → code ≢ 1 → Took (test (is_some info.described) (at NoBlockSet first)) a tt b → Took (describe (Some info) first (record { code = code; values = values })) a (Some info) b
+unfolding describe
+other_took info first code values a b other t =
+    second_chosen (eqb code set_bid) (set_rule info first (record { code = code; values = values })) (other_rule info first) a (Ok (Some info)) b (ne_eqb code 1 other) (took_then (test (is_some info.described) (at NoBlockSet first)) (λ v. gives (Some info)) a tt b (Ok (Some info)) b t (took_nothing (Some info) b t.live))
+
+pub other_wrong : (info : BlockInfo) (first code : ℕ) (values : List ℕ) (a : Reader) (fault : Fault) (b : Reader) → code ≢ 1 → Why (test (is_some info.described) (at NoBlockSet first)) a fault b → Why (describe (Some info) first (record { code = code; values = values })) a fault b
+unfolding describe
+other_wrong info first code values a fault b other h =
+    second_chosen (eqb code set_bid) (set_rule info first (record { code = code; values = values })) (other_rule info first) a (Err fault) b (ne_eqb code 1 other) (fault_then (test (is_some info.described) (at NoBlockSet first)) (λ v. gives (Some info)) a fault b h)
+
+pub set_took : (info : BlockInfo) (first code : ℕ) (values : List ℕ) (a b : Reader) → code ≡ 1 → is_some (described_id values) ≡ true → Took (test (is_some (described_id values)) (at BadSetBid first)) a tt b → Took (describe (Some info) first (record { code = code; values = values })) a (Some (record info { described = described_id values })) b
+unfolding describe
+set_took info first code values a b set holds t =
+    let made : BlockInfo = record info { described = Some (get_or values 0 0) } in
+    let judged : Took (test (names_block values) (at BadSetBid first)) a tt b = subst (λ (h : Bool). Took (test h (at BadSetBid first)) a tt b) (is_some-described_id values) t in
+    rw (described_id-first values holds) (first_chosen (eqb code set_bid) (set_rule info first (record { code = code; values = values })) (other_rule info first) a (Ok (Some made)) b (eq-eqb code 1 set) (took_then (test (names_block values) (at BadSetBid first)) (λ v. gives (Some made)) a tt b (Ok (Some made)) b judged (took_nothing (Some made) b t.live)))
+
+pub set_wrong : (info : BlockInfo) (first code : ℕ) (values : List ℕ) (a : Reader) (fault : Fault) (b : Reader) → code ≡ 1 → Why (test (is_some (described_id values)) (at BadSetBid first)) a fault b → Why (describe (Some info) first (record { code = code; values = values })) a fault b
+unfolding describe
+set_wrong info first code values a fault b set h =
+    let judged : Why (test (names_block values) (at BadSetBid first)) a fault b = subst (λ (t : Bool). Why (test t (at BadSetBid first)) a fault b) (is_some-described_id values) h in
+    first_chosen (eqb code set_bid) (set_rule info first (record { code = code; values = values })) (other_rule info first) a (Err fault) b (eq-eqb code 1 set) (fault_then (test (names_block values) (at BadSetBid first)) (λ v. gives (Some (record info { described = Some (get_or values 0 0) }))) a fault b judged)
+
+-- a block that is no BLOCKINFO block
+pub none_described : (first : ℕ) (e : Entry) (a : Reader) → a.live ≡ true → Took (describe None first e) a None a
+unfolding describe
+none_described first e a live = took_nothing None a live
+
+-- ---- a definition
+
+pub define_judged : (first : ℕ) (scope : Scope) (a : Reader) (fault : Fault) (b : Reader) → Why (test (may_define scope.info) (at NoBlockSet first)) a fault b → Why (define first scope) a fault b
+unfolding define
+define_judged first scope a fault b h = why (define first scope) a fault b (breaks h)
+
+pub define_missed : (first : ℕ) (scope : Scope) (a b : Reader) (fault : Fault) (c : Reader) → Took (test (may_define scope.info) (at NoBlockSet first)) a tt b → Why definition b fault c → Why (define first scope) a fault c
+unfolding define
+define_missed first scope a b fault c t h = why (define first scope) a fault c (andThen t (breaks h))
+
+pub define_lost : (first : ℕ) (scope : Scope) (a b : Reader) (ops : List Op) (c d : Reader) → Took (test (may_define scope.info) (at NoBlockSet first)) a tt b → Took definition b ops c → d ≡ stopped c → Why (define first scope) a Memory d
+unfolding define
+define_lost first scope a b ops c d t u is = why (define first scope) a Memory d (andThen t (andThen u (here c.position refl (without_memory u.live is))))
+
+pub define_took : (first : ℕ) (scope : Scope) (a b : Reader) (ops : List Op) (c d : Reader) (after : ℕ) (copy : List Op) (new : Scope) → Took (test (may_define scope.info) (at NoBlockSet first)) a tt b → Took definition b ops c → d ≡ c → after ≡ c.position → copy ≡ ops → new ≡ defined scope.info ops scope
+    → Took (define first scope) a (record { ops = copy; first = first; after = after }, new) d
+unfolding define
+define_took first scope a b ops c d after copy new t u same here_is copied made =
+    rw (same, here_is, copied, made) (told (define first scope) a (Ok (record { ops = ops; first = first; after = c.position }, defined scope.info ops scope)) c (andThen t (andThen u (here c.position refl (ends u.live)))))
+
+-- ---- a record
+
+pub record_missed : (limit first id : ℕ) (scope : Scope) (a : Reader) (fault : Fault) (b : Reader) → Why (entry limit first id scope) a fault b → Why (record_after limit first id scope) a fault b
+unfolding record_after
+record_missed limit first id scope a fault b h = why (record_after limit first id scope) a fault b (breaks h)
+
+pub record_wrong : (limit first id : ℕ) (scope : Scope) (a : Reader) (e : Entry) (b : Reader) (fault : Fault) (c : Reader) → Took (entry limit first id scope) a e b → Why (describe scope.info first e) b fault c → Why (record_after limit first id scope) a fault c
+unfolding record_after
+record_wrong limit first id scope a e b fault c t h = why (record_after limit first id scope) a fault c (andThen t (here b.position refl (breaks h)))
+
+pub record_took : (limit first id : ℕ) (scope : Scope) (a : Reader) (e : Entry) (b : Reader) (after : ℕ) (info : Option BlockInfo) (c : Reader) → Took (entry limit first id scope) a e b → after ≡ b.position → Took (describe scope.info first e) b info c
+    → Took (record_after limit first id scope) a (record { abbreviation = id; code = e.code; values = e.values; first = first; after = after }, record scope { info = info; handed = record { table = scope.handed.table; used = scope.handed.used + length e.values } }) c
+unfolding record_after
+record_took limit first id scope a e b after info c t is u =
+    told (record_after limit first id scope) a (Ok (record { abbreviation = id; code = e.code; values = e.values; first = first; after = after }, record scope { info = info; handed = record { table = scope.handed.table; used = scope.handed.used + length e.values } })) c
+    (andThen t (here after is (andThen u (ends u.live))))
+
+-- what is read into what had no values
+pub recorded : (rule : Grammar Entry) (a : Reader) (result : Result ℕ Fault) (now : List ℕ) (b : Reader) → Recorded (λ r. Takes rule a r b) result [] now → Takes rule a (told_by (λ code. record { code = code; values = now }) result) b
+recorded rule a (Ok code) now b h = rw h.1 h.2
+recorded rule a (Err fault) now b h = h.1
+
+pub recorded_few : {V : Type 0} (took : V → List ℕ → Type 0) (v : V) (room : ℕ) (result : Result ℕ Fault) → Has took v (λ after. OnOk result (length after ≤ 0 + room)) → Has took v (λ after. OnOk result (length after ≤ room))
+recorded_few took v room (Ok code) h = (h.0, h.1, omega (arith, h.2))
+recorded_few took v room (Err fault) h = (h.0, h.1, tt)
+
+-- the first value tells which block is described
+pub described_first : (value : Option ℕ) (values : List ℕ) → value ≡ slice_get values 0 → described_value value ≡ described_id values
+described_first value [] is = ap described_value is
+described_first value (id ∷ values) is = ap described_value is

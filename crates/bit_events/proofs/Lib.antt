@@ -1,0 +1,9 @@
+pub mod Entering
+pub mod Framing
+pub mod Stepping
+pub mod Telling
+pub mod Advancing
+pub mod Beginnings
+pub mod Faults
+pub mod WholeInputs
+pub mod Folds

@@ -1,0 +1,32 @@
+use Rattle.std.proofs.Common.{◌≡◌, [], None, false, IsSome, refl, sym, subst, arith}
+use Rattle.bit_fields.specs.Devices.{Incoming, known_bytes}
+use Rattle.bit_fields.specs.Opening.{head_told}
+use Rattle.bit_events.specs.Events.{coming_of, Begun}
+use Rattle.bit_events.specs.Folding.{Gathered}
+use Rattle.bit_events.specs.Reading.{Spent}
+use Rattle.bit_events.proofs.Advancing.{began, declined}
+use Rattle.bit_events.proofs.WholeInputs.{not_begun}
+use Rattle.bit_events.proofs.Folds.{spent, not_read, whole_gathered}
+use Rattle.bit_events.proofs.folding.fold.Goals as goal
+
+pub returns-in-Err : goal.returns-in-Err
+returns-in-Err g c = not_begun {A = Unit {0}} (λ bytes done. Unit {0}) c.args.limits (g.S.Source.incoming c.args.source) (g.S.Source.incoming c.in-Err.source) c.in-Err.fault (declined c.args.limits (g.S.Source.incoming c.args.source) c.in-Err.fault (g.S.Source.incoming c.in-Err.source) (omega (arith, c.bytes-bytes.ensures.capped.bytes)) c.in-Err.ensures.refused)
+
+pub returns-in-Ok-done : goal.returns-in-Ok-done
+returns-in-Ok-done g c =
+    let i = g.S.Source.incoming c.args.source in
+    let b = c.gather-done.new.self.reader in
+    let head = c.in-Ok.begun.1 in
+    let begun : Begun c.args.limits i (coming_of false c.args.limits head c.new.result [] None c.in-Ok.begun.0) = began c.args.limits i head c.new.result [] c.in-Ok.begun.0 c.bytes-bytes.ensures.capped c.new.ensures.machine refl c.new.ensures.none c.in-Ok.ensures.begun in
+    let all = c.in-Ok-done.ensures in
+    subst (λ (now : Incoming). Spent c.args.limits i now × (IsSome i.to_come → Gathered g.G.Gatherer.gathered c.args.limits (known_bytes i.to_come) c.args.gatherer (head_told head) c.gather-done.new.self.gatherer c.position-after.result × (known_bytes now.to_come ≡ []))) (sym c.into_source-source.ensures) (
+      spent c.args.limits i head c.new.result c.in-Ok.begun.0 b begun all.pays,
+      λ tells. (whole_gathered g.G.Gatherer.gathered c.args.limits i head c.new.result c.in-Ok.begun.0 c.args.gatherer b c.gather-done.new.self.gatherer c.position-after.result begun c.requires c.position-after.ensures.position all tells, all.none (begun.pays.tells tells)),
+    )
+
+pub returns : goal.returns
+returns g c =
+    let i = g.S.Source.incoming c.args.source in
+    let head = c.in-Ok.begun.1 in
+    let begun : Begun c.args.limits i (coming_of false c.args.limits head c.new.result [] None c.in-Ok.begun.0) = began c.args.limits i head c.new.result [] c.in-Ok.begun.0 c.bytes-bytes.ensures.capped c.new.ensures.machine refl c.new.ensures.none c.in-Ok.ensures.begun in
+    not_read {A = Unit {0}} (λ bytes done. Unit {0}) c.args.limits i (g.S.Source.incoming c.into_source-source.result) head c.new.result c.in-Ok.begun.0 c.gather-done.new.self.reader c.in-Err-done.fault begun c.into_source-source.ensures c.in-Err-done.ensures

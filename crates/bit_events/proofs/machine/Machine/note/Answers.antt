@@ -1,0 +1,55 @@
+use Rattle.std.proofs.Common.{◌≡◌, ◌-◌, ◌+◌, ◌^◌, ◌≤◌, ℕ, [], length, min, vec_len, arith, refl}
+use Rattle.std.proofs.lemmas.Result.{err_from_is_err_and}
+use Rattle.bit_abbrev.specs.Table.{definitions_at}
+use Rattle.bit_events.specs.MachineView.{handed_shown}
+use Rattle.bit_events.proofs.Stepping.{head_kept, held_record_missed, held_record_took}
+use Rattle.bit_events.proofs.machine.Machine.note.Goals as goal
+
+-- a number of values that has room is told whole
+counted : (count few many : ℕ) → count ≡ min few (2 ^ 64 - 1) → few ≤ 4294967295 → count ≡ min many (2 ^ 64 - 1) → count ≡ many
+counted count few many is fits same = omega arith
+
+pub record_after-requires-clause-none : goal.record_after-requires-clause-none
+record_after-requires-clause-none g c = c.truncate.ensures [] c.requires.took.0 c.requires.took.1 refl
+
+pub overflow_add-self : goal.overflow_add-self
+overflow_add-self g c =
+    let few = c.in_ok-code.ensures.few in
+    omega (arith, c.count-count.ensures few.0 few.1, few.2, c.saturating_sub-room.ensures, c.values.ensures.values, c.values.ensures.capped.values)
+
+pub returns-in_err-code-clause-takes : goal.returns-in_err-code-clause-takes
+returns-in_err-code-clause-takes g c =
+    let read = c.in_err-code.ensures.takes in
+    let p = err_from_is_err_and c.from_residual.result c.from_residual.ensures.1 in
+    let room : c.args.limits.now.values - c.args.self.now.used ≡ c.saturating_sub-room.result = omega (arith, c.saturating_sub-room.ensures, c.values.ensures.values) in (
+      read.0,
+      read.1,
+      λ f outer split.
+          rw (p.1, p.2) (held_record_missed c.args.limits.now.values c.args.self.now.frames.items (vec_len c.args.self.now.frames - 1) c.in-Some.frame.now f outer c.args.first c.args.id (handed_shown c.args.self.now) c.args.reader.now c.in_err-code.field-0.0 c.record_after.new.reader (omega (arith, c.requires.some, c.args.self.now.frames.ok.0)) c.in-Some.ensures.value split (read.2 c.args.limits.now.values (handed_shown c.args.self.now) room)),
+    )
+
+pub returns-clause-takes : goal.returns-clause-takes
+returns-clause-takes g c =
+    let read = c.in_ok-code.ensures.takes in
+    let few = c.in_ok-code.ensures.few in
+    let room : c.args.limits.now.values - c.args.self.now.used ≡ c.saturating_sub-room.result = omega (arith, c.saturating_sub-room.ensures, c.values.ensures.values) in
+    let many : c.count-count.result ≡ length read.0 = counted c.count-count.result (length few.0) (length read.0) (c.count-count.ensures few.0 few.1) (omega (arith, few.2, c.saturating_sub-room.ensures, c.values.ensures.values, c.values.ensures.capped.values)) (c.count-count.ensures read.0 read.1) in (
+      read.0,
+      read.1,
+      λ f outer split.
+          held_record_took c.args.limits.now.values c.args.self.now.frames.items (vec_len c.args.self.now.frames - 1) c.in-Some.frame.now c.record_after.new.frame f outer c.args.first c.args.id (handed_shown c.args.self.now) (record { table = definitions_at c.args.self.now.table; used = c.args.self.now.used + length read.0 }) (record { table = definitions_at c.args.self.now.table; used = c.args.self.now.used + c.count-count.result }) c.args.reader.now (record { abbreviation = c.args.id; code = c.in_ok-code.code; values = read.0; first = c.args.first; after = c.in_ok-code.after }) c.record_after.new.reader (omega (arith, c.requires.some, c.args.self.now.frames.ok.0)) c.in-Some.ensures.value split c.in_ok-code.ensures.head (rw many refl) (read.2 c.args.limits.now.values (handed_shown c.args.self.now) room),
+    )
+
+pub returns-clause-leaves : goal.returns-clause-leaves
+returns-clause-leaves g c = λ deepest list.
+    let room : c.args.limits.now.values - c.args.self.now.used ≡ c.saturating_sub-room.result = omega (arith, c.saturating_sub-room.ensures, c.values.ensures.values) in
+    record {
+      stands = c.requires.some;
+      opens = refl;
+      forward = (c.in_ok-code.ensures.takes.2 c.args.limits.now.values (handed_shown c.args.self.now) room).forward;
+      aligned = λ none. absurd (omega (arith, c.requires.some, none));
+      holds = tt;
+    }
+
+pub returns-clause-head : goal.returns-clause-head
+returns-clause-head g c = head_kept c.args.self.now.frames.items (vec_len c.args.self.now.frames - 1) c.in-Some.frame.now c.record_after.new.frame (omega (arith, c.requires.some, c.args.self.now.frames.ok.0)) c.in-Some.ensures.value c.in_ok-code.ensures.head

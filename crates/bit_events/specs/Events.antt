@@ -1,0 +1,120 @@
+-- What is seen of the events of a stream, by what the program keeps.
+use Rattle.std.specs.Prelude.{◌≡◌, ℕ, ◌+◌, ◌<◌, ◌%◌, vec_len, List, Bool, true, false, [], Option, Some, None, IsSome, Result, Ok, Err, length}
+use Rattle.bit_grammar.specs.Grammar.{at}
+use Rattle.bit_grammar.specs.Blocks.{Limits}
+use Rattle.bit_grammar.specs.Machine as machine
+use Rattle.bit_grammar.specs.Machine.{Told, accepted, broke}
+use Rattle.bit_grammar.specs.Normal.{Capped}
+use Rattle.bit_grammar.specs.Outlook.{outlook}
+use Rattle.bit_fields.specs.declared.fault.Fault.{Fault}
+use Rattle.bit_fields.specs.declared.fault.Fault.TheVariants.{Refused, Read, Write, Memory, OutputTooLong, Failed}
+use Rattle.bit_fields.specs.declared.head.Head.{Head}
+use Rattle.bit_fields.specs.Devices.{Incoming, Spends, known_bytes}
+use Rattle.bit_fields.specs.Reader.{Reader, TellsBytes, Stops, SourceFails}
+use Rattle.bit_fields.specs.Ending.{Stays}
+use Rattle.bit_fields.specs.Opening.{head_told}
+use Rattle.bit_events.specs.declared.event.Event.{Event}
+use Rattle.bit_events.specs.declared.machine.Found.{Found}
+use Rattle.bit_events.specs.declared.machine.Machine.{Machine}
+use Rattle.bit_events.specs.EventView.{shown_if_any}
+use Rattle.bit_events.specs.MachineView.{machine_shown, found_lent}
+use Rattle.bit_events.specs.Coming.{Stage, going, over, failed, Coming, end_at, told_of, Goes}
+
+-- ---- what the program keeps
+
+abbrev pub stage_of : (is_over is_live : Bool) → Stage
+stage_of true is_live = over
+stage_of false true = going
+stage_of false false = failed
+
+abbrev pub told_from : (is_over : Bool) → Limits → Machine → Reader → Told
+told_from true limits m r = ([], accepted r.position)
+told_from false limits m r = told_of limits r.extent (machine_shown m) r.position r.left
+
+abbrev pub last_of : Machine → List ℕ → Option Found → Option machine.Event
+last_of m values None = None
+last_of m values (Some found) = found_lent m values found
+
+abbrev pub coming_of : (is_over : Bool) → Limits → Head → Machine → (values : List ℕ) → Option Found → Reader → Coming
+coming_of is_over limits head m values found r = record {
+  stage = stage_of is_over r.live;
+  head = head_told head;
+  told = told_from is_over limits m r;
+  depth = vec_len m.frames;
+  deepest = limits.depth;
+  held = values;
+  last = last_of m values found;
+  position = r.position;
+  incoming = r.incoming;
+  budget = r.budget;
+}
+
+-- no block is open, and no event is kept, where the whole input was accepted
+pub record IsClosed (m : Machine) (found : Option Found) : Type 0 where
+  pub frames : vec_len m.frames ≡ 0
+  pub last : found ≡ None
+
+-- what holds between calls: outside of all blocks the reader stands at a byte
+pub record IsEvents (is_over : Bool) (m : Machine) (found : Option Found) (r : Reader) : Type 0 where
+  pub aligned : r.live ≡ true → vec_len m.frames ≡ 0 → r.position % 8 ≡ 0
+  pub closed : is_over ≡ true → IsClosed m found
+
+-- ---- events that are lent
+
+abbrev pub answer_shown : Result (Option Event) Fault → Result (Option machine.Event) Fault
+answer_shown (Ok event) = Ok (shown_if_any event)
+answer_shown (Err fault) = Err fault
+
+-- what a call for the next event does, which lends it
+abbrev pub Lends : Coming → Result (Option Event) Fault → Coming → Type 0
+Lends old answer new = Goes old (answer_shown answer) new
+
+-- what finding the next event does
+abbrev pub answer_kept : Result (Unit {0}) Fault → Coming → Result (Option machine.Event) Fault
+answer_kept (Ok _) new = Ok new.last
+answer_kept (Err fault) new = Err fault
+
+abbrev pub Finds : Coming → Result (Unit {0}) Fault → Coming → Type 0
+Finds old answer new = Goes old (answer_kept answer new) new
+
+-- ---- the end of a stream, outside of all blocks
+
+-- no byte is left, and the whole input is accepted
+pub record Over (old new : Reader) : Type 0 where
+  pub stops : Stops old new
+  pub position : new.position ≡ old.position
+  pub told : TellsBytes old → (old.left ≡ []) × (end_at old.extent old.position ≡ accepted old.position)
+  pub none : TellsBytes old → known_bytes new.incoming.to_come ≡ []
+
+-- Outside of all blocks the whole input is accepted, or bits are left, or the input ends with this fault, or its source failed.
+-- In a block nothing is done.
+abbrev pub Shuts : (outside : Bool) → Reader → Result Bool Fault → Reader → Type 0
+Shuts outside old (Ok true) new = (outside ≡ true) × Over old new
+Shuts outside old (Ok false) new = Stays old new × (outside ≡ true → TellsBytes old → 0 < length old.left)
+Shuts outside old (Err (Refused reason bit)) new = (outside ≡ true) × Stops old new × (TellsBytes old → (old.left ≡ []) × (end_at old.extent old.position ≡ broke (at reason bit)))
+Shuts outside old (Err Read) new = (outside ≡ true) × Stops old new × SourceFails old.incoming new.incoming
+Shuts outside old (Err Memory) new = ⊥
+Shuts outside old (Err Failed) new = ⊥
+Shuts outside old (Err Write) new = ⊥
+Shuts outside old (Err OutputTooLong) new = ⊥
+
+-- ---- the beginning
+
+-- an input was begun: its head is read, and what is told of the input is to come
+pub record Begun (limits : Limits) (i : Incoming) (c : Coming) : Type 0 where
+  pub capped : Capped limits
+  pub goes : c.stage ≡ going
+  pub pays : Spends i (limits.bytes + 1) c.incoming c.budget
+  pub depth : c.depth ≡ 0
+  pub deepest : c.deepest ≡ limits.depth
+  pub held : c.held ≡ []
+  pub told : IsSome i.to_come → outlook limits (known_bytes i.to_come) ≡ Ok (c.head, c.told)
+
+-- why an input was not begun: it breaks so before its first block, or the source failed
+abbrev pub Declines : Limits → Incoming → Fault → Incoming → Type 0
+Declines limits i (Refused reason bit) now = Spends i (limits.bytes + 1) now 0 × (IsSome i.to_come → outlook limits (known_bytes i.to_come) ≡ Err (at reason bit))
+Declines limits i Read now = Spends i (limits.bytes + 1) now 0 × SourceFails i now
+Declines limits i Memory now = ⊥
+Declines limits i Failed now = ⊥
+Declines limits i Write now = ⊥
+Declines limits i OutputTooLong now = ⊥

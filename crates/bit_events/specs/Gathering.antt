@@ -1,0 +1,17 @@
+-- Gathering events: what it is to have gathered some, and one more.
+use Rattle.std.specs.Prelude.{ℕ, List, [], ◌∷◌, ◌++◌}
+use Rattle.bit_grammar.specs.Machine.{Event}
+use Rattle.bit_grammar.specs.Steps.{MayStand, open_after}
+
+-- how many blocks are open behind events, where so many are before them
+abbrev pub open_behind : List Event → ℕ → ℕ
+open_behind [] count = count
+open_behind (event ∷ events) count = open_behind events (open_after event count)
+
+-- how many blocks events leave open
+abbrev pub left_open : List Event → ℕ
+left_open events = open_behind events 0
+
+-- What had gathered some events has gathered one more, where this one may stand behind them.
+abbrev pub Gathers : {G : Type 0} → (G → List Event → G → Type 0) → G → Event → G → Type 0
+Gathers {G} gathered old event new = (first : G) (done : List Event) (deepest : ℕ) → gathered first done old → MayStand deepest event (left_open done) → gathered first (done ++ event ∷ []) new

@@ -1,0 +1,107 @@
+-- What is seen of the machine of the program.
+use Rattle.std.specs.Prelude.{◌≡◌, ℕ, ◌≤◌, ◌%◌, List, [], ◌∷◌, Option, Some, None, unwrap_or, vec_len}
+use Rattle.std.specs.Option.{option_map}
+use Rattle.bit_grammar.specs.declared.op.Op.{Op}
+use Rattle.bit_grammar.specs.Grammar.{Grammar, gives, ◌>>=◌}
+use Rattle.bit_grammar.specs.Blocks.{Handed, BlockHead, end_of_block, define, record_after, leave}
+use Rattle.bit_grammar.specs.Machine as machine
+use Rattle.bit_grammar.specs.Machine.{Event, enters, defines, notes, leaves, Frame, scope_of, inside}
+use Rattle.bit_grammar.specs.Steps.{MayStand, open_after}
+use Rattle.bit_fields.specs.Reader.{Reader}
+use Rattle.bit_abbrev.specs.Table.{definitions_at}
+use Rattle.bit_events.specs.FrameView.{newest_in, frames_shown}
+use Rattle.bit_events.specs.declared.machine.Machine.{Machine}
+use Rattle.bit_events.specs.declared.machine.Aside.{Aside}
+use Rattle.bit_events.specs.declared.machine.Aside.TheVariants.{Enter, Define, Leave}
+use Rattle.bit_events.specs.declared.machine.Found.{Found}
+use Rattle.bit_events.specs.declared.machine.Found.TheVariants as found
+
+abbrev pub handed_shown : Machine → Handed
+handed_shown m = record { table = definitions_at m.table; used = m.used }
+
+abbrev pub machine_shown : Machine → machine.Machine
+machine_shown m = record { frames = frames_shown m.frames.items; handed = handed_shown m }
+
+-- the newest definition of the innermost block, which stands first
+abbrev pub newest : List machine.Frame → Option (List Op)
+newest [] = None
+newest (f ∷ outer) = newest_in f
+
+-- ---- events
+
+abbrev pub definition_of : (first after : ℕ) → List Op → Event
+definition_of first after ops = defines (record { ops = ops; first = first; after = after })
+
+-- the record with this id, whose code and the bit after it were read
+abbrev pub record_of : (id : ℕ) → List ℕ → (first : ℕ) → (read : ℕ × ℕ) → Event
+record_of id values first read = notes (record { abbreviation = id; code = read.0; values = values; first = first; after = read.1 })
+
+-- an event that is no record, where a definition is the machine's newest one
+abbrev pub aside_shown : Machine → Aside → Event
+aside_shown m (Enter id width first body) = enters (record { id = id; width = width; first = first; body = body })
+aside_shown m (Define first after) = definition_of first after (unwrap_or (newest (frames_shown m.frames.items)) [])
+aside_shown m (Leave after) = leaves after
+
+-- an event that was found, with these values
+abbrev pub found_shown : Machine → List ℕ → Found → Event
+found_shown m values (found.Aside aside) = aside_shown m aside
+found_shown m values (found.Record id code first after) = record_of id values first (code, after)
+
+-- the same as they are lent, where the machine has what belongs to them
+abbrev pub aside_lent : Machine → Aside → Option Event
+aside_lent m (Define first after) = option_map (definition_of first after) (newest (frames_shown m.frames.items))
+aside_lent m aside = Some (aside_shown m aside)
+
+abbrev pub found_lent : Machine → List ℕ → Found → Option Event
+found_lent m values (found.Aside aside) = aside_lent m aside
+found_lent m values f = Some (found_shown m values f)
+
+-- an event, and the machine after it
+abbrev pub after_aside : Machine → Aside → Event × machine.Machine
+after_aside m aside = (aside_shown m aside, machine_shown m)
+
+abbrev pub after_found : Machine → List ℕ → Found → Event × machine.Machine
+after_found m values f = (found_shown m values f, machine_shown m)
+
+-- ---- values
+
+-- it took some values
+abbrev pub TookSome : {V : Type 0} → (took : V → List ℕ → Type 0) → V → Type 0
+TookSome took taker = (values : List ℕ) × took taker values
+
+-- ---- what an event leaves
+
+-- a definition that came is the newest one
+abbrev pub HoldsDefinition : Machine → Event → Type 0
+HoldsDefinition m (defines mark) = newest (frames_shown m.frames.items) ≡ Some mark.ops
+HoldsDefinition m (enters opened) = Unit {0}
+HoldsDefinition m (notes mark) = Unit {0}
+HoldsDefinition m (leaves after) = Unit {0}
+
+-- the head of the innermost block, which stands first
+abbrev pub innermost_head : List machine.Frame → Option BlockHead
+innermost_head [] = None
+innermost_head (f ∷ outer) = Some f.head
+
+-- What a call leaves that found an event: the event may stand where so many blocks are open, and so many are open behind it;
+-- the reader didn't go back, and where no block is open it stands at a word; and a definition is at hand.
+pub record Leaves (deepest : ℕ) (old : Machine) (a : Reader) (event : Event) (new : Machine) (b : Reader) : Type 0 where
+  pub stands : MayStand deepest event (vec_len old.frames)
+  pub opens : vec_len new.frames ≡ open_after event (vec_len old.frames)
+  pub forward : a.position ≤ b.position
+  pub aligned : vec_len new.frames ≡ 0 → b.position % 32 ≡ 0
+  pub holds : HoldsDefinition new event
+
+-- ---- the rules of the innermost block f, within others
+
+-- its end
+abbrev pub end_rule : Frame → List Frame → Handed → Grammar (Event × machine.Machine)
+end_rule f outer handed = end_of_block f.head >>= λ after. gives (leaves after, record { frames = outer; handed = leave f.info handed })
+
+-- a definition, whose id began at first
+abbrev pub define_rule : Frame → List Frame → (first : ℕ) → Handed → Grammar (Event × machine.Machine)
+define_rule f outer first handed = define first (scope_of f handed) >>= λ definition. gives (defines definition.0, inside f.head outer definition.1)
+
+-- a record with this id, which began at first
+abbrev pub record_rule : (limit : ℕ) → Frame → List Frame → (first id : ℕ) → Handed → Grammar (Event × machine.Machine)
+record_rule limit f outer first id handed = record_after limit first id (scope_of f handed) >>= λ item. gives (notes item.0, inside f.head outer item.1)

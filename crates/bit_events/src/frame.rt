@@ -1,0 +1,190 @@
+ghost use Rattle.std.specs.Prelude.{◌≡◌, ◌-◌, ◌+◌, ◌≤◌, true, [], ℕ, List, Some, OnOk, IsSome, length, unwrap_or, slice_get};
+ghost use Rattle.std.specs.Option.{option_copied};
+ghost use Rattle.bit_grammar.specs.Blocks as blocks;
+ghost use Rattle.bit_grammar.specs.Blocks.{Handed, Scope, Table, defined, define, describe, entry, record_after, may_define};
+ghost use Rattle.bit_grammar.specs.Machine.{scope_of};
+ghost use Rattle.bit_fields.specs.Reader.{Takes, told_by};
+ghost use Rattle.bit_abbrev.specs.Values.{Has};
+ghost use Rattle.bit_events.specs.FrameView.{describing_shown, info_shown, described_value, frame_shown, newest_in};
+
+use crate::head::BlockHead;
+use crate::heads::granted;
+use bit_abbrev::{Abbrev, InForce, InfoTable, read_abbreviated, read_define, read_unabbreviated};
+use bit_fields::{BitReader, Fault, Reason, Source, ValueTaker};
+use std::alloc::{AllocError, Global};
+
+/// The code of the records of a BLOCKINFO block that say which block is described.
+const SET_BID: u64 = 1;
+
+/// In a BLOCKINFO block: the id of the block that is described, and the table that is being made.
+#[derive(Drop)]
+pub(crate) struct Describing {
+    pub(crate) described: Option<u32>,
+    pub(crate) made: InfoTable,
+}
+
+/// An open block: its head, the definitions in force, and in a BLOCKINFO block what it describes.
+#[derive(Drop)]
+pub(crate) struct Frame {
+    pub(crate) head: BlockHead,
+    pub(crate) definitions: InForce,
+    pub(crate) info: Option<Describing>,
+}
+
+impl Frame {
+    /// Whether a definition may stand here.
+    fn may_define(&self) -> bool
+        ensures { result ≡ may_define (info_shown self.now.info) }
+    {
+        match &self.info {
+            None => true,
+            Some(info) => info.described.is_some(),
+        }
+    }
+
+    /// The definition that stands last where one is put: among those in force, or in a BLOCKINFO block among those that were
+    /// made for the block that is described.
+    pub(crate) fn newest(&self) -> Option<&Abbrev>
+        ensures { option_copied result ≡ newest_in (frame_shown self.now) }
+    {
+        match &self.info {
+            None => self.definitions.last(),
+            Some(info) => match info.described {
+                Some(id) => info.made.for_block(id).last(),
+                None => None,
+            },
+        }
+    }
+
+    /// Takes a definition: the block's own, or in a BLOCKINFO block one for the block that is described.
+    fn put(&mut self, abbrev: Abbrev) -> Result<(), AllocError>
+        requires { may_define (info_shown self.old.info) ≡ true }
+        ensures defined { OnOk result ((handed : Handed) → scope_of (frame_shown self.new) handed ≡ defined (info_shown self.old.info) «abbrev» (scope_of (frame_shown self.old) handed)) }
+        ensures head { self.new.head ≡ self.old.head }
+    {
+        match &mut self.info {
+            None => self.definitions.define(abbrev),
+            Some(info) => match info.described {
+                Some(id) => info.made.define(id, abbrev),
+                None => Ok(()),
+            },
+        }
+    }
+}
+
+/// Reads a definition, after its id, which began at a bit; answers the bit after it. It is the newest one.
+pub(crate) fn define<S: Source>(
+    alloc: Global,
+    reader: &mut BitReader<S>,
+    frame: &mut Frame,
+    first: u64,
+) -> Result<u64, Fault>
+    requires { reader.old.live ≡ true }
+    ensures takes { (handed : Handed) → Takes (define first (scope_of (frame_shown frame.old) handed)) reader.old (told_by (λ after. (record { ops = unwrap_or (newest_in (frame_shown frame.new)) []; first = first; after = after }, scope_of (frame_shown frame.new) handed)) result) reader.new }
+    ensures newest { OnOk result (IsSome (newest_in (frame_shown frame.new))) }
+    ensures head { frame.new.head ≡ frame.old.head }
+{
+    reader.judge(frame.may_define(), Reason::NoBlockSet, first)?;
+    let abbrev = read_define(alloc, reader)?;
+    let after = reader.position();
+    granted(reader, frame.put(abbrev))?;
+    Ok(after)
+}
+
+/// Reads the code and the values of a record, after its id, which began at a bit. What takes its values has none before.
+fn entry<S: Source, V: ValueTaker>(
+    reader: &mut BitReader<S>,
+    definitions: &InForce,
+    room: u64,
+    values: &mut V,
+    id: u32,
+    first: u64,
+) -> Result<u64, Fault>
+    requires live { reader.old.live ≡ true }
+    requires none { V.took values.old [] }
+    requires id { 3 ≤ id }
+    ensures takes { Has V.took values.new (λ list. (limit : ℕ) (scope : Scope) → scope.definitions ≡ definitions.now → limit - scope.handed.used ≡ room → Takes (entry limit first id scope) reader.old (told_by (λ code. record { code = code; values = list }) result) reader.new) }
+    ensures few { Has V.took values.new (λ list. OnOk result (length list ≤ room)) }
+{
+    if id == 3 {
+        return read_unabbreviated(reader, room, values);
+    }
+    match definitions.get((id - 4) as usize) {
+        Some(abbrev) => read_abbreviated(reader, abbrev, first, room, values),
+        None => Err(reader.fail(Fault::Refused {
+            reason: Reason::UndefinedAbbrev,
+            bit: first,
+        })),
+    }
+}
+
+/// The block id that the first of a record's values is, if there is one and it is an id.
+fn described_id(value: Option<u64>) -> Option<u32>
+    ensures { result ≡ described_value value }
+{
+    match value {
+        Some(id) => { if id < 1 << 32 { Some(id as u32) } else { None } }
+        None => None,
+    }
+}
+
+/// Finds the block that is described after a record of a BLOCKINFO block, where the record began at a bit.
+fn describe_by<S: Source>(
+    reader: &mut BitReader<S>,
+    info: &mut Describing,
+    first: u64,
+    code: u64,
+    value: Option<u64>,
+) -> Result<(), Fault>
+    requires { reader.old.live ≡ true }
+    ensures { (values : List ℕ) → value ≡ slice_get values 0 → Takes (describe (Some (describing_shown info.old)) first (record { code = code; values = values })) reader.old (told_by (λ _. Some (describing_shown info.new)) result) reader.new }
+{
+    if code != SET_BID {
+        reader.judge(info.described.is_some(), Reason::NoBlockSet, first)?;
+        return Ok(());
+    }
+    let id = described_id(value);
+    reader.judge(id.is_some(), Reason::BadSetBid, first)?;
+    info.described = id;
+    Ok(())
+}
+
+/// Finds the block that is described after a record, if it stands in a BLOCKINFO block.
+fn describe<S: Source, V: ValueTaker>(
+    reader: &mut BitReader<S>,
+    info: &mut Option<Describing>,
+    first: u64,
+    code: u64,
+    values: &V,
+) -> Result<(), Fault>
+    requires { reader.old.live ≡ true }
+    ensures { (list : List ℕ) → V.took values.now list → Takes (describe (info_shown info.old) first (record { code = code; values = list })) reader.old (told_by (λ _. info_shown info.new) result) reader.new }
+{
+    match info {
+        Some(info) => describe_by(reader, info, first, code, values.first_value()),
+        None => Ok(()),
+    }
+}
+
+/// Reads a record, after its id, which began at a bit; answers its code and the bit after it. What takes its values has none
+/// before.
+pub(crate) fn record_after<S: Source, V: ValueTaker>(
+    reader: &mut BitReader<S>,
+    frame: &mut Frame,
+    room: u64,
+    values: &mut V,
+    id: u32,
+    first: u64,
+) -> Result<(u64, u64), Fault>
+    requires live { reader.old.live ≡ true }
+    requires none { V.took values.old [] }
+    requires id { 3 ≤ id }
+    ensures takes { Has V.took values.new (λ list. (limit : ℕ) (handed : Handed) → limit - handed.used ≡ room → Takes (record_after limit first id (scope_of (frame_shown frame.old) handed)) reader.old (told_by (λ r. (record { abbreviation = id; code = r.0; values = list; first = first; after = r.1 }, scope_of (frame_shown frame.new) (record { table = handed.table; used = handed.used + length list }))) result) reader.new) }
+    ensures few { Has V.took values.new (λ list. OnOk result (length list ≤ room)) }
+    ensures head { frame.new.head ≡ frame.old.head }
+{
+    let code = entry(reader, &frame.definitions, room, values, id, first)?;
+    let after = reader.position();
+    describe(reader, &mut frame.info, first, code, values)?;
+    Ok((code, after))
+}

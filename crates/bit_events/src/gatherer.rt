@@ -1,0 +1,46 @@
+ghost use Rattle.std.specs.Prelude.{ℕ, List, [], OnOk};
+ghost use Rattle.bit_grammar.specs.Machine.{enters, defines, notes, leaves};
+ghost use Rattle.bit_events.specs.Gathering.{Gathers};
+
+use bit_abbrev::Abbrev;
+use bit_fields::ValueTaker;
+use std::alloc::AllocError;
+
+/// What gathers the events of a stream, one after the other.
+pub trait Gatherer: Drop {
+    ghost use Rattle.std.specs.Prelude.{List};
+    ghost use Rattle.bit_grammar.specs.Machine.{Event};
+
+    /// What takes the values of a record for it.
+    type Values: ValueTaker + Drop;
+
+    // Whether one that gathers these events, in order, becomes the other.
+    ghost gathered: { Self → List Event → Self → Type 0 };
+
+    /// What takes the values of the records, which has none.
+    fn values(&self) -> Self::Values
+        ensures { Self.Values.took result [] };
+
+    /// Takes a block's beginning: its id, the width of the ids in it, its first bit, and the first bit of its body.
+    fn enter(&mut self, id: u32, width: u8, first: u64, body: u64) -> Result<(), AllocError>
+        ensures { OnOk result (Gathers gathered self.old (enters (record { id = id; width = width; first = first; body = body })) self.new) };
+
+    /// Takes a definition in the innermost block, its first bit and the bit after it.
+    fn define(&mut self, abbrev: &Abbrev, first: u64, after: u64) -> Result<(), AllocError>
+        ensures { OnOk result (Gathers gathered self.old (defines (record { ops = «abbrev».now; first = first; after = after })) self.new) };
+
+    /// Takes a record in the innermost block: its abbreviation id, its code, what took its values, its first bit and the bit after it.
+    fn record(
+        &mut self,
+        id: u32,
+        code: u64,
+        values: &Self::Values,
+        first: u64,
+        after: u64,
+    ) -> Result<(), AllocError>
+        ensures { OnOk result ((list : List ℕ) → Self.Values.took values.now list → Gathers gathered self.old (notes (record { abbreviation = id; code = code; values = list; first = first; after = after })) self.new) };
+
+    /// Takes the end of the innermost block, the bit after it.
+    fn leave(&mut self, after: u64) -> Result<(), AllocError>
+        ensures { OnOk result (Gathers gathered self.old (leaves after) self.new) };
+}

@@ -1,0 +1,95 @@
+ghost use Rattle.std.specs.Prelude.{◌≡◌, ◌+◌, ◌*◌, ◌≤◌, ◌%◌, OnOk, IfOk, IfErr, ◌==◌, ◌&&◌, nat_le};
+ghost use Rattle.bit_grammar.specs.Blocks.{block_id, new_width, block_head, end_of_block};
+ghost use Rattle.bit_fields.specs.Reader.{Takes, told_by, stopped};
+ghost use Rattle.bit_events.specs.HeadView.{head_shown};
+
+use crate::head::BlockHead;
+use bit_fields::{BitReader, Fault, Reason, Source};
+use std::alloc::AllocError;
+
+/// Fails where memory was refused.
+pub(crate) fn granted<S: Source, T>(
+    reader: &mut BitReader<S>,
+    got: Result<T, AllocError>,
+) -> Result<T, Fault>
+    ensures ok { IfOk result (λ value. (got ≡ Ok value) × (reader.new ≡ reader.old)) }
+    ensures err { IfErr result (λ fault. (fault ≡ Fault.Memory) × (reader.new ≡ stopped reader.old)) }
+{
+    match got {
+        Ok(value) => Ok(value),
+        Err(_) => Err(reader.fail(Fault::Memory)),
+    }
+}
+
+/// Reads the id of a block.
+fn block_id<S: Source>(reader: &mut BitReader<S>) -> Result<u32, Fault>
+    ensures { Takes block_id reader.old result reader.new }
+{
+    let start = reader.position();
+    let id = reader.vbr(8)?;
+    reader.judge(id < 1 << 32, Reason::BlockId, start)?;
+    Ok(id as u32)
+}
+
+/// Whether abbreviation ids may have so many bits.
+fn is_width(width: u64) -> bool
+    ensures { result ≡ (nat_le 1 width && nat_le width 32) }
+{
+    1 <= width && width <= 32
+}
+
+/// Reads the width of the abbreviation ids in a block.
+fn new_width<S: Source>(reader: &mut BitReader<S>) -> Result<u8, Fault>
+    ensures takes { Takes new_width reader.old result reader.new }
+    ensures least { IfOk result (λ width. 1 ≤ width) }
+    ensures most { IfOk result (λ width. width ≤ 32) }
+{
+    let start = reader.position();
+    let width = reader.vbr(4)?;
+    reader.judge(is_width(width), Reason::AbbrevWidth, start)?;
+    Ok(width as u8)
+}
+
+/// Reads what stands between a block's abbreviation id and its items. Source: "ENTER_SUBBLOCK Encoding".
+pub(crate) fn block_head<S: Source>(reader: &mut BitReader<S>) -> Result<BlockHead, Fault>
+    ensures { Takes block_head reader.old (told_by head_shown result) reader.new }
+{
+    let id = block_id(reader)?;
+    let width = new_width(reader)?;
+    reader.pad()?;
+    let length_at = reader.position();
+    let words = reader.fixed(32)?;
+    let body = reader.position();
+    Ok(BlockHead {
+        id,
+        width,
+        length_at,
+        words: words as u32,
+        body,
+    })
+}
+
+/// Whether a block whose length is right ends there.
+fn ends_at(head: BlockHead, after: u64) -> bool
+    ensures { result ≡ (head.body + 32 * head.words == after) }
+{
+    match head.body.checked_add(32 * u64::from(head.words)) {
+        Some(end) => end == after,
+        None => false,
+    }
+}
+
+/// Reads the padding behind the id that ends a block, judges the block's length, and answers the bit after the block.
+/// Source: "END_BLOCK Encoding".
+pub(crate) fn end_of_block<S: Source>(
+    reader: &mut BitReader<S>,
+    head: BlockHead,
+) -> Result<u64, Fault>
+    ensures takes { Takes (end_of_block (head_shown head)) reader.old result reader.new }
+    ensures aligned { OnOk result (reader.new.position % 32 ≡ 0) }
+{
+    reader.pad()?;
+    let after = reader.position();
+    reader.judge(ends_at(head, after), Reason::BlockLength, head.length_at)?;
+    Ok(after)
+}

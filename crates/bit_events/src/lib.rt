@@ -1,0 +1,18 @@
+//! The events of a stream: block begins, definitions, records and block ends, as a machine finds them.
+#![tactic(auto)]
+
+mod event;
+mod events;
+#[cfg(test)]
+mod events_tests;
+mod folding;
+mod frame;
+mod gatherer;
+mod head;
+mod heads;
+mod machine;
+
+pub use event::Event;
+pub use events::Events;
+pub use folding::{Folded, fold};
+pub use gatherer::Gatherer;

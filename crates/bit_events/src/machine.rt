@@ -1,0 +1,420 @@
+ghost use Rattle.std.specs.Prelude.{◌≡◌, ◌<◌, ◌≤◌, ◌+◌, true, [], ◌∷◌, ℕ, List, OnOk, IfOk, vec_len, is_none, IfSome, IfNone, IsTrue, ◌↔◌};
+ghost use Rattle.std.specs.Option.{option_copied, option_map};
+ghost use Rattle.bit_grammar.specs.Blocks.{enter, leave, info_for};
+ghost use Rattle.bit_grammar.specs.Machine as machine;
+ghost use Rattle.bit_grammar.specs.Machine.{at_start, open_block, open_nested, step_after, step_in, step_top, step, scope_of, inside};
+ghost use Rattle.bit_fields.specs.Reader.{Takes, told_by};
+ghost use Rattle.bit_abbrev.specs.Values.{Has};
+ghost use Rattle.bit_events.specs.Coming.{held_after};
+ghost use Rattle.bit_events.specs.EventView.{shown_if_any};
+ghost use Rattle.bit_events.specs.HeadView.{head_shown};
+ghost use Rattle.bit_events.specs.FrameView.{info_shown, frames_shown};
+ghost use Rattle.bit_events.specs.MachineView.{handed_shown, machine_shown, newest, aside_shown, aside_lent, found_shown, found_lent, after_aside, after_found, record_of, innermost_head, Leaves, TookSome, end_rule, define_rule, record_rule};
+
+use crate::event::Event;
+use crate::frame::{Describing, Frame, define, record_after};
+use crate::head::BlockHead;
+use crate::heads::{block_head, end_of_block, granted};
+use bit_abbrev::{Abbrev, InfoTable, SharedInfo};
+use bit_fields::{BitReader, Fault, Limits, Reason, Source, ValueTaker};
+use std::alloc::{AllocError, Global};
+
+/// An event that is no record. Of a definition, which is the newest one, the machine holds the operands.
+#[derive(Clone, Copy)]
+pub(crate) enum Aside {
+    Enter {
+        id: u32,
+        width: u8,
+        first: u64,
+        body: u64,
+    },
+    Define {
+        first: u64,
+        after: u64,
+    },
+    Leave {
+        after: u64,
+    },
+}
+
+/// An event, without what is lent with it: the values of a record, and a definition.
+#[derive(Clone, Copy)]
+pub(crate) enum Found {
+    Aside(Aside),
+    Record {
+        abbrev: u32,
+        code: u64,
+        first: u64,
+        after: u64,
+    },
+}
+
+/// What is known between two events: the open blocks, the outermost first, the table for the blocks to come, and the number
+/// of values so far.
+#[derive(Drop)]
+pub(crate) struct Machine {
+    pub(crate) frames: Vec<Frame>,
+    pub(crate) table: SharedInfo,
+    pub(crate) used: u64,
+}
+
+/// What a block with this id describes at its beginning, if it is a BLOCKINFO block.
+fn info_for(alloc: Global, id: u32) -> Option<Describing>
+    ensures { info_shown result ≡ info_for id }
+{
+    if id == 0 {
+        Some(Describing {
+            described: None,
+            made: InfoTable::new(alloc),
+        })
+    } else {
+        None
+    }
+}
+
+impl Machine {
+    /// No block is open, and nothing was read.
+    pub(crate) fn new(alloc: Global) -> Machine
+        ensures machine { machine_shown result ≡ at_start }
+        ensures none { vec_len result.frames ≡ 0 }
+    {
+        Machine {
+            frames: Vec::new(alloc),
+            table: SharedInfo::new(),
+            used: 0,
+        }
+    }
+
+    /// Opens a block.
+    fn enter(&mut self, alloc: Global, head: BlockHead) -> Result<(), AllocError>
+        ensures made { OnOk result (machine_shown self.new ≡ inside (head_shown head) (frames_shown self.old.frames.items) (enter head.id (handed_shown self.old))) }
+        ensures more { OnOk result (vec_len self.new.frames ≡ vec_len self.old.frames + 1) }
+    {
+        let definitions = self.table.enter(alloc, head.id)?;
+        let info = info_for(alloc, head.id);
+        self.frames.push(Frame {
+            head,
+            definitions,
+            info,
+        })?;
+        Ok(())
+    }
+
+    /// Reads a block's beginning, after its id, which began at a bit. Source: "ENTER_SUBBLOCK Encoding".
+    #[cold]
+    #[inline(never)]
+    fn open_block<S: Source>(
+        &mut self,
+        alloc: Global,
+        reader: &mut BitReader<S>,
+        limits: &Limits,
+        first: u64,
+    ) -> Result<Aside, Fault>
+        requires { reader.old.live ≡ true }
+        ensures takes { Takes (open_block limits.now (frames_shown self.old.frames.items) first (handed_shown self.old)) reader.old (told_by (after_aside self.new) result) reader.new }
+        ensures leaves { IfOk result (λ aside. Leaves limits.now.depth self.old reader.old (aside_shown self.new aside) self.new reader.new) }
+    {
+        let fits = self.frames.len() < limits.depth() as usize;
+        reader.judge(fits, Reason::TooDeep, first)?;
+        let head = block_head(reader)?;
+        granted(reader, self.enter(alloc, head))?;
+        Ok(Aside::Enter {
+            id: head.id,
+            width: head.width,
+            first,
+            body: head.body,
+        })
+    }
+
+    /// Reads the beginning of a block in a block.
+    fn open_nested<S: Source>(
+        &mut self,
+        alloc: Global,
+        reader: &mut BitReader<S>,
+        limits: &Limits,
+        first: u64,
+    ) -> Result<Aside, Fault>
+        requires live { reader.old.live ≡ true }
+        requires some { 0 < vec_len self.old.frames }
+        ensures takes { (f : machine.Frame) (outer : List machine.Frame) → frames_shown self.old.frames.items ≡ f ∷ outer → Takes (open_nested limits.now f.head outer first (scope_of f (handed_shown self.old))) reader.old (told_by (after_aside self.new) result) reader.new }
+        ensures leaves { IfOk result (λ aside. Leaves limits.now.depth self.old reader.old (aside_shown self.new aside) self.new reader.new) }
+    {
+        let plain = self.is_plain();
+        reader.judge(plain, Reason::NestedInBlockInfo, first)?;
+        self.open_block(alloc, reader, limits, first)
+    }
+
+    /// Whether the innermost block is no BLOCKINFO block.
+    fn is_plain(&self) -> bool
+        requires { 0 < vec_len self.now.frames }
+        ensures { (f : machine.Frame) (outer : List machine.Frame) → frames_shown self.now.frames.items ≡ f ∷ outer → result ≡ is_none f.info }
+    {
+        match self.frames.last() {
+            Some(frame) => frame.info.is_none(),
+            None => true,
+        }
+    }
+
+    /// Reads the end of the innermost block, after its id. Source: "END_BLOCK Encoding".
+    fn end_block<S: Source>(
+        &mut self,
+        alloc: Global,
+        reader: &mut BitReader<S>,
+    ) -> Result<Aside, Fault>
+        requires live { reader.old.live ≡ true }
+        requires some { 0 < vec_len self.old.frames }
+        ensures takes { (f : machine.Frame) (outer : List machine.Frame) → frames_shown self.old.frames.items ≡ f ∷ outer → Takes (end_rule f outer (handed_shown self.old)) reader.old (told_by (after_aside self.new) result) reader.new }
+        ensures leaves { (deepest : ℕ) → IfOk result (λ aside. Leaves deepest self.old reader.old (aside_shown self.new aside) self.new reader.new) }
+    {
+        let Some(frame) = self.frames.pop() else {
+            unreachable!();
+        };
+        let after = end_of_block(reader, frame.head)?;
+        granted(reader, self.leave(alloc, frame.info))?;
+        Ok(Aside::Leave { after })
+    }
+
+    /// Takes the table that a BLOCKINFO block made.
+    fn leave(&mut self, alloc: Global, info: Option<Describing>) -> Result<(), AllocError>
+        ensures made { OnOk result (machine_shown self.new ≡ record { frames = frames_shown self.old.frames.items; handed = leave (info_shown info) (handed_shown self.old) }) }
+        ensures frames { self.new.frames ≡ self.old.frames }
+    {
+        match info {
+            Some(info) => {
+                self.table = SharedInfo::share(alloc, info.made)?;
+                Ok(())
+            }
+            None => Ok(()),
+        }
+    }
+
+    /// Reads a definition in the innermost block, after its id, which began at a bit.
+    fn define<S: Source>(
+        &mut self,
+        alloc: Global,
+        reader: &mut BitReader<S>,
+        first: u64,
+    ) -> Result<Aside, Fault>
+        requires live { reader.old.live ≡ true }
+        requires some { 0 < vec_len self.old.frames }
+        ensures takes { (f : machine.Frame) (outer : List machine.Frame) → frames_shown self.old.frames.items ≡ f ∷ outer → Takes (define_rule f outer first (handed_shown self.old)) reader.old (told_by (after_aside self.new) result) reader.new }
+        ensures leaves { (deepest : ℕ) → IfOk result (λ aside. Leaves deepest self.old reader.old (aside_shown self.new aside) self.new reader.new) }
+    {
+        let Some(frame) = self.frames.last_mut() else {
+            unreachable!();
+        };
+        let after = define(alloc, reader, frame, first)?;
+        Ok(Aside::Define { first, after })
+    }
+
+    /// Reads a record in the innermost block, after its id, which began at a bit; answers its code and the bit after it.
+    pub(crate) fn note<S: Source, V: ValueTaker>(
+        &mut self,
+        reader: &mut BitReader<S>,
+        limits: &Limits,
+        id: u32,
+        first: u64,
+        values: &mut V,
+    ) -> Result<(u64, u64), Fault>
+        requires live { reader.old.live ≡ true }
+        requires some { 0 < vec_len self.old.frames }
+        requires id { 3 ≤ id }
+        requires took { TookSome V.took values.old }
+        ensures takes { Has V.took values.new (λ list. (f : machine.Frame) (outer : List machine.Frame) → frames_shown self.old.frames.items ≡ f ∷ outer → Takes (record_rule limits.now.values f outer first id (handed_shown self.old)) reader.old (told_by (λ read. (record_of id list first read, machine_shown self.new)) result) reader.new) }
+        ensures leaves { (deepest : ℕ) (list : List ℕ) → IfOk result (λ read. Leaves deepest self.old reader.old (record_of id list first read) self.new reader.new) }
+        ensures head { OnOk result (innermost_head (frames_shown self.new.frames.items) ≡ innermost_head (frames_shown self.old.frames.items)) }
+    {
+        let room = limits.values().saturating_sub(self.used);
+        values.truncate(0);
+        let Some(frame) = self.frames.last_mut() else {
+            unreachable!();
+        };
+        let (code, after) = record_after(reader, frame, room, values, id, first)?;
+        let count = values.count();
+        self.used += count;
+        Ok((code, after))
+    }
+
+    /// Reads what is no record in the innermost block, after its id, which began at a bit: the end of the block, a block or a
+    /// definition. It is kept out of the way of records, which are far more.
+    #[cold]
+    #[inline(never)]
+    pub(crate) fn step_aside<S: Source>(
+        &mut self,
+        alloc: Global,
+        reader: &mut BitReader<S>,
+        limits: &Limits,
+        id: u64,
+        first: u64,
+    ) -> Result<Aside, Fault>
+        requires live { reader.old.live ≡ true }
+        requires some { 0 < vec_len self.old.frames }
+        requires id { id < 3 }
+        ensures takes { (f : machine.Frame) (outer : List machine.Frame) → frames_shown self.old.frames.items ≡ f ∷ outer → Takes (step_after limits.now f.head outer first (scope_of f (handed_shown self.old)) id) reader.old (told_by (after_aside self.new) result) reader.new }
+        ensures leaves { IfOk result (λ aside. Leaves limits.now.depth self.old reader.old (aside_shown self.new aside) self.new reader.new) }
+    {
+        if id == 0 {
+            return self.end_block(alloc, reader);
+        }
+        if id == 1 {
+            return self.open_nested(alloc, reader, limits, first);
+        }
+        self.define(alloc, reader, first)
+    }
+
+    /// Reads one item of the innermost block, or its end.
+    fn step_in<S: Source>(
+        &mut self,
+        alloc: Global,
+        reader: &mut BitReader<S>,
+        limits: &Limits,
+        head: BlockHead,
+        values: &mut Vec<u64>,
+    ) -> Result<Found, Fault>
+        requires { 0 < vec_len self.old.frames }
+        ensures takes { (f : machine.Frame) (outer : List machine.Frame) → frames_shown self.old.frames.items ≡ f ∷ outer → f.head ≡ head_shown head → Takes (step_in limits.now f.head outer (scope_of f (handed_shown self.old))) reader.old (told_by (after_found self.new values.new.items) result) reader.new }
+        ensures leaves { IfOk result (λ found. Leaves limits.now.depth self.old reader.old (found_shown self.new values.new.items found) self.new reader.new) }
+        ensures holds { IfOk result (λ found. values.new.items ≡ held_after (found_shown self.new values.new.items found) values.old.items) }
+        ensures moves { OnOk result (reader.old.position < reader.new.position) }
+    {
+        let first = reader.position();
+        let id = reader.fixed(u32::from(head.width))?;
+        if id < 3 {
+            let aside = self.step_aside(alloc, reader, limits, id, first)?;
+            return Ok(Found::Aside(aside));
+        }
+        let abbrev = id as u32;
+        let (code, after) = self.note(reader, limits, abbrev, first, values)?;
+        Ok(Found::Record {
+            abbrev,
+            code,
+            first,
+            after,
+        })
+    }
+
+    /// Reads the beginning of a block at the top.
+    #[cold]
+    #[inline(never)]
+    pub(crate) fn step_top<S: Source>(
+        &mut self,
+        alloc: Global,
+        reader: &mut BitReader<S>,
+        limits: &Limits,
+    ) -> Result<Aside, Fault>
+        requires { vec_len self.old.frames ≡ 0 }
+        ensures takes { Takes (step_top limits.now (handed_shown self.old)) reader.old (told_by (after_aside self.new) result) reader.new }
+        ensures leaves { IfOk result (λ aside. Leaves limits.now.depth self.old reader.old (aside_shown self.new aside) self.new reader.new) }
+        ensures moves { OnOk result (reader.old.position < reader.new.position) }
+    {
+        let first = reader.position();
+        let id = reader.fixed(2)?;
+        reader.judge(id == 1, Reason::TopLevel, first)?;
+        self.open_block(alloc, reader, limits, first)
+    }
+
+    /// The head of the innermost block.
+    pub(crate) fn innermost(&self) -> Option<BlockHead>
+        ensures head { option_map head_shown result ≡ innermost_head (frames_shown self.now.frames.items) }
+        ensures open { IfSome result (λ _. 0 < vec_len self.now.frames) }
+        ensures none { IfNone result (vec_len self.now.frames ≡ 0) }
+    {
+        match self.frames.last() {
+            Some(frame) => Some(frame.head),
+            None => None,
+        }
+    }
+
+    /// Finds one event. The values of a record are those that the list holds then.
+    pub(crate) fn step<S: Source>(
+        &mut self,
+        alloc: Global,
+        reader: &mut BitReader<S>,
+        limits: &Limits,
+        values: &mut Vec<u64>,
+    ) -> Result<Found, Fault>
+        ensures takes { Takes (step limits.now (machine_shown self.old)) reader.old (told_by (after_found self.new values.new.items) result) reader.new }
+        ensures leaves { IfOk result (λ found. Leaves limits.now.depth self.old reader.old (found_shown self.new values.new.items found) self.new reader.new) }
+        ensures holds { IfOk result (λ found. values.new.items ≡ held_after (found_shown self.new values.new.items found) values.old.items) }
+        ensures moves { OnOk result (reader.old.position < reader.new.position) }
+    {
+        match self.innermost() {
+            Some(head) => self.step_in(alloc, reader, limits, head, values),
+            None => {
+                let aside = self.step_top(alloc, reader, limits)?;
+                Ok(Found::Aside(aside))
+            }
+        }
+    }
+
+    /// The definition that stands last where the innermost block puts one.
+    pub(crate) fn newest(&self) -> Option<&Abbrev>
+        ensures { option_copied result ≡ newest (frames_shown self.now.frames.items) }
+    {
+        match self.frames.last() {
+            Some(frame) => frame.newest(),
+            None => None,
+        }
+    }
+
+    /// Whether no block is open.
+    pub(crate) fn is_outside(&self) -> bool
+        ensures { IsTrue result ↔ (vec_len self.now.frames ≡ 0) }
+    {
+        self.frames.is_empty()
+    }
+}
+
+impl Aside {
+    /// The event, with the definition that the machine holds.
+    fn event<'a>(&self, machine: &'a Machine) -> Option<Event<'a>>
+        ensures { shown_if_any result ≡ aside_lent machine.now self.now }
+    {
+        match *self {
+            Aside::Enter {
+                id,
+                width,
+                first,
+                body,
+            } => Some(Event::Enter {
+                id,
+                width,
+                first,
+                body,
+            }),
+            Aside::Define { first, after } => match machine.newest() {
+                Some(abbrev) => Some(Event::Define {
+                    abbrev,
+                    first,
+                    after,
+                }),
+                None => None,
+            },
+            Aside::Leave { after } => Some(Event::Leave { after }),
+        }
+    }
+}
+
+impl Found {
+    /// The event, with what is lent with it.
+    #[inline(always)]
+    pub(crate) fn event<'a>(&self, machine: &'a Machine, values: &'a [u64]) -> Option<Event<'a>>
+        ensures { shown_if_any result ≡ found_lent machine.now values.now self.now }
+    {
+        match *self {
+            Found::Aside(aside) => aside.event(machine),
+            Found::Record {
+                abbrev,
+                code,
+                first,
+                after,
+            } => Some(Event::Record {
+                abbrev,
+                code,
+                values,
+                first,
+                after,
+            }),
+        }
+    }
+}

@@ -1,5 +1,0 @@
-use Rattle.bit_tree.proofs.Framing.{none_described}
-use Rattle.bit_tree.proofs.frame.describe.Goals as goal
-
-pub returns-in-None : goal.returns-in-None
-returns-in-None g c = rw c.in-None.is (none_described c.args.first (record { code = c.args.code; values = c.args.values.now }) c.args.reader.now c.requires)
