@@ -4,7 +4,6 @@ use bit_fields::{BitReader, Fault, Limits, ReadSource, SliceSource, ValueCount, 
 use std::alloc::Global;
 use std::io;
 use std::io::Read;
-use std::process::Abort;
 use std::test::Fail;
 
 /// An array of 40 fields of seven bits.
@@ -47,73 +46,52 @@ impl<'a> Read for Few<'a> {
     }
 }
 
-/// Reads a record into a list from a source that gives so many bytes at a time: the answer, how many values it has, and the
-/// first one.
-fn kept(
-    rt: &impl Abort,
-    alloc: Global,
-    rest: &[u8],
-    most: usize,
-) -> (Result<(u64, u64), Fault>, u64, Option<u64>) {
+/// What a record answers, and whether the reader has failed after a fault; then how many values it has, and the first one.
+type Told = ((Result<(u64, u64), Fault>, bool), u64, Option<u64>);
+
+/// A record that is read into a list, from a reader that gives so many bytes at a time.
+fn kept(alloc: Global, rest: &[u8], most: usize) -> Told {
     let mut values: Vec<u64> = Vec::new(alloc);
-    let answer = record_of(
-        rt,
-        alloc,
-        ReadSource::new(Few { rest, most }),
-        99,
-        &mut values,
-    );
+    let source = ReadSource::new(Few { rest, most });
+    let answer = record_of(alloc, source, 99, &mut values);
     (answer, values.count(), values.first_value())
 }
 
 /// The same, where the values are counted.
-fn counted(
-    rt: &impl Abort,
-    alloc: Global,
-    rest: &[u8],
-    most: usize,
-) -> (Result<(u64, u64), Fault>, u64, Option<u64>) {
+fn counted(alloc: Global, rest: &[u8], most: usize) -> Told {
     let mut values = ValueCount::new();
-    let answer = record_of(
-        rt,
-        alloc,
-        ReadSource::new(Few { rest, most }),
-        99,
-        &mut values,
-    );
+    let source = ReadSource::new(Few { rest, most });
+    let answer = record_of(alloc, source, 99, &mut values);
     (answer, values.count(), values.first_value())
 }
 
-/// Compares both for a record that is cut at a byte.
-fn same_where_cut(rt: &impl Abort, alloc: Global, bytes: &[u8]) -> Result<(), Fail> {
-    for most in [1, 3, 64] {
-        let long = kept(rt, alloc, bytes, most);
-        if long.0 == Err(Fault::Memory) {
-            return Err("no memory".into());
-        }
-        assert_eq!(rt;
-            counted(rt, alloc, bytes, most),
-            long,
-            "{most} of {bytes:?}"
-        );
+/// Whether both are the same for each front of a record, however few bytes come at a time.
+fn same_where_cut(alloc: Global, bytes: &[u8]) -> bool {
+    let mut same = true;
+    for end in 0..bytes.len() {
+        let front = &bytes[..end];
+        let one = kept(alloc, front, 1) == counted(alloc, front, 1);
+        let three = kept(alloc, front, 3) == counted(alloc, front, 3);
+        same = same && one && three && kept(alloc, front, 64) == counted(alloc, front, 64);
     }
-    Ok(())
+    same
 }
+
+/// Blocks with a record: the code, the bit behind it, how many values it has, and the first one.
+static ROWS: [(&[u8], (u64, u64), u64, u64); 3] = [
+    (&FIELDS, (1, 421), 40, 11),
+    (&CHARACTERS, (1, 406), 45, 102),
+    (&BLOB, (1, 736), 70, 3),
+];
 
 #[test]
 fn cut_records_are_counted_as_they_are_kept(rt: HostRuntime) -> Result<(), Fail> {
-    let rows: [(&[u8], (u64, u64), u64, u64); 3] = [
-        (&FIELDS, (1, 421), 40, 11),
-        (&CHARACTERS, (1, 406), 45, 102),
-        (&BLOB, (1, 736), 70, 3),
-    ];
-    for (body, record, count, first) in rows {
+    for (body, record, count, first) in &ROWS {
         let bytes = in_block(rt.alloc(), body)?;
-        let whole = counted(&rt, rt.alloc(), &bytes, 64);
-        assert_eq!(rt; whole, (Ok(record), count, Some(first)), "{body:?}");
-        for end in 0..bytes.len() {
-            same_where_cut(&rt, rt.alloc(), &bytes[..end])?;
-        }
+        let whole = counted(rt.alloc(), &bytes, 64);
+        let wanted = ((Ok(*record), true), *count, Some(*first));
+        assert!(rt; whole == wanted && kept(rt.alloc(), &bytes, 64) == wanted, "{body:?}");
+        assert!(rt; same_where_cut(rt.alloc(), &bytes), "{body:?}");
     }
     Ok(())
 }
@@ -133,25 +111,29 @@ fn plain_record<V: ValueTaker>(
     Ok((code, reader.position()))
 }
 
+/// A plain record with room for so many values that is kept: the answer, and whether the values are 1, 40 and 2.
+fn plain_kept(alloc: Global, bytes: &[u8], room: u64) -> (Result<(u64, u64), Fault>, bool) {
+    let mut values: Vec<u64> = Vec::new(alloc);
+    let answer = plain_record(bytes, room, &mut values);
+    (answer, values == [1, 40, 2])
+}
+
+/// The same where the values are counted: the answer, how many values there are, and the first one.
+fn plain_counted(bytes: &[u8], room: u64) -> (Result<(u64, u64), Fault>, u64, Option<u64>) {
+    let mut values = ValueCount::new();
+    let answer = plain_record(bytes, room, &mut values);
+    (answer, values.count(), values.first_value())
+}
+
 #[test]
 fn plain_records_are_counted_as_they_are_kept(rt: HostRuntime) -> Result<(), Fail> {
     let bytes = in_block(rt.alloc(), &PLAIN)?;
     for room in 0..5 {
-        let mut values: Vec<u64> = Vec::new(rt.alloc());
-        let mut count = ValueCount::new();
-        let long = plain_record(&bytes, room, &mut values);
-        if long == Err(Fault::Memory) {
-            return Err("no memory".into());
-        }
-        assert_eq!(rt; plain_record(&bytes, room, &mut count), long);
-        assert_eq!(rt;
-            (count.count(), count.first_value()),
-            (values.count(), values.first_value())
-        );
-        if room >= 3 {
-            assert_eq!(rt; long, Ok((5, 135)));
-            assert_eq!(rt; values.as_slice(), [1, 40, 2].as_slice());
-        }
+        let (answer, all) = plain_kept(rt.alloc(), &bytes, room);
+        let counted = plain_counted(&bytes, room);
+        let whole = answer == Ok((5, 135)) && all && counted == (answer, 3, Some(1));
+        let refused = answer.is_err() && counted.0 == answer;
+        assert!(rt; if room < 3 { refused } else { whole }, "{room}");
     }
     Ok(())
 }

@@ -191,22 +191,28 @@ mod tests {
     use super::*;
 
     #[test]
-    fn worn(rt: HostRuntime) {
+    fn worn_slices(rt: HostRuntime) {
         let mut into = [0; 2];
         let mut slice = SliceSource {
             rest: &[7, 8, 9],
             pulls: u64::MAX - 1,
         };
-        assert_eq!(rt; slice.pull(&mut into), Ok(2));
-        assert_eq!(rt; slice.pull(&mut into), Err(SourceFailed));
-        assert_eq!(rt; (slice.pulls, slice.rest), (u64::MAX, [9].as_slice()));
+        let answers = [slice.pull(&mut into), slice.pull(&mut into)];
+        assert!(rt; answers == [Ok(2), Err(SourceFailed)]);
+        assert!(rt; slice.pulls == u64::MAX && slice.rest == [9].as_slice());
+    }
+
+    #[test]
+    fn worn_readers(rt: HostRuntime) {
+        let mut into = [0; 2];
         let mut reader = ReadSource {
             reader: [7, 8, 9].as_slice(),
             pulls: 5,
             failures: u64::MAX,
         };
-        assert_eq!(rt; reader.pull(&mut into), Err(SourceFailed));
-        assert_eq!(rt; (reader.pulls, reader.reader.len()), (5, 3));
+        let answer = reader.pull(&mut into);
+        assert!(rt; answer == Err(SourceFailed));
+        assert!(rt; reader.pulls == 5 && reader.reader.len() == 3);
     }
 
     #[test]

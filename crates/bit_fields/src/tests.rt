@@ -1,16 +1,14 @@
 //! Rows of the format, read from slices and from readers that give few bytes at a time, and written to writers that take
 //! few bytes at a time.
 
-ghost use Rattle.std.specs.Prelude.{◌≤◌};
-
 use crate::{
     BitReader, BitWriter, BufSource, Fault, Head, Limits, ReadSource, Reason, SliceSource, Source,
-    VecSink, Wrapper, WriteSink,
+    Wrapper, WriteSink,
 };
+use std::alloc::Global;
 use std::io;
 use std::io::{BufRead, Error, ErrorKind, Read, Write};
 use std::process::Abort;
-use std::test::Fail;
 
 /// A magic.
 const MAGIC: [u8; 4] = [0x42, 0x43, 0xC0, 0xDE];
@@ -124,11 +122,7 @@ fn start_fault<S: Source + Drop>(source: S, limits: Limits) -> Option<Fault> {
 }
 
 /// Reads 32-bit words to the end of the stream, and closes: the number of words.
-fn words<S: Source + Drop>(source: S, limits: Limits) -> Result<u64, Fault> {
-    let mut reader = match BitReader::start(source, limits) {
-        Ok((reader, _)) => reader,
-        Err((fault, _)) => return Err(fault),
-    };
+fn words_of<S: Source>(reader: &mut BitReader<S>) -> Result<u64, Fault> {
     for count in 0..1000 {
         if reader.position() % 8 == 0 && reader.at_end()? {
             reader.close()?;
@@ -139,6 +133,41 @@ fn words<S: Source + Drop>(source: S, limits: Limits) -> Result<u64, Fault> {
     Ok(1000)
 }
 
+/// The same from the beginning of a source.
+fn words<S: Source + Drop>(source: S, limits: Limits) -> Result<u64, Fault> {
+    match BitReader::start(source, limits) {
+        Ok((mut reader, _)) => words_of(&mut reader),
+        Err((fault, _)) => Err(fault),
+    }
+}
+
+/// The same in steps of one to nine bytes.
+fn words_in_steps(bytes: &[u8], limits: Limits) -> [Result<u64, Fault>; 9] {
+    let mut answers = [Ok(0); 9];
+    for (index, answer) in answers.iter_mut().enumerate() {
+        *answer = words(in_steps(bytes, index + 1, 0), limits);
+    }
+    answers
+}
+
+/// The same where a reader shows so many bytes at a time.
+fn words_shown(bytes: &[u8], limits: Limits) -> [Result<u64, Fault>; 9] {
+    let mut answers = [Ok(0); 9];
+    for (index, answer) in answers.iter_mut().enumerate() {
+        *answer = words(shown(bytes, index + 1, 0), limits);
+    }
+    answers
+}
+
+/// The faults of starts in steps of one to four bytes, with a reader that fails at one of its reads.
+fn faults_in_steps(bytes: &[u8], fails_at: u64, limits: Limits) -> [Option<Fault>; 4] {
+    let mut faults = [None; 4];
+    for (index, fault) in faults.iter_mut().enumerate() {
+        *fault = start_fault(in_steps(bytes, index + 1, fails_at), limits);
+    }
+    faults
+}
+
 /// A reader after the magic of the stream.
 fn begun<S: Source + Drop>(rt: &impl Abort, source: S, limits: Limits) -> BitReader<S> {
     match BitReader::start(source, limits) {
@@ -147,111 +176,216 @@ fn begun<S: Source + Drop>(rt: &impl Abort, source: S, limits: Limits) -> BitRea
     }
 }
 
+/// The bytes, the depth and the values that limits allow.
+fn parts(limits: Limits) -> (u64, u32, u64) {
+    (limits.bytes(), limits.depth(), limits.values())
+}
+
+static LIMITS: [(u64, u32, u64, bool); 4] = [
+    (17_179_869_180, 255, 4_294_967_295, true),
+    (17_179_869_181, 255, 4_294_967_295, false),
+    (17_179_869_180, 256, 4_294_967_295, false),
+    (17_179_869_180, 255, 4_294_967_296, false),
+];
+
+/// The parts of these limits, if they are allowed.
+fn parts_of(bytes: u64, depth: u32, values: u64) -> Option<(u64, u32, u64)> {
+    match Limits::new(bytes, depth, values) {
+        Some(limits) => Some(parts(limits)),
+        None => None,
+    }
+}
+
 #[test]
 fn limits(rt: HostRuntime) {
-    let most = Limits::new(17_179_869_180, 255, 4_294_967_295);
-    assert_eq!(rt;
-        most.map(|l| (l.bytes(), l.depth(), l.values())),
-        Some((17_179_869_180, 255, 4_294_967_295))
-    );
-    assert_eq!(rt; Limits::new(17_179_869_181, 255, 4_294_967_295), None);
-    assert_eq!(rt; Limits::new(17_179_869_180, 256, 4_294_967_295), None);
-    assert_eq!(rt; Limits::new(17_179_869_180, 255, 4_294_967_296), None);
-    let usual = Limits::usual();
-    assert_eq!(rt;
-        (usual.bytes(), usual.depth(), usual.values()),
-        (1_073_741_824, 64, 134_217_728)
-    );
+    for (bytes, depth, values, allowed) in &LIMITS {
+        let told = parts_of(*bytes, *depth, *values);
+        let wanted = if *allowed {
+            Some((*bytes, *depth, *values))
+        } else {
+            None
+        };
+        assert!(rt; told == wanted, "{bytes} {depth} {values}");
+    }
+    assert!(rt; parts(Limits::usual()) == (1_073_741_824, 64, 134_217_728));
+}
+
+/// So many bytes of the magic, with this limit, and a reader that fails at one of its reads.
+static FAILING_STARTS: [(usize, u64, u64, Fault); 4] = [
+    (
+        0,
+        1000,
+        0,
+        Fault::Refused {
+            reason: Reason::Truncated,
+            bit: 0,
+        },
+    ),
+    (
+        3,
+        1000,
+        0,
+        Fault::Refused {
+            reason: Reason::Truncated,
+            bit: 0,
+        },
+    ),
+    (
+        4,
+        3,
+        0,
+        Fault::Refused {
+            reason: Reason::TooLong,
+            bit: 24,
+        },
+    ),
+    (4, 1000, 1, Fault::Read),
+];
+
+#[test]
+fn failing_starts(rt: HostRuntime) {
+    for (count, bytes, fails_at, fault) in &FAILING_STARTS {
+        let front = &MAGIC[..MAGIC.len().min(*count)];
+        let faults = faults_in_steps(front, *fails_at, limit_of(*bytes));
+        assert!(rt; faults == [Some(*fault); 4], "{count} {bytes}");
+    }
+}
+
+/// The head with which a start answers, and the position then.
+fn head_of(bytes: &[u8]) -> Option<(Head, u64)> {
+    match BitReader::start(SliceSource::new(bytes), Limits::usual()) {
+        Ok((reader, head)) => Some((head, reader.position())),
+        Err(_) => None,
+    }
 }
 
 #[test]
 fn starts(rt: HostRuntime) {
-    for (count, bytes, fails_at, fault) in [
-        (0, 1000, 0, refused(Reason::Truncated, 0)),
-        (3, 1000, 0, refused(Reason::Truncated, 0)),
-        (4, 3, 0, refused(Reason::TooLong, 24)),
-        (4, 1000, 1, Fault::Read),
-    ] {
-        for step in 1..5 {
-            let source = in_steps(&MAGIC[..count], step, fails_at);
-            assert_eq!(rt;
-                start_fault(source, limit_of(bytes)),
-                Some(fault),
-                "{count} {step}"
-            );
-        }
-    }
-    let (reader, head) = match BitReader::start(SliceSource::new(&MAGIC), Limits::usual()) {
-        Ok(begun) => begun,
-        Err((fault, _)) => panic!(rt; "{fault}"),
+    let head = Head {
+        magic: MAGIC,
+        wrapper: None,
     };
-    assert_eq!(rt;
-        head,
-        Head {
-            magic: MAGIC,
-            wrapper: None
-        }
-    );
-    assert_eq!(rt; reader.position(), 32);
+    assert_eq!(rt; head_of(&MAGIC), Some((head, 32)));
+}
+
+/// A byte where one can be read.
+fn byte_of<S: Source>(reader: &mut BitReader<S>) -> Result<u64, Fault> {
+    if reader.position() % 8 != 0 {
+        return Err(Fault::Read);
+    }
+    Ok(reader.byte()? as u64)
+}
+
+/// Padding, as a number.
+fn padding<S: Source>(reader: &mut BitReader<S>) -> Result<u64, Fault> {
+    reader.pad()?;
+    Ok(0)
+}
+
+/// Whether the end is there, as a number.
+fn end_of<S: Source>(reader: &mut BitReader<S>) -> Result<u64, Fault> {
+    if reader.position() % 8 != 0 {
+        return Err(Fault::Read);
+    }
+    Ok(reader.at_end()? as u64)
+}
+
+/// What each call of a reader answers.
+fn all_calls<S: Source>(reader: &mut BitReader<S>) -> [Result<u64, Fault>; 6] {
+    [
+        reader.vbr(2),
+        reader.char6(),
+        padding(reader),
+        reader.fixed(1),
+        byte_of(reader),
+        end_of(reader),
+    ]
 }
 
 #[test]
 fn failed(rt: HostRuntime) {
     let mut reader = begun(&rt, SliceSource::new(&EMPTY_BLOCK), Limits::usual());
-    assert_eq!(rt; reader.fail(Fault::Memory), Fault::Memory);
-    assert_eq!(rt; reader.vbr(2), Err(Fault::Failed));
-    assert_eq!(rt; reader.char6(), Err(Fault::Failed));
-    assert_eq!(rt; reader.pad(), Err(Fault::Failed));
-    assert_eq!(rt; reader.fixed(1), Err(Fault::Failed));
-    assert_eq!(rt; reader.position(), 32);
-    assert_eq!(rt; reader.byte(), Err(Fault::Failed));
-    assert_eq!(rt; reader.at_end(), Err(Fault::Failed));
+    let fault = reader.fail(Fault::Memory);
+    let answers = all_calls(&mut reader);
+    let told = (fault, answers, reader.position());
+    assert!(rt; told == (Fault::Memory, [Err(Fault::Failed); 6], 32));
 }
+
+/// The magic, an empty block, and four bytes more.
+static LONGER: [u8; 20] = [
+    0x42, 0x43, 0xC0, 0xDE, 0x21, 0x08, 0, 0, 1, 0, 0, 0, 0, 0, 0, 0, 0x0A, 0x0A, 0x0A, 0x0A,
+];
+
+/// So many bytes of it, with this limit, and what reading them as words answers.
+static WHOLES: [(usize, u64, Result<u64, Fault>); 8] = [
+    (4, 1000, Ok(0)),
+    (16, 16, Ok(3)),
+    (
+        16,
+        15,
+        Err(Fault::Refused {
+            reason: Reason::TooLong,
+            bit: 120,
+        }),
+    ),
+    (
+        15,
+        15,
+        Err(Fault::Refused {
+            reason: Reason::Truncated,
+            bit: 96,
+        }),
+    ),
+    (
+        14,
+        16,
+        Err(Fault::Refused {
+            reason: Reason::Truncated,
+            bit: 96,
+        }),
+    ),
+    (
+        20,
+        16,
+        Err(Fault::Refused {
+            reason: Reason::TooLong,
+            bit: 128,
+        }),
+    ),
+    (
+        20,
+        17,
+        Err(Fault::Refused {
+            reason: Reason::TooLong,
+            bit: 136,
+        }),
+    ),
+    (20, 1000, Ok(4)),
+];
 
 #[test]
 fn wholes(rt: HostRuntime) {
-    let mut longer = [0x0A; 20];
-    longer[..16].copy_from_slice(&EMPTY_BLOCK);
-    for (count, bytes, answer) in [
-        (4, 1000, Ok(0)),
-        (16, 16, Ok(3)),
-        (16, 15, Err(refused(Reason::TooLong, 120))),
-        (15, 15, Err(refused(Reason::Truncated, 96))),
-        (14, 16, Err(refused(Reason::Truncated, 96))),
-        (20, 16, Err(refused(Reason::TooLong, 128))),
-        (20, 17, Err(refused(Reason::TooLong, 136))),
-        (20, 1000, Ok(4)),
-    ] {
-        for step in 1..10 {
-            let source = in_steps(&longer[..count], step, 0);
-            let other = shown(&longer[..count], step, 0);
-            assert_eq!(rt;
-                (
-                    words(source, limit_of(bytes)),
-                    words(other, limit_of(bytes))
-                ),
-                (answer, answer),
-                "{count} {bytes} {step}"
-            );
-        }
+    for (count, bytes, answer) in &WHOLES {
+        let front = &LONGER[..LONGER.len().min(*count)];
+        let answers = words_in_steps(front, limit_of(*bytes));
+        let others = words_shown(front, limit_of(*bytes));
+        assert!(rt; answers == [*answer; 9] && others == [*answer; 9], "{count} {bytes}");
     }
+}
+
+#[test]
+fn failing_reads(rt: HostRuntime) {
     // sixteen bytes one by one, and the end
     for read in 1..19 {
         let answer = if read == 18 { Ok(3) } else { Err(Fault::Read) };
-        assert_eq!(rt;
-            words(in_steps(&EMPTY_BLOCK, 1, read), Limits::usual()),
-            answer,
-            "{read}"
-        );
+        let told = words(in_steps(&EMPTY_BLOCK, 1, read), Limits::usual());
+        assert!(rt; told == answer, "{read}");
     }
     // the end is shown, and then read
     for read in 1..20 {
         let answer = if read == 19 { Ok(3) } else { Err(Fault::Read) };
-        assert_eq!(rt;
-            words(shown(&EMPTY_BLOCK, 1, read), Limits::usual()),
-            answer,
-            "{read}"
-        );
+        let told = words(shown(&EMPTY_BLOCK, 1, read), Limits::usual());
+        assert!(rt; told == answer, "{read}");
     }
 }
 
@@ -268,68 +402,71 @@ fn wrapped(offset: u8, size: u8, version: u8) -> [u8; 48] {
 
 #[test]
 fn heads(rt: HostRuntime) {
-    let input = wrapped(20, 16, 0);
-    let (reader, head) = match BitReader::start(SliceSource::new(&input), Limits::usual()) {
-        Ok(begun) => begun,
-        Err((fault, _)) => panic!(rt; "{fault}"),
-    };
     let wrapper = Wrapper {
         offset: 20,
         size: 16,
         cpu: 0x0100_0007,
     };
-    assert_eq!(rt; reader.position(), 192);
-    assert_eq!(rt;
-        head,
-        Head {
-            magic: MAGIC,
-            wrapper: Some(wrapper)
-        }
-    );
+    let head = Head {
+        magic: MAGIC,
+        wrapper: Some(wrapper),
+    };
+    assert_eq!(rt; head_of(&wrapped(20, 16, 0)), Some((head, 192)));
 }
 
-#[test]
-fn wrappers(rt: HostRuntime) {
-    for (offset, size, version, count, bytes, answer) in [
-        (20, 16, 0, 48, 48, Ok(3)),
-        (20, 16, 0, 36, 36, Ok(3)),
-        (20, 16, 0, 48, 47, Err(refused(Reason::TooLong, 376))),
-        (20, 20, 0, 36, 1000, Err(refused(Reason::WrapperSize, 96))),
-        (
-            20,
-            16,
-            1,
-            48,
-            1000,
-            Err(refused(Reason::WrapperVersion, 32)),
-        ),
-        (16, 16, 0, 48, 1000, Err(refused(Reason::WrapperOffset, 64))),
-        (22, 16, 0, 48, 1000, Err(refused(Reason::WrapperOffset, 64))),
-        (252, 16, 0, 48, 1000, Err(refused(Reason::Truncated, 160))),
-        (252, 16, 0, 48, 47, Err(refused(Reason::TooLong, 376))),
-        (20, 3, 0, 48, 1000, Err(refused(Reason::Truncated, 160))),
-        (20, 16, 0, 20, 1000, Err(refused(Reason::Truncated, 160))),
-        (20, 16, 0, 11, 1000, Err(refused(Reason::Truncated, 64))),
-        (20, 16, 0, 48, 10, Err(refused(Reason::TooLong, 80))),
-    ] {
-        let input = wrapped(offset, size, version);
-        for step in 1..10 {
-            let source = in_steps(&input[..input.len().min(count)], step, 0);
-            assert_eq!(rt;
-                words(source, limit_of(bytes)),
-                answer,
-                "{offset} {size} {count} {bytes} {step}"
-            );
-        }
+/// Wrappers with this offset, size and version, cut to so many bytes, with this limit, and why they are refused, if they are.
+static WRAPPERS: [(u8, u8, u8, usize, u64, Option<(Reason, u64)>); 13] = [
+    (20, 16, 0, 48, 48, None),
+    (20, 16, 0, 36, 36, None),
+    (20, 16, 0, 48, 47, Some((Reason::TooLong, 376))),
+    (20, 20, 0, 36, 1000, Some((Reason::WrapperSize, 96))),
+    (20, 16, 1, 48, 1000, Some((Reason::WrapperVersion, 32))),
+    (16, 16, 0, 48, 1000, Some((Reason::WrapperOffset, 64))),
+    (22, 16, 0, 48, 1000, Some((Reason::WrapperOffset, 64))),
+    (252, 16, 0, 48, 1000, Some((Reason::Truncated, 160))),
+    (252, 16, 0, 48, 47, Some((Reason::TooLong, 376))),
+    (20, 3, 0, 48, 1000, Some((Reason::Truncated, 160))),
+    (20, 16, 0, 20, 1000, Some((Reason::Truncated, 160))),
+    (20, 16, 0, 11, 1000, Some((Reason::Truncated, 64))),
+    (20, 16, 0, 48, 10, Some((Reason::TooLong, 80))),
+];
+
+/// Three words, or why not.
+fn three_words_or(why: Option<(Reason, u64)>) -> Result<u64, Fault> {
+    match why {
+        Some((reason, bit)) => Err(refused(reason, bit)),
+        None => Ok(3),
     }
 }
 
 #[test]
-fn nested(rt: HostRuntime) {
+fn wrappers(rt: HostRuntime) {
+    for (offset, size, version, count, bytes, why) in &WRAPPERS {
+        let input = wrapped(*offset, *size, *version);
+        let front = &input[..input.len().min(*count)];
+        let answers = words_in_steps(front, limit_of(*bytes));
+        assert!(rt;
+            answers == [three_words_or(*why); 9],
+            "{offset} {size} {count} {bytes}"
+        );
+    }
+}
+
+/// A wrapper around a wrapper.
+fn twice_wrapped() -> [u8; 48] {
     let mut input = wrapped(20, 16, 0);
-    input[20..24].copy_from_slice(&WRAPPER[..4]);
+    input[20] = 0xDE;
+    input[21] = 0xC0;
+    input[22] = 0x17;
+    input[23] = 0x0B;
+    input
+}
+
+#[test]
+fn nested(rt: HostRuntime) {
+    let input = twice_wrapped();
     let fault = start_fault(SliceSource::new(&input), Limits::usual());
-    assert_eq!(rt; fault, Some(refused(Reason::WrapperNested, 160)));
+    assert!(rt; fault == Some(refused(Reason::WrapperNested, 160)));
 }
 
 /// An input of 2,000 bytes, with a wrapper of this offset.
@@ -340,43 +477,100 @@ fn far(offset: [u8; 4]) -> [u8; 2000] {
     input
 }
 
+/// A limit, and the fault where a gap does not end.
+static GAPS: [(u64, Fault); 2] = [
+    (
+        2000,
+        Fault::Refused {
+            reason: Reason::Truncated,
+            bit: 160,
+        },
+    ),
+    (
+        1000,
+        Fault::Refused {
+            reason: Reason::TooLong,
+            bit: 8000,
+        },
+    ),
+];
+
 #[test]
-fn gaps(rt: HostRuntime) {
+fn gaps_that_do_not_end(rt: HostRuntime) {
     let open = far([0xFC, 0xFF, 0xFF, 0xFF]);
-    for (bytes, fault) in [
-        (2000, refused(Reason::Truncated, 160)),
-        (1000, refused(Reason::TooLong, 8000)),
-    ] {
-        let answer = start_fault(SliceSource::new(&open), limit_of(bytes));
-        assert_eq!(rt; answer, Some(fault), "{bytes}");
-    }
-    let input = far([0, 4, 0, 0]);
-    for step in [1, 3, 4, 1000] {
-        let reader = begun(&rt, in_steps(&input, step, 0), Limits::usual());
-        assert_eq!(rt; reader.position(), 8224);
+    for (bytes, fault) in &GAPS {
+        let answer = start_fault(SliceSource::new(&open), limit_of(*bytes));
+        assert!(rt; answer == Some(*fault), "{bytes}");
     }
 }
 
 #[test]
+fn gaps(rt: HostRuntime) {
+    let input = far([0, 4, 0, 0]);
+    for step in [1, 3, 4, 1000] {
+        let reader = begun(&rt, in_steps(&input, step, 0), Limits::usual());
+        assert!(rt; reader.position() == 8224, "{step}");
+    }
+}
+
+/// What stands in front of padding, the padding, and the bit behind it; and the position before that bit.
+fn up_to_padding<S: Source>(reader: &mut BitReader<S>) -> ([Result<u64, Fault>; 5], u64) {
+    let first = reader.fixed(2);
+    let id = reader.vbr(8);
+    let width = reader.vbr(4);
+    let pad = padding(reader);
+    let position = reader.position();
+    ([first, id, width, pad, reader.fixed(1)], position)
+}
+
+/// A limit, and what the numbers and the padding answer where the padding is cut, with the position there.
+static CUT: [(
+    u64,
+    Result<u64, Fault>,
+    Result<u64, Fault>,
+    Result<u64, Fault>,
+    u64,
+); 3] = [
+    (
+        1000,
+        Ok(8),
+        Ok(2),
+        Err(Fault::Refused {
+            reason: Reason::Truncated,
+            bit: 206,
+        }),
+        206,
+    ),
+    (
+        47,
+        Ok(8),
+        Ok(2),
+        Err(Fault::Refused {
+            reason: Reason::Truncated,
+            bit: 206,
+        }),
+        206,
+    ),
+    (
+        25,
+        Err(Fault::Refused {
+            reason: Reason::TooLong,
+            bit: 200,
+        }),
+        Err(Fault::Failed),
+        Err(Fault::Failed),
+        194,
+    ),
+];
+
+#[test]
 fn cut_padding(rt: HostRuntime) {
     let input = wrapped(20, 6, 0);
-    for (bytes, fault) in [
-        (1000, refused(Reason::Truncated, 206)),
-        (47, refused(Reason::Truncated, 206)),
-        (25, refused(Reason::TooLong, 200)),
-    ] {
-        let mut reader = begun(&rt, SliceSource::new(&input), limit_of(bytes));
-        assert_eq!(rt; reader.fixed(2), Ok(1));
-        if bytes == 25 {
-            assert_eq!(rt; reader.vbr(8), Err(fault));
-            assert_eq!(rt; reader.position(), 194);
-        } else {
-            assert_eq!(rt; reader.vbr(8), Ok(8));
-            assert_eq!(rt; reader.vbr(4), Ok(2));
-            assert_eq!(rt; reader.pad(), Err(fault));
-            assert_eq!(rt; reader.position(), 206);
-        }
-        assert_eq!(rt; reader.fixed(1), Err(Fault::Failed));
+    for (bytes, id, width, pad, position) in &CUT {
+        let mut reader = begun(&rt, SliceSource::new(&input), limit_of(*bytes));
+        let (answers, end) = up_to_padding(&mut reader);
+        let wanted = [Ok(1), *id, *width, *pad, Err(Fault::Failed)];
+        assert!(rt; answers == wanted && end == *position, "{bytes}");
     }
 }
 
@@ -389,68 +583,158 @@ fn after_magic(bytes: &[u8]) -> [u8; 24] {
     input
 }
 
-/// What one number in chunks answers after the magic, and the position then.
-fn number<S: Source + Drop>(rt: &impl Abort, source: S, n: u32) -> (Result<u64, Fault>, u64)
-    requires some { 2 ≤ n }
-    requires few { n ≤ 32 }
-{
-    let mut reader = begun(rt, source, Limits::usual());
-    let answer = reader.vbr(n);
-    (answer, reader.position())
+/// What one number in chunks of a lawful width answers after the magic, and the position then.
+fn number<S: Source + Drop>(source: S, n: u32) -> (Result<u64, Fault>, u64) {
+    match BitReader::start(source, Limits::usual()) {
+        Ok((mut reader, _)) if n >= 2 && n <= 32 => {
+            let answer = reader.vbr(n);
+            (answer, reader.position())
+        }
+        _ => (Err(Fault::Read), 0),
+    }
 }
+
+/// The same in steps of one to nine bytes.
+fn number_in_steps(bytes: &[u8], n: u32) -> [(Result<u64, Fault>, u64); 9] {
+    let mut answers = [(Ok(0), 0); 9];
+    for (index, answer) in answers.iter_mut().enumerate() {
+        *answer = number(in_steps(bytes, index + 1, 0), n);
+    }
+    answers
+}
+
+/// The same where a reader shows so many bytes at a time.
+fn number_shown(bytes: &[u8], n: u32) -> [(Result<u64, Fault>, u64); 9] {
+    let mut answers = [(Ok(0), 0); 9];
+    for (index, answer) in answers.iter_mut().enumerate() {
+        *answer = number(shown(bytes, index + 1, 0), n);
+    }
+    answers
+}
+
+/// Bytes after the magic, a width, and what the number in chunks of that width answers.
+static NUMBERS: [(&[u8], u32, Result<u64, Fault>, u64); 5] = [
+    (
+        &[
+            0xFF, 0xFF, 0xFF, 0xFF, 0xFF, 0xFF, 0xFF, 0xFF, 0xFF, 0xFF, 0xFF, 0xFF, 0xFF, 0xFF,
+            0xFF, 0x7F,
+        ],
+        2,
+        Ok(18446744073709551615),
+        160,
+    ),
+    (
+        &[
+            0xFF, 0xFF, 0xFF, 0xFF, 0xFF, 0xFF, 0xFF, 0xFF, 0xFF, 0xFF, 0xFF, 0xFF, 0xFF, 0xFF,
+            0xFF, 0xFF,
+        ],
+        2,
+        Err(Fault::Refused {
+            reason: Reason::ValueTooWide,
+            bit: 32,
+        }),
+        32,
+    ),
+    (
+        &[0, 0, 0, 0x80, 0, 0, 0, 0x80, 3, 0, 0, 0],
+        32,
+        Ok(13835058055282163712),
+        128,
+    ),
+    (
+        &[0, 0, 0, 0x80, 0, 0, 0, 0x80, 4, 0, 0, 0],
+        32,
+        Err(Fault::Refused {
+            reason: Reason::ValueTooWide,
+            bit: 32,
+        }),
+        32,
+    ),
+    (
+        &[0, 0, 0, 0x80, 0, 0, 0, 0x80, 3, 0, 0],
+        32,
+        Err(Fault::Refused {
+            reason: Reason::Truncated,
+            bit: 32,
+        }),
+        32,
+    ),
+];
 
 #[test]
 fn numbers(rt: HostRuntime) {
-    let mut widest = [0xFF; 16];
-    let too_wide = after_magic(&widest);
-    widest[15] = 0x7F;
-    let wide = after_magic(&widest);
-    let words = after_magic(&[0, 0, 0, 0x80, 0, 0, 0, 0x80, 3, 0, 0, 0]);
-    let high = after_magic(&[0, 0, 0, 0x80, 0, 0, 0, 0x80, 4, 0, 0, 0]);
-    for (input, count, n, answer) in [
-        (wide, 20, 2, (Ok(18446744073709551615), 160)),
-        (
-            too_wide,
-            20,
-            2,
-            (Err(refused(Reason::ValueTooWide, 32)), 32),
-        ),
-        (words, 16, 32, (Ok(13835058055282163712), 128)),
-        (high, 16, 32, (Err(refused(Reason::ValueTooWide, 32)), 32)),
-        (words, 15, 32, (Err(refused(Reason::Truncated, 32)), 32)),
-    ] {
-        for step in 1..10 {
-            let source = in_steps(&input[..count], step, 0);
-            assert_eq!(rt; number(&rt, source, n), answer, "{count} {step}");
-            let source = shown(&input[..count], step, 0);
-            assert_eq!(rt; number(&rt, source, n), answer, "{count} {step}");
-        }
+    for (bytes, n, answer, position) in &NUMBERS {
+        let input = after_magic(bytes);
+        let front = &input[..4 + bytes.len().min(20)];
+        let answers = number_in_steps(front, *n);
+        let others = number_shown(front, *n);
+        let wanted = [(*answer, *position); 9];
+        assert!(rt; answers == wanted && others == wanted, "{bytes:?} {n}");
     }
 }
+
+/// Four characters.
+fn four_characters<S: Source>(reader: &mut BitReader<S>) -> [Result<u64, Fault>; 4] {
+    [
+        reader.char6(),
+        reader.char6(),
+        reader.char6(),
+        reader.char6(),
+    ]
+}
+
+static CHARACTERS: [Result<u64, Fault>; 4] = [
+    Ok(95),
+    Ok(97),
+    Err(Fault::Refused {
+        reason: Reason::Truncated,
+        bit: 44,
+    }),
+    Err(Fault::Failed),
+];
 
 #[test]
 fn characters(rt: HostRuntime) {
     let input = after_magic(&[0x3F, 0]);
     let mut reader = begun(&rt, SliceSource::new(&input[..6]), Limits::usual());
-    assert_eq!(rt; reader.char6(), Ok(95));
-    assert_eq!(rt; reader.char6(), Ok(97));
-    assert_eq!(rt; reader.char6(), Err(refused(Reason::Truncated, 44)));
-    assert_eq!(rt; reader.char6(), Err(Fault::Failed));
+    let told = four_characters(&mut reader);
+    assert!(rt; told == CHARACTERS);
 }
+
+/// Three bits, padding twice, a byte, and padding twice; and the positions after the first padding and before the last.
+fn paddings_of<S: Source>(reader: &mut BitReader<S>) -> ([Result<u64, Fault>; 6], [u64; 2]) {
+    let bits = reader.fixed(3);
+    let first = padding(reader);
+    let begin = reader.position();
+    let second = padding(reader);
+    let byte = byte_of(reader);
+    let third = padding(reader);
+    let end = reader.position();
+    (
+        [bits, first, second, byte, third, padding(reader)],
+        [begin, end],
+    )
+}
+
+static PADDINGS: [Result<u64, Fault>; 6] = [
+    Ok(5),
+    Ok(0),
+    Ok(0),
+    Ok(1),
+    Err(Fault::Refused {
+        reason: Reason::DirtyPadding,
+        bit: 95,
+    }),
+    Err(Fault::Failed),
+];
 
 #[test]
 fn paddings(rt: HostRuntime) {
     let input = after_magic(&[0x05, 0, 0, 0, 0x01, 0, 0, 0x80]);
     for step in 1..10 {
         let mut reader = begun(&rt, in_steps(&input[..12], step, 0), Limits::usual());
-        assert_eq!(rt; reader.fixed(3), Ok(5));
-        assert_eq!(rt; reader.pad(), Ok(()));
-        assert_eq!(rt; reader.position(), 64);
-        assert_eq!(rt; reader.pad(), Ok(()));
-        assert_eq!(rt; reader.byte(), Ok(1));
-        assert_eq!(rt; reader.pad(), Err(refused(Reason::DirtyPadding, 95)));
-        assert_eq!(rt; reader.position(), 72);
-        assert_eq!(rt; reader.pad(), Err(Fault::Failed));
+        let (answers, positions) = paddings_of(&mut reader);
+        assert!(rt; answers == PADDINGS && positions == [64, 72], "{step}");
     }
 }
 
@@ -460,18 +744,43 @@ fn some_fields<S: Source + Drop>(source: S) -> Result<u64, Fault> {
         Ok((reader, _)) => reader,
         Err((fault, _)) => return Err(fault),
     };
+    digits_of(&mut reader)
+}
+
+fn digits_of<S: Source + Drop>(reader: &mut BitReader<S>) -> Result<u64, Fault> {
     let fixed = reader.fixed(7)?;
     let code = reader.char6()?;
     let short = reader.vbr(4)?;
     reader.pad()?;
     let byte = u64::from(reader.byte()?);
     let long = reader.vbr(3)?;
-    let digits = [fixed, code, short, byte, long];
     let mut all: u64 = 0;
-    for digit in digits {
+    for digit in [fixed, code, short, byte, long] {
         all = all.wrapping_mul(1000).wrapping_add(digit);
     }
     Ok(all)
+}
+
+/// Whether both sources over a reader give this, however few bytes it gives at a time.
+fn give_fields(input: &[u8], answer: Result<u64, Fault>) -> bool {
+    let mut same = true;
+    for step in 1..12 {
+        let read = some_fields(in_steps(input, step, 0));
+        let seen = some_fields(shown(input, step, 0));
+        same = same && read == answer && seen == answer;
+    }
+    same
+}
+
+/// Whether both sources fail where their reader does at one of the reads of eleven bytes.
+fn fail_within(input: &[u8]) -> bool {
+    let mut fail = true;
+    for fails_at in 1..12 {
+        let read = some_fields(in_steps(input, 1, fails_at));
+        let seen = some_fields(shown(input, 1, fails_at));
+        fail = fail && read == Err(Fault::Read) && seen == Err(Fault::Read);
+    }
+    fail
 }
 
 #[test]
@@ -479,39 +788,9 @@ fn fields_at_an_end(rt: HostRuntime) {
     // 93, 'z', 5 + 8 * 2; zeros; 200, and 3 + 4 * (3 + 4 * (3 + 4 * (2 + 4 * 1)))
     let input = after_magic(&[0xDD, 0xAC, 0x05, 0, 0xC8, 0xFF, 0x1D]);
     let answer = Ok(93_122_021_200_447);
-    assert_eq!(rt; some_fields(SliceSource::new(&input[..11])), answer);
-    for step in 1..12 {
-        assert_eq!(rt;
-            some_fields(in_steps(&input[..11], step, 0)),
-            answer,
-            "{step}"
-        );
-        assert_eq!(rt; some_fields(shown(&input[..11], step, 0)), answer, "{step}");
-    }
-    // eleven bytes one by one
-    for read in 1..12 {
-        assert_eq!(rt;
-            some_fields(in_steps(&input, 1, read)),
-            Err(Fault::Read),
-            "{read}"
-        );
-        assert_eq!(rt;
-            some_fields(shown(&input, 1, read)),
-            Err(Fault::Read),
-            "{read}"
-        );
-    }
-}
-
-#[test]
-fn writes(rt: HostRuntime) {
-    let mut writer = BitWriter::new(VecSink::new(rt.alloc()));
-    assert_eq!(rt; writer.vbr(6, 32), Ok(()));
-    assert_eq!(rt; writer.position(), 12);
-    assert_eq!(rt; writer.pad(), Ok(()));
-    assert_eq!(rt; writer.position(), 32);
-    assert_eq!(rt; writer.finish(), Ok(()));
-    assert_eq!(rt; writer.into_sink().bytes(), [0x60, 0, 0, 0].as_slice());
+    let whole = some_fields(SliceSource::new(&input[..11]));
+    assert!(rt; whole == answer && give_fields(&input[..11], answer));
+    assert!(rt; fail_within(&input));
 }
 
 /// Writes two numbers and padding, nine bytes with those of a third field.
@@ -536,33 +815,34 @@ fn write_fields<W: Write>(writer: &mut BitWriter<WriteSink<W>>) -> Result<(), Fa
     Ok(())
 }
 
+/// Whether a writer of this kind gets the whole, or a front of it where it fails.
+fn gets_its_part(alloc: Global, step: usize, fails_at: u64, whole: &[u8]) -> bool {
+    let (answer, position, slow) = write_some(WriteSink::new(Slow {
+        taken: Vec::new(alloc),
+        step,
+        writes: 0,
+        fails_at,
+    }));
+    let taken = slow.taken.as_slice();
+    match answer {
+        Ok(()) => position == 160 && taken == whole,
+        Err(fault) => fault == Fault::Write && fails_at > 0 && whole.starts_with(taken),
+    }
+}
+
 #[test]
-fn slow_writers(rt: HostRuntime) -> Result<(), Fail> {
+fn slow_writers(rt: HostRuntime) {
     let mut whole = [0xFF; 20];
     whole[..4].copy_from_slice(&MAGIC);
     whole[19] = 0x7F;
     for step in 1..10 {
         for fails_at in 0..30 {
-            let slow = Slow {
-                taken: Vec::new(rt.alloc()),
-                step,
-                writes: 0,
-                fails_at,
-            };
-            let (answer, position, slow) = write_some(WriteSink::new(slow));
-            let taken = slow.taken.as_slice();
-            if answer == Ok(()) {
-                assert_eq!(rt; (position, taken), (160, whole.as_slice()));
-            } else {
-                assert_eq!(rt; answer, Err(Fault::Write));
-                assert!(rt;
-                    whole.starts_with(taken) && fails_at > 0,
-                    "{step} {fails_at}"
-                );
-            }
+            assert!(rt;
+                gets_its_part(rt.alloc(), step, fails_at, &whole),
+                "{step} {fails_at}"
+            );
         }
     }
-    Ok(())
 }
 
 #[test]

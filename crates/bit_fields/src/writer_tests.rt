@@ -5,7 +5,6 @@ use crate::sink::{Sink, SinkFailed, VecSink, WriteSink};
 use crate::writer::BitWriter;
 use std::alloc::Global;
 use std::io::{self, ErrorKind, Write};
-use std::process::Abort;
 use std::test::Fail;
 
 /// A sink that takes few bytes a put, and fails at one of its puts.
@@ -95,149 +94,215 @@ static WRITTEN: [u8; 76] = [
     0x00, 0x00, 0x82, 0x00, 0x00, 0x00, 0xfc, 0xff, 0xff, 0xff, 0xff, 0x03,
 ];
 
-/// Fields of the least, a middle and the greatest width, at their ends and where a chunk more is needed.
-fn write_fields<K: Sink>(rt: &impl Abort, writer: &mut BitWriter<K>) -> Result<(), Fault> {
-    for n in [2, 6, 32] {
-        for value in [0, 31, 32, u64::MAX] {
-            assert!(rt; n >= 2 && n <= 32 && writer.position() < 1 << 62);
-            writer.vbr(n, value)?;
+/// Numbers in chunks of the least, a middle and the greatest width, at their ends and where a chunk more is needed.
+static NUMBERS: [(u32, u64); 12] = [
+    (2, 0),
+    (2, 31),
+    (2, 32),
+    (2, u64::MAX),
+    (6, 0),
+    (6, 31),
+    (6, 32),
+    (6, u64::MAX),
+    (32, 0),
+    (32, 31),
+    (32, 32),
+    (32, u64::MAX),
+];
+
+fn write_numbers<K: Sink>(writer: &mut BitWriter<K>) -> Result<(), Fault> {
+    for (n, value) in &NUMBERS {
+        if *n < 2 || *n > 32 || writer.position() >= 1 << 62 {
+            return Err(Fault::Read);
         }
+        writer.vbr(*n, *value)?;
     }
-    assert!(rt; writer.position() < 1 << 62);
+    Ok(())
+}
+
+/// Fields of the same widths, at their lower ends.
+fn write_low<K: Sink>(writer: &mut BitWriter<K>) -> Result<(), Fault> {
+    if writer.position() >= 1 << 62 {
+        return Err(Fault::Read);
+    }
     writer.fixed(2, 0)?;
     writer.fixed(6, 0)?;
     writer.fixed(32, 0)?;
     writer.fixed(6, 31)?;
-    writer.fixed(32, 31)?;
+    writer.fixed(32, 31)
+}
+
+/// And at their upper ends.
+fn write_high<K: Sink>(writer: &mut BitWriter<K>) -> Result<(), Fault> {
+    if writer.position() >= 1 << 62 {
+        return Err(Fault::Read);
+    }
     writer.fixed(6, 32)?;
     writer.fixed(32, 32)?;
     writer.fixed(2, 3)?;
     writer.fixed(6, 63)?;
-    writer.fixed(32, 0xffff_ffff)?;
-    assert_eq!(rt; writer.position(), 602);
+    writer.fixed(32, 0xffff_ffff)
+}
+
+/// Padding to this position, and the end.
+fn write_end<K: Sink>(writer: &mut BitWriter<K>, end: u64) -> Result<(), Fault> {
+    if writer.position() >= 1 << 62 {
+        return Err(Fault::Read);
+    }
     writer.pad()?;
-    assert_eq!(rt; writer.position(), 608);
+    if writer.position() != end || end % 8 != 0 {
+        return Err(Fault::Read);
+    }
     writer.finish()
 }
 
-/// Each call of a writer that has failed answers so, and its position stays.
-fn has_failed<K: Sink>(rt: &impl Abort, writer: &mut BitWriter<K>) {
-    let position = writer.position();
-    assert!(rt; position < 1 << 62);
-    assert_eq!(rt; writer.fixed(1, 0), Err(Fault::Failed));
-    assert_eq!(rt; writer.vbr(6, 0), Err(Fault::Failed));
-    assert_eq!(rt; writer.vbr(6, u64::MAX), Err(Fault::Failed));
-    assert_eq!(rt; writer.pad(), Err(Fault::Failed));
-    if writer.position() % 8 == 0 {
-        assert_eq!(rt; writer.finish(), Err(Fault::Failed));
+/// All of them, and padding. A wrong position is a fault of reading, which no writer gives.
+fn write_fields<K: Sink>(writer: &mut BitWriter<K>) -> Result<(), Fault> {
+    write_numbers(writer)?;
+    write_low(writer)?;
+    write_high(writer)?;
+    if writer.position() != 602 {
+        return Err(Fault::Read);
     }
-    assert_eq!(rt; writer.position(), position);
+    write_end(writer, 608)
+}
+
+/// Whether each call of a writer that has failed answers so, and its position stays.
+fn has_failed<K: Sink>(writer: &mut BitWriter<K>) -> bool {
+    let failed = Err(Fault::Failed);
+    let position = writer.position();
+    position < 1 << 62
+        && writer.fixed(1, 0) == failed
+        && writer.vbr(6, 0) == failed
+        && writer.vbr(6, u64::MAX) == failed
+        && writer.pad() == failed
+        && (position % 8 != 0 || writer.finish() == failed)
+        && writer.position() == position
+}
+
+/// A number of two chunks, and padding.
+fn write_number<K: Sink>(writer: &mut BitWriter<K>) -> Result<(), Fault> {
+    if writer.position() != 0 {
+        return Err(Fault::Read);
+    }
+    writer.vbr(6, 32)?;
+    if writer.position() != 12 {
+        return Err(Fault::Read);
+    }
+    write_end(writer, 32)
 }
 
 #[test]
 fn a_chunk_more(rt: HostRuntime) -> Result<(), Fail> {
     let mut writer = BitWriter::new(VecSink::new(rt.alloc()));
-    writer.vbr(6, 32)?;
-    assert_eq!(rt; writer.position(), 12);
-    writer.pad()?;
-    assert_eq!(rt; writer.position(), 32);
-    writer.finish()?;
-    assert_eq!(rt; writer.into_sink().bytes(), [0x60, 0, 0, 0].as_slice());
+    write_number(&mut writer)?;
+    assert!(rt; writer.into_sink().bytes() == [0x60, 0, 0, 0].as_slice());
     Ok(())
+}
+
+/// A sink after all of it.
+fn written_to<K: Sink + Drop>(sink: K) -> Result<K, Fault> {
+    let mut writer = BitWriter::new(sink);
+    write_fields(&mut writer)?;
+    Ok(writer.into_sink())
 }
 
 #[test]
 fn vectors_take_all(rt: HostRuntime) -> Result<(), Fail> {
-    let mut writer = BitWriter::new(VecSink::new(rt.alloc()));
-    write_fields(&rt, &mut writer)?;
-    assert_eq!(rt; writer.into_sink().bytes(), WRITTEN.as_slice());
-    let mut sink = VecSink::new(rt.alloc());
-    assert_eq!(rt; sink.put(&[1, 2, 3]), Ok(3));
-    assert_eq!(rt; sink.put(&[]), Ok(0));
-    assert_eq!(rt; sink.put(&[4]), Ok(1));
-    assert_eq!(rt; sink.bytes(), [1, 2, 3, 4].as_slice());
+    let sink = written_to(VecSink::new(rt.alloc()))?;
+    assert!(rt; sink.bytes() == WRITTEN.as_slice());
     Ok(())
+}
+
+#[test]
+fn vectors_keep_the_order(rt: HostRuntime) {
+    let mut sink = VecSink::new(rt.alloc());
+    let answers = [sink.put(&[1, 2, 3]), sink.put(&[]), sink.put(&[4])];
+    assert!(rt; answers == [Ok(3), Ok(0), Ok(1)]);
+    assert!(rt; sink.bytes() == [1, 2, 3, 4].as_slice());
 }
 
 #[test]
 fn writers_take_all(rt: HostRuntime) -> Result<(), Fail> {
-    let mut writer = BitWriter::new(WriteSink::new(Vec::new(rt.alloc())));
-    write_fields(&rt, &mut writer)?;
-    let mut sink = writer.into_sink();
+    let mut sink = written_to(WriteSink::new(Vec::new(rt.alloc())))?;
     sink.flush()?;
-    assert_eq!(rt; sink.into_inner().as_slice(), WRITTEN.as_slice());
+    assert!(rt; sink.into_inner().as_slice() == WRITTEN.as_slice());
     Ok(())
 }
 
 #[test]
-fn writers_fail_alone(rt: HostRuntime) -> Result<(), Fail> {
+fn short_writers(rt: HostRuntime) -> Result<(), Fail> {
     let mut sink = WriteSink::new(Balky {
         fails: false,
         flushes: 0,
     });
-    assert_eq!(rt; sink.put(&[1, 2, 3]), Ok(2));
-    assert_eq!(rt; sink.put(&[3]), Ok(1));
+    let answers = [sink.put(&[1, 2, 3]), sink.put(&[3])];
     sink.flush()?;
-    let mut balky = sink.into_inner();
-    assert_eq!(rt; balky.flushes, 1);
-    balky.fails = true;
-    let mut sink = WriteSink::new(balky);
-    assert_eq!(rt; sink.put(&[1, 2, 3]), Err(SinkFailed));
-    assert_eq!(rt; sink.flush(), Err(SinkFailed));
+    assert!(rt; answers == [Ok(2), Ok(1)] && sink.into_inner().flushes == 1);
     Ok(())
+}
+
+#[test]
+fn writers_fail_alone(rt: HostRuntime) {
+    let mut sink = WriteSink::new(Balky {
+        fails: true,
+        flushes: 0,
+    });
+    let put = sink.put(&[1, 2, 3]);
+    assert!(rt; put == Err(SinkFailed) && sink.flush() == Err(SinkFailed));
 }
 
 #[test]
 fn short_puts_lose_nothing(rt: HostRuntime) -> Result<(), Fail> {
     for most in [1, 3, 4, 7, 8] {
-        let mut writer = BitWriter::new(Pieces::new(rt.alloc(), most, u64::MAX));
-        write_fields(&rt, &mut writer)?;
-        let sink = writer.into_sink();
-        assert!(rt; sink.widest <= 8);
-        assert_eq!(rt;
-            sink.bytes.as_slice(),
-            WRITTEN.as_slice(),
-            "{most} bytes a put"
-        );
+        let sink = written_to(Pieces::new(rt.alloc(), most, u64::MAX))?;
+        let whole = sink.bytes.as_slice() == WRITTEN.as_slice();
+        assert!(rt; whole && sink.widest <= 8, "{most} bytes a put");
     }
     Ok(())
 }
 
+/// Whether a sink of this kind fails once, keeps a front of what is written, and the writer has failed then.
+fn keeps_a_front(alloc: Global, most: usize, puts: u64) -> bool {
+    let mut writer = BitWriter::new(Pieces::new(alloc, most, puts));
+    let answer = write_fields(&mut writer);
+    let failed = answer == Err(Fault::Write) && has_failed(&mut writer);
+    let sink = writer.into_sink();
+    failed && sink.failures == 1 && WRITTEN.starts_with(&sink.bytes)
+}
+
 #[test]
-fn failing_puts_keep_a_front(rt: HostRuntime) -> Result<(), Fail> {
+fn failing_puts_keep_a_front(rt: HostRuntime) {
     for most in [1, 3, 4, 8] {
         for puts in 0..10 {
-            let mut writer = BitWriter::new(Pieces::new(rt.alloc(), most, puts));
-            assert_eq!(rt; write_fields(&rt, &mut writer), Err(Fault::Write));
-            has_failed(&rt, &mut writer);
-            let sink = writer.into_sink();
             assert!(rt;
-                WRITTEN.starts_with(&sink.bytes),
+                keeps_a_front(rt.alloc(), most, puts),
                 "{puts} puts of {most} bytes"
             );
-            assert_eq!(rt; sink.failures, 1);
         }
     }
-    Ok(())
 }
 
 #[test]
 fn no_byte_taken_is_a_failure(rt: HostRuntime) {
-    let mut writer = BitWriter::new(Pieces::new(rt.alloc(), 0, u64::MAX));
-    assert_eq!(rt; write_fields(&rt, &mut writer), Err(Fault::Write));
-    has_failed(&rt, &mut writer);
-    assert_eq!(rt; writer.into_sink().failures, 1);
+    assert!(rt; keeps_a_front(rt.alloc(), 0, u64::MAX));
+}
+
+/// Whether a writer fails at the end of a field, and has failed then.
+fn fails_at_the_end<K: Sink>(writer: &mut BitWriter<K>) -> bool {
+    writer.position() == 0
+        && writer.fixed(32, 7).is_ok()
+        && writer.position() == 32
+        && writer.finish() == Err(Fault::Write)
+        && has_failed(writer)
+        && writer.position() == 32
 }
 
 #[test]
-fn worn_sinks_fail(rt: HostRuntime) -> Result<(), Fail> {
+fn worn_sinks_fail(rt: HostRuntime) {
     let mut sink = Pieces::new(rt.alloc(), 8, u64::MAX);
     sink.failures = u64::MAX;
     let mut writer = BitWriter::new(sink);
-    writer.fixed(32, 7)?;
-    assert_eq!(rt; writer.finish(), Err(Fault::Write));
-    has_failed(&rt, &mut writer);
-    assert_eq!(rt; writer.position(), 32);
-    assert_eq!(rt; writer.into_sink().failures, u64::MAX);
-    Ok(())
+    assert!(rt; fails_at_the_end(&mut writer));
+    assert!(rt; writer.into_sink().failures == u64::MAX);
 }
