@@ -7,7 +7,6 @@ use std::fmt::Write;
 use std::io;
 use std::io::{Error, ErrorKind, Read};
 use std::process::Abort;
-use std::test::Fail;
 
 /// A reader that gives at most so many bytes at a time, counts its reads and fails at one of them.
 #[derive(Drop)]
@@ -85,193 +84,215 @@ fn bytes_of(alloc: Global, text: &str) -> Result<Vec<u8>, AllocError> {
     Ok(bytes)
 }
 
-/// Adds an event to a text; answers the bit behind what was read of it.
-fn show(event: &Event<'_>, text: &mut String) -> Result<u64, AllocError> {
+/// The text is the wanted one.
+fn agrees(rt: &impl Abort, told: Result<String, AllocError>, wanted: &str, row: &str) {
+    let told = told.expect(rt, "memory");
+    assert!(rt; told.as_str() == wanted, "{row}: {told}, not {wanted}");
+}
+
+/// A fault as text; where memory was refused there is none.
+fn told_of_fault(alloc: Global, fault: Fault) -> Result<String, AllocError> {
+    match fault {
+        Fault::Memory => Err(AllocError),
+        fault => fault.to_string(alloc),
+    }
+}
+
+/// The bit behind what was read of an event.
+fn bit_behind(event: &Event<'_>) -> u64 {
     match event {
-        Event::Enter {
-            id,
-            width,
-            first,
-            body,
-        } => {
-            write!(text, "Enter({id}, {width}, {first}, {body}) ")?;
-            Ok(*body)
-        }
-        Event::Define {
-            abbrev,
-            first,
-            after,
-        } => {
-            write!(text, "Define({:?}, {first}, {after}) ", abbrev.ops())?;
-            Ok(*after)
-        }
-        Event::Record {
-            abbrev,
-            code,
-            values,
-            first,
-            after,
-        } => {
-            write!(
-                text,
-                "Record({abbrev}, {code}, {values:?}, {first}, {after}) "
-            )?;
-            Ok(*after)
-        }
-        Event::Leave { after } => {
-            write!(text, "Leave({after}) ")?;
-            Ok(*after)
-        }
+        Event::Enter { body, .. } => *body,
+        Event::Define { after, .. } => *after,
+        Event::Record { after, .. } => *after,
+        Event::Leave { after } => *after,
     }
 }
 
 /// Adds the next event to a text, or what stands in its place; answers the bit up to which was read, if there is one.
 fn show_next<S: Source + Drop>(
+    rt: &impl Abort,
     events: &mut Events<S>,
     text: &mut String,
-) -> Result<Option<u64>, Fail> {
+) -> Option<u64> {
     match events.next() {
-        Ok(Some(event)) => Ok(Some(show(&event, text)?)),
-        Ok(None) => {
-            write!(text, "None ")?;
-            Ok(None)
+        Ok(Some(event)) => {
+            write!(text, "{event:?} ").expect(rt, "memory");
+            Some(bit_behind(&event))
         }
-        Err(Fault::Memory) => Err("no memory".into()),
+        Ok(None) => {
+            text.push_str("None ").expect(rt, "memory");
+            None
+        }
         Err(fault) => {
-            write!(text, "{fault} ")?;
-            Ok(None)
+            write!(text, "{fault} ").expect(rt, "memory");
+            None
         }
     }
 }
 
-/// All events of an input, up to the second time that there is none.
+/// Adds events to a text, behind the bit at which they begin, up to the second time that there is none. After each the position
+/// is the bit behind it.
+fn show_all<S: Source + Drop>(rt: &impl Abort, events: &mut Events<S>, text: &mut String) {
+    write!(text, "{} ", events.position()).expect(rt, "memory");
+    let mut ends: u8 = 0;
+    for _ in 0..100 {
+        match show_next(rt, events, text) {
+            Some(bit) => assert!(rt; events.position() == bit),
+            None => ends = ends.saturating_add(1),
+        }
+        if ends == 2 {
+            break;
+        }
+    }
+}
+
+/// All events of an input, as text.
 fn told<S: Source + Drop>(
     rt: &impl Abort,
     alloc: Global,
     source: S,
     limits: Limits,
-) -> Result<String, Fail> {
+) -> Result<String, AllocError> {
+    match Events::start(alloc, source, limits) {
+        Ok(events) => Ok(told_from(rt, alloc, events)),
+        Err((fault, _)) => told_of_fault(alloc, fault),
+    }
+}
+
+/// The same from where events begin.
+fn told_from<S: Source + Drop>(rt: &impl Abort, alloc: Global, mut events: Events<S>) -> String {
     let mut text = String::new(alloc);
-    let mut events = match Events::start(alloc, source, limits) {
-        Ok(events) => events,
-        Err((fault, _)) => return Ok(fault.to_string(alloc)?),
-    };
-    write!(text, "{} ", events.position())?;
-    let mut ended = false;
-    for _ in 0..100 {
-        match show_next(&mut events, &mut text)? {
-            Some(bit) => assert_eq!(rt; events.position(), bit),
-            None => {
-                if ended {
-                    break;
-                }
-                ended = true;
-            }
-        }
+    show_all(rt, &mut events, &mut text);
+    text
+}
+
+/// Limits on bytes, inputs, and their events.
+static EVENTS: [(u64, &str, &str); 10] = [
+    (
+        1000,
+        "M B U",
+        "32 Enter { id: 0, width: 2, first: 32, body: 96 } \
+        Record { abbrev: 3, code: 1, values: [8], first: 96, after: 116 } \
+        Define { abbrev: Abbrev { ops: [Literal(1), Fixed(7)] }, first: 116, after: 141 } Leave { after: 160 } \
+        Enter { id: 8, width: 3, first: 160, body: 224 } \
+        Record { abbrev: 4, code: 1, values: [100], first: 224, after: 234 } Leave { after: 256 } None None ",
+    ),
+    (
+        1000,
+        "M E 0A 0A 0A 0A",
+        "32 Enter { id: 8, width: 2, first: 32, body: 96 } Leave { after: 128 } \
+        refused: TopLevel at bit 128 used after a fault ",
+    ),
+    // the limit on bytes comes behind the last Leave within it
+    (
+        16,
+        "M E 0A 0A 0A 0A",
+        "32 Enter { id: 8, width: 2, first: 32, body: 96 } Leave { after: 128 } \
+        refused: TooLong at bit 128 used after a fault ",
+    ),
+    // a length that is wrong is found at the end, and a record that is no SETBID gives no event
+    (
+        1000,
+        "M 21 08 00 00 02 00 00 00 00 00 00 00",
+        "32 Enter { id: 8, width: 2, first: 32, body: 96 } refused: BlockLength at bit 64 used after a fault ",
+    ),
+    (
+        1000,
+        "M 01 08 00 00 01 00 00 00 07 00 00 00",
+        "32 Enter { id: 0, width: 2, first: 32, body: 96 } refused: BadSetBid at bit 96 used after a fault ",
+    ),
+    (
+        1000,
+        "M 21 04 00 00 04 00 00 00 13 04 00 00 01 00 00 00 00 00 00 00 00 00 00 00",
+        "32 Enter { id: 8, width: 1, first: 32, body: 96 } Enter { id: 9, width: 2, first: 96, body: 160 } \
+        Leave { after: 192 } Leave { after: 224 } None None ",
+    ),
+    (1000, "M", "32 None None "),
+    (
+        1000,
+        "DE C0 17 0B 00 00 00 00 18 00 00 00 10 00 00 00 07 00 00 01 FF FF FF FF M E 00",
+        "224 Enter { id: 8, width: 2, first: 224, body: 288 } Leave { after: 320 } None None ",
+    ),
+    // the wrapper's size is judged behind the last event
+    (
+        1000,
+        "DE C0 17 0B 00 00 00 00 14 00 00 00 14 00 00 00 07 00 00 01 M E",
+        "192 Enter { id: 8, width: 2, first: 192, body: 256 } Leave { after: 288 } \
+        refused: WrapperSize at bit 96 used after a fault ",
+    ),
+    (1000, "H DE C0 17 0B", "refused: WrapperNested at bit 160"),
+];
+
+/// The events of an input under a limit are these, however it is cut.
+fn are_told(rt: &impl Abort, alloc: Global, limit: u64, text: &str, wanted: &str) {
+    let limits = Limits::new(limit, 64, 1000).expect(rt, "limits within their caps");
+    let bytes = bytes_of(alloc, text).expect(rt, "memory");
+    for most in [1, 3, 4, 64] {
+        let source = in_pieces(&bytes, most, 0);
+        agrees(rt, told(rt, alloc, source, limits), wanted, text);
     }
-    Ok(text)
 }
 
 #[test]
-fn events(rt: HostRuntime) -> Result<(), Fail> {
-    let rows = [
-        (
-            1000,
-            "M B U",
-            "32 Enter(0, 2, 32, 96) Record(3, 1, [8], 96, 116) Define([Literal(1), Fixed(7)], 116, 141) Leave(160) \
-            Enter(8, 3, 160, 224) Record(4, 1, [100], 224, 234) Leave(256) None None ",
-        ),
-        (
-            1000,
-            "M E 0A 0A 0A 0A",
-            "32 Enter(8, 2, 32, 96) Leave(128) refused: TopLevel at bit 128 used after a fault ",
-        ),
-        // the limit on bytes comes behind the last Leave within it
-        (
-            16,
-            "M E 0A 0A 0A 0A",
-            "32 Enter(8, 2, 32, 96) Leave(128) refused: TooLong at bit 128 used after a fault ",
-        ),
-        // a length that is wrong is found at the end, and a record that is no SETBID gives no event
-        (
-            1000,
-            "M 21 08 00 00 02 00 00 00 00 00 00 00",
-            "32 Enter(8, 2, 32, 96) refused: BlockLength at bit 64 used after a fault ",
-        ),
-        (
-            1000,
-            "M 01 08 00 00 01 00 00 00 07 00 00 00",
-            "32 Enter(0, 2, 32, 96) refused: BadSetBid at bit 96 used after a fault ",
-        ),
-        (
-            1000,
-            "M 21 04 00 00 04 00 00 00 13 04 00 00 01 00 00 00 00 00 00 00 00 00 00 00",
-            "32 Enter(8, 1, 32, 96) Enter(9, 2, 96, 160) Leave(192) Leave(224) None None ",
-        ),
-        (1000, "M", "32 None None "),
-        (
-            1000,
-            "DE C0 17 0B 00 00 00 00 18 00 00 00 10 00 00 00 07 00 00 01 FF FF FF FF M E 00",
-            "224 Enter(8, 2, 224, 288) Leave(320) None None ",
-        ),
-        // the wrapper's size is judged behind the last event
-        (
-            1000,
-            "DE C0 17 0B 00 00 00 00 14 00 00 00 14 00 00 00 07 00 00 01 M E",
-            "192 Enter(8, 2, 192, 256) Leave(288) refused: WrapperSize at bit 96 used after a fault ",
-        ),
-        (1000, "H DE C0 17 0B", "refused: WrapperNested at bit 160"),
-    ];
-    for (limit, text, want) in rows {
-        let bytes = bytes_of(rt.alloc(), text)?;
-        let limits = Limits::new(limit, 64, 1000).ok_or("past a cap")?;
-        for most in [1, 3, 4, 64] {
-            let source = in_pieces(&bytes, most, 0);
-            let told = told(&rt, rt.alloc(), source, limits)?;
-            assert_eq!(rt; told.as_str(), want, "{text} by {most}");
-        }
+fn events(rt: HostRuntime) {
+    for (limit, text, wanted) in &EVENTS {
+        are_told(&rt, rt.alloc(), *limit, text, wanted);
     }
-    Ok(())
+}
+
+/// The numbers of the pulls of a byte each, up to which these events come.
+static BROKEN_OFF: [(u64, u64, &str); 5] = [
+    (1, 5, "the source failed"),
+    (5, 13, "32 the source failed used after a fault "),
+    (
+        13,
+        17,
+        "32 Enter { id: 8, width: 2, first: 32, body: 96 } the source failed used after a fault ",
+    ),
+    (
+        17,
+        18,
+        "32 Enter { id: 8, width: 2, first: 32, body: 96 } Leave { after: 128 } the source failed used after a fault ",
+    ),
+    (
+        18,
+        20,
+        "32 Enter { id: 8, width: 2, first: 32, body: 96 } Leave { after: 128 } None None ",
+    ),
+];
+
+/// The events of an input whose source fails at one of these pulls.
+fn break_off(rt: &impl Abort, alloc: Global, from: u64, to: u64, wanted: &str) {
+    let bytes = bytes_of(alloc, "M E").expect(rt, "memory");
+    for pull in from..to {
+        let source = in_pieces(&bytes, 1, pull);
+        agrees(rt, told(rt, alloc, source, Limits::usual()), wanted, "M E");
+    }
 }
 
 #[test]
-fn a_source_fails_between_events(rt: HostRuntime) -> Result<(), Fail> {
-    // the numbers of the pulls of a byte each, up to which these events come
-    let rows = [
-        (1, 5, "the source failed"),
-        (5, 13, "32 the source failed used after a fault "),
-        (
-            13,
-            17,
-            "32 Enter(8, 2, 32, 96) the source failed used after a fault ",
-        ),
-        (
-            17,
-            18,
-            "32 Enter(8, 2, 32, 96) Leave(128) the source failed used after a fault ",
-        ),
-        (18, 20, "32 Enter(8, 2, 32, 96) Leave(128) None None "),
-    ];
-    let bytes = bytes_of(rt.alloc(), "M E")?;
-    for (from, to, want) in rows {
-        for fails_at in from..to {
-            let source = in_pieces(&bytes, 1, fails_at);
-            let told = told(&rt, rt.alloc(), source, Limits::usual())?;
-            assert_eq!(rt; told.as_str(), want, "{fails_at}");
-        }
+fn a_source_fails_between_events(rt: HostRuntime) {
+    for (from, to, wanted) in &BROKEN_OFF {
+        break_off(&rt, rt.alloc(), *from, *to, wanted);
     }
-    Ok(())
+}
+
+/// The head of an input, and how many bytes its source still has, as text.
+fn told_of_head(alloc: Global, bytes: &[u8]) -> Result<String, AllocError> {
+    match Events::start(alloc, in_pieces(bytes, 1, 0), Limits::usual()) {
+        Ok(events) => {
+            let head = *events.head();
+            let left = events.into_source().into_inner().left();
+            format!(in alloc; "{head:?}, {left} left")
+        }
+        Err((fault, _)) => told_of_fault(alloc, fault),
+    }
 }
 
 #[test]
-fn the_source_comes_back(rt: HostRuntime) -> Result<(), Fail> {
-    let bytes = bytes_of(rt.alloc(), "H M E")?;
-    let source = in_pieces(&bytes, 1, 0);
-    let Ok(events) = Events::start(rt.alloc(), source, Limits::usual()) else {
-        return Err("refused".into());
-    };
-    assert_eq!(rt; events.head().magic, [0x42, 0x43, 0xC0, 0xDE]);
-    assert_eq!(rt; events.head().wrapper.map(|wrapper| wrapper.size), Some(16));
-    assert_eq!(rt; events.into_source().into_inner().left(), 12);
-    Ok(())
+fn the_source_comes_back(rt: HostRuntime) {
+    let bytes = bytes_of(rt.alloc(), "H M E").expect(&rt, "memory");
+    let wanted = "Head { magic: [66, 67, 192, 222], \
+        wrapper: Some(Wrapper { offset: 20, size: 16, cpu: 16777223 }) }, 12 left";
+    agrees(&rt, told_of_head(rt.alloc(), &bytes), wanted, "H M E");
 }

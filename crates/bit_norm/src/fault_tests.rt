@@ -1,166 +1,131 @@
-use crate::input_tests::{Cuts, DESCRIBED, EMPTY, SEVENS, THIRTY, form_of, refused, stream};
+//! Inputs that have no normal form, devices that fail, and limits.
+
+use crate::input_tests::{Cuts, bytes_of, form_of};
 use crate::tests::{MAGIC, Pieces, within};
 use crate::{Info, normalise};
-use bit_fields::{Fault, Limits, Reason, SliceSource};
+use bit_fields::{Fault, Limits, SliceSource, Source};
 use std::alloc::{AllocError, Global};
 use std::process::Abort;
-use std::test::Fail;
 
-/// The answer to an input, which has no normal form.
-fn fault_of(rt: &impl Abort, alloc: Global, input: &[u8], limits: Limits) -> Option<Fault> {
-    let keep = form_of(rt, alloc, SliceSource::new(input), limits, Info::Keep).err();
-    let drop = form_of(rt, alloc, SliceSource::new(input), limits, Info::Drop).err();
-    assert!(rt; keep == drop || keep == Some(Fault::Memory) || drop == Some(Fault::Memory));
-    keep
+/// A fault as text; where memory was refused there is none.
+pub(crate) fn told_of_fault(alloc: Global, fault: Fault) -> Result<String, AllocError> {
+    match fault {
+        Fault::Memory => Err(AllocError),
+        fault => fault.to_string(alloc),
+    }
 }
 
-/// The same; where memory is refused the test fails.
-fn is_refused(
+/// The length of the normal form of an input, or the fault, as text.
+fn told<S: Source + Drop>(
     rt: &impl Abort,
     alloc: Global,
-    input: &[u8],
+    source: S,
     limits: Limits,
-    fault: Fault,
-) -> Result<(), Fail> {
-    let answer = fault_of(rt, alloc, input, limits);
-    if answer == Some(Fault::Memory) {
-        return Err("no memory".into());
+    info: Info,
+) -> Result<String, AllocError> {
+    match form_of(rt, alloc, source, limits, info) {
+        Ok(form) => form.len().to_string(alloc),
+        Err(fault) => told_of_fault(alloc, fault),
     }
-    assert_eq!(rt; answer, Some(fault), "{input:?}");
-    Ok(())
+}
+
+/// The text is the wanted one.
+pub(crate) fn agrees(rt: &impl Abort, told: Result<String, AllocError>, wanted: &str, row: &str) {
+    let told = told.expect(rt, "memory");
+    assert!(rt; told.as_str() == wanted, "{row}: {told}, not {wanted}");
+}
+
+/// This is told of an input under limits, whether BLOCKINFO blocks are kept or dropped.
+fn is_told(rt: &impl Abort, alloc: Global, input: &[u8], limits: Limits, wanted: &str) {
+    let source = SliceSource::new(input);
+    agrees(
+        rt,
+        told(rt, alloc, source, limits, Info::Keep),
+        wanted,
+        "kept",
+    );
+    let source = SliceSource::new(input);
+    agrees(
+        rt,
+        told(rt, alloc, source, limits, Info::Drop),
+        wanted,
+        "dropped",
+    );
 }
 
 #[test]
-fn cut_magics(rt: HostRuntime) -> Result<(), Fail> {
+fn cut_magics(rt: HostRuntime) {
     for count in 0..4 {
-        is_refused(
-            &rt,
-            rt.alloc(),
-            &MAGIC[..count],
-            Limits::usual(),
-            refused(Reason::Truncated, 0),
-        )?;
+        let wanted = "refused: Truncated at bit 0";
+        is_told(&rt, rt.alloc(), &MAGIC[..count], Limits::usual(), wanted);
     }
-    Ok(())
+}
+
+/// Inputs and their faults, with a '=' between them.
+static REFUSED: &str = "\
+    M 21 08 00 00 01 00 00 00 00 00 00 80 =refused: DirtyPadding at bit 127\n\
+    M 21 08 00 00 02 00 00 00 00 00 00 00 =refused: BlockLength at bit 64\n\
+    M 21 0C 00 00 01 00 00 00 04 00 00 00 =refused: UndefinedAbbrev at bit 96\n\
+    M E 0A 0A 0A 0A =refused: TopLevel at bit 128\n\
+    M 21 00 00 00 =refused: AbbrevWidth at bit 42\n\
+    M 01 08 00 00 01 00 00 00 0B 00 00 00 =refused: NoBlockSet at bit 96\n\
+    M 01 08 00 00 01 00 00 00 02 00 00 00 =refused: NoBlockSet at bit 96\n\
+    M 01 08 00 00 01 00 00 00 07 00 00 00 =refused: BadSetBid at bit 96\n\
+    M 01 08 00 00 01 00 00 00 01 00 00 00 =refused: NestedInBlockInfo at bit 96\n\
+    M 21 08 00 00 03 00 00 00 07 FF FF FF FF FF FF FF FF FF 0F 00 =refused: TooManyValues at bit 104\n\
+    M 21 0C 00 00 03 00 00 00 FA FF FF FF FF FF FF FF FF FF 03 00 =refused: AbbrevEncoding at bit 180";
+
+/// This is told of an input that a text spells, under limits.
+fn is_text_told(rt: &impl Abort, alloc: Global, text: &str, limits: Limits, wanted: &str) {
+    let input = bytes_of(alloc, text).expect(rt, "memory");
+    is_told(rt, alloc, &input, limits, wanted);
 }
 
 #[test]
-fn refused_inputs(rt: HostRuntime) -> Result<(), Fail> {
-    let rows: [(&[u8], Reason, u64); 11] = [
-        (
-            &[0x21, 8, 0, 0, 1, 0, 0, 0, 0, 0, 0, 0x80],
-            Reason::DirtyPadding,
-            127,
-        ),
-        (
-            &[0x21, 8, 0, 0, 2, 0, 0, 0, 0, 0, 0, 0],
-            Reason::BlockLength,
-            64,
-        ),
-        (
-            &[0x21, 12, 0, 0, 1, 0, 0, 0, 4, 0, 0, 0],
-            Reason::UndefinedAbbrev,
-            96,
-        ),
-        (
-            &[0x21, 8, 0, 0, 1, 0, 0, 0, 0, 0, 0, 0, 10, 10, 10, 10],
-            Reason::TopLevel,
-            128,
-        ),
-        (&[0x21, 0, 0, 0], Reason::AbbrevWidth, 42),
-        (
-            &[1, 8, 0, 0, 1, 0, 0, 0, 0xb, 0, 0, 0],
-            Reason::NoBlockSet,
-            96,
-        ),
-        (
-            &[1, 8, 0, 0, 1, 0, 0, 0, 2, 0, 0, 0],
-            Reason::NoBlockSet,
-            96,
-        ),
-        (&[1, 8, 0, 0, 1, 0, 0, 0, 7, 0, 0, 0], Reason::BadSetBid, 96),
-        (
-            &[1, 8, 0, 0, 1, 0, 0, 0, 1, 0, 0, 0],
-            Reason::NestedInBlockInfo,
-            96,
-        ),
-        (
-            &[
-                0x21, 8, 0, 0, 3, 0, 0, 0, 7, 0xff, 0xff, 0xff, 0xff, 0xff, 0xff, 0xff, 0xff, 0xff,
-                15, 0,
-            ],
-            Reason::TooManyValues,
-            104,
-        ),
-        (
-            &[
-                0x21, 12, 0, 0, 3, 0, 0, 0, 0xfa, 0xff, 0xff, 0xff, 0xff, 0xff, 0xff, 0xff, 0xff,
-                0xff, 3, 0,
-            ],
-            Reason::AbbrevEncoding,
-            180,
-        ),
-    ];
-    for (blocks, reason, bit) in rows {
-        let input = stream(rt.alloc(), blocks)?;
-        is_refused(
-            &rt,
-            rt.alloc(),
-            &input,
-            Limits::usual(),
-            refused(reason, bit),
-        )?;
+fn refused_inputs(rt: HostRuntime) {
+    let mut count: usize = 0;
+    for line in REFUSED.lines() {
+        if let Some((text, wanted)) = line.split_once('=') {
+            is_text_told(&rt, rt.alloc(), text, Limits::usual(), wanted);
+            count = count.saturating_add(1);
+        }
     }
-    Ok(())
+    assert!(rt; count == 11);
 }
 
 /// Limits on bytes, depth and values.
-fn limits(rt: &impl Abort, bytes: u64, depth: u32, values: u64) -> Limits {
+fn limits_of(rt: &impl Abort, (bytes, depth, values): (u64, u32, u64)) -> Limits {
     Limits::new(bytes, depth, values).expect(rt, "limits within their caps")
 }
 
+/// Limits on bytes, depth and values, inputs, and their faults or the lengths of their forms.
+static LIMITED: [((u64, u32, u64), &str, &str); 7] = [
+    ((1000, 64, 13), "M S", "refused: TooManyValues at bit 179"),
+    ((24, 64, 14), "M S", "the normal form is too long"),
+    ((27, 64, 14), "M S", "the normal form is too long"),
+    ((28, 1, 14), "M S", "28"),
+    ((15, 64, 0), "M E", "refused: TooLong at bit 120"),
+    ((16, 0, 0), "M E", "refused: TooDeep at bit 32"),
+    (
+        (1000, 1, 0),
+        "M 21 04 00 00 04 00 00 00 13 04 00 00 01 00 00 00 00 00 00 00 00 00 00 00",
+        "refused: TooDeep at bit 96",
+    ),
+];
+
 #[test]
-fn limits_are_kept(rt: HostRuntime) -> Result<(), Fail> {
-    let rows: [(&[u8], Limits, Fault); 6] = [
-        (
-            &SEVENS,
-            limits(&rt, 1000, 64, 13),
-            refused(Reason::TooManyValues, 179),
-        ),
-        (&SEVENS, limits(&rt, 24, 64, 14), Fault::OutputTooLong),
-        (&SEVENS, limits(&rt, 27, 64, 14), Fault::OutputTooLong),
-        (
-            &EMPTY,
-            limits(&rt, 15, 64, 0),
-            refused(Reason::TooLong, 120),
-        ),
-        (&EMPTY, limits(&rt, 16, 0, 0), refused(Reason::TooDeep, 32)),
-        (
-            &[
-                0x21, 4, 0, 0, 4, 0, 0, 0, 0x13, 4, 0, 0, 1, 0, 0, 0, 0, 0, 0, 0, 0, 0, 0, 0,
-            ],
-            limits(&rt, 1000, 1, 0),
-            refused(Reason::TooDeep, 96),
-        ),
-    ];
-    for (blocks, limits, fault) in rows {
-        let input = stream(rt.alloc(), blocks)?;
-        is_refused(&rt, rt.alloc(), &input, limits, fault)?;
+fn limits_are_kept(rt: HostRuntime) {
+    for (limits, text, wanted) in &LIMITED {
+        is_text_told(&rt, rt.alloc(), text, limits_of(&rt, *limits), wanted);
     }
-    let input = stream(rt.alloc(), &SEVENS)?;
-    let source = SliceSource::new(&input);
-    let form = form_of(&rt, rt.alloc(), source, limits(&rt, 28, 1, 14), Info::Keep)?;
-    assert_eq!(rt; form.len(), 28);
-    Ok(())
 }
 
 #[test]
-fn a_form_of_the_setting_is_measured(rt: HostRuntime) -> Result<(), Fail> {
-    let input = stream(rt.alloc(), &DESCRIBED)?;
+fn a_form_of_the_setting_is_measured(rt: HostRuntime) {
+    let input = bytes_of(rt.alloc(), "M D").expect(&rt, "memory");
     let source = SliceSource::new(&input);
-    let form = form_of(&rt, rt.alloc(), source, within(&rt, 32), Info::Drop)?;
-    assert_eq!(rt; form.len(), 16);
-    Ok(())
+    let told = told(&rt, rt.alloc(), source, within(&rt, 32), Info::Drop);
+    agrees(&rt, told, "16", "dropped");
 }
 
 /// Sets so many bits, from one on, a step apart.
@@ -177,25 +142,27 @@ fn set_bits(bytes: &mut [u8], first: usize, step: usize, count: usize) {
 /// A block 8 of width 3 with a definition of 1,001 literals of value 0, which is used so many times. A literal is nine bits, of
 /// which the first is set, and the id 4 three bits, of which the last is set.
 fn bomb(alloc: Global, uses: usize) -> Result<Vec<u8>, AllocError> {
-    let mut bytes = stream(alloc, &[0x21, 12, 0, 0, 0x24, 1, 0, 0, 0xca, 0x7e])?;
+    let mut bytes = bytes_of(alloc, "M 21 0C 00 00 24 01 00 00 CA 7E")?;
     bytes.resize(1180, 0)?;
     set_bits(&mut bytes, 114, 9, 1001);
     set_bits(&mut bytes, 9125, 3, uses);
     Ok(bytes)
 }
 
+/// How often the definition is used, a limit on bytes, and what is told.
+static BOMBS: [(usize, u64, &str); 3] = [
+    (100, 75_264, "75264"),
+    (100, 75_263, "the normal form is too long"),
+    (101, 75_264, "refused: TooManyValues at bit 9423"),
+];
+
 #[test]
-fn bombs(rt: HostRuntime) -> Result<(), Fail> {
-    let input = bomb(rt.alloc(), 100)?;
-    assert_eq!(rt; input.len(), 1180);
-    let few = limits(&rt, 75_264, 64, 100_000);
-    let form = form_of(&rt, rt.alloc(), SliceSource::new(&input), few, Info::Keep)?;
-    assert_eq!(rt; form.len(), 75_264);
-    let fewer = limits(&rt, 75_263, 64, 100_000);
-    is_refused(&rt, rt.alloc(), &input, fewer, Fault::OutputTooLong)?;
-    let more = bomb(rt.alloc(), 101)?;
-    let fault = refused(Reason::TooManyValues, 9423);
-    is_refused(&rt, rt.alloc(), &more, few, fault)
+fn bombs(rt: HostRuntime) {
+    for (uses, bytes, wanted) in &BOMBS {
+        let input = bomb(rt.alloc(), *uses).expect(&rt, "memory");
+        let limits = limits_of(&rt, (*bytes, 64, 100_000));
+        is_told(&rt, rt.alloc(), &input, limits, wanted);
+    }
 }
 
 /// So many blocks, one in another, each in its normal form.
@@ -211,68 +178,74 @@ fn nested(alloc: Global, depth: u32) -> Result<Vec<u8>, AllocError> {
     Ok(bytes)
 }
 
+/// How deep blocks are nested, a limit on depth, and what is told.
+static DEEP: [(u32, u32, &str); 2] = [
+    (255, 255, "3064"),
+    (256, 255, "refused: TooDeep at bit 16352"),
+];
+
 #[test]
-fn deep_blocks(rt: HostRuntime) -> Result<(), Fail> {
-    let deepest = limits(&rt, 10_000, 255, 0);
-    let input = nested(rt.alloc(), 255)?;
-    assert_eq!(rt; input.len(), 3064);
-    let form = form_of(
-        &rt,
-        rt.alloc(),
-        SliceSource::new(&input),
-        deepest,
-        Info::Keep,
-    )?;
-    assert_eq!(rt; form.as_slice(), input.as_slice());
-    let deeper = nested(rt.alloc(), 256)?;
-    is_refused(
-        &rt,
-        rt.alloc(),
-        &deeper,
-        deepest,
-        refused(Reason::TooDeep, 16_352),
-    )?;
-    is_refused(
-        &rt,
-        rt.alloc(),
-        &nested(rt.alloc(), 65)?,
-        Limits::usual(),
-        refused(Reason::TooDeep, 4128),
-    )
+fn deep_blocks(rt: HostRuntime) {
+    for (depth, limit, wanted) in &DEEP {
+        let input = nested(rt.alloc(), *depth).expect(&rt, "memory");
+        let limits = limits_of(&rt, (10_000, *limit, 0));
+        is_told(&rt, rt.alloc(), &input, limits, wanted);
+    }
+    let input = nested(rt.alloc(), 65).expect(&rt, "memory");
+    let wanted = "refused: TooDeep at bit 4128";
+    is_told(&rt, rt.alloc(), &input, Limits::usual(), wanted);
+}
+
+/// An input from a source is its own normal form.
+fn is_form<S: Source + Drop>(
+    rt: &impl Abort,
+    alloc: Global,
+    source: S,
+    limits: Limits,
+    input: &[u8],
+) {
+    let answer = form_of(rt, alloc, source, limits, Info::Keep);
+    let form = answer.expect(rt, "a normal form");
+    assert!(rt; form.as_slice() == input);
 }
 
 #[test]
-fn a_source_fails(rt: HostRuntime) -> Result<(), Fail> {
-    let input = stream(rt.alloc(), &THIRTY)?;
+fn deep_forms(rt: HostRuntime) {
+    let input = nested(rt.alloc(), 255).expect(&rt, "memory");
+    assert!(rt; input.len() == 3064);
+    let limits = limits_of(&rt, (10_000, 255, 0));
+    is_form(&rt, rt.alloc(), SliceSource::new(&input), limits, &input);
+}
+
+#[test]
+fn a_source_fails(rt: HostRuntime) {
+    let input = bytes_of(rt.alloc(), "M T").expect(&rt, "memory");
     for fails_at in 1..18 {
         let source = Cuts::source(&input, 1, fails_at);
-        let answer = form_of(&rt, rt.alloc(), source, Limits::usual(), Info::Keep);
-        assert!(rt; answer.err() == Some(Fault::Read), "{fails_at}");
+        let told = told(&rt, rt.alloc(), source, Limits::usual(), Info::Keep);
+        agrees(&rt, told, "the source failed", "a source that fails");
     }
     let source = Cuts::source(&input, 1, 18);
-    let form = form_of(&rt, rt.alloc(), source, Limits::usual(), Info::Keep)?;
-    assert_eq!(rt; form.as_slice(), input.as_slice());
-    Ok(())
+    is_form(&rt, rt.alloc(), source, Limits::usual(), &input);
+}
+
+/// A sink that takes so many bytes a put, and fails after so many puts, has this many of the first bytes of the form.
+fn keeps_front(rt: &impl Abort, alloc: Global, form: &[u8], most: usize, puts: u64, count: usize) {
+    let sink = Pieces::new(alloc, most, puts);
+    let source = SliceSource::new(form);
+    let (answer, _, sink) = normalise(alloc, source, sink, Limits::usual(), Info::Keep);
+    assert!(rt;
+        answer == Err(Fault::Write) && sink.bytes.len() == count,
+        "{puts}"
+    );
+    assert!(rt; form.starts_with(&sink.bytes), "{puts}");
 }
 
 #[test]
-fn a_sink_fails(rt: HostRuntime) -> Result<(), Fail> {
-    let input = stream(rt.alloc(), &THIRTY)?;
-    for puts in 0..16 {
-        let sink = Pieces::new(rt.alloc(), 1, puts);
-        let source = SliceSource::new(&input);
-        let (answer, _, sink) = normalise(rt.alloc(), source, sink, Limits::usual(), Info::Keep);
-        assert_eq!(rt; answer, Err(Fault::Write), "{puts}");
-        assert_eq!(rt; sink.bytes.len() as u64, puts);
-        assert!(rt; input.starts_with(&sink.bytes), "{puts}");
+fn a_sink_fails(rt: HostRuntime) {
+    let form = bytes_of(rt.alloc(), "M T").expect(&rt, "memory");
+    for puts in 0..16usize {
+        keeps_front(&rt, rt.alloc(), &form, 1, puts as u64, puts);
     }
-    let sink = Pieces::new(rt.alloc(), 5, 1);
-    let source = SliceSource::new(&input);
-    let (answer, _, sink) = normalise(rt.alloc(), source, sink, Limits::usual(), Info::Keep);
-    assert_eq!(rt; answer, Err(Fault::Write));
-    assert_eq!(rt;
-        sink.bytes.as_slice(),
-        [0x42, 0x43, 0xc0, 0xde, 0x21].as_slice()
-    );
-    Ok(())
+    keeps_front(&rt, rt.alloc(), &form, 5, 1, 5);
 }

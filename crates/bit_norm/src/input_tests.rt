@@ -1,59 +1,82 @@
-use crate::tests::{MAGIC, Pieces, within};
+//! Inputs and their normal forms.
+
+use crate::tests::{MAGIC, Pieces};
 use crate::{Info, normalise};
-use bit_fields::{Fault, Limits, ReadSource, Reason, SliceSource, Source, VecSink};
+use bit_fields::{Fault, Limits, ReadSource, SliceSource, Source, VecSink};
 use std::alloc::{AllocError, Global};
 use std::io;
 use std::io::{Error, ErrorKind, Read};
 use std::process::Abort;
-use std::test::Fail;
 
-/// An empty block 8.
-pub(crate) const EMPTY: [u8; 12] = [0x21, 8, 0, 0, 1, 0, 0, 0, 0, 0, 0, 0];
+/// The number that a hexadecimal digit stands for.
+fn digit(byte: u8) -> u8 {
+    match byte {
+        b'0'..=b'9' => byte - b'0',
+        b'A'..=b'F' => byte - b'A' + 10,
+        _ => 0,
+    }
+}
 
-/// `8 { 1 [30] }`, in its normal form.
-pub(crate) const THIRTY: [u8; 12] = [0x21, 8, 0, 0, 1, 0, 0, 0, 7, 0x81, 7, 0];
+/// Bytes that several inputs have, under a letter:
+///
+/// - M, the magic of LLVM's bitcode;
+/// - E, an empty block 8;
+/// - T, `8 { 1 [30] }` in its normal form, and W, the same with ids of three bits and the value in two chunks;
+/// - D, a BLOCKINFO block that describes block 8, and a record by its definition, `0 { 1 [8] } 8 { 1 [100] }`; F, its normal
+///   form; H, the block 8 of this;
+/// - N, `8 { 0 { 1 [8] } 8 { 1 [100] } }` by a definition;
+/// - S, a definition of eight literals that is used twice, two records of seven values;
+/// - B and A, five bytes as a blob and as an array, and R, their normal form;
+/// - Z, twelve zeros.
+fn named(name: u8) -> &'static [u8] {
+    match name {
+        b'M' => &MAGIC,
+        b'E' => &[0x21, 8, 0, 0, 1, 0, 0, 0, 0, 0, 0, 0],
+        b'T' => &[0x21, 8, 0, 0, 1, 0, 0, 0, 7, 0x81, 7, 0],
+        b'W' => &[0x21, 12, 0, 0, 1, 0, 0, 0, 0xb, 2, 0x1f, 0],
+        b'D' => &[
+            1, 8, 0, 0, 2, 0, 0, 0, 7, 1, 0xa2, 0x18, 0x20, 7, 0, 0, 0x21, 12, 0, 0, 1, 0, 0, 0,
+            0x24, 3, 0, 0,
+        ],
+        b'F' => &[
+            1, 8, 0, 0, 1, 0, 0, 0, 7, 1, 2, 0, 0x21, 8, 0, 0, 1, 0, 0, 0, 7, 1, 0x39, 0,
+        ],
+        b'H' => &[0x21, 8, 0, 0, 1, 0, 0, 0, 7, 1, 0x39, 0],
+        b'N' => &[
+            0x21, 12, 0, 0, 8, 0, 0, 0, 1, 0x10, 0, 0, 2, 0, 0, 0, 7, 1, 0xa2, 0x18, 0x20, 7, 0, 0,
+            0x41, 0x18, 0, 0, 1, 0, 0, 0, 0x24, 3, 0, 0, 0, 0, 0, 0,
+        ],
+        b'S' => &[
+            0x21, 12, 0, 0, 3, 0, 0, 0, 0x42, 3, 6, 0x14, 0x38, 0x90, 0x60, 0x41, 0x83, 7, 0x24, 0,
+        ],
+        b'B' => &[
+            0x21, 12, 0, 0, 4, 0, 0, 0, 0x12, 3, 0x94, 5, 0x61, 0x62, 0x63, 0x64, 0x65, 0, 0, 0, 0,
+            0, 0, 0,
+        ],
+        b'A' => &[
+            0x21, 12, 0, 0, 3, 0, 0, 0, 0x1a, 3, 0x4c, 0x10, 0x8b, 0x30, 0xb1, 0x31, 0xb2, 0x32, 0,
+            0,
+        ],
+        b'R' => &[
+            0x21, 8, 0, 0, 3, 0, 0, 0, 7, 0x45, 0x38, 0x88, 0xc3, 0x38, 0x90, 0x43, 0x39, 0, 0, 0,
+        ],
+        b'Z' => &[0; 12],
+        _ => &[],
+    }
+}
 
-/// The same, with ids of three bits and the value in two chunks.
-pub(crate) const WIDE_THIRTY: [u8; 12] = [0x21, 12, 0, 0, 1, 0, 0, 0, 0xb, 2, 0x1f, 0];
-
-/// A BLOCKINFO block that describes block 8, and a record by its definition: `0 { 1 [8] } 8 { 1 [100] }`.
-pub(crate) const DESCRIBED: [u8; 28] = [
-    1, 8, 0, 0, 2, 0, 0, 0, 7, 1, 0xa2, 0x18, 0x20, 7, 0, 0, 0x21, 12, 0, 0, 1, 0, 0, 0, 0x24, 3,
-    0, 0,
-];
-
-/// Its normal form.
-const DESCRIBED_FORM: [u8; 24] = [
-    1, 8, 0, 0, 1, 0, 0, 0, 7, 1, 2, 0, 0x21, 8, 0, 0, 1, 0, 0, 0, 7, 1, 0x39, 0,
-];
-
-/// Its normal form without the BLOCKINFO block.
-pub(crate) const HUNDRED: [u8; 12] = [0x21, 8, 0, 0, 1, 0, 0, 0, 7, 1, 0x39, 0];
-
-/// `8 { 0 { 1 [8] }, 8 { 1 [100] } }`.
-const DESCRIBED_WITHIN: [u8; 40] = [
-    0x21, 12, 0, 0, 8, 0, 0, 0, 1, 0x10, 0, 0, 2, 0, 0, 0, 7, 1, 0xa2, 0x18, 0x20, 7, 0, 0, 0x41,
-    0x18, 0, 0, 1, 0, 0, 0, 0x24, 3, 0, 0, 0, 0, 0, 0,
-];
-
-/// A definition of eight literals that is used twice: two records of seven values.
-pub(crate) const SEVENS: [u8; 20] = [
-    0x21, 12, 0, 0, 3, 0, 0, 0, 0x42, 3, 6, 0x14, 0x38, 0x90, 0x60, 0x41, 0x83, 7, 0x24, 0,
-];
-
-/// Five bytes as a blob, and as an array.
-pub(crate) const BLOB: [u8; 24] = [
-    0x21, 12, 0, 0, 4, 0, 0, 0, 0x12, 3, 0x94, 5, 0x61, 0x62, 0x63, 0x64, 0x65, 0, 0, 0, 0, 0, 0, 0,
-];
-
-pub(crate) const ARRAY: [u8; 20] = [
-    0x21, 12, 0, 0, 3, 0, 0, 0, 0x1a, 3, 0x4c, 0x10, 0x8b, 0x30, 0xb1, 0x31, 0xb2, 0x32, 0, 0,
-];
-
-/// A wrapper's header for a stream of 16 bytes.
-const WRAPPER: [u8; 20] = [
-    0xde, 0xc0, 0x17, 0xb, 0, 0, 0, 0, 20, 0, 0, 0, 16, 0, 0, 0, 7, 0, 0, 1,
-];
+/// The bytes of a text of hexadecimal bytes and letters for what `named` gives.
+pub(crate) fn bytes_of(alloc: Global, text: &str) -> Result<Vec<u8>, AllocError> {
+    let mut bytes = Vec::new(alloc);
+    for word in text.split_whitespace() {
+        match word.as_bytes() {
+            [high, low] => bytes.push(digit(*high).wrapping_mul(16).wrapping_add(digit(*low)))?,
+            [name] => bytes.extend_from_slice(named(*name))?,
+            _ => {}
+        }
+    }
+    Ok(bytes)
+}
 
 /// A reader of few bytes at a time, which fails at one of its reads.
 #[derive(Drop)]
@@ -90,17 +113,6 @@ impl<'a> Read for Cuts<'a> {
     }
 }
 
-/// A stream with the magic of LLVM's bitcode.
-pub(crate) fn stream(alloc: Global, blocks: &[u8]) -> Result<Vec<u8>, AllocError> {
-    let mut bytes = Vec::from_slice(alloc, &MAGIC)?;
-    bytes.extend_from_slice(blocks)?;
-    Ok(bytes)
-}
-
-pub(crate) fn refused(reason: Reason, bit: u64) -> Fault {
-    Fault::Refused { reason, bit }
-}
-
 /// What an input is normalised to. Where memory is refused, nothing is written.
 pub(crate) fn form_of<S: Source + Drop>(
     rt: &impl Abort,
@@ -113,7 +125,7 @@ pub(crate) fn form_of<S: Source + Drop>(
     let (answer, _, sink) = normalise(alloc, source, sink, limits, info);
     match answer {
         Ok(count) => {
-            assert_eq!(rt; count, sink.bytes.len() as u64);
+            assert!(rt; count == sink.bytes.len() as u64);
             Ok(sink.bytes)
         }
         Err(fault) => {
@@ -123,212 +135,127 @@ pub(crate) fn form_of<S: Source + Drop>(
     }
 }
 
-/// The form of an input is these blocks behind the magic, whatever the source gives and the sink takes at once, and is its
-/// own normal form.
-pub(crate) fn is_normalised(
-    rt: &impl Abort,
-    alloc: Global,
-    input: &[u8],
-    info: Info,
-    blocks: &[u8],
-) -> Result<(), Fail> {
-    let form = stream(alloc, blocks)?;
-    let usual = Limits::usual();
-    let got = form_of(rt, alloc, SliceSource::new(input), usual, info)?;
-    assert_eq!(rt; got.as_slice(), form.as_slice(), "{input:?}");
-    let again = form_of(rt, alloc, SliceSource::new(&form), usual, info)?;
-    assert_eq!(rt; again.as_slice(), form.as_slice(), "{input:?}");
+/// The input is normalised to this form.
+fn has_form(rt: &impl Abort, alloc: Global, input: &[u8], info: Info, form: &[u8]) {
+    let source = SliceSource::new(input);
+    let answer = form_of(rt, alloc, source, Limits::usual(), info);
+    let got = answer.expect(rt, "a normal form");
+    assert!(rt; got.as_slice() == form, "{input:?} to {got:?}");
+}
+
+/// The same, where the source gives and the sink takes so many bytes at once.
+fn has_form_by(rt: &impl Abort, alloc: Global, input: &[u8], info: Info, form: &[u8], most: usize) {
+    let sink = Pieces::new(alloc, most, u64::MAX);
+    let source = Cuts::source(input, most, 0);
+    let (answer, _, sink) = normalise(alloc, source, sink, Limits::usual(), info);
+    assert!(rt;
+        answer == Ok(form.len() as u64) && sink.has(form, 0),
+        "{input:?} by {most}"
+    );
+}
+
+/// The same, whatever the source gives and the sink takes at once, and the form is its own normal form.
+fn is_normalised(rt: &impl Abort, alloc: Global, input: &[u8], info: Info, form: &[u8]) {
+    has_form(rt, alloc, input, info, form);
+    has_form(rt, alloc, form, info, form);
     for most in [1, 3, 4] {
-        let sink = Pieces::new(alloc, most, u64::MAX);
-        let source = Cuts::source(input, most, 0);
-        let (answer, _, sink) = normalise(alloc, source, sink, usual, info);
-        assert_eq!(rt; answer?, form.len() as u64);
-        assert_eq!(rt; sink.bytes.as_slice(), form.as_slice(), "{input:?}");
-        assert_eq!(rt; sink.failures, 0);
+        has_form_by(rt, alloc, input, info, form, most);
     }
-    Ok(())
 }
 
-#[test]
-fn normal_forms(rt: HostRuntime) -> Result<(), Fail> {
-    let rows: [(&[u8], &[u8]); 12] = [
-        (&[], &[]),
-        (&EMPTY, &EMPTY),
-        (&THIRTY, &THIRTY),
-        (&WIDE_THIRTY, &THIRTY),
-        (
-            &[
-                0x21, 4, 0, 0, 4, 0, 0, 0, 0x13, 4, 0, 0, 1, 0, 0, 0, 0, 0, 0, 0, 0, 0, 0, 0,
-            ],
-            &[
-                0x21, 8, 0, 0, 4, 0, 0, 0, 0x25, 8, 0, 0, 1, 0, 0, 0, 0, 0, 0, 0, 0, 0, 0, 0,
-            ],
-        ),
-        (&[0x21, 0x20, 1, 0, 1, 0, 0, 0, 0, 0, 0, 0], &EMPTY),
-        (
-            &[
-                0x21, 12, 0, 0, 2, 0, 0, 0, 0x1a, 3, 12, 0x39, 0, 0xff, 12, 0,
-            ],
-            &[
-                0x21, 8, 0, 0, 2, 0, 0, 0, 7, 0x43, 0x38, 0xfc, 0x82, 0x2e, 0, 0,
-            ],
-        ),
-        (
-            &[0x21, 12, 0, 0, 2, 0, 0, 0, 0x1a, 3, 12, 9, 0, 0, 0, 0],
-            &[0x21, 8, 0, 0, 1, 0, 0, 0, 7, 0, 0, 0],
-        ),
-        (
-            &[0x21, 12, 0, 0, 2, 0, 0, 0, 0x12, 3, 0x94, 0, 0, 0, 0, 0],
-            &[0x21, 8, 0, 0, 1, 0, 0, 0, 7, 0, 0, 0],
-        ),
-        (
-            &BLOB,
-            &[
-                0x21, 8, 0, 0, 3, 0, 0, 0, 7, 0x45, 0x38, 0x88, 0xc3, 0x38, 0x90, 0x43, 0x39, 0, 0,
-                0,
-            ],
-        ),
-        (
-            &ARRAY,
-            &[
-                0x21, 8, 0, 0, 3, 0, 0, 0, 7, 0x45, 0x38, 0x88, 0xc3, 0x38, 0x90, 0x43, 0x39, 0, 0,
-                0,
-            ],
-        ),
-        (
-            &SEVENS,
-            &[
-                0x21, 8, 0, 0, 4, 0, 0, 0, 7, 0x47, 0x20, 12, 0x44, 0x61, 0x1c, 7, 0x47, 0x20, 12,
-                0x44, 0x61, 0x1c, 0, 0,
-            ],
-        ),
-    ];
-    for (blocks, form) in rows {
-        let input = stream(rt.alloc(), blocks)?;
-        is_normalised(&rt, rt.alloc(), &input, Info::Keep, form)?;
-        is_normalised(&rt, rt.alloc(), &input, Info::Drop, form)?;
+/// The same of a line with an input and its form, with a '=' between them. Answers whether the line has one.
+fn is_line_normalised(rt: &impl Abort, alloc: Global, line: &str, info: Info) -> bool {
+    match line.split_once('=') {
+        Some((input, form)) => {
+            let input = bytes_of(alloc, input).expect(rt, "memory");
+            let form = bytes_of(alloc, form).expect(rt, "memory");
+            is_normalised(rt, alloc, &input, info, &form);
+            true
+        }
+        None => false,
     }
-    Ok(())
 }
 
-#[test]
-fn zero_widths(rt: HostRuntime) -> Result<(), Fail> {
-    let rows: [(&[u8], &[u8]); 5] = [
-        (&[0x21, 12, 0, 0, 1, 0, 0, 0, 10, 2, 0, 0], &EMPTY),
-        (&[0x21, 12, 0, 0, 1, 0, 0, 0, 10, 4, 0, 0], &EMPTY),
-        (
-            &[0x21, 12, 0, 0, 1, 0, 0, 0, 10, 2, 8, 0],
-            &[0x21, 8, 0, 0, 1, 0, 0, 0, 3, 0, 0, 0],
-        ),
-        (
-            &[0x21, 12, 0, 0, 2, 0, 0, 0, 0x1a, 3, 8, 8, 0x61, 2, 0, 0],
-            &[0x21, 8, 0, 0, 1, 0, 0, 0, 7, 2, 0x90, 0],
-        ),
-        (
-            &[0x21, 12, 0, 0, 2, 0, 0, 0, 0x1a, 3, 0x4c, 0, 7, 0, 0, 0],
-            &[0x21, 8, 0, 0, 2, 0, 0, 0, 7, 3, 0, 0, 0, 0, 0, 0],
-        ),
-    ];
-    for (blocks, form) in rows {
-        let input = stream(rt.alloc(), blocks)?;
-        is_normalised(&rt, rt.alloc(), &input, Info::Keep, form)?;
+/// The same of each line. There are so many of them that have one.
+fn are_normalised(rt: &impl Abort, alloc: Global, lines: &str, info: Info, wanted: usize) {
+    let mut count: usize = 0;
+    for line in lines.lines() {
+        if is_line_normalised(rt, alloc, line, info) {
+            count = count.saturating_add(1);
+        }
     }
-    Ok(())
+    assert!(rt; count == wanted);
+}
+
+/// Inputs without BLOCKINFO blocks, and their normal forms; and lines of comment, each behind a '#'. One text, since a long table
+/// of texts takes long to prove.
+static PLAIN: &str = "\
+    M = M\n\
+    M E = M E\n\
+    M T = M T\n\
+    M W = M T\n\
+    # a block in a block\n\
+    M 21 04 00 00 04 00 00 00 13 04 00 00 01 00 00 00 00 00 00 00 00 00 00 00 \
+        = M 21 08 00 00 04 00 00 00 25 08 00 00 01 00 00 00 00 00 00 00 00 00 00 00\n\
+    # a width of 32\n\
+    M 21 20 01 00 01 00 00 00 00 00 00 00 = M E\n\
+    # characters, an empty array and an empty blob\n\
+    M 21 0C 00 00 02 00 00 00 1A 03 0C 39 00 FF 0C 00 = M 21 08 00 00 02 00 00 00 07 43 38 FC 82 2E 00 00\n\
+    M 21 0C 00 00 02 00 00 00 1A 03 0C 09 00 00 00 00 = M 21 08 00 00 01 00 00 00 07 00 00 00\n\
+    M 21 0C 00 00 02 00 00 00 12 03 94 00 00 00 00 00 = M 21 08 00 00 01 00 00 00 07 00 00 00\n\
+    M B = M R\n\
+    M A = M R\n\
+    M S = M 21 08 00 00 04 00 00 00 07 47 20 0C 44 61 1C 07 47 20 0C 44 61 1C 00 00\n\
+    # operands of width 0\n\
+    M 21 0C 00 00 01 00 00 00 0A 02 00 00 = M E\n\
+    M 21 0C 00 00 01 00 00 00 0A 04 00 00 = M E\n\
+    M 21 0C 00 00 01 00 00 00 0A 02 08 00 = M 21 08 00 00 01 00 00 00 03 00 00 00\n\
+    M 21 0C 00 00 02 00 00 00 1A 03 08 08 61 02 00 00 = M 21 08 00 00 01 00 00 00 07 02 90 00\n\
+    M 21 0C 00 00 02 00 00 00 1A 03 4C 00 07 00 00 00 = M 21 08 00 00 02 00 00 00 07 03 00 00 00 00 00 00\n\
+    # wrapped, with bytes behind the stream, and with a gap before it\n\
+    DE C0 17 0B 00 00 00 00 14 00 00 00 10 00 00 00 07 00 00 01 M E Z = M E\n\
+    DE C0 17 0B 00 00 00 00 18 00 00 00 10 00 00 00 07 00 00 01 FF FF FF FF M E = M E\n\
+    # another magic\n\
+    44 49 41 47 21 0C 00 00 01 00 00 00 0B 02 1E 00 = 44 49 41 47 21 08 00 00 01 00 00 00 07 01 07 00";
+
+#[test]
+fn normal_forms(rt: HostRuntime) {
+    are_normalised(&rt, rt.alloc(), PLAIN, Info::Keep, 20);
+    are_normalised(&rt, rt.alloc(), PLAIN, Info::Drop, 20);
+}
+
+/// Inputs with BLOCKINFO blocks, and their normal forms with these.
+static KEPT: &str = "\
+    M D = M F\n\
+    M N = M 21 08 00 00 07 00 00 00 F 00 00 00 00\n\
+    # a definition of the block's own behind the one that describes it\n\
+    M 01 08 00 00 02 00 00 00 07 01 A2 18 20 07 00 00 21 0C 00 00 02 00 00 00 12 05 84 90 DC 04 00 00 \
+        = M 01 08 00 00 01 00 00 00 07 01 02 00 21 08 00 00 02 00 00 00 07 01 39 2C 04 09 00 00\n\
+    # one block is described twice\n\
+    M 01 08 00 00 03 00 00 00 07 01 A2 18 20 E7 20 40 14 05 84 00 21 0C 00 00 01 00 00 00 4D 00 00 00 \
+        = M 01 08 00 00 02 00 00 00 07 01 72 10 20 00 00 00 21 08 00 00 01 00 00 00 0B 41 02 00";
+
+/// The same, and their normal forms without them.
+static DROPPED: &str = "\
+    M D = M H\n\
+    M 01 08 00 00 02 00 00 00 07 01 A2 18 20 07 00 00 = M\n\
+    M N = M 21 08 00 00 04 00 00 00 H 00 00 00 00";
+
+#[test]
+fn described_blocks(rt: HostRuntime) {
+    are_normalised(&rt, rt.alloc(), KEPT, Info::Keep, 4);
+    are_normalised(&rt, rt.alloc(), DROPPED, Info::Drop, 3);
 }
 
 #[test]
-fn described_blocks(rt: HostRuntime) -> Result<(), Fail> {
-    let rows: [(&[u8], Info, &[u8]); 7] = [
-        (&DESCRIBED, Info::Keep, &DESCRIBED_FORM),
-        (&DESCRIBED, Info::Drop, &HUNDRED),
-        (&DESCRIBED[..16], Info::Drop, &[]),
-        (
-            &DESCRIBED_WITHIN,
-            Info::Keep,
-            &[
-                0x21, 8, 0, 0, 7, 0, 0, 0, 1, 8, 0, 0, 1, 0, 0, 0, 7, 1, 2, 0, 0x21, 8, 0, 0, 1, 0,
-                0, 0, 7, 1, 0x39, 0, 0, 0, 0, 0,
-            ],
-        ),
-        (
-            &DESCRIBED_WITHIN,
-            Info::Drop,
-            &[
-                0x21, 8, 0, 0, 4, 0, 0, 0, 0x21, 8, 0, 0, 1, 0, 0, 0, 7, 1, 0x39, 0, 0, 0, 0, 0,
-            ],
-        ),
-        (
-            &[
-                1, 8, 0, 0, 2, 0, 0, 0, 7, 1, 0xa2, 0x18, 0x20, 7, 0, 0, 0x21, 12, 0, 0, 2, 0, 0,
-                0, 0x12, 5, 0x84, 0x90, 0xdc, 4, 0, 0,
-            ],
-            Info::Keep,
-            &[
-                1, 8, 0, 0, 1, 0, 0, 0, 7, 1, 2, 0, 0x21, 8, 0, 0, 2, 0, 0, 0, 7, 1, 0x39, 0x2c, 4,
-                9, 0, 0,
-            ],
-        ),
-        (
-            &[
-                1, 8, 0, 0, 3, 0, 0, 0, 7, 1, 0xa2, 0x18, 0x20, 0xe7, 0x20, 0x40, 0x14, 5, 0x84, 0,
-                0x21, 12, 0, 0, 1, 0, 0, 0, 0x4d, 0, 0, 0,
-            ],
-            Info::Keep,
-            &[
-                1, 8, 0, 0, 2, 0, 0, 0, 7, 1, 0x72, 0x10, 0x20, 0, 0, 0, 0x21, 8, 0, 0, 1, 0, 0, 0,
-                0xb, 0x41, 2, 0,
-            ],
-        ),
-    ];
-    for (blocks, info, form) in rows {
-        let input = stream(rt.alloc(), blocks)?;
-        is_normalised(&rt, rt.alloc(), &input, info, form)?;
-    }
-    Ok(())
-}
-
-/// A stream in a wrapper, with a tail.
-fn wrapped(
-    alloc: Global,
-    offset: u8,
-    gap: &[u8],
-    blocks: &[u8],
-    tail: &[u8],
-) -> Result<Vec<u8>, AllocError> {
-    let mut header = WRAPPER;
-    header[8] = offset;
-    let mut bytes = Vec::from_slice(alloc, &header)?;
-    bytes.extend_from_slice(gap)?;
-    bytes.extend_from_slice(&stream(alloc, blocks)?)?;
-    bytes.extend_from_slice(tail)?;
-    Ok(bytes)
-}
-
-#[test]
-fn wrapped_inputs(rt: HostRuntime) -> Result<(), Fail> {
-    let padded = wrapped(rt.alloc(), 20, &[], &EMPTY, &[0; 12])?;
-    is_normalised(&rt, rt.alloc(), &padded, Info::Keep, &EMPTY)?;
-    let with_gap = wrapped(rt.alloc(), 24, &[0xff; 4], &EMPTY, &[])?;
-    is_normalised(&rt, rt.alloc(), &with_gap, Info::Keep, &EMPTY)
-}
-
-#[test]
-fn another_magic(rt: HostRuntime) -> Result<(), Fail> {
-    let input = [
+fn a_vector_takes_the_form(rt: HostRuntime) {
+    let source = SliceSource::new(&[
         0x44, 0x49, 0x41, 0x47, 0x21, 12, 0, 0, 1, 0, 0, 0, 0xb, 2, 0x1e, 0,
-    ];
-    let form = [
+    ]);
+    let sink = VecSink::new(rt.alloc());
+    let (answer, _, sink) = normalise(rt.alloc(), source, sink, Limits::usual(), Info::Keep);
+    let form: &[u8] = &[
         0x44, 0x49, 0x41, 0x47, 0x21, 8, 0, 0, 1, 0, 0, 0, 7, 1, 7, 0,
     ];
-    let sink = VecSink::new(rt.alloc());
-    let (answer, _, sink) = normalise(
-        rt.alloc(),
-        SliceSource::new(&input),
-        sink,
-        Limits::usual(),
-        Info::Keep,
-    );
-    assert_eq!(rt; answer?, 16);
-    assert_eq!(rt; sink.bytes(), form.as_slice());
-    Ok(())
+    assert!(rt; answer == Ok(16) && sink.bytes() == form);
 }

@@ -1,172 +1,190 @@
-use crate::input_tests::{
-    ARRAY, BLOB, Cuts, DESCRIBED, EMPTY, HUNDRED, SEVENS, THIRTY, WIDE_THIRTY, refused, stream,
-};
+//! Whether two inputs hold the same.
+
+use crate::fault_tests::{agrees, told_of_fault};
+use crate::input_tests::{Cuts, bytes_of};
 use crate::tests::within;
 use crate::{Info, SameFault, Which, same};
 use bit_fields::{Fault, Limits, Reason, SliceSource, Source};
-use std::alloc::Global;
+use std::alloc::{AllocError, Global};
 use std::process::Abort;
-use std::test::Fail;
 
-/// What is answered of two inputs; where memory is refused the test fails.
-fn compared<A: Source + Drop, B: Source + Drop>(
+/// What is answered of two inputs, as text; where memory was refused there is none.
+fn told<A: Source + Drop, B: Source + Drop>(
     alloc: Global,
     a: A,
     b: B,
+    limits: Limits,
     info: Info,
-) -> Result<Result<bool, SameFault>, Fail> {
-    let (answer, _, _) = same(alloc, a, b, Limits::usual(), info);
+) -> Result<String, AllocError> {
+    let (answer, _, _) = same(alloc, a, b, limits, info);
     match answer {
+        Ok(are_same) => are_same.to_string(alloc),
         Err(
             SameFault {
                 which: _,
                 fault: Fault::Memory,
             },
-        ) => Err("no memory".into()),
-        _ => Ok(answer),
+        ) => Err(AllocError),
+        Err(fault) => fault.to_string(alloc),
     }
 }
 
-/// What is answered of two inputs either way round.
-fn are_same(rt: &impl Abort, alloc: Global, a: &[u8], b: &[u8], info: Info) -> Result<bool, Fail> {
-    let there = compared(alloc, SliceSource::new(a), SliceSource::new(b), info)?;
-    let back = compared(alloc, SliceSource::new(b), SliceSource::new(a), info)?;
-    assert_eq!(rt; there, back);
-    Ok(there?)
+/// This is told of two inputs.
+fn is_told(rt: &impl Abort, alloc: Global, a: &[u8], b: &[u8], info: Info, wanted: &str) {
+    let (a, b) = (SliceSource::new(a), SliceSource::new(b));
+    agrees(
+        rt,
+        told(alloc, a, b, Limits::usual(), info),
+        wanted,
+        "two inputs",
+    );
 }
 
+/// This is told of two inputs, and this the other way round.
+fn are_told(
+    rt: &impl Abort,
+    alloc: Global,
+    (a, b): (&str, &str),
+    info: Info,
+    there: &str,
+    back: &str,
+) {
+    let a = bytes_of(alloc, a).expect(rt, "memory");
+    let b = bytes_of(alloc, b).expect(rt, "memory");
+    is_told(rt, alloc, &a, &b, info, there);
+    is_told(rt, alloc, &b, &a, info, back);
+}
+
+/// Two records in one block.
+const TWO: &str = "M 21 08 00 00 02 00 00 00 07 81 77 10 78 00 00 00";
+
+/// A block in a block.
+const NESTED: &str = "M 21 08 00 00 04 00 00 00 25 08 00 00 01 00 00 00 00 00 00 00 00 00 00 00";
+
+/// Pairs of inputs, what is told of them where BLOCKINFO blocks are kept, and what the other way round.
+static PAIRS: [(&str, &str, &str, &str); 20] = [
+    ("M", "M", "true", "true"),
+    ("M T", "M W", "true", "true"),
+    ("M B", "M A", "true", "true"),
+    ("M S", "M S", "true", "true"),
+    ("M E T", "M E T", "true", "true"),
+    ("44 49 41 47", "44 49 41 47", "true", "true"),
+    ("M T", "M H", "false", "false"),
+    ("M T", "M E", "false", "false"),
+    ("M E", "M", "false", "false"),
+    ("M E", NESTED, "false", "false"),
+    ("M T", NESTED, "false", "false"),
+    ("M S", "M T", "false", "false"),
+    (TWO, "M T", "false", "false"),
+    ("M D", "M H", "false", "false"),
+    ("M E T", "M E H", "false", "false"),
+    ("M E T", "M E", "false", "false"),
+    ("M", "44 49 41 47", "false", "false"),
+    // the input that is refused is named
+    (
+        "M",
+        "",
+        "second: refused: Truncated at bit 0",
+        "first: refused: Truncated at bit 0",
+    ),
+    (
+        "",
+        "M E 0A 0A 0A 0A",
+        "first: refused: Truncated at bit 0",
+        "first: refused: TopLevel at bit 128",
+    ),
+    (
+        "M",
+        "M E 0A 0A 0A 0A",
+        "second: refused: TopLevel at bit 128",
+        "first: refused: TopLevel at bit 128",
+    ),
+];
+
 #[test]
-fn trees_are_compared(rt: HostRuntime) -> Result<(), Fail> {
-    let nested = [
-        0x21, 8, 0, 0, 4, 0, 0, 0, 0x25, 8, 0, 0, 1, 0, 0, 0, 0, 0, 0, 0, 0, 0, 0, 0,
-    ];
-    let two_in_one = [
-        0x21, 8, 0, 0, 2, 0, 0, 0, 7, 0x81, 0x77, 0x10, 0x78, 0, 0, 0,
-    ];
-    let rows: [(&[u8], &[u8], Info, bool); 14] = [
-        (&[], &[], Info::Keep, true),
-        (&THIRTY, &WIDE_THIRTY, Info::Keep, true),
-        (&THIRTY, &HUNDRED, Info::Keep, false),
-        (&THIRTY, &EMPTY, Info::Keep, false),
-        (&EMPTY, &[], Info::Keep, false),
-        (&EMPTY, &nested, Info::Keep, false),
-        (&THIRTY, &nested, Info::Keep, false),
-        (&BLOB, &ARRAY, Info::Keep, true),
-        (&SEVENS, &SEVENS, Info::Keep, true),
-        (&SEVENS, &THIRTY, Info::Keep, false),
-        (&two_in_one, &THIRTY, Info::Keep, false),
-        (&two_in_one, &two_in_one, Info::Drop, true),
-        (&DESCRIBED, &HUNDRED, Info::Keep, false),
-        (&DESCRIBED, &HUNDRED, Info::Drop, true),
-    ];
-    for (a, b, info, wanted) in rows {
-        let a = stream(rt.alloc(), a)?;
-        let b = stream(rt.alloc(), b)?;
-        let answer = are_same(&rt, rt.alloc(), &a, &b, info)?;
-        assert_eq!(rt; answer, wanted, "{a:?} {b:?}");
+fn inputs_are_compared(rt: HostRuntime) {
+    for (a, b, there, back) in &PAIRS {
+        are_told(&rt, rt.alloc(), (a, b), Info::Keep, there, back);
     }
-    Ok(())
 }
 
 #[test]
-fn later_blocks_are_compared(rt: HostRuntime) -> Result<(), Fail> {
-    let mut one = stream(rt.alloc(), &EMPTY)?;
-    one.extend_from_slice(&THIRTY)?;
-    let mut other = stream(rt.alloc(), &EMPTY)?;
-    other.extend_from_slice(&HUNDRED)?;
-    assert!(rt; !are_same(&rt, rt.alloc(), &one, &other, Info::Keep)?);
-    assert!(rt; are_same(&rt, rt.alloc(), &one, &one, Info::Keep)?);
-    let short = stream(rt.alloc(), &EMPTY)?;
-    assert!(rt; !are_same(&rt, rt.alloc(), &one, &short, Info::Keep)?);
-    Ok(())
+fn blockinfo_is_dropped(rt: HostRuntime) {
+    are_told(&rt, rt.alloc(), (TWO, TWO), Info::Drop, "true", "true");
+    are_told(&rt, rt.alloc(), ("M D", "M H"), Info::Drop, "true", "true");
 }
 
 #[test]
-fn magics_are_compared(rt: HostRuntime) -> Result<(), Fail> {
-    let one = [0x42, 0x43, 0xc0, 0xde];
-    let other = [0x44, 0x49, 0x41, 0x47];
-    assert!(rt; !are_same(&rt, rt.alloc(), &one, &other, Info::Keep)?);
-    assert!(rt; are_same(&rt, rt.alloc(), &other, &other, Info::Keep)?);
-    Ok(())
+fn no_normal_form_has_to_fit(rt: HostRuntime) {
+    let input = bytes_of(rt.alloc(), "M S").expect(&rt, "memory");
+    let (a, b) = (SliceSource::new(&input), SliceSource::new(&input));
+    let told = told(rt.alloc(), a, b, within(&rt, 24), Info::Keep);
+    agrees(&rt, told, "true", "24 bytes");
+}
+
+/// What is told where one of the sources fails at a pull of a byte.
+fn are_cut(rt: &impl Abort, alloc: Global, input: &[u8], fails_at: u64) {
+    let (a, b) = (Cuts::source(input, 1, fails_at), SliceSource::new(input));
+    agrees(
+        rt,
+        told(alloc, a, b, Limits::usual(), Info::Keep),
+        "first: the source failed",
+        "a",
+    );
+    let (a, b) = (SliceSource::new(input), Cuts::source(input, 1, fails_at));
+    agrees(
+        rt,
+        told(alloc, a, b, Limits::usual(), Info::Keep),
+        "second: the source failed",
+        "b",
+    );
+}
+
+/// Two sources that give so many bytes at once, and five, hold the same.
+fn are_same_by(rt: &impl Abort, alloc: Global, input: &[u8], most: usize) {
+    let (a, b) = (Cuts::source(input, most, 0), Cuts::source(input, 5, 0));
+    agrees(
+        rt,
+        told(alloc, a, b, Limits::usual(), Info::Keep),
+        "true",
+        "pieces",
+    );
 }
 
 #[test]
-fn no_normal_form_has_to_fit(rt: HostRuntime) -> Result<(), Fail> {
-    let input = stream(rt.alloc(), &SEVENS)?;
-    let a = SliceSource::new(&input);
-    let b = SliceSource::new(&input);
-    let (answer, _, _) = same(rt.alloc(), a, b, within(&rt, 24), Info::Keep);
-    assert!(rt; answer?);
-    Ok(())
-}
-
-#[test]
-fn faults_name_their_input(rt: HostRuntime) -> Result<(), Fail> {
-    let good = [0x42, 0x43, 0xc0, 0xde];
-    let broken = [
-        0x42, 0x43, 0xc0, 0xde, 0x21, 8, 0, 0, 1, 0, 0, 0, 0, 0, 0, 0, 10, 10, 10, 10,
-    ];
-    let cut = refused(Reason::Truncated, 0);
-    let top = refused(Reason::TopLevel, 128);
-    let rows: [(&[u8], &[u8], Which, Fault); 4] = [
-        (&good, &[], Which::Second, cut),
-        (&[], &broken, Which::First, cut),
-        (&broken, &[], Which::First, top),
-        (&good, &broken, Which::Second, top),
-    ];
-    for (a, b, which, fault) in rows {
-        let (a, b) = (SliceSource::new(a), SliceSource::new(b));
-        let answer = compared(rt.alloc(), a, b, Info::Keep)?;
-        assert_eq!(rt; answer, Err(SameFault { which, fault }));
-    }
-    Ok(())
-}
-
-#[test]
-fn a_source_fails(rt: HostRuntime) -> Result<(), Fail> {
-    let input = stream(rt.alloc(), &THIRTY)?;
-    let fault = Fault::Read;
+fn sources_give_pieces_or_fail(rt: HostRuntime) {
+    let input = bytes_of(rt.alloc(), "M T").expect(&rt, "memory");
     for fails_at in 1..18 {
-        let a = Cuts::source(&input, 1, fails_at);
-        let answer = compared(rt.alloc(), a, SliceSource::new(&input), Info::Keep)?;
-        let which = Which::First;
-        assert_eq!(rt; answer, Err(SameFault { which, fault }), "{fails_at}");
-        let b = Cuts::source(&input, 1, fails_at);
-        let answer = compared(rt.alloc(), SliceSource::new(&input), b, Info::Keep)?;
-        let which = Which::Second;
-        assert_eq!(rt; answer, Err(SameFault { which, fault }), "{fails_at}");
+        are_cut(&rt, rt.alloc(), &input, fails_at);
     }
     for most in [1, 3, 4] {
-        let (a, b) = (Cuts::source(&input, most, 0), Cuts::source(&input, 5, 0));
-        assert_eq!(rt; compared(rt.alloc(), a, b, Info::Keep)?, Ok(true));
+        are_same_by(&rt, rt.alloc(), &input, most);
     }
-    Ok(())
 }
 
 #[test]
-fn the_second_waits(rt: HostRuntime) -> Result<(), Fail> {
-    let input = stream(rt.alloc(), &THIRTY)?;
+fn the_second_waits(rt: HostRuntime) {
+    let input = bytes_of(rt.alloc(), "M T").expect(&rt, "memory");
     let a = SliceSource::new(&[]);
     let b = Cuts::source(&input, 1, 0);
     let (answer, _, b) = same(rt.alloc(), a, b, Limits::usual(), Info::Keep);
-    assert!(rt; answer.is_err());
-    assert_eq!(rt; b.into_inner().reads(), 0);
-    Ok(())
+    assert!(rt; answer.is_err() && b.into_inner().reads() == 0);
+}
+
+/// A fault of one of two inputs is shown so.
+fn is_shown(rt: &impl Abort, alloc: Global, which: Which, fault: Fault, wanted: &str) {
+    let told = SameFault { which, fault }.to_string(alloc);
+    agrees(rt, told, wanted, "a fault");
 }
 
 #[test]
-fn faults_are_shown(rt: HostRuntime) -> Result<(), Fail> {
-    let first = SameFault {
-        which: Which::First,
-        fault: refused(Reason::Truncated, 0),
+fn faults_are_shown(rt: HostRuntime) {
+    let fault = Fault::Refused {
+        reason: Reason::Truncated,
+        bit: 0,
     };
-    let second = SameFault {
-        which: Which::Second,
-        fault: Fault::Read,
-    };
-    assert_eq!(rt;
-        format!(in rt.alloc(); "{first}, {second}")?.as_str(),
-        "first: refused: Truncated at bit 0, second: the source failed"
-    );
-    Ok(())
+    let wanted = "first: refused: Truncated at bit 0";
+    is_shown(&rt, rt.alloc(), Which::First, fault, wanted);
+    let wanted = "second: the source failed";
+    is_shown(&rt, rt.alloc(), Which::Second, Fault::Read, wanted);
 }

@@ -3,11 +3,12 @@ ghost use Rattle.bit_events.specs.EventView.{shown};
 ghost use Rattle.bit_tree.specs.Nesting.{MayStand};
 
 use crate::marked_builder::MarkedBuilder;
-use crate::tests::{definition, shown};
+use crate::tests::{agrees, definition, shown};
 use crate::tree_builder::TreeBuilder;
 use crate::{Block, Event, Info, MarkedBlocks};
+use bit_abbrev::Abbrev;
 use std::alloc::{AllocError, Global};
-use std::test::Fail;
+use std::process::Abort;
 
 /// Whether an event opens a block.
 fn opens(event: &Event<'_>) -> bool
@@ -16,14 +17,79 @@ fn opens(event: &Event<'_>) -> bool
     matches!(event, Event::Enter { .. })
 }
 
+/// An event of a table; what it lends of a definition is made in the test.
+enum Row {
+    Enter {
+        id: u32,
+        width: u8,
+        first: u64,
+        body: u64,
+    },
+    Define {
+        first: u64,
+        after: u64,
+    },
+    Record {
+        abbrev: u32,
+        code: u64,
+        values: &'static [u64],
+        first: u64,
+        after: u64,
+    },
+    Leave {
+        after: u64,
+    },
+}
+
+/// The event of a row.
+fn event_of<'a>(row: &Row, abbrev: &'a Abbrev) -> Event<'a> {
+    match *row {
+        Row::Enter {
+            id,
+            width,
+            first,
+            body,
+        } => Event::Enter {
+            id,
+            width,
+            first,
+            body,
+        },
+        Row::Define { first, after } => Event::Define {
+            abbrev,
+            first,
+            after,
+        },
+        Row::Record {
+            abbrev,
+            code,
+            values,
+            first,
+            after,
+        } => Event::Record {
+            abbrev,
+            code,
+            values,
+            first,
+            after,
+        },
+        Row::Leave { after } => Event::Leave { after },
+    }
+}
+
 /// The marked blocks of these events, if each may stand where it does, and no block is left open.
-fn marked_of(alloc: Global, events: &[Event<'_>]) -> Result<Option<MarkedBlocks>, AllocError> {
+fn marked_of(
+    alloc: Global,
+    rows: &[Row],
+    define: &Abbrev,
+) -> Result<Option<MarkedBlocks>, AllocError> {
     let mut builder = MarkedBuilder::new(alloc);
-    for event in events {
-        if builder.is_whole() && !opens(event) {
+    for row in rows {
+        let event = event_of(row, define);
+        if builder.is_whole() && !opens(&event) {
             return Ok(None);
         }
-        builder.add(alloc, *event)?;
+        builder.add(alloc, event)?;
     }
     if !builder.is_whole() {
         return Ok(None);
@@ -35,14 +101,16 @@ fn marked_of(alloc: Global, events: &[Event<'_>]) -> Result<Option<MarkedBlocks>
 fn blocks_told(
     alloc: Global,
     info: Info,
-    events: &[Event<'_>],
+    rows: &[Row],
+    define: &Abbrev,
 ) -> Result<Option<Vec<Block>>, AllocError> {
     let mut builder = TreeBuilder::new(alloc, info);
-    for event in events {
-        if builder.is_whole() && !opens(event) {
+    for row in rows {
+        let event = event_of(row, define);
+        if builder.is_whole() && !opens(&event) {
             return Ok(None);
         }
-        builder.add(alloc, *event)?;
+        builder.add(alloc, event)?;
     }
     if !builder.is_whole() {
         return Ok(None);
@@ -50,134 +118,146 @@ fn blocks_told(
     Ok(Some(builder.finish()))
 }
 
-#[test]
-fn events_build_a_marked_tree(rt: HostRuntime) -> Result<(), Fail> {
-    let alloc = rt.alloc();
-    let define = definition(alloc)?;
-    let events = [
-        Event::Enter {
-            id: 0,
-            width: 2,
-            first: 32,
-            body: 96,
-        },
-        Event::Record {
-            abbrev: 3,
-            code: 1,
-            values: &[8],
-            first: 96,
-            after: 116,
-        },
-        Event::Define {
-            abbrev: &define,
-            first: 116,
-            after: 141,
-        },
-        Event::Leave { after: 160 },
-        Event::Enter {
-            id: 8,
-            width: 3,
-            first: 160,
-            body: 224,
-        },
-        Event::Enter {
-            id: 9,
-            width: 4,
-            first: 224,
-            body: 288,
-        },
-        Event::Leave { after: 320 },
-        Event::Record {
-            abbrev: 4,
-            code: 1,
-            values: &[100],
-            first: 320,
-            after: 330,
-        },
-        Event::Leave { after: 352 },
-    ];
-    let first =
-        "MarkedBlock { id: 0, width: 2, first: 32, body: 96, after: 160, items: MarkedItems([\
-        Record(MarkedRecord { abbrev: 3, code: 1, values: Values([8]), first: 96, after: 116 }), \
-        Define(MarkedDefine { abbrev: Abbrev { ops: [Literal(1), Fixed(7)] }, first: 116, after: 141 })]) }";
-    let second =
-        "MarkedBlock { id: 8, width: 3, first: 160, body: 224, after: 352, items: MarkedItems([\
-        Block(MarkedBlock { id: 9, width: 4, first: 224, body: 288, after: 320, items: MarkedItems([]) }), \
-        Record(MarkedRecord { abbrev: 4, code: 1, values: Values([100]), first: 320, after: 330 })]) }";
-    let want = format!(in alloc; "Some(MarkedBlocks([{first}, {second}]))")?;
-    let blocks = marked_of(alloc, &events)?;
-    assert_eq!(rt; format!(in alloc; "{blocks:?}")?.as_str(), want.as_str());
-    Ok(())
+/// The events of two blocks, of which the first has a definition and the second a block.
+static MARKED: [Row; 9] = [
+    Row::Enter {
+        id: 0,
+        width: 2,
+        first: 32,
+        body: 96,
+    },
+    Row::Record {
+        abbrev: 3,
+        code: 1,
+        values: &[8],
+        first: 96,
+        after: 116,
+    },
+    Row::Define {
+        first: 116,
+        after: 141,
+    },
+    Row::Leave { after: 160 },
+    Row::Enter {
+        id: 8,
+        width: 3,
+        first: 160,
+        body: 224,
+    },
+    Row::Enter {
+        id: 9,
+        width: 4,
+        first: 224,
+        body: 288,
+    },
+    Row::Leave { after: 320 },
+    Row::Record {
+        abbrev: 4,
+        code: 1,
+        values: &[100],
+        first: 320,
+        after: 330,
+    },
+    Row::Leave { after: 352 },
+];
+
+/// What they build.
+static MARKED_TEXT: &str = "Some(MarkedBlocks([\
+    MarkedBlock { id: 0, width: 2, first: 32, body: 96, after: 160, items: MarkedItems([\
+    Record(MarkedRecord { abbrev: 3, code: 1, values: Values([8]), first: 96, after: 116 }), \
+    Define(MarkedDefine { abbrev: Abbrev { ops: [Literal(1), Fixed(7)] }, first: 116, after: 141 })]) }, \
+    MarkedBlock { id: 8, width: 3, first: 160, body: 224, after: 352, items: MarkedItems([\
+    Block(MarkedBlock { id: 9, width: 4, first: 224, body: 288, after: 320, items: MarkedItems([]) }), \
+    Record(MarkedRecord { abbrev: 4, code: 1, values: Values([100]), first: 320, after: 330 })]) }]))";
+
+/// What these events build, as text.
+fn told_of_marked(rt: &impl Abort, alloc: Global, rows: &[Row]) -> Result<String, AllocError> {
+    let define = definition(rt, alloc);
+    let blocks = marked_of(alloc, rows, &define).expect(rt, "memory");
+    format!(in alloc; "{blocks:?}")
 }
 
 #[test]
-fn events_build_a_tree(rt: HostRuntime) -> Result<(), Fail> {
-    let alloc = rt.alloc();
-    let define = definition(alloc)?;
-    let events = [
-        Event::Enter {
-            id: 0,
-            width: 2,
-            first: 32,
-            body: 96,
-        },
-        Event::Record {
-            abbrev: 3,
-            code: 1,
-            values: &[8],
-            first: 96,
-            after: 116,
-        },
-        Event::Define {
-            abbrev: &define,
-            first: 116,
-            after: 141,
-        },
-        Event::Leave { after: 160 },
-        Event::Enter {
-            id: 8,
-            width: 3,
-            first: 160,
-            body: 224,
-        },
-        Event::Enter {
-            id: 0,
-            width: 2,
-            first: 224,
-            body: 288,
-        },
-        Event::Record {
-            abbrev: 3,
-            code: 1,
-            values: &[8],
-            first: 288,
-            after: 308,
-        },
-        Event::Record {
-            abbrev: 3,
-            code: 2,
-            values: &[9],
-            first: 308,
-            after: 328,
-        },
-        Event::Leave { after: 352 },
-        Event::Record {
-            abbrev: 4,
-            code: 1,
-            values: &[100],
-            first: 352,
-            after: 362,
-        },
-        Event::Leave { after: 384 },
-    ];
-    for (info, want) in [
-        (Info::Keep, " 0 { 1 [8] } 8 { 0 { 1 [8] 2 [9] } 1 [100] }"),
-        (Info::Drop, " 8 { 1 [100] }"),
-    ] {
-        match blocks_told(alloc, info, &events)? {
-            Some(blocks) => assert_eq!(rt; shown(alloc, &blocks)?.as_str(), want, "{info:?}"),
-            None => assert!(rt; false, "{info:?}"),
-        }
-    }
-    Ok(())
+fn events_build_a_marked_tree(rt: HostRuntime) {
+    let told = told_of_marked(&rt, rt.alloc(), &MARKED);
+    agrees(&rt, told, MARKED_TEXT, "marked");
+}
+
+/// The events of `0 { 1 [8] } 8 { 0 { 1 [8] 2 [9] } 1 [100] }`, with a definition in the first.
+static PLAIN: [Row; 11] = [
+    Row::Enter {
+        id: 0,
+        width: 2,
+        first: 32,
+        body: 96,
+    },
+    Row::Record {
+        abbrev: 3,
+        code: 1,
+        values: &[8],
+        first: 96,
+        after: 116,
+    },
+    Row::Define {
+        first: 116,
+        after: 141,
+    },
+    Row::Leave { after: 160 },
+    Row::Enter {
+        id: 8,
+        width: 3,
+        first: 160,
+        body: 224,
+    },
+    Row::Enter {
+        id: 0,
+        width: 2,
+        first: 224,
+        body: 288,
+    },
+    Row::Record {
+        abbrev: 3,
+        code: 1,
+        values: &[8],
+        first: 288,
+        after: 308,
+    },
+    Row::Record {
+        abbrev: 3,
+        code: 2,
+        values: &[9],
+        first: 308,
+        after: 328,
+    },
+    Row::Leave { after: 352 },
+    Row::Record {
+        abbrev: 4,
+        code: 1,
+        values: &[100],
+        first: 352,
+        after: 362,
+    },
+    Row::Leave { after: 384 },
+];
+
+/// What these events build without marks, as text.
+fn told_of_blocks(
+    rt: &impl Abort,
+    alloc: Global,
+    info: Info,
+    rows: &[Row],
+) -> Result<String, AllocError> {
+    let define = definition(rt, alloc);
+    let told = blocks_told(alloc, info, rows, &define).expect(rt, "memory");
+    let blocks = told.expect(rt, "events that build blocks");
+    shown(alloc, &blocks)
+}
+
+#[test]
+fn events_build_a_tree(rt: HostRuntime) {
+    let kept = " 0 { 1 [8] } 8 { 0 { 1 [8] 2 [9] } 1 [100] }";
+    let told = told_of_blocks(&rt, rt.alloc(), Info::Keep, &PLAIN);
+    agrees(&rt, told, kept, "kept");
+    let told = told_of_blocks(&rt, rt.alloc(), Info::Drop, &PLAIN);
+    agrees(&rt, told, " 8 { 1 [100] }", "dropped");
 }

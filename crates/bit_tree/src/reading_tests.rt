@@ -1,15 +1,13 @@
 //! Inputs and what the rules answer to them, read in pieces of several sizes, from sources that fail, and under limits.
 
 use crate::copying::blocks_of;
-use crate::tests::shown;
+use crate::tests::{agrees, shown, shown_document};
 use crate::{Document, Info, Item, Marked, read, read_contents, tree_of};
 use bit_fields::{BitWriter, Fault, Limits, ReadSource, SliceSource, Source, VecSink};
 use std::alloc::{AllocError, Global};
-use std::fmt::Write;
 use std::io;
 use std::io::{Error, ErrorKind, Read};
 use std::process::Abort;
-use std::test::Fail;
 
 /// A reader that gives at most so many bytes at a time, counts its reads and fails at one of them.
 #[derive(Drop)]
@@ -87,13 +85,26 @@ pub(crate) fn bytes_of(alloc: Global, text: &str) -> Result<Vec<u8>, AllocError>
     Ok(bytes)
 }
 
-/// An answer of `read` as text: its tree, or the fault.
-fn told_of_marked(alloc: Global, answer: Result<Marked, Fault>) -> Result<String, Fail> {
-    match answer {
-        Ok(marked) => Ok(shown(alloc, &blocks_of(alloc, &marked.blocks.0, Info::Keep)?)?),
-        Err(Fault::Memory) => Err("no memory".into()),
-        Err(fault) => Ok(fault.to_string(alloc)?),
+/// A fault as text; where memory was refused there is none.
+pub(crate) fn told_of_fault(alloc: Global, fault: Fault) -> Result<String, AllocError> {
+    match fault {
+        Fault::Memory => Err(AllocError),
+        fault => fault.to_string(alloc),
     }
+}
+
+/// An answer of `read` as text: its tree, or the fault.
+fn told_of_marked(alloc: Global, answer: Result<Marked, Fault>) -> Result<String, AllocError> {
+    match answer {
+        Ok(marked) => shown(alloc, &blocks_of(alloc, &marked.blocks.0, Info::Keep)?),
+        Err(fault) => told_of_fault(alloc, fault),
+    }
+}
+
+/// What `read` answers, as text.
+fn told<S: Source + Drop>(alloc: Global, source: S, limits: Limits) -> Result<String, AllocError> {
+    let (answer, _) = read(alloc, source, limits);
+    told_of_marked(alloc, answer)
 }
 
 /// What `read_contents` answers, as text.
@@ -102,311 +113,188 @@ fn told_of_contents<S: Source + Drop>(
     source: S,
     limits: Limits,
     info: Info,
-) -> Result<String, Fail> {
+) -> Result<String, AllocError> {
     let (answer, _) = read_contents(alloc, source, limits, info);
     match answer {
-        Ok(contents) => Ok(shown(alloc, &contents.blocks)?),
-        Err(Fault::Memory) => Err("no memory".into()),
-        Err(fault) => Ok(fault.to_string(alloc)?),
+        Ok(contents) => shown(alloc, &contents.blocks),
+        Err(fault) => told_of_fault(alloc, fault),
     }
 }
 
 /// The answers to an input in pieces: the same from `read` and `read_contents`, however it is cut.
-fn is_read(
-    rt: &impl Abort,
-    alloc: Global,
-    text: &str,
-    limits: Limits,
-    want: &str,
-) -> Result<(), Fail> {
-    let bytes = bytes_of(alloc, text)?;
+fn is_read(rt: &impl Abort, alloc: Global, text: &str, limits: Limits, wanted: &str) {
+    let bytes = bytes_of(alloc, text).expect(rt, "memory");
     for most in [1, 3, 4, 64] {
-        let (answer, _) = read(alloc, in_pieces(&bytes, most, 0), limits);
-        let told = told_of_marked(alloc, answer)?;
-        assert_eq!(rt; told.as_str(), want, "{text} by {most}");
-        let told = told_of_contents(alloc, in_pieces(&bytes, most, 0), limits, Info::Keep)?;
-        assert_eq!(rt; told.as_str(), want, "{text} by {most}");
+        let source = in_pieces(&bytes, most, 0);
+        agrees(rt, told(alloc, source, limits), wanted, text);
+        let source = in_pieces(&bytes, most, 0);
+        agrees(
+            rt,
+            told_of_contents(alloc, source, limits, Info::Keep),
+            wanted,
+            text,
+        );
     }
-    Ok(())
 }
 
-/// From a source that fails at a pull the answer is `Read` exactly where that pull was made.
-fn fails(
-    rt: &impl Abort,
-    alloc: Global,
-    text: &str,
-    limits: Limits,
-    want: &str,
-) -> Result<(), Fail> {
-    let bytes = bytes_of(alloc, text)?;
-    for fails_at in 1..80 {
-        let (answer, source) = read(alloc, in_pieces(&bytes, 1, fails_at), limits);
-        let told = told_of_marked(alloc, answer)?;
-        if source.into_inner().reads >= fails_at {
-            assert_eq!(rt; told.as_str(), "the source failed", "{text} at {fails_at}");
-        } else {
-            assert_eq!(rt; told.as_str(), want, "{text} at {fails_at}");
+/// From a source that fails at this pull the answer is `Read` exactly where that pull was made.
+fn fails_at(rt: &impl Abort, alloc: Global, bytes: &[u8], pull: u64, limits: Limits, wanted: &str) {
+    let (answer, source) = read(alloc, in_pieces(bytes, 1, pull), limits);
+    let failed = source.into_inner().reads >= pull;
+    let wanted = if failed { "the source failed" } else { wanted };
+    agrees(
+        rt,
+        told_of_marked(alloc, answer),
+        wanted,
+        "a source that fails",
+    );
+}
+
+/// The same for each of the first pulls.
+fn fails(rt: &impl Abort, alloc: Global, text: &str, limits: Limits, wanted: &str) {
+    let bytes = bytes_of(alloc, text).expect(rt, "memory");
+    for pull in 1..80 {
+        fails_at(rt, alloc, &bytes, pull, limits, wanted);
+    }
+}
+
+/// Inputs and their answers under the usual limits, behind a '='; and lines of comment, each behind a '#'. One text, since a
+/// long table of texts takes long to prove.
+static INPUTS: &str = "\
+    =refused: Truncated at bit 0\n\
+    42 43 C0 =refused: Truncated at bit 0\n\
+    M =\n\
+    M E = 8 { }\n\
+    M 21 08 00 00 01 00 00 00 07 81 07 00 = 8 { 1 [30] }\n\
+    # an input that is cut at each of its bytes\n\
+    42 =refused: Truncated at bit 0\n\
+    42 43 =refused: Truncated at bit 0\n\
+    M 21 =refused: Truncated at bit 34\n\
+    M 21 08 =refused: Truncated at bit 46\n\
+    M 21 08 00 =refused: Truncated at bit 46\n\
+    M 21 08 00 00 =refused: Truncated at bit 64\n\
+    M 21 08 00 00 01 =refused: Truncated at bit 64\n\
+    M 21 08 00 00 01 00 =refused: Truncated at bit 64\n\
+    M 21 08 00 00 01 00 00 =refused: Truncated at bit 64\n\
+    M 21 08 00 00 01 00 00 00 =refused: Truncated at bit 96\n\
+    M 21 08 00 00 01 00 00 00 07 =refused: Truncated at bit 104\n\
+    M 21 08 00 00 01 00 00 00 07 81 =refused: Truncated at bit 110\n\
+    M 21 08 00 00 01 00 00 00 07 81 07 =refused: Truncated at bit 118\n\
+    # a width of 3, and 30 in two chunks\n\
+    M 21 0C 00 00 01 00 00 00 0B 02 1F 00 = 8 { 1 [30] }\n\
+    # one, two and thirteen chunks; a bit past 64; a fourteenth chunk\n\
+    M 21 08 00 00 04 00 00 00 07 C3 07 06 FF FF FF FF FF FF FF FF FF 0F 00 00 = 8 { 1 [31, 32, 18446744073709551615] }\n\
+    M 21 08 00 00 04 00 00 00 07 C3 07 06 FF FF FF FF FF FF FF FF FF 1F 00 00 =refused: ValueTooWide at bit 128\n\
+    M 21 08 00 00 04 00 00 00 07 C3 07 06 FF FF FF FF FF FF FF FF FF 2F 00 00 =refused: ValueTooWide at bit 128\n\
+    M 21 08 00 00 01 00 00 00 00 00 00 80 =refused: DirtyPadding at bit 127\n\
+    M 21 08 00 00 02 00 00 00 00 00 00 00 =refused: BlockLength at bit 64\n\
+    M 21 08 00 00 00 00 00 00 00 00 00 00 =refused: BlockLength at bit 64\n\
+    M 21 0C 00 00 01 00 00 00 04 00 00 00 =refused: UndefinedAbbrev at bit 96\n\
+    M E 0A 0A 0A 0A =refused: TopLevel at bit 128\n\
+    # widths of 1, 32, 0 and 33\n\
+    M 21 04 00 00 04 00 00 00 13 04 00 00 01 00 00 00 00 00 00 00 00 00 00 00 = 8 { 9 { } }\n\
+    M 21 20 01 00 01 00 00 00 00 00 00 00 = 8 { }\n\
+    M 21 00 00 00 =refused: AbbrevWidth at bit 42\n\
+    M 21 24 01 00 =refused: AbbrevWidth at bit 42\n\
+    # an array of characters, and an empty one\n\
+    M 21 0C 00 00 02 00 00 00 1A 03 0C 39 00 FF 0C 00 = 8 { 1 [97, 95, 90] }\n\
+    M 21 0C 00 00 02 00 00 00 1A 03 0C 09 00 00 00 00 = 8 { 1 [] }\n\
+    # definitions from a BLOCKINFO block, and the block's own behind them\n\
+    M B U = 0 { 1 [8] } 8 { 1 [100] }\n\
+    M B 21 0C 00 00 02 00 00 00 12 05 84 90 DC 04 00 00 = 0 { 1 [8] } 8 { 1 [100] 2 [9] }\n\
+    # a second BLOCKINFO block replaces the table\n\
+    M B U 01 08 00 00 01 00 00 00 00 00 00 00 U =refused: UndefinedAbbrev at bit 416\n\
+    # a BLOCKINFO block does not reach a block that is open, but one that is entered later\n\
+    M 21 0C 00 00 05 00 00 00 01 10 00 00 02 00 00 00 07 01 A2 18 20 07 00 00 24 03 00 00 =refused: \
+        UndefinedAbbrev at bit 224\n\
+    M 21 0C 00 00 08 00 00 00 01 10 00 00 02 00 00 00 07 01 A2 18 20 07 00 00 41 18 00 00 01 00 00 00 \
+        24 03 00 00 00 00 00 00 = 8 { 0 { 1 [8] } 8 { 1 [100] } }\n\
+    # a block's own definition does not reach the block in it\n\
+    M 21 0C 00 00 05 00 00 00 12 03 E4 24 61 00 00 00 01 00 00 00 24 03 00 00 00 00 00 00 =refused: \
+        UndefinedAbbrev at bit 192\n\
+    # blobs, and the same bytes as an array\n\
+    M 21 0C 00 00 02 00 00 00 12 03 94 00 00 00 00 00 = 8 { 1 [] }\n\
+    M 21 0C 00 00 03 00 00 00 12 03 94 04 01 02 03 04 00 00 00 00 = 8 { 1 [1, 2, 3, 4] }\n\
+    M 21 0C 00 00 04 00 00 00 12 03 94 05 61 62 63 64 65 00 00 00 00 00 00 00 = 8 { 1 [97, 98, 99, 100, 101] }\n\
+    M 21 0C 00 00 04 00 00 00 12 03 94 05 61 62 63 64 65 00 02 00 00 00 00 00 =refused: DirtyPadding at bit 177\n\
+    M 21 0C 00 00 03 00 00 00 1A 03 4C 10 8B 30 B1 31 B2 32 00 00 = 8 { 1 [97, 98, 99, 100, 101] }\n\
+    # wrappers: with bytes behind the stream, a size too great, wrapped twice, faults of the wrapper itself\n\
+    H M E 00 00 00 00 00 00 00 00 00 00 00 00 = 8 { }\n\
+    DE C0 17 0B 00 00 00 00 14 00 00 00 14 00 00 00 07 00 00 01 M E =refused: WrapperSize at bit 96\n\
+    DE C0 17 0B 00 00 00 00 14 00 00 00 14 00 00 00 07 00 00 01 M E 00 00 00 00 00 00 00 00 00 00 00 00 \
+        =refused: TopLevel at bit 288\n\
+    H DE C0 17 0B =refused: WrapperNested at bit 160\n\
+    DE C0 17 0B 01 00 00 00 14 00 00 00 10 00 00 00 07 00 00 01 M E =refused: WrapperVersion at bit 32\n\
+    DE C0 17 0B 00 00 00 00 10 00 00 00 10 00 00 00 07 00 00 01 M E =refused: WrapperOffset at bit 64\n\
+    DE C0 17 0B 00 00 00 00 16 00 00 00 10 00 00 00 07 00 00 01 M E =refused: WrapperOffset at bit 64\n\
+    DE C0 17 0B 00 00 00 00 14 00 00 00 06 00 00 00 07 00 00 01 M E 00 00 00 00 00 00 00 00 00 00 00 00 \
+        =refused: Truncated at bit 206\n\
+    DE C0 17 0B 00 00 00 00 14 00 00 00 FF FF FF FF 07 00 00 01 M E =refused: WrapperSize at bit 96\n\
+    DE C0 17 0B 00 00 00 00 14 00 00 00 FF FF FF FF 07 00 00 01 M E 00 00 00 00 00 00 00 00 00 00 00 00 \
+        =refused: TopLevel at bit 288\n\
+    DE C0 17 0B 00 00 00 00 FC FF FF FF 10 00 00 00 07 00 00 01 M E =refused: Truncated at bit 160\n\
+    # a gap behind the wrapper: whole, cut, and not begun; a wrapper that is cut\n\
+    DE C0 17 0B 00 00 00 00 18 00 00 00 10 00 00 00 07 00 00 01 FF FF FF FF M E = 8 { }\n\
+    DE C0 17 0B 00 00 00 00 18 00 00 00 10 00 00 00 07 00 00 01 FF FF =refused: Truncated at bit 160\n\
+    DE C0 17 0B 00 00 00 00 18 00 00 00 10 00 00 00 07 00 00 01 =refused: Truncated at bit 160\n\
+    DE C0 17 0B 00 00 00 00 18 00 00 00 =refused: Truncated at bit 96\n\
+    # the greatest block id, and one past it\n\
+    M FD FF FF FF 3F 08 00 00 01 00 00 00 00 00 00 00 = 4294967295 { }\n\
+    M 01 02 02 02 42 08 00 00 =refused: BlockId at bit 34\n\
+    # in a BLOCKINFO block: a record of code 2 and a definition before any SETBID, a SETBID of no value, a block\n\
+    M 01 08 00 00 01 00 00 00 0B 00 00 00 =refused: NoBlockSet at bit 96\n\
+    M 01 08 00 00 01 00 00 00 02 00 00 00 =refused: NoBlockSet at bit 96\n\
+    M 01 08 00 00 01 00 00 00 07 00 00 00 =refused: BadSetBid at bit 96\n\
+    M 01 08 00 00 01 00 00 00 01 00 00 00 =refused: NestedInBlockInfo at bit 96\n\
+    # definitions: no operand, an unknown encoding, Fixed 33, VBR 1, an Array first, and second of four\n\
+    M 21 0C 00 00 01 00 00 00 02 00 00 00 =refused: AbbrevEmpty at bit 99\n\
+    M 21 0C 00 00 01 00 00 00 0A 00 00 00 =refused: AbbrevEncoding at bit 105\n\
+    M 21 0C 00 00 01 00 00 00 0A 12 05 00 =refused: FieldWidth at bit 108\n\
+    M 21 0C 00 00 01 00 00 00 0A 14 00 00 =refused: FieldWidth at bit 108\n\
+    M 21 0C 00 00 01 00 00 00 12 06 00 00 =refused: AbbrevShape at bit 104\n\
+    M 21 0C 00 00 01 00 00 00 22 03 0C 00 =refused: AbbrevShape at bit 113\n\
+    # a literal behind an Array, whose value the stream does not have whole\n\
+    M 21 0C 00 00 01 00 00 00 1A 03 2C =refused: AbbrevShape at bit 117\n\
+    # one block is described twice\n\
+    M 01 08 00 00 03 00 00 00 07 01 A2 18 20 E7 20 40 14 05 84 00 21 0C 00 00 01 00 00 00 4D 00 00 00 = \
+        0 { 1 [8] 1 [8] } 8 { 2 [9] }\n\
+    # operands of width 0: Fixed, VBR, used as a code, between others, in an array\n\
+    M 21 0C 00 00 01 00 00 00 0A 02 00 00 = 8 { }\n\
+    M 21 0C 00 00 01 00 00 00 0A 04 00 00 = 8 { }\n\
+    M 21 0C 00 00 01 00 00 00 0A 02 08 00 = 8 { 0 [] }\n\
+    M 21 0C 00 00 02 00 00 00 1A 03 08 08 61 02 00 00 = 8 { 1 [0, 9] }\n\
+    M 21 0C 00 00 02 00 00 00 1A 03 4C 00 07 00 00 00 = 8 { 1 [0, 0, 0] }\n\
+    # counts that lie: 2^64 - 1 values, a number of operands without end, 2^64 - 1 operands\n\
+    M 21 08 00 00 03 00 00 00 07 FF FF FF FF FF FF FF FF FF 0F 00 =refused: TooManyValues at bit 104\n\
+    M 21 0C 00 00 03 00 00 00 FA FF FF FF FF FF FF FF FF FF FF FF FF FF =refused: ValueTooWide at bit 99\n\
+    M 21 0C 00 00 03 00 00 00 FA FF FF FF FF FF FF FF FF FF 03 00 =refused: AbbrevEncoding at bit 180\n\
+    # another magic\n\
+    44 49 41 47 21 08 00 00 01 00 00 00 07 01 07 00 = 8 { 1 [28] }";
+
+/// How many inputs those are.
+const INPUT_COUNT: usize = 82;
+
+/// The input is read as its line says, however it is cut, and from sources that fail. Answers whether it was no comment.
+fn is_line_read(rt: &impl Abort, alloc: Global, line: &str) -> bool {
+    match line.split_once('=') {
+        Some((text, wanted)) => {
+            is_read(rt, alloc, text, Limits::usual(), wanted);
+            fails(rt, alloc, text, Limits::usual(), wanted);
+            true
         }
+        None => false,
     }
-    Ok(())
 }
-
-/// Inputs and their answers under the usual limits.
-static INPUTS: [(&str, &str); 69] = [
-    ("", "refused: Truncated at bit 0"),
-    ("42 43 C0", "refused: Truncated at bit 0"),
-    ("M", ""),
-    ("M E", " 8 { }"),
-    ("M 21 08 00 00 01 00 00 00 07 81 07 00", " 8 { 1 [30] }"),
-    // a width of 3, and 30 in two chunks
-    ("M 21 0C 00 00 01 00 00 00 0B 02 1F 00", " 8 { 1 [30] }"),
-    // one, two and thirteen chunks; a bit past 64; a fourteenth chunk
-    (
-        "M 21 08 00 00 04 00 00 00 07 C3 07 06 FF FF FF FF FF FF FF FF FF 0F 00 00",
-        " 8 { 1 [31, 32, 18446744073709551615] }",
-    ),
-    (
-        "M 21 08 00 00 04 00 00 00 07 C3 07 06 FF FF FF FF FF FF FF FF FF 1F 00 00",
-        "refused: ValueTooWide at bit 128",
-    ),
-    (
-        "M 21 08 00 00 04 00 00 00 07 C3 07 06 FF FF FF FF FF FF FF FF FF 2F 00 00",
-        "refused: ValueTooWide at bit 128",
-    ),
-    (
-        "M 21 08 00 00 01 00 00 00 00 00 00 80",
-        "refused: DirtyPadding at bit 127",
-    ),
-    (
-        "M 21 08 00 00 02 00 00 00 00 00 00 00",
-        "refused: BlockLength at bit 64",
-    ),
-    (
-        "M 21 08 00 00 00 00 00 00 00 00 00 00",
-        "refused: BlockLength at bit 64",
-    ),
-    (
-        "M 21 0C 00 00 01 00 00 00 04 00 00 00",
-        "refused: UndefinedAbbrev at bit 96",
-    ),
-    ("M E 0A 0A 0A 0A", "refused: TopLevel at bit 128"),
-    // widths of 1, 32, 0 and 33
-    (
-        "M 21 04 00 00 04 00 00 00 13 04 00 00 01 00 00 00 00 00 00 00 00 00 00 00",
-        " 8 { 9 { } }",
-    ),
-    ("M 21 20 01 00 01 00 00 00 00 00 00 00", " 8 { }"),
-    ("M 21 00 00 00", "refused: AbbrevWidth at bit 42"),
-    ("M 21 24 01 00", "refused: AbbrevWidth at bit 42"),
-    // an array of characters, and an empty one
-    (
-        "M 21 0C 00 00 02 00 00 00 1A 03 0C 39 00 FF 0C 00",
-        " 8 { 1 [97, 95, 90] }",
-    ),
-    (
-        "M 21 0C 00 00 02 00 00 00 1A 03 0C 09 00 00 00 00",
-        " 8 { 1 [] }",
-    ),
-    // definitions from a BLOCKINFO block, and the block's own behind them
-    ("M B U", " 0 { 1 [8] } 8 { 1 [100] }"),
-    (
-        "M B 21 0C 00 00 02 00 00 00 12 05 84 90 DC 04 00 00",
-        " 0 { 1 [8] } 8 { 1 [100] 2 [9] }",
-    ),
-    // a second BLOCKINFO block replaces the table
-    (
-        "M B U 01 08 00 00 01 00 00 00 00 00 00 00 U",
-        "refused: UndefinedAbbrev at bit 416",
-    ),
-    // a BLOCKINFO block does not reach a block that is open, but one that is entered later
-    (
-        "M 21 0C 00 00 05 00 00 00 01 10 00 00 02 00 00 00 07 01 A2 18 20 07 00 00 24 03 00 00",
-        "refused: UndefinedAbbrev at bit 224",
-    ),
-    (
-        "M 21 0C 00 00 08 00 00 00 01 10 00 00 02 00 00 00 07 01 A2 18 20 07 00 00 \
-        41 18 00 00 01 00 00 00 24 03 00 00 00 00 00 00",
-        " 8 { 0 { 1 [8] } 8 { 1 [100] } }",
-    ),
-    // a block's own definition does not reach the block in it
-    (
-        "M 21 0C 00 00 05 00 00 00 12 03 E4 24 61 00 00 00 01 00 00 00 24 03 00 00 00 00 00 00",
-        "refused: UndefinedAbbrev at bit 192",
-    ),
-    // blobs, and the same bytes as an array
-    (
-        "M 21 0C 00 00 02 00 00 00 12 03 94 00 00 00 00 00",
-        " 8 { 1 [] }",
-    ),
-    (
-        "M 21 0C 00 00 03 00 00 00 12 03 94 04 01 02 03 04 00 00 00 00",
-        " 8 { 1 [1, 2, 3, 4] }",
-    ),
-    (
-        "M 21 0C 00 00 04 00 00 00 12 03 94 05 61 62 63 64 65 00 00 00 00 00 00 00",
-        " 8 { 1 [97, 98, 99, 100, 101] }",
-    ),
-    (
-        "M 21 0C 00 00 04 00 00 00 12 03 94 05 61 62 63 64 65 00 02 00 00 00 00 00",
-        "refused: DirtyPadding at bit 177",
-    ),
-    (
-        "M 21 0C 00 00 03 00 00 00 1A 03 4C 10 8B 30 B1 31 B2 32 00 00",
-        " 8 { 1 [97, 98, 99, 100, 101] }",
-    ),
-    // wrappers: with bytes behind the stream, a size too great, wrapped twice, faults of the wrapper itself
-    ("H M E 00 00 00 00 00 00 00 00 00 00 00 00", " 8 { }"),
-    (
-        "DE C0 17 0B 00 00 00 00 14 00 00 00 14 00 00 00 07 00 00 01 M E",
-        "refused: WrapperSize at bit 96",
-    ),
-    (
-        "DE C0 17 0B 00 00 00 00 14 00 00 00 14 00 00 00 07 00 00 01 M E 00 00 00 00 00 00 00 00 00 00 00 00",
-        "refused: TopLevel at bit 288",
-    ),
-    ("H DE C0 17 0B", "refused: WrapperNested at bit 160"),
-    (
-        "DE C0 17 0B 01 00 00 00 14 00 00 00 10 00 00 00 07 00 00 01 M E",
-        "refused: WrapperVersion at bit 32",
-    ),
-    (
-        "DE C0 17 0B 00 00 00 00 10 00 00 00 10 00 00 00 07 00 00 01 M E",
-        "refused: WrapperOffset at bit 64",
-    ),
-    (
-        "DE C0 17 0B 00 00 00 00 16 00 00 00 10 00 00 00 07 00 00 01 M E",
-        "refused: WrapperOffset at bit 64",
-    ),
-    (
-        "DE C0 17 0B 00 00 00 00 14 00 00 00 06 00 00 00 07 00 00 01 M E 00 00 00 00 00 00 00 00 00 00 00 00",
-        "refused: Truncated at bit 206",
-    ),
-    (
-        "DE C0 17 0B 00 00 00 00 14 00 00 00 FF FF FF FF 07 00 00 01 M E",
-        "refused: WrapperSize at bit 96",
-    ),
-    (
-        "DE C0 17 0B 00 00 00 00 14 00 00 00 FF FF FF FF 07 00 00 01 M E 00 00 00 00 00 00 00 00 00 00 00 00",
-        "refused: TopLevel at bit 288",
-    ),
-    (
-        "DE C0 17 0B 00 00 00 00 FC FF FF FF 10 00 00 00 07 00 00 01 M E",
-        "refused: Truncated at bit 160",
-    ),
-    // a gap behind the wrapper: whole, cut, and not begun; a wrapper that is cut
-    (
-        "DE C0 17 0B 00 00 00 00 18 00 00 00 10 00 00 00 07 00 00 01 FF FF FF FF M E",
-        " 8 { }",
-    ),
-    (
-        "DE C0 17 0B 00 00 00 00 18 00 00 00 10 00 00 00 07 00 00 01 FF FF",
-        "refused: Truncated at bit 160",
-    ),
-    (
-        "DE C0 17 0B 00 00 00 00 18 00 00 00 10 00 00 00 07 00 00 01",
-        "refused: Truncated at bit 160",
-    ),
-    (
-        "DE C0 17 0B 00 00 00 00 18 00 00 00",
-        "refused: Truncated at bit 96",
-    ),
-    // the greatest block id, and one past it
-    (
-        "M FD FF FF FF 3F 08 00 00 01 00 00 00 00 00 00 00",
-        " 4294967295 { }",
-    ),
-    ("M 01 02 02 02 42 08 00 00", "refused: BlockId at bit 34"),
-    // in a BLOCKINFO block: a record of code 2 and a definition before any SETBID, a SETBID of no value, a block
-    (
-        "M 01 08 00 00 01 00 00 00 0B 00 00 00",
-        "refused: NoBlockSet at bit 96",
-    ),
-    (
-        "M 01 08 00 00 01 00 00 00 02 00 00 00",
-        "refused: NoBlockSet at bit 96",
-    ),
-    (
-        "M 01 08 00 00 01 00 00 00 07 00 00 00",
-        "refused: BadSetBid at bit 96",
-    ),
-    (
-        "M 01 08 00 00 01 00 00 00 01 00 00 00",
-        "refused: NestedInBlockInfo at bit 96",
-    ),
-    // definitions: no operand, an unknown encoding, Fixed 33, VBR 1, an Array first, and second of four
-    (
-        "M 21 0C 00 00 01 00 00 00 02 00 00 00",
-        "refused: AbbrevEmpty at bit 99",
-    ),
-    (
-        "M 21 0C 00 00 01 00 00 00 0A 00 00 00",
-        "refused: AbbrevEncoding at bit 105",
-    ),
-    (
-        "M 21 0C 00 00 01 00 00 00 0A 12 05 00",
-        "refused: FieldWidth at bit 108",
-    ),
-    (
-        "M 21 0C 00 00 01 00 00 00 0A 14 00 00",
-        "refused: FieldWidth at bit 108",
-    ),
-    (
-        "M 21 0C 00 00 01 00 00 00 12 06 00 00",
-        "refused: AbbrevShape at bit 104",
-    ),
-    (
-        "M 21 0C 00 00 01 00 00 00 22 03 0C 00",
-        "refused: AbbrevShape at bit 113",
-    ),
-    // a literal behind an Array, whose value the stream does not have whole
-    (
-        "M 21 0C 00 00 01 00 00 00 1A 03 2C",
-        "refused: AbbrevShape at bit 117",
-    ),
-    // one block is described twice
-    (
-        "M 01 08 00 00 03 00 00 00 07 01 A2 18 20 E7 20 40 14 05 84 00 21 0C 00 00 01 00 00 00 4D 00 00 00",
-        " 0 { 1 [8] 1 [8] } 8 { 2 [9] }",
-    ),
-    // operands of width 0: Fixed, VBR, used as a code, between others, in an array
-    ("M 21 0C 00 00 01 00 00 00 0A 02 00 00", " 8 { }"),
-    ("M 21 0C 00 00 01 00 00 00 0A 04 00 00", " 8 { }"),
-    ("M 21 0C 00 00 01 00 00 00 0A 02 08 00", " 8 { 0 [] }"),
-    (
-        "M 21 0C 00 00 02 00 00 00 1A 03 08 08 61 02 00 00",
-        " 8 { 1 [0, 9] }",
-    ),
-    (
-        "M 21 0C 00 00 02 00 00 00 1A 03 4C 00 07 00 00 00",
-        " 8 { 1 [0, 0, 0] }",
-    ),
-    // counts that lie: 2^64 - 1 values, a number of operands without end, 2^64 - 1 operands
-    (
-        "M 21 08 00 00 03 00 00 00 07 FF FF FF FF FF FF FF FF FF 0F 00",
-        "refused: TooManyValues at bit 104",
-    ),
-    (
-        "M 21 0C 00 00 03 00 00 00 FA FF FF FF FF FF FF FF FF FF FF FF FF FF",
-        "refused: ValueTooWide at bit 99",
-    ),
-    (
-        "M 21 0C 00 00 03 00 00 00 FA FF FF FF FF FF FF FF FF FF 03 00",
-        "refused: AbbrevEncoding at bit 180",
-    ),
-    // another magic
-    (
-        "44 49 41 47 21 08 00 00 01 00 00 00 07 01 07 00",
-        " 8 { 1 [28] }",
-    ),
-];
 
 #[test]
-fn inputs(rt: HostRuntime) -> Result<(), Fail> {
-    for (text, want) in INPUTS {
-        is_read(&rt, rt.alloc(), text, Limits::usual(), want)?;
-        fails(&rt, rt.alloc(), text, Limits::usual(), want)?;
+fn inputs(rt: HostRuntime) {
+    let mut count: usize = 0;
+    for line in INPUTS.lines() {
+        if is_line_read(&rt, rt.alloc(), line) {
+            count = count.saturating_add(1);
+        }
     }
-    Ok(())
+    assert!(rt; count == INPUT_COUNT);
 }
 
 /// Two records of seven values each, by a definition of eight literals.
@@ -479,132 +367,116 @@ static LIMITED: [((u64, u32, u64), &str, &str); 14] = [
     ),
 ];
 
-#[test]
-fn limited_inputs(rt: HostRuntime) -> Result<(), Fail> {
-    for ((bytes, depth, values), text, want) in LIMITED {
-        let limits = Limits::new(bytes, depth, values).ok_or("past a cap")?;
-        is_read(&rt, rt.alloc(), text, limits, want)?;
-        fails(&rt, rt.alloc(), text, limits, want)?;
-    }
-    Ok(())
+/// Limits on bytes, depth and values.
+fn limits_of(rt: &impl Abort, (bytes, depth, values): (u64, u32, u64)) -> Limits {
+    Limits::new(bytes, depth, values).expect(rt, "limits within their caps")
 }
 
 #[test]
-fn inputs_past_the_limit(rt: HostRuntime) -> Result<(), Fail> {
-    let rows = [
-        (1000, "H M E", "refused: TooLong at bit 8000"),
-        (
-            1000,
-            "DE C0 17 0B 00 00 00 00 14 00 00 00 D0 07 00 00 07 00 00 01 M E",
-            "refused: TopLevel at bit 288",
-        ),
-        (
-            1000,
-            "DE C0 17 0B 00 00 00 00 FC FF FF FF 10 00 00 00 07 00 00 01 M E",
-            "refused: TooLong at bit 8000",
-        ),
-        (1000, "", "refused: TopLevel at bit 32"),
-        (10, "DE C0 17 0B", "refused: TooLong at bit 80"),
-    ];
-    for (limit, text, want) in rows {
-        let mut bytes = bytes_of(rt.alloc(), text)?;
-        bytes.resize(2000, 0)?;
-        let limits = Limits::new(limit, 64, 1000).ok_or("past a cap")?;
-        let (answer, source) = read(rt.alloc(), in_pieces(&bytes, 8, 0), limits);
-        let told = told_of_marked(rt.alloc(), answer)?;
-        assert_eq!(rt; told.as_str(), want);
-        let left = source.into_inner().left() as u64;
-        assert!(rt;
-            1999u64.saturating_sub(limit) <= left,
-            "{text}: {left} left"
-        );
+fn limited_inputs(rt: HostRuntime) {
+    for (limits, text, wanted) in &LIMITED {
+        let limits = limits_of(&rt, *limits);
+        is_read(&rt, rt.alloc(), text, limits, wanted);
+        fails(&rt, rt.alloc(), text, limits, wanted);
     }
-    Ok(())
+}
+
+/// Limits on bytes, what inputs of 2,000 bytes begin with, and the answers.
+static LONG: [(u64, &str, &str); 5] = [
+    (1000, "H M E", "refused: TooLong at bit 8000"),
+    (
+        1000,
+        "DE C0 17 0B 00 00 00 00 14 00 00 00 D0 07 00 00 07 00 00 01 M E",
+        "refused: TopLevel at bit 288",
+    ),
+    (
+        1000,
+        "DE C0 17 0B 00 00 00 00 FC FF FF FF 10 00 00 00 07 00 00 01 M E",
+        "refused: TooLong at bit 8000",
+    ),
+    (1000, "", "refused: TopLevel at bit 32"),
+    (10, "DE C0 17 0B", "refused: TooLong at bit 80"),
+];
+
+/// An input of 2,000 bytes; its source is asked for one byte more than the limit, or for fewer.
+fn is_long(rt: &impl Abort, alloc: Global, limit: u64, text: &str, wanted: &str) {
+    let mut bytes = bytes_of(alloc, text).expect(rt, "memory");
+    bytes.resize(2000, 0).expect(rt, "memory");
+    let limits = limits_of(rt, (limit, 64, 1000));
+    let (answer, source) = read(alloc, in_pieces(&bytes, 8, 0), limits);
+    agrees(rt, told_of_marked(alloc, answer), wanted, text);
+    let left = source.into_inner().left() as u64;
+    assert!(rt;
+        1999u64.saturating_sub(limit) <= left,
+        "{text}: {left} left"
+    );
 }
 
 #[test]
-fn cuts(rt: HostRuntime) -> Result<(), Fail> {
-    let bytes = bytes_of(rt.alloc(), "M 21 08 00 00 01 00 00 00 07 81 07 00")?;
-    let rows = [
-        (4, 0, "refused: Truncated at bit 0"),
-        (5, 4, ""),
-        (6, 5, "refused: Truncated at bit 34"),
-        (8, 6, "refused: Truncated at bit 46"),
-        (12, 8, "refused: Truncated at bit 64"),
-        (13, 12, "refused: Truncated at bit 96"),
-        (14, 13, "refused: Truncated at bit 104"),
-        (15, 14, "refused: Truncated at bit 110"),
-        (16, 15, "refused: Truncated at bit 118"),
-        (17, 16, " 8 { 1 [30] }"),
-    ];
-    for (to, from, want) in rows {
-        for count in from..to {
-            let cut = bytes.get(..count).ok_or("too short")?;
-            let (answer, _) = read(rt.alloc(), SliceSource::new(cut), Limits::usual());
-            let told = told_of_marked(rt.alloc(), answer)?;
-            assert_eq!(rt; told.as_str(), want, "{count}");
-        }
+fn inputs_past_the_limit(rt: HostRuntime) {
+    for (limit, text, wanted) in &LONG {
+        is_long(&rt, rt.alloc(), *limit, text, wanted);
     }
-    Ok(())
+}
+
+/// Inputs, the number of pulls of a byte each that they need, and the answers; one more makes no difference.
+static PULLS: [(&str, u64, &str); 2] = [
+    ("M 21 08 00 00 01 00 00 00 07 81 07 00", 17, " 8 { 1 [30] }"),
+    ("M 21 00 00 00", 6, "refused: AbbrevWidth at bit 42"),
+];
+
+/// The answer to an input whose source fails at one of the pulls.
+fn is_pulled(rt: &impl Abort, alloc: Global, text: &str, needs: u64, wanted: &str) {
+    let bytes = bytes_of(alloc, text).expect(rt, "memory");
+    for pull in 1..needs.saturating_add(2) {
+        let told = told(alloc, in_pieces(&bytes, 1, pull), Limits::usual());
+        let failed = "the source failed";
+        agrees(rt, told, if pull <= needs { failed } else { wanted }, text);
+    }
 }
 
 #[test]
-fn pulls(rt: HostRuntime) -> Result<(), Fail> {
-    // the number of pulls of a byte each that an input needs, and its answer; one more makes no difference
-    let rows = [
-        ("M 21 08 00 00 01 00 00 00 07 81 07 00", 17, " 8 { 1 [30] }"),
-        ("M 21 00 00 00", 6, "refused: AbbrevWidth at bit 42"),
-    ];
-    for (text, needs, want) in rows {
-        let bytes = bytes_of(rt.alloc(), text)?;
-        for fails_at in 1..needs + 2 {
-            let source = in_pieces(&bytes, 1, fails_at);
-            let (answer, _) = read(rt.alloc(), source, Limits::usual());
-            let told = told_of_marked(rt.alloc(), answer)?;
-            let failed = "the source failed";
-            assert_eq!(rt;
-                told.as_str(),
-                if fails_at <= needs { failed } else { want }
-            );
-        }
+fn pulls(rt: HostRuntime) {
+    for (text, needs, wanted) in &PULLS {
+        is_pulled(&rt, rt.alloc(), text, *needs, wanted);
     }
-    Ok(())
 }
 
+/// Inputs, and their answers where BLOCKINFO blocks are dropped.
+static DROPPED: [(&str, &str); 7] = [
+    ("M B U", " 8 { 1 [100] }"),
+    (
+        "M 21 0C 00 00 08 00 00 00 01 10 00 00 02 00 00 00 07 01 A2 18 20 07 00 00 \
+        41 18 00 00 01 00 00 00 24 03 00 00 00 00 00 00",
+        " 8 { 8 { 1 [100] } }",
+    ),
+    ("M B", ""),
+    (
+        "M 01 08 00 00 01 00 00 00 0B 00 00 00",
+        "refused: NoBlockSet at bit 96",
+    ),
+    (
+        "M 01 08 00 00 01 00 00 00 02 00 00 00",
+        "refused: NoBlockSet at bit 96",
+    ),
+    (
+        "M 01 08 00 00 01 00 00 00 07 00 00 00",
+        "refused: BadSetBid at bit 96",
+    ),
+    (
+        "M 01 08 00 00 01 00 00 00 01 00 00 00",
+        "refused: NestedInBlockInfo at bit 96",
+    ),
+];
+
 #[test]
-fn blockinfo_is_dropped(rt: HostRuntime) -> Result<(), Fail> {
-    let rows = [
-        ("M B U", " 8 { 1 [100] }"),
-        (
-            "M 21 0C 00 00 08 00 00 00 01 10 00 00 02 00 00 00 07 01 A2 18 20 07 00 00 \
-            41 18 00 00 01 00 00 00 24 03 00 00 00 00 00 00",
-            " 8 { 8 { 1 [100] } }",
-        ),
-        ("M B", ""),
-        (
-            "M 01 08 00 00 01 00 00 00 0B 00 00 00",
-            "refused: NoBlockSet at bit 96",
-        ),
-        (
-            "M 01 08 00 00 01 00 00 00 02 00 00 00",
-            "refused: NoBlockSet at bit 96",
-        ),
-        (
-            "M 01 08 00 00 01 00 00 00 07 00 00 00",
-            "refused: BadSetBid at bit 96",
-        ),
-        (
-            "M 01 08 00 00 01 00 00 00 01 00 00 00",
-            "refused: NestedInBlockInfo at bit 96",
-        ),
-    ];
-    for (text, want) in rows {
-        let bytes = bytes_of(rt.alloc(), text)?;
+fn blockinfo_is_dropped(rt: HostRuntime) {
+    for (text, wanted) in &DROPPED {
+        let bytes = bytes_of(rt.alloc(), text).expect(&rt, "memory");
         let source = SliceSource::new(&bytes);
-        let told = told_of_contents(rt.alloc(), source, Limits::usual(), Info::Drop)?;
-        assert_eq!(rt; told.as_str(), want, "{text}");
+        let told = told_of_contents(rt.alloc(), source, Limits::usual(), Info::Drop);
+        agrees(&rt, told, wanted, text);
     }
-    Ok(())
 }
 
 /// The magic and so many heads of blocks, one in another, with lengths as if they were as many whole blocks; then so many
@@ -621,30 +493,77 @@ fn deep(alloc: Global, heads: u16, ends: u16) -> Result<Vec<u8>, AllocError> {
     Ok(bytes)
 }
 
+/// The answer to such an input, under limits on bytes and depth.
+fn is_deep(
+    rt: &impl Abort,
+    alloc: Global,
+    (heads, ends): (u16, u16),
+    (most, depth): (u64, u32),
+    wanted: &str,
+) {
+    let bytes = deep(alloc, heads, ends).expect(rt, "memory");
+    let limits = limits_of(rt, (most, depth, 0));
+    agrees(
+        rt,
+        told(alloc, SliceSource::new(&bytes), limits),
+        wanted,
+        "deep",
+    );
+}
+
+/// So many blocks, one in another, as text.
+fn nest(rt: &impl Abort, alloc: Global, depth: usize) -> String {
+    let mut text = " 8 {".repeat(alloc, depth).expect(rt, "memory");
+    let ends = " }".repeat(alloc, depth).expect(rt, "memory");
+    text.push_str(ends.as_str()).expect(rt, "memory");
+    text
+}
+
 #[test]
-fn deep_inputs(rt: HostRuntime) -> Result<(), Fail> {
-    let alloc = rt.alloc();
-    for (heads, depth, want) in [
-        (65, 64, "refused: TooDeep at bit 4128"),
-        (256, 255, "refused: TooDeep at bit 16352"),
-    ] {
-        let bytes = deep(alloc, heads, 0)?;
-        let limits = Limits::new(100_000, depth, 0).ok_or("past a cap")?;
-        let (answer, _) = read(alloc, SliceSource::new(&bytes), limits);
-        assert_eq!(rt; told_of_marked(alloc, answer)?.as_str(), want);
+fn deep_inputs(rt: HostRuntime) {
+    let bytes = deep(rt.alloc(), 255, 255).expect(&rt, "memory");
+    assert!(rt; bytes.len() == 3064);
+    let wanted = nest(&rt, rt.alloc(), 255);
+    is_deep(&rt, rt.alloc(), (255, 255), (3064, 255), wanted.as_str());
+    let wanted = "refused: TooDeep at bit 4128";
+    is_deep(&rt, rt.alloc(), (65, 0), (100_000, 64), wanted);
+    let wanted = "refused: TooDeep at bit 16352";
+    is_deep(&rt, rt.alloc(), (256, 0), (100_000, 255), wanted);
+}
+
+/// Inputs, their documents, and their marked trees.
+static MARKED: [(&str, &str, &str); 3] = [
+    (
+        "44 49 41 47",
+        " [68, 73, 65, 71]",
+        "Marked { head: Head { magic: [68, 73, 65, 71], wrapper: None }, blocks: MarkedBlocks([]), after: 32 }",
+    ),
+    (
+        "M B U",
+        " 0 { 1 [8] } 8 { 1 [100] } [66, 67, 192, 222]",
+        "Marked { head: Head { magic: [66, 67, 192, 222], wrapper: None }, blocks: MarkedBlocks([\
+        MarkedBlock { id: 0, width: 2, first: 32, body: 96, after: 160, items: MarkedItems([\
+        Record(MarkedRecord { abbrev: 3, code: 1, values: Values([8]), first: 96, after: 116 }), \
+        Define(MarkedDefine { abbrev: Abbrev { ops: [Literal(1), Fixed(7)] }, first: 116, after: 141 })]) }, \
+        MarkedBlock { id: 8, width: 3, first: 160, body: 224, after: 256, items: MarkedItems([\
+        Record(MarkedRecord { abbrev: 4, code: 1, values: Values([100]), first: 224, after: 234 })]) }]), after: 256 }",
+    ),
+    (
+        "DE C0 17 0B 00 00 00 00 18 00 00 00 10 00 00 00 07 00 00 01 FF FF FF FF M E 00",
+        " 8 { } [66, 67, 192, 222]",
+        "Marked { head: Head { magic: [66, 67, 192, 222], \
+        wrapper: Some(Wrapper { offset: 24, size: 16, cpu: 16777223 }) }, blocks: MarkedBlocks([\
+        MarkedBlock { id: 8, width: 2, first: 224, body: 288, after: 320, items: MarkedItems([]) }]), after: 320 }",
+    ),
+];
+
+/// The marked tree of an input, as text.
+fn shown_marked(alloc: Global, bytes: &[u8]) -> Result<String, AllocError> {
+    let (answer, _) = read(alloc, SliceSource::new(bytes), Limits::usual());
+    match answer {
+        Ok(marked) => format!(in alloc; "{marked:?}"),
+        Err(fault) => told_of_fault(alloc, fault),
     }
-    let bytes = deep(alloc, 255, 255)?;
-    assert_eq!(rt; bytes.len(), 3064);
-    let mut want = String::new(alloc);
-    for text in [" 8 {", " }"] {
-        for _ in 0..255 {
-            want.push_str(text)?;
-        }
-    }
-    let limits = Limits::new(3064, 255, 0).ok_or("past a cap")?;
-    let (answer, _) = read(alloc, SliceSource::new(&bytes), limits);
-    assert_eq!(rt; told_of_marked(alloc, answer)?.as_str(), want.as_str());
-    Ok(())
 }
 
 /// The document of an input: what is read of a slice is fit.
@@ -654,112 +573,110 @@ fn document_of(alloc: Global, bytes: &[u8]) -> Result<Document, Fault> {
     tree_of(alloc, &marked).map_err(|_| Fault::Memory)
 }
 
-#[test]
-fn marked_trees(rt: HostRuntime) -> Result<(), Fail> {
-    let wrapper = "Some(Wrapper { offset: 24, size: 16, cpu: 16777223 })";
-    let rows = [
-        ("44 49 41 47", "[68, 73, 65, 71]", "None", 32, ""),
-        (
-            "M B U",
-            "[66, 67, 192, 222]",
-            "None",
-            256,
-            "MarkedBlock { id: 0, width: 2, first: 32, body: 96, after: 160, items: MarkedItems([\
-            Record(MarkedRecord { abbrev: 3, code: 1, values: Values([8]), first: 96, after: 116 }), \
-            Define(MarkedDefine { abbrev: Abbrev { ops: [Literal(1), Fixed(7)] }, first: 116, after: 141 })]) }, \
-            MarkedBlock { id: 8, width: 3, first: 160, body: 224, after: 256, items: MarkedItems([\
-            Record(MarkedRecord { abbrev: 4, code: 1, values: Values([100]), first: 224, after: 234 })]) }",
-        ),
-        (
-            "DE C0 17 0B 00 00 00 00 18 00 00 00 10 00 00 00 07 00 00 01 FF FF FF FF M E 00",
-            "[66, 67, 192, 222]",
-            wrapper,
-            320,
-            "MarkedBlock { id: 8, width: 2, first: 224, body: 288, after: 320, items: MarkedItems([]) }",
-        ),
-    ];
-    for (text, magic, wrapper, after, blocks) in rows {
-        let bytes = bytes_of(rt.alloc(), text)?;
-        let (answer, _) = read(rt.alloc(), SliceSource::new(&bytes), Limits::usual());
-        let marked = answer?;
-        let want = format!(in rt.alloc();
-            "Marked {{ head: Head {{ magic: {magic}, wrapper: {wrapper} }}, \
-            blocks: MarkedBlocks([{blocks}]), after: {after} }}"
-        )?;
-        assert_eq!(rt;
-            format!(in rt.alloc(); "{marked:?}")?.as_str(),
-            want.as_str()
-        );
-        let document = document_of(rt.alloc(), &bytes)?;
-        assert_eq!(rt; document.magic(), marked.head.magic);
-        assert_eq!(rt;
-            shown(rt.alloc(), document.blocks())?.as_str(),
-            told_of_marked(rt.alloc(), Ok(marked))?.as_str()
-        );
+/// The document of an input, as text.
+fn told_of_document(alloc: Global, bytes: &[u8]) -> Result<String, AllocError> {
+    match document_of(alloc, bytes) {
+        Ok(document) => shown_document(alloc, &document),
+        Err(fault) => told_of_fault(alloc, fault),
     }
-    Ok(())
+}
+
+#[test]
+fn marked_trees_and_documents(rt: HostRuntime) {
+    for (text, document, marked) in &MARKED {
+        let bytes = bytes_of(rt.alloc(), text).expect(&rt, "memory");
+        agrees(&rt, told_of_document(rt.alloc(), &bytes), document, text);
+        agrees(&rt, shown_marked(rt.alloc(), &bytes), marked, text);
+    }
 }
 
 /// Writes a field of so many bits.
-fn put(writer: &mut BitWriter<VecSink>, width: u32, value: u64) -> Result<(), Fault> {
-    if writer.position() >= 1 << 62 || width < 1 || width > 32 || value >= 1 << width {
-        return Err(Fault::Failed);
+fn put(rt: &impl Abort, writer: &mut BitWriter<VecSink>, width: u32, value: u64) {
+    assert!(rt; writer.position() < 1 << 62 && width >= 1 && width <= 32 && value < 1 << width);
+    assert!(rt; writer.fixed(width, value).is_ok());
+}
+
+/// The same so many times.
+fn put_each(
+    rt: &impl Abort,
+    writer: &mut BitWriter<VecSink>,
+    width: u32,
+    value: u64,
+    count: usize,
+) {
+    for _ in 0..count {
+        put(rt, writer, width, value);
     }
-    writer.fixed(width, value)
+}
+
+/// The magic, a block of width 3, and a definition of 1,001 operands.
+static BOMB_HEAD: [(u32, u64); 7] = [
+    (32, 0xDEC0_4342),
+    (32, 0x0C21),
+    (32, 292),
+    (3, 2),
+    (5, 25),
+    (5, 30),
+    (5, 3),
+];
+
+/// Writes these fields.
+fn put_fields(rt: &impl Abort, writer: &mut BitWriter<VecSink>, fields: &[(u32, u64)]) {
+    for (width, value) in fields {
+        put(rt, writer, *width, *value);
+    }
+}
+
+/// What a writer wrote of whole bytes.
+fn written(rt: &impl Abort, alloc: Global, mut writer: BitWriter<VecSink>) -> Vec<u8> {
+    assert!(rt; writer.position() % 8 == 0);
+    assert!(rt; writer.finish().is_ok());
+    Vec::from_slice(alloc, writer.into_sink().bytes()).expect(rt, "memory")
 }
 
 /// A block with a definition of 1,001 literals, which is used 100 times; and then this id.
-fn bomb(alloc: Global, last: u64) -> Result<Vec<u8>, Fail> {
+fn bomb(rt: &impl Abort, alloc: Global, last: u64) -> Vec<u8> {
     let mut writer = BitWriter::new(VecSink::new(alloc));
-    for (width, value) in [
-        (32, 0xDEC0_4342),
-        (32, 0x0C21),
-        (32, 292),
-        (3, 2),
-        (5, 25),
-        (5, 30),
-        (5, 3),
-    ] {
-        put(&mut writer, width, value)?;
+    put_fields(rt, &mut writer, &BOMB_HEAD);
+    put_each(rt, &mut writer, 9, 1, 1001);
+    put_each(rt, &mut writer, 3, 4, 100);
+    put(rt, &mut writer, 3, last);
+    put(rt, &mut writer, 14, 0);
+    written(rt, alloc, writer)
+}
+
+/// A limit for the inputs with many values.
+const MANY: (u64, u32, u64) = (1180, 1, 100_000);
+
+/// Whether these items are 100 records of 1,000 values each.
+fn are_full(items: &[Item]) -> bool {
+    for item in items {
+        if !matches!(item, Item::Record(record) if record.values.0.len() == 1000) {
+            return false;
+        }
     }
-    for _ in 0..1001 {
-        put(&mut writer, 9, 1)?;
+    items.len() == 100
+}
+
+/// Whether the contents of an input in pieces are one block of 100 records of 1,000 values each.
+fn has_many(alloc: Global, bytes: &[u8], limits: Limits) -> Result<bool, Fault> {
+    let (answer, _) = read_contents(alloc, in_pieces(bytes, 3, 0), limits, Info::Keep);
+    match answer?.blocks.as_slice() {
+        [block] => Ok(are_full(&block.items.0)),
+        _ => Ok(false),
     }
-    for _ in 0..100 {
-        put(&mut writer, 3, 4)?;
-    }
-    put(&mut writer, 3, last)?;
-    put(&mut writer, 14, 0)?;
-    if writer.position() % 8 != 0 {
-        return Err("not whole bytes".into());
-    }
-    writer.finish()?;
-    Ok(Vec::from_slice(alloc, writer.into_sink().bytes())?)
 }
 
 #[test]
-fn bombs(rt: HostRuntime) -> Result<(), Fail> {
-    let limits = Limits::new(1180, 1, 100_000).ok_or("past a cap")?;
-    let bytes = bomb(rt.alloc(), 4)?;
-    let (answer, _) = read(rt.alloc(), SliceSource::new(&bytes), limits);
-    assert_eq!(rt;
-        told_of_marked(rt.alloc(), answer)?.as_str(),
-        "refused: TooManyValues at bit 9423"
-    );
-    let bytes = bomb(rt.alloc(), 0)?;
-    assert_eq!(rt; bytes.len(), 1180);
-    let source = in_pieces(&bytes, 3, 0);
-    let (answer, _) = read_contents(rt.alloc(), source, limits, Info::Keep);
-    let contents = answer?;
-    assert_eq!(rt; contents.blocks.len(), 1);
-    for block in &contents.blocks {
-        assert_eq!(rt; block.items.0.len(), 100);
-        for item in &block.items.0 {
-            match item {
-                Item::Record(record) => assert_eq!(rt; record.values.0.len(), 1000),
-                Item::Block(_) => assert!(rt; false),
-            }
-        }
-    }
-    Ok(())
+fn a_value_too_many(rt: HostRuntime) {
+    let bytes = bomb(&rt, rt.alloc(), 4);
+    let told = told(rt.alloc(), SliceSource::new(&bytes), limits_of(&rt, MANY));
+    agrees(&rt, told, "refused: TooManyValues at bit 9423", "a bomb");
+}
+
+#[test]
+fn many_values(rt: HostRuntime) {
+    let bytes = bomb(&rt, rt.alloc(), 0);
+    assert!(rt; bytes.len() == 1180);
+    assert!(rt; has_many(rt.alloc(), &bytes, limits_of(&rt, MANY)) == Ok(true));
 }

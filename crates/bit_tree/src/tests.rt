@@ -1,4 +1,4 @@
-ghost use Rattle.std.specs.Prelude.{◌≡◌, true, IfOk};
+ghost use Rattle.std.specs.Prelude.{◌≡◌, true};
 ghost use Rattle.bit_grammar.specs.Forest.{Fit};
 ghost use Rattle.bit_grammar.specs.Input as input;
 
@@ -12,7 +12,6 @@ use bit_fields::Head;
 use std::alloc::{AllocError, Global};
 use std::fmt::Write;
 use std::process::Abort;
-use std::test::Fail;
 
 const MAGIC: [u8; 4] = [0x42, 0x43, 0xC0, 0xDE];
 
@@ -84,135 +83,176 @@ pub(crate) fn shown(alloc: Global, blocks: &[Block]) -> Result<String, AllocErro
     Ok(text)
 }
 
-/// Why these blocks are no document, if so. A block that is refused is handed back as it was.
-fn judged(
+/// The text is the wanted one.
+pub(crate) fn agrees(rt: &impl Abort, told: Result<String, AllocError>, wanted: &str, row: &str) {
+    let told = told.expect(rt, "memory");
+    assert!(rt; told.as_str() == wanted, "{row}: {told}, not {wanted}");
+}
+
+/// These blocks are no document for this reason, or are one where there is none; as text they are then kept or handed back.
+fn answered(
+    rt: &impl Abort,
+    alloc: Global,
+    magic: [u8; 4],
+    blocks: Vec<Block>,
+    wanted: Option<DocumentReason>,
+) -> Result<String, AllocError> {
+    match Document::new(magic, blocks) {
+        Ok(document) => {
+            assert!(rt; wanted == None && document.magic() == magic);
+            shown(alloc, document.blocks())
+        }
+        Err(bad) => {
+            assert!(rt; wanted == Some(bad.reason));
+            shown(alloc, &bad.blocks)
+        }
+    }
+}
+
+/// The same of one block, which is kept or handed back as it was.
+fn is_judged(
     rt: &impl Abort,
     alloc: Global,
     magic: [u8; 4],
     block: Block,
-) -> Result<Option<DocumentReason>, AllocError> {
-    let blocks = one(alloc, block)?;
-    let before = shown(alloc, &blocks)?;
-    match Document::new(magic, blocks) {
-        Ok(document) => {
-            assert_eq!(rt; document.magic(), magic);
-            assert_eq!(rt; shown(alloc, document.blocks())?.as_str(), before.as_str());
-            Ok(None)
-        }
-        Err(bad) => {
-            assert_eq!(rt; shown(alloc, &bad.blocks)?.as_str(), before.as_str());
-            Ok(Some(bad.reason))
-        }
-    }
+    wanted: Option<DocumentReason>,
+) {
+    let blocks = one(alloc, block).expect(rt, "memory");
+    let before = shown(alloc, &blocks).expect(rt, "memory");
+    let after = answered(rt, alloc, magic, blocks, wanted);
+    agrees(rt, after, before.as_str(), "blocks");
+}
+
+/// A magic, the number of blocks around, an id, and records.
+type Row = ([u8; 4], u32, u32, &'static [(u64, &'static [u64])]);
+
+/// The same, of a block with this id and these records in so many others.
+fn is_row_judged(rt: &impl Abort, alloc: Global, row: Row, wanted: Option<DocumentReason>) {
+    let (magic, others, id, records) = row;
+    let innermost = block_of(alloc, id, records).expect(rt, "memory");
+    let block = within(alloc, others, innermost).expect(rt, "memory");
+    is_judged(rt, alloc, magic, block, wanted);
+}
+
+/// `0 { 9 { } }`.
+fn block_in_info(alloc: Global) -> Result<Block, AllocError> {
+    let inner = block(9, Vec::new(alloc));
+    Ok(block(0, one(alloc, Item::Block(inner))?))
 }
 
 #[test]
-fn the_rule_of_blockinfo_is_judged(rt: HostRuntime) -> Result<(), Fail> {
-    let good: [&[(u64, &[u64])]; 4] = [
-        &[],
-        &[(1, &[8])],
-        &[(1, &[8, 1 << 32]), (2, &[]), (1, &[0])],
-        &[(1, &[0xFFFF_FFFF]), (0, &[1 << 40])],
-    ];
-    for records in good {
-        let info = block_of(rt.alloc(), 0, records)?;
-        assert_eq!(rt;
-            judged(&rt, rt.alloc(), MAGIC, within(rt.alloc(), 2, info)?)?,
-            None,
-            "{records:?}"
-        );
-    }
-    let bad: [&[(u64, &[u64])]; 6] = [
-        &[(2, &[])],
-        &[(2, &[8]), (1, &[8])],
-        &[(1, &[])],
-        &[(1, &[1 << 32])],
-        &[(1, &[8]), (1, &[])],
-        &[(1, &[8]), (3, &[]), (1, &[1 << 32, 8])],
-    ];
+fn no_block_stands_in_blockinfo(rt: HostRuntime) {
+    let block = block_in_info(rt.alloc()).expect(&rt, "memory");
     let rule = Some(DocumentReason::BlockInfoRule);
-    for records in bad {
-        let info = block_of(rt.alloc(), 0, records)?;
-        assert_eq!(rt;
-            judged(&rt, rt.alloc(), MAGIC, within(rt.alloc(), 2, info)?)?,
-            rule,
-            "{records:?}"
-        );
-        let other = block_of(rt.alloc(), 9, records)?;
-        assert_eq!(rt; judged(&rt, rt.alloc(), MAGIC, other)?, None, "{records:?}");
+    is_judged(&rt, rt.alloc(), MAGIC, block, rule);
+}
+
+/// Rows, and why they are no document.
+static REASONS: [(Row, Option<DocumentReason>); 22] = [
+    // records that say which blocks are described
+    ((MAGIC, 2, 0, &[]), None),
+    ((MAGIC, 2, 0, &[(1, &[8])]), None),
+    (
+        (MAGIC, 2, 0, &[(1, &[8, 1 << 32]), (2, &[]), (1, &[0])]),
+        None,
+    ),
+    ((MAGIC, 2, 0, &[(1, &[0xFFFF_FFFF]), (0, &[1 << 40])]), None),
+    // records that don't, in a block 0 and in another
+    (
+        (MAGIC, 2, 0, &[(2, &[])]),
+        Some(DocumentReason::BlockInfoRule),
+    ),
+    ((MAGIC, 0, 9, &[(2, &[])]), None),
+    (
+        (MAGIC, 2, 0, &[(2, &[8]), (1, &[8])]),
+        Some(DocumentReason::BlockInfoRule),
+    ),
+    ((MAGIC, 0, 9, &[(2, &[8]), (1, &[8])]), None),
+    (
+        (MAGIC, 2, 0, &[(1, &[])]),
+        Some(DocumentReason::BlockInfoRule),
+    ),
+    ((MAGIC, 0, 9, &[(1, &[])]), None),
+    (
+        (MAGIC, 2, 0, &[(1, &[1 << 32])]),
+        Some(DocumentReason::BlockInfoRule),
+    ),
+    ((MAGIC, 0, 9, &[(1, &[1 << 32])]), None),
+    (
+        (MAGIC, 2, 0, &[(1, &[8]), (1, &[])]),
+        Some(DocumentReason::BlockInfoRule),
+    ),
+    ((MAGIC, 0, 9, &[(1, &[8]), (1, &[])]), None),
+    (
+        (MAGIC, 2, 0, &[(1, &[8]), (3, &[]), (1, &[1 << 32, 8])]),
+        Some(DocumentReason::BlockInfoRule),
+    ),
+    (
+        (MAGIC, 0, 9, &[(1, &[8]), (3, &[]), (1, &[1 << 32, 8])]),
+        None,
+    ),
+    // the first reason comes
+    ((MAGIC, 254, 0, &[(1, &[8])]), None),
+    (
+        (MAGIC, 255, 0, &[(1, &[8])]),
+        Some(DocumentReason::DepthOver255),
+    ),
+    (
+        (MAGIC, 255, 0, &[(2, &[])]),
+        Some(DocumentReason::DepthOver255),
+    ),
+    (
+        (MAGIC, 254, 0, &[(2, &[])]),
+        Some(DocumentReason::BlockInfoRule),
+    ),
+    (
+        (WRAPPER, 255, 0, &[(2, &[])]),
+        Some(DocumentReason::WrapperMagic),
+    ),
+    ((WRAPPER, 0, 8, &[]), Some(DocumentReason::WrapperMagic)),
+];
+
+#[test]
+fn blocks_are_judged(rt: HostRuntime) {
+    for (row, wanted) in &REASONS {
+        is_row_judged(&rt, rt.alloc(), *row, *wanted);
     }
-    let inner = block_of(rt.alloc(), 9, &[])?;
-    let outer = block(0, one(rt.alloc(), Item::Block(inner))?);
-    assert_eq!(rt; judged(&rt, rt.alloc(), MAGIC, outer)?, rule);
-    Ok(())
+}
+
+/// Why an empty list is no document under the magic of a wrapper, as text.
+fn told_of_refusal(alloc: Global) -> Result<String, AllocError> {
+    match Document::new(WRAPPER, Vec::new(alloc)) {
+        Ok(_) => Ok(String::new(alloc)),
+        Err(bad) => bad.to_string(alloc),
+    }
 }
 
 #[test]
-fn reasons_come_in_order(rt: HostRuntime) -> Result<(), Fail> {
-    let alloc = rt.alloc();
-    let good = block_of(alloc, 0, &[(1, &[8])])?;
-    assert_eq!(rt;
-        judged(&rt, rt.alloc(), MAGIC, within(alloc, 254, good)?)?,
-        None
-    );
-    let good = block_of(alloc, 0, &[(1, &[8])])?;
-    let depth = Some(DocumentReason::DepthOver255);
-    assert_eq!(rt;
-        judged(&rt, rt.alloc(), MAGIC, within(alloc, 255, good)?)?,
-        depth
-    );
-    let bad = block_of(alloc, 0, &[(2, &[])])?;
-    assert_eq!(rt;
-        judged(&rt, rt.alloc(), MAGIC, within(alloc, 255, bad)?)?,
-        depth
-    );
-    let bad = block_of(alloc, 0, &[(2, &[])])?;
-    let rule = Some(DocumentReason::BlockInfoRule);
-    assert_eq!(rt;
-        judged(&rt, rt.alloc(), MAGIC, within(alloc, 254, bad)?)?,
-        rule
-    );
-    let bad = block_of(alloc, 0, &[(2, &[])])?;
-    let wrapper = Some(DocumentReason::WrapperMagic);
-    assert_eq!(rt;
-        judged(&rt, rt.alloc(), WRAPPER, within(alloc, 255, bad)?)?,
-        wrapper
-    );
-    let good = block_of(alloc, 8, &[])?;
-    assert_eq!(rt; judged(&rt, rt.alloc(), WRAPPER, good)?, wrapper);
-    Ok(())
-}
-
-#[test]
-fn a_refused_document_says_why(rt: HostRuntime) -> Result<(), Fail> {
-    let bad = Document::new(WRAPPER, Vec::new(rt.alloc()))
-        .err()
-        .ok_or("taken")?;
-    assert_eq!(rt;
-        bad.to_string(rt.alloc())?.as_str(),
-        "the magic is that of a wrapper"
-    );
-    Ok(())
+fn a_refused_document_says_why(rt: HostRuntime) {
+    let wanted = "the magic is that of a wrapper";
+    agrees(&rt, told_of_refusal(rt.alloc()), wanted, "a wrapper");
 }
 
 fn marked_record(
+    rt: &impl Abort,
     alloc: Global,
     abbrev: u32,
     code: u64,
     values: &[u64],
-) -> Result<MarkedItem, AllocError> {
-    Ok(MarkedItem::Record(MarkedRecord {
+) -> MarkedItem {
+    MarkedItem::Record(MarkedRecord {
         abbrev,
         code,
-        values: Values(Vec::from_slice(alloc, values)?),
+        values: Values(Vec::from_slice(alloc, values).expect(rt, "memory")),
         first: 1,
         after: 2,
-    }))
+    })
 }
 
-pub(crate) fn definition(alloc: Global) -> Result<Abbrev, Fail> {
-    let ops = Ops::from_slice(alloc, &[Op::Literal(1), Op::Fixed(7)])?;
-    Ok(Abbrev::new(ops).ok().ok_or("unlawful")?)
+/// `[Literal 1, Fixed 7]`.
+pub(crate) fn definition(rt: &impl Abort, alloc: Global) -> Abbrev {
+    let ops = Ops::from_slice(alloc, &[Op::Literal(1), Op::Fixed(7)]).expect(rt, "memory");
+    Abbrev::new(ops).ok().expect(rt, "a lawful definition")
 }
 
 fn marked_block(id: u32, items: Vec<MarkedItem>) -> MarkedBlock {
@@ -226,68 +266,101 @@ fn marked_block(id: u32, items: Vec<MarkedItem>) -> MarkedBlock {
     }
 }
 
-/// `0 { 1 [8] } 8 { 0 { 1 [8] }, 2 [9], 8 { 1 [100] } }`, with definitions in the blocks 0.
-fn sample(alloc: Global) -> Result<Marked, Fail> {
-    let mut blocks = Vec::new(alloc);
+/// Adds an item to a list.
+fn push<T: Drop>(rt: &impl Abort, items: &mut Vec<T>, item: T) {
+    items.push(item).expect(rt, "memory");
+}
+
+/// `0 { 1 [8] }`, with a definition.
+fn marked_info(rt: &impl Abort, alloc: Global) -> MarkedBlock {
+    let define = MarkedItem::Define(MarkedDefine {
+        abbrev: definition(rt, alloc),
+        first: 6,
+        after: 7,
+    });
     let mut items = Vec::new(alloc);
-    for is_top in [true, false] {
-        let mut info = one(alloc, marked_record(alloc, 3, 1, &[8])?)?;
-        info.push(MarkedItem::Define(MarkedDefine {
-            abbrev: definition(alloc)?,
-            first: 6,
-            after: 7,
-        }))?;
-        if is_top {
-            blocks.push(marked_block(0, info))?;
-        } else {
-            items.push(MarkedItem::Block(marked_block(0, info)))?;
-        }
-    }
-    items.push(marked_record(alloc, 3, 2, &[9])?)?;
-    let inner = one(alloc, marked_record(alloc, 4, 1, &[100])?)?;
-    items.push(MarkedItem::Block(marked_block(8, inner)))?;
-    blocks.push(marked_block(8, items))?;
-    Ok(Marked {
+    push(rt, &mut items, marked_record(rt, alloc, 3, 1, &[8]));
+    push(rt, &mut items, define);
+    marked_block(0, items)
+}
+
+/// `8 { 1 [100] }`.
+fn marked_hundred(rt: &impl Abort, alloc: Global) -> MarkedBlock {
+    let mut items = Vec::new(alloc);
+    push(rt, &mut items, marked_record(rt, alloc, 4, 1, &[100]));
+    marked_block(8, items)
+}
+
+/// `8 { 0 { 1 [8] }, 2 [9], 8 { 1 [100] } }`, with a definition in the block 0.
+fn marked_nest(rt: &impl Abort, alloc: Global) -> MarkedBlock {
+    let mut items = Vec::new(alloc);
+    push(rt, &mut items, MarkedItem::Block(marked_info(rt, alloc)));
+    push(rt, &mut items, marked_record(rt, alloc, 3, 2, &[9]));
+    push(rt, &mut items, MarkedItem::Block(marked_hundred(rt, alloc)));
+    marked_block(8, items)
+}
+
+/// `0 { 1 [8] } 8 { 0 { 1 [8] }, 2 [9], 8 { 1 [100] } }`, with definitions in the blocks 0.
+fn sample(rt: &impl Abort, alloc: Global) -> Marked {
+    let mut blocks = Vec::new(alloc);
+    push(rt, &mut blocks, marked_info(rt, alloc));
+    push(rt, &mut blocks, marked_nest(rt, alloc));
+    Marked {
         head: Head {
             magic: MAGIC,
             wrapper: None,
         },
         blocks: MarkedBlocks(blocks),
         after: 8,
-    })
+    }
 }
 
 /// Whether the tree is fit, found by making it a document.
-fn is_fit(alloc: Global, marked: &Marked, info: Info) -> Result<bool, AllocError>
-    ensures { IfOk result (λ fit. fit ≡ true → Fit (input.tree_of info marked.now)) }
+fn is_fit(rt: &impl Abort, alloc: Global, marked: &Marked, info: Info) -> bool
+    ensures { result ≡ true → Fit (input.tree_of info marked.now) }
 {
-    let blocks = blocks_of(alloc, &marked.blocks.0, info)?;
-    Ok(Document::new(marked.head.magic, blocks).is_ok())
+    let blocks = blocks_of(alloc, &marked.blocks.0, info).expect(rt, "memory");
+    Document::new(marked.head.magic, blocks).is_ok()
+}
+
+/// A document as text: its magic, and its blocks.
+pub(crate) fn shown_document(alloc: Global, document: &Document) -> Result<String, AllocError> {
+    let mut text = shown(alloc, document.blocks())?;
+    write!(text, " {:?}", document.magic())?;
+    Ok(text)
+}
+
+/// What `tree_of` makes of the sample, as text.
+fn told_of_tree(rt: &impl Abort, alloc: Global) -> Result<String, AllocError> {
+    let marked = sample(rt, alloc);
+    assert!(rt; is_fit(rt, alloc, &marked, Info::Keep));
+    let document = tree_of(alloc, &marked).expect(rt, "memory");
+    shown_document(alloc, &document)
+}
+
+/// What `tree_with` makes of the sample, as text.
+fn told_of_tree_with(rt: &impl Abort, alloc: Global, info: Info) -> Result<String, AllocError> {
+    let marked = sample(rt, alloc);
+    assert!(rt; is_fit(rt, alloc, &marked, info));
+    let document = tree_with(alloc, &marked, info).expect(rt, "memory");
+    shown_document(alloc, &document)
 }
 
 #[test]
-fn trees_keep_or_drop_blockinfo(rt: HostRuntime) -> Result<(), Fail> {
-    let alloc = rt.alloc();
-    let marked = sample(alloc)?;
-    let kept = " 0 { 1 [8] } 8 { 0 { 1 [8] } 2 [9] 8 { 1 [100] } }";
-    if is_fit(alloc, &marked, Info::Keep)? {
-        let tree = tree_of(alloc, &marked)?;
-        assert_eq!(rt; tree.magic(), MAGIC);
-        assert_eq!(rt; shown(alloc, tree.blocks())?.as_str(), kept);
-        let tree = tree_with(alloc, &marked, Info::Keep)?;
-        assert_eq!(rt; shown(alloc, tree.blocks())?.as_str(), kept);
-    } else {
-        assert!(rt; false);
-    }
-    if is_fit(alloc, &marked, Info::Drop)? {
-        let tree = tree_with(alloc, &marked, Info::Drop)?;
-        assert_eq!(rt; tree.magic(), MAGIC);
-        assert_eq!(rt;
-            shown(alloc, tree.blocks())?.as_str(),
-            " 8 { 2 [9] 8 { 1 [100] } }"
-        );
-    } else {
-        assert!(rt; false);
-    }
-    Ok(())
+fn trees_keep_or_drop_blockinfo(rt: HostRuntime) {
+    let kept = " 0 { 1 [8] } 8 { 0 { 1 [8] } 2 [9] 8 { 1 [100] } } [66, 67, 192, 222]";
+    let dropped = " 8 { 2 [9] 8 { 1 [100] } } [66, 67, 192, 222]";
+    agrees(&rt, told_of_tree(&rt, rt.alloc()), kept, "plain");
+    agrees(
+        &rt,
+        told_of_tree_with(&rt, rt.alloc(), Info::Keep),
+        kept,
+        "kept",
+    );
+    agrees(
+        &rt,
+        told_of_tree_with(&rt, rt.alloc(), Info::Drop),
+        dropped,
+        "dropped",
+    );
 }
