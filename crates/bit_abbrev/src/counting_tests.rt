@@ -90,7 +90,10 @@ fn cut_records_are_counted_as_they_are_kept(rt: HostRuntime) -> Result<(), Fail>
         let bytes = in_block(rt.alloc(), body)?;
         let whole = counted(rt.alloc(), &bytes, 64);
         let wanted = ((Ok(*record), true), *count, Some(*first));
-        assert!(rt; whole == wanted && kept(rt.alloc(), &bytes, 64) == wanted, "{body:?}");
+        assert!(rt;
+            whole == wanted && kept(rt.alloc(), &bytes, 64) == wanted,
+            "{body:?}"
+        );
         assert!(rt; same_where_cut(rt.alloc(), &bytes), "{body:?}");
     }
     Ok(())
@@ -115,7 +118,7 @@ fn plain_record<V: ValueTaker>(
 fn plain_kept(alloc: Global, bytes: &[u8], room: u64) -> (Result<(u64, u64), Fault>, bool) {
     let mut values: Vec<u64> = Vec::new(alloc);
     let answer = plain_record(bytes, room, &mut values);
-    (answer, values == [1, 40, 2])
+    (answer, values.as_slice() == [1, 40, 2].as_slice())
 }
 
 /// The same where the values are counted: the answer, how many values there are, and the first one.

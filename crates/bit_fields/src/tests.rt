@@ -369,7 +369,10 @@ fn wholes(rt: HostRuntime) {
         let front = &LONGER[..LONGER.len().min(*count)];
         let answers = words_in_steps(front, limit_of(*bytes));
         let others = words_shown(front, limit_of(*bytes));
-        assert!(rt; answers == [*answer; 9] && others == [*answer; 9], "{count} {bytes}");
+        assert!(rt;
+            answers == [*answer; 9] && others == [*answer; 9],
+            "{count} {bytes}"
+        );
     }
 }
 
