@@ -35,7 +35,7 @@ use Rattle.bit_events.proofs.WholeInputs.{accepted_input}
 
 -- ---- open blocks
 
-open_behind-push : (events : List Event) (event : Event) (count : ℕ) → open_behind (events ++ event ∷ []) count ≡ open_after event (open_behind events count)
+pub open_behind-push : (events : List Event) (event : Event) (count : ℕ) → open_behind (events ++ event ∷ []) count ≡ open_after event (open_behind events count)
 open_behind-push [] event count = refl
 open_behind-push (first ∷ events) event count = open_behind-push events event (open_after first count)
 
@@ -265,6 +265,7 @@ pub whole_gathered : {G : Type 0} (gathered : G → List Event → G → Type 0)
 whole_gathered gathered limits i head m a g b h after begun none is_after all tells =
     let it = accepted_input limits (known_bytes i.to_come) (head_told head) all.events b.position (begun.told tells ∙ ap (λ (told : Told). Ok (head_told head, told)) (all.told (begun.pays.tells tells))) in
     record {
+      capped = begun.capped;
       marked = it.m;
       spelled = it.spelled;
       is_head = it.is_head;

@@ -1,53 +1,62 @@
-ghost use Rattle.std.specs.Prelude.{IsTrue};
-ghost use Rattle.bit_events.specs.EventView.{shown};
-ghost use Rattle.bit_tree.specs.Nesting.{MayStand};
-
 use crate::marked_builder::MarkedBuilder;
 use crate::tests::{definition, shown};
 use crate::tree_builder::TreeBuilder;
 use crate::{Block, Event, Info, MarkedBlocks};
+use bit_events::Gatherer;
 use std::alloc::{AllocError, Global};
 use std::test::Fail;
 
-/// Whether an event opens a block.
-fn opens(event: &Event<'_>) -> bool
-    ensures { IsTrue result → MayStand 0 (shown event.now) }
-{
-    matches!(event, Event::Enter { .. })
+/// Gives events to what gathers them.
+fn give<G: Gatherer<Values = Vec<u64>>>(
+    alloc: Global,
+    gatherer: &mut G,
+    events: &[Event<'_>],
+) -> Result<(), AllocError> {
+    for event in events {
+        match *event {
+            Event::Enter {
+                id,
+                width,
+                first,
+                body,
+            } => gatherer.enter(id, width, first, body)?,
+            Event::Define {
+                abbrev,
+                first,
+                after,
+            } => gatherer.define(abbrev, first, after)?,
+            Event::Record {
+                abbrev,
+                code,
+                values,
+                first,
+                after,
+            } => {
+                let values = Vec::from_slice(alloc, values)?;
+                gatherer.record(abbrev, code, &values, first, after)?;
+            }
+            Event::Leave { after } => gatherer.leave(after)?,
+        }
+    }
+    Ok(())
 }
 
-/// The marked blocks of these events, if each may stand where it does, and no block is left open.
-fn marked_of(alloc: Global, events: &[Event<'_>]) -> Result<Option<MarkedBlocks>, AllocError> {
+/// The marked blocks of these events.
+fn marked_of(alloc: Global, events: &[Event<'_>]) -> Result<MarkedBlocks, AllocError> {
     let mut builder = MarkedBuilder::new(alloc);
-    for event in events {
-        if builder.is_whole() && !opens(event) {
-            return Ok(None);
-        }
-        builder.add(alloc, *event)?;
-    }
-    if !builder.is_whole() {
-        return Ok(None);
-    }
-    Ok(Some(builder.finish()))
+    give(alloc, &mut builder, events)?;
+    Ok(builder.finish())
 }
 
 /// The same blocks without marks.
-fn blocks_told(
+fn blocks_of_events(
     alloc: Global,
     info: Info,
     events: &[Event<'_>],
-) -> Result<Option<Vec<Block>>, AllocError> {
+) -> Result<Vec<Block>, AllocError> {
     let mut builder = TreeBuilder::new(alloc, info);
-    for event in events {
-        if builder.is_whole() && !opens(event) {
-            return Ok(None);
-        }
-        builder.add(alloc, *event)?;
-    }
-    if !builder.is_whole() {
-        return Ok(None);
-    }
-    Ok(Some(builder.finish()))
+    give(alloc, &mut builder, events)?;
+    Ok(builder.finish())
 }
 
 #[test]
@@ -104,7 +113,7 @@ fn events_build_a_marked_tree(rt: HostRuntime) -> Result<(), Fail> {
         "MarkedBlock { id: 8, width: 3, first: 160, body: 224, after: 352, items: MarkedItems([\
         Block(MarkedBlock { id: 9, width: 4, first: 224, body: 288, after: 320, items: MarkedItems([]) }), \
         Record(MarkedRecord { abbrev: 4, code: 1, values: Values([100]), first: 320, after: 330 })]) }";
-    let want = format!(in alloc; "Some(MarkedBlocks([{first}, {second}]))")?;
+    let want = format!(in alloc; "MarkedBlocks([{first}, {second}])")?;
     let blocks = marked_of(alloc, &events)?;
     assert_eq!(rt; format!(in alloc; "{blocks:?}")?.as_str(), want.as_str());
     Ok(())
@@ -174,10 +183,8 @@ fn events_build_a_tree(rt: HostRuntime) -> Result<(), Fail> {
         (Info::Keep, " 0 { 1 [8] } 8 { 0 { 1 [8] 2 [9] } 1 [100] }"),
         (Info::Drop, " 8 { 1 [100] }"),
     ] {
-        match blocks_told(alloc, info, &events)? {
-            Some(blocks) => assert_eq!(rt; shown(alloc, &blocks)?.as_str(), want, "{info:?}"),
-            None => assert!(rt; false, "{info:?}"),
-        }
+        let blocks = blocks_of_events(alloc, info, &events)?;
+        assert_eq!(rt; shown(alloc, &blocks)?.as_str(), want, "{info:?}");
     }
     Ok(())
 }
