@@ -75,6 +75,11 @@ one_by gathered deepest rule whole m a b g n c h one forward from = record {
   gathers = one.gathers;
 }
 
+-- what is shown for each list that was taken
+pub each_list : (Taken P : List ℕ → Type 0) (result : Result (Unit {0}) AllocError) → ((list : List ℕ) → Taken list → OnOk result (P list)) → OnOk result ((list : List ℕ) → Taken list → P list)
+each_list Taken P (Ok x) each = each
+each_list Taken P (Err e) each = tt
+
 -- what holds for each list that was taken holds for this one
 pub for_list : (Taken P : List ℕ → Type 0) (got : Result (Unit {0}) AllocError) (list : List ℕ) → Taken list → OnOk got ((list : List ℕ) → Taken list → P list) → OnOk got (P list)
 for_list Taken P (Ok value) list took each = each list took

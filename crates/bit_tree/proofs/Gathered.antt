@@ -129,11 +129,6 @@ tree_whole info m b built =
 
 -- ---- answers
 
--- what holds for each list that was taken
-pub each_list : (Taken P : List ℕ → Type 0) (result : Result (Unit {0}) AllocError) → ((list : List ℕ) → Taken list → OnOk result (P list)) → OnOk result ((list : List ℕ) → Taken list → P list)
-each_list Taken P (Ok x) each = each
-each_list Taken P (Err e) each = tt
-
 pub some_left : (count : ℕ) → false ≡ (count == 0) → 0 < count
 some_left zero e = absurd cc
 some_left (suc n) e = omega arith

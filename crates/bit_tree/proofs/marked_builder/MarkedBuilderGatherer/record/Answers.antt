@@ -1,7 +1,8 @@
 use Rattle.std.proofs.Common.{◌≡◌, ℕ, List, refl}
 use Rattle.bit_grammar.specs.Machine.{notes}
 use Rattle.bit_tree.specs.declared.marked.MarkedItem.TheVariants as item
-use Rattle.bit_tree.proofs.Gathered.{item_added, each_list}
+use Rattle.bit_tree.proofs.Gathered.{item_added}
+use Rattle.bit_events.proofs.Folds.{each_list}
 use Rattle.bit_tree.proofs.marked_builder.MarkedBuilderGatherer.record.Goals as goal
 
 pub returns : goal.returns

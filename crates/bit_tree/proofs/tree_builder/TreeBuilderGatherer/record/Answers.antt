@@ -3,7 +3,8 @@ use Rattle.bit_grammar.specs.Machine.{Event, notes}
 use Rattle.bit_tree.specs.TreeFrames.{told_at_level}
 use Rattle.bit_tree.specs.TreeView.{put_blocks}
 use Rattle.bit_tree.specs.declared.tree.Item.TheVariants as item
-use Rattle.bit_tree.proofs.Gathered.{built_tree, tree_item_added, each_list}
+use Rattle.bit_tree.proofs.Gathered.{built_tree, tree_item_added}
+use Rattle.bit_events.proofs.Folds.{each_list}
 use Rattle.bit_tree.proofs.tree_builder.TreeBuilderGatherer.record.Goals as goal
 
 pub returns-then-not-is_kept : goal.returns-then-not-is_kept

@@ -1,7 +1,7 @@
 use Rattle.std.proofs.Common.{ap, ◌∙◌}
 use Rattle.bit_grammar.specs.Counting.{Counts}
 use Rattle.bit_scan.proofs.OpenBlocks.{entered}
-use Rattle.bit_scan.proofs.counter.Counter.enter.Goals as goal
+use Rattle.bit_scan.proofs.counter.Counter.open_block.Goals as goal
 
 pub returns : goal.returns
 returns c counts opened id first is =
