@@ -35,7 +35,7 @@ use Rattle.bit_events.proofs.WholeInputs.{accepted_input}
 
 -- ---- open blocks
 
-open_behind-push : (events : List Event) (event : Event) (count : ℕ) → open_behind (events ++ event ∷ []) count ≡ open_after event (open_behind events count)
+pub open_behind-push : (events : List Event) (event : Event) (count : ℕ) → open_behind (events ++ event ∷ []) count ≡ open_after event (open_behind events count)
 open_behind-push [] event count = refl
 open_behind-push (first ∷ events) event count = open_behind-push events event (open_after first count)
 
@@ -74,6 +74,11 @@ one_by gathered deepest rule whole m a b g n c h one forward from = record {
   leaves = record { stands = one.leaves.stands; opens = one.leaves.opens; forward = omega (arith, forward, one.leaves.forward); aligned = one.leaves.aligned; holds = one.leaves.holds };
   gathers = one.gathers;
 }
+
+-- what is shown for each list that was taken
+pub each_list : (Taken P : List ℕ → Type 0) (result : Result (Unit {0}) AllocError) → ((list : List ℕ) → Taken list → OnOk result (P list)) → OnOk result ((list : List ℕ) → Taken list → P list)
+each_list Taken P (Ok x) each = each
+each_list Taken P (Err e) each = tt
 
 -- what holds for each list that was taken holds for this one
 pub for_list : (Taken P : List ℕ → Type 0) (got : Result (Unit {0}) AllocError) (list : List ℕ) → Taken list → OnOk got ((list : List ℕ) → Taken list → P list) → OnOk got (P list)
@@ -265,6 +270,7 @@ pub whole_gathered : {G : Type 0} (gathered : G → List Event → G → Type 0)
 whole_gathered gathered limits i head m a g b h after begun none is_after all tells =
     let it = accepted_input limits (known_bytes i.to_come) (head_told head) all.events b.position (begun.told tells ∙ ap (λ (told : Told). Ok (head_told head, told)) (all.told (begun.pays.tells tells))) in
     record {
+      capped = begun.capped;
       marked = it.m;
       spelled = it.spelled;
       is_head = it.is_head;

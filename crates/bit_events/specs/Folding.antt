@@ -3,6 +3,7 @@ use Rattle.std.specs.Prelude.{◌≡◌, ℕ, ◌<◌, ◌≤◌, ◌%◌, true,
 use Rattle.bit_grammar.specs.Grammar.{Grammar, at}
 use Rattle.bit_grammar.specs.Blocks.{Limits}
 use Rattle.bit_grammar.specs.Input.{Head, Marked, SpellsInput}
+use Rattle.bit_grammar.specs.Normal.{Capped}
 use Rattle.bit_grammar.specs.Machine as machine
 use Rattle.bit_grammar.specs.Machine.{Event, flat, accepted, broke, Told}
 use Rattle.bit_fields.specs.declared.fault.Fault.{Fault}
@@ -73,6 +74,7 @@ TakesAll gathered limits m a g (Err fault) b h = Misses limits m a fault b
 
 -- the bytes spell a marked tree with this head that ends before this bit, and its events were gathered
 pub record Gathered {G : Type 0} (gathered : G → List Event → G → Type 0) (limits : Limits) (bytes : List ℕ) (first : G) (head : Head) (last : G) (after : ℕ) : Type 0 where
+  pub capped : Capped limits
   pub marked : Marked
   pub spelled : SpellsInput limits bytes marked
   pub is_head : marked.head ≡ head

@@ -1,6 +1,7 @@
 //! The events of a stream: block begins, definitions, records and block ends, as a machine finds them.
 #![tactic(auto)]
 
+mod checking;
 mod event;
 mod events;
 #[cfg(test)]
@@ -12,6 +13,7 @@ mod head;
 mod heads;
 mod machine;
 
+pub use checking::check;
 pub use event::Event;
 pub use events::Events;
 pub use folding::{Folded, fold};

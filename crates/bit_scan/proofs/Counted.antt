@@ -1,38 +1,54 @@
--- An analysis of all events that come.
-use Rattle.std.proofs.Common.{◌≡◌, ℕ, List, [], ◌∷◌, ◌++◌, refl, sym, ap, ◌∙◌, append_assoc, append-nil, subst}
-use Rattle.bit_grammar.specs.Machine.{Event, Ending, Told}
-use Rattle.bit_grammar.specs.Counting.{Counts, no_counts, count_event, count_events}
-use Rattle.bit_fields.specs.declared.fault.Fault.{Fault}
-use Rattle.bit_events.specs.Coming.{going, Coming, Gives, before}
-use Rattle.bit_tree.specs.Building.{told_with, as_they_are, Added, Going, Finished, Misses, Built}
-use Rattle.bit_tree.proofs.Collecting.{first_of, one_more, all_added, all_missed}
-use Rattle.bit_scan.specs.Cut.{cut, cut_rows}
-use Rattle.bit_scan.specs.Analysing.{Counted, then_following, Counting, CountedAll}
+-- Counting one event behind others.
+use Rattle.std.proofs.Common.{◌≡◌, ℕ, ◌+◌, ◌-◌, ◌^◌, min, Bool, true, false, List, [], ◌∷◌, ◌++◌, Result, Ok, Err, refl, sym, ap, ◌∙◌, arith, if◌then◌else◌, ◌==◌}
+use Rattle.std.specs.Prelude.{OnOk}
+use Rattle.std.specs.declared.alloc.AllocError.{AllocError}
+use Rattle.bit_grammar.specs.Machine.{Event}
+use Rattle.bit_grammar.specs.Steps.{MayStand}
+use Rattle.bit_grammar.specs.Tally.{BlockTally}
+use Rattle.bit_events.specs.Gathering.{left_open}
+use Rattle.bit_grammar.specs.Counting.{OpenCount, Counts, no_counts, fresh_row, with_row, count_here, count_event, count_events}
+use Rattle.bit_scan.specs.Additions.{with_added}
+use Rattle.bit_scan.specs.Counting.{added_here}
+use Rattle.bit_scan.specs.Cut.{saturated, cut, cut_row, cut_rows}
+use Rattle.bit_scan.specs.declared.rows.Addition.TheVariants as addition
 
 -- one event behind others
 count_then : (done : List Event) (event : Event) (c : Counts) → count_events (done ++ event ∷ []) c ≡ count_event event (count_events done c)
 count_then [] event c = refl
 count_then (first ∷ done) event c = count_then done event (count_event first c)
 
--- nothing was counted yet
-pub none_counted : (first : Coming) (counter : Counts) → first.stage ≡ going → counter ≡ no_counts → Counting first first counter
-none_counted first counter goes none = record { done = []; counted = none; going_on = first_of first as_they_are (then_following []) goes (λ following. refl) }
+-- what counts an event gathers it
+pub gathers_counts : (old new : Counts) (event : Event) (result : Result (Unit {0}) AllocError) → ((counts : Counts) → old ≡ cut counts → OnOk result (new ≡ cut (count_event event counts)))
+    → OnOk result ((first : Counts) (done : List Event) (deepest : ℕ) → old ≡ cut (count_events done no_counts) → MayStand deepest event (left_open done) → new ≡ cut (count_events (done ++ event ∷ []) no_counts))
+gathers_counts old new event (Ok x) counted = λ first done deepest was stands. counted (count_events done no_counts) was ∙ ap cut (sym (count_then done event no_counts))
+gathers_counts old new event (Err e) counted = tt
 
--- one more was counted
-pub one_counted : (first a b : Coming) (event : Event) (old new : Counts) → Counting first a old → Gives a event b → Counted old event new → Counting first b new
-one_counted first a b event old new so_far gives counted = record {
-  done = so_far.done ++ event ∷ [];
-  counted = counted (count_events so_far.done no_counts) so_far.counted ∙ ap cut (sym (count_then so_far.done event no_counts));
-  going_on = one_more first a b as_they_are (then_following so_far.done) (then_following (so_far.done ++ event ∷ [])) so_far.going_on (record {
-    goes = gives.goes;
-    pays = gives.pays;
-    head = gives.head;
-    forward = gives.forward;
-    below = gives.below;
-    told = λ tells. ap (told_with (then_following so_far.done)) (gives.told tells) ∙ ap (λ (events : List Event). (events, b.told.1)) (sym (append_assoc so_far.done (event ∷ []) b.told.0));
-  });
-}
+pub then_same : {A : Type 0} (result : Result (Unit {0}) AllocError) (x y z : A) → OnOk result (x ≡ y) → y ≡ z → OnOk result (x ≡ z)
+then_same (Ok v) x y z one two = one ∙ two
+then_same (Err e) x y z one two = tt
 
--- all were counted
-pub all_counted : (first a b : Coming) (counter : Counts) → Counting first a counter → Finished a b → CountedAll first b counter.rows
-all_counted first a b counter so_far done = record { done = so_far.done; counted = ap (λ (c : Counts). c.rows) so_far.counted; built = subst (λ (events : List Event). Built first as_they_are b events) (append-nil so_far.done) (all_added first a b as_they_are (then_following so_far.done) so_far.going_on done) }
+-- ---- changes that are cut to the same
+
+same_rows : (change other : BlockTally → BlockTally) → ((row : BlockTally) → cut_row (change row) ≡ cut_row (other row)) → (id : ℕ) (rows : List BlockTally) → cut_rows (with_row change id rows) ≡ cut_rows (with_row other id rows)
+same_rows change other same id [] = ap (λ (row : BlockTally). row ∷ []) (same (fresh_row id))
+same_rows change other same id (row ∷ rows) = go (row.id == id) (same_rows change other same id rows)
+  where
+    go : (here : Bool) → cut_rows (with_row change id rows) ≡ cut_rows (with_row other id rows) → cut_rows (if here then change row ∷ rows else row ∷ with_row change id rows) ≡ cut_rows (if here then other row ∷ rows else row ∷ with_row other id rows)
+    go true others = ap (λ (x : BlockTally). x ∷ cut_rows rows) (same row)
+    go false others = ap (λ (xs : List BlockTally). cut_row row ∷ xs) others
+
+same_here : (change other : BlockTally → BlockTally) → ((row : BlockTally) → cut_row (change row) ≡ cut_row (other row)) → (around : List OpenCount) (rows : List BlockTally) → cut_rows (count_here change around rows) ≡ cut_rows (count_here other around rows)
+same_here change other same [] rows = refl
+same_here change other same (b ∷ around) rows = same_rows change other same b.id rows
+
+-- a number of values that is cut before it is added
+cut_before : (a n : ℕ) → saturated (a + min n (2 ^ 64 - 1)) ≡ saturated (a + n)
+cut_before a n = omega arith
+
+pub same_values : (code : ℕ) (abbreviated : Bool) (told many bits : ℕ) (c : Counts) → told ≡ min many (2 ^ 64 - 1) → cut (added_here (addition.Record code abbreviated told bits) c) ≡ cut (added_here (addition.Record code abbreviated many bits) c)
+same_values code abbreviated told many bits c is =
+    ap (λ (rows : List BlockTally). record { rows = rows; around = (cut c).around })
+    (same_here (with_added (addition.Record code abbreviated told bits)) (with_added (addition.Record code abbreviated many bits)) (λ row. same row) c.around c.rows)
+  where
+    same : (row : BlockTally) → cut_row (with_added (addition.Record code abbreviated told bits) row) ≡ cut_row (with_added (addition.Record code abbreviated many bits) row)
+    same row = ap (λ (n : ℕ). record (cut_row (with_added (addition.Record code abbreviated many bits) row)) { values = n }) (ap (λ (n : ℕ). saturated (row.values + n)) is ∙ cut_before row.values many)

@@ -1,13 +1,14 @@
 ghost use Rattle.std.specs.Prelude.{◌≡◌, List, map, OnOk};
 ghost use Rattle.bit_grammar.specs.Machine.{Opened, enters, leaves};
 ghost use Rattle.bit_grammar.specs.Counting.{OpenCount, Counts, no_counts, count_event};
-ghost use Rattle.bit_events.specs.EventView.{shown};
 ghost use Rattle.bit_scan.specs.Counting.{open_counts, added_here, Closes};
 ghost use Rattle.bit_scan.specs.Cut.{cut, cut_open};
 ghost use Rattle.bit_scan.specs.Rows.{block_tallies};
 
 use crate::rows::{Addition, BlockRow, add_to_row};
-use bit_tree::Event;
+use bit_abbrev::Abbrev;
+use bit_events::Gatherer;
+use bit_fields::{ValueCount, ValueTaker};
 use indexmap::IndexMap;
 use std::alloc::{AllocError, Global};
 use std::marker::Model;
@@ -66,7 +67,7 @@ impl Counter {
     }
 
     /// A block with this id begins at a bit.
-    fn enter(&mut self, id: u32, first: u64) -> Result<(), AllocError>
+    fn open_block(&mut self, id: u32, first: u64) -> Result<(), AllocError>
         ensures { (counts : Counts) (opened : Opened) → opened.id ≡ id → opened.first ≡ first → self.old ≡ cut counts → OnOk result (self.new ≡ cut (count_event (enters opened) counts)) }
     {
         add_to_row(self.alloc, &mut self.rows, id, Addition::Block)?;
@@ -79,7 +80,7 @@ impl Counter {
     }
 
     /// The innermost block ends before a bit.
-    fn leave(&mut self, after: u64) -> Result<(), AllocError>
+    fn end_block(&mut self, after: u64) -> Result<(), AllocError>
         ensures { (counts : Counts) → self.old ≡ cut counts → OnOk result (self.new ≡ cut (count_event (leaves after) counts)) }
     {
         match close_block(&mut self.open, after) {
@@ -90,7 +91,7 @@ impl Counter {
 
     /// Counts what stands in the innermost open block.
     #[inline(always)]
-    pub(crate) fn count_here(&mut self, addition: Addition) -> Result<(), AllocError>
+    fn count_here(&mut self, addition: Addition) -> Result<(), AllocError>
         ensures { (counts : Counts) → self.old ≡ cut counts → OnOk result (self.new ≡ cut (added_here addition counts)) }
     {
         match self.open.last() {
@@ -99,33 +100,55 @@ impl Counter {
         }
     }
 
-    /// Counts an event. A number that would pass the greatest of 64 bits stays there.
-    pub(crate) fn add(&mut self, event: Event<'_>) -> Result<(), AllocError>
-        ensures { (counts : Counts) → self.old ≡ cut counts → OnOk result (self.new ≡ cut (count_event (shown event.entry) counts)) }
-    {
-        match event {
-            Event::Enter { id, first, .. } => self.enter(id, first),
-            Event::Define { .. } => self.count_here(Addition::Definition),
-            Event::Record {
-                abbrev,
-                code,
-                values,
-                first,
-                after,
-            } => self.count_here(Addition::Record {
-                code,
-                abbreviated: abbrev >= 4,
-                values: values.len() as u64,
-                bits: after.saturating_sub(first),
-            }),
-            Event::Leave { after } => self.leave(after),
-        }
-    }
-
     /// The rows.
     pub(crate) fn into_rows(self) -> IndexMap<u32, BlockRow>
         ensures { block_tallies result.entries ≡ self.rows }
     {
         self.rows
+    }
+}
+
+impl Gatherer for Counter {
+    ghost use Rattle.std.specs.Prelude.{◌≡◌};
+    ghost use Rattle.bit_grammar.specs.Counting.{no_counts, count_events};
+    ghost use Rattle.bit_scan.specs.Cut.{cut};
+
+    type Values = ValueCount;
+
+    // A number that would pass the greatest of 64 bits stays there.
+    ghost gathered = { λ first events last. last ≡ cut (count_events events no_counts) };
+
+    #[inline]
+    fn values(&self) -> ValueCount {
+        ValueCount::new()
+    }
+
+    fn enter(&mut self, id: u32, _width: u8, first: u64, _body: u64) -> Result<(), AllocError> {
+        self.open_block(id, first)
+    }
+
+    fn define(&mut self, _abbrev: &Abbrev, _first: u64, _after: u64) -> Result<(), AllocError> {
+        self.count_here(Addition::Definition)
+    }
+
+    #[inline]
+    fn record(
+        &mut self,
+        id: u32,
+        code: u64,
+        values: &ValueCount,
+        first: u64,
+        after: u64,
+    ) -> Result<(), AllocError> {
+        self.count_here(Addition::Record {
+            code,
+            abbreviated: id >= 4,
+            values: values.count(),
+            bits: after.saturating_sub(first),
+        })
+    }
+
+    fn leave(&mut self, after: u64) -> Result<(), AllocError> {
+        self.end_block(after)
     }
 }

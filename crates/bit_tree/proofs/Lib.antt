@@ -5,5 +5,4 @@ pub mod Growing
 pub mod Magics
 pub mod MarkedFlats
 pub mod Placing
-pub mod Collecting
-pub mod WholeInputs
+pub mod Gathered

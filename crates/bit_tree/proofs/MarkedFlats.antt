@@ -1,9 +1,9 @@
 -- The events of marked blocks that are partly built.
-use Rattle.std.proofs.Common.{◌≡◌, ℕ, zero, suc, List, [], ◌∷◌, ◌++◌, length, get_or, refl, sym, ap, ◌∙◌, arith, subst}
+use Rattle.std.proofs.Common.{◌≡◌, ℕ, zero, suc, List, [], ◌∷◌, ◌++◌, length, get_or, refl, sym, ap, ◌∙◌, arith}
 use Rattle.std.proofs.Math.ListN.{set}
 use Rattle.std.specs.Global.{Vec}
-use Rattle.bit_grammar.specs.Machine.{Event, Opened, enters, defines, notes, leaves, flat}
-use Rattle.bit_grammar.specs.Marks.{BlockMark, Marks, no_marks, marked_block, marked_record, marked_definition}
+use Rattle.bit_grammar.specs.Machine.{Event, Opened, enters, leaves, flat}
+use Rattle.bit_grammar.specs.Marks.{Marks}
 use Rattle.bit_tree.specs.MarkedFrames.{flat_frames, flat_item}
 use Rattle.bit_tree.specs.MarkedView.{put_marked, marks_of_items, marks_of_blocks}
 use Rattle.bit_tree.specs.declared.marked.MarkedBlock.{MarkedBlock}
@@ -59,48 +59,3 @@ pub flat-close_top : (blocks : List MarkedBlock) (front : List MarkedFrame) (fra
     flat (marks_of_blocks (blocks ++ b ∷ [])) (flat_frames front following) ≡ flat (marks_of_blocks blocks) (flat_frames (front ++ frame ∷ []) (leaves b.after ∷ following))
 flat-close_top blocks [] frame b following n same = flat-push_block blocks b following ∙ ap (flat (marks_of_blocks blocks)) same
 flat-close_top blocks (f ∷ front) frame b following n same = absurd (omega arith)
-
--- ---- marks are told by their events
-
--- nothing follows, or the end of a block
-abbrev EndsHere : List Event → Type 0
-EndsHere [] = Unit {0}
-EndsHere (leaves after ∷ events) = Unit {0}
-EndsHere (enters opened ∷ events) = ⊥
-EndsHere (defines mark ∷ events) = ⊥
-EndsHere (notes mark ∷ events) = ⊥
-
-abbrev opened_mark : BlockMark → Opened
-opened_mark m = record { id = m.id; width = m.width; first = m.first; body = m.body }
-
-block_mark_same : (a b : BlockMark) → opened_mark a ≡ opened_mark b → a.after ≡ b.after → a ≡ b
-block_mark_same a b e k = λ i. record { id = (e i).id; width = (e i).width; first = (e i).first; body = (e i).body; after = k i }
-
--- The events of marks, with what may follow them, are those of no other marks.
-pub flat-once : (m n : Marks) (x y : List Event) → EndsHere x → EndsHere y → flat m x ≡ flat n y → (m ≡ n) × (x ≡ y)
-flat-once no_marks no_marks x y p q e = (refl, e)
-flat-once no_marks (marked_block mark inner rest) x y p q e = absurd (subst EndsHere e p)
-flat-once no_marks (marked_record mark rest) x y p q e = absurd (subst EndsHere e p)
-flat-once no_marks (marked_definition mark rest) x y p q e = absurd (subst EndsHere e p)
-flat-once (marked_block mark inner rest) no_marks x y p q e = absurd (subst EndsHere (sym e) q)
-flat-once (marked_record mark rest) no_marks x y p q e = absurd (subst EndsHere (sym e) q)
-flat-once (marked_definition mark rest) no_marks x y p q e = absurd (subst EndsHere (sym e) q)
-flat-once (marked_block a inner rest) (marked_block b inner' rest') x y p q e =
-    let inside = flat-once inner inner' (leaves a.after ∷ flat rest x) (leaves b.after ∷ flat rest' y) tt tt cc in
-    let others = flat-once rest rest' x y p q (cc inside.1) in
-    let mark : a ≡ b = block_mark_same a b (cc) (cc inside.1) in
-    (cc (mark, inside.0, others.0), others.1)
-flat-once (marked_record a rest) (marked_record b rest') x y p q e =
-    let others = flat-once rest rest' x y p q cc in
-    let mark : a ≡ b = cc in
-    (cc (mark, others.0), others.1)
-flat-once (marked_definition a rest) (marked_definition b rest') x y p q e =
-    let others = flat-once rest rest' x y p q cc in
-    let mark : a ≡ b = cc in
-    (cc (mark, others.0), others.1)
-flat-once (marked_block a inner rest) (marked_record b rest') x y p q e = absurd cc
-flat-once (marked_block a inner rest) (marked_definition b rest') x y p q e = absurd cc
-flat-once (marked_record a rest) (marked_block b inner rest') x y p q e = absurd cc
-flat-once (marked_record a rest) (marked_definition b rest') x y p q e = absurd cc
-flat-once (marked_definition a rest) (marked_block b inner rest') x y p q e = absurd cc
-flat-once (marked_definition a rest) (marked_record b rest') x y p q e = absurd cc

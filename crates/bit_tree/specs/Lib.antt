@@ -1,10 +1,8 @@
-pub mod Building
 pub mod Judging
 pub mod MarkedFalls
 pub mod MarkedFrames
 pub mod MarkedView
 pub mod MarksCode
-pub mod Nesting
 pub mod Reading
 pub mod TreeCode
 pub mod TreeFalls

@@ -1,7 +1,8 @@
 -- Marked blocks that are partly built, as the events that they were built from.
-use Rattle.std.specs.Prelude.{List, [], ◌∷◌}
+use Rattle.std.specs.Prelude.{◌≡◌, List, [], ◌∷◌, ◌++◌, vec_len}
 use Rattle.bit_grammar.specs.Machine.{Event, enters, flat}
 use Rattle.bit_grammar.specs.Marks.{no_marks}
+use Rattle.bit_events.specs.Gathering.{left_open}
 use Rattle.bit_tree.specs.MarkedView.{put_marked, marks_of_items, marks_of_blocks}
 use Rattle.bit_tree.specs.declared.marked.MarkedItem.{MarkedItem}
 use Rattle.bit_tree.specs.declared.marked_builder.MarkedFrame.{MarkedFrame}
@@ -19,3 +20,8 @@ flat_frames (f ∷ frames) following = enters (record { id = f.id; width = f.wid
 -- the events that were built from, before those that follow
 abbrev pub built_from : MarkedBuilder → List Event → List Event
 built_from b following = flat (marks_of_blocks b.blocks.items) (flat_frames b.frames.items following)
+
+-- it was built from these events
+pub record IsBuiltFrom (events : List Event) (b : MarkedBuilder) : Type 0 where
+  pub whole : (following : List Event) → built_from b following ≡ events ++ following
+  pub depth : vec_len b.frames ≡ left_open events

@@ -1,9 +1,10 @@
 -- A tree that is partly built, as the forest that it becomes by what follows.
-use Rattle.std.specs.Prelude.{ℕ, zero, suc, List, [], ◌∷◌, length, if◌then◌else◌}
+use Rattle.std.specs.Prelude.{◌≡◌, ℕ, zero, suc, List, [], ◌∷◌, ◌++◌, length, vec_len, if◌then◌else◌}
 use Rattle.bit_grammar.specs.declared.info.Info.{Info}
 use Rattle.bit_grammar.specs.Forest.{Forest, empty, a_block, a_record}
 use Rattle.bit_grammar.specs.Machine.{Event, enters, defines, notes, leaves}
 use Rattle.bit_grammar.specs.Marks.{keeps}
+use Rattle.bit_events.specs.Gathering.{left_open}
 use Rattle.bit_tree.specs.TreeView.{put_items, put_blocks}
 use Rattle.bit_tree.specs.declared.tree_builder.TreeFrame.{TreeFrame}
 use Rattle.bit_tree.specs.declared.tree_builder.TreeBuilder.{TreeBuilder}
@@ -30,3 +31,9 @@ forest_of_frames info (f ∷ frames) coming =
 -- the forest that was built, with what follows
 abbrev pub built_with : TreeBuilder → List Event → Forest
 built_with b following = put_blocks b.blocks.items (forest_of_frames b.info b.frames.items (told_at_level b.info following))
+
+-- it was built from these events, under this setting
+pub record IsBuiltOf (info : Info) (events : List Event) (b : TreeBuilder) : Type 0 where
+  pub setting : b.info ≡ info
+  pub whole : (following : List Event) → built_with b following ≡ told_at_level info (events ++ following) 0
+  pub depth : vec_len b.frames ≡ left_open events

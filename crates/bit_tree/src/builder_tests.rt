@@ -1,21 +1,11 @@
-ghost use Rattle.std.specs.Prelude.{IsTrue};
-ghost use Rattle.bit_events.specs.EventView.{shown};
-ghost use Rattle.bit_tree.specs.Nesting.{MayStand};
-
 use crate::marked_builder::MarkedBuilder;
 use crate::tests::{agrees, definition, shown};
 use crate::tree_builder::TreeBuilder;
-use crate::{Block, Event, Info, MarkedBlocks};
+use crate::{Block, Info, MarkedBlocks};
 use bit_abbrev::Abbrev;
+use bit_events::Gatherer;
 use std::alloc::{AllocError, Global};
 use std::process::Abort;
-
-/// Whether an event opens a block.
-fn opens(event: &Event<'_>) -> bool
-    ensures { IsTrue result → MayStand 0 (shown event.now) }
-{
-    matches!(event, Event::Enter { .. })
-}
 
 /// An event of a table; what it lends of a definition is made in the test.
 enum Row {
@@ -41,81 +31,56 @@ enum Row {
     },
 }
 
-/// The event of a row.
-fn event_of<'a>(row: &Row, abbrev: &'a Abbrev) -> Event<'a> {
+/// Gives the event of a row to what gathers events.
+fn give<G: Gatherer<Values = Vec<u64>>>(
+    alloc: Global,
+    gatherer: &mut G,
+    row: &Row,
+    define: &Abbrev,
+) -> Result<(), AllocError> {
     match *row {
         Row::Enter {
             id,
             width,
             first,
             body,
-        } => Event::Enter {
-            id,
-            width,
-            first,
-            body,
-        },
-        Row::Define { first, after } => Event::Define {
-            abbrev,
-            first,
-            after,
-        },
+        } => gatherer.enter(id, width, first, body),
+        Row::Define { first, after } => gatherer.define(define, first, after),
         Row::Record {
             abbrev,
             code,
             values,
             first,
             after,
-        } => Event::Record {
-            abbrev,
-            code,
-            values,
-            first,
-            after,
-        },
-        Row::Leave { after } => Event::Leave { after },
+        } => {
+            let values = Vec::from_slice(alloc, values)?;
+            gatherer.record(abbrev, code, &values, first, after)
+        }
+        Row::Leave { after } => gatherer.leave(after),
     }
 }
 
-/// The marked blocks of these events, if each may stand where it does, and no block is left open.
-fn marked_of(
-    alloc: Global,
-    rows: &[Row],
-    define: &Abbrev,
-) -> Result<Option<MarkedBlocks>, AllocError> {
+/// The marked blocks of these events.
+fn marked_of(alloc: Global, rows: &[Row], define: &Abbrev) -> Result<MarkedBlocks, AllocError> {
     let mut builder = MarkedBuilder::new(alloc);
     for row in rows {
-        let event = event_of(row, define);
-        if builder.is_whole() && !opens(&event) {
-            return Ok(None);
-        }
-        builder.add(alloc, event)?;
+        give(alloc, &mut builder, row, define)?;
     }
-    if !builder.is_whole() {
-        return Ok(None);
-    }
-    Ok(Some(builder.finish()))
+    Ok(builder.finish())
 }
 
 /// The same blocks without marks.
-fn blocks_told(
+fn blocks_of_events(
     alloc: Global,
     info: Info,
     rows: &[Row],
     define: &Abbrev,
-) -> Result<Option<Vec<Block>>, AllocError> {
+) -> Result<Vec<Block>, AllocError> {
     let mut builder = TreeBuilder::new(alloc, info);
     for row in rows {
-        let event = event_of(row, define);
-        if builder.is_whole() && !opens(&event) {
-            return Ok(None);
-        }
-        builder.add(alloc, event)?;
+        give(alloc, &mut builder, row, define)?;
     }
-    if !builder.is_whole() {
-        return Ok(None);
-    }
-    Ok(Some(builder.finish()))
+    Ok(builder.finish())
 }
 
 /// The events of two blocks, of which the first has a definition and the second a block.
@@ -162,13 +127,13 @@ static MARKED: [Row; 9] = [
 ];
 
 /// What they build.
-static MARKED_TEXT: &str = "Some(MarkedBlocks([\
+static MARKED_TEXT: &str = "MarkedBlocks([\
     MarkedBlock { id: 0, width: 2, first: 32, body: 96, after: 160, items: MarkedItems([\
     Record(MarkedRecord { abbrev: 3, code: 1, values: Values([8]), first: 96, after: 116 }), \
     Define(MarkedDefine { abbrev: Abbrev { ops: [Literal(1), Fixed(7)] }, first: 116, after: 141 })]) }, \
     MarkedBlock { id: 8, width: 3, first: 160, body: 224, after: 352, items: MarkedItems([\
     Block(MarkedBlock { id: 9, width: 4, first: 224, body: 288, after: 320, items: MarkedItems([]) }), \
-    Record(MarkedRecord { abbrev: 4, code: 1, values: Values([100]), first: 320, after: 330 })]) }]))";
+    Record(MarkedRecord { abbrev: 4, code: 1, values: Values([100]), first: 320, after: 330 })]) }])";
 
 /// What these events build, as text.
 fn told_of_marked(rt: &impl Abort, alloc: Global, rows: &[Row]) -> Result<String, AllocError> {
@@ -248,8 +213,7 @@ fn told_of_blocks(
     rows: &[Row],
 ) -> Result<String, AllocError> {
     let define = definition(rt, alloc);
-    let told = blocks_told(alloc, info, rows, &define).expect(rt, "memory");
-    let blocks = told.expect(rt, "events that build blocks");
+    let blocks = blocks_of_events(alloc, info, rows, &define).expect(rt, "memory");
     shown(alloc, &blocks)
 }
 

@@ -1,16 +1,15 @@
-ghost use Rattle.std.specs.Prelude.{◌≡◌, ◌↔◌, ◌<◌, IfOk, OnOk, IsTrue, vec_len, List, [], ◌∷◌};
+ghost use Rattle.std.specs.Prelude.{◌≡◌, ◌<◌, OnOk, vec_len, List, []};
 ghost use Rattle.bit_grammar.specs.Machine as machine;
 ghost use Rattle.bit_grammar.specs.Machine.{flat};
 ghost use Rattle.bit_grammar.specs.Marks.{Marks};
-ghost use Rattle.bit_events.specs.EventView.{shown};
-ghost use Rattle.bit_tree.specs.MarkedFrames.{flat_item, flat_frames, built_from};
-ghost use Rattle.bit_tree.specs.Nesting.{MayStand, depth_after};
+ghost use Rattle.bit_tree.specs.MarkedFrames.{flat_item, flat_frames, IsBuiltFrom};
 
 use crate::marked::{
     MarkedBlock, MarkedBlocks, MarkedDefine, MarkedItem, MarkedItems, MarkedRecord,
 };
 use crate::tree::Values;
-use bit_events::Event;
+use bit_abbrev::Abbrev;
+use bit_events::Gatherer;
 use std::alloc::{AllocError, Global};
 
 /// A marked block that is open: its head, and the items that were read.
@@ -25,8 +24,7 @@ struct MarkedFrame {
 
 /// Adds an item to the innermost open block.
 fn add_marked(frames: &mut Vec<MarkedFrame>, item: MarkedItem) -> Result<(), AllocError>
-    requires { 0 < vec_len frames.old }
-    ensures items { OnOk result ((following : List machine.Event) → flat_frames frames.new.items following ≡ flat_frames frames.old.items (flat_item item following)) }
+    ensures items { OnOk result (0 < vec_len frames.old → (following : List machine.Event) → flat_frames frames.new.items following ≡ flat_frames frames.old.items (flat_item item following)) }
     ensures len { OnOk result (vec_len frames.new ≡ vec_len frames.old) }
 {
     if let Some(frame) = frames.last_mut() {
@@ -38,6 +36,7 @@ fn add_marked(frames: &mut Vec<MarkedFrame>, item: MarkedItem) -> Result<(), All
 /// What was built of the events so far: whole blocks at the top, and the blocks that are open, the outermost first.
 #[derive(Drop)]
 pub(crate) struct MarkedBuilder {
+    alloc: Global,
     blocks: Vec<MarkedBlock>,
     frames: Vec<MarkedFrame>,
 }
@@ -45,100 +44,18 @@ pub(crate) struct MarkedBuilder {
 impl MarkedBuilder {
     /// Nothing is built.
     pub(crate) fn new(alloc: Global) -> MarkedBuilder
-        ensures events { (following : List machine.Event) → built_from result following ≡ following }
-        ensures depth { vec_len result.frames ≡ 0 }
+        ensures { IsBuiltFrom [] result }
     {
         MarkedBuilder {
+            alloc,
             blocks: Vec::new(alloc),
             frames: Vec::new(alloc),
         }
     }
 
-    /// Whether no block is open.
-    pub(crate) fn is_whole(&self) -> bool
-        ensures { IsTrue result ↔ (vec_len self.now.frames ≡ 0) }
-    {
-        self.frames.is_empty()
-    }
-
-    /// Takes one more event.
-    pub(crate) fn add(&mut self, alloc: Global, event: Event<'_>) -> Result<(), AllocError>
-        requires { MayStand (vec_len self.old.frames) (shown event) }
-        ensures events { OnOk result ((following : List machine.Event) → built_from self.new following ≡ built_from self.old (shown event.entry ∷ following)) }
-        ensures depth { OnOk result (vec_len self.new.frames ≡ depth_after (vec_len self.old.frames) (shown event.entry)) }
-    {
-        match event {
-            Event::Enter {
-                id,
-                width,
-                first,
-                body,
-            } => {
-                self.frames.push(MarkedFrame {
-                    id,
-                    width,
-                    first,
-                    body,
-                    items: Vec::new(alloc),
-                })?;
-            }
-            Event::Define {
-                abbrev,
-                first,
-                after,
-            } => {
-                let abbrev = abbrev.copy(alloc)?;
-                let define = MarkedDefine {
-                    abbrev,
-                    first,
-                    after,
-                };
-                add_marked(&mut self.frames, MarkedItem::Define(define))?;
-            }
-            Event::Record {
-                abbrev,
-                code,
-                values,
-                first,
-                after,
-            } => {
-                let values = Values(Vec::from_slice(alloc, values)?);
-                let record = MarkedRecord {
-                    abbrev,
-                    code,
-                    values,
-                    first,
-                    after,
-                };
-                add_marked(&mut self.frames, MarkedItem::Record(record))?;
-            }
-            Event::Leave { after } => {
-                if let Some(frame) = self.frames.pop() {
-                    let mut items = frame.items;
-                    items.shrink_to_fit();
-                    let block = MarkedBlock {
-                        id: frame.id,
-                        width: frame.width,
-                        first: frame.first,
-                        body: frame.body,
-                        after,
-                        items: MarkedItems(items),
-                    };
-                    if self.frames.is_empty() {
-                        self.blocks.push(block)?;
-                    } else {
-                        add_marked(&mut self.frames, MarkedItem::Block(block))?;
-                    }
-                }
-            }
-        }
-        Ok(())
-    }
-
-    /// The blocks, where none is open.
+    /// The blocks.
     pub(crate) fn finish(self) -> MarkedBlocks
-        requires { vec_len self.frames ≡ 0 }
-        ensures { (following : List machine.Event) → flat result following ≡ built_from self following }
+        ensures { (m : Marks) → IsBuiltFrom (flat m []) self → result ≡ m }
     {
         let mut blocks = self.blocks;
         blocks.shrink_to_fit();
@@ -146,7 +63,75 @@ impl MarkedBuilder {
     }
 }
 
-/// Events are those of one marked tree at most.
-pub(crate) fn one_tree_of_events()
-    ensures { (m n : Marks) → flat m [] ≡ flat n [] → m ≡ n }
-{}
+impl Gatherer for MarkedBuilder {
+    ghost use Rattle.bit_tree.specs.MarkedFrames.{IsBuiltFrom};
+
+    type Values = Vec<u64>;
+
+    ghost gathered = { λ first events last. IsBuiltFrom events last };
+
+    fn values(&self) -> Vec<u64> {
+        Vec::new(self.alloc)
+    }
+
+    fn enter(&mut self, id: u32, width: u8, first: u64, body: u64) -> Result<(), AllocError> {
+        self.frames.push(MarkedFrame {
+            id,
+            width,
+            first,
+            body,
+            items: Vec::new(self.alloc),
+        })?;
+        Ok(())
+    }
+
+    fn define(&mut self, abbrev: &Abbrev, first: u64, after: u64) -> Result<(), AllocError> {
+        let abbrev = abbrev.copy(self.alloc)?;
+        let define = MarkedDefine {
+            abbrev,
+            first,
+            after,
+        };
+        add_marked(&mut self.frames, MarkedItem::Define(define))
+    }
+
+    fn record(
+        &mut self,
+        id: u32,
+        code: u64,
+        values: &Vec<u64>,
+        first: u64,
+        after: u64,
+    ) -> Result<(), AllocError> {
+        let values = Values(Vec::from_slice(self.alloc, values)?);
+        let record = MarkedRecord {
+            abbrev: id,
+            code,
+            values,
+            first,
+            after,
+        };
+        add_marked(&mut self.frames, MarkedItem::Record(record))
+    }
+
+    fn leave(&mut self, after: u64) -> Result<(), AllocError> {
+        let Some(frame) = self.frames.pop() else {
+            return Ok(());
+        };
+        let mut items = frame.items;
+        items.shrink_to_fit();
+        let block = MarkedBlock {
+            id: frame.id,
+            width: frame.width,
+            first: frame.first,
+            body: frame.body,
+            after,
+            items: MarkedItems(items),
+        };
+        if self.frames.is_empty() {
+            self.blocks.push(block)?;
+            return Ok(());
+        }
+        add_marked(&mut self.frames, MarkedItem::Block(block))
+    }
+}

@@ -28,7 +28,6 @@ use Rattle.bitstool.specs.declared.outcome.Outcome.{Outcome}
 use Rattle.bitstool.specs.declared.outcome.Outcome.TheVariants.{Done, Different, Refused, RefusedOf, TooLong, Usage, Read, Write, Memory}
 use Rattle.bitstool.specs.declared.task.Task.{Task}
 use Rattle.bitstool.specs.declared.task.Task.TheVariants.{Check, Normal, Same, Analyse, Show}
-use Rattle.bitstool.specs.Checking.{Judges}
 use Rattle.bitstool.specs.Performing.{Finds, IsOrWrite, Puts, Tells, ended, outcome_of}
 use Rattle.bitstool.specs.Runs.{Told, Accepts, Answers, Refuses, GainsFront, StopsShort, LacksMemory, Does}
 use Rattle.bitstool.proofs.Known.{gained, gained_front, gains_front, gains_text, gains_part, gains_kept, front_kept, if_told}
@@ -75,6 +74,9 @@ memory_then (Analyse limits) input old new last h keeps = stopped_then (Analyse 
 memory_then (Show limits) input old new last h keeps = stopped_then (Show limits) input old new last h keeps
 
 -- ---- checking
+
+abbrev Judges : Limits → Incoming → Result (Unit {0}) Fault → Incoming → Type 0
+Judges limits = ReadsWhole (λ bytes done. Accepts limits bytes) limits
 
 pub accepted_here : (limits : Limits) (i now : Incoming) → Judges limits i (Ok tt) now → Finds (Check limits) i.to_come Done
 accepted_here limits i now h = (bits_of_bytes (codes "accepted\n"), (refl, if_told i.to_come (Accepts limits) (λ tells. (h.1 tells).0)))

@@ -2,5 +2,4 @@ pub mod Found
 pub mod Meaning
 pub mod Known
 pub mod Doing
-pub mod Accepting
 pub mod Comparing

@@ -1,5 +1,4 @@
 pub mod Words
 pub mod Outcome
 pub mod Runs
-pub mod Checking
 pub mod Performing

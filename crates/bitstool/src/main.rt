@@ -1,7 +1,6 @@
 //! The program: checks, normalises, compares, analyses and lists inputs in the LLVM bitstream container, from the command line.
 #![tactic(auto)]
 
-mod check;
 mod outcome;
 mod parse;
 mod perform;

@@ -7,9 +7,9 @@ ghost use Rattle.bitstool.specs.declared.task.Task.{Task as TaskValue};
 ghost use Rattle.bitstool.specs.Performing.{ComparesWith, Finds, IsOrWrite, Puts, TakesFirst, Tells, ended, outcome_in, outcome_of};
 ghost use Rattle.bitstool.specs.Runs.{Does};
 
-use crate::check::check;
 use crate::outcome::Outcome;
 use crate::task::Task;
+use bit_events::check;
 use bit_fields::{BufSource, Fault, Limits, Sink, SliceSource, Source, WriteSink};
 use bit_norm::{Which, normalise, same};
 use bit_scan::{analyse, write_show};

@@ -1,21 +1,21 @@
-use Rattle.std.proofs.Common.{ap, ap₂, ◌∙◌, ℕ, ◌-◌}
-use Rattle.bit_grammar.specs.Input.{Head}
-use Rattle.bit_grammar.specs.Tally.{stream_begin}
-use Rattle.bit_fields.specs.Opening.{magic_number}
-use Rattle.bit_scan.specs.Rows.{block_tallies}
-use Rattle.bit_scan.proofs.Analysed.{analysed}
+use Rattle.std.proofs.Common.{ℕ, ◌-◌, ◌∙◌, refl, ap, subst, sym}
+use Rattle.bit_grammar.specs.Tally.{Tally}
+use Rattle.bit_fields.specs.Devices.{known_bytes}
+use Rattle.bit_fields.specs.Opening.{head_told, magic_number}
 use Rattle.bit_scan.specs.Analysing.{HasTally}
-use Rattle.bit_tree.proofs.WholeInputs.{not_begun, not_read}
+use Rattle.bit_scan.specs.Rows.{block_tallies}
+use Rattle.bit_scan.proofs.Analysed.{has_tally}
 use Rattle.bit_scan.proofs.analysing.analyse.Goals as goal
 
-pub returns-in-Err : goal.returns-in-Err
-returns-in-Err g c = not_begun (HasTally c.args.limits) c.args.limits (g.S.Source.incoming c.args.source) (g.S.Source.incoming c.in-Err.source) c.in-Err.fault c.in-Err.ensures.declined
-
-pub returns-in-Ok-count_all : goal.returns-in-Ok-count_all
-returns-in-Ok-count_all g c =
-    let head_is = c.head-head.ensures in
-    let bits = c.saturating_sub-bits.ensures ∙ ap₂ (λ (p q : ℕ). p - q) c.position.ensures (c.begin_of.ensures ∙ ap (λ (h : Head). stream_begin h.wrapper) head_is) in
-    rw (c.of.ensures) (analysed c.args.limits (g.S.Source.incoming c.args.source) (g.S.Source.incoming c.into_source.result) c.in-Ok.events c.count_all.new.events (record { magic = magic_number c.head-head.result.now.magic; bits = c.saturating_sub-bits.result; rows = block_tallies c.in-Ok-count_all.rows.entries }) c.in-Ok.ensures.begun (ap (λ (h : Head). h.magic) head_is) bits c.into_source.ensures c.in-Ok-count_all.ensures)
-
-pub returns-in-Err-count_all : goal.returns-in-Err-count_all
-returns-in-Err-count_all g c = not_read (HasTally c.args.limits) c.args.limits (g.S.Source.incoming c.args.source) (g.S.Source.incoming c.into_source-in-Err-count_all.result) c.in-Ok.events c.count_all.new.events c.in-Err-count_all.fault c.in-Ok.ensures.begun c.into_source-in-Err-count_all.ensures c.in-Err-count_all.ensures
+pub returns-in-Ok : goal.returns-in-Ok
+returns-in-Ok g c =
+    let all = rw c.in-Ok.is at c.fold-answer.ensures in
+    let bytes = known_bytes (g.S.Source.incoming c.args.source).to_come in
+    let bits = c.saturating_sub-bits.ensures ∙ ap (λ (n : ℕ). c.in-Ok.folded.after - n) c.begin_of.ensures in
+    let tally : Tally = record { magic = magic_number c.in-Ok.folded.head.magic; bits = c.saturating_sub-bits.result; rows = block_tallies c.into_rows-rows.result.entries } in (
+      all.0,
+      λ tells. (
+        subst (HasTally c.args.limits bytes) (sym c.of.ensures) (has_tally c.args.limits bytes c.new.result c.in-Ok.folded.gatherer (head_told c.in-Ok.folded.head) tally c.in-Ok.folded.after (all.1 tells).0 refl bits c.into_rows-rows.ensures),
+        (all.1 tells).1,
+      ),
+    )

@@ -1,8 +1,7 @@
-use Rattle.std.proofs.Common.{◌+◌, drop, arith}
+use Rattle.std.proofs.Common.{◌+◌, drop}
 use Rattle.std.proofs.lemmas.Result.{err_from_is_err_and}
 use Rattle.bit_grammar.specs.Texts.{lines_of}
 use Rattle.bit_tree.specs.TreeView.{forest_of_blocks}
-use Rattle.bit_scan.proofs.Inner.{top_lower}
 use Rattle.bit_scan.proofs.Lists.{block_lines, next_block, last_block}
 use Rattle.bit_scan.proofs.Prints.{goes_starts, goes_on, goes_wrong}
 use Rattle.bit_scan.proofs.listing.write_blocks.Goals as goal

@@ -1,13 +1,9 @@
+use Rattle.bit_fields.specs.Devices.{known_bytes}
 use Rattle.bit_fields.specs.Opening.{head_told}
-use Rattle.bit_tree.specs.Reading.{SpellsFit}
-use Rattle.bit_tree.proofs.WholeInputs.{not_begun, not_read, marked_read}
+use Rattle.bit_tree.proofs.Gathered.{marked_fit}
 use Rattle.bit_tree.proofs.reading.read.Goals as goal
 
-pub returns-in-Err : goal.returns-in-Err
-returns-in-Err g c = not_begun (SpellsFit c.args.limits) c.args.limits (g.S.Source.incoming c.args.source) (g.S.Source.incoming c.in-Err.source) c.in-Err.fault c.in-Err.ensures.declined
-
-pub returns-in-Ok-marked_blocks : goal.returns-in-Ok-marked_blocks
-returns-in-Ok-marked_blocks g c = marked_read c.args.limits (g.S.Source.incoming c.args.source) (g.S.Source.incoming c.into_source.result) c.in-Ok.events c.marked_blocks.new.events (head_told c.head-head.result.now) c.in-Ok-marked_blocks.blocks c.position-after.result c.in-Ok.ensures.begun c.head-head.ensures c.position-after.ensures c.into_source.ensures c.in-Ok-marked_blocks.ensures
-
-pub returns-in-Err-marked_blocks : goal.returns-in-Err-marked_blocks
-returns-in-Err-marked_blocks g c = not_read (SpellsFit c.args.limits) c.args.limits (g.S.Source.incoming c.args.source) (g.S.Source.incoming c.into_source-in-Err-marked_blocks.result) c.in-Ok.events c.marked_blocks.new.events c.in-Err-marked_blocks.fault c.in-Ok.ensures.begun c.into_source-in-Err-marked_blocks.ensures c.in-Err-marked_blocks.ensures
+pub returns-in-Ok : goal.returns-in-Ok
+returns-in-Ok g c =
+    let all = rw c.in-Ok.is at c.fold-answer.ensures in
+    (all.0, λ tells. (marked_fit c.args.limits (known_bytes (g.S.Source.incoming c.args.source).to_come) c.new.result c.in-Ok.folded.gatherer (head_told c.in-Ok.folded.head) c.finish.result c.in-Ok.folded.after (all.1 tells).0 c.finish.ensures, (all.1 tells).1))

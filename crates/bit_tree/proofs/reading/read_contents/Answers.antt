@@ -1,15 +1,11 @@
-use Rattle.std.proofs.Common.{ap}
-use Rattle.bit_grammar.specs.Input.{Head}
+use Rattle.std.proofs.Common.{refl}
+use Rattle.bit_fields.specs.Devices.{known_bytes}
+use Rattle.bit_fields.specs.Opening.{head_told}
 use Rattle.bit_tree.specs.TreeView.{tree_with}
-use Rattle.bit_tree.specs.Reading.{HasFit}
-use Rattle.bit_tree.proofs.WholeInputs.{not_begun, not_read, tree_read}
+use Rattle.bit_tree.proofs.Gathered.{tree_fit}
 use Rattle.bit_tree.proofs.reading.read_contents.Goals as goal
 
-pub returns-in-Err : goal.returns-in-Err
-returns-in-Err g c = not_begun (HasFit c.args.info c.args.limits) c.args.limits (g.S.Source.incoming c.args.source) (g.S.Source.incoming c.in-Err.source) c.in-Err.fault c.in-Err.ensures.declined
-
-pub returns-in-Ok-tree_blocks : goal.returns-in-Ok-tree_blocks
-returns-in-Ok-tree_blocks g c = tree_read c.args.info c.args.limits (g.S.Source.incoming c.args.source) (g.S.Source.incoming c.into_source.result) c.in-Ok.events c.tree_blocks.new.events (tree_with c.head.result.now.magic c.in-Ok-tree_blocks.blocks.items) c.in-Ok.ensures.begun (ap (λ (h : Head). h.magic) c.head.ensures) c.into_source.ensures c.in-Ok-tree_blocks.ensures
-
-pub returns-in-Err-tree_blocks : goal.returns-in-Err-tree_blocks
-returns-in-Err-tree_blocks g c = not_read (HasFit c.args.info c.args.limits) c.args.limits (g.S.Source.incoming c.args.source) (g.S.Source.incoming c.into_source-in-Err-tree_blocks.result) c.in-Ok.events c.tree_blocks.new.events c.in-Err-tree_blocks.fault c.in-Ok.ensures.begun c.into_source-in-Err-tree_blocks.ensures c.in-Err-tree_blocks.ensures
+pub returns-in-Ok : goal.returns-in-Ok
+returns-in-Ok g c =
+    let all = rw c.in-Ok.is at c.fold-answer.ensures in
+    (all.0, λ tells. (tree_fit c.args.info c.args.limits (known_bytes (g.S.Source.incoming c.args.source).to_come) c.new.result c.in-Ok.folded.gatherer (head_told c.in-Ok.folded.head) (tree_with c.in-Ok.folded.head.magic c.finish-blocks.result.items) c.in-Ok.folded.after (all.1 tells).0 c.new.ensures.setting refl (λ m built. c.finish-blocks.ensures c.args.info m built), (all.1 tells).1))
