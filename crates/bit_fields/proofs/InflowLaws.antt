@@ -1,14 +1,14 @@
 -- What taking bytes in leaves.
 use Rattle.std.proofs.Common.{◌≡◌, ℕ, zero, suc, ◌+◌, ◌*◌, ◌-◌, ◌^◌, ◌<◌, ◌≤◌, max, Bool, true, false, ltb, List, [], ◌++◌, length, take, Option, Some, None, Err, refl, sym, ap, ◌∙◌, subst, arith, append_assoc, inl, inr}
-use Rattle.std.specs.Prelude.{IsSome, Result, Ok}
+use Rattle.std.specs.Prelude.{IsSome}
 use Rattle.std.specs.Io.KnownBytes as bytes
 use Rattle.std.proofs.lemmas.Bool.{cases_lt, false≢true, le-ltb, lt-ltb, and_right, and_left, and_from}
 use Rattle.std.proofs.lemmas.List.{append-nil, length-append, length-take-le}
 use Rattle.std.proofs.Math.Seq.{take-append-add}
 use Rattle.bit_grammar.specs.Bits.{bits_of, bits_of_bytes}
 use Rattle.bit_grammar.proofs.Numbers.{length-bits_of}
-use Rattle.bit_fields.specs.Devices.{Incoming, Gave, GaveNone, GaveWord, Looked, Spends, known_bytes}
-use Rattle.bit_fields.specs.Inflow.{Flow, IsKnown, stop_of, left_of, total_of, is_cut, budget_of, IsFlow, SamePlace, Keeps, NoMore, Lost, RunsOut, Misses, Brings, Fills}
+use Rattle.bit_fields.specs.Devices.{Incoming, Gave, GaveNone, GaveWord, Spends, known_bytes}
+use Rattle.bit_fields.specs.Inflow.{Flow, IsKnown, stop_of, left_of, total_of, is_cut, budget_of, IsFlow, SamePlace, Keeps, NoMore, Lost, RunsOut, Misses, Fills}
 use Rattle.bit_fields.specs.declared.inflow.Missing.{Missing}
 use Rattle.bit_fields.specs.declared.inflow.Missing.TheVariants.{End, Limit, Read}
 use Rattle.bit_fields.proofs.BitLaws.{bits_of_bytes-append, length-bits_of_bytes}
@@ -279,39 +279,3 @@ pub not_filled : (n : ℕ) (a b c : Flow) (missing : Missing) → Keeps a b → 
 not_filled n a b c End kept few none = runs_out n a b c false kept none few
 not_filled n a b c Limit kept few none = runs_out n a b c true kept none few
 not_filled n a b c Read kept few lost = lost_after a b c kept lost
-
--- ---- after a look at what is at hand
-
-looked_bytes : (f : Flow) (i : Incoming) → Looked f.incoming i → IsKnown f → known_bytes i.to_come ≡ known_bytes f.incoming.to_come
-looked_bytes f i looked k = sym (kept f.incoming.to_come i.to_come looked.bytes k).1
-
-pub looked_kept : (f : Flow) (i : Incoming) → Looked f.incoming i → Keeps f (record f { incoming = i })
-looked_kept f i looked = record {
-  end = refl;
-  limit = refl;
-  place = record { loaded = omega arith; exact = refl };
-  spends = record {
-    pulls = omega (arith, looked.pulls);
-    failures = omega (arith, looked.failures);
-    tells = λ k. (kept f.incoming.to_come i.to_come looked.bytes k).0;
-    bytes = λ k. omega (arith, ap length (looked_bytes f i looked k));
-  };
-  left = λ k. ap (λ (bytes : List ℕ). f.window ++ bits_of_bytes (take (stop_of f - f.loaded) bytes)) (looked_bytes f i looked k);
-  total = λ k. omega (arith, ap length (looked_bytes f i looked k));
-}
-
-none_after : (a b c : Flow) (by_limit : Bool) → Keeps a b → b.window ≡ a.window → NoMore b c by_limit → NoMore a c by_limit
-none_after a b c by_limit kept same none = record {
-  keeps = Keeps-trans a b c kept none.keeps;
-  window = none.window ∙ same;
-  left = λ k. sym (kept.left k) ∙ none.left (kept.spends.tells k) ∙ same;
-  cut = λ k. same_cut a b kept k ∙ none.cut (kept.spends.tells k);
-  left_now = none.left_now;
-  cut_now = none.cut_now;
-}
-
-pub brings_after : (a b c : Flow) (result : Result (Unit {0}) Missing) → Keeps a b → b.window ≡ a.window → Brings b c result → Brings a c result
-brings_after a b c (Ok _) kept same (more, wider) = (Keeps-trans a b c kept more, omega (arith, ap length same, wider))
-brings_after a b c (Err End) kept same none = none_after a b c false kept same none
-brings_after a b c (Err Limit) kept same none = none_after a b c true kept same none
-brings_after a b c (Err Read) kept same lost = lost_after a b c kept lost

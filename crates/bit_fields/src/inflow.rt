@@ -158,8 +158,9 @@ impl<S: Source> Inflow<S> {
         self.pull()
     }
 
-    /// Makes sure that n bits are in the window. What is at hand is taken in here; the rest is kept out of the callers.
-    #[inline(always)]
+    /// Makes sure that n bits are in the window. It is kept out of the callers, so that these take few instructions where
+    /// the bits are there, and answers what fits a register.
+    #[inline(never)]
     pub fn fill(&mut self, n: u32) -> Result<(), Missing>
         requires { n ≤ 57 }
         ensures { Fills n self.old self.new result }
