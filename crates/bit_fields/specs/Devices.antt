@@ -3,6 +3,8 @@ use Rattle.std.specs.Prelude.{◌≡◌, ℕ, ◌+◌, ◌*◌, ◌-◌, ◌^◌
 use Rattle.std.specs.Io.KnownBytes.{Consumes, Appends, Keeps, IsAtEnd}
 use Rattle.bit_grammar.specs.Bits.{bits_of, bits_of_bytes}
 use Rattle.bit_fields.specs.declared.source.SourceFailed.{SourceFailed}
+use Rattle.bit_fields.specs.declared.source.AtHand.{AtHand}
+use Rattle.bit_fields.specs.declared.source.AtHand.TheVariants.{Word, Few, Failed}
 use Rattle.bit_fields.specs.declared.sink.SinkFailed.{SinkFailed}
 
 -- the bytes, and no bytes where they are not known
@@ -58,6 +60,19 @@ pub record GaveWord (old new : Incoming) (room word count : ℕ) : Type 0 where
 abbrev pub PullsWord : ℕ → Incoming → Incoming → Result (ℕ × ℕ) SourceFailed → Type 0
 PullsWord room old new (Ok taken) = GaveWord old new room taken.0 taken.1
 PullsWord room old new (Err e) = GaveNone old new
+
+-- a source was looked at, and nothing was taken
+pub record Looked (old new : Incoming) : Type 0 where
+  pub bytes : Keeps old.to_come new.to_come
+  pub pulls : new.pulls ≡ old.pulls
+  pub failures : new.failures ≡ old.failures
+  pub worn : IsWorn old → new ≡ old
+
+-- what taking so many bytes that are at hand does
+abbrev pub PullsAtHand : ℕ → Incoming → Incoming → AtHand → Type 0
+PullsAtHand room old new (Word word) = GaveWord old new room word room
+PullsAtHand room old new Few = Looked old new
+PullsAtHand room old new Failed = GaveNone old new
 
 -- What may be asked of a source, as a number of pulls and of bytes, went from one number to another: each pull and each
 -- byte was paid for, no failure was forgotten, and the source tells its bytes as before.

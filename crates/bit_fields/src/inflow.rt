@@ -1,9 +1,9 @@
-ghost use Rattle.std.specs.Prelude.{ℕ, ◌≡◌, ◌+◌, ◌*◌, ◌-◌, ◌<◌, ◌≤◌, ◌^◌, length, false, take, drop, [], OnOk};
+ghost use Rattle.std.specs.Prelude.{ℕ, ◌≡◌, ◌+◌, ◌*◌, ◌-◌, ◌<◌, ◌≤◌, ◌^◌, length, true, false, take, drop, [], OnOk};
 ghost use Rattle.bit_grammar.specs.Bits.{number};
 ghost use Rattle.bit_fields.specs.Short.{EndsAt, gathered};
 ghost use Rattle.bit_fields.specs.Inflow.{Brings, Misses, Fills, Steps, SkipsSome, Drains, DrainsSome, stop_of, shortened, to_drain};
 
-use crate::source::{Source, SourceFailed};
+use crate::source::{AtHand, Source, SourceFailed};
 use crate::window::Window;
 use std::marker::Model;
 
@@ -100,9 +100,10 @@ impl<S: Source> Inflow<S> {
         }
     }
 
-    /// Takes bytes in, as many as there is room for.
-    #[inline(always)]
-    fn more(&mut self) -> Result<(), Missing>
+    /// Takes bytes in by a pull, as many as there is room for.
+    #[cold]
+    #[inline(never)]
+    fn pull(&mut self) -> Result<(), Missing>
         requires { length self.old.window ≤ 56 }
         ensures { Brings self.old self.new result }
     {
@@ -128,9 +129,37 @@ impl<S: Source> Inflow<S> {
         }
     }
 
+    /// Whether eight bytes at least are left of the stream, as far as is known.
+    #[inline(always)]
+    fn has_eight(&self) -> bool
+        ensures { result ≡ true → (self.now.ended ≡ false) × (self.now.loaded + 8 ≤ stop_of self.now) }
+    {
+        !self.ended && self.loaded + 8 <= self.end.min(self.limit)
+    }
+
+    /// Takes bytes in, as many as there is room for: those at hand, or else by a pull.
+    #[inline(always)]
+    fn more(&mut self) -> Result<(), Missing>
+        requires { length self.old.window ≤ 56 }
+        ensures { Brings self.old self.new result }
+    {
+        if self.has_eight() {
+            let room = (64 - self.window.len()) / 8;
+            match self.source.at_hand(room as usize) {
+                AtHand::Word(word) => {
+                    self.window.push(word, 8 * room);
+                    self.loaded += u64::from(room);
+                    return Ok(());
+                }
+                AtHand::Few => {}
+                AtHand::Failed => return Err(Missing::Read),
+            }
+        }
+        self.pull()
+    }
+
     /// Makes sure that n bits are in the window. It is kept out of the callers, so that these take few instructions where
-    /// the bits are there.
-    #[cold]
+    /// the bits are there, and answers what fits a register.
     #[inline(never)]
     pub fn fill(&mut self, n: u32) -> Result<(), Missing>
         requires { n ≤ 57 }

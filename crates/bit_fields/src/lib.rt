@@ -27,7 +27,7 @@ pub use head::{Head, Wrapper};
 pub use limits::Limits;
 pub use reader::BitReader;
 pub use sink::{Sink, SinkFailed, VecSink, WriteSink};
-pub use source::{BufSource, ReadSource, SliceSource, Source, SourceFailed};
+pub use source::{AtHand, BufSource, ReadSource, SliceSource, Source, SourceFailed};
 pub use values::{ValueCount, ValueTaker};
 pub use writer::BitWriter;
 pub use writer_laws::{bytes_of_writing, write_nothing, write_then_stop, write_then_write};

@@ -273,21 +273,32 @@ impl<S: Source> BitReader<S> {
         self.live
     }
 
-    /// Marks the reader as failed, at the bit at which the call that failed began.
+    /// Marks the reader as failed, at the bit at which the call that failed began. It is kept out of the callers, and answers
+    /// nothing, so that no fault is laid out in them where none comes.
+    #[cold]
+    #[inline(never)]
+    fn halt(&mut self, start: u64)
+        requires { start ≤ self.old.position }
+        ensures { self.new ≡ stopped_at self.old start }
+    {
+        self.live = false;
+        self.position = start;
+        self.inflow.clear();
+    }
+
+    /// Marks the reader as failed, and hands the fault back.
+    #[inline(always)]
     fn stop(&mut self, fault: Fault, start: u64) -> Fault
         requires { start ≤ self.old.position }
         ensures fault { result ≡ fault }
         ensures stopped { self.new ≡ stopped_at self.old start }
     {
-        self.live = false;
-        self.position = start;
-        self.inflow.clear();
+        self.halt(start);
         fault
     }
 
     /// Fails where bits are missing of a field that began at a bit.
-    #[cold]
-    #[inline(never)]
+    #[inline(always)]
     fn miss(&mut self, missing: Missing, start: u64) -> Fault
         requires { start ≤ self.old.position }
         ensures fault { result ≡ fault_of missing start self.old.extent.limit }
@@ -298,6 +309,7 @@ impl<S: Source> BitReader<S> {
     }
 
     /// The fault of a field that begins at a bit, where bits of it are missing.
+    #[inline(always)]
     fn fault_of(&self, missing: Missing, field: u64) -> Fault
         ensures { result ≡ fault_of missing field self.now.extent.limit }
     {
@@ -407,7 +419,8 @@ impl<S: Source> BitReader<S> {
         }
     }
 
-    /// Takes a number in chunks of n bits, where it takes at most four of them and they are all in the window.
+    /// Takes a number in chunks of n bits, where it takes at most four of them and they are all in the window. Most take one,
+    /// which is looked at first.
     #[inline(always)]
     fn short_vbr(&mut self, n: u32) -> Option<u64>
         requires some { 2 ≤ n }
@@ -416,6 +429,35 @@ impl<S: Source> BitReader<S> {
         if n > MOST_SHORT {
             return None;
         }
+        match self.one_chunk(n) {
+            Some(value) => Some(value),
+            None => self.few_chunks(n),
+        }
+    }
+
+    /// Takes a number of one chunk of n bits, where it is in the window.
+    #[inline(always)]
+    fn one_chunk(&mut self, n: u32) -> Option<u64>
+        requires some { 2 ≤ n }
+        requires few { n ≤ 14 }
+        ensures { MatchOption result (self.new ≡ self.old) (λ value. Took (vbr n) self.old value self.new) }
+    {
+        if self.inflow.held() < n || self.inflow.peek(n) >= 1 << (n - 1) {
+            return None;
+        }
+        let chunk = self.inflow.take(n);
+        let after = self.position + u64::from(n);
+        self.position = after;
+        Some(chunk)
+    }
+
+    /// Takes a number in chunks of n bits, where it takes at most four of them and they are all in the window.
+    #[inline(always)]
+    fn few_chunks(&mut self, n: u32) -> Option<u64>
+        requires some { 2 ≤ n }
+        requires few { n ≤ 14 }
+        ensures { MatchOption result (self.new ≡ self.old) (λ value. Took (vbr n) self.old value self.new) }
+    {
         let bits = self.inflow.number_bits(n);
         if bits > self.inflow.held() {
             return None;
@@ -441,10 +483,8 @@ impl<S: Source> BitReader<S> {
         }
     }
 
-    /// Takes bytes in where the window shows that a chunk of a number is missing, which is then one of the first four. It is
-    /// kept out of the callers, so that these take few instructions where the number is in the window.
-    #[cold]
-    #[inline(never)]
+    /// Takes bytes in where the window shows that a chunk of a number is missing, which is then one of the first four.
+    #[inline(always)]
     fn fill_chunks(&mut self, n: u32) -> Result<(), Fault>
         requires some { 2 ≤ n }
         ensures filled { OnOk result (TookNothing self.old self.new) }

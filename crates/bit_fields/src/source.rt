@@ -9,11 +9,22 @@ use thiserror::Error;
 #[error("the source failed")]
 pub struct SourceFailed;
 
+/// What a source has at hand.
+#[derive(Clone, Copy, Debug, PartialEq, Eq)]
+pub enum AtHand {
+    /// The bytes that were asked for, as a word, the first one lowest and zeros behind the last.
+    Word(u64),
+    /// It is not known to have so many, and took none.
+    Few,
+    /// It failed while it looked.
+    Failed,
+}
+
 /// What gives bytes in order, and counts how often it was asked and how often it failed. A source is worn once a count
 /// stands at `u64::MAX`.
 pub trait Source {
     ghost use Rattle.std.specs.Prelude.{◌<◌, ◌≤◌};
-    ghost use Rattle.bit_fields.specs.Devices.{Incoming, Pulls, PullsWord};
+    ghost use Rattle.bit_fields.specs.Devices.{Incoming, Pulls, PullsWord, PullsAtHand};
 
     // The bytes still to come, where the source tells them, and the counts.
     ghost incoming: { Self → Incoming };
@@ -27,7 +38,6 @@ pub trait Source {
 
     /// Takes the next bytes, at most so many, from 1 to 8, as a word, the first one lowest and zeros behind the last, and
     /// answers how many they are; 0 says that no byte is left. It is one pull, and fails as `pull` does.
-    #[inline]
     fn pull_word(&mut self, room: usize) -> Result<(u64, usize), SourceFailed>
         requires some { 0 < room }
         requires few { room ≤ 8 }
@@ -35,7 +45,24 @@ pub trait Source {
     {
         let mut bytes = [0; 8];
         let count = self.pull(&mut bytes[..room])?;
+        if count == 0 {
+            return Ok((0, 0));
+        }
         Ok((word_of(bytes, count), count))
+    }
+
+    /// Takes the next bytes, so many, from 1 to 8, as a word, where the source has eight at hand. It is one pull then, and
+    /// one that failed where it fails. Else nothing is taken, and `pull_word` takes what there is.
+    ///
+    /// A caller that reads all tries this first: it is written into it, and is one load where the source has a buffer.
+    #[inline(always)]
+    fn at_hand(&mut self, room: usize) -> AtHand
+        requires some { 0 < room }
+        requires few { room ≤ 8 }
+        ensures { PullsAtHand room (incoming self.old) (incoming self.new) result }
+    {
+        let _room = room;
+        AtHand::Few
     }
 }
 
@@ -70,15 +97,15 @@ impl<'a> Source for SliceSource<'a> {
         self.rest.read(into).map_err(|_| SourceFailed)
     }
 
-    #[inline]
-    fn pull_word(&mut self, room: usize) -> Result<(u64, usize), SourceFailed> {
-        if self.pulls == u64::MAX {
-            return Err(SourceFailed);
+    #[inline(always)]
+    fn at_hand(&mut self, room: usize) -> AtHand {
+        let bytes = self.rest;
+        if self.pulls == u64::MAX || bytes.len() < 8 {
+            return AtHand::Few;
         }
         self.pulls += 1;
-        let (word, count) = front_of(self.rest, room);
-        self.rest = &self.rest[count..];
-        Ok((word, count))
+        self.rest = &bytes[room..];
+        AtHand::Word(front_of(bytes, room))
     }
 }
 
@@ -129,7 +156,7 @@ impl<R: Read> Source for ReadSource<R> {
     }
 }
 
-/// What a reader with a buffer gives. A word comes out of the buffer, and no byte is taken ahead. Any error of the reader
+/// What a reader with a buffer gives. What is at hand is what the buffer has, and no byte is taken ahead. Any error of the reader
 /// is a failure; no read is tried again.
 #[derive(Drop)]
 pub struct BufSource<R> {
@@ -162,27 +189,28 @@ impl<R: BufRead> Source for BufSource<R> {
         self.source.pull(into)
     }
 
-    #[inline]
-    fn pull_word(&mut self, room: usize) -> Result<(u64, usize), SourceFailed> {
+    #[inline(always)]
+    fn at_hand(&mut self, room: usize) -> AtHand {
         let source = &mut self.source;
         if source.pulls == u64::MAX || source.failures == u64::MAX {
-            return Err(SourceFailed);
+            return AtHand::Few;
         }
-        let (word, count) = match source.reader.fill_buf() {
-            Ok(bytes) => front_of(bytes, room),
+        let word = match source.reader.fill_buf() {
+            Ok(bytes) => {
+                if bytes.len() < 8 {
+                    return AtHand::Few;
+                }
+                front_of(bytes, room)
+            }
             Err(_) => {
                 source.pulls += 1;
                 source.failures += 1;
-                return Err(SourceFailed);
+                return AtHand::Failed;
             }
         };
-        if count == 0 {
-            // only a read says that no byte is left
-            return source.pull_word(room);
-        }
-        source.reader.consume(count);
+        source.reader.consume(room);
         source.pulls += 1;
-        Ok((word, count))
+        AtHand::Word(word)
     }
 }
 
