@@ -11,7 +11,7 @@ use std::test::Fail;
 
 /// A reader that gives at most so many bytes at a time, counts its reads and fails at one of them.
 #[derive(Drop)]
-struct Pieces<'a> {
+pub(crate) struct Pieces<'a> {
     rest: &'a [u8],
     most: usize,
     reads: u64,
@@ -37,7 +37,7 @@ impl<'a> Read for Pieces<'a> {
 }
 
 /// A source over such a reader; one that fails at no read where the number of the read is 0.
-fn in_pieces(bytes: &[u8], most: usize, fails_at: u64) -> ReadSource<Pieces<'_>> {
+pub(crate) fn in_pieces(bytes: &[u8], most: usize, fails_at: u64) -> ReadSource<Pieces<'_>> {
     ReadSource::new(Pieces {
         rest: bytes,
         most,
@@ -73,7 +73,7 @@ fn named(name: u8) -> &'static [u8] {
 }
 
 /// The bytes of a text of hexadecimal bytes and letters for what `named` gives.
-fn bytes_of(alloc: Global, text: &str) -> Result<Vec<u8>, AllocError> {
+pub(crate) fn bytes_of(alloc: Global, text: &str) -> Result<Vec<u8>, AllocError> {
     let mut bytes = Vec::new(alloc);
     for word in text.split_whitespace() {
         match word.as_bytes() {
@@ -86,7 +86,7 @@ fn bytes_of(alloc: Global, text: &str) -> Result<Vec<u8>, AllocError> {
 }
 
 /// Adds an event to a text; answers the bit behind what was read of it.
-fn show(event: &Event<'_>, text: &mut String) -> Result<u64, AllocError> {
+pub(crate) fn show(event: &Event<'_>, text: &mut String) -> Result<u64, AllocError> {
     match event {
         Event::Enter {
             id,
