@@ -10,7 +10,7 @@ use std::process::Abort;
 
 /// A reader that gives at most so many bytes at a time, counts its reads and fails at one of them.
 #[derive(Drop)]
-struct Pieces<'a> {
+pub(crate) struct Pieces<'a> {
     rest: &'a [u8],
     most: usize,
     reads: u64,
@@ -36,7 +36,7 @@ impl<'a> Read for Pieces<'a> {
 }
 
 /// A source over such a reader; one that fails at no read where the number of the read is 0.
-fn in_pieces(bytes: &[u8], most: usize, fails_at: u64) -> ReadSource<Pieces<'_>> {
+pub(crate) fn in_pieces(bytes: &[u8], most: usize, fails_at: u64) -> ReadSource<Pieces<'_>> {
     ReadSource::new(Pieces {
         rest: bytes,
         most,
@@ -72,7 +72,7 @@ fn named(name: u8) -> &'static [u8] {
 }
 
 /// The bytes of a text of hexadecimal bytes and letters for what `named` gives.
-fn bytes_of(alloc: Global, text: &str) -> Result<Vec<u8>, AllocError> {
+pub(crate) fn bytes_of(alloc: Global, text: &str) -> Result<Vec<u8>, AllocError> {
     let mut bytes = Vec::new(alloc);
     for word in text.split_whitespace() {
         match word.as_bytes() {
@@ -85,13 +85,13 @@ fn bytes_of(alloc: Global, text: &str) -> Result<Vec<u8>, AllocError> {
 }
 
 /// The text is the wanted one.
-fn agrees(rt: &impl Abort, told: Result<String, AllocError>, wanted: &str, row: &str) {
+pub(crate) fn agrees(rt: &impl Abort, told: Result<String, AllocError>, wanted: &str, row: &str) {
     let told = told.expect(rt, "memory");
     assert!(rt; told.as_str() == wanted, "{row}: {told}, not {wanted}");
 }
 
 /// A fault as text; where memory was refused there is none.
-fn told_of_fault(alloc: Global, fault: Fault) -> Result<String, AllocError> {
+pub(crate) fn told_of_fault(alloc: Global, fault: Fault) -> Result<String, AllocError> {
     match fault {
         Fault::Memory => Err(AllocError),
         fault => fault.to_string(alloc),

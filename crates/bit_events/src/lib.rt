@@ -7,6 +7,8 @@ mod events;
 #[cfg(test)]
 mod events_tests;
 mod folding;
+#[cfg(test)]
+mod folding_tests;
 mod frame;
 mod gatherer;
 mod head;

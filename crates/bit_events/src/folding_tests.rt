@@ -1,0 +1,164 @@
+//! Inputs that are folded, and inputs that are checked.
+
+use crate::events_tests::{agrees, bytes_of, in_pieces, told_of_fault};
+use crate::{Event, Gatherer, check, fold};
+use bit_abbrev::Abbrev;
+use bit_fields::{Limits, Source};
+use std::alloc::{AllocError, Global};
+use std::fmt::Write;
+use std::process::Abort;
+
+/// The events so far, as text.
+#[derive(Drop)]
+struct Text {
+    alloc: Global,
+    text: String,
+}
+
+impl Text {
+    fn add(&mut self, event: Event<'_>) -> Result<(), AllocError> {
+        write!(self.text, "{event:?} ").map_err(|_| AllocError)
+    }
+}
+
+impl Gatherer for Text {
+    type Values = Vec<u64>;
+
+    ghost gathered = { λ first events last. Unit {0} };
+
+    fn values(&self) -> Vec<u64> {
+        Vec::new(self.alloc)
+    }
+
+    fn enter(&mut self, id: u32, width: u8, first: u64, body: u64) -> Result<(), AllocError> {
+        self.add(Event::Enter {
+            id,
+            width,
+            first,
+            body,
+        })
+    }
+
+    fn define(&mut self, abbrev: &Abbrev, first: u64, after: u64) -> Result<(), AllocError> {
+        self.add(Event::Define {
+            abbrev,
+            first,
+            after,
+        })
+    }
+
+    fn record(
+        &mut self,
+        id: u32,
+        code: u64,
+        values: &Vec<u64>,
+        first: u64,
+        after: u64,
+    ) -> Result<(), AllocError> {
+        self.add(Event::Record {
+            abbrev: id,
+            code,
+            values: values.as_slice(),
+            first,
+            after,
+        })
+    }
+
+    fn leave(&mut self, after: u64) -> Result<(), AllocError> {
+        self.add(Event::Leave { after })
+    }
+}
+
+/// The events, the magic and the bit after an input, or why it is refused.
+fn folded<S: Source + Drop>(alloc: Global, source: S) -> Result<String, AllocError> {
+    let gatherer = Text {
+        alloc,
+        text: String::new(alloc),
+    };
+    let (answer, _) = fold(alloc, source, Limits::usual(), gatherer);
+    match answer {
+        Ok(folded) => {
+            let text = folded.gatherer.text;
+            format!(in alloc; "{text}{:?} {}", folded.head.magic, folded.after)
+        }
+        Err(fault) => told_of_fault(alloc, fault),
+    }
+}
+
+/// Whether an input is accepted, or why it is refused.
+fn checked<S: Source + Drop>(alloc: Global, source: S) -> Result<String, AllocError> {
+    let (answer, _) = check(alloc, source, Limits::usual());
+    match answer {
+        Ok(()) => String::from_str(alloc, "accepted"),
+        Err(fault) => told_of_fault(alloc, fault),
+    }
+}
+
+/// Inputs, what `check` says of them, and what is gathered of them.
+static FOLDED: [(&str, &str, &str); 7] = [
+    (
+        "M B U",
+        "accepted",
+        "Enter { id: 0, width: 2, first: 32, body: 96 } \
+        Record { abbrev: 3, code: 1, values: [8], first: 96, after: 116 } \
+        Define { abbrev: Abbrev { ops: [Literal(1), Fixed(7)] }, first: 116, after: 141 } Leave { after: 160 } \
+        Enter { id: 8, width: 3, first: 160, body: 224 } \
+        Record { abbrev: 4, code: 1, values: [100], first: 224, after: 234 } Leave { after: 256 } \
+        [66, 67, 192, 222] 256",
+    ),
+    (
+        "M 21 04 00 00 04 00 00 00 13 04 00 00 01 00 00 00 00 00 00 00 00 00 00 00",
+        "accepted",
+        "Enter { id: 8, width: 1, first: 32, body: 96 } Enter { id: 9, width: 2, first: 96, body: 160 } \
+        Leave { after: 192 } Leave { after: 224 } [66, 67, 192, 222] 224",
+    ),
+    ("M", "accepted", "[66, 67, 192, 222] 32"),
+    (
+        "M E 0A 0A 0A 0A",
+        "refused: TopLevel at bit 128",
+        "refused: TopLevel at bit 128",
+    ),
+    (
+        "M 21 08 00 00 02 00 00 00 00 00 00 00",
+        "refused: BlockLength at bit 64",
+        "refused: BlockLength at bit 64",
+    ),
+    (
+        "M 01 08 00 00 01 00 00 00 07 00 00 00",
+        "refused: BadSetBid at bit 96",
+        "refused: BadSetBid at bit 96",
+    ),
+    (
+        "H DE C0 17 0B",
+        "refused: WrapperNested at bit 160",
+        "refused: WrapperNested at bit 160",
+    ),
+];
+
+/// An input is judged so by `check` and gathered so, in pieces of a byte and of 64.
+fn are_folded(rt: &impl Abort, alloc: Global, text: &str, judged: &str, gathered: &str) {
+    let bytes = bytes_of(alloc, text).expect(rt, "memory");
+    for most in [1, 64] {
+        agrees(rt, checked(alloc, in_pieces(&bytes, most, 0)), judged, text);
+        agrees(rt, folded(alloc, in_pieces(&bytes, most, 0)), gathered, text);
+    }
+}
+
+#[test]
+fn inputs_are_folded(rt: HostRuntime) {
+    for (text, judged, gathered) in &FOLDED {
+        are_folded(&rt, rt.alloc(), text, judged, gathered);
+    }
+}
+
+#[test]
+fn a_source_fails_in_a_fold(rt: HostRuntime) {
+    let bytes = bytes_of(rt.alloc(), "M B U").expect(&rt, "memory");
+    let failed = "the source failed";
+    for fails_at in [1, 2, 9, 20, 33] {
+        let told = folded(rt.alloc(), in_pieces(&bytes, 1, fails_at));
+        agrees(&rt, told, failed, "folded");
+        let told = checked(rt.alloc(), in_pieces(&bytes, 1, fails_at));
+        agrees(&rt, told, failed, "checked");
+    }
+}
