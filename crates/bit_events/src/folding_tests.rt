@@ -140,7 +140,12 @@ fn are_folded(rt: &impl Abort, alloc: Global, text: &str, judged: &str, gathered
     let bytes = bytes_of(alloc, text).expect(rt, "memory");
     for most in [1, 64] {
         agrees(rt, checked(alloc, in_pieces(&bytes, most, 0)), judged, text);
-        agrees(rt, folded(alloc, in_pieces(&bytes, most, 0)), gathered, text);
+        agrees(
+            rt,
+            folded(alloc, in_pieces(&bytes, most, 0)),
+            gathered,
+            text,
+        );
     }
 }
 
