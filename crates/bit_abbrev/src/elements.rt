@@ -45,6 +45,7 @@ pub(crate) fn take<S: Source, V: ValueTaker>(
 }
 
 /// Reads so many numbers in chunks of n bits.
+#[inline(always)]
 pub(crate) fn read_vbrs<S: Source, V: ValueTaker>(
     reader: &mut BitReader<S>,
     count: u64,
@@ -191,6 +192,7 @@ fn read_elements<S: Source, V: ValueTaker>(
         Op::Fixed(0) => add_zeros(reader, count, values),
         Op::Vbr(0) => add_zeros(reader, count, values),
         Op::Fixed(width) => read_fixed(reader, count, u32::from(width), values),
+        Op::Vbr(6) => read_vbrs(reader, count, 6, values),
         Op::Vbr(width) => read_vbrs(reader, count, u32::from(width), values),
         Op::Char6 => read_characters(reader, count, values),
         Op::Literal(_) | Op::Array | Op::Blob => unreachable!(),

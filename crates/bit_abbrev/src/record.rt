@@ -35,7 +35,7 @@ fn have_room(ops: &[Op], room: u64) -> bool
     ops.len() as u64 <= room || singles(ops) <= room
 }
 
-/// Reads the field of an operand that stands for one value.
+/// Reads the field of an operand that stands for one value. Into the calls for the usual widths the width is written.
 #[inline(always)]
 #[tactic(auto, unfolding(bit_grammar::specs::Record::scalar, bit_grammar::specs::Fields::vbr))]
 fn read_scalar<S: Source>(reader: &mut BitReader<S>, op: Op) -> Result<u64, Fault>
@@ -48,8 +48,36 @@ fn read_scalar<S: Source>(reader: &mut BitReader<S>, op: Op) -> Result<u64, Faul
         Op::Fixed(0) => Ok(0),
         Op::Vbr(0) | Op::Array | Op::Blob => Ok(0),
         Op::Fixed(width) => reader.fixed(u32::from(width)),
+        Op::Vbr(6) => reader.vbr(6),
+        Op::Vbr(8) => reader.vbr(8),
+        Op::Vbr(4) => reader.vbr(4),
+        Op::Vbr(7) => reader.vbr(7),
         Op::Vbr(width) => reader.vbr(u32::from(width)),
         Op::Char6 => reader.char6(),
+    }
+}
+
+/// Reads the code of a record where it is no literal. It is kept out of the caller, which seldom needs it.
+#[inline(never)]
+fn read_other_code<S: Source>(reader: &mut BitReader<S>, op: Op) -> Result<u64, Fault>
+    requires lawful { HasLawfulValue op }
+    requires live { reader.old.live ≡ true }
+    ensures { Takes (scalar op) reader.old result reader.new }
+{
+    read_scalar(reader, op)
+}
+
+/// Reads the code of a record by its operand.
+#[inline(always)]
+#[tactic(auto, unfolding(bit_grammar::specs::Record::scalar))]
+fn read_code<S: Source>(reader: &mut BitReader<S>, op: Op) -> Result<u64, Fault>
+    requires lawful { HasLawfulValue op }
+    requires live { reader.old.live ≡ true }
+    ensures { Takes (scalar op) reader.old result reader.new }
+{
+    match op {
+        Op::Literal(value) => Ok(value),
+        _ => read_other_code(reader, op),
     }
 }
 
@@ -96,7 +124,7 @@ fn read_record<S: Source, V: ValueTaker>(
         unreachable!();
     };
     reader.judge(have_room(others, room), Reason::TooManyValues, at)?;
-    let code = read_scalar(reader, *first)?;
+    let code = read_code(reader, *first)?;
     read_values(reader, room, others, values)?;
     Ok(code)
 }

@@ -21,9 +21,15 @@ returns-in-Vbr-eq0 g c =
     let none : c.in-Vbr-eq0.field-0 ≡ 0 = cc in
     rw (c.in-Vbr-eq0.is, none) c.add_zeros-in-Vbr-eq0.ensures
 
+pub returns-in-Vbr-eq6 : goal.returns-in-Vbr-eq6
+unfolding scalar
+returns-in-Vbr-eq6 g c =
+    let six : c.in-Vbr-eq6.field-0 ≡ 6 = cc in
+    rw (c.in-Vbr-eq6.is, six) c.read_vbrs.ensures
+
 pub returns-in-Vbr : goal.returns-in-Vbr
 unfolding scalar
-returns-in-Vbr g c = rw c.in-Vbr.is (rw c.from-in-Vbr.ensures at c.read_vbrs.ensures)
+returns-in-Vbr g c = rw c.in-Vbr.is (rw c.from-in-Vbr.ensures at c.read_vbrs-in-Vbr.ensures)
 
 pub returns-in-Char6 : goal.returns-in-Char6
 unfolding scalar
