@@ -3,9 +3,10 @@ ghost use Rattle.std.specs.Prelude.{Some};
 use crate::listing::write_listing;
 use crate::{Analysis, analyse, write_show};
 use bit_fields::{Fault, Limits, Reason, Sink, SinkFailed, SliceSource, VecSink};
-use bit_tree::{Block, Document, Item, Items, Record, Values};
+use bit_tree::{Block, Item, Items, Record, Values};
 use std::alloc::{AllocError, Global};
 use std::process::Abort;
+use std::slice;
 use std::test::Fail;
 
 /// A sink that takes few bytes a put, and fails after some puts.
@@ -90,38 +91,86 @@ fn analysed(alloc: Global, input: &[u8]) -> Result<Analysis, Fault> {
     analyse(alloc, SliceSource::new(input), Limits::usual()).0
 }
 
-/// Hands on what a call left a sink of a text; where memory was refused that is a front of it, and no failure.
-fn unless_refused(
-    rt: &impl Abort,
-    answer: Result<(), Fault>,
-    sink: Pieces,
-    text: &[u8],
-) -> Result<(Result<(), Fault>, Pieces), Fail> {
-    if answer == Err(Fault::Memory) {
-        assert!(rt; text.starts_with(&sink.bytes));
-        assert_eq!(rt; sink.failures, 0);
-        return Err("no memory".into());
+/// How many bytes these are, where they are a front of a text.
+fn front_of(text: &[u8], bytes: &[u8]) -> Option<usize> {
+    if text.starts_with(bytes) {
+        Some(bytes.len())
+    } else {
+        None
     }
-    Ok((answer, sink))
+}
+
+/// What a call answers, how often its sink fails, and how much of a text the sink has.
+type Told = (Result<(), Fault>, u64, Option<usize>);
+
+/// What a call of a text tells by its answer and its sink.
+fn told(answer: Result<(), Fault>, sink: Pieces, text: &str) -> Told {
+    (
+        answer,
+        sink.failures,
+        front_of(text.as_bytes(), &sink.bytes),
+    )
+}
+
+/// A call tells this; where memory was refused its sink has a front of the text, and no failure.
+fn tells(rt: &impl Abort, told: Result<Told, AllocError>, wanted: Told) -> Result<(), Fail> {
+    match told {
+        Err(_) | Ok((Err(Fault::Memory), 0, Some(_))) => Err("no memory".into()),
+        Ok(told) => {
+            assert!(rt; told == wanted, "{told:?} and not {wanted:?}");
+            Ok(())
+        }
+    }
+}
+
+/// How many bytes a sink takes at once, and after how many puts it fails.
+static SINKS: [(usize, u64); 7] = [
+    (1, u64::MAX),
+    (5, u64::MAX),
+    (100, u64::MAX),
+    (5, 0),
+    (5, 1),
+    (5, 2),
+    (5, 3),
+];
+
+/// What a call of a longer text tells with such a sink: all of it, or a front where the sink fails.
+fn wanted(text: &str, most: usize, puts: u64) -> Told {
+    match puts {
+        0..=3 => (
+            Err(Fault::Write),
+            1,
+            Some(most.saturating_mul(puts as usize)),
+        ),
+        _ => (Ok(()), 0, Some(text.len())),
+    }
+}
+
+/// What the report of an analysis tells with such a sink.
+fn report_told(
+    alloc: Global,
+    analysis: &Analysis,
+    text: &str,
+    most: usize,
+    puts: u64,
+) -> Result<Told, AllocError> {
+    let (answer, sink) = analysis.write(Pieces::new(alloc, most, puts)?);
+    Ok(told(answer, sink, text))
 }
 
 /// The report is this text, whatever a sink takes at once, and a sink that fails has a front of it.
-fn reports(rt: &impl Abort, alloc: Global, analysis: &Analysis, text: &str) -> Result<(), Fail> {
-    let text = text.as_bytes();
-    for most in [1, 5, 100] {
-        let (answer, sink) = analysis.write(Pieces::new(alloc, most, u64::MAX)?);
-        let (answer, sink) = unless_refused(rt, answer, sink, text)?;
-        assert_eq!(rt; (answer, sink.failures), (Ok(()), 0));
-        assert_eq!(rt; sink.bytes.as_slice(), text, "{most} bytes a put");
-    }
-    for puts in 0..4 {
-        let (answer, sink) = analysis.write(Pieces::new(alloc, 5, puts)?);
-        let (answer, sink) = unless_refused(rt, answer, sink, text)?;
-        assert_eq!(rt; (answer, sink.failures), (Err(Fault::Write), 1));
-        assert!(rt; text.starts_with(&sink.bytes));
-        assert_eq!(rt; sink.bytes.len() as u64, 5 * puts);
+fn is_report(rt: &impl Abort, alloc: Global, analysis: &Analysis, text: &str) -> Result<(), Fail> {
+    for (most, puts) in &SINKS {
+        let told = report_told(alloc, analysis, text, *most, *puts);
+        tells(rt, told, wanted(text, *most, *puts))?;
     }
     Ok(())
+}
+
+/// The same of the report of an input.
+fn reports(rt: &impl Abort, alloc: Global, input: &[u8], text: &str) -> Result<(), Fail> {
+    let analysis = analysed(alloc, input)?;
+    is_report(rt, alloc, &analysis, text)
 }
 
 static DESCRIBED_REPORT: &str = "magic 4243c0de bits 256\n\
@@ -138,126 +187,125 @@ static ZEROS_REPORT: &str = "magic 4243c0de bits 160\n\
     block 8 count 1 bits 128 definitions 1 records 1 abbreviated 1 values 3\n  \
       record 1 count 1 bits 9\n";
 
-#[test]
-fn reports_of_inputs(rt: HostRuntime) -> Result<(), Fail> {
-    let alloc = rt.alloc();
-    let rows: [(&[u8], &str); 4] = [
-        (&DESCRIBED, DESCRIBED_REPORT),
-        (&NESTED, NESTED_REPORT),
-        (&ZEROS, ZEROS_REPORT),
-        (&EMPTY, "magic 4243c0de bits 32\n"),
-    ];
-    for (input, text) in &rows {
-        reports(&rt, alloc, &analysed(alloc, input)?, text)?;
-    }
-    Ok(())
-}
+static EMPTY_REPORT: &str = "magic 4243c0de bits 32\n";
 
 #[test]
-fn analysis_of_described(rt: HostRuntime) -> Result<(), Fail> {
-    let analysis = analysed(rt.alloc(), &DESCRIBED)?;
-    assert_eq!(rt; (analysis.magic(), analysis.bits()), (MAGIC, 256));
-    assert_eq!(rt; analysis.rows().len(), 2);
-    Ok(())
+fn reports_of_inputs(rt: HostRuntime) -> Result<(), Fail> {
+    reports(&rt, rt.alloc(), &DESCRIBED, DESCRIBED_REPORT)?;
+    reports(&rt, rt.alloc(), &NESTED, NESTED_REPORT)?;
+    reports(&rt, rt.alloc(), &ZEROS, ZEROS_REPORT)?;
+    reports(&rt, rt.alloc(), &EMPTY, EMPTY_REPORT)
+}
+
+/// The magic, the bits and the number of rows of the analysis of an input.
+fn parts(alloc: Global, input: &[u8]) -> Result<([u8; 4], u64, usize), Fault> {
+    let analysis = analysed(alloc, input)?;
+    Ok((analysis.magic(), analysis.bits(), analysis.rows().len()))
+}
+
+/// What the listing of an input tells with such a sink.
+fn listing_told(
+    alloc: Global,
+    input: &[u8],
+    text: &str,
+    most: usize,
+    puts: u64,
+) -> Result<Told, AllocError> {
+    let sink = Pieces::new(alloc, most, puts)?;
+    let (answer, _, sink) = write_show(alloc, SliceSource::new(input), sink, Limits::usual());
+    Ok(told(answer, sink, text))
 }
 
 /// What follows the last block is refused at its bit, and nothing is listed.
 #[test]
-fn refusals(rt: HostRuntime) -> Result<(), Fail> {
+fn parts_and_refusals(rt: HostRuntime) -> Result<(), Fail> {
     let alloc = rt.alloc();
     let fault = Fault::Refused {
         reason: Reason::TopLevel,
         bit: 128,
     };
-    assert_eq!(rt; analysed(alloc, &TAIL).err(), Some(fault));
-    let sink = Pieces::new(alloc, 100, u64::MAX)?;
-    let (answer, _, sink) = write_show(alloc, SliceSource::new(&TAIL), sink, Limits::usual());
-    assert_eq!(rt; (answer, sink.bytes.len()), (Err(fault), 0));
-    Ok(())
-}
-
-fn record_item(alloc: Global, code: u64, values: &[u64]) -> Result<Item, AllocError> {
-    Ok(Item::Record(Record {
-        code,
-        values: Values(Vec::from_slice(alloc, values)?),
-    }))
-}
-
-fn block(id: u32, items: Vec<Item>) -> Block {
-    Block {
-        id,
-        items: Items(items),
-    }
+    let found = (parts(alloc, &DESCRIBED)?, parts(alloc, &TAIL));
+    assert!(rt; found == ((MAGIC, 256, 2), Err(fault)));
+    let told = listing_told(alloc, &TAIL, "", 100, u64::MAX);
+    tells(&rt, told, (Err(fault), 0, Some(0)))
 }
 
 /// The listing of an input is this text, whatever a sink takes at once, and a sink that fails has a front of it.
 fn lists(rt: &impl Abort, alloc: Global, input: &[u8], text: &str) -> Result<(), Fail> {
-    let text = text.as_bytes();
-    let limits = Limits::usual();
-    for most in [1, 5, 100] {
-        let sink = Pieces::new(alloc, most, u64::MAX)?;
-        let (answer, _, sink) = write_show(alloc, SliceSource::new(input), sink, limits);
-        let (answer, sink) = unless_refused(rt, answer, sink, text)?;
-        assert_eq!(rt; (answer, sink.failures), (Ok(()), 0));
-        assert_eq!(rt; sink.bytes.as_slice(), text, "{most} bytes a put");
-    }
-    for puts in 0..3 {
-        let sink = Pieces::new(alloc, 5, puts)?;
-        let (answer, _, sink) = write_show(alloc, SliceSource::new(input), sink, limits);
-        let (answer, sink) = unless_refused(rt, answer, sink, text)?;
-        assert_eq!(rt; (answer, sink.failures), (Err(Fault::Write), 1));
-        assert!(rt; text.starts_with(&sink.bytes));
-        assert_eq!(rt; sink.bytes.len() as u64, 5 * puts);
+    for (most, puts) in &SINKS[..6] {
+        let told = listing_told(alloc, input, text, *most, *puts);
+        tells(rt, told, wanted(text, *most, *puts))?;
     }
     Ok(())
 }
 
+static DESCRIBED_LISTING: &str = "magic 4243c0de\nblock 0\n  record 1 8\nblock 8\n  record 1 100\n";
+
 #[test]
 fn listings_of_inputs(rt: HostRuntime) -> Result<(), Fail> {
     let alloc = rt.alloc();
-    let described = "magic 4243c0de\nblock 0\n  record 1 8\nblock 8\n  record 1 100\n";
-    lists(&rt, alloc, &DESCRIBED, described)?;
-    lists(&rt, alloc, &NESTED, "magic 4243c0de\nblock 8\n  block 9\n")?;
+    let nested = "magic 4243c0de\nblock 8\n  block 9\n";
+    lists(&rt, alloc, &DESCRIBED, DESCRIBED_LISTING)?;
+    lists(&rt, alloc, &NESTED, nested)?;
     lists(&rt, alloc, &[0, 0xff, 9, 0x10], "magic 00ff0910\n")
 }
 
-/// A record whose line is far longer than what is held at once.
-#[test]
-fn long_lines(rt: HostRuntime) -> Result<(), Fail> {
-    let alloc = rt.alloc();
+/// A block of one record.
+fn block(alloc: Global, values: Vec<u64>) -> Result<Block, AllocError> {
+    let values = Values(values);
+    let items = vec![in alloc; Item::Record(Record { code: 7, values })]?;
+    let items = Items(items);
+    Ok(Block { id: 8, items })
+}
+
+/// A block with a record whose line is far longer than what is held at once.
+fn long_block(alloc: Global) -> Result<Block, AllocError> {
     let values = vec![in alloc; u64::MAX; 2000]?;
-    let items = vec![in alloc; record_item(alloc, 7, &values)?]?;
-    let doc = Document::new(MAGIC, vec![in alloc; block(8, items)]?)?;
+    block(alloc, values)
+}
+
+/// The listing of that block: 33 bytes before the values, 21 for each, and the end of the line.
+fn long_text(alloc: Global) -> Result<String, AllocError> {
     let mut text = String::from_str(alloc, "magic 4243c0de\nblock 8\n  record 7")?;
     for _ in 0..2000 {
         text.push_str(" 18446744073709551615")?;
     }
     text.push_str("\n")?;
-    let sink = Pieces::new(alloc, usize::MAX, u64::MAX)?;
-    let (answer, sink) = write_listing(alloc, doc.magic(), doc.blocks(), sink);
-    let (answer, sink) = unless_refused(&rt, answer, sink, text.as_bytes())?;
-    assert_eq!(rt; (answer, sink.failures), (Ok(()), 0));
-    assert_eq!(rt; sink.bytes.as_slice(), text.as_bytes());
-    let sink = Pieces::new(alloc, 5000, 3)?;
-    let (answer, sink) = write_listing(alloc, doc.magic(), doc.blocks(), sink);
-    let (answer, sink) = unless_refused(&rt, answer, sink, text.as_bytes())?;
-    assert_eq!(rt; (answer, sink.failures), (Err(Fault::Write), 1));
-    assert!(rt; text.as_bytes().starts_with(&sink.bytes));
-    assert_eq!(rt; sink.bytes.len(), 13_202);
-    Ok(())
+    Ok(text)
+}
+
+/// What its listing tells with such a sink.
+fn long_told(alloc: Global, text: &str, most: usize, puts: u64) -> Result<Told, AllocError> {
+    let block = long_block(alloc)?;
+    let sink = Pieces::new(alloc, most, puts)?;
+    let (answer, sink) = write_listing(alloc, MAGIC, slice::from_ref(&block), sink);
+    Ok(told(answer, sink, text))
+}
+
+#[test]
+fn long_lines(rt: HostRuntime) -> Result<(), Fail> {
+    let text = long_text(rt.alloc())?;
+    let told = long_told(rt.alloc(), &text, usize::MAX, u64::MAX);
+    tells(&rt, told, (Ok(()), 0, Some(42_034)))?;
+    let told = long_told(rt.alloc(), &text, 5000, 3);
+    tells(&rt, told, (Err(Fault::Write), 1, Some(13_202)))
+}
+
+/// What the report of the empty stream answers with a vector as the sink, and how much of it the vector has.
+fn vector_told(alloc: Global) -> Result<(Result<(), Fault>, Option<usize>), Fault> {
+    let analysis = analysed(alloc, &EMPTY)?;
+    let (answer, sink) = analysis.write(VecSink::new(alloc));
+    Ok((answer, front_of(EMPTY_REPORT.as_bytes(), sink.bytes())))
 }
 
 /// A vector as the sink: where its growth is refused it failed, and has a front of the text.
 #[test]
 fn into_vectors(rt: HostRuntime) -> Result<(), Fail> {
-    let alloc = rt.alloc();
-    let text = b"magic 4243c0de bits 32\n";
-    let (answer, sink) = analysed(alloc, &EMPTY)?.write(VecSink::new(alloc));
-    if answer.is_err() {
-        assert!(rt; answer == Err(Fault::Memory) || answer == Err(Fault::Write));
-        assert!(rt; sink.bytes().is_empty());
-        return Err("no memory".into());
+    match vector_told(rt.alloc())? {
+        (Err(Fault::Memory | Fault::Write), Some(0)) => Err("no memory".into()),
+        told => {
+            assert!(rt; told == (Ok(()), Some(23)));
+            Ok(())
+        }
     }
-    assert_eq!(rt; sink.bytes(), text.as_slice());
-    Ok(())
 }
