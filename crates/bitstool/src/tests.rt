@@ -113,7 +113,7 @@ fn words_of(alloc: Global, line: &str) -> Result<Vec<String>, AllocError> {
 }
 
 /// What a run on these words and this input ends with.
-fn ran<R: Read + Drop>(
+fn ran<R: BufRead + Drop>(
     alloc: Global,
     line: &str,
     input: R,
@@ -132,7 +132,7 @@ fn ended(rt: &impl Abort, line: &str, end: (u8, &[u8], &[u8]), expected: End) {
 }
 
 /// A run with this input ends so.
-fn ends_with<R: Read + Drop>(
+fn ends_with<R: BufRead + Drop>(
     rt: &impl Abort,
     alloc: Global,
     line: &str,
