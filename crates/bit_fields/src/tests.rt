@@ -244,9 +244,9 @@ fn wholes(rt: HostRuntime) {
             "{read}"
         );
     }
-    // the end is shown, and then read
-    for read in 1..20 {
-        let answer = if read == 19 { Ok(3) } else { Err(Fault::Read) };
+    // each byte and the end are shown, and then read
+    for read in 1..36 {
+        let answer = if read == 35 { Ok(3) } else { Err(Fault::Read) };
         assert_eq!(rt;
             words(shown(&EMPTY_BLOCK, 1, read), Limits::usual()),
             answer,
