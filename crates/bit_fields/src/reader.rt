@@ -467,9 +467,22 @@ impl<S: Source> BitReader<S> {
         Some(value)
     }
 
-    /// Reads a number in chunks of n bits that is not whole in the window, or takes more than four chunks.
+    /// Reads a number in chunks of n bits that is not whole in the window, or takes more than four chunks. It is written into
+    /// the callers for the sake of the place of its answer, which is cleared here.
     #[inline(always)]
     fn long_vbr(&mut self, n: u32) -> Result<u64, Fault>
+        requires some { 2 ≤ n }
+        requires few { n ≤ 32 }
+        ensures takes { Takes (vbr n) self.old result self.new }
+        ensures memory { NeedsNoMemory result }
+        ensures stays { OnErr result (self.new.position ≡ self.old.position) }
+    {
+        self.far_vbr(n)
+    }
+
+    /// Does so, out of line.
+    #[inline(never)]
+    fn far_vbr(&mut self, n: u32) -> Result<u64, Fault>
         requires some { 2 ≤ n }
         requires few { n ≤ 32 }
         ensures takes { Takes (vbr n) self.old result self.new }

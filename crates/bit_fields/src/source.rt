@@ -246,19 +246,21 @@ mod tests {
     #[test]
     fn worn_words(rt: HostRuntime) {
         let mut slice = SliceSource {
-            rest: &[7, 8, 9],
+            rest: &[1, 2, 3, 4, 5, 6, 7, 8, 9, 10],
             pulls: u64::MAX - 1,
         };
-        assert_eq!(rt; slice.pull_word(2), Ok((0x0807, 2)));
+        assert_eq!(rt; slice.at_hand(2), AtHand::Word(0x0201));
+        assert_eq!(rt; slice.at_hand(2), AtHand::Few);
         assert_eq!(rt; slice.pull_word(2), Err(SourceFailed));
-        assert_eq!(rt; (slice.pulls, slice.rest), (u64::MAX, [9].as_slice()));
-        let mut buffered = BufSource::new([7, 8, 9].as_slice());
-        assert_eq!(rt; buffered.pull_word(2), Ok((0x0807, 2)));
+        assert_eq!(rt; (slice.pulls, slice.rest.len()), (u64::MAX, 8));
+        let mut buffered = BufSource::new([1, 2, 3, 4, 5, 6, 7, 8, 9, 10].as_slice());
+        assert_eq!(rt; buffered.at_hand(2), AtHand::Word(0x0201));
         buffered.source.failures = u64::MAX;
+        assert_eq!(rt; buffered.at_hand(2), AtHand::Few);
         assert_eq!(rt; buffered.pull_word(2), Err(SourceFailed));
         assert_eq!(rt;
-            (buffered.source.pulls, buffered.into_inner()),
-            (1, [9].as_slice())
+            (buffered.source.pulls, buffered.into_inner().len()),
+            (1, 8)
         );
     }
 }

@@ -384,9 +384,9 @@ fn failing_reads(rt: HostRuntime) {
         let told = words(in_steps(&EMPTY_BLOCK, 1, read), Limits::usual());
         assert!(rt; told == answer, "{read}");
     }
-    // the end is shown, and then read
-    for read in 1..20 {
-        let answer = if read == 19 { Ok(3) } else { Err(Fault::Read) };
+    // each byte and the end are shown, and then read
+    for read in 1..36 {
+        let answer = if read == 35 { Ok(3) } else { Err(Fault::Read) };
         let told = words(shown(&EMPTY_BLOCK, 1, read), Limits::usual());
         assert!(rt; told == answer, "{read}");
     }

@@ -3,7 +3,7 @@
 ghost use Rattle.std.specs.Prelude.{◌<◌, ◌≤◌};
 
 use crate::tests::{in_steps, shown};
-use crate::{SliceSource, Source};
+use crate::{AtHand, SliceSource, Source, SourceFailed};
 
 /// Bytes of which no two are the same.
 const BYTES: [u8; 21] = [
@@ -21,6 +21,18 @@ fn mixed(before: u64, word: u64, count: usize) -> u64 {
         .wrapping_add(count as u64)
 }
 
+/// The next word of a source and its count: what is at hand, or else by a pull.
+fn next_word<S: Source>(source: &mut S, room: usize) -> Result<(u64, usize), SourceFailed>
+    requires some { 0 < room }
+    requires few { room ≤ 8 }
+{
+    match source.at_hand(room) {
+        AtHand::Word(word) => Ok((word, room)),
+        AtHand::Few => source.pull_word(room),
+        AtHand::Failed => Err(SourceFailed),
+    }
+}
+
 /// What a source gives up to its end or its first failure, by words.
 fn by_words<S: Source + Drop>(mut source: S, room: usize) -> u64
     requires some { 0 < room }
@@ -28,7 +40,7 @@ fn by_words<S: Source + Drop>(mut source: S, room: usize) -> u64
 {
     let mut given = 0;
     for _ in 0..100 {
-        match source.pull_word(room) {
+        match next_word(&mut source, room) {
             Ok((_, 0)) => return given,
             Ok((word, count)) => given = mixed(given, word, count),
             Err(_) => return mixed(given, 0, 99),
@@ -64,7 +76,7 @@ fn value(bytes: &[u8]) -> u64 {
 
 /// The first word of a source and its count, and 0 and 99 where it failed.
 fn first<S: Source + Drop>(mut source: S, room: usize) -> (u64, usize) {
-    match source.pull_word(room.clamp(1, 8)) {
+    match next_word(&mut source, room.clamp(1, 8)) {
         Ok(taken) => taken,
         Err(_) => (0, 99),
     }
@@ -127,8 +139,22 @@ fn failures_and_words(rt: HostRuntime) {
         for fails_at in 1..6 {
             let given = by_slices(in_steps(&BYTES, 5, fails_at), room);
             let stepped = by_words(in_steps(&BYTES, 5, fails_at), room);
-            let shown = by_words(shown(&BYTES, 5, fails_at), room);
-            assert_eq!(rt; (stepped, shown), (given, given), "{room} {fails_at}");
+            // five bytes are shown, and then read
+            let shown_then = by_words(shown(&BYTES, 5, 2 * fails_at - 1), room);
+            let read_then = by_words(shown(&BYTES, 5, 2 * fails_at), room);
+            assert_eq!(rt;
+                (stepped, shown_then, read_then),
+                (given, given, given),
+                "{room} {fails_at}"
+            );
+        }
+        // nine bytes are shown and taken
+        for fails_at in 1..4 {
+            assert_eq!(rt;
+                by_words(shown(&BYTES, 9, fails_at), room),
+                by_slices(in_steps(&BYTES, 9, fails_at), room),
+                "{room} {fails_at}"
+            );
         }
     }
 }
