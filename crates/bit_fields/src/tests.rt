@@ -80,31 +80,6 @@ pub(crate) fn in_steps(bytes: &[u8], step: usize, fails_at: u64) -> ReadSource<C
     })
 }
 
-/// A writer that takes at most so many bytes at a time, fails at one of its writes, and can't hand anything on.
-#[derive(Drop)]
-struct Slow {
-    taken: Vec<u8>,
-    step: usize,
-    writes: u64,
-    fails_at: u64,
-}
-
-impl Write for Slow {
-    fn write(&mut self, buf: &[u8]) -> io::Result<usize> {
-        self.writes = self.writes.saturating_add(1);
-        if self.writes == self.fails_at {
-            return Err(Error::from(ErrorKind::Other));
-        }
-        let count = self.step.min(buf.len());
-        self.taken.extend_from_slice(&buf[..count])?;
-        Ok(count)
-    }
-
-    fn flush(&mut self) -> io::Result<()> {
-        Err(Error::from(ErrorKind::Other))
-    }
-}
-
 fn refused(reason: Reason, bit: u64) -> Fault {
     Fault::Refused { reason, bit }
 }
@@ -578,7 +553,7 @@ fn cut_padding(rt: HostRuntime) {
 }
 
 /// The magic, and then these bytes, with zeros behind them.
-fn after_magic(bytes: &[u8]) -> [u8; 24] {
+pub(crate) fn after_magic(bytes: &[u8]) -> [u8; 24] {
     let mut input = [0; 24];
     input[..4].copy_from_slice(&MAGIC);
     let count = bytes.len().min(20);
@@ -739,124 +714,4 @@ fn paddings(rt: HostRuntime) {
         let (answers, positions) = paddings_of(&mut reader);
         assert!(rt; answers == PADDINGS && positions == [64, 72], "{step}");
     }
-}
-
-/// A field of each kind after the magic: all values as one number, in digits of base 1000.
-fn some_fields<S: Source + Drop>(source: S) -> Result<u64, Fault> {
-    let mut reader = match BitReader::start(source, Limits::usual()) {
-        Ok((reader, _)) => reader,
-        Err((fault, _)) => return Err(fault),
-    };
-    digits_of(&mut reader)
-}
-
-fn digits_of<S: Source + Drop>(reader: &mut BitReader<S>) -> Result<u64, Fault> {
-    let fixed = reader.fixed(7)?;
-    let code = reader.char6()?;
-    let short = reader.vbr(4)?;
-    reader.pad()?;
-    let byte = u64::from(reader.byte()?);
-    let long = reader.vbr(3)?;
-    let mut all: u64 = 0;
-    for digit in [fixed, code, short, byte, long] {
-        all = all.wrapping_mul(1000).wrapping_add(digit);
-    }
-    Ok(all)
-}
-
-/// Whether both sources over a reader give this, however few bytes it gives at a time.
-fn give_fields(input: &[u8], answer: Result<u64, Fault>) -> bool {
-    let mut same = true;
-    for step in 1..12 {
-        let read = some_fields(in_steps(input, step, 0));
-        let seen = some_fields(shown(input, step, 0));
-        same = same && read == answer && seen == answer;
-    }
-    same
-}
-
-/// Whether both sources fail where their reader does at one of the reads of eleven bytes.
-fn fail_within(input: &[u8]) -> bool {
-    let mut fail = true;
-    for fails_at in 1..12 {
-        let read = some_fields(in_steps(input, 1, fails_at));
-        let seen = some_fields(shown(input, 1, fails_at));
-        fail = fail && read == Err(Fault::Read) && seen == Err(Fault::Read);
-    }
-    fail
-}
-
-#[test]
-fn fields_at_an_end(rt: HostRuntime) {
-    // 93, 'z', 5 + 8 * 2; zeros; 200, and 3 + 4 * (3 + 4 * (3 + 4 * (2 + 4 * 1)))
-    let input = after_magic(&[0xDD, 0xAC, 0x05, 0, 0xC8, 0xFF, 0x1D]);
-    let answer = Ok(93_122_021_200_447);
-    let whole = some_fields(SliceSource::new(&input[..11]));
-    assert!(rt; whole == answer && give_fields(&input[..11], answer));
-    assert!(rt; fail_within(&input));
-}
-
-/// Writes two numbers and padding, nine bytes with those of a third field.
-fn write_some<W: Write + Drop>(sink: WriteSink<W>) -> (Result<(), Fault>, u64, W) {
-    let mut writer = BitWriter::new(sink);
-    let answer = write_fields(&mut writer);
-    let position = writer.position();
-    (answer, position, writer.into_sink().into_inner())
-}
-
-fn write_fields<W: Write>(writer: &mut BitWriter<WriteSink<W>>) -> Result<(), Fault> {
-    if writer.position() > 0 {
-        return Ok(());
-    }
-    writer.fixed(32, 0xDEC0_4342)?;
-    if writer.position() == 32 {
-        writer.vbr(2, u64::MAX)?;
-    }
-    if writer.position() == 160 {
-        writer.finish()?;
-    }
-    Ok(())
-}
-
-/// Whether a writer of this kind gets the whole, or a front of it where it fails.
-fn gets_its_part(alloc: Global, step: usize, fails_at: u64, whole: &[u8]) -> bool {
-    let (answer, position, slow) = write_some(WriteSink::new(Slow {
-        taken: Vec::new(alloc),
-        step,
-        writes: 0,
-        fails_at,
-    }));
-    let taken = slow.taken.as_slice();
-    match answer {
-        Ok(()) => position == 160 && taken == whole,
-        Err(fault) => fault == Fault::Write && fails_at > 0 && whole.starts_with(taken),
-    }
-}
-
-#[test]
-fn slow_writers(rt: HostRuntime) {
-    let mut whole = [0xFF; 20];
-    whole[..4].copy_from_slice(&MAGIC);
-    whole[19] = 0x7F;
-    for step in 1..10 {
-        for fails_at in 0..30 {
-            assert!(rt;
-                gets_its_part(rt.alloc(), step, fails_at, &whole),
-                "{step} {fails_at}"
-            );
-        }
-    }
-}
-
-#[test]
-fn flushes(rt: HostRuntime) {
-    let slow = Slow {
-        taken: Vec::new(rt.alloc()),
-        step: 1,
-        writes: 0,
-        fails_at: 0,
-    };
-    let mut sink = WriteSink::new(slow);
-    assert!(rt; sink.flush().is_err());
-    assert!(rt; sink.flush().is_err());
 }

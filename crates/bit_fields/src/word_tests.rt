@@ -2,8 +2,8 @@
 
 ghost use Rattle.std.specs.Prelude.{◌<◌, ◌≤◌};
 
-use crate::tests::{in_steps, shown};
-use crate::{AtHand, SliceSource, Source, SourceFailed};
+use crate::tests::{after_magic, in_steps, shown};
+use crate::{AtHand, BitReader, Fault, Limits, SliceSource, Source, SourceFailed};
 
 /// Bytes of which no two are the same.
 const BYTES: [u8; 21] = [
@@ -157,4 +157,59 @@ fn failures_and_words(rt: HostRuntime) {
             );
         }
     }
+}
+
+/// A field of each kind after the magic: all values as one number, in digits of base 1000.
+fn some_fields<S: Source + Drop>(source: S) -> Result<u64, Fault> {
+    let mut reader = match BitReader::start(source, Limits::usual()) {
+        Ok((reader, _)) => reader,
+        Err((fault, _)) => return Err(fault),
+    };
+    digits_of(&mut reader)
+}
+
+fn digits_of<S: Source + Drop>(reader: &mut BitReader<S>) -> Result<u64, Fault> {
+    let fixed = reader.fixed(7)?;
+    let code = reader.char6()?;
+    let short = reader.vbr(4)?;
+    reader.pad()?;
+    let byte = u64::from(reader.byte()?);
+    let long = reader.vbr(3)?;
+    let mut all: u64 = 0;
+    for digit in [fixed, code, short, byte, long] {
+        all = all.wrapping_mul(1000).wrapping_add(digit);
+    }
+    Ok(all)
+}
+
+/// Whether both sources over a reader give this, however few bytes it gives at a time.
+fn give_fields(input: &[u8], answer: Result<u64, Fault>) -> bool {
+    let mut same = true;
+    for step in 1..12 {
+        let read = some_fields(in_steps(input, step, 0));
+        let seen = some_fields(shown(input, step, 0));
+        same = same && read == answer && seen == answer;
+    }
+    same
+}
+
+/// Whether both sources fail where their reader does at one of the reads of eleven bytes.
+fn fail_within(input: &[u8]) -> bool {
+    let mut fail = true;
+    for fails_at in 1..12 {
+        let read = some_fields(in_steps(input, 1, fails_at));
+        let seen = some_fields(shown(input, 1, fails_at));
+        fail = fail && read == Err(Fault::Read) && seen == Err(Fault::Read);
+    }
+    fail
+}
+
+#[test]
+fn fields_at_an_end(rt: HostRuntime) {
+    // 93, 'z', 5 + 8 * 2; zeros; 200, and 3 + 4 * (3 + 4 * (3 + 4 * (2 + 4 * 1)))
+    let input = after_magic(&[0xDD, 0xAC, 0x05, 0, 0xC8, 0xFF, 0x1D]);
+    let answer = Ok(93_122_021_200_447);
+    let whole = some_fields(SliceSource::new(&input[..11]));
+    assert!(rt; whole == answer && give_fields(&input[..11], answer));
+    assert!(rt; fail_within(&input));
 }

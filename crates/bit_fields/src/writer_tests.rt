@@ -4,7 +4,7 @@ use crate::fault::Fault;
 use crate::sink::{Sink, SinkFailed, VecSink, WriteSink};
 use crate::writer::BitWriter;
 use std::alloc::Global;
-use std::io::{self, ErrorKind, Write};
+use std::io::{self, Error, ErrorKind, Write};
 use std::test::Fail;
 
 /// A sink that takes few bytes a put, and fails at one of its puts.
@@ -305,4 +305,94 @@ fn worn_sinks_fail(rt: HostRuntime) {
     let mut writer = BitWriter::new(sink);
     assert!(rt; fails_at_the_end(&mut writer));
     assert!(rt; writer.into_sink().failures == u64::MAX);
+}
+
+/// A writer that takes at most so many bytes at a time, fails at one of its writes, and can't hand anything on.
+#[derive(Drop)]
+struct Slow {
+    taken: Vec<u8>,
+    step: usize,
+    writes: u64,
+    fails_at: u64,
+}
+
+impl Write for Slow {
+    fn write(&mut self, buf: &[u8]) -> io::Result<usize> {
+        self.writes = self.writes.saturating_add(1);
+        if self.writes == self.fails_at {
+            return Err(Error::from(ErrorKind::Other));
+        }
+        let count = self.step.min(buf.len());
+        self.taken.extend_from_slice(&buf[..count])?;
+        Ok(count)
+    }
+
+    fn flush(&mut self) -> io::Result<()> {
+        Err(Error::from(ErrorKind::Other))
+    }
+}
+
+/// Writes two numbers and padding, nine bytes with those of a third field.
+fn write_some<W: Write + Drop>(sink: WriteSink<W>) -> (Result<(), Fault>, u64, W) {
+    let mut writer = BitWriter::new(sink);
+    let answer = write_two(&mut writer);
+    let position = writer.position();
+    (answer, position, writer.into_sink().into_inner())
+}
+
+fn write_two<W: Write>(writer: &mut BitWriter<WriteSink<W>>) -> Result<(), Fault> {
+    if writer.position() > 0 {
+        return Ok(());
+    }
+    writer.fixed(32, 0xDEC0_4342)?;
+    if writer.position() == 32 {
+        writer.vbr(2, u64::MAX)?;
+    }
+    if writer.position() == 160 {
+        writer.finish()?;
+    }
+    Ok(())
+}
+
+/// Whether a writer of this kind gets the whole, or a front of it where it fails.
+fn gets_its_part(alloc: Global, step: usize, fails_at: u64, whole: &[u8]) -> bool {
+    let (answer, position, slow) = write_some(WriteSink::new(Slow {
+        taken: Vec::new(alloc),
+        step,
+        writes: 0,
+        fails_at,
+    }));
+    let taken = slow.taken.as_slice();
+    match answer {
+        Ok(()) => position == 160 && taken == whole,
+        Err(fault) => fault == Fault::Write && fails_at > 0 && whole.starts_with(taken),
+    }
+}
+
+#[test]
+fn slow_writers(rt: HostRuntime) {
+    let mut whole = [0xFF; 20];
+    whole[..4].copy_from_slice(&[0x42, 0x43, 0xC0, 0xDE]);
+    whole[19] = 0x7F;
+    for step in 1..10 {
+        for fails_at in 0..30 {
+            assert!(rt;
+                gets_its_part(rt.alloc(), step, fails_at, &whole),
+                "{step} {fails_at}"
+            );
+        }
+    }
+}
+
+#[test]
+fn flushes(rt: HostRuntime) {
+    let slow = Slow {
+        taken: Vec::new(rt.alloc()),
+        step: 1,
+        writes: 0,
+        fails_at: 0,
+    };
+    let mut sink = WriteSink::new(slow);
+    assert!(rt; sink.flush().is_err());
+    assert!(rt; sink.flush().is_err());
 }
