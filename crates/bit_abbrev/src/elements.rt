@@ -17,6 +17,7 @@ use bit_grammar::{Op, Reason};
 const MOST_PASSED: u64 = u32::MAX as u64;
 
 /// Reads a number of values, of which there is room for so many.
+#[inline(always)]
 #[tactic(auto, unfolding(bit_grammar::specs::Record::value_count))]
 pub(crate) fn read_count<S: Source>(reader: &mut BitReader<S>, room: u64) -> Result<u64, Fault>
     ensures takes { Takes (value_count room) reader.old result reader.new }
