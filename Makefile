@@ -16,19 +16,19 @@ all: $(PROGRAM)
 
 # Proved, built, and run once on its stored input.
 $(PROGRAM): crates.txt $(foreach name,$(LIBRARIES) bitstool,$(call sources,$(name)))
-	@echo "Proving and building: about 6 minutes on 4 cores from nothing, and less after a change."
-	@$(MAKE) --no-print-directory -j2 libraries
-	@echo "proving bitstool"
+	@echo "Proving and building: about 7 minutes on 4 cores from nothing, and less after a change." >&2
+	@$(MAKE) --no-print-directory -j2 libraries < /dev/null
+	@echo "proving bitstool" >&2
 	@cd crates/bitstool && rt run --jobs $(JOBS) < stdin 2> out/make.log | cmp - stdout || { cat out/make.log; exit 1; }
 	@touch $(PROGRAM)
-	@echo "built $(PROGRAM)"
+	@echo "built $(PROGRAM)" >&2
 
 # Libraries that do not need each other are proved side by side.
 libraries: $(LIBRARIES:%=crates/%/out/built)
 
 define library
 crates/$(1)/out/built: crates.txt $(call sources,$(1)) $(patsubst %,crates/%/out/built,$(call below,$(1)))
-	@echo "proving $(1)"
+	@echo "proving $(1)" >&2
 	@mkdir -p crates/$(1)/out
 	@cd crates/$(1) && rt lib --jobs $(JOBS) > out/make.log 2>&1 || { cat out/make.log; exit 1; }
 	@touch $$@
