@@ -19,6 +19,7 @@ $(PROGRAM): crates.txt $(foreach name,$(LIBRARIES) bitstool,$(call sources,$(nam
 	@echo "Proving and building: about 7 minutes on 4 cores from nothing, and less after a change." >&2
 	@$(MAKE) --no-print-directory -j2 libraries < /dev/null
 	@echo "proving bitstool" >&2
+	@mkdir -p crates/bitstool/out
 	@cd crates/bitstool && rt run --jobs $(JOBS) < stdin 2> out/make.log | cmp - stdout || { cat out/make.log; exit 1; }
 	@touch $(PROGRAM)
 	@echo "built $(PROGRAM)" >&2
