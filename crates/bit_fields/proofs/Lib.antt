@@ -15,3 +15,5 @@ pub mod WriterLaws
 pub mod WriterChunks
 pub mod Cutting
 pub mod Short
+pub mod Glimpses
+pub mod Sights

@@ -20,7 +20,7 @@ use std::marker::Model;
 const WRAPPER_MAGIC: u64 = 0x0B17_C0DE;
 
 /// The greatest width of chunks of which four are read at once.
-const MOST_SHORT: u32 = 14;
+pub(crate) const MOST_SHORT: u32 = 14;
 
 /// Reads the fields of a stream of bits.
 ///
@@ -708,7 +708,7 @@ fn is_lawful(offset: u64) -> bool
 }
 
 /// The bits of a chunk without the top one.
-fn payload_of(chunk: u64, n: u32) -> u64
+pub(crate) fn payload_of(chunk: u64, n: u32) -> u64
     requires some { 2 ≤ n }
     requires few { n ≤ 32 }
     ensures { result ≡ chunk % 2 ^ (n - 1) }
@@ -717,7 +717,7 @@ fn payload_of(chunk: u64, n: u32) -> u64
 }
 
 /// A payload moved up to a place, if it fits 64 bits there.
-fn placed(payload: u64, place: u32) -> Option<u64>
+pub(crate) fn placed(payload: u64, place: u32) -> Option<u64>
     requires some { 0 < place }
     requires few { place < 64 }
     ensures { MatchOption result (2 ^ (64 - place) ≤ payload) (λ worth. (worth ≡ payload * 2 ^ place) × (payload < 2 ^ (64 - place))) }
@@ -730,7 +730,7 @@ fn placed(payload: u64, place: u32) -> Option<u64>
 }
 
 /// The character of a code of six bits.
-fn character(code: u64) -> u64
+pub(crate) fn character(code: u64) -> u64
     requires { code < 64 }
     ensures { result ≡ character code }
 {
