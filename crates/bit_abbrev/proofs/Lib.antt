@@ -4,3 +4,4 @@ pub mod Adding
 pub mod Taking
 pub mod Operands
 pub mod Records
+pub mod Glancing
