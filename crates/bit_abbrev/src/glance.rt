@@ -261,7 +261,7 @@ fn glance_record<V: ValueTaker>(
     values: &mut V,
 ) -> Option<u64>
     requires { Lawful ops.now }
-    ensures glimpsed { (at : ℕ) → IfSome result (λ code. Gains V.took values.old values.new (AddsWithin (abbreviated at room ops.now) room (reader_at ahead.old) (Ok code) (reader_at ahead.new))) }
+    ensures glimpsed { IfSome result (λ code. Gains V.took values.old values.new (λ before after. (at : ℕ) → AddsWithin (abbreviated at room ops.now) room (reader_at ahead.old) (Ok code) (reader_at ahead.new) before after)) }
     ensures keeps { Keeps V.took values.old values.new }
 {
     let [first, others @ ..] = ops else {
@@ -284,7 +284,7 @@ pub fn glance_abbreviated<V: ValueTaker>(
     room: u64,
     values: &mut V,
 ) -> Option<u64>
-    ensures glimpsed { (at : ℕ) → IfSome result (λ code. Gains V.took values.old values.new (AddsWithin (abbreviated at room «abbrev».now) room (reader_at ahead.old) (Ok code) (reader_at ahead.new))) }
+    ensures glimpsed { IfSome result (λ code. Gains V.took values.old values.new (λ before after. (at : ℕ) → AddsWithin (abbreviated at room «abbrev».now) room (reader_at ahead.old) (Ok code) (reader_at ahead.new) before after)) }
     ensures keeps { Keeps V.took values.old values.new }
 {
     glance_record(ahead, abbrev.ops(), room, values)
