@@ -5,7 +5,7 @@ use Rattle.std.proofs.lemmas.List.{length-append, length-take-le, take-append-le
 use Rattle.bit_grammar.specs.Bits.{bits_of, bits_of_bytes}
 use Rattle.std.specs.Int.{w32, to_le_bytes}
 use Rattle.bit_fields.proofs.BitLaws.{le_bytes_bits_32, bits_of_bytes-append}
-use Rattle.bit_fields.specs.Devices.{Incoming, IsFresh, GaveWord}
+use Rattle.bit_fields.specs.Devices.{Incoming, IsFresh, GaveWord, GaveUnseen}
 
 abbrev zeros : List ℕ
 zeros = 0 ∷ 0 ∷ 0 ∷ 0 ∷ 0 ∷ 0 ∷ 0 ∷ 0 ∷ []
@@ -79,3 +79,35 @@ four_moved window new word bytes is bits =
     ∙ ap (λ (s : List ℕ). (window ++ bits_of_bytes (take 4 bytes)) ++ bits_of_bytes s) whole
     ∙ append_assoc window (bits_of_bytes (take 4 bytes)) (bits_of_bytes (drop 4 bytes))
     ∙ ap (λ (s : List Bool). window ++ s) parts
+
+-- ---- bytes that nobody looks at
+
+-- the front of what a source showed was passed over
+pub front_passed : (i j : Incoming) (shown : List ℕ) (most count : ℕ) → IsFresh i → j.pulls ≡ i.pulls + 1 → j.failures ≡ i.failures → bytes.Consumes i.to_come j.to_come (take count shown) → (count ≡ 0 → bytes.IsAtEnd j.to_come) → count ≤ most → count ≤ length shown → GaveUnseen i j most count
+front_passed i j shown most count fresh pulls failures gone end few there =
+    let all : List ℕ = shown ++ zeros in
+    let long : length all ≡ length shown + 8 = length-append shown zeros in
+    let same : take count all ≡ take count shown = take-append-le count shown zeros there in
+    record {
+      into = all;
+      some = omega (arith, long);
+      few = few;
+      gave = record {
+        fresh = fresh;
+        fits = omega (arith, long);
+        bytes = subst (bytes.Consumes i.to_come j.to_come) (sym same) gone;
+        end = λ none more. end none;
+        pulls = pulls;
+        failures = failures;
+      };
+    }
+
+-- the front of a slice was
+pub slice_passed : (rest : List ℕ) (pulls most count : ℕ) → pulls < 2 ^ 64 - 1 → 0 < most → count ≡ min most (length rest)
+    → GaveUnseen (record { to_come = Some rest; pulls = pulls; failures = 0 }) (record { to_come = Some (take (length rest - count) (drop count rest)); pulls = pulls + 1; failures = 0 }) most count
+slice_passed rest pulls most count fresh some is =
+    let whole : take (length rest - count) (drop count rest) ≡ drop count rest = take_all (length rest - count) (drop count rest) (omega (arith, length-drop count rest)) in
+    let split : rest ≡ take count rest ++ take (length rest - count) (drop count rest) = sym (ap (λ (s : List ℕ). take count rest ++ s) whole ∙ take-append-drop count rest) in
+    let i : Incoming = record { to_come = Some rest; pulls = pulls; failures = 0 } in
+    let j : Incoming = record { to_come = Some (take (length rest - count) (drop count rest)); pulls = pulls + 1; failures = 0 } in
+    front_passed i j rest most count (omega arith) refl refl split (λ none. whole ∙ drop_all count rest (omega arith)) (omega arith) (omega arith)
