@@ -8,3 +8,4 @@ pub mod Faults
 pub mod WholeInputs
 pub mod Folds
 pub mod Runs
+pub mod Kept

@@ -16,7 +16,7 @@ mod heads;
 mod machine;
 mod running;
 
-pub use checking::check;
+pub use checking::{check, check_keeping};
 pub use event::Event;
 pub use events::Events;
 pub use folding::{Folded, fold};

@@ -16,7 +16,7 @@ use Rattle.bit_fields.proofs.BitLaws.{bits_of_bytes-append, length-bits_of_bytes
 -- ---- what is paid
 
 pub Spends-refl : (i : Incoming) (n : ℕ) → Spends i n i n
-Spends-refl i n = record { pulls = omega arith; failures = omega arith; tells = λ k. k; bytes = λ k. omega arith }
+Spends-refl i n = record { pulls = omega arith; failures = omega arith; tells = λ k. k; bytes = λ k. omega arith; accounts = λ n all says. says }
 
 pub Spends-trans : (a : Incoming) (n : ℕ) (b : Incoming) (m : ℕ) (c : Incoming) (k : ℕ) → Spends a n b m → Spends b m c k → Spends a n c k
 Spends-trans a n b m c k p q = record {
@@ -24,11 +24,12 @@ Spends-trans a n b m c k p q = record {
   failures = omega (arith, p.failures, q.failures);
   tells = λ t. q.tells (p.tells t);
   bytes = λ t. omega (arith, p.bytes t, q.bytes (p.tells t));
+  accounts = λ at all says. q.accounts at all (p.accounts at all says);
 }
 
 -- no more is asked for
 pub Spends-none : (a : Incoming) (n : ℕ) (b : Incoming) (m : ℕ) → Spends a n b m → Spends a n b 0
-Spends-none a n b m p = record { pulls = omega (arith, p.pulls); failures = p.failures; tells = p.tells; bytes = λ t. omega (arith, p.bytes t) }
+Spends-none a n b m p = record { pulls = omega (arith, p.pulls); failures = p.failures; tells = p.tells; bytes = λ t. omega (arith, p.bytes t); accounts = p.accounts }
 
 -- ---- what a pull gives
 
@@ -55,6 +56,7 @@ gave_spends i j count into before after gave paid one =
       failures = omega (arith, gave.failures);
       tells = λ k. (consumed i.to_come j.to_come (take count into) gave.bytes k).0;
       bytes = λ k. omega (arith, ap length (consumed i.to_come j.to_come (take count into) gave.bytes k).1, length-append (take count into) (known_bytes j.to_come), taken);
+      accounts = gave.accounts;
     }
 
 failed_spends : (i j : Incoming) (before : ℕ) → GaveNone i j → 1 ≤ before → Spends i before j 0
@@ -63,10 +65,10 @@ failed_spends i j before none some =
     elim (cases_lt (max i.pulls i.failures) (2 ^ 64 - 1)) [
       | inl fresh ↦
           let counted = none.counted fresh in
-          record { pulls = omega (arith, counted.0); failures = omega (arith, counted.1); tells = λ k. (kept i.to_come j.to_come none.bytes k).0; bytes = λ k. omega (arith, same k) }
+          record { pulls = omega (arith, counted.0); failures = omega (arith, counted.1); tells = λ k. (kept i.to_come j.to_come none.bytes k).0; bytes = λ k. omega (arith, same k); accounts = none.accounts }
       | inr worn ↦
           let is : j ≡ i = none.worn worn in
-          record { pulls = rw is (omega arith); failures = rw is (omega arith); tells = λ k. (kept i.to_come j.to_come none.bytes k).0; bytes = λ k. omega (arith, same k) }
+          record { pulls = rw is (omega arith); failures = rw is (omega arith); tells = λ k. (kept i.to_come j.to_come none.bytes k).0; bytes = λ k. omega (arith, same k); accounts = none.accounts }
     ]
 
 -- ---- once
