@@ -55,9 +55,9 @@ pub slice_front_taken : (rest : List ℕ) (pulls room word count : ℕ) → pull
 slice_front_taken rest pulls room word count fresh some few is below bits =
     let whole : take (length rest - count) (drop count rest) ≡ drop count rest = take_all (length rest - count) (drop count rest) (omega (arith, length-drop count rest)) in
     let split : rest ≡ take count rest ++ take (length rest - count) (drop count rest) = sym (ap (λ (s : List ℕ). take count rest ++ s) whole ∙ take-append-drop count rest) in
-    let i : Incoming = record { to_come = Some rest; pulls = pulls; failures = 0 } in
-    let j : Incoming = record { to_come = Some (take (length rest - count) (drop count rest)); pulls = pulls + 1; failures = 0 } in
-    front_taken i j rest room word count (omega arith) refl refl split (λ none. whole ∙ drop_all count rest (omega arith)) few is below bits
+    let i : Incoming = record { to_come = Some rest; pulls = pulls; failures = 0; accounts = [] } in
+    let j : Incoming = record { to_come = Some (take (length rest - count) (drop count rest)); pulls = pulls + 1; failures = 0; accounts = [] } in
+    front_taken i j rest room word count (omega arith) refl refl split (λ none. whole ∙ drop_all count rest (omega arith)) refl few is below bits
 
 -- ---- four bytes
 
@@ -84,8 +84,8 @@ four_moved window new word bytes is bits =
 -- ---- bytes that nobody looks at
 
 -- the front of what a source showed was passed over
-pub front_passed : (i j : Incoming) (shown : List ℕ) (most count : ℕ) → IsFresh i → j.pulls ≡ i.pulls + 1 → j.failures ≡ i.failures → bytes.Consumes i.to_come j.to_come (take count shown) → (count ≡ 0 → bytes.IsAtEnd j.to_come) → count ≤ most → count ≤ length shown → GaveUnseen i j most count
-front_passed i j shown most count fresh pulls failures gone end few there =
+pub front_passed : (i j : Incoming) (shown : List ℕ) (most count : ℕ) → IsFresh i → j.pulls ≡ i.pulls + 1 → j.failures ≡ i.failures → bytes.Consumes i.to_come j.to_come (take count shown) → (count ≡ 0 → bytes.IsAtEnd j.to_come) → j.accounts ≡ i.accounts → count ≤ most → count ≤ length shown → GaveUnseen i j most count
+front_passed i j shown most count fresh pulls failures gone end accounts few there =
     let all : List ℕ = shown ++ zeros in
     let long : length all ≡ length shown + 8 = length-append shown zeros in
     let same : take count all ≡ take count shown = take-append-le count shown zeros there in
@@ -100,15 +100,16 @@ front_passed i j shown most count fresh pulls failures gone end few there =
         end = λ none more. end none;
         pulls = pulls;
         failures = failures;
+        accounts = λ n all says. subst (λ (a : List Account). SaysOf a n all) (sym accounts) says;
       };
     }
 
 -- the front of a slice was
 pub slice_passed : (rest : List ℕ) (pulls most count : ℕ) → pulls < 2 ^ 64 - 1 → 0 < most → count ≡ min most (length rest)
-    → GaveUnseen (record { to_come = Some rest; pulls = pulls; failures = 0 }) (record { to_come = Some (take (length rest - count) (drop count rest)); pulls = pulls + 1; failures = 0 }) most count
+    → GaveUnseen (record { to_come = Some rest; pulls = pulls; failures = 0; accounts = [] }) (record { to_come = Some (take (length rest - count) (drop count rest)); pulls = pulls + 1; failures = 0; accounts = [] }) most count
 slice_passed rest pulls most count fresh some is =
     let whole : take (length rest - count) (drop count rest) ≡ drop count rest = take_all (length rest - count) (drop count rest) (omega (arith, length-drop count rest)) in
     let split : rest ≡ take count rest ++ take (length rest - count) (drop count rest) = sym (ap (λ (s : List ℕ). take count rest ++ s) whole ∙ take-append-drop count rest) in
-    let i : Incoming = record { to_come = Some rest; pulls = pulls; failures = 0 } in
-    let j : Incoming = record { to_come = Some (take (length rest - count) (drop count rest)); pulls = pulls + 1; failures = 0 } in
-    front_passed i j rest most count (omega arith) refl refl split (λ none. whole ∙ drop_all count rest (omega arith)) (omega arith) (omega arith)
+    let i : Incoming = record { to_come = Some rest; pulls = pulls; failures = 0; accounts = [] } in
+    let j : Incoming = record { to_come = Some (take (length rest - count) (drop count rest)); pulls = pulls + 1; failures = 0; accounts = [] } in
+    front_passed i j rest most count (omega arith) refl refl split (λ none. whole ∙ drop_all count rest (omega arith)) refl (omega arith) (omega arith)

@@ -35,6 +35,6 @@ reader_at sight = record {
   position = sight.position;
   left = sight.bits;
   extent = record { total = 0; end = 0; limit = 0 };
-  incoming = record { to_come = Some []; pulls = 0; failures = 0 };
+  incoming = record { to_come = Some []; pulls = 0; failures = 0; accounts = [] };
   budget = 0;
 }
