@@ -15,3 +15,4 @@ pub mod WriterLaws
 pub mod WriterChunks
 pub mod Cutting
 pub mod Short
+pub mod Texts

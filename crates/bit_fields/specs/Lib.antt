@@ -5,4 +5,5 @@ pub mod Inside
 pub mod Opening
 pub mod Ending
 pub mod Writer
+pub mod Texts
 pub mod Short
