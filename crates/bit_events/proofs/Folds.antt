@@ -24,7 +24,7 @@ use Rattle.bit_events.specs.declared.machine.Machine.{Machine}
 use Rattle.bit_grammar.proofs.Telling.{told_if_broken}
 use Rattle.bit_events.specs.Events.{coming_of, Shuts, Begun}
 use Rattle.bit_events.specs.FrameView.{frames_shown}
-use Rattle.bit_events.specs.Folding.{left_to_tell, GathersOne, TakesOne, TakesSome, GathersSome, GathersAll, Misses, Gathered}
+use Rattle.bit_events.specs.Folding.{left_to_tell, GathersOne, TakesOne, TakesSome, GathersSome, GathersAll, Misses, Gathered, GatheredSome}
 use Rattle.bit_events.specs.Gathering.{open_behind, left_open, Gathers}
 use Rattle.bit_events.specs.HeadView.{head_shown}
 use Rattle.bit_events.specs.MachineView.{handed_shown, machine_shown, innermost_head, record_rule, Leaves}
@@ -228,7 +228,7 @@ all_gathered gathered limits m a g n b h c some none shut = record {
   pays = pays_both a b c some.pays shut.1.stops.goes_on;
   told = λ tells. some.told tells ∙ ap (λ (told : Told). (some.events ++ told.0, told.1)) (ended (some.pays.tells tells)) ∙ ap (λ (events : List Event). (events, accepted c.position)) (append-nil some.events);
   none = λ tells. shut.1.none (some.pays.tells tells);
-  gathers = λ first done was count. (some.gathers first done was count).0;
+  gathers = λ first done was count. (let it = some.gathers first done was count in (it.0, it.1 ∙ none));
 }
   where
     ended : TellsBytes b → left_to_tell limits n b ≡ ([], accepted c.position)
@@ -275,5 +275,9 @@ whole_gathered gathered limits i head m a g b h after begun none is_after all te
       spelled = it.spelled;
       is_head = it.is_head;
       is_after = it.ended ∙ sym is_after;
-      gathers = subst (λ (events : List Event). gathered g events h) it.flattened (all.gathers g [] none (sym begun.depth));
+      gathers = subst (λ (events : List Event). gathered g events h) it.flattened (all.gathers g [] none (sym begun.depth)).0;
     }
+
+-- whether the source tells its bytes or not
+pub some_gathered : {G : Type 0} (gathered : G → List Event → G → Type 0) (limits : Limits) (m : Machine) (a : Reader) (g : G) (b : Reader) (h : G) → gathered g [] g → vec_len m.frames ≡ 0 → GathersAll gathered limits m a g b h → GatheredSome gathered g h
+some_gathered gathered limits m a g b h none outside all = (let it = all.gathers g [] none (sym outside) in (all.events, it.0, it.1))

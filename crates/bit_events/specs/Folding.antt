@@ -45,13 +45,13 @@ pub record GathersSome {G : Type 0} (gathered : G → List Event → G → Type 
   pub told : TellsBytes a → left_to_tell limits m a ≡ (events ++ (left_to_tell limits n b).0, (left_to_tell limits n b).1)
   pub gathers : (first : G) (done : List Event) → gathered first done g → left_open done ≡ vec_len m.frames → gathered first (done ++ events) h × (left_open (done ++ events) ≡ vec_len n.frames)
 
--- these are all events
+-- these are all events, and they leave no block open
 pub record GathersAll {G : Type 0} (gathered : G → List Event → G → Type 0) (limits : Limits) (m : Machine) (a : Reader) (g : G) (b : Reader) (h : G) : Type 0 where
   pub events : List Event
   pub pays : GoesOn a b
   pub told : TellsBytes a → left_to_tell limits m a ≡ (events, accepted b.position)
   pub none : TellsBytes a → known_bytes b.incoming.to_come ≡ []
-  pub gathers : (first : G) (done : List Event) → gathered first done g → left_open done ≡ vec_len m.frames → gathered first (done ++ events) h
+  pub gathers : (first : G) (done : List Event) → gathered first done g → left_open done ≡ vec_len m.frames → gathered first (done ++ events) h × (left_open (done ++ events) ≡ 0)
 
 -- Why events are left that were not gathered: the events end with this fault; the source failed; or no memory.
 abbrev pub Misses : Limits → Machine → Reader → Fault → Reader → Type 0
@@ -71,6 +71,10 @@ TakesAll gathered limits m a g (Ok _) b h = GathersAll gathered limits m a g b h
 TakesAll gathered limits m a g (Err fault) b h = Misses limits m a fault b
 
 -- ---- a whole input
+
+-- it gathered some events, which leave no block open
+abbrev pub GatheredSome : {G : Type 0} → (G → List Event → G → Type 0) → (first last : G) → Type 0
+GatheredSome gathered first last = (events : List Event) × gathered first events last × (left_open events ≡ 0)
 
 -- the bytes spell a marked tree with this head that ends before this bit, and its events were gathered
 pub record Gathered {G : Type 0} (gathered : G → List Event → G → Type 0) (limits : Limits) (bytes : List ℕ) (first : G) (head : Head) (last : G) (after : ℕ) : Type 0 where

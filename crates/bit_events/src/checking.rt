@@ -37,7 +37,7 @@ impl Gatherer for Nothing {
         &mut self,
         _id: u32,
         _code: u64,
-        _values: &ValueCount,
+        _values: &mut ValueCount,
         _first: u64,
         _after: u64,
     ) -> Result<(), AllocError> {

@@ -1,10 +1,10 @@
 //! Reading a whole input into what gathers its events.
 
-ghost use Rattle.std.specs.Prelude.{◌≡◌, ◌<◌, ◌≤◌, ◌%◌, true, ℕ, List, [], ◌∷◌, OnOk, vec_len};
+ghost use Rattle.std.specs.Prelude.{◌≡◌, ◌<◌, ◌≤◌, ◌%◌, true, ℕ, List, [], ◌∷◌, OnOk, IfOk, vec_len};
 ghost use Rattle.bit_grammar.specs.Machine as machine;
 ghost use Rattle.bit_grammar.specs.Machine.{scope_of, step_after, step_top};
 ghost use Rattle.bit_fields.specs.Opening.{head_told};
-ghost use Rattle.bit_events.specs.Folding.{TakesOne, TakesSome, TakesAll, Gathered};
+ghost use Rattle.bit_events.specs.Folding.{TakesOne, TakesSome, TakesAll, Gathered, GatheredSome};
 ghost use Rattle.bit_events.specs.FrameView.{frames_shown};
 ghost use Rattle.bit_events.specs.Gathering.{Gathers};
 ghost use Rattle.bit_events.specs.HeadView.{head_shown};
@@ -167,7 +167,8 @@ impl<S: Source, G: Gatherer> Folding<S, G> {
 /// Reads an input, from the first byte that its source still has to the last, and gathers its events.
 ///
 /// It takes no byte past the one behind the limit on bytes. `Refused` names the one reason and bit at which the input breaks
-/// the rules. The source is handed back as it stands.
+/// the rules. The source is handed back as it stands. Also where the source does not tell its bytes, what was gathered are
+/// the events of some blocks, each of them closed.
 pub fn fold<S: Source, G: Gatherer>(
     alloc: Global,
     source: S,
@@ -175,7 +176,8 @@ pub fn fold<S: Source, G: Gatherer>(
     gatherer: G,
 ) -> (Result<Folded<G>, Fault>, S)
     requires { G.gathered gatherer [] gatherer }
-    ensures { ReadsWhole (λ bytes folded. Gathered G.gathered limits bytes gatherer (head_told folded.head) folded.gatherer folded.after) limits (S.incoming source) result.0 (S.incoming result.1) }
+    ensures whole { ReadsWhole (λ bytes folded. Gathered G.gathered limits bytes gatherer (head_told folded.head) folded.gatherer folded.after) limits (S.incoming source) result.0 (S.incoming result.1) }
+    ensures some { IfOk result.0 (λ folded. GatheredSome G.gathered gatherer folded.gatherer) }
 {
     // Its cap is below 2^64 - 1, where no wrapper ends a stream.
     let _bytes = limits.bytes();

@@ -1,6 +1,7 @@
 ghost use Rattle.std.specs.Prelude.{ℕ, List, [], OnOk};
 ghost use Rattle.bit_grammar.specs.Machine.{enters, defines, notes, leaves};
 ghost use Rattle.bit_events.specs.Gathering.{Gathers};
+ghost use Rattle.bit_events.specs.MachineView.{TookSome};
 
 use bit_abbrev::Abbrev;
 use bit_fields::ValueTaker;
@@ -29,16 +30,18 @@ pub trait Gatherer: Drop {
     fn define(&mut self, abbrev: &Abbrev, first: u64, after: u64) -> Result<(), AllocError>
         ensures { OnOk result (Gathers gathered self.old (defines (record { ops = «abbrev».now; first = first; after = after })) self.new) };
 
-    /// Takes a record in the innermost block: its abbreviation id, its code, what took its values, its first bit and the bit after it.
+    /// Takes a record in the innermost block: its abbreviation id, its code, what took its values, its first bit and the bit
+    /// after it. The values may be taken away.
     fn record(
         &mut self,
         id: u32,
         code: u64,
-        values: &Self::Values,
+        values: &mut Self::Values,
         first: u64,
         after: u64,
     ) -> Result<(), AllocError>
-        ensures { OnOk result ((list : List ℕ) → Self.Values.took values.now list → Gathers gathered self.old (notes (record { abbreviation = id; code = code; values = list; first = first; after = after })) self.new) };
+        ensures gathers { OnOk result ((list : List ℕ) → Self.Values.took values.old list → Gathers gathered self.old (notes (record { abbreviation = id; code = code; values = list; first = first; after = after })) self.new) }
+        ensures took { TookSome Self.Values.took values.old → TookSome Self.Values.took values.new };
 
     /// Takes the end of the innermost block, the bit after it.
     fn leave(&mut self, after: u64) -> Result<(), AllocError>

@@ -18,3 +18,4 @@ pub mod Cutting
 pub mod Short
 pub mod Glimpses
 pub mod Sights
+pub mod Texts

@@ -224,3 +224,43 @@ collecting_goes_on n value chunks next rest some few le c next_is =
 pub collecting_ends : (n value : ℕ) (chunks : List Bool) (rest : ℕ) → 2 ≤ n → rest < 2 ^ (n - 1) → Collecting n value chunks rest → chunks ++ bits_of n rest ≡ shortest n value
 collecting_ends n value chunks rest some lt c =
     sym (c.whole ∙ ap (λ (s : List Bool). chunks ++ s) (tail_last (n - 1) c.permitted rest lt ∙ sym (last_bits n rest some lt)))
+
+-- ---- chunks that are added to a text
+
+-- chunks of a value were added to a text, and one at least is permitted for what is left of it
+pub record Spelling (n value : ℕ) (start now : List Bool) (rest : ℕ) : Type 0 where
+  pub permitted : ℕ
+  pub whole : start ++ shortest n value ≡ now ++ tail (n - 1) (suc permitted) rest
+  pub below : rest < 2 ^ ((n - 1) * suc permitted)
+  pub room : length now + 32 * suc permitted < 2 ^ 63
+
+pub spelling_starts : (n value : ℕ) (start : List Bool) → 2 ≤ n → n ≤ 32 → value < 2 ^ 64 → length start < 2 ^ 62 → Spelling n value start start value
+spelling_starts n value start some few below position =
+    let is : chunk_limit (n - 1) ≡ suc (chunk_limit (n - 1) - 1) = limit_is (n - 1) (omega arith) in
+    let enough : 64 ≤ (n - 1) * suc (chunk_limit (n - 1) - 1) = subst (λ k. 64 ≤ (n - 1) * k) is (limit_is_enough (n - 1) (omega arith)) in
+    record {
+      permitted = chunk_limit (n - 1) - 1;
+      whole = ap (λ k. start ++ tail (n - 1) k value) is;
+      below = omega (arith, below, pow_mono enough);
+      room = omega (arith, position, limit_is_small (n - 1) (omega arith), is);
+    }
+
+pub spelling_goes_on : (n value : ℕ) (start now next : List Bool) (rest : ℕ) → 2 ≤ n → n ≤ 32 → 2 ^ (n - 1) ≤ rest → Spelling n value start now rest → next ≡ now ++ bits_of n (chunk n rest) → Spelling n value start next (rest / 2 ^ (n - 1))
+spelling_goes_on n value start now next rest some few le c next_is =
+    let k = another (n - 1) c.permitted rest le c.below in
+    let others : List Bool = tail (n - 1) (suc k.0) (rest / 2 ^ (n - 1)) in
+    let len : length next ≡ length now + n = ap length next_is ∙ length-append now (bits_of n (chunk n rest)) ∙ ap (λ i. length now + i) (length-bits_of n (chunk n rest)) in
+    record {
+      permitted = k.0;
+      whole =
+          c.whole
+          ∙ ap (λ (s : List Bool). now ++ s) (ap (λ k. tail (n - 1) (suc k) rest) k.1 ∙ tail_more (n - 1) k.0 rest le ∙ ap (λ (s : List Bool). s ++ others) (sym (chunk_bits n rest some few)))
+          ∙ sym (append_assoc now (bits_of n (chunk n rest)) others)
+          ∙ ap (λ (s : List Bool). s ++ others) (sym next_is);
+      below = shr_lt ((n - 1) * suc k.0) (n - 1) (next_chunk (n - 1) c.permitted k.0 rest k.1 c.below);
+      room = omega (arith, c.room, k.1, len);
+    }
+
+pub spelling_ends : (n value : ℕ) (start now : List Bool) (rest : ℕ) → 2 ≤ n → rest < 2 ^ (n - 1) → Spelling n value start now rest → now ++ bits_of n rest ≡ start ++ shortest n value
+spelling_ends n value start now rest some lt c =
+    sym (c.whole ∙ ap (λ (s : List Bool). now ++ s) (tail_last (n - 1) c.permitted rest lt ∙ sym (last_bits n rest some lt)))

@@ -5,5 +5,6 @@ pub mod Inside
 pub mod Opening
 pub mod Ending
 pub mod Writer
+pub mod Texts
 pub mod Short
 pub mod Ahead

@@ -13,9 +13,11 @@ mod sink;
 mod source;
 #[cfg(test)]
 mod tests;
+mod text;
 mod values;
 mod window;
 mod word;
+mod word_list;
 #[cfg(test)]
 mod word_tests;
 mod writer;
@@ -32,6 +34,7 @@ pub use limits::Limits;
 pub use reader::BitReader;
 pub use sink::{Sink, SinkFailed, VecSink, WriteSink};
 pub use source::{AtHand, BufSource, ReadSource, SliceSource, Source, SourceFailed};
+pub use text::BitText;
 pub use values::{ValueCount, ValueTaker};
 pub use writer::BitWriter;
 pub use writer_laws::{bytes_of_writing, write_nothing, write_then_stop, write_then_write};

@@ -136,7 +136,7 @@ impl Gatherer for Counter {
         &mut self,
         id: u32,
         code: u64,
-        values: &ValueCount,
+        values: &mut ValueCount,
         first: u64,
         after: u64,
     ) -> Result<(), AllocError> {

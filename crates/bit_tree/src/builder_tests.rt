@@ -53,8 +53,8 @@ fn give<G: Gatherer<Values = Vec<u64>>>(
             first,
             after,
         } => {
-            let values = Vec::from_slice(alloc, values)?;
-            gatherer.record(abbrev, code, &values, first, after)
+            let mut values = Vec::from_slice(alloc, values)?;
+            gatherer.record(abbrev, code, &mut values, first, after)
         }
         Row::Leave { after } => gatherer.leave(after),
     }

@@ -6,14 +6,17 @@ use Rattle.bit_events.specs.Folding.{Gathered}
 use Rattle.bit_events.specs.Reading.{Spent}
 use Rattle.bit_events.proofs.Advancing.{began, declined}
 use Rattle.bit_events.proofs.WholeInputs.{not_begun}
-use Rattle.bit_events.proofs.Folds.{spent, not_read, whole_gathered}
+use Rattle.bit_events.proofs.Folds.{spent, not_read, whole_gathered, some_gathered}
 use Rattle.bit_events.proofs.folding.fold.Goals as goal
 
-pub returns-in-Err : goal.returns-in-Err
-returns-in-Err g c = not_begun {A = Unit {0}} (λ bytes done. Unit {0}) c.args.limits (g.S.Source.incoming c.args.source) (g.S.Source.incoming c.in-Err.source) c.in-Err.fault (declined c.args.limits (g.S.Source.incoming c.args.source) c.in-Err.fault (g.S.Source.incoming c.in-Err.source) (omega (arith, c.bytes-bytes.ensures.capped.bytes)) c.in-Err.ensures.refused)
+pub returns-in-Err-clause-whole : goal.returns-in-Err-clause-whole
+returns-in-Err-clause-whole g c = not_begun {A = Unit {0}} (λ bytes done. Unit {0}) c.args.limits (g.S.Source.incoming c.args.source) (g.S.Source.incoming c.in-Err.source) c.in-Err.fault (declined c.args.limits (g.S.Source.incoming c.args.source) c.in-Err.fault (g.S.Source.incoming c.in-Err.source) (omega (arith, c.bytes-bytes.ensures.capped.bytes)) c.in-Err.ensures.refused)
 
-pub returns-in-Ok-done : goal.returns-in-Ok-done
-returns-in-Ok-done g c =
+pub returns-in-Ok-done-clause-some : goal.returns-in-Ok-done-clause-some
+returns-in-Ok-done-clause-some g c = some_gathered g.G.Gatherer.gathered c.args.limits c.new.result c.in-Ok.begun.0 c.args.gatherer c.gather-done.new.self.reader c.gather-done.new.self.gatherer c.requires c.new.ensures.none c.in-Ok-done.ensures
+
+pub returns-in-Ok-done-clause-whole : goal.returns-in-Ok-done-clause-whole
+returns-in-Ok-done-clause-whole g c =
     let i = g.S.Source.incoming c.args.source in
     let b = c.gather-done.new.self.reader in
     let head = c.in-Ok.begun.1 in
@@ -24,8 +27,8 @@ returns-in-Ok-done g c =
       λ tells. (whole_gathered g.G.Gatherer.gathered c.args.limits i head c.new.result c.in-Ok.begun.0 c.args.gatherer b c.gather-done.new.self.gatherer c.position-after.result begun c.requires c.position-after.ensures.position all tells, all.none (begun.pays.tells tells)),
     )
 
-pub returns : goal.returns
-returns g c =
+pub returns-clause-whole : goal.returns-clause-whole
+returns-clause-whole g c =
     let i = g.S.Source.incoming c.args.source in
     let head = c.in-Ok.begun.1 in
     let begun : Begun c.args.limits i (coming_of false c.args.limits head c.new.result [] None c.in-Ok.begun.0) = began c.args.limits i head c.new.result [] c.in-Ok.begun.0 c.bytes-bytes.ensures.capped c.new.ensures.machine refl c.new.ensures.none c.in-Ok.ensures.begun in

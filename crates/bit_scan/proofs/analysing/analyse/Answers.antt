@@ -9,7 +9,7 @@ use Rattle.bit_scan.proofs.analysing.analyse.Goals as goal
 
 pub returns-in-Ok : goal.returns-in-Ok
 returns-in-Ok g c =
-    let all = rw c.in-Ok.is at c.fold-answer.ensures in
+    let all = rw c.in-Ok.is at c.fold-answer.ensures.whole in
     let bytes = known_bytes (g.S.Source.incoming c.args.source).to_come in
     let bits = c.saturating_sub-bits.ensures ∙ ap (λ (n : ℕ). c.in-Ok.folded.after - n) c.begin_of.ensures in
     let tally : Tally = record { magic = magic_number c.in-Ok.folded.head.magic; bits = c.saturating_sub-bits.result; rows = block_tallies c.into_rows-rows.result.entries } in (

@@ -5,5 +5,5 @@ use Rattle.bit_tree.proofs.reading.read.Goals as goal
 
 pub returns-in-Ok : goal.returns-in-Ok
 returns-in-Ok g c =
-    let all = rw c.in-Ok.is at c.fold-answer.ensures in
+    let all = rw c.in-Ok.is at c.fold-answer.ensures.whole in
     (all.0, λ tells. (marked_fit c.args.limits (known_bytes (g.S.Source.incoming c.args.source).to_come) c.new.result c.in-Ok.folded.gatherer (head_told c.in-Ok.folded.head) c.finish.result c.in-Ok.folded.after (all.1 tells).0 c.finish.ensures, (all.1 tells).1))

@@ -1,0 +1,23 @@
+-- Bits that are held in memory, in words.
+use Rattle.std.specs.Prelude.{◌≡◌, ℕ, ◌+◌, ◌*◌, Bool, List, [], ◌∷◌, ◌++◌, length, take, drop}
+use Rattle.std.specs.Global.{Vec}
+use Rattle.std.specs.List.{flat_map}
+use Rattle.bit_grammar.specs.Bits.{bits_of}
+
+-- the words of chunks
+abbrev pub joined : List (Vec ℕ) → List ℕ
+joined [] = []
+joined (chunk ∷ chunks) = chunk.items ++ joined chunks
+
+-- each chunk has all the words that it can have
+abbrev pub AreFull : List (Vec ℕ) → Type 0
+AreFull [] = Unit {0}
+AreFull (chunk ∷ chunks) = (length chunk.items ≡ 262144) × AreFull chunks
+
+-- the bits of words of 32 bits in order, the low bit of each first
+abbrev pub bits_of_words : List ℕ → List Bool
+bits_of_words words = flat_map (bits_of 32) words
+
+-- a text with another word in place of one
+abbrev pub with_word : (place word : ℕ) → List Bool → List Bool
+with_word place word text = take (32 * place) text ++ (bits_of 32 word ++ drop (32 * place + 32) text)

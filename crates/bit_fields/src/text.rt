@@ -1,0 +1,250 @@
+//! Bits in memory.
+
+ghost use Rattle.std.specs.Prelude.{◌≡◌, ◌+◌, ◌*◌, ◌%◌, ◌^◌, ◌<◌, ◌≤◌, ◌++◌, [], length, true, OnOk};
+ghost use Rattle.bit_grammar.specs.Bits.{bits_of};
+ghost use Rattle.bit_grammar.specs.FormatFields.{shortest};
+ghost use Rattle.bit_grammar.specs.Normal.{padding};
+ghost use Rattle.bit_fields.specs.Texts.{bits_of_words, with_word};
+ghost use Rattle.bit_fields.specs.Writer.{Writes};
+
+use crate::fault::Fault;
+use crate::sink::Sink;
+use crate::window::Window;
+use crate::word_list::Words;
+use crate::writer::BitWriter;
+use std::alloc::{AllocError, Global};
+use std::marker::Model;
+use std::mem;
+
+/// A text of bits in memory: whole words of 32 bits, and up to 64 bits behind them. It grows without a copy of what there is,
+/// and where memory is refused its bits are any.
+#[derive(Drop)]
+pub struct BitText {
+    words: Words,
+    window: Window,
+    len: u64,
+}
+
+impl Model for BitText {
+    ghost use Rattle.std.specs.Prelude.{◌≡◌, List, Bool, ◌++◌, length};
+    ghost use Rattle.bit_fields.specs.Texts.{bits_of_words};
+
+    ghost Value = { List Bool };
+
+    ghost view = { λ t. bits_of_words t.words ++ t.window };
+
+    ghost invariant = { λ t. t.len ≡ length (bits_of_words t.words ++ t.window) };
+}
+
+impl BitText {
+    /// No bits.
+    pub fn new(alloc: Global) -> BitText
+        ensures { result ≡ [] }
+    {
+        BitText {
+            words: Words::new(alloc),
+            window: Window::new(),
+            len: 0,
+        }
+    }
+
+    /// How many bits there are.
+    #[inline(always)]
+    pub fn len(&self) -> u64
+        ensures { result ≡ length self.now }
+    {
+        self.len
+    }
+
+    /// Drops all bits.
+    #[inline(always)]
+    pub fn clear(&mut self)
+        ensures { self.new ≡ [] }
+    {
+        self.words.clear();
+        self.window = Window::new();
+        self.len = 0;
+    }
+
+    /// Adds a number of n bits, n from 0 to 32, the lowest bit first.
+    #[inline(always)]
+    pub fn fixed(&mut self, n: u32, value: u64) -> Result<(), AllocError>
+        requires few { n ≤ 32 }
+        requires fits { value < 2 ^ n }
+        requires room { length self.old < 2 ^ 63 }
+        ensures { OnOk result (self.new ≡ self.old ++ bits_of n value) }
+    {
+        make_room(&mut self.words, &mut self.window)?;
+        self.window.push(value, n);
+        self.len += u64::from(n);
+        Ok(())
+    }
+
+    /// Adds a number in chunks of n bits, n from 2 to 32, as few as it takes.
+    #[inline(always)]
+    pub fn vbr(&mut self, n: u32, value: u64) -> Result<(), AllocError>
+        requires some { 2 ≤ n }
+        requires few { n ≤ 32 }
+        requires room { length self.old < 2 ^ 62 }
+        ensures { OnOk result (self.new ≡ self.old ++ shortest n value) }
+    {
+        let more = 1 << (n - 1);
+        let mut rest = value;
+        while rest >= more {
+            self.fixed(n, (rest & (more - 1)) + more)?;
+            rest >>= n - 1;
+        }
+        self.fixed(n, rest)
+    }
+
+    /// Adds zeros up to the next position that is a multiple of 32, possibly none.
+    pub fn pad(&mut self) -> Result<(), AllocError>
+        requires { length self.old < 2 ^ 63 }
+        ensures { OnOk result (self.new ≡ self.old ++ padding (length self.old)) }
+    {
+        let count = ((32 - self.len % 32) % 32) as u32;
+        self.fixed(count, 0)
+    }
+
+    /// Puts a number of 32 bits in the place of a word, counted from the first one. The bits are whole words.
+    pub fn set_word(&mut self, place: u64, word: u32) -> Result<(), AllocError>
+        requires whole { length self.old % 32 ≡ 0 }
+        requires there { 32 * place + 32 ≤ length self.old }
+        ensures { OnOk result (self.new ≡ with_word place word self.old) }
+    {
+        settle(&mut self.words, &mut self.window)?;
+        self.words.set(place as usize, word);
+        Ok(())
+    }
+
+    /// Adds words.
+    pub(crate) fn add_words(&mut self, words: &[u32]) -> Result<(), AllocError>
+        requires { length self.old + 32 * length words.now < 2 ^ 63 }
+        ensures { OnOk result (self.new ≡ self.old ++ bits_of_words words.now) }
+    {
+        for word in words {
+            self.fixed(32, u64::from(*word))?;
+        }
+        Ok(())
+    }
+
+    /// Adds the bits of a window, 32 at most.
+    #[inline(always)]
+    fn add_few(&mut self, bits: Window) -> Result<(), AllocError>
+        requires few { length bits ≤ 32 }
+        requires room { length self.old < 2 ^ 63 }
+        ensures { OnOk result (self.new ≡ self.old ++ bits) }
+    {
+        let mut bits = bits;
+        let count = bits.len();
+        let value = bits.take(count);
+        self.fixed(count, value)
+    }
+
+    /// Adds the bits of a window.
+    #[inline(always)]
+    fn add_window(&mut self, bits: Window) -> Result<(), AllocError>
+        requires { length self.old < 2 ^ 62 }
+        ensures { OnOk result (self.new ≡ self.old ++ bits) }
+    {
+        let mut rest = bits;
+        let count = rest.len().min(32);
+        self.add_few(rest.split(count))?;
+        self.add_few(rest)
+    }
+
+    /// Moves all bits of another text behind those that are here. It is then empty, and gave the memory back of what it had,
+    /// except that of its last words.
+    #[inline]
+    pub fn append(&mut self, other: &mut BitText) -> Result<(), AllocError>
+        requires { length self.old + length other.old < 2 ^ 62 }
+        ensures moved { OnOk result (self.new ≡ self.old ++ other.old) }
+        ensures none { other.new ≡ [] }
+    {
+        let moved = other.words.move_behind(self);
+        let rest = mem::replace(&mut other.window, Window::new());
+        other.words.clear();
+        other.len = 0;
+        moved?;
+        self.add_window(rest)
+    }
+
+    /// Writes all bits, whole words, behind what a writer wrote.
+    pub fn write<K: Sink>(self, writer: &mut BitWriter<K>) -> Result<(), Fault>
+        requires live { writer.old.live ≡ true }
+        requires room { writer.old.position + length self < 2 ^ 62 }
+        ensures { Writes self writer.old result writer.new }
+    {
+        let BitText {
+            words,
+            window,
+            len: _,
+        } = self;
+        words.write(writer)?;
+        write_window(window, writer)
+    }
+}
+
+/// Moves the first 32 bits behind words to the words.
+#[inline(always)]
+fn move_word(words: &mut Words, window: &mut Window) -> Result<(), AllocError>
+    requires { 32 ≤ length window.old }
+    ensures same { bits_of_words words.new ++ window.new ≡ bits_of_words words.old ++ window.old }
+    ensures fewer { OnOk result (length window.new + 32 ≡ length window.old) }
+{
+    let word = window.peek(32);
+    words.push(word as u32)?;
+    window.take(32);
+    Ok(())
+}
+
+/// Moves the first 32 bits behind words to the words where 32 more would not fit.
+#[inline(always)]
+fn make_room(words: &mut Words, window: &mut Window) -> Result<(), AllocError>
+    ensures same { bits_of_words words.new ++ window.new ≡ bits_of_words words.old ++ window.old }
+    ensures few { OnOk result (length window.new ≤ 32) }
+{
+    if window.len() > 32 {
+        return move_word(words, window);
+    }
+    Ok(())
+}
+
+/// Moves all whole words behind words to the words.
+fn settle(words: &mut Words, window: &mut Window) -> Result<(), AllocError>
+    ensures same { bits_of_words words.new ++ window.new ≡ bits_of_words words.old ++ window.old }
+    ensures few { OnOk result (length window.new < 32) }
+{
+    while window.len() >= 32 {
+        move_word(words, window)?;
+    }
+    Ok(())
+}
+
+/// Writes the bits of a window, 32 at most.
+fn write_few<K: Sink>(bits: Window, writer: &mut BitWriter<K>) -> Result<(), Fault>
+    requires live { writer.old.live ≡ true }
+    requires few { length bits ≤ 32 }
+    requires room { writer.old.position < 2 ^ 63 }
+    ensures { Writes bits writer.old result writer.new }
+{
+    let mut bits = bits;
+    let count = bits.len();
+    if count == 0 {
+        return Ok(());
+    }
+    let value = bits.take(count);
+    writer.fixed(count, value)
+}
+
+/// Writes the bits of a window.
+fn write_window<K: Sink>(bits: Window, writer: &mut BitWriter<K>) -> Result<(), Fault>
+    requires live { writer.old.live ≡ true }
+    requires room { writer.old.position < 2 ^ 62 }
+    ensures { Writes bits writer.old result writer.new }
+{
+    let mut rest = bits;
+    let count = rest.len().min(32);
+    write_few(rest.split(count), writer)?;
+    write_few(rest, writer)
+}

@@ -1,0 +1,166 @@
+//! Words of 32 bits in memory.
+
+ghost use Rattle.std.specs.Prelude.{◌≡◌, ◌+◌, ◌*◌, ◌^◌, ◌<◌, ◌++◌, [], ◌∷◌, length, true, OnOk, OnErr};
+ghost use Rattle.std.proofs.Math.ListN.{set};
+ghost use Rattle.bit_fields.specs.Texts.{bits_of_words, joined, AreFull};
+ghost use Rattle.bit_fields.specs.Writer.{Writes};
+
+use crate::fault::Fault;
+use crate::sink::Sink;
+use crate::text::BitText;
+use crate::writer::BitWriter;
+use std::alloc::{AllocError, Global};
+use std::marker::Model;
+use std::mem;
+
+/// How many words a chunk has.
+const CHUNK: usize = 262144;
+
+/// Words of 32 bits, in chunks of 1 MiB, so that growing moves none of those that are there.
+#[derive(Drop)]
+pub(crate) struct Words {
+    alloc: Global,
+    pub(crate) full: Vec<Vec<u32>>,
+    pub(crate) last: Vec<u32>,
+}
+
+impl Model for Words {
+    ghost use Rattle.std.specs.Prelude.{ℕ, List, ◌++◌, ◌≤◌, length};
+    ghost use Rattle.bit_fields.specs.Texts.{joined, AreFull};
+
+    ghost Value = { List ℕ };
+
+    ghost view = { λ w. joined w.full.items ++ w.last.items };
+
+    ghost invariant = { λ w. AreFull w.full.items };
+}
+
+/// Begins the next chunk behind a full one.
+#[cold]
+#[inline(never)]
+fn next_chunk(
+    alloc: Global,
+    full: &mut Vec<Vec<u32>>,
+    last: &mut Vec<u32>,
+) -> Result<(), AllocError>
+    requires last { length last.old.items ≡ 262144 }
+    requires full { AreFull full.old.items }
+    ensures full { AreFull full.new.items }
+    ensures same { joined full.new.items ++ last.new.items ≡ joined full.old.items ++ last.old.items }
+{
+    let chunk = Vec::with_capacity(alloc, CHUNK)?;
+    full.push(chunk)?;
+    if let Some(slot) = full.last_mut() {
+        mem::swap(slot, last);
+    }
+    Ok(())
+}
+
+impl Words {
+    /// No words.
+    pub(crate) fn new(alloc: Global) -> Words
+        ensures { result ≡ [] }
+    {
+        Words {
+            alloc,
+            full: Vec::new(alloc),
+            last: Vec::new(alloc),
+        }
+    }
+
+    /// Adds a word.
+    #[inline(always)]
+    pub(crate) fn push(&mut self, word: u32) -> Result<(), AllocError>
+        ensures ok { OnOk result (self.new ≡ self.old ++ word ∷ []) }
+        ensures err { OnErr result (self.new ≡ self.old) }
+    {
+        if self.last.len() == CHUNK {
+            next_chunk(self.alloc, &mut self.full, &mut self.last)?;
+        }
+        self.last.push(word)?;
+        Ok(())
+    }
+
+    /// Puts a word in the place of another one.
+    pub(crate) fn set(&mut self, place: usize, word: u32)
+        requires { place < length self.old }
+        ensures { self.new ≡ set self.old place word }
+    {
+        match self.full.get_mut(place / CHUNK) {
+            Some(chunk) => chunk[place % CHUNK] = word,
+            None => self.last[place - self.full.len() * CHUNK] = word,
+        }
+    }
+
+    /// Drops all words, and keeps the memory of the last chunk.
+    pub(crate) fn clear(&mut self)
+        ensures { self.new ≡ [] }
+    {
+        self.full.clear();
+        self.last.clear();
+    }
+
+    /// Moves all words behind a text, a chunk at a time, each of which is given back once it was moved. Where memory is
+    /// refused, some are left.
+    pub(crate) fn move_behind(&mut self, text: &mut BitText) -> Result<(), AllocError>
+        requires { length text.old + 32 * length self.old < 2 ^ 62 }
+        ensures { OnOk result (text.new ≡ text.old ++ bits_of_words self.old) }
+    {
+        move_chunks(&mut self.full, text)?;
+        text.add_words(&self.last)
+    }
+
+    /// Writes all words.
+    pub(crate) fn write<K: Sink>(&self, writer: &mut BitWriter<K>) -> Result<(), Fault>
+        requires live { writer.old.live ≡ true }
+        requires room { writer.old.position + 32 * length self.now < 2 ^ 63 }
+        ensures { Writes (bits_of_words self.now) writer.old result writer.new }
+    {
+        for chunk in &self.full {
+            write_words(chunk, writer)?;
+        }
+        write_words(&self.last, writer)
+    }
+}
+
+/// Moves the words of chunks behind a text. The loop is kept out of the callers, since there is seldom a whole chunk.
+#[inline(always)]
+fn move_chunks(chunks: &mut Vec<Vec<u32>>, text: &mut BitText) -> Result<(), AllocError>
+    requires { length text.old + 32 * length (joined chunks.old.items) < 2 ^ 62 }
+    ensures moved { OnOk result (text.new ≡ text.old ++ bits_of_words (joined chunks.old.items)) }
+    ensures none { OnOk result (chunks.new.items ≡ []) }
+    ensures full { AreFull chunks.old.items → AreFull chunks.new.items }
+{
+    if chunks.is_empty() {
+        return Ok(());
+    }
+    move_each(chunks, text)
+}
+
+/// Moves the words of chunks behind a text, one after the other.
+#[cold]
+#[inline(never)]
+fn move_each(chunks: &mut Vec<Vec<u32>>, text: &mut BitText) -> Result<(), AllocError>
+    requires { length text.old + 32 * length (joined chunks.old.items) < 2 ^ 62 }
+    ensures moved { OnOk result (text.new ≡ text.old ++ bits_of_words (joined chunks.old.items)) }
+    ensures none { OnOk result (chunks.new.items ≡ []) }
+    ensures full { AreFull chunks.old.items → AreFull chunks.new.items }
+{
+    while !chunks.is_empty() {
+        let chunk = chunks.remove(0);
+        text.add_words(&chunk)?;
+    }
+    Ok(())
+}
+
+/// Writes words.
+fn write_words<K: Sink>(words: &[u32], writer: &mut BitWriter<K>) -> Result<(), Fault>
+    requires live { writer.old.live ≡ true }
+    requires room { writer.old.position + 32 * length words.now < 2 ^ 63 }
+    ensures { Writes (bits_of_words words.now) writer.old result writer.new }
+{
+    for word in words {
+        writer.fixed(32, u64::from(*word))?;
+    }
+    Ok(())
+}
