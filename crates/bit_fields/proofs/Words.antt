@@ -24,9 +24,9 @@ pub of_eight_first : (s : List ℕ) (n : ℕ) → n ≤ 8 → 8 ≤ length s →
 of_eight_first s n few long = ap (take n) (eight_first s long) ∙ take-take n 8 s few
 
 -- the front of what a source showed was taken, as a pull takes it
-pub front_taken : (i j : Incoming) (shown : List ℕ) (room word count : ℕ) → IsFresh i → j.pulls ≡ i.pulls + 1 → j.failures ≡ i.failures → bytes.Consumes i.to_come j.to_come (take count shown) → (count ≡ 0 → bytes.IsAtEnd j.to_come) → room ≤ 8
+pub front_taken : (i j : Incoming) (shown : List ℕ) (room word count : ℕ) → IsFresh i → j.pulls ≡ i.pulls + 1 → j.failures ≡ i.failures → bytes.Consumes i.to_come j.to_come (take count shown) → (count ≡ 0 → bytes.IsAtEnd j.to_come) → j.accounts ≡ i.accounts → room ≤ 8
     → count ≡ min room (length shown) → word < 2 ^ (8 * count) → bits_of (8 * count) word ≡ bits_of_bytes (take count shown) → GaveWord i j room word count
-front_taken i j shown room word count fresh pulls failures gone end few is below bits =
+front_taken i j shown room word count fresh pulls failures gone end accounts few is below bits =
     let all : List ℕ = shown ++ zeros in
     let long : length all ≡ length shown + 8 = length-append shown zeros in
     let same : take count (take room all) ≡ take count shown = take-take count room all (omega arith) ∙ take-append-le count shown zeros (omega arith) in
@@ -41,6 +41,8 @@ front_taken i j shown room word count fresh pulls failures gone end few is below
         end = λ none more. end none;
         pulls = pulls;
         failures = failures;
+        kept = λ n is. rw (sym accounts) is;
+        whole = λ n all kept is. rw accounts is;
       };
       below = below;
       bits = bits ∙ ap bits_of_bytes (sym same);
@@ -48,10 +50,10 @@ front_taken i j shown room word count fresh pulls failures gone end few is below
 
 -- the front of a slice was taken
 pub slice_front_taken : (rest : List ℕ) (pulls room word count : ℕ) → pulls < 2 ^ 64 - 1 → 0 < room → room ≤ 8 → count ≡ min room (length rest) → word < 2 ^ (8 * count) → bits_of (8 * count) word ≡ bits_of_bytes (take count rest)
-    → GaveWord (record { to_come = Some rest; pulls = pulls; failures = 0 }) (record { to_come = Some (take (length rest - count) (drop count rest)); pulls = pulls + 1; failures = 0 }) room word count
+    → GaveWord (record { to_come = Some rest; pulls = pulls; failures = 0; accounts = [] }) (record { to_come = Some (take (length rest - count) (drop count rest)); pulls = pulls + 1; failures = 0; accounts = [] }) room word count
 slice_front_taken rest pulls room word count fresh some few is below bits =
     let whole : take (length rest - count) (drop count rest) ≡ drop count rest = take_all (length rest - count) (drop count rest) (omega (arith, length-drop count rest)) in
     let split : rest ≡ take count rest ++ take (length rest - count) (drop count rest) = sym (ap (λ (s : List ℕ). take count rest ++ s) whole ∙ take-append-drop count rest) in
-    let i : Incoming = record { to_come = Some rest; pulls = pulls; failures = 0 } in
-    let j : Incoming = record { to_come = Some (take (length rest - count) (drop count rest)); pulls = pulls + 1; failures = 0 } in
-    front_taken i j rest room word count (omega arith) refl refl split (λ none. whole ∙ drop_all count rest (omega arith)) few is below bits
+    let i : Incoming = record { to_come = Some rest; pulls = pulls; failures = 0; accounts = [] } in
+    let j : Incoming = record { to_come = Some (take (length rest - count) (drop count rest)); pulls = pulls + 1; failures = 0; accounts = [] } in
+    front_taken i j rest room word count (omega arith) refl refl split (λ none. whole ∙ drop_all count rest (omega arith)) refl few is below bits

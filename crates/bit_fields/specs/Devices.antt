@@ -1,6 +1,6 @@
 -- What is known of a source and of a sink, and what a call of them does.
-use Rattle.std.specs.Prelude.{◌≡◌, ℕ, ◌+◌, ◌*◌, ◌-◌, ◌^◌, ◌<◌, ◌≤◌, max, List, [], length, take, Option, Some, None, IsSome, Result, Ok, Err}
-use Rattle.std.specs.Io.KnownBytes.{Consumes, Appends, Keeps, IsAtEnd}
+use Rattle.std.specs.Prelude.{◌≡◌, ℕ, zero, suc, ◌+◌, ◌*◌, ◌-◌, ◌^◌, ◌<◌, ◌≤◌, max, Bool, true, false, List, [], ◌∷◌, length, take, Option, Some, None, IsSome, Result, Ok, Err}
+use Rattle.std.specs.Io.KnownBytes.{Consumes, Appends, Keeps, IsAtEnd, prepend_known}
 use Rattle.bit_grammar.specs.Bits.{bits_of, bits_of_bytes}
 use Rattle.bit_fields.specs.declared.source.SourceFailed.{SourceFailed}
 use Rattle.bit_fields.specs.declared.source.AtHand.{AtHand}
@@ -14,11 +14,29 @@ known_bytes (Some bytes) = bytes
 
 -- ---- sources
 
+-- What a source that keeps what it gives can account for: whether it has kept all that it gave; and all its bytes, those that
+-- it gave and those to come, where it tells these.
+pub record Account : Type 0 where
+  pub kept : Bool
+  pub whole : Option (List ℕ)
+
+abbrev pub kept_at : List Account → ℕ → Bool
+kept_at [] n = false
+kept_at (a ∷ accounts) zero = a.kept
+kept_at (a ∷ accounts) (suc n) = kept_at accounts n
+
+abbrev pub whole_at : List Account → ℕ → Option (List ℕ)
+whole_at [] n = None
+whole_at (a ∷ accounts) zero = a.whole
+whole_at (a ∷ accounts) (suc n) = whole_at accounts n
+
 -- a source: the bytes still to come, where it tells them, and how often it was asked and failed
 pub record Incoming : Type 0 where
   pub to_come : Option (List ℕ)
   pub pulls : ℕ
   pub failures : ℕ
+  -- of it and of each source within it that keeps what it gives, the outermost first
+  pub accounts : List Account
 
 -- a count stands at its end, so that no more can be counted
 abbrev pub IsWorn : Incoming → Type 0
@@ -36,12 +54,16 @@ pub record Gave (old new : Incoming) (count : ℕ) (into : List ℕ) : Type 0 wh
   pub end : count ≡ 0 → 0 < length into → IsAtEnd new.to_come
   pub pulls : new.pulls ≡ old.pulls + 1
   pub failures : new.failures ≡ old.failures
+  pub kept : (n : ℕ) → kept_at new.accounts n ≡ true → kept_at old.accounts n ≡ true
+  pub whole : (n : ℕ) (all : List ℕ) → kept_at new.accounts n ≡ true → whole_at old.accounts n ≡ Some all → whole_at new.accounts n ≡ Some all
 
 -- a pull failed: it took no byte, and is counted unless the source was worn, which changes nothing
 pub record GaveNone (old new : Incoming) : Type 0 where
   pub bytes : Keeps old.to_come new.to_come
   pub counted : IsFresh old → (new.pulls ≡ old.pulls + 1) × (new.failures ≡ old.failures + 1)
   pub worn : IsWorn old → new ≡ old
+  pub kept : (n : ℕ) → kept_at new.accounts n ≡ true → kept_at old.accounts n ≡ true
+  pub whole : (n : ℕ) (all : List ℕ) → kept_at new.accounts n ≡ true → whole_at old.accounts n ≡ Some all → whole_at new.accounts n ≡ Some all
 
 -- what a pull into a slice does
 abbrev pub Pulls : Incoming → Incoming → Result ℕ SourceFailed → List ℕ → Type 0
@@ -67,6 +89,8 @@ pub record Looked (old new : Incoming) : Type 0 where
   pub pulls : new.pulls ≡ old.pulls
   pub failures : new.failures ≡ old.failures
   pub worn : IsWorn old → new ≡ old
+  pub kept : (n : ℕ) → kept_at new.accounts n ≡ true → kept_at old.accounts n ≡ true
+  pub whole : (n : ℕ) (all : List ℕ) → kept_at new.accounts n ≡ true → whole_at old.accounts n ≡ Some all → whole_at new.accounts n ≡ Some all
 
 -- what taking so many bytes that are at hand does
 abbrev pub PullsAtHand : ℕ → Incoming → Incoming → AtHand → Type 0
@@ -75,12 +99,20 @@ PullsAtHand room old new Few = Looked old new
 PullsAtHand room old new Failed = GaveNone old new
 
 -- What may be asked of a source, as a number of pulls and of bytes, went from one number to another: each pull and each
--- byte was paid for, no failure was forgotten, and the source tells its bytes as before.
+-- byte was paid for, no failure was forgotten, and the source tells its bytes and accounts for what it keeps as before.
 pub record Spends (old : Incoming) (before : ℕ) (new : Incoming) (after : ℕ) : Type 0 where
   pub pulls : new.pulls + after ≤ old.pulls + before
   pub failures : old.failures ≤ new.failures
   pub tells : IsSome old.to_come → IsSome new.to_come
   pub bytes : IsSome old.to_come → length (known_bytes old.to_come) + after ≤ length (known_bytes new.to_come) + before
+  pub kept : (n : ℕ) → kept_at new.accounts n ≡ true → kept_at old.accounts n ≡ true
+  pub whole : (n : ℕ) (all : List ℕ) → kept_at new.accounts n ≡ true → whole_at old.accounts n ≡ Some all → whole_at new.accounts n ≡ Some all
+
+-- ---- a source that keeps what it gives
+
+-- it gives what another one gives, and has kept these bytes, which are all that it gave, or not all
+abbrev pub keeps_of : (is_whole : Bool) → (bytes : List ℕ) → Incoming → Incoming
+keeps_of is_whole bytes i = record i { accounts = (record { kept = is_whole; whole = prepend_known bytes i.to_come }) ∷ i.accounts }
 
 -- ---- sinks
 

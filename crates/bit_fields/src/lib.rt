@@ -5,6 +5,7 @@
 mod fault;
 mod head;
 mod inflow;
+mod kept;
 mod limits;
 mod reader;
 mod sink;
@@ -24,6 +25,7 @@ mod writer_tests;
 pub use bit_grammar::Reason;
 pub use fault::Fault;
 pub use head::{Head, Wrapper};
+pub use kept::KeptSource;
 pub use limits::Limits;
 pub use reader::BitReader;
 pub use sink::{Sink, SinkFailed, VecSink, WriteSink};

@@ -1,4 +1,4 @@
-ghost use Rattle.std.specs.Prelude.{◌≡◌, Some};
+ghost use Rattle.std.specs.Prelude.{◌≡◌, Some, []};
 
 use crate::word::{front_of, word_of};
 use std::io::{BufRead, Read};
@@ -76,7 +76,7 @@ pub struct SliceSource<'a> {
 impl<'a> SliceSource<'a> {
     /// A source of all bytes of a slice.
     pub fn new(bytes: &'a [u8]) -> SliceSource<'a>
-        ensures { ⟦<SliceSource<'a> as Source>⟧.incoming result ≡ record { to_come = Some bytes.now; pulls = 0; failures = 0 } }
+        ensures { ⟦<SliceSource<'a> as Source>⟧.incoming result ≡ record { to_come = Some bytes.now; pulls = 0; failures = 0; accounts = [] } }
     {
         SliceSource {
             rest: bytes,
@@ -86,7 +86,7 @@ impl<'a> SliceSource<'a> {
 }
 
 impl<'a> Source for SliceSource<'a> {
-    ghost incoming = { λ s. record { to_come = Some s.rest.now; pulls = s.pulls; failures = 0 } };
+    ghost incoming = { λ s. record { to_come = Some s.rest.now; pulls = s.pulls; failures = 0; accounts = [] } };
 
     #[inline]
     fn pull(&mut self, into: &mut [u8]) -> Result<usize, SourceFailed> {
@@ -120,7 +120,7 @@ pub struct ReadSource<R> {
 impl<R: Read> ReadSource<R> {
     /// A source of all that a reader still has.
     pub fn new(reader: R) -> ReadSource<R>
-        ensures { ⟦<ReadSource<R> as Source>⟧.incoming result ≡ record { to_come = R.remaining reader; pulls = 0; failures = 0 } }
+        ensures { ⟦<ReadSource<R> as Source>⟧.incoming result ≡ record { to_come = R.remaining reader; pulls = 0; failures = 0; accounts = [] } }
     {
         ReadSource {
             reader,
@@ -138,7 +138,7 @@ impl<R: Read> ReadSource<R> {
 }
 
 impl<R: Read> Source for ReadSource<R> {
-    ghost incoming = { λ s. record { to_come = R.remaining s.reader; pulls = s.pulls; failures = s.failures } };
+    ghost incoming = { λ s. record { to_come = R.remaining s.reader; pulls = s.pulls; failures = s.failures; accounts = [] } };
 
     #[inline]
     fn pull(&mut self, into: &mut [u8]) -> Result<usize, SourceFailed> {
@@ -166,7 +166,7 @@ pub struct BufSource<R> {
 impl<R: BufRead> BufSource<R> {
     /// A source of all that a reader still has.
     pub fn new(reader: R) -> BufSource<R>
-        ensures { ⟦<BufSource<R> as Source>⟧.incoming result ≡ record { to_come = R.remaining reader; pulls = 0; failures = 0 } }
+        ensures { ⟦<BufSource<R> as Source>⟧.incoming result ≡ record { to_come = R.remaining reader; pulls = 0; failures = 0; accounts = [] } }
     {
         BufSource {
             source: ReadSource::new(reader),
@@ -182,7 +182,7 @@ impl<R: BufRead> BufSource<R> {
 }
 
 impl<R: BufRead> Source for BufSource<R> {
-    ghost incoming = { λ s. record { to_come = R.remaining s.source.reader; pulls = s.source.pulls; failures = s.source.failures } };
+    ghost incoming = { λ s. record { to_come = R.remaining s.source.reader; pulls = s.source.pulls; failures = s.source.failures; accounts = [] } };
 
     #[inline]
     fn pull(&mut self, into: &mut [u8]) -> Result<usize, SourceFailed> {
