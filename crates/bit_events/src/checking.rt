@@ -1,10 +1,11 @@
+ghost use Rattle.std.specs.Prelude.{◌≡◌};
 ghost use Rattle.bit_grammar.specs.Input.{Marked, SpellsInput};
 ghost use Rattle.bit_events.specs.Reading.{ReadsWhole};
 
 use crate::folding::fold;
 use crate::gatherer::Gatherer;
 use bit_abbrev::Abbrev;
-use bit_fields::{Fault, Limits, Source, ValueCount};
+use bit_fields::{Fault, KeptSource, Limits, Source, ValueCount};
 use std::alloc::{AllocError, Global};
 
 /// What keeps nothing of the events.
@@ -57,5 +58,49 @@ pub fn check<S: Source>(alloc: Global, source: S, limits: Limits) -> (Result<(),
     match answer {
         Ok(_) => (Ok(()), source),
         Err(fault) => (Err(fault), source),
+    }
+}
+
+/// Whether an input is accepted: `Ok` with all its bytes where it is, or the one refusal. Of the input no more is held than its
+/// bytes and its open blocks. `Memory` comes behind the refusal of an input that breaks the rules.
+pub fn check_keeping<S: Source>(
+    alloc: Global,
+    source: S,
+    limits: Limits,
+) -> (Result<Vec<u8>, Fault>, S)
+    ensures { ReadsWhole (λ bytes kept. (kept.items ≡ bytes) × ((m : Marked) × SpellsInput limits bytes m)) limits (S.incoming source) result.0 (S.incoming result.1) }
+{
+    let (answer, source) = check(alloc, KeptSource::new(alloc, source), limits);
+    let (kept, source) = source.into_parts();
+    match (answer, kept) {
+        (Ok(()), Ok(bytes)) => (Ok(bytes), source),
+        (Ok(()), Err(AllocError)) => (Err(Fault::Memory), source),
+        (Err(fault), _) => (Err(fault), source),
+    }
+}
+
+#[cfg(test)]
+mod tests {
+    use super::*;
+    use bit_fields::{Reason, SliceSource};
+
+    /// A magic and a block without items.
+    const INPUT: [u8; 16] = [
+        0x42, 0x43, 0xC0, 0xDE, 0x21, 0x08, 0, 0, 1, 0, 0, 0, 0, 0, 0, 0,
+    ];
+
+    fn keeps(alloc: Global, input: &[u8]) -> Result<bool, Fault> {
+        let (answer, _) = check_keeping(alloc, SliceSource::new(input), Limits::usual());
+        Ok(answer?.as_slice() == input)
+    }
+
+    #[test]
+    fn accepted_bytes_are_kept(rt: HostRuntime) {
+        assert!(rt; keeps(rt.alloc(), &INPUT) == Ok(true));
+        let fault = Fault::Refused {
+            reason: Reason::Truncated,
+            bit: 0,
+        };
+        assert!(rt; keeps(rt.alloc(), &INPUT[..3]) == Err(fault));
     }
 }

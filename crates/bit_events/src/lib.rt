@@ -15,7 +15,7 @@ mod head;
 mod heads;
 mod machine;
 
-pub use checking::check;
+pub use checking::{check, check_keeping};
 pub use event::Event;
 pub use events::Events;
 pub use folding::{Folded, fold};

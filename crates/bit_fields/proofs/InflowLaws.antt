@@ -1,5 +1,5 @@
 -- What taking bytes in leaves.
-use Rattle.std.proofs.Common.{◌≡◌, ℕ, zero, suc, ◌+◌, ◌*◌, ◌-◌, ◌^◌, ◌<◌, ◌≤◌, max, Bool, true, false, ltb, List, [], ◌++◌, length, take, Option, Some, None, Result, Ok, Err, refl, sym, ap, ◌∙◌, subst, arith, append_assoc, inl, inr}
+use Rattle.std.proofs.Common.{◌≡◌, ℕ, zero, suc, ◌+◌, ◌*◌, ◌-◌, ◌^◌, ◌<◌, ◌≤◌, max, Bool, true, false, ltb, List, [], ◌++◌, length, take, Option, Some, None, Err, refl, sym, ap, ◌∙◌, subst, arith, append_assoc, inl, inr}
 use Rattle.std.specs.Prelude.{IsSome}
 use Rattle.std.specs.Io.KnownBytes as bytes
 use Rattle.std.proofs.lemmas.Bool.{cases_lt, false≢true, le-ltb, lt-ltb, and_right, and_left, and_from}
@@ -7,8 +7,8 @@ use Rattle.std.proofs.lemmas.List.{append-nil, length-append, length-take-le}
 use Rattle.std.proofs.Math.Seq.{take-append-add}
 use Rattle.bit_grammar.specs.Bits.{bits_of, bits_of_bytes}
 use Rattle.bit_grammar.proofs.Numbers.{length-bits_of}
-use Rattle.bit_fields.specs.Devices.{Incoming, Gave, GaveNone, GaveWord, Looked, Spends, known_bytes}
-use Rattle.bit_fields.specs.Inflow.{Flow, IsKnown, stop_of, left_of, total_of, is_cut, budget_of, IsFlow, SamePlace, Keeps, NoMore, Lost, RunsOut, Misses, Brings, Fills}
+use Rattle.bit_fields.specs.Devices.{Incoming, Gave, GaveNone, GaveWord, Spends, known_bytes}
+use Rattle.bit_fields.specs.Inflow.{Flow, IsKnown, stop_of, left_of, total_of, is_cut, budget_of, IsFlow, SamePlace, Keeps, NoMore, Lost, RunsOut, Misses, Fills}
 use Rattle.bit_fields.specs.declared.inflow.Missing.{Missing}
 use Rattle.bit_fields.specs.declared.inflow.Missing.TheVariants.{End, Limit, Read}
 use Rattle.bit_fields.proofs.BitLaws.{bits_of_bytes-append, length-bits_of_bytes}
@@ -16,7 +16,7 @@ use Rattle.bit_fields.proofs.BitLaws.{bits_of_bytes-append, length-bits_of_bytes
 -- ---- what is paid
 
 pub Spends-refl : (i : Incoming) (n : ℕ) → Spends i n i n
-Spends-refl i n = record { pulls = omega arith; failures = omega arith; tells = λ k. k; bytes = λ k. omega arith; kept = λ n k. k; whole = λ n all k is. is }
+Spends-refl i n = record { pulls = omega arith; failures = omega arith; tells = λ k. k; bytes = λ k. omega arith; accounts = λ n all says. says }
 
 pub Spends-trans : (a : Incoming) (n : ℕ) (b : Incoming) (m : ℕ) (c : Incoming) (k : ℕ) → Spends a n b m → Spends b m c k → Spends a n c k
 Spends-trans a n b m c k p q = record {
@@ -24,13 +24,12 @@ Spends-trans a n b m c k p q = record {
   failures = omega (arith, p.failures, q.failures);
   tells = λ t. q.tells (p.tells t);
   bytes = λ t. omega (arith, p.bytes t, q.bytes (p.tells t));
-  kept = λ at is. p.kept at (q.kept at is);
-  whole = λ at all is old. q.whole at all is (p.whole at all (q.kept at is) old);
+  accounts = λ at all says. q.accounts at all (p.accounts at all says);
 }
 
 -- no more is asked for
 pub Spends-none : (a : Incoming) (n : ℕ) (b : Incoming) (m : ℕ) → Spends a n b m → Spends a n b 0
-Spends-none a n b m p = record { pulls = omega (arith, p.pulls); failures = p.failures; tells = p.tells; bytes = λ t. omega (arith, p.bytes t); kept = p.kept; whole = p.whole }
+Spends-none a n b m p = record { pulls = omega (arith, p.pulls); failures = p.failures; tells = p.tells; bytes = λ t. omega (arith, p.bytes t); accounts = p.accounts }
 
 -- ---- what a pull gives
 
@@ -57,8 +56,7 @@ gave_spends i j count into before after gave paid one =
       failures = omega (arith, gave.failures);
       tells = λ k. (consumed i.to_come j.to_come (take count into) gave.bytes k).0;
       bytes = λ k. omega (arith, ap length (consumed i.to_come j.to_come (take count into) gave.bytes k).1, length-append (take count into) (known_bytes j.to_come), taken);
-      kept = gave.kept;
-      whole = gave.whole;
+      accounts = gave.accounts;
     }
 
 failed_spends : (i j : Incoming) (before : ℕ) → GaveNone i j → 1 ≤ before → Spends i before j 0
@@ -67,10 +65,10 @@ failed_spends i j before none some =
     elim (cases_lt (max i.pulls i.failures) (2 ^ 64 - 1)) [
       | inl fresh ↦
           let counted = none.counted fresh in
-          record { pulls = omega (arith, counted.0); failures = omega (arith, counted.1); tells = λ k. (kept i.to_come j.to_come none.bytes k).0; bytes = λ k. omega (arith, same k); kept = none.kept; whole = none.whole }
+          record { pulls = omega (arith, counted.0); failures = omega (arith, counted.1); tells = λ k. (kept i.to_come j.to_come none.bytes k).0; bytes = λ k. omega (arith, same k); accounts = none.accounts }
       | inr worn ↦
           let is : j ≡ i = none.worn worn in
-          record { pulls = rw is (omega arith); failures = rw is (omega arith); tells = λ k. (kept i.to_come j.to_come none.bytes k).0; bytes = λ k. omega (arith, same k); kept = none.kept; whole = none.whole }
+          record { pulls = rw is (omega arith); failures = rw is (omega arith); tells = λ k. (kept i.to_come j.to_come none.bytes k).0; bytes = λ k. omega (arith, same k); accounts = none.accounts }
     ]
 
 -- ---- once
@@ -283,41 +281,3 @@ pub not_filled : (n : ℕ) (a b c : Flow) (missing : Missing) → Keeps a b → 
 not_filled n a b c End kept few none = runs_out n a b c false kept none few
 not_filled n a b c Limit kept few none = runs_out n a b c true kept none few
 not_filled n a b c Read kept few lost = lost_after a b c kept lost
-
--- ---- a look before
-
-looked_keeps : (f : Flow) (i : Incoming) → Looked f.incoming i → Keeps f (record f { incoming = i })
-looked_keeps f i looked =
-    let same : IsKnown f → known_bytes i.to_come ≡ known_bytes f.incoming.to_come = λ k. sym (kept f.incoming.to_come i.to_come looked.bytes k).1 in
-    record {
-      end = refl;
-      limit = refl;
-      place = record { loaded = omega arith; exact = refl };
-      spends = record {
-        pulls = omega (arith, looked.pulls);
-        failures = omega (arith, looked.failures);
-        tells = λ k. (kept f.incoming.to_come i.to_come looked.bytes k).0;
-        bytes = λ k. omega (arith, ap length (same k));
-        kept = looked.kept;
-        whole = looked.whole;
-      };
-      left = λ k. ap (λ (s : List ℕ). f.window ++ bits_of_bytes (take (stop_of f - f.loaded) s)) (same k);
-      total = λ k. ap (λ (s : List ℕ). f.loaded + length s) (same k);
-    }
-
-no_more_after : (a b c : Flow) (by_limit : Bool) → Keeps a b → b.window ≡ a.window → NoMore b c by_limit → NoMore a c by_limit
-no_more_after a b c by_limit kept same none = record {
-  keeps = Keeps-trans a b c kept none.keeps;
-  window = none.window ∙ same;
-  left = λ k. sym (kept.left k) ∙ none.left (kept.spends.tells k) ∙ same;
-  cut = λ k. same_cut a b kept k ∙ none.cut (kept.spends.tells k);
-  left_now = none.left_now;
-  cut_now = none.cut_now;
-}
-
--- bytes that came after a look came
-pub brings_after : (f : Flow) (i : Incoming) (c : Flow) (r : Result (Unit {0}) Missing) → Looked f.incoming i → Brings (record f { incoming = i }) c r → Brings f c r
-brings_after f i c (Ok done) looked came = (Keeps-trans f (record f { incoming = i }) c (looked_keeps f i looked) came.0, came.1)
-brings_after f i c (Err End) looked none = no_more_after f (record f { incoming = i }) c false (looked_keeps f i looked) refl none
-brings_after f i c (Err Limit) looked none = no_more_after f (record f { incoming = i }) c true (looked_keeps f i looked) refl none
-brings_after f i c (Err Read) looked lost = lost_after f (record f { incoming = i }) c (looked_keeps f i looked) lost

@@ -3,7 +3,7 @@ use Rattle.std.proofs.Common.{◌≡◌, ℕ, ◌+◌, ◌*◌, ◌-◌, ◌^◌
 use Rattle.std.specs.Io.KnownBytes as bytes
 use Rattle.std.proofs.lemmas.List.{length-append, length-take-le, take-append-le, take-append-drop, drop_all, take_all, length-drop}
 use Rattle.bit_grammar.specs.Bits.{bits_of, bits_of_bytes}
-use Rattle.bit_fields.specs.Devices.{Incoming, IsFresh, GaveWord}
+use Rattle.bit_fields.specs.Devices.{Account, SaysOf, Incoming, IsFresh, GaveWord}
 
 abbrev zeros : List ℕ
 zeros = 0 ∷ 0 ∷ 0 ∷ 0 ∷ 0 ∷ 0 ∷ 0 ∷ 0 ∷ []
@@ -41,8 +41,7 @@ front_taken i j shown room word count fresh pulls failures gone end accounts few
         end = λ none more. end none;
         pulls = pulls;
         failures = failures;
-        kept = λ n is. rw (sym accounts) is;
-        whole = λ n all kept is. rw accounts is;
+        accounts = λ n all says. subst (λ (a : List Account). SaysOf a n all) (sym accounts) says;
       };
       below = below;
       bits = bits ∙ ap bits_of_bytes (sym same);

@@ -20,15 +20,11 @@ pub record Account : Type 0 where
   pub kept : Bool
   pub whole : Option (List ℕ)
 
-abbrev pub kept_at : List Account → ℕ → Bool
-kept_at [] n = false
-kept_at (a ∷ accounts) zero = a.kept
-kept_at (a ∷ accounts) (suc n) = kept_at accounts n
-
-abbrev pub whole_at : List Account → ℕ → Option (List ℕ)
-whole_at [] n = None
-whole_at (a ∷ accounts) zero = a.whole
-whole_at (a ∷ accounts) (suc n) = whole_at accounts n
+-- an account says of all bytes that they are these, unless not all are kept
+unfoldable pub SaysOf : List Account → ℕ → List ℕ → Type 0
+SaysOf [] n all = Unit {0}
+SaysOf (a ∷ accounts) zero all = a.kept ≡ true → a.whole ≡ Some all
+SaysOf (a ∷ accounts) (suc n) all = SaysOf accounts n all
 
 -- a source: the bytes still to come, where it tells them, and how often it was asked and failed
 pub record Incoming : Type 0 where
@@ -54,16 +50,14 @@ pub record Gave (old new : Incoming) (count : ℕ) (into : List ℕ) : Type 0 wh
   pub end : count ≡ 0 → 0 < length into → IsAtEnd new.to_come
   pub pulls : new.pulls ≡ old.pulls + 1
   pub failures : new.failures ≡ old.failures
-  pub kept : (n : ℕ) → kept_at new.accounts n ≡ true → kept_at old.accounts n ≡ true
-  pub whole : (n : ℕ) (all : List ℕ) → kept_at new.accounts n ≡ true → whole_at old.accounts n ≡ Some all → whole_at new.accounts n ≡ Some all
+  pub accounts : (n : ℕ) (all : List ℕ) → SaysOf old.accounts n all → SaysOf new.accounts n all
 
 -- a pull failed: it took no byte, and is counted unless the source was worn, which changes nothing
 pub record GaveNone (old new : Incoming) : Type 0 where
   pub bytes : Keeps old.to_come new.to_come
   pub counted : IsFresh old → (new.pulls ≡ old.pulls + 1) × (new.failures ≡ old.failures + 1)
   pub worn : IsWorn old → new ≡ old
-  pub kept : (n : ℕ) → kept_at new.accounts n ≡ true → kept_at old.accounts n ≡ true
-  pub whole : (n : ℕ) (all : List ℕ) → kept_at new.accounts n ≡ true → whole_at old.accounts n ≡ Some all → whole_at new.accounts n ≡ Some all
+  pub accounts : (n : ℕ) (all : List ℕ) → SaysOf old.accounts n all → SaysOf new.accounts n all
 
 -- what a pull into a slice does
 abbrev pub Pulls : Incoming → Incoming → Result ℕ SourceFailed → List ℕ → Type 0
@@ -89,8 +83,7 @@ pub record Looked (old new : Incoming) : Type 0 where
   pub pulls : new.pulls ≡ old.pulls
   pub failures : new.failures ≡ old.failures
   pub worn : IsWorn old → new ≡ old
-  pub kept : (n : ℕ) → kept_at new.accounts n ≡ true → kept_at old.accounts n ≡ true
-  pub whole : (n : ℕ) (all : List ℕ) → kept_at new.accounts n ≡ true → whole_at old.accounts n ≡ Some all → whole_at new.accounts n ≡ Some all
+  pub accounts : (n : ℕ) (all : List ℕ) → SaysOf old.accounts n all → SaysOf new.accounts n all
 
 -- what taking so many bytes that are at hand does
 abbrev pub PullsAtHand : ℕ → Incoming → Incoming → AtHand → Type 0
@@ -105,8 +98,7 @@ pub record Spends (old : Incoming) (before : ℕ) (new : Incoming) (after : ℕ)
   pub failures : old.failures ≤ new.failures
   pub tells : IsSome old.to_come → IsSome new.to_come
   pub bytes : IsSome old.to_come → length (known_bytes old.to_come) + after ≤ length (known_bytes new.to_come) + before
-  pub kept : (n : ℕ) → kept_at new.accounts n ≡ true → kept_at old.accounts n ≡ true
-  pub whole : (n : ℕ) (all : List ℕ) → kept_at new.accounts n ≡ true → whole_at old.accounts n ≡ Some all → whole_at new.accounts n ≡ Some all
+  pub accounts : (n : ℕ) (all : List ℕ) → SaysOf old.accounts n all → SaysOf new.accounts n all
 
 -- ---- a source that keeps what it gives
 

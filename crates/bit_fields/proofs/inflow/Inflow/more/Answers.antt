@@ -1,8 +1,7 @@
 use Rattle.std.proofs.Common.{◌≡◌, ◌≤◌, ◌+◌, ◌-◌, ◌/◌, false, min, length, arith, subst, sym}
-use Rattle.bit_fields.specs.Inflow.{Flow, Brings, stop_of}
-use Rattle.bit_fields.proofs.InflowLaws.{word_came, flow_after, brings_after}
+use Rattle.bit_fields.specs.Inflow.{Flow, stop_of}
+use Rattle.bit_fields.proofs.InflowLaws.{word_came, flow_after}
 use Rattle.bit_fields.proofs.inflow.Inflow.more.Goals as goal
-use Rattle.bit_fields.proofs.inflow.Inflow.more.Goals.{then-has_eight+in-Few, else-has_eight}
 
 pub invariant_of-self : goal.invariant_of-self
 invariant_of-self g c =
@@ -18,9 +17,3 @@ returns-in-Word g c =
     let near : c.self.inside.loaded + 8 ≤ min c.self.inside.end c.self.inside.limit = subst (λ (f : Flow). f.loaded + 8 ≤ stop_of f) (sym c.self.view_is) eight.1 in
     let free : length c.self.inside.window ≤ 56 = subst (λ (f : Flow). length f.window ≤ 56) (sym c.self.view_is) c.requires in
     rw (← c.self.view_is, c.from.ensures) (word_came _ (g.S.Source.incoming c.at_hand.new.self) ((64 - c.len.result) / 8) c.in-Word.word ((64 - c.len.result) / 8) c.push.new.self going (omega arith) (omega arith) (λ none. absurd (omega arith)) c.in-Word.ensures c.push.ensures)
-
-pub returns : goal.returns
-returns g c = elim c.if-has_eight.branch [
-  | then-has_eight+in-Few w ↦ rw (← c.self.view_is) (brings_after _ (g.S.Source.incoming w.at_hand.new.self) c.pull.new.self c.pull.result w.in-Few.ensures (subst (λ (f : Flow). Brings f c.pull.new.self c.pull.result) w.self-is c.pull.ensures))
-  | else-has_eight w ↦ subst (λ (f : Flow). Brings f c.pull.new.self c.pull.result) w.self-is c.pull.ensures
-]
