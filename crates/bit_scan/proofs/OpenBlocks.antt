@@ -21,11 +21,11 @@ open_push (x ∷ xs) b outer = open_push xs b (open_count x ∷ outer)
 
 -- ---- a block that is entered
 
-pub entered : (counts : Counts) (opened : Opened) (id first : ℕ) (rows : List BlockTally) (before after : List OpenBlock) → opened.id ≡ id → opened.first ≡ first
-    → rows ≡ cut_rows (with_row (with_added addition.Block) id counts.rows) → open_counts before ≡ map cut_open counts.around → after ≡ before ++ record { id = id; first = first; inside = 0 } ∷ []
+pub entered : (counts : Counts) (opened : Opened) (id place first : ℕ) (rows : List BlockTally) (before after : List OpenBlock) → opened.id ≡ id → opened.first ≡ first
+    → rows ≡ cut_rows (with_row (with_added addition.Block) id counts.rows) → open_counts before ≡ map cut_open counts.around → after ≡ before ++ record { id = id; place = place; first = first; inside = 0 } ∷ []
     → ◌≡◌ {A = Counts} (record { rows = rows; around = open_counts after }) (cut (count_event (enters opened) counts))
-entered counts opened id first rows before after id_is first_is counted shown pushed =
-    rw (id_is, first_is, counted, pushed, open_push before (record { id = id; first = first; inside = 0 }) [], shown) refl
+entered counts opened id place first rows before after id_is first_is counted shown pushed =
+    rw (id_is, first_is, counted, pushed, open_push before (record { id = id; place = place; first = first; inside = 0 }) [], shown) refl
 
 -- ---- a block in which something is counted
 
@@ -63,7 +63,7 @@ counted_here (Err e) rows counts blocks x addition found shown is = tt
 -- the last block gained bits, if there is one
 pub data Gained (bits : ℕ) (xs ys : List OpenBlock) : Type 0 where
   no_block : xs ≡ [] → ys ≡ [] → Gained bits xs ys
-  last_block : (front : List OpenBlock) (o : OpenBlock) (sum : ℕ) → xs ≡ front ++ o ∷ [] → ys ≡ front ++ record { id = o.id; first = o.first; inside = sum } ∷ [] → sum ≡ min (o.inside + bits) 18446744073709551615 → Gained bits xs ys
+  last_block : (front : List OpenBlock) (o : OpenBlock) (sum : ℕ) → xs ≡ front ++ o ∷ [] → ys ≡ front ++ record { id = o.id; place = o.place; first = o.first; inside = sum } ∷ [] → sum ≡ min (o.inside + bits) 18446744073709551615 → Gained bits xs ys
 
 -- a list with its last changed
 pub record LastSet (xs : List OpenBlock) (k : ℕ) (o w : OpenBlock) : Type 0 where
@@ -81,9 +81,9 @@ last_set (x ∷ y ∷ xs) (suc k) o w n is =
     record { front = x ∷ more.front; is = ap (λ (l : List OpenBlock). x ∷ l) more.is; changed = ap (λ (l : List OpenBlock). x ∷ l) more.changed }
 
 pub last_gained : (xs ys : List OpenBlock) (k bits sum : ℕ) (o : OpenBlock) → length xs ≡ suc k → o ≡ get_or xs k o → sum ≡ min (o.inside + bits) 18446744073709551615
-    → ys ≡ set xs k (record { id = o.id; first = o.first; inside = sum }) → Gained bits xs ys
+    → ys ≡ set xs k (record { id = o.id; place = o.place; first = o.first; inside = sum }) → Gained bits xs ys
 last_gained xs ys k bits sum o n is sum_is set_is =
-    let l = last_set xs k o (record { id = o.id; first = o.first; inside = sum }) n is in
+    let l = last_set xs k o (record { id = o.id; place = o.place; first = o.first; inside = sum }) n is in
     last_block l.front o sum l.is (set_is ∙ l.changed) sum_is
 
 gained_inside : (bits : ℕ) (around : List OpenCount) (xs ys : List OpenBlock) → Gained bits xs ys → open_counts xs ≡ map cut_open around → open_counts ys ≡ map cut_open (more_inside bits around)
@@ -101,10 +101,10 @@ gained_inside bits (b ∷ around) xs ys (last_block front o sum before after is)
     let inside : sum ≡ saturated (b.inside + bits) = is ∙ sum_stops o.inside b.inside bits (ap (λ (y : OpenCount). y.inside) first) in
     let id : o.id ≡ b.id = ap (λ (y : OpenCount). y.id) first in
     let begins : o.first ≡ b.first = ap (λ (y : OpenCount). y.first) first in
-    rw (after, open_push front (record { id = o.id; first = o.first; inside = sum }) [], others, inside, id, begins) refl
+    rw (after, open_push front (record { id = o.id; place = o.place; first = o.first; inside = sum }) [], others, inside, id, begins) refl
 
 pub closed : (around : List OpenCount) (after bits own : ℕ) (all xs ys : List OpenBlock) (block : OpenBlock) → after < 18446744073709551616 → bits ≡ after - block.first → own ≡ bits - block.inside → all ≡ xs ++ block ∷ []
-    → Gained bits xs ys → open_counts all ≡ map cut_open around → Closes around after (Some (block.id, own)) (open_counts ys)
+    → Gained bits xs ys → open_counts all ≡ map cut_open around → Closes around after (Some (block, own)) (open_counts ys)
 closed [] after bits own all xs ys block fits bits_is own_is popped gained shown =
     let some : open_count block ∷ open_counts xs ≡ [] = sym (ap open_counts popped ∙ open_push xs block []) ∙ shown in
     absurd cc

@@ -37,7 +37,7 @@ impl Model for Analysis {
 fn write_codes<K: Sink>(printer: &mut Printer<K>, codes: &Codes) -> Result<(), Fault>
     ensures { Prints (flat_map code_text (code_tallies codes.now)) printer.old result printer.new }
 {
-    for (code, row) in codes.0.iter() {
+    for (code, row) in codes.rows().iter() {
         printer.code_row(*code, *row)?;
     }
     Ok(())

@@ -5,7 +5,7 @@ ghost use Rattle.bit_scan.specs.Counting.{open_counts, added_here, Closes};
 ghost use Rattle.bit_scan.specs.Cut.{cut, cut_open};
 ghost use Rattle.bit_scan.specs.Rows.{block_tallies};
 
-use crate::rows::{Addition, BlockRow, add_to_row};
+use crate::rows::{Addition, BlockRow, add_by_id, add_to_row};
 use bit_abbrev::Abbrev;
 use bit_events::Gatherer;
 use bit_fields::{ValueCount, ValueTaker};
@@ -13,10 +13,11 @@ use indexmap::IndexMap;
 use std::alloc::{AllocError, Global};
 use std::marker::Model;
 
-/// A block that is open: its id, its first bit, and the bits of the blocks in it that have ended.
+/// A block that is open: its id, the place of its row, its first bit, and the bits of the blocks in it that have ended.
 #[derive(Clone, Copy, Debug)]
 struct OpenBlock {
     id: u32,
+    place: usize,
     first: u64,
     inside: u64,
 }
@@ -31,8 +32,8 @@ pub(crate) struct Counter {
 }
 
 /// Takes the innermost open block off, which ends before a bit. All its bits go to the block round it.
-/// Answers its id and the bits that are its own.
-fn close_block(blocks: &mut Vec<OpenBlock>, after: u64) -> Option<(u32, u64)>
+/// Answers it and the bits that are its own.
+fn close_block(blocks: &mut Vec<OpenBlock>, after: u64) -> Option<(OpenBlock, u64)>
     ensures { (around : List OpenCount) → open_counts blocks.old.items ≡ map cut_open around → Closes around after result (open_counts blocks.new.items) }
 {
     let block = blocks.pop()?;
@@ -40,7 +41,7 @@ fn close_block(blocks: &mut Vec<OpenBlock>, after: u64) -> Option<(u32, u64)>
     if let Some(outer) = blocks.last_mut() {
         outer.inside = outer.inside.saturating_add(bits);
     }
-    Some((block.id, bits.saturating_sub(block.inside)))
+    Some((block, bits.saturating_sub(block.inside)))
 }
 
 impl Model for Counter {
@@ -70,9 +71,10 @@ impl Counter {
     fn open_block(&mut self, id: u32, first: u64) -> Result<(), AllocError>
         ensures { (counts : Counts) (opened : Opened) → opened.id ≡ id → opened.first ≡ first → self.old ≡ cut counts → OnOk result (self.new ≡ cut (count_event (enters opened) counts)) }
     {
-        add_to_row(self.alloc, &mut self.rows, id, Addition::Block)?;
+        let place = add_by_id(self.alloc, &mut self.rows, id, Addition::Block)?;
         self.open.push(OpenBlock {
             id,
+            place,
             first,
             inside: 0,
         })?;
@@ -84,7 +86,10 @@ impl Counter {
         ensures { (counts : Counts) → self.old ≡ cut counts → OnOk result (self.new ≡ cut (count_event (leaves after) counts)) }
     {
         match close_block(&mut self.open, after) {
-            Some((id, bits)) => add_to_row(self.alloc, &mut self.rows, id, Addition::Bits(bits)),
+            Some((block, bits)) => {
+                let own = Addition::Bits(bits);
+                add_to_row(self.alloc, &mut self.rows, block.id, block.place, own)
+            }
             None => Ok(()),
         }
     }
@@ -95,7 +100,9 @@ impl Counter {
         ensures { (counts : Counts) → self.old ≡ cut counts → OnOk result (self.new ≡ cut (added_here addition counts)) }
     {
         match self.open.last() {
-            Some(block) => add_to_row(self.alloc, &mut self.rows, block.id, addition),
+            Some(block) => {
+                add_to_row(self.alloc, &mut self.rows, block.id, block.place, addition)
+            }
             None => Ok(()),
         }
     }

@@ -6,7 +6,7 @@ use Rattle.bit_scan.proofs.Reports.{lines_of_codes, first_code, next_code, last_
 use Rattle.bit_scan.proofs.analysis.write_codes.Goals as goal
 
 pub loop-code-init : goal.loop-code-init
-loop-code-init g c = first_code c.args.codes.now c.into_iter-code-iterator.result c.args.printer.now (c.into_iter-code-iterator.ensures.into_iter_gives ∙ c.iter-code-items.ensures.rest ∙ c.codes.view_is)
+loop-code-init g c = first_code c.args.codes.now c.into_iter-code-iterator.result c.args.printer.now (c.into_iter-code-iterator.ensures.into_iter_gives ∙ c.iter-code-items.ensures.rest ∙ c.rows.ensures)
 
 pub loop-code-preserved : goal.loop-code-preserved
 loop-code-preserved g c =
