@@ -1,12 +1,13 @@
 -- What the words mean, from what clap says of a command that it reads as this one.
-use Rattle.std.proofs.Common.{◌≡◌, ◌∙◌, ◌⊎◌, true, List, [], Option, ap, subst, inl, inr}
+use Rattle.std.proofs.Common.{◌≡◌, ◌∙◌, ◌⊎◌, true, List, [], Option, ap, sym, subst, inl, inr}
 use Rattle.clap.specs.Words.{App, Row, Text, is_simple, subcommand_of}
 use Rattle.clap.specs.Kinds.{IsAmong}
 use Rattle.clap.specs.Faults.{fault_of, is_simple_and_free}
 use Rattle.clap.specs.declared.error.kind.ErrorKind.{ErrorKind}
 use Rattle.clap.specs.declared.error.kind.ErrorKind.TheVariants.{OutOfMemory}
 use Rattle.bitstool.specs.declared.task.Task.{Task}
-use Rattle.bitstool.specs.Words.{Fails, Means, bitstool, faults_of, named_by}
+use Rattle.bitstool.specs.Words.{Fails, FindsAll, Means, bitstool, faults_of, named_by}
+use Rattle.bitstool.proofs.Given.{all_found}
 
 pub faultless : (app : App) (words : List Text) → app ≡ bitstool → (is_simple_and_free app ≡ true → fault_of app words ≡ []) → faults_of words ≡ []
 unfolding faults_of
@@ -22,4 +23,11 @@ faulty app words kind is why = go (why (ap is_simple_and_free is))
   where
     go : (kind ≡ OutOfMemory) ⊎ IsAmong kind (fault_of app words) → Fails words kind
     go (inl memory) = inl memory
-    go (inr among) = inr (inl (subst (λ (a : App). IsAmong kind (fault_of a words)) is among))
+    go (inr among) = inr (subst (λ (a : App). IsAmong kind (fault_of a words)) is among)
+
+-- a command that is read as this one, and with which clap finds no fault, has all that it needs
+pub found_as : (app : App) (words : List Text) (rows : Option (Text × List Row)) → app ≡ bitstool → (is_simple_and_free app ≡ true → fault_of app words ≡ []) → (is_simple app ≡ true → rows ≡ subcommand_of app words) → FindsAll rows
+unfolding named_by
+found_as app words rows is none found =
+    let same : rows ≡ named_by words = found (ap is_simple is) ∙ ap (λ (a : App). subcommand_of a words) is in
+    subst FindsAll (sym same) (all_found words (faultless app words is none))

@@ -1,7 +1,7 @@
 -- What the words of a command line ask for: the options that the program tells `clap` of, and how a task is read from what
 -- `clap` finds. The words `App`, `Rule`, `Shape`, `subcommand_of` and `fault_of` are clap's own: what a command is, and what a
 -- parse of words finds or why it fails.
-use Rattle.std.specs.Prelude.{◌≡◌, ◌≢◌, ◌⊎◌, ⊤, ℕ, List, [], ◌∷◌, true, Option, Some, None, codes}
+use Rattle.std.specs.Prelude.{◌≡◌, ◌≢◌, ◌⊎◌, ⊤, ℕ, ◌≤◌, List, [], ◌∷◌, true, Option, Some, None, codes}
 use Rattle.std.specs.Str.Parse.{IsNumeral, digits_value, without_leading_plus}
 use Rattle.clap.specs.Words.{App, Row, Rule, Text, new_app, new_rule, one_of, subcommand_of, with_rule, with_subcommand}
 use Rattle.clap.specs.Kinds.{Kinds, IsAmong}
@@ -9,7 +9,7 @@ use Rattle.clap.specs.Faults.{fault_of}
 use Rattle.clap.specs.declared.builder.action.ArgAction.TheVariants.{SetTrue}
 use Rattle.clap.specs.declared.builder.value_parser.ValueParser.TheVariants.{Unsigned}
 use Rattle.clap.specs.declared.error.kind.ErrorKind.{ErrorKind}
-use Rattle.clap.specs.declared.error.kind.ErrorKind.TheVariants.{DisplayHelp, DisplayVersion, InvalidValue, OutOfMemory}
+use Rattle.clap.specs.declared.error.kind.ErrorKind.TheVariants.{DisplayHelp, DisplayVersion, OutOfMemory}
 use Rattle.bit_grammar.specs.declared.info.Info.{Info}
 use Rattle.bit_grammar.specs.declared.info.Info.TheVariants.{Keep, Drop}
 use Rattle.bit_grammar.specs.Blocks.{Limits}
@@ -96,6 +96,26 @@ abbrev pub Means : Option (Text × List Row) → Task → Type 0
 Means None task = ⊥
 Means (Some found) task = Asks found.0 found.1 task
 
+-- the same, and it is within its range
+abbrev pub HasWithin : Text → (most : ℕ) → List Row → Type 0
+HasWithin id most rows = (n : ℕ) × HasNumber id rows n × (n ≤ most)
+
+-- there is a number for each limit
+abbrev pub HasAllLimits : List Row → Type 0
+HasAllLimits rows = HasWithin (codes "bytes") 17179869180 rows × HasWithin (codes "depth") 255 rows × HasWithin (codes "values") 4294967295 rows
+
+-- a command of this name, with what was found for its options, has all that it needs
+pub data IsComplete (rows : List Row) : Text → Type 0 where
+  checks : HasAllLimits rows → IsComplete rows (codes "check")
+  normalises : HasAllLimits rows → IsComplete rows (codes "normal")
+  compares : HasAllLimits rows → HasWithin (codes "first") 17179869180 rows → IsComplete rows (codes "same")
+  analyses : HasAllLimits rows → IsComplete rows (codes "analyse")
+  lists : HasAllLimits rows → IsComplete rows (codes "show")
+
+abbrev pub FindsAll : Option (Text × List Row) → Type 0
+FindsAll None = ⊥
+FindsAll (Some found) = IsComplete found.1 found.0
+
 -- ---- what the words say
 
 -- what clap finds in the words: the command that they name, with what is found for its options
@@ -110,9 +130,9 @@ faults_of words = fault_of bitstool words
 abbrev pub IsHelp : ErrorKind → Type 0
 IsHelp kind = (kind ≡ DisplayHelp) ⊎ (kind ≡ DisplayVersion)
 
--- why no task came of the words: no memory; or clap finds this fault with them; or they mean none
+-- why no task came of the words: no memory; or clap finds this fault with them
 abbrev pub Fails : List Text → ErrorKind → Type 0
-Fails words kind = (kind ≡ OutOfMemory) ⊎ (IsAmong kind (faults_of words) ⊎ ((kind ≡ InvalidValue) × (faults_of words ≡ [])))
+Fails words kind = (kind ≡ OutOfMemory) ⊎ IsAmong kind (faults_of words)
 
 -- where the text of an error belongs
 abbrev pub Shows : ErrorKind → Parsed → Type 0
@@ -121,10 +141,10 @@ Shows kind (parsed.Help text) = IsHelp kind
 Shows kind (parsed.Usage text) = IsHelp kind → ⊥
 Shows kind parsed.Memory = ⊥
 
--- What is made of the words: a task that they mean, where clap finds no fault with them; help, where they ask for it; a usage
--- fault, where clap finds another fault, or they mean no task; or there was no memory to read them.
+-- What is made of the words: the task that they mean, where clap finds no fault with them; help, where they ask for it; a usage
+-- fault, where clap finds another fault; or there was no memory to read them.
 abbrev pub Says : List Text → Parsed → Type 0
 Says words (parsed.Task task) = (faults_of words ≡ []) × Means (named_by words) task
 Says words (parsed.Help text) = (kind : ErrorKind) × IsHelp kind × IsAmong kind (faults_of words)
-Says words (parsed.Usage text) = ((kind : ErrorKind) × (IsHelp kind → ⊥) × IsAmong kind (faults_of words)) ⊎ (faults_of words ≡ [])
+Says words (parsed.Usage text) = (kind : ErrorKind) × (IsHelp kind → ⊥) × IsAmong kind (faults_of words)
 Says words parsed.Memory = ⊤

@@ -1,9 +1,9 @@
 //! What the words say, by `clap`.
 
-ghost use Rattle.std.specs.Prelude.{◌≡◌, false, map, string_bytes, IfOk, IfErr, IfSome};
+ghost use Rattle.std.specs.Prelude.{◌≡◌, ◌<◌, ◌^◌, ℕ, false, map, string_bytes, IfOk, IfErr, IfSome, IsSome, Some};
 ghost use Rattle.bitstool.specs.declared.task.Parsed.{Parsed as ParsedValue};
 ghost use Rattle.clap.specs.Words.{app_of, found_of, kind_of, rows_of, rule_of, subcommand_rows_of};
-ghost use Rattle.bitstool.specs.Words.{HasLimits, HasNumber, HasSetting, Means, Says, Fails, Shows, bitstool, limit_rule, limited, number_rule, dropping, comparing};
+ghost use Rattle.bitstool.specs.Words.{FindsAll, HasAllLimits, HasLimits, HasNumber, HasSetting, Means, Says, Fails, Shows, bitstool, limit_rule, limited, number_rule, dropping, comparing};
 
 use crate::task::{Parsed, Task};
 use bit_fields::Limits;
@@ -153,14 +153,16 @@ fn command<'a>(alloc: Global) -> Result<Command<'a>, AllocError>
 
 /// The number that an option was given.
 fn number(matches: &ArgMatches<'_>, name: &str) -> Option<u64>
-    ensures { IfSome result (λ n. HasNumber name.now (rows_of (found_of matches.now)) n) }
+    ensures number { IfSome result (λ n. HasNumber name.now (rows_of (found_of matches.now)) n) }
+    ensures found { (n : ℕ) → HasNumber name.now (rows_of (found_of matches.now)) n → n < 2 ^ 64 → result ≡ Some n }
 {
     matches.get_one(name)
 }
 
 /// The limits that a command was given.
 fn limits_of(matches: &ArgMatches<'_>) -> Option<Limits>
-    ensures { IfSome result (λ limits. HasLimits (rows_of (found_of matches.now)) limits) }
+    ensures limits { IfSome result (λ limits. HasLimits (rows_of (found_of matches.now)) limits) }
+    ensures found { HasAllLimits (rows_of (found_of matches.now)) → IsSome result }
 {
     let bytes = number(matches, "bytes")?;
     let depth = u32::try_from(number(matches, "depth")?).ok()?;
@@ -181,7 +183,8 @@ fn setting_of(matches: &ArgMatches<'_>) -> Info
 
 /// The command that was given.
 fn task_of(matches: &ArgMatches<'_>) -> Option<Task>
-    ensures { IfSome result (λ task. Means (subcommand_rows_of matches.now) task) }
+    ensures task { IfSome result (λ task. Means (subcommand_rows_of matches.now) task) }
+    ensures found { FindsAll (subcommand_rows_of matches.now) → IsSome result }
 {
     let (name, inner) = matches.subcommand()?;
     let limits = limits_of(inner)?;
@@ -209,10 +212,7 @@ fn task(alloc: Global, words: &[String]) -> Result<Task, Error>
 {
     let mut command = command(alloc)?;
     let matches = command.try_get_matches_from_mut(words)?;
-    match task_of(&matches) {
-        Some(task) => Ok(task),
-        None => Err(command.error(ErrorKind::InvalidValue, "no such command")?),
-    }
+    Ok(task_of(&matches).unwrap())
 }
 
 /// The text of an error, and where it belongs.
