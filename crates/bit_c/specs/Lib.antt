@@ -1,0 +1,5 @@
+pub mod Calls
+pub mod Ending
+pub mod Handing
+pub mod Limiting
+pub mod Naming

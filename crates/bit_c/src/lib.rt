@@ -1,0 +1,16 @@
+//! Calls for C: the same promises inside another program. Each call has at its end the status, and of a refusal the reason, the
+//! bit and the input; what a C caller owes stands in `capi/bitstream.h`.
+#![tactic(auto)]
+
+mod checking;
+mod limits;
+mod normalising;
+mod outcome;
+mod reasons;
+mod room;
+
+pub use checking::bs_check;
+pub use limits::{BsLimits, bs_usual_limits};
+pub use normalising::{BsLeftOut, bs_normal};
+pub use outcome::BsFault;
+pub use reasons::{bs_reason_name, bs_version};

@@ -1,0 +1,43 @@
+//! The caller's room.
+
+ghost use Rattle.bit_fields.specs.Devices.{Outgoing};
+ghost use Rattle.bit_c.specs.Handing.{Fills, Hands, HandsOut};
+
+use crate::outcome::Outcome;
+use bit_fields::{Sink, VecSink};
+
+/// Puts items at the front of the caller's room, where it has enough; tells whether it has.
+pub(crate) fn fill<T: Copy>(items: &[T], room: &mut [T]) -> bool
+    ensures { Fills items.now room.old result room.new }
+{
+    if items.len() > room.len() {
+        return false;
+    }
+    room[..items.len()].copy_from_slice(items);
+    true
+}
+
+/// Puts a text at the front of the caller's room, and tells how long it is.
+fn hand_out(text: &[u8], room: &mut [u8], needed: &mut usize) -> Outcome
+    ensures { HandsOut text.now room.old needed.new room.new result }
+{
+    *needed = text.len();
+    if fill(text, room) {
+        Outcome::Done
+    } else {
+        Outcome::Room
+    }
+}
+
+/// Puts what a call made at the front of the caller's room, where it was done; else leaves the room as it was.
+pub(crate) fn hand(outcome: Outcome, made: &VecSink, room: &mut [u8], needed: &mut usize) -> Outcome
+    ensures { Hands outcome (⟦<VecSink as Sink>⟧.outgoing made.now).bytes room.old needed.new room.new result }
+{
+    match outcome {
+        Outcome::Done => hand_out(made.bytes(), room, needed),
+        other => {
+            *needed = 0;
+            other
+        }
+    }
+}
