@@ -1,3 +1,4 @@
+pub mod AsBox
 pub mod Forms
 pub mod Handing
 pub mod Reading

@@ -1,5 +1,6 @@
 pub mod Calls
 pub mod Ending
 pub mod Handing
+pub mod Held
 pub mod Limiting
 pub mod Naming

@@ -3,9 +3,12 @@
 #![tactic(auto)]
 
 mod checking;
+mod home;
+mod inner;
 mod limits;
 mod normalising;
 mod outcome;
+mod parts;
 mod reasons;
 mod room;
 
