@@ -14,7 +14,7 @@ use Rattle.bit_c.specs.declared.outcome.Outcome.{Outcome}
 use Rattle.bit_c.specs.Calls.{IsForm, FailsForm}
 use Rattle.bit_c.specs.Ending.{ended_by}
 use Rattle.bit_c.specs.Handing.{Makes}
-use Rattle.bit_c.proofs.Reading.{known}
+use Rattle.bit_c.proofs.Inputs.{known}
 
 by_fault : (info : Info) (limits : blocks.Limits) (i now : Incoming) (bytes : List ℕ) (old new : Outgoing) (why : Fault) (text : Option (List ℕ)) → i.to_come ≡ Some bytes
     → Normalises info limits i old (Err why) now new → Makes (IsForm info limits bytes) (FailsForm info limits bytes) (ended_by 0 why) text

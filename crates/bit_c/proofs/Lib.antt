@@ -1,4 +1,4 @@
 pub mod AsBox
 pub mod Forms
 pub mod Handing
-pub mod Reading
+pub mod Inputs

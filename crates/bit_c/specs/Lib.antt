@@ -4,3 +4,5 @@ pub mod Handing
 pub mod Held
 pub mod Limiting
 pub mod Naming
+pub mod Opened
+pub mod Stepping

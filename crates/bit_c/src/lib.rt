@@ -3,17 +3,23 @@
 #![tactic(auto)]
 
 mod checking;
+mod event;
 mod home;
 mod inner;
 mod limits;
 mod normalising;
 mod outcome;
 mod parts;
+mod reader;
+mod reading;
 mod reasons;
 mod room;
 
 pub use checking::bs_check;
+pub use event::BsEvent;
 pub use limits::{BsLimits, bs_usual_limits};
 pub use normalising::{BsLeftOut, bs_normal};
 pub use outcome::BsFault;
+pub use reader::BsReader;
+pub use reading::{bs_close, bs_next, bs_open};
 pub use reasons::{bs_reason_name, bs_version};

@@ -2,7 +2,7 @@ use Rattle.std.proofs.Common.{List, ℕ, refl, ap}
 use Rattle.bit_grammar.specs.Input.{Marked, SpellsInput}
 use Rattle.bit_fields.specs.Devices.{Incoming}
 use Rattle.bit_c.specs.Calls.{Checks}
-use Rattle.bit_c.proofs.Reading.{not_read}
+use Rattle.bit_c.proofs.Inputs.{not_read}
 use Rattle.bit_c.proofs.checking.judge.Goals as goal
 
 pub returns-in-Err : goal.returns-in-Err

@@ -4,7 +4,7 @@ use Rattle.bit_grammar.specs.Blocks as blocks
 use Rattle.bit_c.specs.Calls.{GivesForm, setting_of}
 use Rattle.bit_c.specs.Handing.{Leaves}
 use Rattle.bit_c.specs.Limiting.{limits_told}
-use Rattle.bit_c.proofs.Reading.{within}
+use Rattle.bit_c.proofs.Inputs.{within}
 use Rattle.bit_c.proofs.normalising.give_form_within.Goals as goal
 
 pub returns-in-Some : goal.returns-in-Some
