@@ -8,14 +8,14 @@ abbrev pub Fills : {A : Type 0} → List A → List A → Bool → List A → Ty
 Fills items old true new = (length items ≤ length old) × (new ≡ items ++ drop (length items) old)
 Fills items old false new = (length old < length items) × (new ≡ old)
 
--- a text was handed out, and its length told; or the room has not enough
-abbrev pub HandsOut : List ℕ → List ℕ → ℕ → List ℕ → Outcome → Type 0
-HandsOut text old needed new Done = (needed ≡ length text) × Fills text old true new
-HandsOut text old needed new Room = (needed ≡ length text) × Fills text old false new
-HandsOut text old needed new outcome = ⊥
+-- items were handed out, and their number told; or the room has not enough
+abbrev pub HandsOut : {A : Type 0} → List A → List A → ℕ → List A → Outcome → Type 0
+HandsOut items old needed new Done = (needed ≡ length items) × Fills items old true new
+HandsOut items old needed new Room = (needed ≡ length items) × Fills items old false new
+HandsOut items old needed new outcome = ⊥
 
 -- nothing was handed out
-abbrev pub Leaves : List ℕ → ℕ → List ℕ → Type 0
+abbrev pub Leaves : {A : Type 0} → List A → ℕ → List A → Type 0
 Leaves old needed new = (needed ≡ 0) × (new ≡ old)
 
 -- What a call made was handed out, where it was done.

@@ -14,6 +14,7 @@ use Rattle.bit_c.specs.declared.outcome.Outcome.{Outcome}
 use Rattle.bit_c.specs.declared.outcome.Outcome.TheVariants.{Done, Closed}
 use Rattle.bit_c.specs.Calls.{Fails}
 use Rattle.bit_c.specs.Ending.{ended_by}
+use Rattle.bit_c.specs.Handing.{HandsOut, Leaves}
 
 -- an event as it is shown, or that none is left
 abbrev pub Shows : BsEvent → Option Event → Type 0
@@ -73,3 +74,14 @@ abbrev pub NextsIn : Home → BsEvent → Home → BsEvent → Outcome → Type 
 NextsIn (home.Reading old) before (home.Reading new) after outcome = Steps old before new after outcome
 NextsIn (home.Text old) before (home.Text new) after outcome = (outcome ≡ Closed) × (after ≡ before) × (new ≡ old)
 NextsIn old before new after outcome = ⊥
+
+-- ---- values
+
+-- those of the record that was given last were handed out; or the fault that was met was said, and nothing was
+abbrev pub Lists : Reading → List ℕ → ℕ → List ℕ → Outcome → Type 0
+Lists reading old needed new outcome = MatchOption reading.fault (HandsOut reading.events.held old needed new outcome) (λ fault. (outcome ≡ ended_by 0 fault) × Leaves old needed new)
+
+-- the same of a handle; a closed one says that it is
+abbrev pub ListsOf : Option Reading → List ℕ → ℕ → List ℕ → Outcome → Type 0
+ListsOf None old needed new outcome = (outcome ≡ Closed) × Leaves old needed new
+ListsOf (Some reading) old needed new outcome = Lists reading old needed new outcome

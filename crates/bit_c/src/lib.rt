@@ -21,5 +21,5 @@ pub use limits::{BsLimits, bs_usual_limits};
 pub use normalising::{BsLeftOut, bs_normal};
 pub use outcome::BsFault;
 pub use reader::BsReader;
-pub use reading::{bs_close, bs_next, bs_open};
+pub use reading::{bs_close, bs_next, bs_open, bs_values};
 pub use reasons::{bs_reason_name, bs_version};

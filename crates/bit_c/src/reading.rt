@@ -1,16 +1,17 @@
 //! The calls of the reader of events.
 
-ghost use Rattle.std.specs.Prelude.{◌≡◌, None};
+ghost use Rattle.std.specs.Prelude.{◌≡◌, None, Some};
 ghost use Rattle.bit_c.specs.Ending.{Ends};
 ghost use Rattle.bit_c.specs.Limiting.{Within, limits_told};
 ghost use Rattle.bit_c.specs.Opened.{reading_of};
-ghost use Rattle.bit_c.specs.Stepping.{Begins, Opens, Nexts, NextsIn, Steps};
+ghost use Rattle.bit_c.specs.Stepping.{Begins, Lists, ListsOf, Nexts, NextsIn, Opens, Steps};
 
 use crate::event::{BsEvent, next_of};
 use crate::home::{Home, Reading};
 use crate::limits::BsLimits;
 use crate::outcome::{BsFault, Outcome};
 use crate::reader::{BsReader, opened, take_out};
+use crate::room::hand_out;
 use bit_events::Events;
 use bit_fields::{Limits, SliceSource};
 use std::alloc::Global;
@@ -131,6 +132,63 @@ pub extern "C" fn bs_next(
     ensures { Ends result fault.new (Nexts (reading_of reader.old.inner.home) event.old (reading_of reader.new.inner.home) event.new) }
 {
     step_of(alloc, reader, event).tell(fault)
+}
+
+/// Hands out the values of the record that was given last.
+fn list(reading: &Reading, room: &mut [u64], needed: &mut usize) -> Outcome
+    ensures { Lists reading.now room.old needed.new room.new result }
+{
+    if let Some(fault) = reading.fault {
+        *needed = 0;
+        return Outcome::of(0, fault);
+    }
+    hand_out(reading.events.values(), room, needed)
+}
+
+/// The same of what a handle leads to.
+fn list_in(home: &Home, room: &mut [u64], needed: &mut usize) -> Outcome
+    ensures { ListsOf (reading_of (Some home.now)) room.old needed.new room.new result }
+{
+    match home {
+        Home::Reading(reading) => list(reading, room, needed),
+        Home::Text(_) => {
+            *needed = 0;
+            Outcome::Closed
+        }
+    }
+}
+
+/// The same of a handle, which stays as it is.
+fn list_of(alloc: Global, reader: &mut BsReader, room: &mut [u64], needed: &mut usize) -> Outcome
+    ensures kept { reader.new.inner.home ≡ reader.old.inner.home }
+    ensures lists { ListsOf (reading_of reader.old.inner.home) room.old needed.new room.new result }
+{
+    match take_out(alloc, reader) {
+        Some(home) => {
+            let outcome = list_in(&home, room, needed);
+            *reader = opened(home);
+            outcome
+        }
+        None => {
+            *needed = 0;
+            Outcome::Closed
+        }
+    }
+}
+
+/// Puts the values of the record that was given last into the caller's room, and tells how many they are.
+#[unsafe(no_mangle)]
+pub extern "C" fn bs_values(
+    alloc: Global,
+    reader: &mut BsReader,
+    room: &mut [u64],
+    needed: &mut usize,
+    fault: &mut BsFault,
+) -> u32
+    ensures kept { reader.new.inner.home ≡ reader.old.inner.home }
+    ensures lists { Ends result fault.new (ListsOf (reading_of reader.old.inner.home) room.old needed.new room.new) }
+{
+    list_of(alloc, reader, room, needed).tell(fault)
 }
 
 /// Closes a handle, and frees what it leads to. Closing one that is closed does nothing.

@@ -7,7 +7,7 @@ use crate::outcome::Outcome;
 use bit_fields::{Sink, VecSink};
 
 /// Puts items at the front of the caller's room, where it has enough; tells whether it has.
-pub(crate) fn fill<T: Copy>(items: &[T], room: &mut [T]) -> bool
+fn fill<T: Copy>(items: &[T], room: &mut [T]) -> bool
     ensures { Fills items.now room.old result room.new }
 {
     if items.len() > room.len() {
@@ -17,12 +17,12 @@ pub(crate) fn fill<T: Copy>(items: &[T], room: &mut [T]) -> bool
     true
 }
 
-/// Puts a text at the front of the caller's room, and tells how long it is.
-fn hand_out(text: &[u8], room: &mut [u8], needed: &mut usize) -> Outcome
-    ensures { HandsOut text.now room.old needed.new room.new result }
+/// Puts items at the front of the caller's room, and tells how many they are.
+pub(crate) fn hand_out<T: Copy>(items: &[T], room: &mut [T], needed: &mut usize) -> Outcome
+    ensures { HandsOut items.now room.old needed.new room.new result }
 {
-    *needed = text.len();
-    if fill(text, room) {
+    *needed = items.len();
+    if fill(items, room) {
         Outcome::Done
     } else {
         Outcome::Room
