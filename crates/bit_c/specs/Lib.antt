@@ -5,4 +5,5 @@ pub mod Held
 pub mod Limiting
 pub mod Naming
 pub mod Opened
+pub mod Rows
 pub mod Stepping

@@ -2,6 +2,7 @@
 //! bit and the input; what a C caller owes stands in `capi/bitstream.h`.
 #![tactic(auto)]
 
+mod analysing;
 mod checking;
 mod event;
 mod home;

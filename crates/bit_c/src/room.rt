@@ -1,32 +1,30 @@
 //! The caller's room.
 
+ghost use Rattle.std.specs.Prelude.{◌≤◌, length, true};
 ghost use Rattle.bit_fields.specs.Devices.{Outgoing};
 ghost use Rattle.bit_c.specs.Handing.{Fills, Hands, HandsOut};
 
 use crate::outcome::Outcome;
 use bit_fields::{Sink, VecSink};
 
-/// Puts items at the front of the caller's room, where it has enough; tells whether it has.
-fn fill<T: Copy>(items: &[T], room: &mut [T]) -> bool
-    ensures { Fills items.now room.old result room.new }
+/// Puts items at the front of the caller's room.
+pub(crate) fn put<T: Copy>(items: &[T], room: &mut [T])
+    requires { length items.now ≤ length room.old }
+    ensures { Fills items.now room.old true room.new }
 {
-    if items.len() > room.len() {
-        return false;
-    }
     room[..items.len()].copy_from_slice(items);
-    true
 }
 
-/// Puts items at the front of the caller's room, and tells how many they are.
+/// Puts items at the front of the caller's room, where it has enough, and tells how many they are.
 pub(crate) fn hand_out<T: Copy>(items: &[T], room: &mut [T], needed: &mut usize) -> Outcome
     ensures { HandsOut items.now room.old needed.new room.new result }
 {
     *needed = items.len();
-    if fill(items, room) {
-        Outcome::Done
-    } else {
-        Outcome::Room
+    if items.len() > room.len() {
+        return Outcome::Room;
     }
+    put(items, room);
+    Outcome::Done
 }
 
 /// Puts what a call made at the front of the caller's room, where it was done; else leaves the room as it was.
