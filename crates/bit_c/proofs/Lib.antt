@@ -1,4 +1,5 @@
 pub mod AsBox
+pub mod Compared
 pub mod Forms
 pub mod Handing
 pub mod Inputs

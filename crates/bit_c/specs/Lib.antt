@@ -1,4 +1,5 @@
 pub mod Calls
+pub mod Comparing
 pub mod Ending
 pub mod Handing
 pub mod Held

@@ -1,5 +1,5 @@
 -- An analysis as rows that C sees.
-use Rattle.std.specs.Prelude.{◌≡◌, ◌<◌, ◌⊎◌, ℕ, true, List, [], length, map, flat_map}
+use Rattle.std.specs.Prelude.{◌≡◌, ◌<◌, ◌⊎◌, ℕ, true, List, length, map, flat_map, replicate}
 use Rattle.bit_grammar.specs.Blocks as blocks
 use Rattle.bit_grammar.specs.Tally.{CodeTally, BlockTally, Tally}
 use Rattle.bit_fields.specs.Opening.{magic_number}
@@ -8,7 +8,7 @@ use Rattle.bit_c.specs.declared.analysing.BsBlockRow.{BsBlockRow}
 use Rattle.bit_c.specs.declared.analysing.BsCodeRow.{BsCodeRow}
 use Rattle.bit_c.specs.declared.analysing.BsTally.{BsTally}
 use Rattle.bit_c.specs.declared.outcome.Outcome.{Outcome}
-use Rattle.bit_c.specs.declared.outcome.Outcome.TheVariants.{Done, Different, Refused, Memory, TooLong, Limits, Room, Closed}
+use Rattle.bit_c.specs.declared.outcome.Outcome.TheVariants.{Done, Memory, Room}
 use Rattle.bit_c.specs.Calls.{Fails}
 use Rattle.bit_c.specs.Handing.{Fills}
 
@@ -47,3 +47,22 @@ abbrev pub GivesRows : List BsBlockRow → List BsCodeRow → (old_blocks new_bl
 GivesRows rows codes old_blocks new_blocks old_codes new_codes Done = Fills rows old_blocks true new_blocks × Fills codes old_codes true new_codes
 GivesRows rows codes old_blocks new_blocks old_codes new_codes Room = ((length old_blocks < length rows) ⊎ (length old_codes < length codes)) × LeavesRows old_blocks new_blocks old_codes new_codes
 GivesRows rows codes old_blocks new_blocks old_codes new_codes outcome = ⊥
+
+-- ---- a call
+
+abbrev pub no_tally : BsTally
+no_tally = record { magic = replicate 4 0; bits = 0; blocks = 0; codes = 0 }
+
+-- an analysis was told, and its rows were given; or a room has not enough for them; or there was no memory, and nothing was told
+abbrev pub GivesTally : Tally → BsTally → (old_blocks new_blocks : List BsBlockRow) → (old_codes new_codes : List BsCodeRow) → Outcome → Type 0
+GivesTally tally told old_blocks new_blocks old_codes new_codes Done = Tells tally told × GivesRows (map row_told tally.rows) (codes_told tally.rows) old_blocks new_blocks old_codes new_codes Done
+GivesTally tally told old_blocks new_blocks old_codes new_codes Room = Tells tally told × GivesRows (map row_told tally.rows) (codes_told tally.rows) old_blocks new_blocks old_codes new_codes Room
+GivesTally tally told old_blocks new_blocks old_codes new_codes Memory = (told ≡ no_tally) × LeavesRows old_blocks new_blocks old_codes new_codes
+GivesTally tally told old_blocks new_blocks old_codes new_codes outcome = ⊥
+
+-- The analysis of the bytes was told, and its rows were given; or a room has not enough for them; or nothing was told, for this
+-- reason.
+abbrev pub Analyses : blocks.Limits → List ℕ → BsTally → (old_blocks new_blocks : List BsBlockRow) → (old_codes new_codes : List BsCodeRow) → Outcome → Type 0
+Analyses limits bytes told old_blocks new_blocks old_codes new_codes Done = (tally : Tally) × HasTally limits bytes tally × GivesTally tally told old_blocks new_blocks old_codes new_codes Done
+Analyses limits bytes told old_blocks new_blocks old_codes new_codes Room = (tally : Tally) × HasTally limits bytes tally × GivesTally tally told old_blocks new_blocks old_codes new_codes Room
+Analyses limits bytes told old_blocks new_blocks old_codes new_codes outcome = Fails limits bytes outcome × (told ≡ no_tally) × LeavesRows old_blocks new_blocks old_codes new_codes

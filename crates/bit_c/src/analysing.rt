@@ -5,7 +5,7 @@ ghost use Rattle.bit_scan.specs.CodesView.{code_tallies};
 ghost use Rattle.bit_scan.specs.Rows.{block_tally, block_tallies};
 ghost use Rattle.bit_c.specs.Ending.{Ends};
 ghost use Rattle.bit_c.specs.Limiting.{Within, limits_told};
-ghost use Rattle.bit_c.specs.Rows.{GivesRows, code_told, codes_told, row_told};
+ghost use Rattle.bit_c.specs.Rows.{Analyses, GivesRows, GivesTally, LeavesRows, code_told, codes_told, no_tally, row_told};
 
 use crate::limits::BsLimits;
 use crate::outcome::{BsFault, Outcome};
@@ -127,4 +127,88 @@ fn give_rows(
     put(blocks, block_room);
     put(codes, code_room);
     Outcome::Done
+}
+
+/// Tells an analysis, and gives its rows.
+fn give_tally(
+    alloc: Global,
+    analysis: &Analysis,
+    tally: &mut BsTally,
+    block_room: &mut [BsBlockRow],
+    code_room: &mut [BsCodeRow],
+) -> Outcome
+    ensures { GivesTally analysis.now tally.new block_room.old block_room.new code_room.old code_room.new result }
+{
+    *tally = NO_TALLY;
+    let Ok(blocks) = block_rows(alloc, analysis.rows()) else {
+        return Outcome::Memory;
+    };
+    let Ok(codes) = code_rows(alloc, analysis.rows()) else {
+        return Outcome::Memory;
+    };
+    *tally = BsTally {
+        magic: analysis.magic(),
+        bits: analysis.bits(),
+        blocks: blocks.len(),
+        codes: codes.len(),
+    };
+    give_rows(&blocks, &codes, block_room, code_room)
+}
+
+/// Analyses bytes, tells what they hold, and gives the rows.
+fn analyse_under(
+    alloc: Global,
+    bytes: &[u8],
+    limits: Limits,
+    tally: &mut BsTally,
+    block_room: &mut [BsBlockRow],
+    code_room: &mut [BsCodeRow],
+) -> Outcome
+    ensures { Analyses limits bytes.now tally.new block_room.old block_room.new code_room.old code_room.new result }
+{
+    let (answer, _) = analyse(alloc, SliceSource::new(bytes), limits);
+    match answer {
+        Ok(analysis) => give_tally(alloc, &analysis, tally, block_room, code_room),
+        Err(fault) => {
+            *tally = NO_TALLY;
+            Outcome::of(0, fault)
+        }
+    }
+}
+
+/// The same under limits that may be past their caps.
+fn analyse_within(
+    alloc: Global,
+    bytes: &[u8],
+    limits: &BsLimits,
+    tally: &mut BsTally,
+    block_room: &mut [BsBlockRow],
+    code_room: &mut [BsCodeRow],
+) -> Outcome
+    ensures { let l = limits_told limits.now in Within l ((tally.new ≡ no_tally) × LeavesRows block_room.old block_room.new code_room.old code_room.new) (Analyses l bytes.now tally.new block_room.old block_room.new code_room.old code_room.new) result }
+{
+    match limits.told() {
+        Some(limits) => analyse_under(alloc, bytes, limits, tally, block_room, code_room),
+        None => {
+            *tally = NO_TALLY;
+            Outcome::Limits
+        }
+    }
+}
+
+/// Analyses bytes, and tells the magic, the bits and how many rows there are; the rows go into the caller's rooms, all of them
+/// or none.
+#[unsafe(no_mangle)]
+pub extern "C" fn bs_analyse(
+    alloc: Global,
+    bytes: &[u8],
+    limits: &BsLimits,
+    tally: &mut BsTally,
+    block_room: &mut [BsBlockRow],
+    code_room: &mut [BsCodeRow],
+    fault: &mut BsFault,
+) -> u32
+    ensures { let l = limits_told limits.now in Ends result fault.new (Within l ((tally.new ≡ no_tally) × LeavesRows block_room.old block_room.new code_room.old code_room.new) (Analyses l bytes.now tally.new block_room.old block_room.new code_room.old code_room.new)) }
+{
+    analyse_within(alloc, bytes, limits, tally, block_room, code_room).tell(fault)
 }

@@ -4,6 +4,7 @@
 
 mod analysing;
 mod checking;
+mod comparing;
 mod event;
 mod home;
 mod inner;
@@ -16,7 +17,9 @@ mod reading;
 mod reasons;
 mod room;
 
+pub use analysing::{BsBlockRow, BsCodeRow, BsTally, bs_analyse};
 pub use checking::bs_check;
+pub use comparing::bs_same;
 pub use event::BsEvent;
 pub use limits::{BsLimits, bs_usual_limits};
 pub use normalising::{BsLeftOut, bs_normal};
