@@ -1,5 +1,5 @@
 pub mod AsBox
 pub mod Compared
-pub mod Forms
-pub mod Handing
+pub mod Handed
 pub mod Inputs
+pub mod Making

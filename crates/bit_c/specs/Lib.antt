@@ -8,3 +8,4 @@ pub mod Naming
 pub mod Opened
 pub mod Rows
 pub mod Stepping
+pub mod Texts

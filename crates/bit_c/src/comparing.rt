@@ -2,12 +2,11 @@
 
 ghost use Rattle.std.specs.Prelude.{◌≡◌, ⊤};
 ghost use Rattle.bit_c.specs.Comparing.{Sames, input_of};
-ghost use Rattle.bit_c.specs.Calls.{setting_of};
 ghost use Rattle.bit_c.specs.Ending.{Ends};
-ghost use Rattle.bit_c.specs.Limiting.{Within, limits_told};
+ghost use Rattle.bit_c.specs.Limiting.{Within, limits_told, setting_of};
 
+use crate::left_out::BsLeftOut;
 use crate::limits::BsLimits;
-use crate::normalising::BsLeftOut;
 use crate::outcome::{BsFault, Outcome};
 use bit_fields::{Limits, SliceSource};
 use bit_norm::{Info, Which, same};

@@ -2,9 +2,8 @@ use Rattle.std.proofs.Common.{subst}
 use Rattle.std.specs.Prelude.{⊤}
 use Rattle.bit_grammar.specs.declared.info.Info.{Info}
 use Rattle.bit_grammar.specs.Blocks as blocks
-use Rattle.bit_c.specs.Calls.{setting_of}
 use Rattle.bit_c.specs.Comparing.{Sames}
-use Rattle.bit_c.specs.Limiting.{limits_told}
+use Rattle.bit_c.specs.Limiting.{limits_told, setting_of}
 use Rattle.bit_c.proofs.Inputs.{within}
 use Rattle.bit_c.proofs.comparing.compare_within.Goals as goal
 

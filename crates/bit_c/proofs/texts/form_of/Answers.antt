@@ -1,7 +1,7 @@
 use Rattle.std.proofs.Common.{ap}
 use Rattle.bit_fields.specs.Devices.{Incoming}
-use Rattle.bit_c.proofs.Forms.{not_made}
-use Rattle.bit_c.proofs.normalising.form_of.Goals as goal
+use Rattle.bit_c.proofs.Making.{not_made}
+use Rattle.bit_c.proofs.texts.form_of.Goals as goal
 
 pub returns-in-Err : goal.returns-in-Err
 returns-in-Err c =
