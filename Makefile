@@ -7,7 +7,7 @@
 PREFIX ?= /usr/local
 JOBS ?= $(shell nproc)
 PROGRAM := crates/bitstool/out/bitstool
-LIBRARIES := $(patsubst crates/%/src/lib.rt,%,$(wildcard crates/*/src/lib.rt))
+LIBRARIES := $(filter-out bit_c,$(patsubst crates/%/src/lib.rt,%,$(wildcard crates/*/src/lib.rt)))
 sources = $(shell find crates/$(1) -path '*/out' -prune -o \( -name '*.rt' -o -name '*.antt' \) -print)
 below = $(filter $(LIBRARIES),$(shell sed -n 's/^$(1)://p' crates.txt))
 

@@ -104,6 +104,13 @@ impl<S: Source> Events<S> {
         self.reader.position()
     }
 
+    /// The values of the record that was given last; none where no record was given yet.
+    pub fn values(&self) -> &[u64]
+        ensures { result.now ≡ self.now.held }
+    {
+        self.values.as_slice()
+    }
+
     /// Finds the next event and keeps it.
     pub(crate) fn advance(&mut self) -> Result<(), Fault>
         ensures { Finds self.old result self.new }

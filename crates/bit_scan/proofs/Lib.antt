@@ -8,6 +8,7 @@ pub mod Lists
 pub mod OpenBlocks
 pub mod Prints
 pub mod Puts
+pub mod Reported
 pub mod Reports
 pub mod Saturating
 pub mod Spans

@@ -6,6 +6,7 @@ pub mod Cut
 pub mod Fitting
 pub mod Lines
 pub mod Printing
+pub mod Reporting
 pub mod Rows
 pub mod Showing
 pub mod Written

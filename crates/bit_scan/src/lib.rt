@@ -8,6 +8,7 @@ mod laws;
 mod lines;
 mod listing;
 mod printer;
+mod reporting;
 mod rows;
 mod showing;
 #[cfg(test)]
@@ -16,5 +17,6 @@ mod tests;
 pub use analysing::analyse;
 pub use analysis::Analysis;
 pub use laws::numbers_fit;
+pub use reporting::write_report;
 pub use rows::{BlockRow, CodeRow, Codes};
 pub use showing::write_show;

@@ -1,0 +1,5 @@
+pub mod AsBox
+pub mod Compared
+pub mod Handed
+pub mod Inputs
+pub mod Making

@@ -1,0 +1,22 @@
+-- What the calls on bytes say, by how they end.
+use Rattle.std.specs.Prelude.{◌≡◌, ⊤, ℕ, List}
+use Rattle.bit_grammar.specs.Grammar.{at}
+use Rattle.bit_grammar.specs.Blocks as blocks
+use Rattle.bit_grammar.specs.Input.{Marked, SpellsInput, BreaksInput}
+use Rattle.bit_c.specs.declared.outcome.Outcome.{Outcome}
+use Rattle.bit_c.specs.declared.outcome.Outcome.TheVariants.{Done, Refused, Memory}
+
+-- these bytes spell a marked tree
+abbrev pub Accepts : blocks.Limits → List ℕ → Type 0
+Accepts limits bytes = (m : Marked) × SpellsInput limits bytes m
+
+-- the bytes break so; or no memory
+abbrev pub Fails : blocks.Limits → List ℕ → Outcome → Type 0
+Fails limits bytes (Refused input reason bit) = (input ≡ 0) × BreaksInput limits bytes (at reason bit)
+Fails limits bytes Memory = ⊤
+Fails limits bytes outcome = ⊥
+
+-- The bytes spell a marked tree; or they break so; or no memory.
+abbrev pub Checks : blocks.Limits → List ℕ → Outcome → Type 0
+Checks limits bytes Done = Accepts limits bytes
+Checks limits bytes outcome = Fails limits bytes outcome

@@ -1,0 +1,11 @@
+pub mod Calls
+pub mod Comparing
+pub mod Ending
+pub mod Handing
+pub mod Held
+pub mod Limiting
+pub mod Naming
+pub mod Opened
+pub mod Rows
+pub mod Stepping
+pub mod Texts

@@ -1,0 +1,87 @@
+-- Events one at a time, as C sees them.
+use Rattle.std.specs.Prelude.{◌≡◌, ℕ, List, length, Option, Some, None, Result, Ok, Err, MatchOption}
+use Rattle.bit_grammar.specs.Blocks as blocks
+use Rattle.bit_grammar.specs.Machine.{Event, enters, defines, notes, leaves}
+use Rattle.bit_fields.specs.declared.fault.Fault.{Fault}
+use Rattle.bit_fields.specs.Devices.{Incoming}
+use Rattle.bit_events.specs.Coming.{Coming, Goes}
+use Rattle.bit_events.specs.Events.{Begun}
+use Rattle.bit_c.specs.declared.event.BsEvent.{BsEvent}
+use Rattle.bit_c.specs.declared.home.Home.{Home}
+use Rattle.bit_c.specs.declared.home.Home.TheVariants as home
+use Rattle.bit_c.specs.declared.home.Reading.{Reading}
+use Rattle.bit_c.specs.declared.outcome.Outcome.{Outcome}
+use Rattle.bit_c.specs.declared.outcome.Outcome.TheVariants.{Done, Closed}
+use Rattle.bit_c.specs.Calls.{Fails}
+use Rattle.bit_c.specs.Ending.{ended_by}
+use Rattle.bit_c.specs.Handing.{HandsOut, Leaves}
+
+-- an event as it is shown, or that none is left
+abbrev pub Shows : BsEvent → Option Event → Type 0
+Shows e None = e.kind ≡ 0
+Shows e (Some (enters o)) = (e.kind ≡ 1) × (e.id ≡ o.id) × (e.width ≡ o.width) × (e.first ≡ o.first) × (e.after ≡ o.body)
+Shows e (Some (defines mark)) = (e.kind ≡ 2) × (e.first ≡ mark.first) × (e.after ≡ mark.after)
+Shows e (Some (notes mark)) = (e.kind ≡ 3) × (e.id ≡ mark.abbreviation) × (e.code ≡ mark.code) × (e.count ≡ length mark.values) × (e.first ≡ mark.first) × (e.after ≡ mark.after)
+Shows e (Some (leaves after)) = (e.kind ≡ 4) × (e.after ≡ after)
+
+-- what a call for the next event does, which shows it
+abbrev pub Gets : Coming → Result BsEvent Fault → Coming → Type 0
+Gets old (Ok e) new = (event : Option Event) × Shows e event × Goes old (Ok event) new
+Gets old (Err fault) new = Goes old (Err fault) new
+
+-- ---- a handle
+
+-- the bytes of a slice, from the first to the last
+abbrev pub whole : List ℕ → Incoming
+whole bytes = record { to_come = Some bytes; pulls = 0; failures = 0 }
+
+-- the events of the bytes were begun; or not, for this reason
+abbrev pub Begins : blocks.Limits → List ℕ → Result Reading Outcome → Type 0
+Begins limits bytes (Ok new) = (new.fault ≡ None) × Begun limits (whole bytes) new.events
+Begins limits bytes (Err outcome) = Fails limits bytes outcome
+
+-- The events of the bytes are begun behind a handle; or it is closed, for this reason.
+abbrev pub Opens : blocks.Limits → List ℕ → Option Reading → Outcome → Type 0
+Opens limits bytes (Some new) Done = (new.fault ≡ None) × Begun limits (whole bytes) new.events
+Opens limits bytes (Some new) outcome = ⊥
+Opens limits bytes None outcome = Fails limits bytes outcome
+
+-- an answer of a call for the next event was told, and a fault is kept
+abbrev pub Keeps : (old : Reading) → (before : BsEvent) → Result BsEvent Fault → Reading → BsEvent → Outcome → Type 0
+Keeps old before (Ok e) new after outcome = (outcome ≡ Done) × (after ≡ e) × (new.fault ≡ None)
+Keeps old before (Err fault) new after outcome = (outcome ≡ ended_by 0 fault) × (after ≡ before) × (new.fault ≡ Some fault)
+
+-- a call for the next event of events that met no fault
+abbrev pub GoesOn : (old : Reading) → (before : BsEvent) → Reading → BsEvent → Outcome → Type 0
+GoesOn old before new after outcome = (answer : Result BsEvent Fault) × Gets old.events answer new.events × Keeps old before answer new after outcome
+
+-- a call for the next event of events that met a fault says that fault again, and changes nothing
+abbrev pub SaysAgain : Reading → BsEvent → Fault → Reading → BsEvent → Outcome → Type 0
+SaysAgain old before fault new after outcome = (outcome ≡ ended_by 0 fault) × (new ≡ old) × (after ≡ before)
+
+abbrev pub Steps : Reading → BsEvent → Reading → BsEvent → Outcome → Type 0
+Steps old before new after outcome = MatchOption old.fault (GoesOn old before new after outcome) (λ fault. SaysAgain old before fault new after outcome)
+
+-- The next event of a handle; a closed one stays so, and says it.
+abbrev pub Nexts : Option Reading → BsEvent → Option Reading → BsEvent → Outcome → Type 0
+Nexts None before None after outcome = (outcome ≡ Closed) × (after ≡ before)
+Nexts None before (Some new) after outcome = ⊥
+Nexts (Some old) before None after outcome = ⊥
+Nexts (Some old) before (Some new) after outcome = Steps old before new after outcome
+
+-- the same of what an open handle leads to
+abbrev pub NextsIn : Home → BsEvent → Home → BsEvent → Outcome → Type 0
+NextsIn (home.Reading old) before (home.Reading new) after outcome = Steps old before new after outcome
+NextsIn (home.Text old) before (home.Text new) after outcome = (outcome ≡ Closed) × (after ≡ before) × (new ≡ old)
+NextsIn old before new after outcome = ⊥
+
+-- ---- values
+
+-- those of the record that was given last were handed out; or the fault that was met was said, and nothing was
+abbrev pub Lists : Reading → List ℕ → ℕ → List ℕ → Outcome → Type 0
+Lists reading old needed new outcome = MatchOption reading.fault (HandsOut reading.events.held old needed new outcome) (λ fault. (outcome ≡ ended_by 0 fault) × Leaves old needed new)
+
+-- the same of a handle; a closed one says that it is
+abbrev pub ListsOf : Option Reading → List ℕ → ℕ → List ℕ → Outcome → Type 0
+ListsOf None old needed new outcome = (outcome ≡ Closed) × Leaves old needed new
+ListsOf (Some reading) old needed new outcome = Lists reading old needed new outcome

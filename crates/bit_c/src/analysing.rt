@@ -1,0 +1,214 @@
+//! The analysis of an input, as rows.
+
+ghost use Rattle.std.specs.Prelude.{◌≡◌, ◌++◌, map, flat_map, length, IfOk, OnOk};
+ghost use Rattle.bit_scan.specs.CodesView.{code_tallies};
+ghost use Rattle.bit_scan.specs.Rows.{block_tally, block_tallies};
+ghost use Rattle.bit_c.specs.Ending.{Ends};
+ghost use Rattle.bit_c.specs.Limiting.{Within, limits_told};
+ghost use Rattle.bit_c.specs.Rows.{Analyses, GivesRows, GivesTally, LeavesRows, code_told, codes_told, no_tally, row_told};
+
+use crate::limits::BsLimits;
+use crate::outcome::{BsFault, Outcome};
+use crate::room::put;
+use bit_fields::{Limits, SliceSource};
+use bit_scan::{Analysis, BlockRow, Codes, analyse};
+use indexmap::IndexMap;
+use std::alloc::{AllocError, Global};
+
+/// What a stream holds, and how many rows its analysis has. All zeros where there is none.
+#[repr(C)]
+#[derive(Clone, Copy)]
+pub struct BsTally {
+    /// The magic of the stream, its first byte first.
+    pub magic: [u8; 4],
+    /// The bits of the stream, from its magic to its end, without a wrapper.
+    pub bits: u64,
+    /// How many rows of block ids.
+    pub blocks: usize,
+    /// How many rows of codes, over all block ids.
+    pub codes: usize,
+}
+
+/// What the blocks with one id add up to. No number counts what stands in blocks inside them.
+#[repr(C)]
+#[derive(Clone, Copy)]
+pub struct BsBlockRow {
+    pub id: u32,
+    pub blocks: u64,
+    pub bits: u64,
+    pub definitions: u64,
+    pub records: u64,
+    pub abbreviated: u64,
+    pub values: u64,
+    /// How many of the rows of codes are this one's: they follow those of the row before.
+    pub codes: usize,
+}
+
+/// What the records with one code add up to, in blocks with one id.
+#[repr(C)]
+#[derive(Clone, Copy)]
+pub struct BsCodeRow {
+    pub code: u64,
+    pub count: u64,
+    pub bits: u64,
+}
+
+const NO_TALLY: BsTally = BsTally {
+    magic: [0; 4],
+    bits: 0,
+    blocks: 0,
+    codes: 0,
+};
+
+/// A row as C sees it.
+fn block_row(id: u32, row: &BlockRow) -> BsBlockRow
+    ensures { result ≡ row_told (block_tally (id, row.now)) }
+{
+    BsBlockRow {
+        id,
+        blocks: row.blocks,
+        bits: row.bits,
+        definitions: row.definitions,
+        records: row.records,
+        abbreviated: row.abbreviated,
+        values: row.values,
+        codes: row.codes.0.len(),
+    }
+}
+
+/// The rows of block ids, as C sees them.
+fn block_rows(alloc: Global, rows: &IndexMap<u32, BlockRow>) -> Result<Vec<BsBlockRow>, AllocError>
+    ensures { IfOk result (λ out. out.items ≡ map row_told (block_tallies rows.now.entries)) }
+{
+    let mut out = Vec::new(alloc);
+    for (id, row) in rows.iter() {
+        out.push(block_row(*id, row))?;
+    }
+    Ok(out)
+}
+
+/// Adds the rows of codes of a block id, as C sees them.
+fn add_codes(out: &mut Vec<BsCodeRow>, codes: &Codes) -> Result<(), AllocError>
+    ensures { OnOk result (out.new.items ≡ out.old.items ++ map code_told (code_tallies codes.now)) }
+{
+    for (code, row) in codes.0.iter() {
+        out.push(BsCodeRow {
+            code: *code,
+            count: row.count,
+            bits: row.bits,
+        })?;
+    }
+    Ok(())
+}
+
+/// The rows of codes of all block ids, as C sees them.
+fn code_rows(alloc: Global, rows: &IndexMap<u32, BlockRow>) -> Result<Vec<BsCodeRow>, AllocError>
+    ensures { IfOk result (λ out. out.items ≡ codes_told (block_tallies rows.now.entries)) }
+{
+    let mut out = Vec::new(alloc);
+    for (_, row) in rows.iter() {
+        add_codes(&mut out, &row.codes)?;
+    }
+    Ok(out)
+}
+
+/// Puts rows into the caller's room, where it has enough for all of them.
+fn give_rows(
+    blocks: &[BsBlockRow],
+    codes: &[BsCodeRow],
+    block_room: &mut [BsBlockRow],
+    code_room: &mut [BsCodeRow],
+) -> Outcome
+    ensures { GivesRows blocks.now codes.now block_room.old block_room.new code_room.old code_room.new result }
+{
+    if block_room.len() < blocks.len() || code_room.len() < codes.len() {
+        return Outcome::Room;
+    }
+    put(blocks, block_room);
+    put(codes, code_room);
+    Outcome::Done
+}
+
+/// Tells an analysis, and gives its rows.
+fn give_tally(
+    alloc: Global,
+    analysis: &Analysis,
+    tally: &mut BsTally,
+    block_room: &mut [BsBlockRow],
+    code_room: &mut [BsCodeRow],
+) -> Outcome
+    ensures { GivesTally analysis.now tally.new block_room.old block_room.new code_room.old code_room.new result }
+{
+    *tally = NO_TALLY;
+    let Ok(blocks) = block_rows(alloc, analysis.rows()) else {
+        return Outcome::Memory;
+    };
+    let Ok(codes) = code_rows(alloc, analysis.rows()) else {
+        return Outcome::Memory;
+    };
+    *tally = BsTally {
+        magic: analysis.magic(),
+        bits: analysis.bits(),
+        blocks: blocks.len(),
+        codes: codes.len(),
+    };
+    give_rows(&blocks, &codes, block_room, code_room)
+}
+
+/// Analyses bytes, tells what they hold, and gives the rows.
+fn analyse_under(
+    alloc: Global,
+    bytes: &[u8],
+    limits: Limits,
+    tally: &mut BsTally,
+    block_room: &mut [BsBlockRow],
+    code_room: &mut [BsCodeRow],
+) -> Outcome
+    ensures { Analyses limits bytes.now tally.new block_room.old block_room.new code_room.old code_room.new result }
+{
+    let (answer, _) = analyse(alloc, SliceSource::new(bytes), limits);
+    match answer {
+        Ok(analysis) => give_tally(alloc, &analysis, tally, block_room, code_room),
+        Err(fault) => {
+            *tally = NO_TALLY;
+            Outcome::of(0, fault)
+        }
+    }
+}
+
+/// The same under limits that may be past their caps.
+fn analyse_within(
+    alloc: Global,
+    bytes: &[u8],
+    limits: &BsLimits,
+    tally: &mut BsTally,
+    block_room: &mut [BsBlockRow],
+    code_room: &mut [BsCodeRow],
+) -> Outcome
+    ensures { let l = limits_told limits.now in Within l ((tally.new ≡ no_tally) × LeavesRows block_room.old block_room.new code_room.old code_room.new) (Analyses l bytes.now tally.new block_room.old block_room.new code_room.old code_room.new) result }
+{
+    match limits.told() {
+        Some(limits) => analyse_under(alloc, bytes, limits, tally, block_room, code_room),
+        None => {
+            *tally = NO_TALLY;
+            Outcome::Limits
+        }
+    }
+}
+
+/// Analyses bytes, and tells the magic, the bits and how many rows there are; the rows go into the caller's rooms, all of them
+/// or none.
+#[unsafe(no_mangle)]
+pub extern "C" fn bs_analyse(
+    alloc: Global,
+    bytes: &[u8],
+    limits: &BsLimits,
+    tally: &mut BsTally,
+    block_room: &mut [BsBlockRow],
+    code_room: &mut [BsCodeRow],
+    fault: &mut BsFault,
+) -> u32
+    ensures { let l = limits_told limits.now in Ends result fault.new (Within l ((tally.new ≡ no_tally) × LeavesRows block_room.old block_room.new code_room.old code_room.new) (Analyses l bytes.now tally.new block_room.old block_room.new code_room.old code_room.new)) }
+{
+    analyse_within(alloc, bytes, limits, tally, block_room, code_room).tell(fault)
+}

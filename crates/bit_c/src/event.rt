@@ -1,0 +1,111 @@
+//! Events as C sees them.
+
+ghost use Rattle.std.specs.Prelude.{◌≡◌, None, Some};
+ghost use Rattle.bit_events.specs.EventView.{shown};
+ghost use Rattle.bit_c.specs.Stepping.{Gets, Shows};
+
+use bit_events::{Event, Events};
+use bit_fields::{Fault, SliceSource};
+
+const OVER: u32 = 0;
+
+const ENTER: u32 = 1;
+
+const DEFINE: u32 = 2;
+
+const RECORD: u32 = 3;
+
+const LEAVE: u32 = 4;
+
+/// An event. What its kind does not name is 0.
+#[repr(C)]
+#[derive(Clone, Copy)]
+pub struct BsEvent {
+    /// 0 where the whole input is accepted and no event is left, 1 where a block begins, 2 for a definition, 3 for a record, 4
+    /// where a block ends.
+    pub kind: u32,
+    /// Of a block's beginning the id of the block, of a record its abbreviation id.
+    pub id: u32,
+    /// Of a block's beginning the width of its abbreviation ids.
+    pub width: u32,
+    /// Of a record.
+    pub code: u64,
+    /// How many values a record has, the code not counted.
+    pub count: usize,
+    /// The bit at which it begins; not told of a block's end.
+    pub first: u64,
+    /// The bit behind it; of a block's beginning the first bit of the body.
+    pub after: u64,
+}
+
+/// No event is left.
+const NONE: BsEvent = BsEvent {
+    kind: OVER,
+    id: 0,
+    width: 0,
+    code: 0,
+    count: 0,
+    first: 0,
+    after: 0,
+};
+
+/// An event as C sees it.
+fn event_of(event: Event<'_>) -> BsEvent
+    ensures { Shows result (Some (shown event.entry)) }
+{
+    match event {
+        Event::Enter {
+            id,
+            width,
+            first,
+            body,
+        } => BsEvent {
+            kind: ENTER,
+            id,
+            width: u32::from(width),
+            first,
+            after: body,
+            ..NONE
+        },
+        Event::Define {
+            abbrev: _,
+            first,
+            after,
+        } => BsEvent {
+            kind: DEFINE,
+            first,
+            after,
+            ..NONE
+        },
+        Event::Record {
+            abbrev,
+            code,
+            values,
+            first,
+            after,
+        } => BsEvent {
+            kind: RECORD,
+            id: abbrev,
+            width: 0,
+            code,
+            count: values.len(),
+            first,
+            after,
+        },
+        Event::Leave { after } => BsEvent {
+            kind: LEAVE,
+            after,
+            ..NONE
+        },
+    }
+}
+
+/// The next event as C sees it.
+pub(crate) fn next_of(events: &mut Events<SliceSource<'static>>) -> Result<BsEvent, Fault>
+    ensures { Gets events.old result events.new }
+{
+    match events.next()? {
+        Some(event) => Ok(event_of(event)),
+        None => Ok(NONE),
+    }
+}

@@ -1,0 +1,40 @@
+//! How much of an input is taken.
+
+ghost use Rattle.std.specs.Prelude.{◌≡◌, MatchOption};
+ghost use Rattle.bit_fields.specs.Opening.{PassCaps};
+ghost use Rattle.bit_grammar.specs.Normal.{Capped};
+ghost use Rattle.bit_c.specs.Limiting.{limits_told};
+
+use bit_fields::Limits;
+
+/// Limits on the bytes of the whole input, wrapper included, on the depth of blocks, where a block at the top has depth 1, and
+/// on the values of all records. Their caps are 17,179,869,180 bytes, depth 255 and 4,294,967,295 values.
+#[repr(C)]
+#[derive(Clone, Copy)]
+pub struct BsLimits {
+    pub bytes: u64,
+    pub depth: u32,
+    pub values: u64,
+}
+
+impl BsLimits {
+    /// The limits, where none is past its cap.
+    pub(crate) fn told(&self) -> Option<Limits>
+        ensures { MatchOption result (PassCaps (limits_told self.now)) (λ limits. (limits ≡ limits_told self.now) × Capped limits) }
+    {
+        Limits::new(self.bytes, self.depth, self.values)
+    }
+}
+
+/// Sets limits to those that serve most inputs: 1 GiB, depth 64, 134,217,728 values.
+#[unsafe(no_mangle)]
+pub extern "C" fn bs_usual_limits(limits: &mut BsLimits)
+    ensures { limits.new ≡ record { bytes = 1073741824; depth = 64; values = 134217728 } }
+{
+    let usual = Limits::usual();
+    *limits = BsLimits {
+        bytes: usual.bytes(),
+        depth: usual.depth(),
+        values: usual.values(),
+    };
+}

@@ -1,0 +1,200 @@
+//! The calls of the reader of events.
+
+ghost use Rattle.std.specs.Prelude.{◌≡◌, None, Some};
+ghost use Rattle.bit_c.specs.Ending.{Ends};
+ghost use Rattle.bit_c.specs.Limiting.{Within, limits_told};
+ghost use Rattle.bit_c.specs.Opened.{reading_of};
+ghost use Rattle.bit_c.specs.Stepping.{Begins, Lists, ListsOf, Nexts, NextsIn, Opens, Steps};
+
+use crate::event::{BsEvent, next_of};
+use crate::home::{Home, Reading};
+use crate::limits::BsLimits;
+use crate::outcome::{BsFault, Outcome};
+use crate::reader::{BsReader, opened, take_out};
+use crate::room::hand_out;
+use bit_events::Events;
+use bit_fields::{Limits, SliceSource};
+use std::alloc::Global;
+
+/// Begins the events of bytes.
+fn begin(alloc: Global, bytes: &'static [u8], limits: Limits) -> Result<Reading, Outcome>
+    ensures { Begins limits bytes.now result }
+{
+    match Events::start(alloc, SliceSource::new(bytes), limits) {
+        Ok(events) => Ok(Reading {
+            events,
+            fault: None,
+        }),
+        Err((fault, _)) => Err(Outcome::of(0, fault)),
+    }
+}
+
+/// Begins the events of bytes behind a handle that is closed.
+fn open_at(alloc: Global, bytes: &'static [u8], limits: Limits, reader: &mut BsReader) -> Outcome
+    requires { reader.old.inner.home ≡ None }
+    ensures { Opens limits bytes.now (reading_of reader.new.inner.home) result }
+{
+    let reading = match begin(alloc, bytes, limits) {
+        Ok(reading) => reading,
+        Err(outcome) => return outcome,
+    };
+    match Box::new(alloc, Home::Reading(reading)) {
+        Ok(home) => {
+            *reader = opened(home);
+            Outcome::Done
+        }
+        Err(_) => Outcome::Memory,
+    }
+}
+
+/// The same under limits that may be past their caps, and behind a handle that may be open.
+fn open_within(
+    alloc: Global,
+    bytes: &'static [u8],
+    limits: &BsLimits,
+    reader: &mut BsReader,
+) -> Outcome
+    ensures { let l = limits_told limits.now in let new = reading_of reader.new.inner.home in Within l (new ≡ None) (Opens l bytes.now new) result }
+{
+    let _ = take_out(alloc, reader);
+    match limits.told() {
+        Some(limits) => open_at(alloc, bytes, limits, reader),
+        None => Outcome::Limits,
+    }
+}
+
+/// Begins the events of bytes, which have to stay as they are until the handle is closed. A handle that is open is closed
+/// before.
+#[unsafe(no_mangle)]
+pub extern "C" fn bs_open(
+    alloc: Global,
+    bytes: &'static [u8],
+    limits: &BsLimits,
+    reader: &mut BsReader,
+    fault: &mut BsFault,
+) -> u32
+    ensures { let l = limits_told limits.now in let new = reading_of reader.new.inner.home in Ends result fault.new (Within l (new ≡ None) (Opens l bytes.now new)) }
+{
+    open_within(alloc, bytes, limits, reader).tell(fault)
+}
+
+/// The next event of events, or the fault that they met.
+fn step(reading: &mut Reading, event: &mut BsEvent) -> Outcome
+    ensures { Steps reading.old event.old reading.new event.new result }
+{
+    if let Some(fault) = reading.fault {
+        return Outcome::of(0, fault);
+    }
+    match next_of(&mut reading.events) {
+        Ok(found) => {
+            *event = found;
+            Outcome::Done
+        }
+        Err(fault) => {
+            reading.fault = Some(fault);
+            Outcome::of(0, fault)
+        }
+    }
+}
+
+/// The next event of what a handle leads to.
+fn step_in(home: &mut Home, event: &mut BsEvent) -> Outcome
+    ensures { NextsIn home.old event.old home.new event.new result }
+{
+    match home {
+        Home::Reading(reading) => step(reading, event),
+        Home::Text(_) => Outcome::Closed,
+    }
+}
+
+/// The next event of a handle.
+fn step_of(alloc: Global, reader: &mut BsReader, event: &mut BsEvent) -> Outcome
+    ensures { Nexts (reading_of reader.old.inner.home) event.old (reading_of reader.new.inner.home) event.new result }
+{
+    match take_out(alloc, reader) {
+        Some(mut home) => {
+            let outcome = step_in(&mut home, event);
+            *reader = opened(home);
+            outcome
+        }
+        None => Outcome::Closed,
+    }
+}
+
+/// The next event, and where no event is left that the whole input is accepted. After a fault it says that fault ever after.
+#[unsafe(no_mangle)]
+pub extern "C" fn bs_next(
+    alloc: Global,
+    reader: &mut BsReader,
+    event: &mut BsEvent,
+    fault: &mut BsFault,
+) -> u32
+    ensures { Ends result fault.new (Nexts (reading_of reader.old.inner.home) event.old (reading_of reader.new.inner.home) event.new) }
+{
+    step_of(alloc, reader, event).tell(fault)
+}
+
+/// Hands out the values of the record that was given last.
+fn list(reading: &Reading, room: &mut [u64], needed: &mut usize) -> Outcome
+    ensures { Lists reading.now room.old needed.new room.new result }
+{
+    if let Some(fault) = reading.fault {
+        *needed = 0;
+        return Outcome::of(0, fault);
+    }
+    hand_out(reading.events.values(), room, needed)
+}
+
+/// The same of what a handle leads to.
+fn list_in(home: &Home, room: &mut [u64], needed: &mut usize) -> Outcome
+    ensures { ListsOf (reading_of (Some home.now)) room.old needed.new room.new result }
+{
+    match home {
+        Home::Reading(reading) => list(reading, room, needed),
+        Home::Text(_) => {
+            *needed = 0;
+            Outcome::Closed
+        }
+    }
+}
+
+/// The same of a handle, which stays as it is.
+fn list_of(alloc: Global, reader: &mut BsReader, room: &mut [u64], needed: &mut usize) -> Outcome
+    ensures kept { reader.new.inner.home ≡ reader.old.inner.home }
+    ensures lists { ListsOf (reading_of reader.old.inner.home) room.old needed.new room.new result }
+{
+    match take_out(alloc, reader) {
+        Some(home) => {
+            let outcome = list_in(&home, room, needed);
+            *reader = opened(home);
+            outcome
+        }
+        None => {
+            *needed = 0;
+            Outcome::Closed
+        }
+    }
+}
+
+/// Puts the values of the record that was given last into the caller's room, and tells how many they are.
+#[unsafe(no_mangle)]
+pub extern "C" fn bs_values(
+    alloc: Global,
+    reader: &mut BsReader,
+    room: &mut [u64],
+    needed: &mut usize,
+    fault: &mut BsFault,
+) -> u32
+    ensures kept { reader.new.inner.home ≡ reader.old.inner.home }
+    ensures lists { Ends result fault.new (ListsOf (reading_of reader.old.inner.home) room.old needed.new room.new) }
+{
+    list_of(alloc, reader, room, needed).tell(fault)
+}
+
+/// Closes a handle, and frees what it leads to. Closing one that is closed does nothing.
+#[unsafe(no_mangle)]
+pub extern "C" fn bs_close(alloc: Global, reader: &mut BsReader)
+    ensures { reader.new.inner.home ≡ None }
+{
+    let _ = take_out(alloc, reader);
+}

@@ -1,0 +1,56 @@
+//! The version of the calls, and the names of the reasons.
+
+ghost use Rattle.std.specs.Prelude.{◌≡◌};
+ghost use Rattle.bit_c.specs.Naming.{IsReason, Names};
+
+use bit_fields::Reason;
+
+/// The version of these calls and of their numbers.
+#[unsafe(no_mangle)]
+pub extern "C" fn bs_version() -> u32
+    ensures { result ≡ 1 }
+{
+    1
+}
+
+/// The reason with a number.
+fn reason_of(number: u32) -> Option<Reason>
+    ensures { IsReason number result }
+{
+    Some(match number {
+        1 => Reason::Truncated,
+        2 => Reason::ValueTooWide,
+        3 => Reason::TopLevel,
+        4 => Reason::TooDeep,
+        5 => Reason::BlockId,
+        6 => Reason::AbbrevWidth,
+        7 => Reason::DirtyPadding,
+        8 => Reason::BlockLength,
+        9 => Reason::UndefinedAbbrev,
+        10 => Reason::AbbrevEmpty,
+        11 => Reason::AbbrevEncoding,
+        12 => Reason::FieldWidth,
+        13 => Reason::AbbrevShape,
+        14 => Reason::NoBlockSet,
+        15 => Reason::BadSetBid,
+        16 => Reason::NestedInBlockInfo,
+        17 => Reason::TooManyValues,
+        18 => Reason::TooLong,
+        19 => Reason::WrapperVersion,
+        20 => Reason::WrapperOffset,
+        21 => Reason::WrapperSize,
+        22 => Reason::WrapperNested,
+        _ => return None,
+    })
+}
+
+/// Sets a name to that of a reason; to no bytes where no reason has the number.
+#[unsafe(no_mangle)]
+pub extern "C" fn bs_reason_name(number: u32, name: &mut &'static [u8])
+    ensures { Names number name.new.now }
+{
+    *name = match reason_of(number) {
+        Some(reason) => reason.name().as_bytes(),
+        None => &[],
+    };
+}
