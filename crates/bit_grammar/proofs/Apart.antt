@@ -1,14 +1,14 @@
 -- What differs between the settings for shapes: where a definition's shape is judged at the definition, more is refused, with
 -- AbbrevShape, and all else is the same.
-use Rattle.std.proofs.Common.{◌≡◌, ◌⊎◌, ℕ, zero, suc, ◌+◌, ◌*◌, ◌<◌, ◌≤◌, Bool, true, false, List, [], ◌∷◌, ◌++◌, length, take, Some, None, refl, sym, ap, subst, ◌∙◌, inl, inr}
+use Rattle.std.proofs.Common.{◌≡◌, ◌⊎◌, ℕ, zero, suc, ◌+◌, ◌*◌, ◌<◌, ◌≤◌, Bool, true, false, List, [], ◌∷◌, ◌++◌, length, take, Some, None, refl, sym, ap, subst, inl, inr}
 use Rattle.bit_grammar.specs.declared.shapes.Shapes.{Shapes}
 use Rattle.bit_grammar.specs.declared.shapes.Shapes.TheVariants.{AtDefinition, AtUse}
 use Rattle.bit_grammar.specs.declared.op.Place.{Place}
 use Rattle.bit_grammar.specs.declared.op.Place.TheVariants.{First as first}
 use Rattle.bit_grammar.specs.declared.reason.Reason.TheVariants.{AbbrevShape, Truncated}
 use Rattle.bit_grammar.specs.Bits.{bits_of_bytes}
-use Rattle.bit_grammar.specs.Grammar.{Fault, at, Grammar, position, test, choose, ◌>>=◌, rounds, Round, one_more, Rounds, Halts, Spells, Stops, judge}
-use Rattle.bit_grammar.specs.Definition.{kind, fits, passes, valued, operand, place_after, operands, definition}
+use Rattle.bit_grammar.specs.Grammar.{Fault, at, Grammar, position, choose, ◌>>=◌, rounds, Round, one_more, Rounds, Halts, Spells, Stops, judge}
+use Rattle.bit_grammar.specs.Definition.{kind, fits, passes, operand, place_after, operands, definition}
 use Rattle.bit_grammar.specs.Marks.{Item}
 use Rattle.bit_grammar.specs.Blocks.{Limits, judged_at, Handed, Scope, BlockHead, define, nested, item_after, item, block, top_block, nothing_handed}
 use Rattle.bit_grammar.specs.Whole.{Whole, ◌then_all◌, Things, HasBits, Broken, SpellsAll, StopsAll}

@@ -1,5 +1,5 @@
 -- What the events of a stream keep to: blocks in one another within the limit, and values within the limit.
-use Rattle.std.proofs.Common.{◌≡◌, ℕ, suc, ◌+◌, ◌-◌, ◌<◌, ◌≤◌, Bool, List, [], ◌∷◌, length, refl, sym, ap, subst, ◌∙◌, arith, inl, inr}
+use Rattle.std.proofs.Common.{◌≡◌, ℕ, suc, ◌+◌, ◌-◌, ◌<◌, ◌≤◌, Bool, List, [], ◌∷◌, length, refl, sym, ap, subst, arith, inl, inr}
 use Rattle.std.proofs.lemmas.Bool.{ltb-true}
 use Rattle.bit_grammar.specs.Grammar.{Spells}
 use Rattle.bit_grammar.specs.Marks.{RecordMark, Marks, no_marks, marked_block, marked_record, marked_definition, depth_in, values_in}
