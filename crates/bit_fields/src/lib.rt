@@ -21,7 +21,7 @@ mod writer_laws;
 #[cfg(test)]
 mod writer_tests;
 
-pub use bit_grammar::Reason;
+pub use bit_grammar::{Reason, Shapes};
 pub use fault::Fault;
 pub use head::{Head, Wrapper};
 pub use limits::Limits;
