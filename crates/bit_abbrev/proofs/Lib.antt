@@ -3,4 +3,5 @@ pub mod Table
 pub mod Adding
 pub mod Taking
 pub mod Operands
+pub mod Shapes
 pub mod Records
