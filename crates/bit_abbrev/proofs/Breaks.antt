@@ -9,9 +9,9 @@ use Rattle.bit_grammar.specs.declared.op.Place.{Place}
 use Rattle.bit_grammar.specs.declared.op.Place.TheVariants.{First as first, Element as element, Later as later}
 use Rattle.bit_grammar.specs.declared.reason.Reason.{Reason}
 use Rattle.bit_grammar.specs.declared.reason.Reason.TheVariants.{AbbrevShape, FieldWidth}
-use Rattle.bit_grammar.specs.Definition.{fits, fixed_lawful, vbr_lawful, place_after}
+use Rattle.bit_grammar.specs.Definition.{fits, fixed_lawful, vbr_lawful, place_after, kind_of}
 use Rattle.bit_grammar.specs.FormatDefinition.{op_at, IsElement, HasLawfulValue, Lawful}
-use Rattle.bit_abbrev.specs.Breaks.{BreaksShape, first_array, first_blob, array_place, no_element, blob_place, BreaksWidth, Breaks, NoneBreaks, IsFirstBreak, LiteralFits, kind_of, place_at, width_break, break_of, break_at}
+use Rattle.bit_abbrev.specs.Breaks.{BreaksShape, first_array, first_blob, array_place, no_element, blob_place, BreaksWidth, Breaks, NoneBreaks, IsFirstBreak, LiteralFits, place_at, width_break, break_of, break_at}
 
 -- ---- the shape
 
@@ -214,19 +214,21 @@ element_is ops none i e =
 pub lawful_if : (ops : List Op) → 0 < length ops → AllByRecursion LiteralFits ops → NoneBreaks ops → Lawful ops
 lawful_if ops some fit none = record {
   some = some;
-  first = (λ e. none 0 AbbrevShape (some, inl (refl, first_array refl e)), λ e. none 0 AbbrevShape (some, inl (refl, first_blob refl e)));
-  array = array_is ops none;
-  element = element_is ops none;
-  blob = blob_is ops none;
+  order = record {
+    first = (λ e. none 0 AbbrevShape (some, inl (refl, first_array refl e)), λ e. none 0 AbbrevShape (some, inl (refl, first_blob refl e)));
+    array = array_is ops none;
+    element = element_is ops none;
+    blob = blob_is ops none;
+  };
   values = all_at HasLawfulValue ops (λ i less. value_is (op_at ops i) (values_at LiteralFits ops fit i less) (λ wide. none i FieldWidth (less, inr (refl, λ shape. none i AbbrevShape (less, inl (refl, shape)), wide))));
 }
 
 unbroken : (ops : List Op) (i : ℕ) → Lawful ops → BreaksShape ops i → ⊥
-unbroken ops i h (first_array z e) = h.first.0 (ap (op_at ops) (sym z) ∙ e)
-unbroken ops i h (first_blob z e) = h.first.1 (ap (op_at ops) (sym z) ∙ e)
-unbroken ops i h (array_place e bad) = bad (h.array i e)
-unbroken ops i h (no_element before at e bad) = bad (subst (λ (k : ℕ). IsElement (op_at ops k)) (sym at) (h.element before e))
-unbroken ops i h (blob_place e bad) = bad (h.blob i e)
+unbroken ops i h (first_array z e) = h.order.first.0 (ap (op_at ops) (sym z) ∙ e)
+unbroken ops i h (first_blob z e) = h.order.first.1 (ap (op_at ops) (sym z) ∙ e)
+unbroken ops i h (array_place e bad) = bad (h.order.array i e)
+unbroken ops i h (no_element before at e bad) = bad (subst (λ (k : ℕ). IsElement (op_at ops k)) (sym at) (h.order.element before e))
+unbroken ops i h (blob_place e bad) = bad (h.order.blob i e)
 
 narrow : (op : Op) → HasLawfulValue op → BreaksWidth op → ⊥
 narrow (Literal v) h x = x

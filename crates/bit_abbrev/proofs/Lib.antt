@@ -3,5 +3,6 @@ pub mod Table
 pub mod Adding
 pub mod Taking
 pub mod Operands
+pub mod Shapes
 pub mod Records
 pub mod Glancing

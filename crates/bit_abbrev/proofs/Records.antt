@@ -233,7 +233,7 @@ record_read start room op others a b code d now new c few t h = (
 pub later_elements : (op : Op) (others : List Op) → Lawful (op ∷ others) → (i : ℕ) → op_at others i ≡ Array → IsElement (op_at others (i + 1))
 later_elements op others h i e =
     let next : suc i + 1 ≡ suc (i + 1) = omega arith in
-    rw next at (h.element (suc i) e)
+    rw next at (h.order.element (suc i) e)
 
 -- ---- the first operand and those behind it
 

@@ -1,14 +1,12 @@
 -- Where a list of operands breaks the rules for abbreviations. Source: "Abbreviations", and this project's own choices.
 use Rattle.std.specs.Prelude.{◌≡◌, ◌≢◌, ◌⊎◌, ℕ, zero, suc, ◌+◌, ◌-◌, ◌^◌, ◌<◌, length, List, [], ◌∷◌, Option, Some, None, if◌then◌else◌}
 use Rattle.bit_grammar.specs.declared.op.Op.{Op}
-use Rattle.bit_grammar.specs.declared.op.Op.TheVariants.{Literal, Fixed, Vbr, Array, Char6, Blob}
-use Rattle.bit_grammar.specs.declared.op.Kind.{Kind}
-use Rattle.bit_grammar.specs.declared.op.Kind.TheVariants.{Literal as literal, Fixed as fixed_width, Vbr as vbr_width, Array as array, Char6 as char6, Blob as blob}
+use Rattle.bit_grammar.specs.declared.op.Op.TheVariants.{Literal, Fixed, Vbr, Array, Blob}
 use Rattle.bit_grammar.specs.declared.op.Place.{Place}
 use Rattle.bit_grammar.specs.declared.op.Place.TheVariants.{First as first}
 use Rattle.bit_grammar.specs.declared.reason.Reason.{Reason}
 use Rattle.bit_grammar.specs.declared.reason.Reason.TheVariants.{AbbrevEmpty, AbbrevShape, FieldWidth}
-use Rattle.bit_grammar.specs.Definition.{fits, fixed_lawful, vbr_lawful, place_after}
+use Rattle.bit_grammar.specs.Definition.{fits, fixed_lawful, vbr_lawful, place_after, kind_of}
 use Rattle.bit_grammar.specs.FormatDefinition.{op_at, IsElement}
 
 -- ---- in the words of the format
@@ -47,14 +45,6 @@ LiteralFits (Literal v) = v < 2 ^ 64
 LiteralFits _ = Unit {0}
 
 -- ---- how it is judged, from left to right
-
-abbrev pub kind_of : Op → Kind
-kind_of (Literal v) = literal
-kind_of (Fixed width) = fixed_width
-kind_of (Vbr width) = vbr_width
-kind_of Array = array
-kind_of Char6 = char6
-kind_of Blob = blob
 
 -- the place of the operand at an index
 abbrev pub place_at : List Op → ℕ → Place

@@ -1,9 +1,9 @@
-//! Abbreviations: lawful lists of operands.
+//! Abbreviations: lists of operands.
 
-ghost use Rattle.std.specs.Prelude.{◌≡◌, ◌≤◌, ◌↔◌, length, IsOk, IfOk, IfErr, IfSome, IsNone, IfNone};
-ghost use Rattle.bit_grammar.specs.Definition.{fits, place_after};
-ghost use Rattle.bit_grammar.specs.FormatDefinition.{Lawful};
-ghost use Rattle.bit_abbrev.specs.Breaks.{IsFirstBreak, LiteralFits, kind_of, break_of};
+ghost use Rattle.std.specs.Prelude.{◌≡◌, ◌≤◌, ◌↔◌, true, length, IsOk, IfOk, IfErr, IfSome, IsNone, IfNone};
+ghost use Rattle.bit_grammar.specs.Definition.{fits, place_after, kind_of, has_shape};
+ghost use Rattle.bit_grammar.specs.FormatDefinition.{Definable, Lawful};
+ghost use Rattle.bit_abbrev.specs.Breaks.{IsFirstBreak, LiteralFits, break_of};
 
 use bit_grammar::{Kind, Op, Place, Reason};
 use smallvec::SmallVec;
@@ -24,22 +24,25 @@ pub struct BadAbbrev {
     pub reason: Reason,
 }
 
-/// The definition of an abbreviation: a lawful list of operands.
+/// The definition of an abbreviation: operands with lawful values. Where they are in no lawful order, no record may go by
+/// them.
 #[derive(Debug, Drop)]
 pub struct Abbrev {
     ops: Ops,
+    usable: bool,
 }
 
 impl Model for Abbrev {
-    ghost use Rattle.std.specs.Prelude.{List};
+    ghost use Rattle.std.specs.Prelude.{◌≡◌, List};
     ghost use Rattle.bit_grammar.specs.declared.op.Op.{Op};
-    ghost use Rattle.bit_grammar.specs.FormatDefinition.{Lawful};
+    ghost use Rattle.bit_grammar.specs.Definition.{has_shape};
+    ghost use Rattle.bit_grammar.specs.FormatDefinition.{Definable};
 
     ghost Value = { List Op };
 
     ghost view = { λ definition. definition.ops.items };
 
-    ghost invariant = { λ definition. Lawful definition.ops.items };
+    ghost invariant = { λ definition. Definable definition.ops.items × (definition.usable ≡ has_shape definition.ops.items) };
 }
 
 /// Whether an operand of this kind may stand there, with so many operands after it.
@@ -76,6 +79,20 @@ fn kind_of(op: Op) -> Kind
         Op::Char6 => Kind::Char6,
         Op::Blob => Kind::Blob,
     }
+}
+
+/// Whether operands are in a lawful order.
+fn has_shape(ops: &[Op]) -> bool
+    ensures { result ≡ has_shape ops.now }
+{
+    let mut place = Place::First;
+    for (at, op) in ops.iter().enumerate() {
+        if !fits(place, (ops.len() - 1 - at) as u64, kind_of(*op)) {
+            return false;
+        }
+        place = place_after(*op);
+    }
+    true
 }
 
 /// The break of an operand at a place, with so many operands after it.
@@ -120,21 +137,38 @@ impl Abbrev {
         ensures first { IfErr result (λ bad. IsFirstBreak ops.items bad.at bad.reason) }
     {
         match first_break(ops.as_slice()) {
-            None => Ok(Abbrev { ops }),
+            None => Ok(Abbrev { ops, usable: true }),
             Some((at, reason)) => Err(BadAbbrev { ops, at, reason }),
         }
     }
 
     /// The abbreviation with these operands.
-    pub(crate) fn from_lawful(ops: Ops) -> Abbrev
-        requires { Lawful ops.items }
+    pub(crate) fn from_definable(ops: Ops) -> Abbrev
+        requires { Definable ops.items }
         ensures { result ≡ ops.items }
     {
-        Abbrev { ops }
+        let usable = has_shape(ops.as_slice());
+        Abbrev { ops, usable }
     }
 
     /// The operands.
     pub fn ops(&self) -> &[Op]
+        ensures items { result.now ≡ self.now }
+        ensures definable { Definable self.now }
+    {
+        self.ops.as_slice()
+    }
+
+    /// Whether a record may go by the operands: they are in a lawful order.
+    pub fn is_usable(&self) -> bool
+        ensures { result ≡ has_shape self.now }
+    {
+        self.usable
+    }
+
+    /// The operands, by which a record may go.
+    pub(crate) fn lawful_ops(&self) -> &[Op]
+        requires { has_shape self.now ≡ true }
         ensures items { result.now ≡ self.now }
         ensures lawful { Lawful self.now }
     {
@@ -147,6 +181,9 @@ impl Abbrev {
         ensures short { length self.now ≤ 8 → IsOk result }
     {
         let ops = SmallVec::from_slice(alloc, self.ops.as_slice())?;
-        Ok(Abbrev { ops })
+        Ok(Abbrev {
+            ops,
+            usable: self.usable,
+        })
     }
 }

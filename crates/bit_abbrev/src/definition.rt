@@ -1,15 +1,14 @@
 //! Reading definitions.
 
 ghost use Rattle.std.specs.Prelude.{◌≡◌, ◌-◌, ◌<◌, IfOk, true};
-ghost use Rattle.bit_grammar.specs.Definition.{kind, fits, valued, operand, operands, definition};
+ghost use Rattle.bit_grammar.specs.Definition.{kind, passes, valued, operand, operands, definition};
 ghost use Rattle.bit_grammar.specs.declared.op.Place.TheVariants.{First};
-ghost use Rattle.bit_grammar.specs.FormatDefinition.{HasLawfulValue, Lawful};
+ghost use Rattle.bit_grammar.specs.FormatDefinition.{HasLawfulValue, Definable};
 ghost use Rattle.bit_fields.specs.Reader.{Takes, IsOnly, told_by};
-ghost use Rattle.bit_abbrev.specs.Breaks.{kind_of};
 
 use crate::abbrev::{Abbrev, Ops, fits, place_after};
 use bit_fields::{BitReader, Fault, Source};
-use bit_grammar::{Kind, Op, Place, Reason};
+use bit_grammar::{Kind, Op, Place, Reason, Shapes};
 use smallvec::SmallVec;
 use std::alloc::Global;
 
@@ -40,7 +39,6 @@ fn read_kind<S: Source>(reader: &mut BitReader<S>) -> Result<Kind, Fault>
 fn read_value<S: Source>(reader: &mut BitReader<S>, kind: Kind) -> Result<Op, Fault>
     requires { reader.old.live ≡ true }
     ensures takes { Takes (valued kind) reader.old result reader.new }
-    ensures kind { IfOk result (λ op. kind_of op ≡ kind) }
     ensures lawful { IfOk result HasLawfulValue }
 {
     match kind {
@@ -63,16 +61,31 @@ fn read_value<S: Source>(reader: &mut BitReader<S>, kind: Kind) -> Result<Op, Fa
     }
 }
 
+/// What is asked of the place of an operand where it stands in a definition.
+fn passes(shapes: Shapes, fits: bool) -> bool
+    ensures { result ≡ passes shapes fits }
+{
+    match shapes {
+        Shapes::AtDefinition => fits,
+        Shapes::AtUse => true,
+    }
+}
+
 /// Reads an operand at a place with so many operands after it.
 #[tactic(auto, unfolding(bit_grammar::specs::Definition::operand))]
-fn read_operand<S: Source>(reader: &mut BitReader<S>, place: Place, after: u64) -> Result<Op, Fault>
-    ensures takes { Takes (operand place after) reader.old result reader.new }
-    ensures fits { IfOk result (λ op. fits place after (kind_of op) ≡ true) }
+fn read_operand<S: Source>(
+    reader: &mut BitReader<S>,
+    shapes: Shapes,
+    place: Place,
+    after: u64,
+) -> Result<Op, Fault>
+    ensures takes { Takes (operand shapes place after) reader.old result reader.new }
     ensures lawful { IfOk result HasLawfulValue }
 {
     let start = reader.position();
     let kind = read_kind(reader)?;
-    reader.judge(fits(place, after, kind), Reason::AbbrevShape, start)?;
+    let passed = passes(shapes, fits(place, after, kind));
+    reader.judge(passed, Reason::AbbrevShape, start)?;
     read_value(reader, kind)
 }
 
@@ -80,17 +93,18 @@ fn read_operand<S: Source>(reader: &mut BitReader<S>, place: Place, after: u64) 
 fn read_operands<S: Source>(
     alloc: Global,
     reader: &mut BitReader<S>,
+    shapes: Shapes,
     count: u64,
 ) -> Result<Ops, Fault>
     requires some { 0 < count }
     requires live { reader.old.live ≡ true }
-    ensures takes { Takes (operands count First) reader.old (told_by (λ ops. ops.items) result) reader.new }
-    ensures lawful { IfOk result (λ ops. Lawful ops.items) }
+    ensures takes { Takes (operands shapes count First) reader.old (told_by (λ ops. ops.items) result) reader.new }
+    ensures definable { IfOk result (λ ops. Definable ops.items) }
 {
     let mut ops = SmallVec::new(alloc);
     let mut place = Place::First;
     for i in 0..count {
-        let op = read_operand(reader, place, count - 1 - i)?;
+        let op = read_operand(reader, shapes, place, count - 1 - i)?;
         place = place_after(op);
         match ops.push(op) {
             Ok(()) => {}
@@ -102,22 +116,31 @@ fn read_operands<S: Source>(
 
 /// Reads the number of operands, and the operands.
 #[tactic(auto, unfolding(bit_grammar::specs::Definition::definition))]
-fn read_definition<S: Source>(alloc: Global, reader: &mut BitReader<S>) -> Result<Abbrev, Fault>
-    ensures { Takes definition reader.old result reader.new }
+fn read_definition<S: Source>(
+    alloc: Global,
+    reader: &mut BitReader<S>,
+    shapes: Shapes,
+) -> Result<Abbrev, Fault>
+    ensures { Takes (definition shapes) reader.old result reader.new }
 {
     let start = reader.position();
     let count = reader.vbr(5)?;
     reader.judge(count != 0, Reason::AbbrevEmpty, start)?;
-    let ops = read_operands(alloc, reader, count)?;
-    Ok(Abbrev::from_lawful(ops))
+    let ops = read_operands(alloc, reader, shapes, count)?;
+    Ok(Abbrev::from_definable(ops))
 }
 
-/// Reads a definition after its abbreviation id.
+/// Reads a definition after its abbreviation id. Where shapes are judged at their use, one whose operands are in no lawful
+/// order is read too.
 ///
 /// After any fault the reader has failed. Up to eight operands take no memory.
-pub fn read_define<S: Source>(alloc: Global, reader: &mut BitReader<S>) -> Result<Abbrev, Fault>
-    ensures takes { Takes definition reader.old result reader.new }
-    ensures only { IsOnly definition reader.old result reader.new }
+pub fn read_define<S: Source>(
+    alloc: Global,
+    reader: &mut BitReader<S>,
+    shapes: Shapes,
+) -> Result<Abbrev, Fault>
+    ensures takes { Takes (definition shapes) reader.old result reader.new }
+    ensures only { IsOnly (definition shapes) reader.old result reader.new }
 {
-    read_definition(alloc, reader)
+    read_definition(alloc, reader, shapes)
 }

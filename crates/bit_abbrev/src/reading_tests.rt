@@ -1,6 +1,7 @@
 use crate::{Abbrev, read_abbreviated, read_define};
 use bit_fields::{
-    BitReader, Fault, Limits, ReadSource, Reason, SliceSource, Source, ValueCount, ValueTaker,
+    BitReader, Fault, Limits, ReadSource, Reason, Shapes, SliceSource, Source, ValueCount,
+    ValueTaker,
 };
 use std::alloc::{AllocError, Global};
 use std::io;
@@ -35,6 +36,20 @@ fn next_record<S: Source + Drop, V: ValueTaker>(
 ) -> Result<u64, Fault> {
     let at = reader.position();
     reader.fixed(3)?;
+    by_definition(reader, definition, at, room, values)
+}
+
+/// The same behind the record's id. Where a record may not go by the definition it is not read.
+fn by_definition<S: Source + Drop, V: ValueTaker>(
+    reader: &mut BitReader<S>,
+    definition: &Abbrev,
+    at: u64,
+    room: u64,
+    values: &mut V,
+) -> Result<u64, Fault> {
+    if !definition.is_usable() {
+        return Err(Fault::Memory);
+    }
     read_abbreviated(reader, definition, at, room, values)
 }
 
@@ -46,14 +61,15 @@ fn one_record<S: Source + Drop, V: ValueTaker>(
     values: &mut V,
 ) -> Result<(u64, u64), Fault> {
     open_block(reader)?;
-    let definition = read_define(alloc, reader)?;
+    let definition = read_define(alloc, reader, Shapes::AtDefinition)?;
     let code = next_record(reader, &definition, room, values)?;
     Ok((code, reader.position()))
 }
 
 /// Whether a reader takes nothing more.
 fn has_failed<S: Source + Drop>(alloc: Global, reader: &mut BitReader<S>) -> bool {
-    reader.fixed(1) == Err(Fault::Failed) && read_define(alloc, reader).err() == Some(Fault::Failed)
+    let definition = read_define(alloc, reader, Shapes::AtDefinition);
+    definition.err() == Some(Fault::Failed) && reader.fixed(1) == Err(Fault::Failed)
 }
 
 /// The same from a source, and whether the reader has failed after a fault.
@@ -247,6 +263,47 @@ fn refusals(rt: HostRuntime) -> Result<(), Fail> {
     Ok(())
 }
 
+/// Definitions: the bit behind them, how many operands they have, and whether a record may go by them.
+static DEFINED_AT_USE: [(&[u8], (u64, usize, bool)); 5] = [
+    // an array that is the second of four
+    (&[0x22, 0x03, 0x4C, 0x8E, 0x1C], (135, 4, false)),
+    // a literal as an element
+    (&[0x1A, 0x03, 0xAC, 0x00], (126, 3, false)),
+    // a blob before the end
+    (&[0x1A, 0x03, 0x54, 0x0E], (126, 3, false)),
+    // an array that stands alone
+    (&[0x0A, 0x06], (108, 1, false)),
+    (&CHARACTERS, (121, 3, true)),
+];
+
+/// The first definition of a block, where shapes are judged at their use.
+fn defined_at_use(alloc: Global, bytes: &[u8]) -> Result<(u64, usize, bool), Fault> {
+    match BitReader::start(SliceSource::new(bytes), Limits::usual()) {
+        Ok((mut reader, _)) => {
+            open_block(&mut reader)?;
+            let definition = read_define(alloc, &mut reader, Shapes::AtUse)?;
+            Ok((
+                reader.position(),
+                definition.ops().len(),
+                definition.is_usable(),
+            ))
+        }
+        Err((fault, _)) => Err(fault),
+    }
+}
+
+#[test]
+fn shapes_at_use(rt: HostRuntime) -> Result<(), Fail> {
+    for (body, wanted) in &DEFINED_AT_USE {
+        let bytes = in_block(rt.alloc(), body)?;
+        assert!(rt;
+            defined_at_use(rt.alloc(), &bytes) == Ok(*wanted),
+            "{body:?}"
+        );
+    }
+    Ok(())
+}
+
 /// Two records by a definition, and one more after a failure: the codes and the position behind the records, and the fault.
 fn three_records<S: Source + Drop>(
     reader: &mut BitReader<S>,
@@ -257,7 +314,7 @@ fn three_records<S: Source + Drop>(
     let second = next_record(reader, definition, 7, values)?;
     let after = reader.position();
     reader.fail(Fault::Read);
-    let third = read_abbreviated(reader, definition, after, 7, values);
+    let third = by_definition(reader, definition, after, 7, values);
     Ok(([first, second, after], third.err()))
 }
 
@@ -267,7 +324,7 @@ fn defined_records<S: Source + Drop>(
     reader: &mut BitReader<S>,
     values: &mut Vec<u64>,
 ) -> Result<(usize, u64, [u64; 3], Option<Fault>), Fault> {
-    let definition = read_define(alloc, reader)?;
+    let definition = read_define(alloc, reader, Shapes::AtDefinition)?;
     let start = reader.position();
     let (records, fault) = three_records(reader, &definition, values)?;
     Ok((definition.ops().len(), start, records, fault))

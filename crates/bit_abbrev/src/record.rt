@@ -3,6 +3,7 @@
 ghost use Rattle.std.specs.Prelude.{◌≡◌, ◌+◌, ◌-◌, ◌≤◌, ℕ, OnOk, length, true, nat_le};
 ghost use Rattle.std.specs.List.{AllByRecursion};
 ghost use Rattle.bit_grammar.specs.Record.{scalar, singles, values_of, abbreviated};
+ghost use Rattle.bit_grammar.specs.Definition.{has_shape};
 ghost use Rattle.bit_grammar.specs.FormatDefinition.{op_at, IsElement, HasLawfulValue, Lawful};
 ghost use Rattle.bit_grammar.specs.declared.op.Op.TheVariants.{Array};
 ghost use Rattle.bit_fields.specs.Reader.{Takes, IsOnly};
@@ -130,7 +131,7 @@ fn read_record<S: Source, V: ValueTaker>(
 }
 
 /// Reads a record by its definition, after its abbreviation id, which began at a bit: hands its values on and
-/// answers its code.
+/// answers its code. The operands of the definition are in a lawful order.
 ///
 /// More values than there is room for are `TooManyValues`: at that bit where the single operands alone are more, and else
 /// at the first bit of the length of the array or the blob. After any fault the values are those that there were, and
@@ -142,12 +143,13 @@ pub fn read_abbreviated<S: Source, V: ValueTaker>(
     room: u64,
     values: &mut V,
 ) -> Result<u64, Fault>
+    requires { has_shape «abbrev».now ≡ true }
     ensures takes { Gains V.took values.old values.new (Recorded (λ r. Takes (abbreviated at room «abbrev».now) reader.old r reader.new) result) }
     ensures only { Gains V.took values.old values.new (Recorded (λ r. IsOnly (abbreviated at room «abbrev».now) reader.old r reader.new) result) }
     ensures few { Gains V.took values.old values.new (λ before after. OnOk result (length after ≤ length before + room)) }
 {
     let before = values.count();
-    match read_record(reader, abbrev.ops(), at, room, values) {
+    match read_record(reader, abbrev.lawful_ops(), at, room, values) {
         Ok(code) => Ok(code),
         Err(fault) => {
             values.truncate(before);

@@ -1,5 +1,6 @@
 -- With which faults a rule breaks. Only the judgement of a whole input says that a wrapper's stream is short.
 use Rattle.std.proofs.Common.{◌≡◌, ℕ, zero, suc, ◌-◌, Bool, true, false, List, [], ◌∷◌, length, Option, Some, None, Ok, Err, refl, sym, subst, inl, inr}
+use Rattle.bit_grammar.specs.declared.shapes.Shapes.{Shapes}
 use Rattle.bit_grammar.specs.declared.op.Op.{Op}
 use Rattle.bit_grammar.specs.declared.op.Op.TheVariants.{Literal, Fixed, Vbr, Array, Char6, Blob}
 use Rattle.bit_grammar.specs.declared.op.Kind.{Kind}
@@ -12,7 +13,7 @@ use Rattle.bit_grammar.specs.Grammar.{Fault, Round, Grammar, gives, refuses, pos
 use Rattle.bit_grammar.specs.Fields.{fixed, chunks, chunk_limit, vbr, char6, zeros, padding_length, align32, byte}
 use Rattle.bit_grammar.specs.Definition.{kind, valued, operand, place_after, operands, definition}
 use Rattle.bit_grammar.specs.Record.{Entry, value_count, unabbreviated, scalar, singles, values_of, abbreviated}
-use Rattle.bit_grammar.specs.Blocks.{Limits, BlockInfo, Handed, Scope, BlockHead, block_id, new_width, block_head, end_of_block, define, entry, describe, record_after}
+use Rattle.bit_grammar.specs.Blocks.{Limits, BlockInfo, Handed, Scope, BlockHead, block_id, new_width, block_head, end_of_block, define, by_definition, entry, describe, record_after}
 use Rattle.bit_grammar.specs.Input.{version, offset, wrapper, any_bits, wrapper_and_gap, inner_magic}
 use Rattle.bit_grammar.specs.Machine.{Frame, Machine, frame_of, scope_of, open_block, open_nested, step_after, step_in, step_top, step_of, step, Ending, accepted, broke, Told, is_done, unless_done, told_by, told_at, to_come}
 use Rattle.bit_grammar.proofs.Deciding.{is_stopped}
@@ -118,18 +119,18 @@ valued_free array = tt
 valued_free char6_kind = tt
 valued_free blob = tt
 
-operand_free : (place : Place) (after : ℕ) → Free (operand place after)
+operand_free : (shapes : Shapes) (place : Place) (after : ℕ) → Free (operand shapes place after)
 unfolding operand
-operand_free place after = (tt, λ start. (kind_free, λ k. (tt, λ held. valued_free k)))
+operand_free shapes place after = (tt, λ start. (kind_free, λ k. (tt, λ held. valued_free k)))
 
-operands_free : (count : ℕ) (place : Place) → Free (operands count place)
+operands_free : (shapes : Shapes) (count : ℕ) (place : Place) → Free (operands shapes count place)
 unfolding operands
-operands_free zero place = tt
-operands_free (suc after) place = (operand_free place after, λ op. (operands_free after (place_after op), λ others. tt))
+operands_free shapes zero place = tt
+operands_free shapes (suc after) place = (operand_free shapes place after, λ op. (operands_free shapes after (place_after op), λ others. tt))
 
-definition_free : Free definition
+definition_free : (shapes : Shapes) → Free (definition shapes)
 unfolding definition
-definition_free = (tt, λ start. (vbr_free 5, λ count. (tt, λ held. operands_free count first_place)))
+definition_free shapes = (tt, λ start. (vbr_free 5, λ count. (tt, λ held. operands_free shapes count first_place)))
 
 -- ---- records
 
@@ -184,13 +185,13 @@ end_free : (h : BlockHead) → Free (end_of_block h)
 unfolding end_of_block
 end_free h = (align32_free, λ padded. (tt, λ after. (tt, λ held. tt)))
 
-define_free : (first : ℕ) (scope : Scope) → Free (define first scope)
+define_free : (shapes : Shapes) (first : ℕ) (scope : Scope) → Free (define shapes first scope)
 unfolding define
-define_free first scope = (tt, λ held. (definition_free, λ ops. (tt, λ after. tt)))
+define_free shapes first scope = (tt, λ held. (definition_free shapes, λ ops. (tt, λ after. tt)))
 
 entry_free : (limit first id : ℕ) (scope : Scope) → Free (entry limit first id scope)
-unfolding entry
-entry_free limit first id scope = (unabbreviated_free _, (abbreviated_free first _ _, tt))
+unfolding entry by_definition
+entry_free limit first id scope = (unabbreviated_free _, ((tt, λ held. abbreviated_free first _ _), tt))
 
 describe_free : (info : Option BlockInfo) (first : ℕ) (e : Entry) → Free (describe info first e)
 unfolding describe
@@ -209,7 +210,7 @@ open_free limits frames first handed = (tt, λ held. (head_free, λ h. tt))
 
 after_free : (limits : Limits) (h : BlockHead) (frames : List Frame) (first : ℕ) (scope : Scope) (id : ℕ) → Free (step_after limits h frames first scope id)
 unfolding step_after open_nested
-after_free limits h frames first scope id = ((end_free h, λ after. tt), ((tt, λ held. open_free limits (frame_of h scope ∷ frames) first scope.handed), ((define_free first scope, λ definition. tt), (record_free limits.values first id scope, λ item. tt))))
+after_free limits h frames first scope id = ((end_free h, λ after. tt), ((tt, λ held. open_free limits (frame_of h scope ∷ frames) first scope.handed), ((define_free limits.shapes first scope, λ definition. tt), (record_free limits.values first id scope, λ item. tt))))
 
 step_free : (limits : Limits) (frames : List Frame) (handed : Handed) → Free (step_of limits frames handed)
 unfolding step_in step_top

@@ -7,18 +7,19 @@ use borrow.Author.Tests.{ltb-true}
 use Rattle.std.proofs.lemmas.Option.{slice_get_within, get_or_from_slice_get, slice_get-get_or}
 use Rattle.std.specs.Result.{OnOk}
 use Rattle.std.specs.declared.alloc.AllocError.{AllocError}
+use Rattle.bit_grammar.specs.declared.shapes.Shapes.{Shapes}
 use Rattle.bit_grammar.specs.declared.op.Op.{Op}
-use Rattle.bit_grammar.specs.declared.reason.Reason.TheVariants.{UndefinedAbbrev, NoBlockSet, BadSetBid}
+use Rattle.bit_grammar.specs.declared.reason.Reason.TheVariants.{UndefinedAbbrev, AbbrevShape, NoBlockSet, BadSetBid}
 use Rattle.bit_grammar.specs.Grammar.{Grammar, at, gives, refuses, test, choose, ◌>>◌}
 use Rattle.bit_grammar.specs.Record.{Entry, unabbreviated, abbreviated}
 use Rattle.bit_grammar.specs.Forest.{set_bid, names_block}
-use Rattle.bit_grammar.specs.Blocks.{Handed, Scope, BlockInfo, Table, made_for, defined, defined_at, may_define, define, entry, describe, record_after}
+use Rattle.bit_grammar.specs.Blocks.{Handed, Scope, BlockInfo, Table, made_for, defined, defined_at, may_define, define, by_definition, entry, describe, record_after}
 use Rattle.bit_grammar.specs.Machine.{scope_of}
 use Rattle.bit_fields.specs.declared.fault.Fault.{Fault}
 use Rattle.bit_fields.specs.declared.fault.Fault.TheVariants.{Refused, Memory}
 use Rattle.bit_fields.specs.Reader.{Reader, Took, Why, Takes, told_by, stopped}
-use Rattle.bit_fields.proofs.Composing.{took_then, fault_then, took_nothing, first_chosen, second_chosen, stops_here}
-use Rattle.bit_grammar.specs.Definition.{definition}
+use Rattle.bit_fields.proofs.Composing.{took_then, fault_then, took_nothing, first_chosen, second_chosen, stops_here, holds_then, fails_here}
+use Rattle.bit_grammar.specs.Definition.{definition, has_shape}
 use Rattle.bit_abbrev.specs.Table.{definitions_at}
 use Rattle.bit_abbrev.specs.Values.{Has, Recorded}
 use Rattle.bit_events.proofs.Telling.{told, why, andThen, breaks, ends, here, without_memory}
@@ -65,16 +66,28 @@ newest_put f new ops may puts =
 pub plain_entry : (limit first id room : ℕ) (scope : Scope) (a : Reader) (result : Result Entry Fault) (b : Reader) → id ≡ 3 → limit - scope.handed.used ≡ room → Takes (unabbreviated room) a result b → Takes (entry limit first id scope) a result b
 unfolding entry
 plain_entry limit first id room scope a result b plain is t =
-    first_chosen (eqb id 3) (unabbreviated (limit - scope.handed.used)) (choose (ltb (id - 4) (length scope.definitions)) (abbreviated first (limit - scope.handed.used) (get_or scope.definitions (id - 4) [])) (refuses (at UndefinedAbbrev first))) a result b (eq-eqb id 3 plain) (subst (λ (n : ℕ). Takes (unabbreviated n) a result b) (sym is) t)
+    first_chosen (eqb id 3) (unabbreviated (limit - scope.handed.used)) (choose (ltb (id - 4) (length scope.definitions)) (by_definition first (limit - scope.handed.used) (get_or scope.definitions (id - 4) [])) (refuses (at UndefinedAbbrev first))) a result b (eq-eqb id 3 plain) (subst (λ (n : ℕ). Takes (unabbreviated n) a result b) (sym is) t)
 
-pub short_entry : (limit first id room : ℕ) (scope : Scope) (definitions : List (List Op)) (ops : List Op) (a : Reader) (result : Result Entry Fault) (b : Reader) → id ≢ 3 → scope.definitions ≡ definitions → limit - scope.handed.used ≡ room → slice_get definitions (id - 4) ≡ Some ops → Takes (abbreviated first room ops) a result b → Takes (entry limit first id scope) a result b
+-- by a definition in force
+found_entry : (limit first id room : ℕ) (scope : Scope) (definitions : List (List Op)) (ops : List Op) (a : Reader) (result : Result Entry Fault) (b : Reader) → id ≢ 3 → scope.definitions ≡ definitions → limit - scope.handed.used ≡ room → slice_get definitions (id - 4) ≡ Some ops → Takes (by_definition first room ops) a result b → Takes (entry limit first id scope) a result b
 unfolding entry
-short_entry limit first id room scope definitions ops a result b other force is found t =
+found_entry limit first id room scope definitions ops a result b other force is found t =
     let within : id - 4 < length scope.definitions = rw force (slice_get_within definitions (id - 4) ops found) in
     let there : get_or scope.definitions (id - 4) [] ≡ ops = rw force (get_or_from_slice_get definitions (id - 4) ops [] found) in
-    second_chosen (eqb id 3) (unabbreviated (limit - scope.handed.used)) (choose (ltb (id - 4) (length scope.definitions)) (abbreviated first (limit - scope.handed.used) (get_or scope.definitions (id - 4) [])) (refuses (at UndefinedAbbrev first))) a result b (ne_eqb id 3 other)
-    (first_chosen (ltb (id - 4) (length scope.definitions)) (abbreviated first (limit - scope.handed.used) (get_or scope.definitions (id - 4) [])) (refuses (at UndefinedAbbrev first)) a result b (lt-ltb (id - 4) (length scope.definitions) within)
+    second_chosen (eqb id 3) (unabbreviated (limit - scope.handed.used)) (choose (ltb (id - 4) (length scope.definitions)) (by_definition first (limit - scope.handed.used) (get_or scope.definitions (id - 4) [])) (refuses (at UndefinedAbbrev first))) a result b (ne_eqb id 3 other)
+    (first_chosen (ltb (id - 4) (length scope.definitions)) (by_definition first (limit - scope.handed.used) (get_or scope.definitions (id - 4) [])) (refuses (at UndefinedAbbrev first)) a result b (lt-ltb (id - 4) (length scope.definitions) within)
     (rw (there, is) t))
+
+pub short_entry : (limit first id room : ℕ) (scope : Scope) (definitions : List (List Op)) (ops : List Op) (a : Reader) (result : Result Entry Fault) (b : Reader) → id ≢ 3 → scope.definitions ≡ definitions → limit - scope.handed.used ≡ room → slice_get definitions (id - 4) ≡ Some ops → has_shape ops ≡ true → Takes (abbreviated first room ops) a result b → Takes (entry limit first id scope) a result b
+unfolding by_definition
+short_entry limit first id room scope definitions ops a result b other force is found shape t = found_entry limit first id room scope definitions ops a result b other force is found (holds_then (has_shape ops) (at AbbrevShape first) (abbreviated first room ops) a result b shape t)
+
+-- a definition without a shape
+pub shapeless_entry : (limit first id room : ℕ) (scope : Scope) (definitions : List (List Op)) (ops : List Op) (a : Reader) → id ≢ 3 → scope.definitions ≡ definitions → limit - scope.handed.used ≡ room → slice_get definitions (id - 4) ≡ Some ops → has_shape ops ≡ false → a.live ≡ true → Why (entry limit first id scope) a (Refused AbbrevShape first) (stopped a)
+unfolding by_definition
+shapeless_entry limit first id room scope definitions ops a other force is found shape live =
+    found_entry limit first id room scope definitions ops a (Err (Refused AbbrevShape first)) (stopped a) other force is found
+    (fault_then (test (has_shape ops) (at AbbrevShape first)) (λ x. abbreviated first room ops) a (Refused AbbrevShape first) (stopped a) (fails_here (has_shape ops) AbbrevShape first a shape live (λ e. refl)))
 
 pub no_entry : (limit first id : ℕ) (scope : Scope) (definitions : List (List Op)) (a : Reader) → id ≢ 3 → scope.definitions ≡ definitions → slice_get definitions (id - 4) ≡ None → a.live ≡ true → Why (entry limit first id scope) a (Refused UndefinedAbbrev first) (stopped a)
 unfolding entry
@@ -83,8 +96,8 @@ no_entry limit first id scope definitions a other force none live =
       | inl past ↦ past
       | inr contradiction ↦ absurd contradiction
     ] in
-    second_chosen (eqb id 3) (unabbreviated (limit - scope.handed.used)) (choose (ltb (id - 4) (length scope.definitions)) (abbreviated first (limit - scope.handed.used) (get_or scope.definitions (id - 4) [])) (refuses (at UndefinedAbbrev first))) a (Err (Refused UndefinedAbbrev first)) (stopped a) (ne_eqb id 3 other)
-    (second_chosen (ltb (id - 4) (length scope.definitions)) (abbreviated first (limit - scope.handed.used) (get_or scope.definitions (id - 4) [])) (refuses (at UndefinedAbbrev first)) a (Err (Refused UndefinedAbbrev first)) (stopped a) past
+    second_chosen (eqb id 3) (unabbreviated (limit - scope.handed.used)) (choose (ltb (id - 4) (length scope.definitions)) (by_definition first (limit - scope.handed.used) (get_or scope.definitions (id - 4) [])) (refuses (at UndefinedAbbrev first))) a (Err (Refused UndefinedAbbrev first)) (stopped a) (ne_eqb id 3 other)
+    (second_chosen (ltb (id - 4) (length scope.definitions)) (by_definition first (limit - scope.handed.used) (get_or scope.definitions (id - 4) [])) (refuses (at UndefinedAbbrev first)) a (Err (Refused UndefinedAbbrev first)) (stopped a) past
     (stops_here a live, λ k. refl))
   where
     by : (b : Bool) → ltb (id - 4) (length scope.definitions) ≡ b → (ltb (id - 4) (length scope.definitions) ≡ false) ⊎ ⊥
@@ -148,23 +161,23 @@ none_described first e a live = took_nothing None a live
 
 -- ---- a definition
 
-pub define_judged : (first : ℕ) (scope : Scope) (a : Reader) (fault : Fault) (b : Reader) → Why (test (may_define scope.info) (at NoBlockSet first)) a fault b → Why (define first scope) a fault b
+pub define_judged : (shapes : Shapes) (first : ℕ) (scope : Scope) (a : Reader) (fault : Fault) (b : Reader) → Why (test (may_define scope.info) (at NoBlockSet first)) a fault b → Why (define shapes first scope) a fault b
 unfolding define
-define_judged first scope a fault b h = why (define first scope) a fault b (breaks h)
+define_judged shapes first scope a fault b h = why (define shapes first scope) a fault b (breaks h)
 
-pub define_missed : (first : ℕ) (scope : Scope) (a b : Reader) (fault : Fault) (c : Reader) → Took (test (may_define scope.info) (at NoBlockSet first)) a tt b → Why definition b fault c → Why (define first scope) a fault c
+pub define_missed : (shapes : Shapes) (first : ℕ) (scope : Scope) (a b : Reader) (fault : Fault) (c : Reader) → Took (test (may_define scope.info) (at NoBlockSet first)) a tt b → Why (definition shapes) b fault c → Why (define shapes first scope) a fault c
 unfolding define
-define_missed first scope a b fault c t h = why (define first scope) a fault c (andThen t (breaks h))
+define_missed shapes first scope a b fault c t h = why (define shapes first scope) a fault c (andThen t (breaks h))
 
-pub define_lost : (first : ℕ) (scope : Scope) (a b : Reader) (ops : List Op) (c d : Reader) → Took (test (may_define scope.info) (at NoBlockSet first)) a tt b → Took definition b ops c → d ≡ stopped c → Why (define first scope) a Memory d
+pub define_lost : (shapes : Shapes) (first : ℕ) (scope : Scope) (a b : Reader) (ops : List Op) (c d : Reader) → Took (test (may_define scope.info) (at NoBlockSet first)) a tt b → Took (definition shapes) b ops c → d ≡ stopped c → Why (define shapes first scope) a Memory d
 unfolding define
-define_lost first scope a b ops c d t u is = why (define first scope) a Memory d (andThen t (andThen u (here c.position refl (without_memory u.live is))))
+define_lost shapes first scope a b ops c d t u is = why (define shapes first scope) a Memory d (andThen t (andThen u (here c.position refl (without_memory u.live is))))
 
-pub define_took : (first : ℕ) (scope : Scope) (a b : Reader) (ops : List Op) (c d : Reader) (after : ℕ) (copy : List Op) (new : Scope) → Took (test (may_define scope.info) (at NoBlockSet first)) a tt b → Took definition b ops c → d ≡ c → after ≡ c.position → copy ≡ ops → new ≡ defined scope.info ops scope
-    → Took (define first scope) a (record { ops = copy; first = first; after = after }, new) d
+pub define_took : (shapes : Shapes) (first : ℕ) (scope : Scope) (a b : Reader) (ops : List Op) (c d : Reader) (after : ℕ) (copy : List Op) (new : Scope) → Took (test (may_define scope.info) (at NoBlockSet first)) a tt b → Took (definition shapes) b ops c → d ≡ c → after ≡ c.position → copy ≡ ops → new ≡ defined scope.info ops scope
+    → Took (define shapes first scope) a (record { ops = copy; first = first; after = after }, new) d
 unfolding define
-define_took first scope a b ops c d after copy new t u same here_is copied made =
-    rw (same, here_is, copied, made) (told (define first scope) a (Ok (record { ops = ops; first = first; after = c.position }, defined scope.info ops scope)) c (andThen t (andThen u (here c.position refl (ends u.live)))))
+define_took shapes first scope a b ops c d after copy new t u same here_is copied made =
+    rw (same, here_is, copied, made) (told (define shapes first scope) a (Ok (record { ops = ops; first = first; after = c.position }, defined scope.info ops scope)) c (andThen t (andThen u (here c.position refl (ends u.live)))))
 
 -- ---- a record
 

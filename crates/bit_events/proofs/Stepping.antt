@@ -2,6 +2,7 @@
 use Rattle.std.proofs.Common.{◌≡◌, ℕ, zero, suc, ◌+◌, ◌<◌, ◌≤◌, Bool, true, false, not, is_some, eqb, ltb, List, [], ◌∷◌, ◌++◌, length, get_or, take, set, Option, Some, None, Result, Ok, IsSome, is_none, refl, sym, ap, ◌∙◌, subst, arith}
 use Rattle.std.specs.Prelude.{unwrap_or}
 use Rattle.std.proofs.lemmas.Bool.{ne_eqb}
+use Rattle.bit_grammar.specs.declared.shapes.Shapes.{Shapes}
 use Rattle.bit_grammar.specs.declared.op.Op.{Op}
 use Rattle.bit_grammar.specs.declared.reason.Reason.TheVariants.{TooDeep, TopLevel, NestedInBlockInfo}
 use Rattle.bit_grammar.specs.Grammar.{Grammar, at, gives, test}
@@ -144,11 +145,11 @@ end_took f outer handed a after b c new t same made = rw (same, made) (told (end
 
 -- ---- a definition and a record
 
-pub define_missed : (f : machine.Frame) (outer : List machine.Frame) (first : ℕ) (handed : Handed) (a : Reader) (fault : Fault) (b : Reader) → Why (define first (scope_of f handed)) a fault b → Why (define_rule f outer first handed) a fault b
-define_missed f outer first handed a fault b h = why (define_rule f outer first handed) a fault b (breaks h)
+pub define_missed : (shapes : Shapes) (f : machine.Frame) (outer : List machine.Frame) (first : ℕ) (handed : Handed) (a : Reader) (fault : Fault) (b : Reader) → Why (define shapes first (scope_of f handed)) a fault b → Why (define_rule shapes f outer first handed) a fault b
+define_missed shapes f outer first handed a fault b h = why (define_rule shapes f outer first handed) a fault b (breaks h)
 
-pub define_took : (f : machine.Frame) (outer : List machine.Frame) (first : ℕ) (handed : Handed) (a : Reader) (mark : DefinitionMark) (scope : Scope) (b : Reader) (new : machine.Machine) → Took (define first (scope_of f handed)) a (mark, scope) b → new ≡ inside f.head outer scope → Took (define_rule f outer first handed) a (defines mark, new) b
-define_took f outer first handed a mark scope b new t made = rw made (told (define_rule f outer first handed) a (Ok (defines mark, inside f.head outer scope)) b (andThen t (ends t.live)))
+pub define_took : (shapes : Shapes) (f : machine.Frame) (outer : List machine.Frame) (first : ℕ) (handed : Handed) (a : Reader) (mark : DefinitionMark) (scope : Scope) (b : Reader) (new : machine.Machine) → Took (define shapes first (scope_of f handed)) a (mark, scope) b → new ≡ inside f.head outer scope → Took (define_rule shapes f outer first handed) a (defines mark, new) b
+define_took shapes f outer first handed a mark scope b new t made = rw made (told (define_rule shapes f outer first handed) a (Ok (defines mark, inside f.head outer scope)) b (andThen t (ends t.live)))
 
 pub record_missed : (limit : ℕ) (f : machine.Frame) (outer : List machine.Frame) (first id : ℕ) (handed : Handed) (a : Reader) (fault : Fault) (b : Reader) → Why (record_after limit first id (scope_of f handed)) a fault b → Why (record_rule limit f outer first id handed) a fault b
 record_missed limit f outer first id handed a fault b h = why (record_rule limit f outer first id handed) a fault b (breaks h)
@@ -178,7 +179,7 @@ pub after_nested : (limits : Limits) (f : machine.Frame) (outer : List machine.F
 unfolding step_after
 after_nested limits f outer first id handed a result b no_end is t = told (step_after limits f.head outer first (scope_of f handed) id) a result b (second_rule no_end (first_rule is (answers t)))
 
-pub after_define : (limits : Limits) (f : machine.Frame) (outer : List machine.Frame) (first id : ℕ) (handed : Handed) (a : Reader) (result : Result (Event × machine.Machine) Fault) (b : Reader) → eqb id 0 ≡ false → eqb id 1 ≡ false → eqb id 2 ≡ true → Takes (define_rule f outer first handed) a result b → Takes (step_after limits f.head outer first (scope_of f handed) id) a result b
+pub after_define : (limits : Limits) (f : machine.Frame) (outer : List machine.Frame) (first id : ℕ) (handed : Handed) (a : Reader) (result : Result (Event × machine.Machine) Fault) (b : Reader) → eqb id 0 ≡ false → eqb id 1 ≡ false → eqb id 2 ≡ true → Takes (define_rule limits.shapes f outer first handed) a result b → Takes (step_after limits f.head outer first (scope_of f handed) id) a result b
 unfolding step_after
 after_define limits f outer first id handed a result b no_end no_block is t = told (step_after limits f.head outer first (scope_of f handed) id) a result b (second_rule no_end (second_rule no_block (first_rule is (answers t))))
 
@@ -215,16 +216,16 @@ set_inside frames k f new shown outer handed n is split same =
 
 -- ---- the parts of a step, by the innermost block as it is held
 
-pub held_define_missed : (frames : List Frame) (k : ℕ) (f : Frame) (shown : machine.Frame) (outer : List machine.Frame) (first : ℕ) (handed : Handed) (a : Reader) (fault : Fault) (b : Reader) → length frames ≡ suc k → f ≡ get_or frames k f → frames_shown frames ≡ shown ∷ outer
-    → Why (define first (scope_of (frame_shown f) handed)) a fault b → Why (define_rule shown outer first handed) a fault b
-held_define_missed frames k f shown outer first handed a fault b n is split h =
-    define_missed shown outer first handed a fault b (subst (λ (x : machine.Frame). Why (define first (scope_of x handed)) a fault b) (innermost frames k f shown outer n is split) h)
+pub held_define_missed : (shapes : Shapes) (frames : List Frame) (k : ℕ) (f : Frame) (shown : machine.Frame) (outer : List machine.Frame) (first : ℕ) (handed : Handed) (a : Reader) (fault : Fault) (b : Reader) → length frames ≡ suc k → f ≡ get_or frames k f → frames_shown frames ≡ shown ∷ outer
+    → Why (define shapes first (scope_of (frame_shown f) handed)) a fault b → Why (define_rule shapes shown outer first handed) a fault b
+held_define_missed shapes frames k f shown outer first handed a fault b n is split h =
+    define_missed shapes shown outer first handed a fault b (subst (λ (x : machine.Frame). Why (define shapes first (scope_of x handed)) a fault b) (innermost frames k f shown outer n is split) h)
 
-pub held_define_took : (frames : List Frame) (k : ℕ) (f new : Frame) (shown : machine.Frame) (outer : List machine.Frame) (first : ℕ) (handed : Handed) (a : Reader) (mark : DefinitionMark) (b : Reader) → length frames ≡ suc k → f ≡ get_or frames k f → frames_shown frames ≡ shown ∷ outer → new.head ≡ f.head
-    → Took (define first (scope_of (frame_shown f) handed)) a (mark, scope_of (frame_shown new) handed) b → Took (define_rule shown outer first handed) a (defines mark, record { frames = frames_shown (set frames k new); handed = handed }) b
-held_define_took frames k f new shown outer first handed a mark b n is split same t =
-    define_took shown outer first handed a mark (scope_of (frame_shown new) handed) b (record { frames = frames_shown (set frames k new); handed = handed })
-    (subst (λ (x : machine.Frame). Took (define first (scope_of x handed)) a (mark, scope_of (frame_shown new) handed) b) (innermost frames k f shown outer n is split) t)
+pub held_define_took : (shapes : Shapes) (frames : List Frame) (k : ℕ) (f new : Frame) (shown : machine.Frame) (outer : List machine.Frame) (first : ℕ) (handed : Handed) (a : Reader) (mark : DefinitionMark) (b : Reader) → length frames ≡ suc k → f ≡ get_or frames k f → frames_shown frames ≡ shown ∷ outer → new.head ≡ f.head
+    → Took (define shapes first (scope_of (frame_shown f) handed)) a (mark, scope_of (frame_shown new) handed) b → Took (define_rule shapes shown outer first handed) a (defines mark, record { frames = frames_shown (set frames k new); handed = handed }) b
+held_define_took shapes frames k f new shown outer first handed a mark b n is split same t =
+    define_took shapes shown outer first handed a mark (scope_of (frame_shown new) handed) b (record { frames = frames_shown (set frames k new); handed = handed })
+    (subst (λ (x : machine.Frame). Took (define shapes first (scope_of x handed)) a (mark, scope_of (frame_shown new) handed) b) (innermost frames k f shown outer n is split) t)
     (set_inside frames k f new shown outer handed n is split same)
 
 pub held_record_missed : (limit : ℕ) (frames : List Frame) (k : ℕ) (f : Frame) (shown : machine.Frame) (outer : List machine.Frame) (first id : ℕ) (handed : Handed) (a : Reader) (fault : Fault) (b : Reader) → length frames ≡ suc k → f ≡ get_or frames k f → frames_shown frames ≡ shown ∷ outer

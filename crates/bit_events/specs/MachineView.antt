@@ -1,6 +1,7 @@
 -- What is seen of the machine of the program.
 use Rattle.std.specs.Prelude.{◌≡◌, ℕ, ◌≤◌, ◌%◌, List, [], ◌∷◌, Option, Some, None, unwrap_or, vec_len}
 use Rattle.std.specs.Option.{option_map}
+use Rattle.bit_grammar.specs.declared.shapes.Shapes.{Shapes}
 use Rattle.bit_grammar.specs.declared.op.Op.{Op}
 use Rattle.bit_grammar.specs.Grammar.{Grammar, gives, ◌>>=◌}
 use Rattle.bit_grammar.specs.Blocks.{Handed, BlockHead, end_of_block, define, record_after, leave}
@@ -99,8 +100,8 @@ abbrev pub end_rule : Frame → List Frame → Handed → Grammar (Event × mach
 end_rule f outer handed = end_of_block f.head >>= λ after. gives (leaves after, record { frames = outer; handed = leave f.info handed })
 
 -- a definition, whose id began at first
-abbrev pub define_rule : Frame → List Frame → (first : ℕ) → Handed → Grammar (Event × machine.Machine)
-define_rule f outer first handed = define first (scope_of f handed) >>= λ definition. gives (defines definition.0, inside f.head outer definition.1)
+abbrev pub define_rule : Shapes → Frame → List Frame → (first : ℕ) → Handed → Grammar (Event × machine.Machine)
+define_rule shapes f outer first handed = define shapes first (scope_of f handed) >>= λ definition. gives (defines definition.0, inside f.head outer definition.1)
 
 -- a record with this id, which began at first
 abbrev pub record_rule : (limit : ℕ) → Frame → List Frame → (first id : ℕ) → Handed → Grammar (Event × machine.Machine)

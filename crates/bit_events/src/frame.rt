@@ -10,7 +10,7 @@ ghost use Rattle.bit_events.specs.FrameView.{describing_shown, info_shown, descr
 use crate::head::BlockHead;
 use crate::heads::granted;
 use bit_abbrev::{Abbrev, InForce, InfoTable, read_abbreviated, read_define, read_unabbreviated};
-use bit_fields::{BitReader, Fault, Reason, Source, ValueTaker};
+use bit_fields::{BitReader, Fault, Reason, Shapes, Source, ValueTaker};
 use std::alloc::{AllocError, Global};
 
 /// The code of the records of a BLOCKINFO block that say which block is described.
@@ -76,16 +76,17 @@ impl Frame {
 pub(crate) fn define<S: Source>(
     alloc: Global,
     reader: &mut BitReader<S>,
+    shapes: Shapes,
     frame: &mut Frame,
     first: u64,
 ) -> Result<u64, Fault>
     requires { reader.old.live ≡ true }
-    ensures takes { (handed : Handed) → Takes (define first (scope_of (frame_shown frame.old) handed)) reader.old (told_by (λ after. (record { ops = unwrap_or (newest_in (frame_shown frame.new)) []; first = first; after = after }, scope_of (frame_shown frame.new) handed)) result) reader.new }
+    ensures takes { (handed : Handed) → Takes (define shapes first (scope_of (frame_shown frame.old) handed)) reader.old (told_by (λ after. (record { ops = unwrap_or (newest_in (frame_shown frame.new)) []; first = first; after = after }, scope_of (frame_shown frame.new) handed)) result) reader.new }
     ensures newest { OnOk result (IsSome (newest_in (frame_shown frame.new))) }
     ensures head { frame.new.head ≡ frame.old.head }
 {
     reader.judge(frame.may_define(), Reason::NoBlockSet, first)?;
-    let abbrev = read_define(alloc, reader)?;
+    let abbrev = read_define(alloc, reader, shapes)?;
     let after = reader.position();
     granted(reader, frame.put(abbrev))?;
     Ok(after)
@@ -110,7 +111,15 @@ fn entry<S: Source, V: ValueTaker>(
         return read_unabbreviated(reader, room, values);
     }
     match definitions.get((id - 4) as usize) {
-        Some(abbrev) => read_abbreviated(reader, abbrev, first, room, values),
+        Some(abbrev) => {
+            if !abbrev.is_usable() {
+                return Err(reader.fail(Fault::Refused {
+                    reason: Reason::AbbrevShape,
+                    bit: first,
+                }));
+            }
+            read_abbreviated(reader, abbrev, first, room, values)
+        }
         None => Err(reader.fail(Fault::Refused {
             reason: Reason::UndefinedAbbrev,
             bit: first,

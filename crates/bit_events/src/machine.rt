@@ -193,17 +193,18 @@ impl Machine {
         &mut self,
         alloc: Global,
         reader: &mut BitReader<S>,
+        limits: &Limits,
         first: u64,
     ) -> Result<Aside, Fault>
         requires live { reader.old.live ≡ true }
         requires some { 0 < vec_len self.old.frames }
-        ensures takes { (f : machine.Frame) (outer : List machine.Frame) → frames_shown self.old.frames.items ≡ f ∷ outer → Takes (define_rule f outer first (handed_shown self.old)) reader.old (told_by (after_aside self.new) result) reader.new }
+        ensures takes { (f : machine.Frame) (outer : List machine.Frame) → frames_shown self.old.frames.items ≡ f ∷ outer → Takes (define_rule limits.now.shapes f outer first (handed_shown self.old)) reader.old (told_by (after_aside self.new) result) reader.new }
         ensures leaves { (deepest : ℕ) → IfOk result (λ aside. Leaves deepest self.old reader.old (aside_shown self.new aside) self.new reader.new) }
     {
         let Some(frame) = self.frames.last_mut() else {
             unreachable!();
         };
-        let after = define(alloc, reader, frame, first)?;
+        let after = define(alloc, reader, limits.shapes(), frame, first)?;
         Ok(Aside::Define { first, after })
     }
 
@@ -259,7 +260,7 @@ impl Machine {
         if id == 1 {
             return self.open_nested(alloc, reader, limits, first);
         }
-        self.define(alloc, reader, first)
+        self.define(alloc, reader, limits, first)
     }
 
     /// Reads one item of the innermost block, or its end.

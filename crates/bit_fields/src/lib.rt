@@ -26,7 +26,7 @@ mod writer_laws;
 mod writer_tests;
 
 pub use ahead::Ahead;
-pub use bit_grammar::Reason;
+pub use bit_grammar::{Reason, Shapes};
 pub use fault::Fault;
 pub use head::{Head, Wrapper};
 pub use kept::KeptSource;

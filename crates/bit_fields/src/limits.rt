@@ -1,7 +1,10 @@
 ghost use Rattle.std.specs.Prelude.{◌≡◌, ◌≤◌, MatchOption};
+ghost use Rattle.bit_grammar.specs.declared.shapes.Shapes.TheVariants.{AtDefinition, AtUse};
+ghost use Rattle.bit_grammar.specs.Blocks.{judged_at};
 ghost use Rattle.bit_grammar.specs.Normal.{Capped};
 ghost use Rattle.bit_fields.specs.Opening.{PassCaps};
 
+use bit_grammar::Shapes;
 use std::marker::Model;
 
 /// The most bytes that `Limits` allow: `4 * (2^32 - 1)`, so that every block's length of a normal form fits its field.
@@ -13,12 +16,13 @@ const MOST_DEPTH: u32 = 255;
 /// The most values that `Limits` allow: `2^32 - 1`.
 const MOST_VALUES: u64 = 4_294_967_295;
 
-/// How much of an input is taken. Zero is allowed for each.
+/// How much of an input is taken, and where the shapes of its definitions are judged. Zero is allowed for each number.
 #[derive(Clone, Copy, Debug, PartialEq, Eq)]
 pub struct Limits {
     bytes: u64,
     depth: u32,
     values: u64,
+    shapes: Shapes,
 }
 
 impl Model for Limits {
@@ -27,40 +31,53 @@ impl Model for Limits {
 
     ghost Value = { Told };
 
-    ghost view = { λ l. record { bytes = l.bytes; depth = l.depth; values = l.values } };
+    ghost view = { λ l. record { bytes = l.bytes; depth = l.depth; values = l.values; shapes = l.shapes } };
 
-    ghost invariant = { λ l. Capped (record { bytes = l.bytes; depth = l.depth; values = l.values }) };
+    ghost invariant = { λ l. Capped (record { bytes = l.bytes; depth = l.depth; values = l.values; shapes = l.shapes }) };
 
-    ghost inverse = { λ l. record { bytes = l.bytes; depth = l.depth; values = l.values } };
+    ghost inverse = { λ l. record { bytes = l.bytes; depth = l.depth; values = l.values; shapes = l.shapes } };
 }
 
 impl Limits {
     /// Limits on the bytes of the whole input, wrapper included, on the depth of blocks, where a block at the top has
     /// depth 1, and on the values of all records. `None` where one is past its cap: 17,179,869,180 bytes, depth 255,
-    /// 4,294,967,295 values.
+    /// 4,294,967,295 values. Shapes are judged at the definition.
     pub fn new(bytes: u64, depth: u32, values: u64) -> Option<Limits>
-        ensures { MatchOption result (PassCaps (record { bytes = bytes; depth = depth; values = values })) (λ limits. (limits ≡ record { bytes = bytes; depth = depth; values = values }) × Capped limits) }
+        ensures { MatchOption result (PassCaps (record { bytes = bytes; depth = depth; values = values; shapes = AtDefinition })) (λ limits. (limits ≡ record { bytes = bytes; depth = depth; values = values; shapes = AtDefinition }) × Capped limits) }
     {
         if bytes <= MOST_BYTES && depth <= MOST_DEPTH && values <= MOST_VALUES {
             Some(Limits {
                 bytes,
                 depth,
                 values,
+                shapes: Shapes::AtDefinition,
             })
         } else {
             None
         }
     }
 
-    /// The limits that serve most inputs: 1 GiB, depth 64, 134,217,728 values.
+    /// The limits that serve most inputs: 1 GiB, depth 64, 134,217,728 values. Shapes are judged at the definition.
     pub fn usual() -> Limits
-        ensures usual { result ≡ record { bytes = 1073741824; depth = 64; values = 134217728 } }
+        ensures usual { result ≡ record { bytes = 1073741824; depth = 64; values = 134217728; shapes = AtDefinition } }
         ensures capped { Capped result }
     {
         Limits {
             bytes: 1_073_741_824,
             depth: 64,
             values: 134_217_728,
+            shapes: Shapes::AtDefinition,
+        }
+    }
+
+    /// The same limits, with the shape of a definition judged where a record uses it.
+    pub fn shapes_at_use(self) -> Limits
+        ensures at_use { result ≡ judged_at AtUse self }
+        ensures capped { Capped result }
+    {
+        Limits {
+            shapes: Shapes::AtUse,
+            ..self
         }
     }
 
@@ -86,5 +103,12 @@ impl Limits {
         ensures capped { Capped self }
     {
         self.values
+    }
+
+    /// Where the shapes of definitions are judged.
+    pub fn shapes(self) -> Shapes
+        ensures { result ≡ self.shapes }
+    {
+        self.shapes
     }
 }

@@ -2,8 +2,8 @@
 //! few bytes at a time.
 
 use crate::{
-    BitReader, BitWriter, BufSource, Fault, Head, Limits, ReadSource, Reason, SliceSource, Source,
-    Wrapper, WriteSink,
+    BitReader, BitWriter, BufSource, Fault, Head, Limits, ReadSource, Reason, Shapes, SliceSource,
+    Source, Wrapper, WriteSink,
 };
 use std::alloc::Global;
 use std::io;
@@ -183,6 +183,14 @@ fn limits(rt: HostRuntime) {
         assert!(rt; told == wanted, "{bytes} {depth} {values}");
     }
     assert!(rt; parts(Limits::usual()) == (1_073_741_824, 64, 134_217_728));
+}
+
+#[test]
+fn shapes_of_limits(rt: HostRuntime) {
+    let usual = Limits::usual();
+    let at_use = usual.shapes_at_use();
+    assert!(rt; parts(at_use) == parts(usual));
+    assert!(rt; [usual.shapes(), at_use.shapes()] == [Shapes::AtDefinition, Shapes::AtUse]);
 }
 
 /// So many bytes of the magic, with this limit, and a reader that fails at one of its reads.

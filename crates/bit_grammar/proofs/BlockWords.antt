@@ -2,11 +2,12 @@
 use Rattle.std.proofs.Common.{◌≡◌, ℕ, zero, suc, ◌+◌, ◌≤◌, Bool, List, [], ◌∷◌, ◌++◌, length, Option, Some, None, refl, sym, ap, subst, ◌∙◌, append_assoc, arith, inl, inr}
 use Rattle.std.proofs.lemmas.Bool.{eqb-true, eqb-false}
 use Rattle.std.proofs.lemmas.List.{append-nil, length-append}
+use Rattle.bit_grammar.specs.declared.shapes.Shapes.{Shapes}
 use Rattle.bit_grammar.specs.Grammar.{Round, one_more, last, Rounds, Spells}
 use Rattle.bit_grammar.specs.FormatFields.{IsFixed, IsPadding}
 use Rattle.bit_grammar.specs.Marks.{no_marks, Item, block_item, record_item, definition_item, item_then, marks_of}
 use Rattle.bit_grammar.specs.Blocks.{Table, BlockInfo, Handed, Scope, enter, leave, BlockHead, nested, item_after, item, block}
-use Rattle.bit_grammar.specs.FormatBlocks.{Context, top_with, entered, made_or, HoldsLawful, IsRecord, entry_of, AreItems}
+use Rattle.bit_grammar.specs.FormatBlocks.{Context, top_with, entered, made_or, HoldsDefinable, IsRecord, entry_of, AreItems}
 use Rattle.bit_grammar.proofs.Fields.{fixed_is}
 use Rattle.bit_grammar.proofs.SpelledParts.{Spelled}
 use Rattle.bit_grammar.proofs.Parts.{apart, from_here, after_judge, chosen, image}
@@ -17,18 +18,18 @@ use Rattle.bit_grammar.proofs.Marked.{IsMarked, item_first, EndIs, RoundIs, IsAf
 
 -- ---- one item
 
-abbrev pub BlockIs : (limit depth : ℕ) → Type 0
-BlockIs limit depth = (first : ℕ) (handed : Handed) (p : ℕ) (s : List Bool) (v : Item × Handed) → HoldsLawful handed.table → Spelled (block depth limit first handed) p s v → IsAfter v.0 first handed.table p s v.1.table
+abbrev pub BlockIs : Shapes → (limit depth : ℕ) → Type 0
+BlockIs shapes limit depth = (first : ℕ) (handed : Handed) (p : ℕ) (s : List Bool) (v : Item × Handed) → HoldsDefinable handed.table → Spelled (block shapes depth limit first handed) p s v → IsAfter v.0 first handed.table p s v.1.table
 
 nested_is : (x : Item) (c : Context) (p : ℕ) (enter s : List Bool) (new : Table) → c.info ≡ None → IsFixed c.width 1 enter → IsAfter x p c.table (p + length enter) s new → IsMarked x c p (enter ++ s) (record c { table = new })
 nested_is (block_item mark inner) c p enter s new none enters k = with_id (AreItems inner) c p mark enter s new none enters k
 nested_is (record_item mark) c p enter s new none enters k = absurd k
 nested_is (definition_item mark) c p enter s new none enters k = absurd k
 
-after_is : (limit depth : ℕ) → BlockIs limit depth → (h : BlockHead) (scope : Scope) (p id : ℕ) (head rest : List Bool) (x : Round Scope Item (ℕ × Handed)) → LawfulContext (context_of h.width scope) → IsFixed h.width id head
-    → Spelled (item_after (block depth limit) h limit p scope id) (p + length head) rest x → RoundIs h scope p (head ++ rest) x
+after_is : (shapes : Shapes) (limit depth : ℕ) → BlockIs shapes limit depth → (h : BlockHead) (scope : Scope) (p id : ℕ) (head rest : List Bool) (x : Round Scope Item (ℕ × Handed)) → LawfulContext (context_of h.width scope) → IsFixed h.width id head
+    → Spelled (item_after shapes (block shapes depth limit) h limit p scope id) (p + length head) rest x → RoundIs h scope p (head ++ rest) x
 unfolding item_after nested
-after_is limit depth inner h scope p id head rest x ok is k =
+after_is shapes limit depth inner h scope p id head rest x ok is k =
     let c = context_of h.width scope in
     let all = head ++ rest in
     let len = length-append head rest in
@@ -57,7 +58,7 @@ after_is limit depth inner h scope p id head rest x ok is k =
         | inr m ↦ elim (chosen m.1) [
           | inl d ↦
               let a = image d.1 in
-              let w = define_is p h.width scope _ rest a.value a.one in
+              let w = define_is shapes p h.width scope _ rest a.value a.one in
               subst (RoundIs h scope p all) (sym a.is)
               ((head, rest, refl, subst (λ (i : ℕ). IsFixed h.width i head) (eqb-true _ _ d.0) is, w.spelled), w.defines, w.begins, omega (arith, w.after, len))
           | inr d ↦
@@ -72,11 +73,11 @@ after_is limit depth inner h scope p id head rest x ok is k =
       ]
     ]
 
-item_is : (limit depth : ℕ) → BlockIs limit depth → (h : BlockHead) (scope : Scope) (p : ℕ) (s : List Bool) (x : Round Scope Item (ℕ × Handed)) → LawfulContext (context_of h.width scope) → Spelled (item (block depth limit) h limit scope) p s x → RoundIs h scope p s x
+item_is : (shapes : Shapes) (limit depth : ℕ) → BlockIs shapes limit depth → (h : BlockHead) (scope : Scope) (p : ℕ) (s : List Bool) (x : Round Scope Item (ℕ × Handed)) → LawfulContext (context_of h.width scope) → Spelled (item shapes (block shapes depth limit) h limit scope) p s x → RoundIs h scope p s x
 unfolding item
-item_is limit depth inner h scope p s x ok k =
+item_is shapes limit depth inner h scope p s x ok k =
     let a = apart (from_here k) in
-    subst (λ (t : List Bool). RoundIs h scope p t x) (sym a.parts) (after_is limit depth inner h scope p a.value a.front a.others x ok (fixed_is h.width p a.front a.value a.one.is) a.two)
+    subst (λ (t : List Bool). RoundIs h scope p t x) (sym a.parts) (after_is shapes limit depth inner h scope p a.value a.front a.others x ok (fixed_is h.width p a.front a.value a.one.is) a.two)
 
 -- ---- bodies and blocks
 
@@ -92,16 +93,16 @@ record BodyIs (h : BlockHead) (xs : List Item) (scope : Scope) (p : ℕ) (s : Li
 item_lawful : (x : Item) (c new : Context) (p : ℕ) (s : List Bool) → IsMarked x c p s new → LawfulContext c → LawfulContext new
 item_lawful x c new p s h ok = items_lawful (item_then x no_marks) c p s new (item_first x no_marks c new new p s [] s (sym (append-nil s)) h (refl, refl)) ok
 
-body_is : (limit depth : ℕ) → BlockIs limit depth → (h : BlockHead) (xs : List Item) (scope : Scope) (p : ℕ) (s : List Bool) (e : ℕ × Handed) → LawfulContext (context_of h.width scope)
-    → Rounds (λ scope p s x. Spells (item (block depth limit) h limit scope) p s x) xs scope p s e → BodyIs h xs scope p s e
-body_is limit depth inner h [] scope p s e ok k =
+body_is : (shapes : Shapes) (limit depth : ℕ) → BlockIs shapes limit depth → (h : BlockHead) (xs : List Item) (scope : Scope) (p : ℕ) (s : List Bool) (e : ℕ × Handed) → LawfulContext (context_of h.width scope)
+    → Rounds (λ scope p s x. Spells (item shapes (block shapes depth limit) h limit scope) p s x) xs scope p s e → BodyIs h xs scope p s e
+body_is shapes limit depth inner h [] scope p s e ok k =
     let here : p ≡ p + 0 = omega arith in
-    record { items = []; end = s; left = scope; parts = refl; are = (refl, refl); ended = subst (λ (q : ℕ). EndIs h scope q s e) here (item_is limit depth inner h scope p s (last e) ok (record { is = k })) }
-body_is limit depth inner h (x ∷ xs) scope p s e ok k =
+    record { items = []; end = s; left = scope; parts = refl; are = (refl, refl); ended = subst (λ (q : ℕ). EndIs h scope q s e) here (item_is shapes limit depth inner h scope p s (last e) ok (record { is = k })) }
+body_is shapes limit depth inner h (x ∷ xs) scope p s e ok k =
     let c = context_of h.width scope in
     let new = context_of h.width k.2 in
-    let f = item_is limit depth inner h scope p k.0 (one_more x k.2) ok (record { is = k.5 }) in
-    let g = body_is limit depth inner h xs k.2 (p + length k.0) k.1 e (item_lawful x c new p k.0 f ok) k.6 in
+    let f = item_is shapes limit depth inner h scope p k.0 (one_more x k.2) ok (record { is = k.5 }) in
+    let g = body_is shapes limit depth inner h xs k.2 (p + length k.0) k.1 e (item_lawful x c new p k.0 f ok) k.6 in
     let there : p + length k.0 + length g.items ≡ p + length (k.0 ++ g.items) = omega (arith, length-append k.0 g.items) in
     record {
       items = k.0 ++ g.items;
@@ -116,16 +117,16 @@ pub leave_table : (info : Option BlockInfo) (handed : Handed) → (leave info ha
 leave_table None handed = refl
 leave_table (Some info) handed = refl
 
-pub block_is : (limit depth : ℕ) → BlockIs limit depth
+pub block_is : (shapes : Shapes) (limit depth : ℕ) → BlockIs shapes limit depth
 unfolding block
-block_is limit zero first handed p s v ok k = absurd k.is
-block_is limit (suc depth) first handed p s v ok k =
+block_is shapes limit zero first handed p s v ok k = absurd k.is
+block_is shapes limit (suc depth) first handed p s v ok k =
     let a = apart k in
     let b = image a.two in
     let h = a.value in
     let xs = b.value.0 in
     let head = head_is h p a.front a.one in
-    let body = body_is limit depth (block_is limit depth) h xs (enter h.id handed) (p + length a.front) a.others b.value.1 (entered_lawful (top_with handed.table) h.id h.width ok) b.one.is in
+    let body = body_is shapes limit depth (block_is shapes limit depth) h xs (enter h.id handed) (p + length a.front) a.others b.value.1 (entered_lawful (top_with handed.table) h.id h.width ok) b.one.is in
     let end = body.ended in
     let inner = context_of h.width body.left in
     let end_len : length body.end ≡ length end.leaves + length end.padding = ap length end.parts ∙ length-append end.leaves end.padding in

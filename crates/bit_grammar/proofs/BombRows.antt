@@ -8,7 +8,7 @@ use Rattle.bit_grammar.specs.FormatFields.{shortest}
 use Rattle.bit_grammar.specs.Definition.{kind, valued, operand, operands, definition}
 use Rattle.bit_grammar.specs.Record.{value_count, unabbreviated, scalar, values_of, abbreviated}
 use Rattle.bit_grammar.specs.Forest.{Forest, empty, a_block, a_record}
-use Rattle.bit_grammar.specs.Blocks.{block_id, new_width, block_head, end_of_block, define, entry, describe, record_after, nested, item_after, item, block, top_block}
+use Rattle.bit_grammar.specs.Blocks.{block_id, new_width, block_head, end_of_block, define, by_definition, entry, describe, record_after, nested, item_after, item, block, top_block}
 use Rattle.bit_grammar.specs.Input.{version, offset, wrapper, any_bits, wrapper_and_gap, inner_magic, top_blocks, stream, wrapped, input, outer_wrapper, reading_input}
 use Rattle.bit_grammar.specs.Normal.{normal, normal_form}
 use Rattle.bit_grammar.proofs.Hex.{hex, times}
@@ -36,7 +36,7 @@ record Deep : Type 0 where
   nest_64 : IsNormal usual (hex "4243C0DE" ++ nest 64) (nest_tree 64)
 
 deep : Deep
-unfolding fixed vbr char6 align32 byte kind valued operand operands definition value_count unabbreviated scalar values_of abbreviated block_id new_width block_head end_of_block define entry describe record_after nested item_after item block top_block version offset wrapper any_bits wrapper_and_gap inner_magic top_blocks stream wrapped input outer_wrapper reading_input normal normal_form
+unfolding fixed vbr char6 align32 byte kind valued operand operands definition value_count unabbreviated scalar values_of abbreviated block_id new_width block_head end_of_block define by_definition entry describe record_after nested item_after item block top_block version offset wrapper any_bits wrapper_and_gap inner_magic top_blocks stream wrapped input outer_wrapper reading_input normal normal_form
 deep = record { beginnings_65 = refl; beginnings_256 = refl; bytes_of_nest = refl; nest_255 = refl; nest_64 = (refl, refl) }
 
 record Claims : Type 0 where
@@ -49,7 +49,7 @@ record Claims : Type 0 where
   operands_without_end : blocks usual (hex "4243C0DE 210C0000 03000000 FAFFFFFF FFFFFFFF FFFF0300") ≡ Err (at AbbrevEncoding 180)
 
 claims : Claims
-unfolding fixed vbr char6 align32 byte kind valued operand operands definition value_count unabbreviated scalar values_of abbreviated block_id new_width block_head end_of_block define entry describe record_after nested item_after item block top_block version offset wrapper any_bits wrapper_and_gap inner_magic top_blocks stream wrapped input outer_wrapper reading_input
+unfolding fixed vbr char6 align32 byte kind valued operand operands definition value_count unabbreviated scalar values_of abbreviated block_id new_width block_head end_of_block define by_definition entry describe record_after nested item_after item block top_block version offset wrapper any_bits wrapper_and_gap inner_magic top_blocks stream wrapped input outer_wrapper reading_input
 claims = record { values = refl; operands_in_17_chunks = refl; operands_without_end = refl }
 
 -- bits, so many times
@@ -77,5 +77,5 @@ record Bombs : Type 0 where
   uses_101 : blocks (with_values 100000) (literals_used 101) ≡ Err (at TooManyValues 9423)
 
 bombs : Bombs
-unfolding fixed vbr char6 align32 byte kind valued operand operands definition value_count unabbreviated scalar values_of abbreviated block_id new_width block_head end_of_block define entry describe record_after nested item_after item block top_block version offset wrapper any_bits wrapper_and_gap inner_magic top_blocks stream wrapped input outer_wrapper reading_input
+unfolding fixed vbr char6 align32 byte kind valued operand operands definition value_count unabbreviated scalar values_of abbreviated block_id new_width block_head end_of_block define by_definition entry describe record_after nested item_after item block top_block version offset wrapper any_bits wrapper_and_gap inner_magic top_blocks stream wrapped input outer_wrapper reading_input
 bombs = record { uses_100 = refl; uses_101 = refl }

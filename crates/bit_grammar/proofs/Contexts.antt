@@ -4,12 +4,12 @@ use Rattle.std.specs.Prelude.{if◌then◌else◌, is_some, is_none, slice_get}
 use Rattle.std.specs.List.{AllByRecursion}
 use Rattle.std.proofs.lemmas.Bool.{ltb-true, lt-ltb, eqb-true, eqb-false, ne_eqb}
 use Rattle.bit_grammar.specs.declared.op.Op.{Op}
-use Rattle.bit_grammar.specs.FormatDefinition.{Lawful}
+use Rattle.bit_grammar.specs.FormatDefinition.{Definable}
 use Rattle.bit_grammar.specs.Record.{Entry}
 use Rattle.bit_grammar.specs.Forest.{set_bid, names_block}
 use Rattle.bit_grammar.specs.Marks.{Marks, no_marks, marked_block, marked_record, marked_definition}
 use Rattle.bit_grammar.specs.Blocks.{Table, defined_at, BlockInfo, Scope, info_for, may_define, made_for, defined, describe}
-use Rattle.bit_grammar.specs.FormatBlocks.{Context, entered, made_or, table_after, HoldsLawful, Defined, Described, AreItems}
+use Rattle.bit_grammar.specs.FormatBlocks.{Context, entered, made_or, table_after, HoldsDefinable, Defined, Described, AreItems}
 use Rattle.bit_grammar.proofs.SpelledParts.{Spelled, given, judge_spelled, first_chosen, other_chosen}
 use Rattle.bit_grammar.proofs.Parts.{after_judge, is_given, chosen}
 
@@ -101,30 +101,30 @@ is_described (Some info) first e p c new same (inr h) =
     let o = only_info c new c.info h.2 in
     (o.1, subst (λ (i : Option BlockInfo). Spelled (describe (Some info) first e) p [] i) (sym (o.0 ∙ same)) (other_chosen _ (ne_eqb _ _ h.0) (judge_spelled _ _ _ (ap is_some h.1.1) given)))
 
--- ---- the definitions that hold are lawful
+-- ---- the definitions that hold can be defined
 
 abbrev HoldsLawfulInfo : Option BlockInfo → Type 0
 HoldsLawfulInfo None = Unit {0}
-HoldsLawfulInfo (Some info) = HoldsLawful info.made
+HoldsLawfulInfo (Some info) = HoldsDefinable info.made
 
 pub record LawfulContext (c : Context) : Type 0 where
-  pub definitions : AllByRecursion Lawful c.definitions
-  pub table : HoldsLawful c.table
+  pub definitions : AllByRecursion Definable c.definitions
+  pub table : HoldsDefinable c.table
   pub info : HoldsLawfulInfo c.info
 
-pub one_lawful : (definitions : List (List Op)) (i : ℕ) (ops : List Op) → AllByRecursion Lawful definitions → slice_get definitions i ≡ Some ops → Lawful ops
+pub one_lawful : (definitions : List (List Op)) (i : ℕ) (ops : List Op) → AllByRecursion Definable definitions → slice_get definitions i ≡ Some ops → Definable ops
 one_lawful [] i ops ok e = absurd cc
-one_lawful (first ∷ others) zero ops ok e = (let same : first ≡ ops = cc in subst Lawful same ok.0)
+one_lawful (first ∷ others) zero ops ok e = (let same : first ≡ ops = cc in subst Definable same ok.0)
 one_lawful (first ∷ others) (suc i) ops ok e = one_lawful others i ops ok.1 e
 
-added_lawful : (definitions : List (List Op)) (ops : List Op) → AllByRecursion Lawful definitions → Lawful ops → AllByRecursion Lawful (definitions ++ ops ∷ [])
+added_lawful : (definitions : List (List Op)) (ops : List Op) → AllByRecursion Definable definitions → Definable ops → AllByRecursion Definable (definitions ++ ops ∷ [])
 added_lawful [] ops ok lawful = (lawful, tt)
 added_lawful (first ∷ others) ops ok lawful = (ok.0, added_lawful others ops ok.1 lawful)
 
-made_lawful : (id : ℕ) (ops : List Op) (table : Table) → HoldsLawful table → Lawful ops → HoldsLawful (defined_at id ops table)
+made_lawful : (id : ℕ) (ops : List Op) (table : Table) → HoldsDefinable table → Definable ops → HoldsDefinable (defined_at id ops table)
 made_lawful id ops table ok lawful other = go (eqb other id)
   where
-    go : (b : Bool) → AllByRecursion Lawful (if b then table other ++ ops ∷ [] else table other)
+    go : (b : Bool) → AllByRecursion Definable (if b then table other ++ ops ∷ [] else table other)
     go true = added_lawful (table other) ops (ok other) lawful
     go false = ok other
 
@@ -135,17 +135,17 @@ info_lawful id = go (eqb id 0)
     go true = λ other. tt
     go false = tt
 
-pub entered_lawful : (c : Context) (id width : ℕ) → HoldsLawful c.table → LawfulContext (entered c id width)
+pub entered_lawful : (c : Context) (id width : ℕ) → HoldsDefinable c.table → LawfulContext (entered c id width)
 entered_lawful c id width ok = record { definitions = ok id; table = ok; info = info_lawful id }
 
-pub table_lawful : (c : Context) → LawfulContext c → HoldsLawful (table_after c)
+pub table_lawful : (c : Context) → LawfulContext c → HoldsDefinable (table_after c)
 table_lawful c ok = go c.info ok.info
   where
-    go : (info : Option BlockInfo) → HoldsLawfulInfo info → HoldsLawful (made_or c.table info)
+    go : (info : Option BlockInfo) → HoldsLawfulInfo info → HoldsDefinable (made_or c.table info)
     go None lawful = ok.table
     go (Some info) lawful = lawful
 
-pub defined_lawful : (info : Option BlockInfo) (ops : List Op) (c new : Context) → c.info ≡ info → Defined info ops c new → Lawful ops → LawfulContext c → LawfulContext new
+pub defined_lawful : (info : Option BlockInfo) (ops : List Op) (c new : Context) → c.info ≡ info → Defined info ops c new → Definable ops → LawfulContext c → LawfulContext new
 defined_lawful None ops c new e h lawful ok = subst LawfulContext (sym h) (record { definitions = added_lawful c.definitions ops ok.definitions lawful; table = ok.table; info = ok.info })
 defined_lawful (Some info) ops c new e h lawful ok = subst LawfulContext (sym h.2) (record { definitions = ok.definitions; table = ok.table; info = made_lawful h.0 ops info.made (subst HoldsLawfulInfo e ok.info) lawful })
 
@@ -154,10 +154,10 @@ described_lawful None e c new same h ok = subst LawfulContext (sym h) ok
 described_lawful (Some info) e c new same (inl h) ok = subst LawfulContext (sym h.4) (record { definitions = ok.definitions; table = ok.table; info = subst HoldsLawfulInfo same ok.info })
 described_lawful (Some info) e c new same (inr h) ok = subst LawfulContext (sym h.2) ok
 
--- items leave lawful definitions where they found such
+-- items leave what can be defined where they found such
 pub items_lawful : (marks : Marks) (c : Context) (p : ℕ) (s : List Bool) (left : Context) → AreItems marks c p s left → LawfulContext c → LawfulContext left
 items_lawful no_marks c p s left h ok = subst LawfulContext (sym h.1) ok
-items_lawful (marked_definition mark rest) c p s left h ok = items_lawful rest h.2 _ h.1 left h.5 (defined_lawful c.info mark.ops c h.2 refl h.4.1 h.4.0.4.lawful ok)
+items_lawful (marked_definition mark rest) c p s left h ok = items_lawful rest h.2 _ h.1 left h.5 (defined_lawful c.info mark.ops c h.2 refl h.4.1 h.4.0.4.definable ok)
 items_lawful (marked_record mark rest) c p s left h ok = items_lawful rest h.2 _ h.1 left h.5 (described_lawful c.info _ c h.2 refl h.4.1 ok)
 items_lawful (marked_block mark inner rest) c p s left h ok =
     let b = h.4 in

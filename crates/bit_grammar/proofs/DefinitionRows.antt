@@ -2,6 +2,7 @@
 use Rattle.std.proofs.Common.{ℕ, ◌≡◌, List, [], ◌∷◌, ◌++◌, drop, Result, Ok, Err, refl}
 use Rattle.bit_grammar.specs.declared.op.Op.{Op}
 use Rattle.bit_grammar.specs.declared.op.Op.TheVariants.{Literal, Fixed, Vbr, Array, Char6, Blob}
+use Rattle.bit_grammar.specs.declared.shapes.Shapes.TheVariants.{AtDefinition}
 use Rattle.bit_grammar.specs.declared.reason.Reason.TheVariants.{AbbrevEmpty, AbbrevEncoding, AbbrevShape, DirtyPadding, FieldWidth, TooManyValues}
 use Rattle.bit_grammar.specs.Bits.{bits_of_bytes}
 use Rattle.bit_grammar.specs.Grammar.{Fault, at, reading}
@@ -9,7 +10,7 @@ use Rattle.bit_grammar.specs.Fields.{fixed, vbr, char6, align32, byte}
 use Rattle.bit_grammar.specs.Definition.{kind, valued, operand, operands, definition}
 use Rattle.bit_grammar.specs.Record.{value_count, unabbreviated, scalar, values_of, abbreviated}
 use Rattle.bit_grammar.specs.Forest.{empty, a_block, a_record}
-use Rattle.bit_grammar.specs.Blocks.{block_id, new_width, block_head, end_of_block, define, entry, describe, record_after, nested, item_after, item, block, top_block}
+use Rattle.bit_grammar.specs.Blocks.{block_id, new_width, block_head, end_of_block, define, by_definition, entry, describe, record_after, nested, item_after, item, block, top_block}
 use Rattle.bit_grammar.specs.Whole.{made_by}
 use Rattle.bit_grammar.specs.Input.{version, offset, wrapper, any_bits, wrapper_and_gap, inner_magic, top_blocks, stream, wrapped, input, outer_wrapper, reading_input}
 use Rattle.bit_grammar.specs.Normal.{normal, normal_form}
@@ -29,12 +30,12 @@ record Faults : Type 0 where
   array_second_of_four : blocks usual (in_block 1 (hex "22030C00")) ≡ Err (at AbbrevShape 113)
 
 faults : Faults
-unfolding fixed vbr char6 align32 byte kind valued operand operands definition value_count unabbreviated scalar values_of abbreviated block_id new_width block_head end_of_block define entry describe record_after nested item_after item block top_block version offset wrapper any_bits wrapper_and_gap inner_magic top_blocks stream wrapped input outer_wrapper reading_input
+unfolding fixed vbr char6 align32 byte kind valued operand operands definition value_count unabbreviated scalar values_of abbreviated block_id new_width block_head end_of_block define by_definition entry describe record_after nested item_after item block top_block version offset wrapper any_bits wrapper_and_gap inner_magic top_blocks stream wrapped input outer_wrapper reading_input
 faults = record { no_operands = refl; encoding_0 = refl; fixed_33 = refl; vbr_1 = refl; array_first = refl; array_second_of_four = refl }
 
 -- the operands of the definition that stands first in the block, and the bit after them
 abbrev operands_in : List ℕ → Result (List Op × ℕ) Fault
-operands_in body = made_by (λ x. (x.0, x.1)) (reading definition 99 (drop 99 (bits_of_bytes (in_block 1 body))))
+operands_in body = made_by (λ x. (x.0, x.1)) (reading (definition AtDefinition) 99 (drop 99 (bits_of_bytes (in_block 1 body))))
 
 record OperandLists : Type 0 where
   characters : operands_in (hex "1A030C39 00FF0C00") ≡ Ok (Literal 1 ∷ Array ∷ Char6 ∷ [], 121)
@@ -58,7 +59,7 @@ record Characters : Type 0 where
   none : Accepted usual (in_block 2 (hex "1A030C09 00000000")) (a_block 8 (a_record 1 [] empty) empty) (hex "4243C0DE 21080000 01000000 07000000")
 
 characters : Characters
-unfolding fixed vbr char6 align32 byte kind valued operand operands definition value_count unabbreviated scalar values_of abbreviated block_id new_width block_head end_of_block define entry describe record_after nested item_after item block top_block version offset wrapper any_bits wrapper_and_gap inner_magic top_blocks stream wrapped input outer_wrapper reading_input normal normal_form
+unfolding fixed vbr char6 align32 byte kind valued operand operands definition value_count unabbreviated scalar values_of abbreviated block_id new_width block_head end_of_block define by_definition entry describe record_after nested item_after item block top_block version offset wrapper any_bits wrapper_and_gap inner_magic top_blocks stream wrapped input outer_wrapper reading_input normal normal_form
 characters = record { three = (refl, refl); none = (refl, refl) }
 
 record Blobs : Type 0 where
@@ -70,7 +71,7 @@ record Blobs : Type 0 where
   array_of_bytes : Accepted usual (in_block 3 (hex "1A034C10 8B30B131 B2320000")) (a_block 8 (a_record 1 (97 ∷ 98 ∷ 99 ∷ 100 ∷ 101 ∷ []) empty) empty) (hex "4243C0DE 21080000 03000000 07453888 C3389043 39000000")
 
 blobs : Blobs
-unfolding fixed vbr char6 align32 byte kind valued operand operands definition value_count unabbreviated scalar values_of abbreviated block_id new_width block_head end_of_block define entry describe record_after nested item_after item block top_block version offset wrapper any_bits wrapper_and_gap inner_magic top_blocks stream wrapped input outer_wrapper reading_input normal normal_form
+unfolding fixed vbr char6 align32 byte kind valued operand operands definition value_count unabbreviated scalar values_of abbreviated block_id new_width block_head end_of_block define by_definition entry describe record_after nested item_after item block top_block version offset wrapper any_bits wrapper_and_gap inner_magic top_blocks stream wrapped input outer_wrapper reading_input normal normal_form
 blobs = record { none = refl; one_word = refl; five_bytes = (refl, refl); one_in_padding = refl; array_of_bytes = (refl, refl) }
 
 record ZeroWidths : Type 0 where
@@ -82,5 +83,5 @@ record ZeroWidths : Type 0 where
   too_many_elements : blocks (with_values 2) (in_block 2 (hex "1A034C00 07000000")) ≡ Err (at TooManyValues 129)
 
 zero_widths : ZeroWidths
-unfolding fixed vbr char6 align32 byte kind valued operand operands definition value_count unabbreviated scalar values_of abbreviated block_id new_width block_head end_of_block define entry describe record_after nested item_after item block top_block version offset wrapper any_bits wrapper_and_gap inner_magic top_blocks stream wrapped input outer_wrapper reading_input normal normal_form
+unfolding fixed vbr char6 align32 byte kind valued operand operands definition value_count unabbreviated scalar values_of abbreviated block_id new_width block_head end_of_block define by_definition entry describe record_after nested item_after item block top_block version offset wrapper any_bits wrapper_and_gap inner_magic top_blocks stream wrapped input outer_wrapper reading_input normal normal_form
 zero_widths = record { fixed_0 = (refl, refl); vbr_0 = (refl, refl); code_in_no_bits = (refl, refl); value_in_no_bits = (refl, refl); elements_in_no_bits = (refl, refl); too_many_elements = refl }

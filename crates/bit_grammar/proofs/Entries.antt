@@ -3,13 +3,17 @@ use Rattle.std.proofs.Common.{◌≡◌, ℕ, ◌+◌, ◌-◌, ◌≤◌, Bool,
 use Rattle.std.proofs.lemmas.Bool.{ltb-true, lt-ltb, eqb-true, eqb-false, ne_eqb}
 use Rattle.std.proofs.lemmas.Option.{slice_get-get_or, get_or_from_slice_get, slice_get_within}
 use Rattle.bit_grammar.specs.declared.op.Op.{Op}
-use Rattle.bit_grammar.specs.FormatDefinition.{IsDefinition}
-use Rattle.bit_grammar.specs.Record.{Entry, abbreviated}
+use Rattle.bit_grammar.specs.declared.shapes.Shapes.{Shapes}
+use Rattle.bit_grammar.specs.FormatDefinition.{Definable, InOrder, Lawful, Passes, IsDefinition}
+use Rattle.bit_grammar.specs.Record.{Entry}
+use Rattle.bit_grammar.specs.FormatRecord.{IsAbbreviated}
 use Rattle.bit_grammar.specs.Marks.{RecordMark, DefinitionMark}
-use Rattle.bit_grammar.specs.Blocks.{Scope, defined, define, entry, record_after}
+use Rattle.bit_grammar.specs.Blocks.{Scope, defined, define, by_definition, entry, record_after}
 use Rattle.bit_grammar.specs.FormatBlocks.{Context, Defined, IsRecord, Described, entry_of}
 use Rattle.bit_grammar.proofs.SpelledParts.{Spelled, then_last, given, no_bits, here_spelled, judge_spelled, first_chosen, other_chosen}
 use Rattle.bit_grammar.proofs.Parts.{apart, from_here, after_judge, is_given, chosen, ends}
+use Rattle.bit_grammar.proofs.Definitions.{is_in_order}
+use Rattle.bit_grammar.proofs.Operands.{shape_of}
 use Rattle.bit_grammar.proofs.Spellings.{definition_is, is_definition, unabbreviated_is, is_unabbreviated, abbreviated_is, is_abbreviated}
 use Rattle.bit_grammar.proofs.Contexts.{context_of, LawfulContext, one_lawful, defined_is, is_defined, described_is, is_described}
 
@@ -20,25 +24,39 @@ pub record DefineIs (first : ℕ) (c : Context) (p : ℕ) (s : List Bool) (mark 
   pub begins : mark.first ≡ first
   pub after : mark.after ≡ p + length s
 
-pub define_is : (first width : ℕ) (scope : Scope) (p : ℕ) (s : List Bool) (v : DefinitionMark × Scope) → Spelled (define first scope) p s v → DefineIs first (context_of width scope) p s v.0 (context_of width v.1)
+pub define_is : (shapes : Shapes) (first width : ℕ) (scope : Scope) (p : ℕ) (s : List Bool) (v : DefinitionMark × Scope) → Spelled (define shapes first scope) p s v → DefineIs first (context_of width scope) p s v.0 (context_of width v.1)
 unfolding define
-define_is first width scope p s v h =
+define_is shapes first width scope p s v h =
     let j = after_judge h in
     let a = apart j.then in
     let g = is_given (from_here a.two) in
     let all = ends s a.front a.others a.parts g.0 in
     subst (λ (x : DefinitionMark × Scope). DefineIs first (context_of width scope) p s x.0 (context_of width x.1)) (sym g.1)
-    (record { spelled = subst (IsDefinition a.value) (sym all) (definition_is p a.front a.value a.one.is); defines = defined_is scope.info a.value width scope j.held; begins = refl; after = omega (arith, ap length all) })
+    (record { spelled = subst (IsDefinition a.value) (sym all) (definition_is shapes p a.front a.value a.one.is); defines = defined_is scope.info a.value width scope j.held; begins = refl; after = omega (arith, ap length all) })
 
-pub is_define : (first width : ℕ) (scope : Scope) (p : ℕ) (s : List Bool) (mark : DefinitionMark) (new : Context) → DefineIs first (context_of width scope) p s mark new → (new ≡ context_of width (defined scope.info mark.ops scope)) × Spelled (define first scope) p s (mark, defined scope.info mark.ops scope)
+pub is_define : (shapes : Shapes) (first width : ℕ) (scope : Scope) (p : ℕ) (s : List Bool) (mark : DefinitionMark) (new : Context) → Passes shapes mark.ops → DefineIs first (context_of width scope) p s mark new → (new ≡ context_of width (defined scope.info mark.ops scope)) × Spelled (define shapes first scope) p s (mark, defined scope.info mark.ops scope)
 unfolding define
-is_define first width scope p s mark new k =
+is_define shapes first width scope p s mark new passes k =
     let d = is_defined scope.info mark.ops width scope new k.defines in
-    let one : Spelled (define first scope) p s (record mark { first = first; after = p + length s }, defined scope.info mark.ops scope) = judge_spelled _ _ _ d.0 (then_last _ (record { is = is_definition p s mark.ops k.spelled }) (here_spelled _ given)) in
+    let one : Spelled (define shapes first scope) p s (record mark { first = first; after = p + length s }, defined scope.info mark.ops scope) = judge_spelled _ _ _ d.0 (then_last _ (record { is = is_definition shapes p s mark.ops k.spelled passes }) (here_spelled _ given)) in
     let same : record mark { first = first; after = p + length s } ≡ mark = ap (λ (x : ℕ). record mark { first = x; after = p + length s }) (sym k.begins) ∙ ap (λ (x : ℕ). record mark { after = x }) (sym k.after) in
-    (d.1, subst (λ (m : DefinitionMark). Spelled (define first scope) p s (m, defined scope.info mark.ops scope)) same one)
+    (d.1, subst (λ (m : DefinitionMark). Spelled (define shapes first scope) p s (m, defined scope.info mark.ops scope)) same one)
 
 -- ---- records
+
+lawful_of : (ops : List Op) → Definable ops → InOrder ops → Lawful ops
+lawful_of ops definable order = record { some = definable.some; order = order; values = definable.values }
+
+by_definition_is : (first room : ℕ) (ops : List Op) (p : ℕ) (s : List Bool) (e : Entry) → Definable ops → Spelled (by_definition first room ops) p s e → InOrder ops × IsAbbreviated ops p e s
+unfolding by_definition
+by_definition_is first room ops p s e definable h =
+    let j = after_judge h in
+    let order = is_in_order ops j.held in
+    (order, (abbreviated_is first room ops p s e (lawful_of ops definable order) j.then.is).0)
+
+is_by_definition : (first room : ℕ) (ops : List Op) (p : ℕ) (s : List Bool) (e : Entry) → Definable ops → InOrder ops → IsAbbreviated ops p e s → length e.values ≤ room → Spelled (by_definition first room ops) p s e
+unfolding by_definition
+is_by_definition first room ops p s e definable order is fits = judge_spelled _ _ _ (shape_of ops order) (record { is = is_abbreviated first room ops p s e (lawful_of ops definable order) is fits })
 
 pub entry_is : (limit first id width : ℕ) (scope : Scope) (p : ℕ) (s : List Bool) (e : Entry) → 3 ≤ id → LawfulContext (context_of width scope) → Spelled (entry limit first id scope) p s e → IsRecord (context_of width scope) id p e s
 unfolding entry
@@ -51,7 +69,8 @@ entry_is limit first id width scope p s e big ok h =
             | inl n ↦
                 let ops : List Op = get_or scope.definitions (id - 4) [] in
                 let is = slice_get-get_or scope.definitions (id - 4) [] (ltb-true _ _ n.0) in
-                inr (four, ops, is, (abbreviated_is first _ ops p s e (one_lawful scope.definitions (id - 4) ops ok.definitions is) n.1.is).0)
+                let d = by_definition_is first _ ops p s e (one_lawful scope.definitions (id - 4) ops ok.definitions is) n.1 in
+                inr (four, ops, is, d.0, d.1)
             | inr n ↦ absurd n.1.is
           ]
     ]
@@ -62,8 +81,8 @@ is_entry limit first id width scope p s e ok fits (inl k) = first_chosen _ (ap (
 is_entry limit first id width scope p s e ok fits (inr k) =
     let lawful = one_lawful scope.definitions (id - 4) k.1 ok.definitions k.2 in
     let is : get_or scope.definitions (id - 4) [] ≡ k.1 = get_or_from_slice_get scope.definitions (id - 4) k.1 [] k.2 in
-    let one : Spelled (abbreviated first (limit - scope.handed.used) k.1) p s e = record { is = is_abbreviated first (limit - scope.handed.used) k.1 p s e lawful k.3 (omega (arith, fits)) } in
-    other_chosen _ (ne_eqb _ _ (λ x. absurd (omega (arith, x, k.0)))) (first_chosen _ (lt-ltb _ _ (slice_get_within scope.definitions (id - 4) k.1 k.2)) (subst (λ (ops : List Op). Spelled (abbreviated first (limit - scope.handed.used) ops) p s e) (sym is) one))
+    let one : Spelled (by_definition first (limit - scope.handed.used) k.1) p s e = is_by_definition first (limit - scope.handed.used) k.1 p s e lawful k.3 k.4 (omega (arith, fits)) in
+    other_chosen _ (ne_eqb _ _ (λ x. absurd (omega (arith, x, k.0)))) (first_chosen _ (lt-ltb _ _ (slice_get_within scope.definitions (id - 4) k.1 k.2)) (subst (λ (ops : List Op). Spelled (by_definition first (limit - scope.handed.used) ops) p s e) (sym is) one))
 
 -- a record after its id, which began at first
 pub record NoteIs (first id : ℕ) (c : Context) (p : ℕ) (s : List Bool) (mark : RecordMark) (new : Context) : Type 0 where

@@ -3,6 +3,7 @@ use Rattle.std.proofs.Common.{◌≡◌, ℕ, zero, suc, ◌+◌, ◌-◌, ◌<�
 use Rattle.std.specs.Prelude.{if◌then◌else◌, is_some, is_none}
 use Rattle.std.specs.List.{AllByRecursion}
 use Rattle.std.proofs.lemmas.Bool.{ltb-true, eqb-false, not-true}
+use Rattle.bit_grammar.specs.declared.shapes.Shapes.{Shapes}
 use Rattle.bit_grammar.specs.declared.op.Op.{Op}
 use Rattle.bit_grammar.specs.declared.op.Op.TheVariants.{Literal, Fixed, Vbr, Array, Char6, Blob}
 use Rattle.bit_grammar.specs.declared.info.Info.TheVariants.{Keep}
@@ -13,14 +14,14 @@ use Rattle.bit_grammar.specs.FormatDefinition.{HasLawfulValue}
 use Rattle.bit_grammar.specs.Record.{Entry, unabbreviated, scalar, values_of, abbreviated}
 use Rattle.bit_grammar.specs.Forest.{Forest, empty, a_record, forest_depth, forest_values, DescribesBlocks, FitForest, AreBlocks, wrapper_magic, Fit}
 use Rattle.bit_grammar.specs.Marks.{RecordMark, DefinitionMark, Marks, no_marks, marked_block, marked_record, marked_definition, Item, record_item, definition_item, item_then, marks_of, forest_of, depth_in, values_in}
-use Rattle.bit_grammar.specs.Blocks.{Limits, Table, defined_at, BlockInfo, Handed, Scope, nothing_handed, info_for, enter, leave, made_for, defined, BlockHead, block_id, block_head, define, entry, describe, record_after, nested, item_after, item, block, top_block}
+use Rattle.bit_grammar.specs.Blocks.{Limits, Table, defined_at, BlockInfo, Handed, Scope, nothing_handed, info_for, enter, leave, made_for, defined, BlockHead, block_id, block_head, define, by_definition, entry, describe, record_after, nested, item_after, item, block, top_block}
 use Rattle.bit_grammar.specs.Whole.{Things, SpellsAll}
 use Rattle.bit_grammar.specs.Input.{Head, Marked, tree_of, is_wrapped, inner_magic, top_blocks, stream, wrapped, input, SpellsInput}
 use Rattle.bit_grammar.specs.Normal.{Capped}
 use Rattle.bit_grammar.proofs.Limits.{limits_judged}
 use Rattle.bit_grammar.proofs.Numbers.{number_below, pow_mono}
 use Rattle.bit_grammar.proofs.Fields.{sum_is, fixed_is, vbr_is, char6_is}
-use Rattle.bit_grammar.proofs.Definitions.{definition_lawful}
+use Rattle.bit_grammar.proofs.Definitions.{definition_defines}
 
 -- ---- values have 64 bits
 
@@ -174,9 +175,9 @@ nothing_fit None = tt
 nothing_fit (Some info) = tt
 
 entry_64 : (limit first id : ℕ) (scope : Scope) (p : ℕ) (s : List Bool) (e : Entry) → LawfulScope scope → Spells (entry limit first id scope) p s e → Entry64 e
-unfolding entry
+unfolding entry by_definition
 entry_64 limit first id scope p s e ok (inl k) = unabbreviated_64 _ p s e k.1
-entry_64 limit first id scope p s e ok (inr (other, inl k)) = abbreviated_64 first _ (get_or scope.definitions (id - 4) []) p s e (one_of scope.definitions (id - 4) ok.definitions) k.1
+entry_64 limit first id scope p s e ok (inr (other, inl k)) = abbreviated_64 first _ (get_or scope.definitions (id - 4) []) _ _ e (one_of scope.definitions (id - 4) ok.definitions) k.1.5
 entry_64 limit first id scope p s e ok (inr (other, inr k)) = absurd k.1
 
 by_true : (b x y : Bool) → b ≡ true → x ≡ true → (if b then x else y) ≡ true
@@ -213,25 +214,25 @@ defined_adds : (info : Option BlockInfo) (ops : List Op) (scope : Scope) → sco
 defined_adds None ops scope e mark ms fit = fit
 defined_adds (Some info) ops scope e mark ms fit = subst (λ (i : Option BlockInfo). BodyFit i (forest_of Keep ms)) (sym e) fit
 
-abbrev BlockFit : (limit depth : ℕ) → Type 0
-BlockFit limit depth = (first : ℕ) (handed : Handed) (p : ℕ) (s : List Bool) (v : Item × Handed) → IsLawfulTable handed.table → Spells (block depth limit first handed) p s v → IsLawfulTable v.1.table × Holds v.0
+abbrev BlockFit : Shapes → (limit depth : ℕ) → Type 0
+BlockFit shapes limit depth = (first : ℕ) (handed : Handed) (p : ℕ) (s : List Bool) (v : Item × Handed) → IsLawfulTable handed.table → Spells (block shapes depth limit first handed) p s v → IsLawfulTable v.1.table × Holds v.0
 
-after_fit : (limit depth : ℕ) → BlockFit limit depth → (h : BlockHead) (first : ℕ) (scope : Scope) (id p : ℕ) (s : List Bool) (x : Round Scope Item (ℕ × Handed)) → LawfulScope scope → Spells (item_after (block depth limit) h limit first scope id) p s x → RoundFit scope x
+after_fit : (shapes : Shapes) (limit depth : ℕ) → BlockFit shapes limit depth → (h : BlockHead) (first : ℕ) (scope : Scope) (id p : ℕ) (s : List Bool) (x : Round Scope Item (ℕ × Handed)) → LawfulScope scope → Spells (item_after shapes (block shapes depth limit) h limit first scope id) p s x → RoundFit scope x
 unfolding item_after nested define record_after
-after_fit limit depth inner h first scope id p s x ok (inl k) = subst (RoundFit scope) (sym k.1.5.1) (leave_lawful scope.info scope.handed ok.info ok.table)
-after_fit limit depth inner h first scope id p s x ok (inr (other, inl k)) =
+after_fit shapes limit depth inner h first scope id p s x ok (inl k) = subst (RoundFit scope) (sym k.1.5.1) (leave_lawful scope.info scope.handed ok.info ok.table)
+after_fit shapes limit depth inner h first scope id p s x ok (inr (other, inl k)) =
     let n = k.1 in
     let b = n.4.5 in
     let f = inner first scope.handed _ b.0 b.2 ok.table b.4 in
     let is = n.5.1 ∙ ap (λ (y : Item × Scope). one_more y.0 y.1) b.5.1 in
     subst (RoundFit scope) (sym is) (record { definitions = ok.definitions; info = ok.info; table = f.0 }, nested_adds scope.info b.2.0 n.4.4.1 f.1)
-after_fit limit depth inner h first scope id p s x ok (inr (other, inr (other', inl k))) =
+after_fit shapes limit depth inner h first scope id p s x ok (inr (other, inr (other', inl k))) =
     let d = k.1.4 in
     let ops = d.5.2 in
-    let lawful = (definition_lawful _ d.5.0 ops d.5.4).values in
+    let lawful = (definition_defines shapes _ d.5.0 ops d.5.4).0.values in
     let is = k.1.5.1 ∙ ap (λ (y : DefinitionMark × Scope). one_more (definition_item y.0) y.1) d.5.5.5.1 in
     subst (RoundFit scope) (sym is) (defined_lawful scope.info ops scope refl ok lawful, defined_adds scope.info ops scope refl (record { ops = ops; first = first; after = d.5.5.2 }))
-after_fit limit depth inner h first scope id p s x ok (inr (other, inr (other', inr k))) =
+after_fit shapes limit depth inner h first scope id p s x ok (inr (other, inr (other', inr k))) =
     let r = k.1 in
     let m = r.4 in
     let d = m.5.5 in
@@ -242,14 +243,14 @@ after_fit limit depth inner h first scope id p s x ok (inr (other, inr (other', 
 
 -- ---- bodies and blocks
 
-body_fit : (limit depth : ℕ) → BlockFit limit depth → (h : BlockHead) (xs : List Item) (scope : Scope) (p : ℕ) (s : List Bool) (e : ℕ × Handed) → LawfulScope scope
-    → Rounds (λ scope p s x. Spells (item (block depth limit) h limit scope) p s x) xs scope p s e → IsLawfulTable e.1.table × BodyFit scope.info (forest_of Keep (marks_of xs))
+body_fit : (shapes : Shapes) (limit depth : ℕ) → BlockFit shapes limit depth → (h : BlockHead) (xs : List Item) (scope : Scope) (p : ℕ) (s : List Bool) (e : ℕ × Handed) → LawfulScope scope
+    → Rounds (λ scope p s x. Spells (item shapes (block shapes depth limit) h limit scope) p s x) xs scope p s e → IsLawfulTable e.1.table × BodyFit scope.info (forest_of Keep (marks_of xs))
 unfolding item
-body_fit limit depth inner h [] scope p s e ok k = (after_fit limit depth inner h k.2 scope k.5.2 _ k.5.1 (last e) ok k.5.5, (tt, nothing_fit scope.info))
-body_fit limit depth inner h (x ∷ xs) scope p s e ok k =
+body_fit shapes limit depth inner h [] scope p s e ok k = (after_fit shapes limit depth inner h k.2 scope k.5.2 _ k.5.1 (last e) ok k.5.5, (tt, nothing_fit scope.info))
+body_fit shapes limit depth inner h (x ∷ xs) scope p s e ok k =
     let i = k.5 in
-    let f = after_fit limit depth inner h i.2 scope i.5.2 _ i.5.1 (one_more x k.2) ok i.5.5 in
-    let g = body_fit limit depth inner h xs k.2 (p + length k.0) k.1 e f.0 k.6 in
+    let f = after_fit shapes limit depth inner h i.2 scope i.5.2 _ i.5.1 (one_more x k.2) ok i.5.5 in
+    let g = body_fit shapes limit depth inner h xs k.2 (p + length k.0) k.1 e f.0 k.6 in
     (g.0, f.1 (marks_of xs) g.1)
 
 id_below : (p : ℕ) (s : List Bool) (id : ℕ) → Spells block_id p s id → id < 2 ^ 32
@@ -260,12 +261,12 @@ head_below : (p : ℕ) (s : List Bool) (h : BlockHead) → Spells block_head p s
 unfolding block_head
 head_below p s h k = subst (λ (n : ℕ). n < 2 ^ 32) (sym (ap (λ (x : BlockHead). x.id) k.5.5.5.5.5.5.1)) (id_below _ k.0 k.2 k.4)
 
-pub block_fit : (limit depth : ℕ) → BlockFit limit depth
+pub block_fit : (shapes : Shapes) (limit depth : ℕ) → BlockFit shapes limit depth
 unfolding block
-block_fit limit zero first handed p s v ok k = absurd k
-block_fit limit (suc depth) first handed p s v ok k =
+block_fit shapes limit zero first handed p s v ok k = absurd k
+block_fit shapes limit (suc depth) first handed p s v ok k =
     let m = k.5 in
-    let g = body_fit limit depth (block_fit limit depth) k.2 m.2.0 (enter k.2.id handed) _ m.0 m.2.1 (record { definitions = ok k.2.id; info = info_lawful k.2.id; table = ok }) m.4 in
+    let g = body_fit shapes limit depth (block_fit shapes limit depth) k.2 m.2.0 (enter k.2.id handed) _ m.0 m.2.1 (record { definitions = ok k.2.id; info = info_lawful k.2.id; table = ok }) m.4 in
     let inner = forest_of Keep (marks_of m.2.0) in
     let below = head_below _ k.0 k.2 k.4 in
     subst (λ (w : Item × Handed). IsLawfulTable w.1.table × Holds w.0) (sym m.5.1)
@@ -279,7 +280,7 @@ unfolding top_block
 things_fit limits [] handed p r after ok k = (tt, tt)
 things_fit limits (x ∷ xs) handed p r after ok k =
     let j = k.5.5.5 in
-    let f = block_fit limits.values limits.depth k.5.2 handed _ j.1 (x, k.2) ok j.5 in
+    let f = block_fit limits.shapes limits.values limits.depth k.5.2 handed _ j.1 (x, k.2) ok j.5 in
     let g = things_fit limits xs k.2 (p + length k.0) k.1 after f.0 k.6 in
     let holds = f.1 (marks_of xs) in
     (holds.0 g.0, holds.1 g.1)

@@ -1,6 +1,7 @@
 -- A normal form and its tree, without limits.
 use Rattle.std.proofs.Common.{◌≡◌, ℕ, ◌+◌, ◌*◌, ◌<◌, ◌≤◌, List, [], ◌∷◌, length, sym, ap, ◌∙◌, arith}
 use Rattle.std.specs.List.{All}
+use Rattle.bit_grammar.specs.declared.shapes.Shapes.TheVariants.{AtDefinition}
 use Rattle.bit_grammar.specs.declared.info.Info.{Info}
 use Rattle.bit_grammar.specs.declared.info.Info.TheVariants.{Keep}
 use Rattle.bit_grammar.specs.Bits.{bits_of_bytes}
@@ -35,7 +36,7 @@ items_take (a_record code values rest) p = omega (arith, values_take values, ite
 
 -- limits that each tree keeps to whose normal form fits
 abbrev widest : Limits
-widest = record { bytes = 17179869180; depth = 255; values = 8 * 17179869180 }
+widest = record { bytes = 17179869180; depth = 255; values = 8 * 17179869180; shapes = AtDefinition }
 
 form_has : (tree : Tree) (bytes : List ℕ) → Fit tree → bits_of_bytes bytes ≡ normal_form tree → length bytes ≤ 17179869180 → HasTree Keep widest bytes tree
 form_has tree bytes fit is fits =

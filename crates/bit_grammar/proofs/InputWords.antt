@@ -8,6 +8,7 @@ use Rattle.bit_grammar.specs.FormatFields.{IsFixed}
 use Rattle.bit_grammar.specs.Forest.{wrapper_magic}
 use Rattle.bit_grammar.specs.Marks.{Marks, depth_in, values_in}
 use Rattle.bit_grammar.specs.Blocks.{no_definitions, Limits}
+use Rattle.bit_grammar.specs.FormatBlocks.{PassIn}
 use Rattle.bit_grammar.specs.Whole.{SpellsAll}
 use Rattle.bit_grammar.specs.Input.{Wrapper, version, offset, wrapper, any_bits, wrapper_and_gap, is_wrapped, inner_magic, Head, Marked, stream, wrapped, input, SpellsInput}
 use Rattle.bit_grammar.specs.FormatInput.{IsStream, IsWrapped, InputBy, IsInput}
@@ -204,10 +205,10 @@ wrapped_is limits p front others s m parts is place k =
     } in
     subst (λ (h : Head). InputBy h.wrapper (record m { head = h }) s) (sym t.begins) (whole, omega (arith, made.1, i.3))
 
-is_wrapped_input : (limits : Limits) (w : Wrapper) (s : List Bool) (m : Marked) (k : IsWrapped w m.head.magic m.blocks s) → m.head.wrapper ≡ Some w → m.after ≡ 8 * (w.offset + w.size) → depth_in m.blocks ≤ limits.depth → values_in m.blocks ≤ limits.values
+is_wrapped_input : (limits : Limits) (w : Wrapper) (s : List Bool) (m : Marked) (k : IsWrapped w m.head.magic m.blocks s) → m.head.wrapper ≡ Some w → m.after ≡ 8 * (w.offset + w.size) → depth_in m.blocks ≤ limits.depth → values_in m.blocks ≤ limits.values → PassIn limits.shapes m.blocks
     → SpellsAll (wrapped limits) 32 ((k.version ++ (k.offset ++ (k.size ++ k.cpu))) ++ (k.gap ++ (k.stream ++ k.tail))) m
 unfolding wrapped
-is_wrapped_input limits w s m k by end deep fits =
+is_wrapped_input limits w s m k by end deep fits passes =
     let header : List Bool = k.version ++ (k.offset ++ (k.size ++ k.cpu)) in
     let f : FieldsAre w header = record { version = k.version; offset = k.offset; size = k.size; cpu = k.cpu; parts = refl; is_version = k.is_version; is_offset = k.is_offset; offset_lawful = k.offset_lawful; is_size = k.is_size; is_cpu = k.is_cpu } in
     let gap = is_gap 32 (header ++ k.gap) w (record { header = header; gap = k.gap; parts = refl; fields = f; fills = omega (arith, k.gap_fills) }) in
@@ -215,7 +216,7 @@ is_wrapped_input limits w s m k by end deep fits =
     let t = k.is_stream in
     let blocks = blocks_made (8 * w.offset) (32 + length (header ++ k.gap) + length t.front) m.head.magic m.blocks k.stream m.after t (omega (arith, at_stream, t.is_magic.length)) (omega (arith, end, k.stream_fills)) in
     let head : record { magic = m.head.magic; wrapper = Some w } ≡ m.head = ap (λ (x : Option Wrapper). record { magic = m.head.magic; wrapper = x }) (sym by) in
-    let spelled = stream_spelled limits _ t.rest m deep fits blocks in
+    let spelled = stream_spelled limits _ t.rest m deep fits passes blocks in
     let spelled' = subst (λ (h : Head). SpellsAll (stream limits h) (32 + length (header ++ k.gap) + length t.front) t.rest m) (sym head) spelled in (
       header ++ k.gap,
       k.stream ++ k.tail,
@@ -239,29 +240,29 @@ input_is limits s m (front, others, magic, parts, spelled, inr k) =
     let made = stream_made 0 _ magic m.blocks front others s m.after parts is (is_bare magic k.0) (omega (arith, is.length)) t.blocks in
     subst (λ (h : Head). InputBy h.wrapper (record m { head = h }) s) (sym t.begins) (made.0, omega (arith, made.1))
 
-is_input : (limits : Limits) (o : Option Wrapper) (s : List Bool) (m : Marked) → m.head.wrapper ≡ o → InputBy o m s → depth_in m.blocks ≤ limits.depth → values_in m.blocks ≤ limits.values → SpellsAll (input limits) 0 s m
+is_input : (limits : Limits) (o : Option Wrapper) (s : List Bool) (m : Marked) → m.head.wrapper ≡ o → InputBy o m s → depth_in m.blocks ≤ limits.depth → values_in m.blocks ≤ limits.values → PassIn limits.shapes m.blocks → SpellsAll (input limits) 0 s m
 unfolding input
-is_input limits None s m by k deep fits =
+is_input limits None s m by k deep fits passes =
     let t = k.0 in
     let blocks = blocks_made 0 (0 + length t.front) m.head.magic m.blocks s m.after t (omega (arith, t.is_magic.length)) (omega (arith, k.1)) in
     let head : record { magic = m.head.magic; wrapper = None } ≡ m.head = ap (λ (x : Option Wrapper). record { magic = m.head.magic; wrapper = x }) (sym by) in
-    let spelled = subst (λ (h : Head). SpellsAll (stream limits h) (0 + length t.front) t.rest m) (sym head) (stream_spelled limits _ t.rest m deep fits blocks) in
+    let spelled = subst (λ (h : Head). SpellsAll (stream limits h) (0 + length t.front) t.rest m) (sym head) (stream_spelled limits _ t.rest m deep fits passes blocks) in
     (t.front, t.rest, m.head.magic, t.parts, is_fixed 32 0 t.front m.head.magic t.is_magic, inr (not_wrapped m.head.magic t.bare, spelled))
-is_input limits (Some w) s m by k deep fits =
+is_input limits (Some w) s m by k deep fits passes =
     let t = k.0 in
     let header : List Bool = t.version ++ (t.offset ++ (t.size ++ t.cpu)) in
     let others : List Bool = t.gap ++ (t.stream ++ t.tail) in
     let place : 32 ≡ 0 + length t.front = omega (arith, t.is_magic.length) in
-    let spelled = subst (λ (q : ℕ). SpellsAll (wrapped limits) q (header ++ others) m) place (is_wrapped_input limits w s m t by k.1 deep fits) in
+    let spelled = subst (λ (q : ℕ). SpellsAll (wrapped limits) q (header ++ others) m) place (is_wrapped_input limits w s m t by k.1 deep fits passes) in
     (t.front, header ++ others, wrapper_magic, t.parts ∙ append_assoc t.front header others, is_fixed 32 0 t.front wrapper_magic t.is_magic, inl (refl, spelled))
 
-pub input_agrees : (limits : Limits) (bytes : List ℕ) (m : Marked) → (SpellsInput limits bytes m ↔ (IsInput m (bits_of_bytes bytes) × (length bytes ≤ limits.bytes) × (depth_in m.blocks ≤ limits.depth) × (values_in m.blocks ≤ limits.values)))
+pub input_agrees : (limits : Limits) (bytes : List ℕ) (m : Marked) → (SpellsInput limits bytes m ↔ (IsInput m (bits_of_bytes bytes) × (length bytes ≤ limits.bytes) × (depth_in m.blocks ≤ limits.depth) × (values_in m.blocks ≤ limits.values) × PassIn limits.shapes m.blocks))
 input_agrees limits bytes m = (there, back)
   where
-    there : SpellsInput limits bytes m → IsInput m (bits_of_bytes bytes) × (length bytes ≤ limits.bytes) × (depth_in m.blocks ≤ limits.depth) × (values_in m.blocks ≤ limits.values)
+    there : SpellsInput limits bytes m → IsInput m (bits_of_bytes bytes) × (length bytes ≤ limits.bytes) × (depth_in m.blocks ≤ limits.depth) × (values_in m.blocks ≤ limits.values) × PassIn limits.shapes m.blocks
     there k =
         let kept = (limits_judged limits limits bytes m k).0 k in
-        (input_is limits (bits_of_bytes bytes) m k.spelled, kept.0, kept.1, kept.2)
+        (input_is limits (bits_of_bytes bytes) m k.spelled, kept.0, kept.1, kept.2, kept.3)
 
-    back : IsInput m (bits_of_bytes bytes) × (length bytes ≤ limits.bytes) × (depth_in m.blocks ≤ limits.depth) × (values_in m.blocks ≤ limits.values) → SpellsInput limits bytes m
-    back k = record { fits = k.1; spelled = is_input limits m.head.wrapper (bits_of_bytes bytes) m refl k.0 k.2 k.3 }
+    back : IsInput m (bits_of_bytes bytes) × (length bytes ≤ limits.bytes) × (depth_in m.blocks ≤ limits.depth) × (values_in m.blocks ≤ limits.values) × PassIn limits.shapes m.blocks → SpellsInput limits bytes m
+    back k = record { fits = k.1; spelled = is_input limits m.head.wrapper (bits_of_bytes bytes) m refl k.0 k.2 k.3 k.4 }

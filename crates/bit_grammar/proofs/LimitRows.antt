@@ -7,7 +7,7 @@ use Rattle.bit_grammar.specs.Fields.{fixed, vbr, char6, align32, byte}
 use Rattle.bit_grammar.specs.Definition.{kind, valued, operand, operands, definition}
 use Rattle.bit_grammar.specs.Record.{value_count, unabbreviated, scalar, values_of, abbreviated}
 use Rattle.bit_grammar.specs.Forest.{Forest, empty, a_block, a_record}
-use Rattle.bit_grammar.specs.Blocks.{block_id, new_width, block_head, end_of_block, define, entry, describe, record_after, nested, item_after, item, block, top_block}
+use Rattle.bit_grammar.specs.Blocks.{block_id, new_width, block_head, end_of_block, define, by_definition, entry, describe, record_after, nested, item_after, item, block, top_block}
 use Rattle.bit_grammar.specs.Whole.{made_by}
 use Rattle.bit_grammar.specs.Input.{version, offset, wrapper, any_bits, wrapper_and_gap, inner_magic, top_blocks, stream, wrapped, input, outer_wrapper, reading_input}
 use Rattle.bit_grammar.specs.Normal.{normal, normal_form}
@@ -54,7 +54,7 @@ record Values : Type 0 where
   three_of_a_cut_array : blocks (with_values 3) (take 17 characters) ≡ Err (at Truncated 136)
 
 values : Values
-unfolding fixed vbr char6 align32 byte kind valued operand operands definition value_count unabbreviated scalar values_of abbreviated block_id new_width block_head end_of_block define entry describe record_after nested item_after item block top_block version offset wrapper any_bits wrapper_and_gap inner_magic top_blocks stream wrapped input outer_wrapper reading_input normal normal_form
+unfolding fixed vbr char6 align32 byte kind valued operand operands definition value_count unabbreviated scalar values_of abbreviated block_id new_width block_head end_of_block define by_definition entry describe record_after nested item_after item block top_block version offset wrapper any_bits wrapper_and_gap inner_magic top_blocks stream wrapped input outer_wrapper reading_input normal normal_form
 values = record { fourteen = (refl, refl); thirteen = refl; none_of_one = refl; two_of_three = refl; one_of_two = refl; two_of_two = refl; two_of_a_cut_array = refl; three_of_a_cut_array = refl }
 
 record BytesAndDepth : Type 0 where
@@ -71,5 +71,5 @@ record BytesAndDepth : Type 0 where
   no_depth : blocks (with_depth 0) one_value ≡ Err (at TooDeep 32)
 
 bytes_and_depth : BytesAndDepth
-unfolding fixed vbr char6 align32 byte kind valued operand operands definition value_count unabbreviated scalar values_of abbreviated block_id new_width block_head end_of_block define entry describe record_after nested item_after item block top_block version offset wrapper any_bits wrapper_and_gap inner_magic top_blocks stream wrapped input outer_wrapper reading_input normal normal_form
+unfolding fixed vbr char6 align32 byte kind valued operand operands definition value_count unabbreviated scalar values_of abbreviated block_id new_width block_head end_of_block define by_definition entry describe record_after nested item_after item block top_block version offset wrapper any_bits wrapper_and_gap inner_magic top_blocks stream wrapped input outer_wrapper reading_input normal normal_form
 bytes_and_depth = record { form_too_long = (refl, refl); length_of_form = refl; length_of_one_value = refl; bytes_16 = refl; bytes_15 = refl; bytes_before_newlines = refl; first_newline_seen = refl; no_depth = refl }

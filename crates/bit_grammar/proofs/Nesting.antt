@@ -1,13 +1,14 @@
 -- What the events of a stream keep to: blocks in one another within the limit, and values within the limit.
-use Rattle.std.proofs.Common.{◌≡◌, ℕ, suc, ◌+◌, ◌-◌, ◌<◌, ◌≤◌, Bool, List, [], ◌∷◌, length, refl, sym, ap, subst, ◌∙◌, arith, inl, inr}
+use Rattle.std.proofs.Common.{◌≡◌, ℕ, suc, ◌+◌, ◌-◌, ◌<◌, ◌≤◌, Bool, List, [], ◌∷◌, length, refl, sym, ap, subst, arith, inl, inr}
 use Rattle.std.proofs.lemmas.Bool.{ltb-true}
 use Rattle.bit_grammar.specs.Grammar.{Spells}
-use Rattle.bit_grammar.specs.Marks.{RecordMark, DefinitionMark, Marks, no_marks, marked_block, marked_record, marked_definition, depth_in, values_in}
+use Rattle.bit_grammar.specs.Marks.{RecordMark, Marks, no_marks, marked_block, marked_record, marked_definition, depth_in, values_in}
 use Rattle.bit_grammar.specs.FormatInput.{AreMarkedBlocks}
-use Rattle.bit_grammar.specs.Blocks.{Limits, Handed, Scope, BlockHead, define, record_after}
+use Rattle.bit_grammar.specs.Blocks.{Limits, Handed, Scope, BlockHead, record_after}
 use Rattle.bit_grammar.specs.Machine.{Event, enters, defines, notes, leaves, flat, Frame, Machine, at_start, frame_of, scope_of, open_block, open_nested, step_after, step_in, step_top, step_of, step, Ending, accepted, broke}
 use Rattle.bit_grammar.specs.Steps.{Steps, Leads, open_after, MayStand, IsNested, EndsNested, values_told, all_values_told}
-use Rattle.bit_grammar.proofs.Limits.{entry_fitted, leave_used, defined_used}
+use Rattle.bit_grammar.proofs.Limits.{leave_used, defines_used}
+use Rattle.bit_grammar.proofs.Rooms.{entry_fitted}
 
 -- What a step from so many open blocks and so many values used keeps to: its event may stand there, a frame stands for
 -- each open block, and the values used are those of records.
@@ -24,13 +25,13 @@ open_kept limits frames first handed p s v k =
     subst (StepKept limits (length frames) handed.used) (sym k.5.5.1) (record { may = fits; frames = refl; values = omega arith; within = λ few. few })
 
 after_kept : (limits : Limits) (h : BlockHead) (frames : List Frame) (first : ℕ) (scope : Scope) (id p : ℕ) (s : List Bool) (v : Event × Machine) → Spells (step_after limits h frames first scope id) p s v → StepKept limits (suc (length frames)) scope.handed.used v
-unfolding step_after open_nested define record_after
+unfolding step_after open_nested record_after
 after_kept limits h frames first scope id p s v (inl k) =
     let used = leave_used scope.info scope.handed in
     subst (StepKept limits (suc (length frames)) scope.handed.used) (sym k.1.5.1) (record { may = omega arith; frames = omega arith; values = omega (arith, used); within = λ few. omega (arith, used, few) })
 after_kept limits h frames first scope id p s v (inr (e, inl k)) = open_kept limits (frame_of h scope ∷ frames) first scope.handed _ k.1.1 v k.1.5
 after_kept limits h frames first scope id p s v (inr (e, inr (e', inl k))) =
-    let used = ap (λ (y : DefinitionMark × Scope). y.1.handed.used) k.1.4.5.5.5.1 ∙ defined_used scope.info _ scope in
+    let used = defines_used limits.shapes first scope _ k.1.0 k.1.2 k.1.4 in
     subst (StepKept limits (suc (length frames)) scope.handed.used) (sym k.1.5.1) (record { may = omega arith; frames = refl; values = omega (arith, used); within = λ few. omega (arith, used, few) })
 after_kept limits h frames first scope id p s v (inr (e, inr (e', inr k))) =
     let r = k.1 in

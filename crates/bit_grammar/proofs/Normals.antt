@@ -3,6 +3,7 @@ use Rattle.std.proofs.Common.{◌≡◌, ℕ, zero, suc, ◌+◌, ◌*◌, ◌/�
 use Rattle.std.specs.Prelude.{if◌then◌else◌, is_some}
 use Rattle.std.proofs.lemmas.Bool.Decides.{nat_tests}
 use Rattle.std.proofs.lemmas.List.{length-append}
+use Rattle.bit_grammar.specs.declared.shapes.Shapes.{Shapes}
 use Rattle.bit_grammar.specs.declared.info.Info.TheVariants.{Keep}
 use Rattle.bit_grammar.specs.declared.reason.Reason.TheVariants.{Truncated}
 use Rattle.bit_grammar.specs.Bits.{bits_of, bits_of_bytes}
@@ -37,38 +38,38 @@ info_of described = record { described = described; made = no_definitions }
 abbrev describing : Option ℕ → ℕ → Scope
 describing described used = record { definitions = []; info = Some (info_of described); handed = handed_of used }
 
-abbrev ItemSpells : (limit depth : ℕ) → BlockHead → Scope → ℕ → List Bool → Round Scope Item (ℕ × Handed) → Type 0
-ItemSpells limit depth h scope p s x = Spells (item (block depth limit) h limit scope) p s x
+abbrev ItemSpells : Shapes → (limit depth : ℕ) → BlockHead → Scope → ℕ → List Bool → Round Scope Item (ℕ × Handed) → Type 0
+ItemSpells shapes limit depth h scope p s x = Spells (item shapes (block shapes depth limit) h limit scope) p s x
 
-abbrev Body : (limit depth : ℕ) → BlockHead → List Item → Scope → ℕ → List Bool → ℕ × Handed → Type 0
-Body limit depth h xs scope p s e = Rounds (ItemSpells limit depth h) xs scope p s e
+abbrev Body : Shapes → (limit depth : ℕ) → BlockHead → List Item → Scope → ℕ → List Bool → ℕ × Handed → Type 0
+Body shapes limit depth h xs scope p s e = Rounds (ItemSpells shapes limit depth h) xs scope p s e
 
 -- marked items with this tree, which its normal form spells in a body at this position, and the scope that they leave
-record Made (limit depth : ℕ) (h : BlockHead) (before : Scope) (total : ℕ) (forest : Forest) (p : ℕ) : Type 0 where
+record Made (shapes : Shapes) (limit depth : ℕ) (h : BlockHead) (before : Scope) (total : ℕ) (forest : Forest) (p : ℕ) : Type 0 where
   items : List Item
   after : Scope
   left : leave after.info after.handed ≡ handed_of total
   tree : forest_of Keep (marks_of items) ≡ forest
-  spelled : (e : ℕ × Handed) (tail : List Bool) → ItemSpells limit depth h after (p + length (normal forest p)) tail (last e) → Body limit depth h items before p (normal forest p ++ tail) e
+  spelled : (e : ℕ × Handed) (tail : List Bool) → ItemSpells shapes limit depth h after (p + length (normal forest p)) tail (last e) → Body shapes limit depth h items before p (normal forest p ++ tail) e
 
 -- no items
-none_made : (limit depth : ℕ) (h : BlockHead) (scope : Scope) (total p : ℕ) → leave scope.info scope.handed ≡ handed_of total → Made limit depth h scope total empty p
+none_made : (shapes : Shapes) (limit depth : ℕ) (h : BlockHead) (scope : Scope) (total p : ℕ) → leave scope.info scope.handed ≡ handed_of total → Made shapes limit depth h scope total empty p
 unfolding normal
-none_made limit depth h scope total p left = record {
+none_made shapes limit depth h scope total p left = record {
   items = [];
   after = scope;
   left = left;
   tree = refl;
-  spelled = λ e tail ended. subst (λ (q : ℕ). ItemSpells limit depth h scope q tail (last e)) (omega arith) ended;
+  spelled = λ e tail ended. subst (λ (q : ℕ). ItemSpells shapes limit depth h scope q tail (last e)) (omega arith) ended;
 }
 
 -- an item, and those after it
-step_made : (limit depth : ℕ) (h : BlockHead) (before between : Scope) (total : ℕ) (x : Item) (front : Text) (whole rest : Forest) (p : ℕ) → 1 ≤ h.width
+step_made : (shapes : Shapes) (limit depth : ℕ) (h : BlockHead) (before between : Scope) (total : ℕ) (x : Item) (front : Text) (whole rest : Forest) (p : ℕ) → 1 ≤ h.width
     → normal whole p ≡ chain front (normal rest) p
     → ((ms : Marks) → forest_of Keep ms ≡ rest → forest_of Keep (item_then x ms) ≡ whole)
-    → Spelled (item (block depth limit) h limit before) p (front p) (one_more x between)
-    → Made limit depth h between total rest (p + length (front p)) → Made limit depth h before total whole p
-step_made limit depth h before between total x front whole rest p wide is tree spelled made = record {
+    → Spelled (item shapes (block shapes depth limit) h limit before) p (front p) (one_more x between)
+    → Made shapes limit depth h between total rest (p + length (front p)) → Made shapes limit depth h before total whole p
+step_made shapes limit depth h before between total x front whole rest p wide is tree spelled made = record {
   items = x ∷ made.items;
   after = made.after;
   left = made.left;
@@ -77,8 +78,8 @@ step_made limit depth h before between total x front whole rest p wide is tree s
       let others = normal rest (p + length (front p)) in
       let len : length (normal whole p) ≡ length (front p) + length others = ap length is ∙ length-append (front p) others in
       let place : p + length (normal whole p) ≡ (p + length (front p)) + length others = omega (arith, len) in
-      let there = subst (λ (q : ℕ). ItemSpells limit depth h made.after q tail (last e)) place ended in
-      let some : 0 < length (front p) = omega (arith, wide, item_takes (block depth limit) h limit before p (front p) (one_more x between) spelled.is) in
+      let there = subst (λ (q : ℕ). ItemSpells shapes limit depth h made.after q tail (last e)) place ended in
+      let some : 0 < length (front p) = omega (arith, wide, item_takes shapes (block shapes depth limit) h limit before p (front p) (one_more x between) spelled.is) in
       (front p, others ++ tail, between, ap (λ (s : List Bool). s ++ tail) is ∙ append_assoc (front p) others tail, some, spelled.is, made.spelled e tail there);
 }
 
@@ -104,21 +105,21 @@ still_described described code values ok = go (eqb code 1) ok
     go true ok = refl
     go false ok = ok
 
-info_made : (limit depth : ℕ) (forest : Forest) (h : BlockHead) (described : Option ℕ) (used p : ℕ) → h.width ≡ 2 → DescribesBlocks (is_some described) forest → FitForest forest → used + forest_values forest ≤ limit → limit < 2 ^ 64
-    → Made limit depth h (describing described used) (used + forest_values forest) forest p
+info_made : (shapes : Shapes) (limit depth : ℕ) (forest : Forest) (h : BlockHead) (described : Option ℕ) (used p : ℕ) → h.width ≡ 2 → DescribesBlocks (is_some described) forest → FitForest forest → used + forest_values forest ≤ limit → limit < 2 ^ 64
+    → Made shapes limit depth h (describing described used) (used + forest_values forest) forest p
 unfolding normal
-info_made limit depth empty h described used p wide ok fits room capped = none_made limit depth h (describing described used) (used + 0) p (ap handed_of (omega arith))
-info_made limit depth (a_block id inner rest) h described used p wide ok fits room capped = absurd ok
-info_made limit depth (a_record code values rest) h described used p wide ok fits room capped =
+info_made shapes limit depth empty h described used p wide ok fits room capped = none_made shapes limit depth h (describing described used) (used + 0) p (ap handed_of (omega arith))
+info_made shapes limit depth (a_block id inner rest) h described used p wide ok fits room capped = absurd ok
+info_made shapes limit depth (a_record code values rest) h described used p wide ok fits room capped =
     let front = chain (put (bits_of 2 3)) (put (entry_text code values)) in
     let now = described_after described code values in
     let more = subst (λ (b : Bool). DescribesBlocks b rest) (sym (still_described described code values ok.0)) ok.1 in
     let sum : (used + length values) + forest_values rest ≡ used + (length values + forest_values rest) = omega arith in
-    let others = info_made limit depth rest h now (used + length values) (p + length (front p)) wide more fits.2 (omega (arith, room)) capped in
+    let others = info_made shapes limit depth rest h now (used + length values) (p + length (front p)) wide more fits.2 (omega (arith, room)) capped in
     let x = record_item (record { abbreviation = 3; code = code; values = values; first = p; after = p + length (bits_of 2 3) + length (entry_text code values) }) in
-    step_made limit depth h (describing described used) (describing now (used + length values)) (used + (length values + forest_values rest)) x front (a_record code values rest) rest p (omega (arith, wide)) refl (λ ms e. ap (a_record code values) e)
-    (record_spelled (block depth limit) h limit (describing described used) (Some (info_of now)) code values p wide fits.0 fits.1 (omega (arith, room)) capped (λ q. describe_spelled described code values p q ok.0))
-    (subst (λ (total : ℕ). Made limit depth h (describing now (used + length values)) total rest (p + length (front p))) sum others)
+    step_made shapes limit depth h (describing described used) (describing now (used + length values)) (used + (length values + forest_values rest)) x front (a_record code values rest) rest p (omega (arith, wide)) refl (λ ms e. ap (a_record code values) e)
+    (record_spelled shapes (block shapes depth limit) h limit (describing described used) (Some (info_of now)) code values p wide fits.0 fits.1 (omega (arith, room)) capped (λ q. describe_spelled described code values p q ok.0))
+    (subst (λ (total : ℕ). Made shapes limit depth h (describing now (used + length values)) total rest (p + length (front p))) sum others)
 
 -- ---- blocks
 
@@ -137,18 +138,18 @@ abbrev body_of : Forest → Text
 body_of inner = chain (normal inner) end_text
 
 -- a marked block with this id and these items, which its normal form spells after the abbreviation id
-record BlockMade (limit depth first used id : ℕ) (inner : Forest) (q : ℕ) : Type 0 where
+record BlockMade (shapes : Shapes) (limit depth first used id : ℕ) (inner : Forest) (q : ℕ) : Type 0 where
   mark : BlockMark
   marks : Marks
   same : mark.id ≡ id
   tree : forest_of Keep marks ≡ inner
-  spelled : Spelled (block depth limit first (handed_of used)) q (block_text id (body_of inner) q) (block_item mark marks, handed_of (used + forest_values inner))
+  spelled : Spelled (block shapes depth limit first (handed_of used)) q (block_text id (body_of inner) q) (block_item mark marks, handed_of (used + forest_values inner))
 
-block_made : (limit depth first used id : ℕ) (inner : Forest) (q : ℕ) → id < 2 ^ 32 → length (block_text id (body_of inner) q) < 2 ^ 37
-    → ((h : BlockHead) (at_body : ℕ) → h.width ≡ 2 → length (normal inner at_body) < 2 ^ 37 → Made limit depth h (enter id (handed_of used)) (used + forest_values inner) inner at_body)
-    → BlockMade limit (suc depth) first used id inner q
+block_made : (shapes : Shapes) (limit depth first used id : ℕ) (inner : Forest) (q : ℕ) → id < 2 ^ 32 → length (block_text id (body_of inner) q) < 2 ^ 37
+    → ((h : BlockHead) (at_body : ℕ) → h.width ≡ 2 → length (normal inner at_body) < 2 ^ 37 → Made shapes limit depth h (enter id (handed_of used)) (used + forest_values inner) inner at_body)
+    → BlockMade shapes limit (suc depth) first used id inner q
 unfolding block
-block_made limit depth first used id inner q small fits made_inner =
+block_made shapes limit depth first used id inner q small fits made_inner =
     let at_body = q + length (head_text id 0 q) in
     let body = body_of inner at_body in
     let n = length body / 32 in
@@ -164,10 +165,10 @@ block_made limit depth first used id inner q small fits made_inner =
     let end_is : length (end_text p) ≡ length (bits_of 2 0) + length (padding (p + length (bits_of 2 0))) = length-append (bits_of 2 0) (padding (p + length (bits_of 2 0))) in
     let words : 32 * n ≡ length body = in_words at_body (length body) aligned.0 ended_at.0 n aligned.1 (omega (arith, whole, end_is, ended_at.1)) refl in
     let place = body_place id n q in
-    let ended = last_spelled (block depth limit) h limit made.after p refl (omega (arith, place, words, whole)) end (omega (arith, whole)) in
-    let ended' : Spelled (item (block depth limit) h limit made.after) p (end_text p) (last (end, handed_of total)) = subst (λ (handed : Handed). Spelled (item (block depth limit) h limit made.after) p (end_text p) (last (end, handed))) made.left ended in
+    let ended = last_spelled shapes (block shapes depth limit) h limit made.after p refl (omega (arith, place, words, whole)) end (omega (arith, whole)) in
+    let ended' : Spelled (item shapes (block shapes depth limit) h limit made.after) p (end_text p) (last (end, handed_of total)) = subst (λ (handed : Handed). Spelled (item shapes (block shapes depth limit) h limit made.after) p (end_text p) (last (end, handed))) made.left ended in
     let inside = made.spelled (end, handed_of total) (end_text p) ended'.is in
-    let spelled : Spelled (rounds (at Truncated h.body) (item (block depth limit) h limit) (enter id (handed_of used))) at_body body (made.items, (end, handed_of total)) = record { is = inside } in
+    let spelled : Spelled (rounds (at Truncated h.body) (item shapes (block shapes depth limit) h limit) (enter id (handed_of used))) at_body body (made.items, (end, handed_of total)) = record { is = inside } in
     let at-is : at_body ≡ q + length (head_text id n q) = ap (λ (k : ℕ). q + k) (sym (head_length id n q)) in
     record {
       mark = record { id = id; width = 2; first = first; body = h.body; after = end };
@@ -184,25 +185,25 @@ entered (suc id) used some =
     rw no_info refl
 
 -- what a block holds, by its id
-inner_made : (limit depth id : ℕ) (inner : Forest) (h : BlockHead) (used q : ℕ) → h.width ≡ 2 → (id ≡ 0 → DescribesBlocks false inner) → FitForest inner → used + forest_values inner ≤ limit → limit < 2 ^ 64
-    → Made limit depth h (plain used) (used + forest_values inner) inner q → Made limit depth h (enter id (handed_of used)) (used + forest_values inner) inner q
-inner_made limit depth zero inner h used q wide info fits room capped made = info_made limit depth inner h None used q wide (info refl) fits room capped
-inner_made limit depth (suc id) inner h used q wide info fits room capped made = subst (λ (s : Scope). Made limit depth h s (used + forest_values inner) inner q) (sym (entered (suc id) used (λ e. absurd (omega (arith, e))))) made
+inner_made : (shapes : Shapes) (limit depth id : ℕ) (inner : Forest) (h : BlockHead) (used q : ℕ) → h.width ≡ 2 → (id ≡ 0 → DescribesBlocks false inner) → FitForest inner → used + forest_values inner ≤ limit → limit < 2 ^ 64
+    → Made shapes limit depth h (plain used) (used + forest_values inner) inner q → Made shapes limit depth h (enter id (handed_of used)) (used + forest_values inner) inner q
+inner_made shapes limit depth zero inner h used q wide info fits room capped made = info_made shapes limit depth inner h None used q wide (info refl) fits room capped
+inner_made shapes limit depth (suc id) inner h used q wide info fits room capped made = subst (λ (s : Scope). Made shapes limit depth h s (used + forest_values inner) inner q) (sym (entered (suc id) used (λ e. absurd (omega (arith, e))))) made
 
 -- a block, with as many blocks allowed in one another as it has
-block_at : (limit depth first used id : ℕ) (inner : Forest) (q : ℕ) → suc (forest_depth inner) ≤ depth → id < 2 ^ 32 → (id ≡ 0 → DescribesBlocks false inner) → FitForest inner → used + forest_values inner ≤ limit → limit < 2 ^ 64
+block_at : (shapes : Shapes) (limit depth first used id : ℕ) (inner : Forest) (q : ℕ) → suc (forest_depth inner) ≤ depth → id < 2 ^ 32 → (id ≡ 0 → DescribesBlocks false inner) → FitForest inner → used + forest_values inner ≤ limit → limit < 2 ^ 64
     → length (block_text id (body_of inner) q) < 2 ^ 37
-    → ((depth' : ℕ) (h : BlockHead) (at_body : ℕ) → forest_depth inner ≤ depth' → h.width ≡ 2 → length (normal inner at_body) < 2 ^ 37 → Made limit depth' h (plain used) (used + forest_values inner) inner at_body)
-    → BlockMade limit depth first used id inner q
-block_at limit zero first used id inner q deep small info fits room capped short more = absurd (omega (arith, deep))
-block_at limit (suc depth) first used id inner q deep small info fits room capped short more =
-    block_made limit depth first used id inner q small short (λ h at_body wide short'. inner_made limit depth id inner h used at_body wide info fits room capped (more depth h at_body (omega (arith, deep)) wide short'))
+    → ((depth' : ℕ) (h : BlockHead) (at_body : ℕ) → forest_depth inner ≤ depth' → h.width ≡ 2 → length (normal inner at_body) < 2 ^ 37 → Made shapes limit depth' h (plain used) (used + forest_values inner) inner at_body)
+    → BlockMade shapes limit depth first used id inner q
+block_at shapes limit zero first used id inner q deep small info fits room capped short more = absurd (omega (arith, deep))
+block_at shapes limit (suc depth) first used id inner q deep small info fits room capped short more =
+    block_made shapes limit depth first used id inner q small short (λ h at_body wide short'. inner_made shapes limit depth id inner h used at_body wide info fits room capped (more depth h at_body (omega (arith, deep)) wide short'))
 
 -- a block in a block
-nested_spelled : (limit depth : ℕ) (h : BlockHead) (used id : ℕ) (inner : Forest) (p : ℕ) → h.width ≡ 2 → (made : BlockMade limit depth p used id inner (p + length (bits_of 2 1)))
-    → Spelled (item (block depth limit) h limit (plain used)) p (bits_of 2 1 ++ block_text id (body_of inner) (p + length (bits_of 2 1))) (one_more (block_item made.mark made.marks) (plain (used + forest_values inner)))
+nested_spelled : (shapes : Shapes) (limit depth : ℕ) (h : BlockHead) (used id : ℕ) (inner : Forest) (p : ℕ) → h.width ≡ 2 → (made : BlockMade shapes limit depth p used id inner (p + length (bits_of 2 1)))
+    → Spelled (item shapes (block shapes depth limit) h limit (plain used)) p (bits_of 2 1 ++ block_text id (body_of inner) (p + length (bits_of 2 1))) (one_more (block_item made.mark made.marks) (plain (used + forest_values inner)))
 unfolding item item_after nested
-nested_spelled limit depth h used id inner p wide made =
+nested_spelled shapes limit depth h used id inner p wide made =
     here_spelled _ (then_spelled _ (id_spelled h 1 p wide (omega arith))
     (other_chosen _ refl (first_chosen _ refl
     (then_last _ (judge_spelled _ _ _ refl (then_last _ made.spelled given)) given))))
@@ -214,36 +215,36 @@ plain_described : (code : ℕ) (values : List ℕ) (first q : ℕ) → Spelled (
 unfolding describe
 plain_described code values first q = given
 
-plain_made : (limit depth : ℕ) (forest : Forest) (h : BlockHead) (used p : ℕ) → h.width ≡ 2 → FitForest forest → forest_depth forest ≤ depth → used + forest_values forest ≤ limit → limit < 2 ^ 64 → length (normal forest p) < 2 ^ 37
-    → Made limit depth h (plain used) (used + forest_values forest) forest p
+plain_made : (shapes : Shapes) (limit depth : ℕ) (forest : Forest) (h : BlockHead) (used p : ℕ) → h.width ≡ 2 → FitForest forest → forest_depth forest ≤ depth → used + forest_values forest ≤ limit → limit < 2 ^ 64 → length (normal forest p) < 2 ^ 37
+    → Made shapes limit depth h (plain used) (used + forest_values forest) forest p
 unfolding normal
-plain_made limit depth empty h used p wide fits deep room capped short = none_made limit depth h (plain used) (used + 0) p (ap handed_of (omega arith))
-plain_made limit depth (a_block id inner rest) h used p wide fits deep room capped short =
+plain_made shapes limit depth empty h used p wide fits deep room capped short = none_made shapes limit depth h (plain used) (used + 0) p (ap handed_of (omega arith))
+plain_made shapes limit depth (a_block id inner rest) h used p wide fits deep room capped short =
     let q = p + length (bits_of 2 1) in
     let text = block_text id (body_of inner) in
     let front = chain (put (bits_of 2 1)) text in
     let parts = length-append (front p) (normal rest (p + length (front p))) in
     let parts' = length-append (bits_of 2 1) (text q) in
     let sum : (used + forest_values inner) + forest_values rest ≡ used + (forest_values inner + forest_values rest) = omega arith in
-    let made = block_at limit depth p used id inner q (omega (arith, deep)) fits.0 fits.1 fits.2 (omega (arith, room)) capped (omega (arith, short, parts, parts')) (λ depth' h' at_body deep' wide' short'. plain_made limit depth' inner h' used at_body wide' fits.2 deep' (omega (arith, room)) capped short') in
-    let others = plain_made limit depth rest h (used + forest_values inner) (p + length (front p)) wide fits.3 (omega (arith, deep)) (omega (arith, room)) capped (omega (arith, short, parts)) in
-    step_made limit depth h (plain used) (plain (used + forest_values inner)) (used + (forest_values inner + forest_values rest)) (block_item made.mark made.marks) front (a_block id inner rest) rest p (omega (arith, wide)) refl
+    let made = block_at shapes limit depth p used id inner q (omega (arith, deep)) fits.0 fits.1 fits.2 (omega (arith, room)) capped (omega (arith, short, parts, parts')) (λ depth' h' at_body deep' wide' short'. plain_made shapes limit depth' inner h' used at_body wide' fits.2 deep' (omega (arith, room)) capped short') in
+    let others = plain_made shapes limit depth rest h (used + forest_values inner) (p + length (front p)) wide fits.3 (omega (arith, deep)) (omega (arith, room)) capped (omega (arith, short, parts)) in
+    step_made shapes limit depth h (plain used) (plain (used + forest_values inner)) (used + (forest_values inner + forest_values rest)) (block_item made.mark made.marks) front (a_block id inner rest) rest p (omega (arith, wide)) refl
     (λ ms e. same_block made.mark made.marks ms id inner rest made.same made.tree e)
-    (nested_spelled limit depth h used id inner p wide made)
-    (subst (λ (total : ℕ). Made limit depth h (plain (used + forest_values inner)) total rest (p + length (front p))) sum others)
-plain_made limit depth (a_record code values rest) h used p wide fits deep room capped short =
+    (nested_spelled shapes limit depth h used id inner p wide made)
+    (subst (λ (total : ℕ). Made shapes limit depth h (plain (used + forest_values inner)) total rest (p + length (front p))) sum others)
+plain_made shapes limit depth (a_record code values rest) h used p wide fits deep room capped short =
     let front = chain (put (bits_of 2 3)) (put (entry_text code values)) in
     let parts = length-append (front p) (normal rest (p + length (front p))) in
     let sum : (used + length values) + forest_values rest ≡ used + (length values + forest_values rest) = omega arith in
     let x = record_item (record { abbreviation = 3; code = code; values = values; first = p; after = p + length (bits_of 2 3) + length (entry_text code values) }) in
-    let others = plain_made limit depth rest h (used + length values) (p + length (front p)) wide fits.2 deep (omega (arith, room)) capped (omega (arith, short, parts)) in
-    step_made limit depth h (plain used) (plain (used + length values)) (used + (length values + forest_values rest)) x front (a_record code values rest) rest p (omega (arith, wide)) refl (λ ms e. ap (a_record code values) e)
-    (record_spelled (block depth limit) h limit (plain used) None code values p wide fits.0 fits.1 (omega (arith, room)) capped (λ q. plain_described code values p q))
-    (subst (λ (total : ℕ). Made limit depth h (plain (used + length values)) total rest (p + length (front p))) sum others)
+    let others = plain_made shapes limit depth rest h (used + length values) (p + length (front p)) wide fits.2 deep (omega (arith, room)) capped (omega (arith, short, parts)) in
+    step_made shapes limit depth h (plain used) (plain (used + length values)) (used + (length values + forest_values rest)) x front (a_record code values rest) rest p (omega (arith, wide)) refl (λ ms e. ap (a_record code values) e)
+    (record_spelled shapes (block shapes depth limit) h limit (plain used) None code values p wide fits.0 fits.1 (omega (arith, room)) capped (λ q. plain_described code values p q))
+    (subst (λ (total : ℕ). Made shapes limit depth h (plain (used + length values)) total rest (p + length (front p))) sum others)
 
 -- ---- the input
 
-top_spelled : (limits : Limits) (used id : ℕ) (inner : Forest) (p : ℕ) → (made : BlockMade limits.values limits.depth p used id inner (p + length (bits_of 2 1)))
+top_spelled : (limits : Limits) (used id : ℕ) (inner : Forest) (p : ℕ) → (made : BlockMade limits.shapes limits.values limits.depth p used id inner (p + length (bits_of 2 1)))
     → Spelled (top_block limits (handed_of used)) p (bits_of 2 1 ++ block_text id (body_of inner) (p + length (bits_of 2 1))) (block_item made.mark made.marks, handed_of (used + forest_values inner))
 unfolding top_block
 top_spelled limits used id inner p made = here_spelled _ (then_spelled _ (fixed_spelled 2 1 p (omega arith)) (judge_spelled _ _ _ refl made.spelled))
@@ -264,7 +265,7 @@ top_made limits (a_block id inner rest) used p after blocks fits deep room cappe
     let front = chain (put (bits_of 2 1)) text in
     let parts = length-append (front p) (normal rest (p + length (front p))) in
     let parts' = length-append (bits_of 2 1) (text q) in
-    let made = block_at limits.values limits.depth p used id inner q (omega (arith, deep)) fits.0 fits.1 fits.2 (omega (arith, room)) capped (omega (arith, short, parts, parts')) (λ depth' h' at_body deep' wide' short'. plain_made limits.values depth' inner h' used at_body wide' fits.2 deep' (omega (arith, room)) capped short') in
+    let made = block_at limits.shapes limits.values limits.depth p used id inner q (omega (arith, deep)) fits.0 fits.1 fits.2 (omega (arith, room)) capped (omega (arith, short, parts, parts')) (λ depth' h' at_body deep' wide' short'. plain_made limits.shapes limits.values depth' inner h' used at_body wide' fits.2 deep' (omega (arith, room)) capped short') in
     let others = top_made limits rest (used + forest_values inner) (p + length (front p)) after blocks fits.3 (omega (arith, deep)) (omega (arith, room)) capped (omega (arith, short, parts)) (omega (arith, end, parts)) in
     let one = top_spelled limits used id inner p made in
     let some : 0 < length (front p) = omega (arith, top_takes limits (handed_of used) p (front p) (block_item made.mark made.marks, handed_of (used + forest_values inner)) one.is) in

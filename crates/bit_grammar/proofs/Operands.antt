@@ -1,5 +1,6 @@
 -- What a definition spells, in the words of the format.
 use Rattle.std.proofs.Common.{◌≡◌, ℕ, zero, suc, ◌+◌, ◌≢◌, Bool, true, false, leb, eqb, List, [], ◌∷◌, ◌++◌, length, refl, sym, ap, subst, ◌∙◌, arith, inl, inr}
+use Rattle.std.specs.Prelude.{◌↔◌}
 use Rattle.std.specs.List.{AllByRecursion}
 use Rattle.std.proofs.lemmas.Bool.{le-leb, eqb-true, eqb-false, eq-eqb, ne_eqb}
 use Rattle.std.proofs.lemmas.List.{append-nil}
@@ -9,18 +10,20 @@ use Rattle.bit_grammar.specs.declared.op.Kind.TheVariants.{Literal as literal, F
 use Rattle.bit_grammar.specs.declared.op.Place.{Place}
 use Rattle.bit_grammar.specs.declared.op.Place.TheVariants.{First as first, Element as element, Later as later}
 use Rattle.bit_grammar.specs.declared.op.Op.TheVariants.{Literal, Fixed, Vbr, Array, Char6, Blob}
+use Rattle.bit_grammar.specs.declared.shapes.Shapes.{Shapes}
+use Rattle.bit_grammar.specs.declared.shapes.Shapes.TheVariants.{AtDefinition, AtUse}
 use Rattle.bit_grammar.specs.declared.reason.Reason.TheVariants.{AbbrevShape, FieldWidth}
 use Rattle.bit_grammar.specs.Grammar.{gives, ◌>>=◌, ◌>>◌, judge, Spells}
 use Rattle.bit_grammar.specs.Fields.{fixed, vbr}
 use Rattle.bit_grammar.specs.FormatFields.{IsFixed, IsVbr}
-use Rattle.bit_grammar.specs.Definition.{encoding, kind, fits, fixed_lawful, vbr_lawful, valued, operand, place_after, operands}
-use Rattle.bit_grammar.specs.FormatDefinition.{op_at, IsElement, HasLawfulValue, Lawful, IsNothing, IsOperand, AreOperands}
+use Rattle.bit_grammar.specs.Definition.{encoding, kind, fits, passes, fixed_lawful, vbr_lawful, valued, operand, place_after, operands, kind_of, in_order, has_shape}
+use Rattle.bit_grammar.specs.FormatDefinition.{op_at, IsElement, HasLawfulValue, InOrder, Lawful, Passes, IsNothing, IsOperand, AreOperands}
 use Rattle.bit_grammar.proofs.Deciding.{position-first, first-position, judged, judge-spells}
 use Rattle.bit_grammar.proofs.Fields.{fixed_is, is_fixed, vbr_is, is_vbr}
 use Rattle.bit_grammar.proofs.Sequences.{made, made-spells}
-use Rattle.bit_grammar.proofs.Definitions.{kind_of, LawfulFrom}
+use Rattle.bit_grammar.proofs.Definitions.{PassFrom, order_parts, is_in_order}
 
--- ---- a lawful list, from the index to the place
+-- ---- a lawful order, from the index to the place
 
 -- what is known of the operand at a place
 abbrev Starts : Place → Op → Type 0
@@ -57,21 +60,39 @@ starts_after Array next h = h refl
 starts_after Char6 next h = tt
 starts_after Blob next h = tt
 
--- a list that is lawful by the index, and begins at this place, is lawful place by place
-lawful_there : (place : Place) (ops : List Op) → Starts place (op_at ops 0) → ((i : ℕ) → op_at ops i ≡ Array → i + 2 ≡ length ops) → ((i : ℕ) → op_at ops i ≡ Array → IsElement (op_at ops (i + 1)))
-    → ((i : ℕ) → op_at ops i ≡ Blob → i + 1 ≡ length ops) → AllByRecursion HasLawfulValue ops → LawfulFrom place ops
-lawful_there place [] starts arrays elements blobs values = tt
-lawful_there place (op ∷ others) starts arrays elements blobs values = (
-  fits_there place (length others) op starts (λ e. omega (arith, arrays 0 e)) (λ e. omega (arith, blobs 0 e)),
-  values.0,
-  lawful_there (place_after op) others (starts_after op (op_at others 0) (elements 0)) (λ i e. omega (arith, arrays (suc i) e)) (λ i e. next_element i (elements (suc i) e)) (λ i e. omega (arith, blobs (suc i) e)) values.1,
-)
+-- a list that is in order by the index, and begins at this place, is in order place by place
+order_there : (place : Place) (ops : List Op) → Starts place (op_at ops 0) → ((i : ℕ) → op_at ops i ≡ Array → i + 2 ≡ length ops) → ((i : ℕ) → op_at ops i ≡ Array → IsElement (op_at ops (i + 1)))
+    → ((i : ℕ) → op_at ops i ≡ Blob → i + 1 ≡ length ops) → in_order place ops ≡ true
+order_there place [] starts arrays elements blobs = refl
+order_there place (op ∷ others) starts arrays elements blobs =
+    let one = fits_there place (length others) op starts (λ e. omega (arith, arrays 0 e)) (λ e. omega (arith, blobs 0 e)) in
+    let rest = order_there (place_after op) others (starts_after op (op_at others 0) (elements 0)) (λ i e. omega (arith, arrays (suc i) e)) (λ i e. next_element i (elements (suc i) e)) (λ i e. omega (arith, blobs (suc i) e)) in
+    rw (one, rest) refl
   where
     next_element : (i : ℕ) → IsElement (op_at (op ∷ others) (suc i + 1)) → IsElement (op_at others (i + 1))
     next_element i h = let n : suc i + 1 ≡ suc (i + 1) = omega arith in rw n at h
 
-pub lawful_from : (ops : List Op) → Lawful ops → LawfulFrom first ops
-lawful_from ops h = lawful_there first ops h.first h.array h.element h.blob h.values
+pub shape_of : (ops : List Op) → InOrder ops → has_shape ops ≡ true
+shape_of ops h = order_there first ops h.first h.array h.element h.blob
+
+pub order_is : (ops : List Op) → (has_shape ops ≡ true) ↔ InOrder ops
+order_is ops = (is_in_order ops, shape_of ops)
+
+-- operands in order pass, and without a judgement all do
+order_passes : (place : Place) (ops : List Op) → in_order place ops ≡ true → AllByRecursion HasLawfulValue ops → PassFrom AtDefinition place ops
+order_passes place [] h values = tt
+order_passes place (op ∷ others) h values = (let k = order_parts place op others h in (k.0, values.0, order_passes (place_after op) others k.1 values.1))
+
+any_passes : (place : Place) (ops : List Op) → AllByRecursion HasLawfulValue ops → PassFrom AtUse place ops
+any_passes place [] values = tt
+any_passes place (op ∷ others) values = (refl, values.0, any_passes (place_after op) others values.1)
+
+pub pass_from : (shapes : Shapes) (ops : List Op) → Passes shapes ops → AllByRecursion HasLawfulValue ops → PassFrom shapes first ops
+pass_from AtDefinition ops h values = order_passes first ops (shape_of ops h) values
+pass_from AtUse ops h values = any_passes first ops values
+
+pub lawful_from : (ops : List Op) → Lawful ops → PassFrom AtDefinition first ops
+lawful_from ops h = pass_from AtDefinition ops h.order h.values
 
 -- ---- the encoding
 
@@ -231,30 +252,30 @@ operand_parts Array s h = (false ∷ h.0, h.1, h.2, (h.0, refl, h.3), h.4)
 operand_parts Char6 s h = (false ∷ h.0, h.1, h.2, (h.0, refl, h.3), h.4)
 operand_parts Blob s h = (false ∷ h.0, h.1, h.2, (h.0, refl, h.3), h.4)
 
-operand_in_words : (place : Place) (after p : ℕ) (s : List Bool) (op : Op) → Spells (operand place after) p s op → IsOperand op s
+operand_in_words : (shapes : Shapes) (place : Place) (after p : ℕ) (s : List Bool) (op : Op) → Spells (operand shapes place after) p s op → IsOperand op s
 unfolding operand
-operand_in_words place after p s op h =
-    let k = position-first (λ start. kind >>= λ k. judge (fits place after k) AbbrevShape start >> valued k) p s op h in
-    let j = judged (fits place after k.2) (record { reason = AbbrevShape; bit = p }) (valued k.2) (p + length k.0) k.1 op k.5 in
+operand_in_words shapes place after p s op h =
+    let k = position-first (λ start. kind >>= λ k. judge (passes shapes (fits place after k)) AbbrevShape start >> valued k) p s op h in
+    let j = judged (passes shapes (fits place after k.2)) (record { reason = AbbrevShape; bit = p }) (valued k.2) (p + length k.0) k.1 op k.5 in
     let v = value_is k.2 (p + length k.0) k.1 op j.1 in
     operand_of op k.0 k.1 s k.3 (subst (λ (x : Kind). IsHead x k.0) (sym v.0) (kind_is p k.0 k.2 k.4)) v.1
 
-is_operand : (place : Place) (after p : ℕ) (s : List Bool) (op : Op) → fits place after (kind_of op) ≡ true → HasLawfulValue op → IsOperand op s → Spells (operand place after) p s op
+is_operand : (shapes : Shapes) (place : Place) (after p : ℕ) (s : List Bool) (op : Op) → passes shapes (fits place after (kind_of op)) ≡ true → HasLawfulValue op → IsOperand op s → Spells (operand shapes place after) p s op
 unfolding operand
-is_operand place after p s op shape lawful h =
+is_operand shapes place after p s op shape lawful h =
     let o = operand_parts op s h in
-    first-position (λ start. kind >>= λ k. judge (fits place after k) AbbrevShape start >> valued k) p s op
-    (o.0, o.1, kind_of op, o.2, is_kind p o.0 (kind_of op) o.3, judge-spells (fits place after (kind_of op)) (record { reason = AbbrevShape; bit = p }) (valued (kind_of op)) (p + length o.0) o.1 op shape (is_value op (p + length o.0) o.1 lawful o.4))
+    first-position (λ start. kind >>= λ k. judge (passes shapes (fits place after k)) AbbrevShape start >> valued k) p s op
+    (o.0, o.1, kind_of op, o.2, is_kind p o.0 (kind_of op) o.3, judge-spells (passes shapes (fits place after (kind_of op))) (record { reason = AbbrevShape; bit = p }) (valued (kind_of op)) (p + length o.0) o.1 op shape (is_value op (p + length o.0) o.1 lawful o.4))
 
-pub operands_in_words : (count : ℕ) (place : Place) (p : ℕ) (s : List Bool) (ops : List Op) → Spells (operands count place) p s ops → AreOperands ops s
+pub operands_in_words : (shapes : Shapes) (count : ℕ) (place : Place) (p : ℕ) (s : List Bool) (ops : List Op) → Spells (operands shapes count place) p s ops → AreOperands ops s
 unfolding operands
-operands_in_words zero place p s ops h = subst (λ (x : List Op). AreOperands x s) (sym h.1) h.0
-operands_in_words (suc after) place p s ops h =
-    let m = made (operands after (place_after h.2)) (λ xs. h.2 ∷ xs) (p + length h.0) h.1 ops h.5 in
-    subst (λ (x : List Op). AreOperands x s) (sym m.2) (h.0, h.1, h.3, operand_in_words place after p h.0 h.2 h.4, operands_in_words after (place_after h.2) (p + length h.0) h.1 m.0 m.1)
+operands_in_words shapes zero place p s ops h = subst (λ (x : List Op). AreOperands x s) (sym h.1) h.0
+operands_in_words shapes (suc after) place p s ops h =
+    let m = made (operands shapes after (place_after h.2)) (λ xs. h.2 ∷ xs) (p + length h.0) h.1 ops h.5 in
+    subst (λ (x : List Op). AreOperands x s) (sym m.2) (h.0, h.1, h.3, operand_in_words shapes place after p h.0 h.2 h.4, operands_in_words shapes after (place_after h.2) (p + length h.0) h.1 m.0 m.1)
 
-pub are_operands : (place : Place) (ops : List Op) (p : ℕ) (s : List Bool) → LawfulFrom place ops → AreOperands ops s → Spells (operands (length ops) place) p s ops
+pub are_operands : (shapes : Shapes) (place : Place) (ops : List Op) (p : ℕ) (s : List Bool) → PassFrom shapes place ops → AreOperands ops s → Spells (operands shapes (length ops) place) p s ops
 unfolding operands
-are_operands place [] p s lawful h = (h, refl)
-are_operands place (op ∷ others) p s lawful h =
-    (h.0, h.1, op, h.2, is_operand place (length others) p h.0 op lawful.0 lawful.1 h.3, made-spells (operands (length others) (place_after op)) (λ xs. op ∷ xs) (p + length h.0) h.1 others (are_operands (place_after op) others (p + length h.0) h.1 lawful.2 h.4))
+are_operands shapes place [] p s lawful h = (h, refl)
+are_operands shapes place (op ∷ others) p s lawful h =
+    (h.0, h.1, op, h.2, is_operand shapes place (length others) p h.0 op lawful.0 lawful.1 h.3, made-spells (operands shapes (length others) (place_after op)) (λ xs. op ∷ xs) (p + length h.0) h.1 others (are_operands shapes (place_after op) others (p + length h.0) h.1 lawful.2 h.4))

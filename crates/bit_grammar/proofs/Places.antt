@@ -4,6 +4,7 @@ use Rattle.std.proofs.Common.{◌≡◌, ℕ, zero, suc, ◌+◌, ◌-◌, ◌�
 use Rattle.std.specs.Prelude.{sum_by}
 use Rattle.std.proofs.lemmas.List.{length-append}
 use Rattle.std.proofs.lemmas.List.Sums.{sum_by-cons, sum_by-append}
+use Rattle.bit_grammar.specs.declared.shapes.Shapes.{Shapes}
 use Rattle.bit_grammar.specs.Grammar.{Round, one_more, last, Rounds, Spells}
 use Rattle.bit_grammar.specs.Marks.{Marks, no_marks, marked_block, marked_record, marked_definition, Item, block_item, record_item, definition_item, item_then, marks_of}
 use Rattle.bit_grammar.specs.FormatInput.{AreMarkedBlocks}
@@ -68,8 +69,8 @@ pub record BlockPlaced (first after : ℕ) (x : Item) : Type 0 where
   pub all : first + bits_in (alone x) ≡ after
   pub within : AreWithin (alone x)
 
-abbrev ArePlaced : (limit depth : ℕ) → Type 0
-ArePlaced limit depth = (first : ℕ) (handed : Handed) (p : ℕ) (s : List Bool) (v : Item × Handed) → first ≤ p → Spells (block depth limit first handed) p s v → BlockPlaced first (p + length s) v.0
+abbrev ArePlaced : Shapes → (limit depth : ℕ) → Type 0
+ArePlaced shapes limit depth = (first : ℕ) (handed : Handed) (p : ℕ) (s : List Bool) (v : Item × Handed) → first ≤ p → Spells (block shapes depth limit first handed) p s v → BlockPlaced first (p + length s) v.0
 
 end_placed : (h : BlockHead) (p : ℕ) (s : List Bool) (after : ℕ) → Spells (end_of_block h) p s after → after ≡ p + length s
 unfolding end_of_block
@@ -82,14 +83,14 @@ end_placed h p s after k =
 no_blocks : (first p : ℕ) (s : List Bool) (x : Item) → first ≤ p → bits_in (alone x) ≡ 0 → AreWithin (alone x) → ItemPlaced first (p + length s) x
 no_blocks first p s x le none within = record { few = omega (arith, le, none); within = within }
 
-after_placed : (limit depth : ℕ) → ArePlaced limit depth → (h : BlockHead) (first : ℕ) (scope : Scope) (id p : ℕ) (s : List Bool) (x : Round Scope Item (ℕ × Handed)) → first ≤ p
-    → Spells (item_after (block depth limit) h limit first scope id) p s x → RoundPlaced first (p + length s) x
+after_placed : (shapes : Shapes) (limit depth : ℕ) → ArePlaced shapes limit depth → (h : BlockHead) (first : ℕ) (scope : Scope) (id p : ℕ) (s : List Bool) (x : Round Scope Item (ℕ × Handed)) → first ≤ p
+    → Spells (item_after shapes (block shapes depth limit) h limit first scope id) p s x → RoundPlaced first (p + length s) x
 unfolding item_after nested
-after_placed limit depth inner h first scope id p s x le (inl k) =
+after_placed shapes limit depth inner h first scope id p s x le (inl k) =
     let e = k.1 in
     let there : e.2 ≡ p + length s = omega (arith, end_placed h p e.0 e.2 e.4, ap length e.3, length-append e.0 e.1, ap length e.5.0) in
     subst (RoundPlaced first (p + length s)) (sym e.5.1) there
-after_placed limit depth inner h first scope id p s x le (inr (e, inl k)) =
+after_placed shapes limit depth inner h first scope id p s x le (inr (e, inl k)) =
     let n = k.1 in
     let m = n.4 in
     let b = m.5 in
@@ -98,25 +99,25 @@ after_placed limit depth inner h first scope id p s x le (inr (e, inl k)) =
     let here : ItemPlaced first (p + length s) b.2.0 = record { few = omega (arith, f.all, len); within = f.within } in
     let made : n.2.0 ≡ b.2.0 = ap (λ (y : Item × Scope). y.0) b.5.1 in
     subst (RoundPlaced first (p + length s)) (sym n.5.1) (subst (ItemPlaced first (p + length s)) (sym made) here)
-after_placed limit depth inner h first scope id p s x le (inr (e, inr (e', inl k))) =
+after_placed shapes limit depth inner h first scope id p s x le (inr (e, inr (e', inl k))) =
     let n = k.1 in
     subst (RoundPlaced first (p + length s)) (sym n.5.1) (no_blocks first p s (definition_item n.2.0) le refl tt)
-after_placed limit depth inner h first scope id p s x le (inr (e, inr (e', inr k))) =
+after_placed shapes limit depth inner h first scope id p s x le (inr (e, inr (e', inr k))) =
     let n = k.1 in
     subst (RoundPlaced first (p + length s)) (sym n.5.1) (no_blocks first p s (record_item n.2.0) le refl tt)
 
-item_placed : (limit depth : ℕ) → ArePlaced limit depth → (h : BlockHead) (scope : Scope) (p : ℕ) (s : List Bool) (x : Round Scope Item (ℕ × Handed)) → Spells (item (block depth limit) h limit scope) p s x → RoundPlaced p (p + length s) x
+item_placed : (shapes : Shapes) (limit depth : ℕ) → ArePlaced shapes limit depth → (h : BlockHead) (scope : Scope) (p : ℕ) (s : List Bool) (x : Round Scope Item (ℕ × Handed)) → Spells (item shapes (block shapes depth limit) h limit scope) p s x → RoundPlaced p (p + length s) x
 unfolding item
-item_placed limit depth inner h scope p s x k =
+item_placed shapes limit depth inner h scope p s x k =
     let i = k.5 in
     let same : k.2 ≡ p = k.4.1 in
     let le : k.2 ≤ p + length k.0 + length i.0 = omega (arith, same) in
-    let f = after_placed limit depth inner h k.2 scope i.2 (p + length k.0 + length i.0) i.1 x le i.5 in
+    let f = after_placed shapes limit depth inner h k.2 scope i.2 (p + length k.0 + length i.0) i.1 x le i.5 in
     let end : p + length k.0 + length i.0 + length i.1 ≡ p + length s = omega (arith, ap length k.3, length-append k.0 k.1, ap length i.3, length-append i.0 i.1) in
     subst (λ (n : ℕ). RoundPlaced n (p + length s) x) same (subst (λ (n : ℕ). RoundPlaced k.2 n x) end f)
 
-abbrev Body : (limit depth : ℕ) → BlockHead → List Item → Scope → ℕ → List Bool → ℕ × Handed → Type 0
-Body limit depth h xs scope p s e = Rounds (λ scope p s x. Spells (item (block depth limit) h limit scope) p s x) xs scope p s e
+abbrev Body : Shapes → (limit depth : ℕ) → BlockHead → List Item → Scope → ℕ → List Bool → ℕ × Handed → Type 0
+Body shapes limit depth h xs scope p s e = Rounds (λ scope p s x. Spells (item shapes (block shapes depth limit) h limit scope) p s x) xs scope p s e
 
 -- a body from bit p up to bit after
 pub record BodyPlaced (p after : ℕ) (xs : List Item) (end : ℕ) : Type 0 where
@@ -124,11 +125,11 @@ pub record BodyPlaced (p after : ℕ) (xs : List Item) (end : ℕ) : Type 0 wher
   pub few : p + bits_in (marks_of xs) ≤ after
   pub within : AreWithin (marks_of xs)
 
-body_placed : (limit depth : ℕ) → ArePlaced limit depth → (h : BlockHead) (xs : List Item) (scope : Scope) (p : ℕ) (s : List Bool) (e : ℕ × Handed) → Body limit depth h xs scope p s e → BodyPlaced p (p + length s) xs e.0
-body_placed limit depth inner h [] scope p s e k = record { there = item_placed limit depth inner h scope p s (last e) k; few = omega arith; within = tt }
-body_placed limit depth inner h (x ∷ xs) scope p s e k =
-    let f = item_placed limit depth inner h scope p k.0 (one_more x k.2) k.5 in
-    let g = body_placed limit depth inner h xs k.2 (p + length k.0) k.1 e k.6 in
+body_placed : (shapes : Shapes) (limit depth : ℕ) → ArePlaced shapes limit depth → (h : BlockHead) (xs : List Item) (scope : Scope) (p : ℕ) (s : List Bool) (e : ℕ × Handed) → Body shapes limit depth h xs scope p s e → BodyPlaced p (p + length s) xs e.0
+body_placed shapes limit depth inner h [] scope p s e k = record { there = item_placed shapes limit depth inner h scope p s (last e) k; few = omega arith; within = tt }
+body_placed shapes limit depth inner h (x ∷ xs) scope p s e k =
+    let f = item_placed shapes limit depth inner h scope p k.0 (one_more x k.2) k.5 in
+    let g = body_placed shapes limit depth inner h xs k.2 (p + length k.0) k.1 e k.6 in
     let len : length s ≡ length k.0 + length k.1 = ap length k.3 ∙ length-append k.0 k.1 in
     record {
       there = omega (arith, g.there, len);
@@ -136,12 +137,12 @@ body_placed limit depth inner h (x ∷ xs) scope p s e k =
       within = within_then x (marks_of xs) f.within g.within;
     }
 
-pub block_placed : (limit depth : ℕ) → ArePlaced limit depth
+pub block_placed : (shapes : Shapes) (limit depth : ℕ) → ArePlaced shapes limit depth
 unfolding block
-block_placed limit zero first handed p s v le k = absurd k
-block_placed limit (suc depth) first handed p s v le k =
+block_placed shapes limit zero first handed p s v le k = absurd k
+block_placed shapes limit (suc depth) first handed p s v le k =
     let m = k.5 in
-    let g = body_placed limit depth (block_placed limit depth) k.2 m.2.0 (enter k.2.id handed) (p + length k.0) m.0 m.2.1 m.4 in
+    let g = body_placed shapes limit depth (block_placed shapes limit depth) k.2 m.2.0 (enter k.2.id handed) (p + length k.0) m.0 m.2.1 m.4 in
     let len : p + length k.0 + length m.0 ≡ p + length s = omega (arith, ap length k.3, length-append k.0 k.1, ap length m.3, length-append m.0 m.1, ap length m.5.0) in
     let made : v.0 ≡ _ = ap (λ (y : Item × Handed). y.0) m.5.1 in
     subst (BlockPlaced first (p + length s)) (sym made) (record {
@@ -157,7 +158,7 @@ top_placed limits handed p s v k =
     let j = i.5 in
     let same : k.2 ≡ p = k.4.1 in
     let le : k.2 ≤ p + length k.0 + length i.0 + length j.0 = omega (arith, same) in
-    let f = block_placed limits.values limits.depth k.2 handed (p + length k.0 + length i.0 + length j.0) j.1 v le j.5 in
+    let f = block_placed limits.shapes limits.values limits.depth k.2 handed (p + length k.0 + length i.0 + length j.0) j.1 v le j.5 in
     let end : p + length k.0 + length i.0 + length j.0 + length j.1 ≡ p + length s = omega (arith, ap length k.3, length-append k.0 k.1, ap length i.3, length-append i.0 i.1, ap length j.3, length-append j.0 j.1) in
     subst (λ (n : ℕ). BlockPlaced n (p + length s) v.0) same (subst (λ (n : ℕ). BlockPlaced k.2 n v.0) end f)
 

@@ -4,18 +4,19 @@ use Rattle.std.proofs.lemmas.List.{append-nil}
 use Rattle.bit_grammar.specs.declared.op.Op.{Op}
 use Rattle.bit_grammar.specs.declared.op.Op.TheVariants.{Literal, Fixed, Vbr, Array, Char6, Blob}
 use Rattle.bit_grammar.specs.declared.op.Place.TheVariants.{First as first_place, Later as later}
+use Rattle.bit_grammar.specs.declared.shapes.Shapes.TheVariants.{AtDefinition}
 use Rattle.bit_grammar.specs.declared.reason.Reason.TheVariants.{TooManyValues}
 use Rattle.bit_grammar.specs.Grammar.{Grammar, gives, ◌>>=◌, ◌>>◌, judge, repeat, Spells}
 use Rattle.bit_grammar.specs.Fields.{vbr, align32, byte}
 use Rattle.bit_grammar.specs.FormatFields.{IsVbr}
-use Rattle.bit_grammar.specs.Definition.{fits, place_after}
+use Rattle.bit_grammar.specs.Definition.{fits, place_after, kind_of}
 use Rattle.bit_grammar.specs.FormatDefinition.{IsElement, HasLawfulValue}
 use Rattle.bit_grammar.specs.Record.{value_count, scalar, singles, values_of}
 use Rattle.bit_grammar.specs.FormatRecord.{IsScalar, AreFields, IsBlob, AreValues}
 use Rattle.bit_grammar.proofs.Deciding.{position-first, first-position, judged, judge-spells}
 use Rattle.bit_grammar.proofs.Fields.{fixed_is, is_fixed, vbr_is, is_vbr, char6_is, is_char6, align_is, is_align}
 use Rattle.bit_grammar.proofs.Sequences.{made, made-spells}
-use Rattle.bit_grammar.proofs.Definitions.{kind_of, LawfulFrom, field_fits}
+use Rattle.bit_grammar.proofs.Definitions.{PassFrom, field_fits}
 use Rattle.bit_grammar.proofs.Wholes.{is_le}
 
 -- ---- operands that stand for one value
@@ -117,7 +118,7 @@ one_then room op others p s vs single lawful rest h =
     let m = made (values_of room others) (λ xs. h.2 ∷ xs) (p + length h.0) h.1 vs h.5 in
     (h.2, m.0, h.0, h.1, m.2, h.3, scalar_is op single lawful p h.0 h.2 h.4, rest (p + length h.0) h.1 m.0 m.1)
 
-pub values_are : (room : ℕ) (ops : List Op) (p : ℕ) (s : List Bool) (vs : List ℕ) → LawfulFrom later ops → Spells (values_of room ops) p s vs → AreValues ops p vs s
+pub values_are : (room : ℕ) (ops : List Op) (p : ℕ) (s : List Bool) (vs : List ℕ) → PassFrom AtDefinition later ops → Spells (values_of room ops) p s vs → AreValues ops p vs s
 unfolding values_of byte
 values_are room [] p s vs l h = (h.1, h.0)
 values_are room (Array ∷ []) p s vs l h = absurd (let no : false ≡ true = l.0 in cc)
@@ -156,7 +157,7 @@ then_one room op others p s vs lawful rest (v, xs, front, behind, values, parts,
     subst (Spells (scalar op >>= λ value. values_of room others >>= λ values. gives (value ∷ values)) p s) (sym values)
     (front, behind, v, parts, is_scalar op lawful p front v is, made-spells (values_of room others) (λ ys. v ∷ ys) (p + length front) behind xs (rest (p + length front) behind xs are few))
 
-pub are_values : (room : ℕ) (ops : List Op) (p : ℕ) (s : List Bool) (vs : List ℕ) → LawfulFrom later ops → AreValues ops p vs s → length vs ≤ singles ops + room → Spells (values_of room ops) p s vs
+pub are_values : (room : ℕ) (ops : List Op) (p : ℕ) (s : List Bool) (vs : List ℕ) → PassFrom AtDefinition later ops → AreValues ops p vs s → length vs ≤ singles ops + room → Spells (values_of room ops) p s vs
 unfolding values_of byte
 are_values room [] p s vs l h fits = (h.1, h.0)
 are_values room (Array ∷ []) p s vs l h fits = absurd h

@@ -6,7 +6,7 @@ use Rattle.bit_grammar.specs.Fields.{fixed, vbr, char6, align32, byte}
 use Rattle.bit_grammar.specs.Definition.{kind, valued, operand, operands, definition}
 use Rattle.bit_grammar.specs.Record.{value_count, unabbreviated, scalar, values_of, abbreviated}
 use Rattle.bit_grammar.specs.Forest.{empty, a_block, a_record}
-use Rattle.bit_grammar.specs.Blocks.{block_id, new_width, block_head, end_of_block, define, entry, describe, record_after, nested, item_after, item, block, top_block}
+use Rattle.bit_grammar.specs.Blocks.{block_id, new_width, block_head, end_of_block, define, by_definition, entry, describe, record_after, nested, item_after, item, block, top_block}
 use Rattle.bit_grammar.specs.Input.{version, offset, wrapper, any_bits, wrapper_and_gap, inner_magic, top_blocks, stream, wrapped, input, outer_wrapper, reading_input}
 use Rattle.bit_grammar.specs.Normal.{normal, normal_form}
 use Rattle.bit_grammar.proofs.Hex.{hex}
@@ -32,7 +32,7 @@ record Tables : Type 0 where
   described_twice : Accepted usual (hex "4243C0DE 01080000 03000000 0701A218 20E72040 14058400 210C0000 01000000 4D000000") (a_block 0 (a_record 1 (8 ∷ []) (a_record 1 (8 ∷ []) empty)) (a_block 8 (a_record 2 (9 ∷ []) empty) empty)) (hex "4243C0DE 01080000 02000000 07017210 20000000 21080000 01000000 0B410200")
 
 tables : Tables
-unfolding fixed vbr char6 align32 byte kind valued operand operands definition value_count unabbreviated scalar values_of abbreviated block_id new_width block_head end_of_block define entry describe record_after nested item_after item block top_block version offset wrapper any_bits wrapper_and_gap inner_magic top_blocks stream wrapped input outer_wrapper reading_input normal normal_form
+unfolding fixed vbr char6 align32 byte kind valued operand operands definition value_count unabbreviated scalar values_of abbreviated block_id new_width block_head end_of_block define by_definition entry describe record_after nested item_after item block top_block version offset wrapper any_bits wrapper_and_gap inner_magic top_blocks stream wrapped input outer_wrapper reading_input normal normal_form
 tables = record { from_info = (refl, refl); own_behind = (refl, refl); described_twice = (refl, refl) }
 
 -- a block 8 with a BLOCKINFO block that describes block 8, and another block 8 in it, which uses the definition
@@ -52,7 +52,7 @@ record Scopes : Type 0 where
   not_in_sub_blocks : blocks usual (hex "4243C0DE 210C0000 05000000 1203E424 61000000 01000000 24030000 00000000") ≡ Err (at UndefinedAbbrev 192)
 
 scopes : Scopes
-unfolding fixed vbr char6 align32 byte kind valued operand operands definition value_count unabbreviated scalar values_of abbreviated block_id new_width block_head end_of_block define entry describe record_after nested item_after item block top_block version offset wrapper any_bits wrapper_and_gap inner_magic top_blocks stream wrapped input outer_wrapper reading_input normal normal_form
+unfolding fixed vbr char6 align32 byte kind valued operand operands definition value_count unabbreviated scalar values_of abbreviated block_id new_width block_head end_of_block define by_definition entry describe record_after nested item_after item block top_block version offset wrapper any_bits wrapper_and_gap inner_magic top_blocks stream wrapped input outer_wrapper reading_input normal normal_form
 scopes = record { replaced = refl; already_open = refl; entered_later = (refl, refl); not_in_sub_blocks = refl }
 
 -- a BLOCKINFO block with a body of one word
@@ -68,5 +68,5 @@ record InfoFaults : Type 0 where
   block_in_info : blocks usual (info_with (hex "01000000")) ≡ Err (at NestedInBlockInfo 96)
 
 info_faults : InfoFaults
-unfolding fixed vbr char6 align32 byte kind valued operand operands definition value_count unabbreviated scalar values_of abbreviated block_id new_width block_head end_of_block define entry describe record_after nested item_after item block top_block version offset wrapper any_bits wrapper_and_gap inner_magic top_blocks stream wrapped input outer_wrapper reading_input
+unfolding fixed vbr char6 align32 byte kind valued operand operands definition value_count unabbreviated scalar values_of abbreviated block_id new_width block_head end_of_block define by_definition entry describe record_after nested item_after item block top_block version offset wrapper any_bits wrapper_and_gap inner_magic top_blocks stream wrapped input outer_wrapper reading_input
 info_faults = record { name_of_no_block = refl; definition_for_no_block = refl; no_id = refl; block_in_info = refl }

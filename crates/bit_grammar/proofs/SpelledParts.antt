@@ -4,6 +4,7 @@ use Rattle.std.specs.List.{AllByRecursion}
 use Rattle.std.proofs.lemmas.Bool.{lt-ltb}
 use Rattle.std.proofs.lemmas.Bool.Decides.{nat_tests}
 use Rattle.std.proofs.lemmas.List.{append-nil, length-append}
+use Rattle.bit_grammar.specs.declared.shapes.Shapes.{Shapes}
 use Rattle.bit_grammar.specs.Bits.{bits_of}
 use Rattle.bit_grammar.specs.Grammar.{Fault, Grammar, one_more, last, gives, position, test, choose, ◌>>=◌, repeat, Spells}
 use Rattle.bit_grammar.specs.Fields.{padding_length, fixed, vbr, align32}
@@ -91,13 +92,13 @@ id_spelled h id p wide small = subst (λ (n : ℕ). Spelled (fixed n) p (bits_of
 abbrev pub noted : Scope → Option BlockInfo → ℕ → Scope
 noted scope info n = record scope { info = info; handed = record { table = scope.handed.table; used = scope.handed.used + n } }
 
-pub record_spelled : (inner : ℕ → Handed → Grammar (Item × Handed)) (h : BlockHead) (limit : ℕ) (scope : Scope) (info : Option BlockInfo) (code : ℕ) (values : List ℕ) (p : ℕ) → h.width ≡ 2
+pub record_spelled : (shapes : Shapes) (inner : ℕ → Handed → Grammar (Item × Handed)) (h : BlockHead) (limit : ℕ) (scope : Scope) (info : Option BlockInfo) (code : ℕ) (values : List ℕ) (p : ℕ) → h.width ≡ 2
     → code < 2 ^ 64 → AllByRecursion (λ v. v < 2 ^ 64) values → scope.handed.used + length values ≤ limit → limit < 2 ^ 64
     → ((q : ℕ) → Spelled (describe scope.info p (record { code = code; values = values })) q [] info)
-    → Spelled (item inner h limit scope) p (bits_of 2 3 ++ entry_text code values)
+    → Spelled (item shapes inner h limit scope) p (bits_of 2 3 ++ entry_text code values)
     (one_more (record_item (record { abbreviation = 3; code = code; values = values; first = p; after = p + length (bits_of 2 3) + length (entry_text code values) })) (noted scope info (length values)))
 unfolding item item_after record_after
-record_spelled inner h limit scope info code values p wide small all fits capped described =
+record_spelled shapes inner h limit scope info code values p wide small all fits capped described =
     here_spelled _ (then_spelled _ (id_spelled h 3 p wide (omega arith))
     (other_chosen _ refl (other_chosen _ refl (other_chosen _ refl
     (then_last _ (then_last _ (entry_spelled limit p code values scope _ small all fits capped) (here_spelled _ (no_bits _ (described _) given))) given)))))
@@ -125,13 +126,13 @@ unfolding end_of_block
 end_spelled h p e = then_last _ (pad_spelled p) (here_spelled _ (judge_spelled _ _ _ (ends_at h.words h.body _ e) given))
 
 -- the last round: the id 0, the padding and the length
-pub last_spelled : (inner : ℕ → Handed → Grammar (Item × Handed)) (h : BlockHead) (limit : ℕ) (scope : Scope) (p : ℕ) → h.width ≡ 2 → h.body + 32 * h.words ≡ p + length (end_text p)
-    → (after : ℕ) → after ≡ p + length (end_text p) → Spelled (item inner h limit scope) p (end_text p) (last (after, leave scope.info scope.handed))
+pub last_spelled : (shapes : Shapes) (inner : ℕ → Handed → Grammar (Item × Handed)) (h : BlockHead) (limit : ℕ) (scope : Scope) (p : ℕ) → h.width ≡ 2 → h.body + 32 * h.words ≡ p + length (end_text p)
+    → (after : ℕ) → after ≡ p + length (end_text p) → Spelled (item shapes inner h limit scope) p (end_text p) (last (after, leave scope.info scope.handed))
 unfolding item item_after
-last_spelled inner h limit scope p wide e after is =
+last_spelled shapes inner h limit scope p wide e after is =
     let q = p + length (bits_of 2 0) in
     let two : q + length (padding q) ≡ p + length (end_text p) = omega (arith, length-append (bits_of 2 0) (padding q)) in
-    let ended : Spelled (item_after inner h limit p scope 0) q (padding q) (last (after, leave scope.info scope.handed)) =
-    subst (λ (x : ℕ). Spelled (item_after inner h limit p scope 0) q (padding q) (last (x, leave scope.info scope.handed))) (two ∙ sym is)
+    let ended : Spelled (item_after shapes inner h limit p scope 0) q (padding q) (last (after, leave scope.info scope.handed)) =
+    subst (λ (x : ℕ). Spelled (item_after shapes inner h limit p scope 0) q (padding q) (last (x, leave scope.info scope.handed))) (two ∙ sym is)
     (first_chosen _ refl (then_last _ (end_spelled h q (e ∙ sym two)) given)) in
     here_spelled _ (then_spelled _ (id_spelled h 0 p wide (omega arith)) ended)

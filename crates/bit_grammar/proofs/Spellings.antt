@@ -1,58 +1,65 @@
 -- Definitions and records are spelled as the words of the format say, both ways.
 use Rattle.std.proofs.Common.{ℕ, ◌+◌, ◌-◌, ◌^◌, ◌<◌, ◌≤◌, Bool, true, false, ltb, leb, List, [], ◌∷◌, ◌++◌, length, refl, sym, ap, subst, ◌∙◌, arith}
+use Rattle.std.specs.Prelude.{◌↔◌}
 use Rattle.std.specs.List.{AllByRecursion}
 use Rattle.std.proofs.lemmas.Bool.{lt-ltb}
 use Rattle.bit_grammar.specs.declared.op.Op.{Op}
 use Rattle.bit_grammar.specs.declared.op.Op.TheVariants.{Literal, Fixed, Vbr, Array, Char6, Blob}
 use Rattle.bit_grammar.specs.declared.op.Place.{Place}
 use Rattle.bit_grammar.specs.declared.op.Place.TheVariants.{First as first_place}
+use Rattle.bit_grammar.specs.declared.shapes.Shapes.{Shapes}
+use Rattle.bit_grammar.specs.declared.shapes.Shapes.TheVariants.{AtDefinition}
 use Rattle.bit_grammar.specs.declared.reason.Reason.TheVariants.{AbbrevEmpty, TooManyValues}
 use Rattle.bit_grammar.specs.Bits.{bits_of}
 use Rattle.bit_grammar.specs.Grammar.{gives, ◌>>=◌, ◌>>◌, judge, repeat, Spells}
 use Rattle.bit_grammar.specs.Fields.{vbr}
 use Rattle.bit_grammar.specs.FormatFields.{IsVbr, IsFixed, shortest}
 use Rattle.bit_grammar.specs.Definition.{operands, definition}
-use Rattle.bit_grammar.specs.FormatDefinition.{HasLawfulValue, Lawful, IsEncoding, IsNothing, IsOperand, AreOperands, IsDefinition}
+use Rattle.bit_grammar.specs.FormatDefinition.{HasLawfulValue, Definable, Lawful, Passes, IsEncoding, IsNothing, IsOperand, AreOperands, IsDefinition}
 use Rattle.bit_grammar.specs.Record.{Entry, unabbreviated, scalar, singles, values_of, abbreviated}
 use Rattle.bit_grammar.specs.FormatRecord.{IsUnabbreviated, IsAbbreviated}
 use Rattle.bit_grammar.proofs.Deciding.{position-first, first-position, judged, judge-spells}
 use Rattle.bit_grammar.proofs.Wholes.{is_le}
-use Rattle.bit_grammar.proofs.Limits.{unabbreviated_bounded, abbreviated_within}
+use Rattle.bit_grammar.proofs.Rooms.{unabbreviated_bounded, abbreviated_within}
 use Rattle.bit_grammar.proofs.Fields.{vbr_is, is_vbr, short_is_vbr}
 use Rattle.bit_grammar.proofs.Sequences.{made, made-spells}
-use Rattle.bit_grammar.proofs.Definitions.{LawfulFrom, operands_are, definition_lawful}
-use Rattle.bit_grammar.proofs.Operands.{lawful_from, operands_in_words, are_operands}
+use Rattle.bit_grammar.proofs.Definitions.{PassFrom, operands_are, definition_defines}
+use Rattle.bit_grammar.proofs.Operands.{pass_from, lawful_from, operands_in_words, are_operands}
 use Rattle.bit_grammar.proofs.Records.{first_single, later_after, scalar_is, is_scalar, fields_are, are_fields, count_is, is_count, values_are, are_values, values_some}
 
 -- ---- definitions
 
-pub definition_is : (p : ℕ) (s : List Bool) (ops : List Op) → Spells definition p s ops → IsDefinition ops s
+pub definition_is : (shapes : Shapes) (p : ℕ) (s : List Bool) (ops : List Op) → Spells (definition shapes) p s ops → IsDefinition ops s
 unfolding definition
-definition_is p s ops h =
-    let c = position-first (λ start. vbr 5 >>= λ count. judge (ltb 0 count) AbbrevEmpty start >> operands count first_place) p s ops h in
-    let j = judged (ltb 0 c.2) (record { reason = AbbrevEmpty; bit = p }) (operands c.2 first_place) (p + length c.0) c.1 ops c.5 in
-    let are = operands_are c.2 first_place (p + length c.0) c.1 ops j.1 in
+definition_is shapes p s ops h =
+    let c = position-first (λ start. vbr 5 >>= λ count. judge (ltb 0 count) AbbrevEmpty start >> operands shapes count first_place) p s ops h in
+    let j = judged (ltb 0 c.2) (record { reason = AbbrevEmpty; bit = p }) (operands shapes c.2 first_place) (p + length c.0) c.1 ops c.5 in
+    let are = operands_are shapes c.2 first_place (p + length c.0) c.1 ops j.1 in
     record {
-      lawful = definition_lawful p s ops h;
+      definable = (definition_defines shapes p s ops h).0;
       count = c.0;
       operands = c.1;
       parts = c.3;
       counted = subst (λ (n : ℕ). IsVbr 5 n c.0) (sym are.0) (vbr_is 5 p c.0 c.2 (omega arith) c.4);
-      spelled = operands_in_words c.2 first_place (p + length c.0) c.1 ops j.1;
+      spelled = operands_in_words shapes c.2 first_place (p + length c.0) c.1 ops j.1;
     }
 
-pub is_definition : (p : ℕ) (s : List Bool) (ops : List Op) → IsDefinition ops s → Spells definition p s ops
+pub is_definition : (shapes : Shapes) (p : ℕ) (s : List Bool) (ops : List Op) → IsDefinition ops s → Passes shapes ops → Spells (definition shapes) p s ops
 unfolding definition
-is_definition p s ops h =
-    let all = are_operands first_place ops (p + length h.count) h.operands (lawful_from ops h.lawful) h.spelled in
-    first-position (λ start. vbr 5 >>= λ count. judge (ltb 0 count) AbbrevEmpty start >> operands count first_place) p s ops (
+is_definition shapes p s ops h passes =
+    let all = are_operands shapes first_place ops (p + length h.count) h.operands (pass_from shapes ops passes h.definable.values) h.spelled in
+    first-position (λ start. vbr 5 >>= λ count. judge (ltb 0 count) AbbrevEmpty start >> operands shapes count first_place) p s ops (
       h.count,
       h.operands,
       length ops,
       h.parts,
       is_vbr 5 p h.count (length ops) (omega arith) h.counted,
-      judge-spells (ltb 0 (length ops)) (record { reason = AbbrevEmpty; bit = p }) (operands (length ops) first_place) (p + length h.count) h.operands ops (lt-ltb _ _ h.lawful.some) all,
+      judge-spells (ltb 0 (length ops)) (record { reason = AbbrevEmpty; bit = p }) (operands shapes (length ops) first_place) (p + length h.count) h.operands ops (lt-ltb _ _ h.definable.some) all,
     )
+
+-- the rule for a definition, in the words of the format
+pub definition_agrees : (shapes : Shapes) (p : ℕ) (s : List Bool) (ops : List Op) → (Spells (definition shapes) p s ops ↔ (IsDefinition ops s × Passes shapes ops))
+definition_agrees shapes p s ops = (λ h. (definition_is shapes p s ops h, (definition_defines shapes p s ops h).1), λ h. is_definition shapes p s ops h.0 h.1)
 
 -- an encoding with this number and this value
 encoded : (number : ℕ) (code value : List Bool) (Value : List Bool → Type 0) → IsFixed 3 number code → Value value → (s : List Bool) × IsEncoding number Value s
@@ -73,11 +80,11 @@ operands_spelled (op ∷ others) lawful =
     let rest = operands_spelled others lawful.1 in
     (one.0 ++ rest.0, (one.0, rest.0, refl, one.1, rest.1))
 
-pub lawful_spelled : (ops : List Op) → Lawful ops → length ops < 2 ^ 64 → (s : List Bool) × IsDefinition ops s
-lawful_spelled ops lawful few =
-    let all = operands_spelled ops lawful.values in (
+pub definable_spelled : (ops : List Op) → Definable ops → length ops < 2 ^ 64 → (s : List Bool) × IsDefinition ops s
+definable_spelled ops definable few =
+    let all = operands_spelled ops definable.values in (
       shortest 5 (length ops) ++ all.0,
-      record { lawful = lawful; count = shortest 5 (length ops); operands = all.0; parts = refl; counted = short_is_vbr 5 (length ops) (omega arith) few; spelled = all.1 },
+      record { definable = definable; count = shortest 5 (length ops); operands = all.0; parts = refl; counted = short_is_vbr 5 (length ops) (omega arith) few; spelled = all.1 },
     )
 
 -- ---- records
@@ -119,7 +126,7 @@ abbreviated_is start room [] p s e lawful h = absurd (omega (arith, lawful.some)
 abbreviated_is start room (op ∷ others) p s e lawful h =
     let l = lawful_from (op ∷ others) lawful in
     let single = first_single (length others) op l.0 in
-    let after = subst (λ (x : Place). LawfulFrom x others) (later_after op single) l.2 in
+    let after = subst (λ (x : Place). PassFrom AtDefinition x others) (later_after op single) l.2 in
     let j = judged (leb (singles others) room) (record { reason = TooManyValues; bit = start }) (scalar op >>= λ code. values_of (room - singles others) others >>= λ values. gives (record { code = code; values = values })) p s e h in
     let c = j.1 in
     let m = made (values_of (room - singles others) others) (λ vs. record { code = c.2; values = vs }) (p + length c.0) c.1 e c.5 in
@@ -132,7 +139,7 @@ is_abbreviated start room [] p s e lawful h fits = absurd h
 is_abbreviated start room (op ∷ others) p s e lawful h fits =
     let l = lawful_from (op ∷ others) lawful in
     let single = first_single (length others) op l.0 in
-    let after = subst (λ (x : Place). LawfulFrom x others) (later_after op single) l.2 in
+    let after = subst (λ (x : Place). PassFrom AtDefinition x others) (later_after op single) l.2 in
     let some : singles others ≤ length e.values = values_some others (p + length h.0) h.1 e.values h.4 in
     let all = are_values (room - singles others) others (p + length h.0) h.1 e.values after h.4 (omega (arith, some, fits)) in
     judge-spells (leb (singles others) room) (record { reason = TooManyValues; bit = start }) (scalar op >>= λ code. values_of (room - singles others) others >>= λ values. gives (record { code = code; values = values })) p s e (is_le (singles others) room (omega (arith, some, fits)))

@@ -8,7 +8,7 @@ use Rattle.bit_grammar.specs.Grammar.{Fault, at}
 use Rattle.bit_grammar.specs.Fields.{fixed, vbr, char6, align32, byte}
 use Rattle.bit_grammar.specs.Definition.{kind, valued, operand, operands, definition}
 use Rattle.bit_grammar.specs.Record.{value_count, unabbreviated, scalar, values_of, abbreviated}
-use Rattle.bit_grammar.specs.Blocks.{block_id, new_width, block_head, end_of_block, define, entry, describe, record_after, nested, item_after, item, block, top_block}
+use Rattle.bit_grammar.specs.Blocks.{block_id, new_width, block_head, end_of_block, define, by_definition, entry, describe, record_after, nested, item_after, item, block, top_block}
 use Rattle.bit_grammar.specs.Input.{version, offset, wrapper, any_bits, wrapper_and_gap, inner_magic, Marked, tree_of, top_blocks, stream, wrapped, input, outer_wrapper, reading_input}
 use Rattle.bit_grammar.specs.Tally.{tally_of}
 use Rattle.bit_grammar.specs.Texts.{report_of, listing_of}
@@ -40,7 +40,7 @@ record Reports : Type 0 where
   report_of_order : reported (reading_input usual (hex "44 49 41 0F 21 0C 00 00 09 00 00 00 3B 02 2F 08 04 00 00 00 02 00 00 00 53 00 73 08 81 00 00 00 33 80 24 08 01 00 00 00 07 00 00 00 2B 00 00 00 29 08 00 00 04 00 00 00 B3 49 F0 FF FF FF FF FF FF FF FF FF 00 00 00 00 21 08 00 00 01 00 00 00 0B 00 00 00")) ≡ Ok (codes "magic 4449410f bits 672" ++ 10 ∷ codes "block 8 count 3 bits 367 definitions 0 records 6 abbreviated 0 values 3" ++ 10 ∷ codes "  record 7 count 2 bits 49" ++ 10 ∷ codes "  record 5 count 2 bits 31" ++ 10 ∷ codes "  record 6 count 1 bits 15" ++ 10 ∷ codes "  record 2 count 1 bits 14" ++ 10 ∷ codes "block 9 count 1 bits 81 definitions 0 records 1 abbreviated 0 values 0" ++ 10 ∷ codes "  record 1 count 1 bits 14" ++ 10 ∷ codes "block 10 count 1 bits 192 definitions 0 records 1 abbreviated 0 values 1" ++ 10 ∷ codes "  record 300 count 1 bits 98" ++ 10 ∷ [])
 
 reports : Reports
-unfolding fixed vbr char6 align32 byte kind valued operand operands definition value_count unabbreviated scalar values_of abbreviated block_id new_width block_head end_of_block define entry describe record_after nested item_after item block top_block version offset wrapper any_bits wrapper_and_gap inner_magic top_blocks stream wrapped input outer_wrapper reading_input digits
+unfolding fixed vbr char6 align32 byte kind valued operand operands definition value_count unabbreviated scalar values_of abbreviated block_id new_width block_head end_of_block define by_definition entry describe record_after nested item_after item block top_block version offset wrapper any_bits wrapper_and_gap inner_magic top_blocks stream wrapped input outer_wrapper reading_input digits
 reports = record { report_of_two_blocks = refl; report_of_nested = refl; report_of_magic = refl; report_of_no_width = refl; report_of_wrapped = refl; report_of_order = refl }
 
 record Listings : Type 0 where
@@ -54,5 +54,5 @@ record Listings : Type 0 where
   listing_of_order : listed (reading_input usual (hex "44 49 41 0F 21 0C 00 00 09 00 00 00 3B 02 2F 08 04 00 00 00 02 00 00 00 53 00 73 08 81 00 00 00 33 80 24 08 01 00 00 00 07 00 00 00 2B 00 00 00 29 08 00 00 04 00 00 00 B3 49 F0 FF FF FF FF FF FF FF FF FF 00 00 00 00 21 08 00 00 01 00 00 00 0B 00 00 00")) ≡ Ok (codes "magic 4449410f" ++ 10 ∷ codes "block 8" ++ 10 ∷ codes "  record 7 30" ++ 10 ∷ codes "  block 8" ++ 10 ∷ codes "    record 5" ++ 10 ∷ codes "    record 7 1 2" ++ 10 ∷ codes "  record 6" ++ 10 ∷ codes "  block 9" ++ 10 ∷ codes "    record 1" ++ 10 ∷ codes "  record 5" ++ 10 ∷ codes "block 10" ++ 10 ∷ codes "  record 300 18446744073709551615" ++ 10 ∷ codes "block 8" ++ 10 ∷ codes "  record 2" ++ 10 ∷ [])
 
 listings : Listings
-unfolding fixed vbr char6 align32 byte kind valued operand operands definition value_count unabbreviated scalar values_of abbreviated block_id new_width block_head end_of_block define entry describe record_after nested item_after item block top_block version offset wrapper any_bits wrapper_and_gap inner_magic top_blocks stream wrapped input outer_wrapper reading_input digits
+unfolding fixed vbr char6 align32 byte kind valued operand operands definition value_count unabbreviated scalar values_of abbreviated block_id new_width block_head end_of_block define by_definition entry describe record_after nested item_after item block top_block version offset wrapper any_bits wrapper_and_gap inner_magic top_blocks stream wrapped input outer_wrapper reading_input digits
 listings = record { listing_of_two_blocks = refl; listing_of_nested = refl; listing_of_magic = refl; listing_of_no_width = refl; no_report = refl; no_listing = refl; listing_of_order = refl }

@@ -1,19 +1,20 @@
 -- What worked inputs are read as, and what they are written as again.
 use Rattle.std.proofs.Common.{◌≡◌, ℕ, Bool, List, Result, Ok}
+use Rattle.bit_grammar.specs.declared.shapes.Shapes.TheVariants.{AtDefinition, AtUse}
 use Rattle.bit_grammar.specs.declared.info.Info.{Info}
 use Rattle.bit_grammar.specs.declared.info.Info.TheVariants.{Keep, Drop}
 use Rattle.bit_grammar.specs.Bits.{bits_of_bytes}
 use Rattle.bit_grammar.specs.Grammar.{Fault}
 use Rattle.bit_grammar.specs.Forest.{Forest, Tree}
 use Rattle.bit_grammar.specs.Marks.{Marks, forest_of}
-use Rattle.bit_grammar.specs.Blocks.{Limits}
+use Rattle.bit_grammar.specs.Blocks.{Limits, judged_at}
 use Rattle.bit_grammar.specs.Whole.{made_by}
 use Rattle.bit_grammar.specs.Input.{tree_of, reading_input}
 use Rattle.bit_grammar.specs.Normal.{normal_form}
 
 -- the usual limits, and the same with another limit on bytes, on depth or on values
 abbrev pub usual : Limits
-usual = record { bytes = 1073741824; depth = 64; values = 134217728 }
+usual = record { bytes = 1073741824; depth = 64; values = 134217728; shapes = AtDefinition }
 
 abbrev pub with_bytes : ℕ → Limits
 with_bytes n = record usual { bytes = n }
@@ -23,6 +24,10 @@ with_depth n = record usual { depth = n }
 
 abbrev pub with_values : ℕ → Limits
 with_values n = record usual { values = n }
+
+-- the usual limits, with the shape of definitions judged at their use
+abbrev pub at_use : Limits
+at_use = judged_at AtUse usual
 
 -- the marked blocks that bytes are read as, or the fault
 abbrev pub marks : Limits → List ℕ → Result Marks Fault

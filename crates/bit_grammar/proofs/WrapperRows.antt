@@ -7,7 +7,7 @@ use Rattle.bit_grammar.specs.Definition.{kind, valued, operand, operands, defini
 use Rattle.bit_grammar.specs.Record.{value_count, unabbreviated, scalar, values_of, abbreviated}
 use Rattle.bit_grammar.specs.Forest.{empty, a_block}
 use Rattle.bit_grammar.specs.Marks.{no_marks, marked_block}
-use Rattle.bit_grammar.specs.Blocks.{block_id, new_width, block_head, end_of_block, define, entry, describe, record_after, nested, item_after, item, block, top_block}
+use Rattle.bit_grammar.specs.Blocks.{block_id, new_width, block_head, end_of_block, define, by_definition, entry, describe, record_after, nested, item_after, item, block, top_block}
 use Rattle.bit_grammar.specs.Input.{version, offset, wrapper, any_bits, wrapper_and_gap, inner_magic, top_blocks, stream, wrapped, input, outer_wrapper, reading_input}
 use Rattle.bit_grammar.specs.Normal.{normal, normal_form}
 use Rattle.bit_grammar.proofs.Hex.{hex, times}
@@ -36,7 +36,7 @@ record WrappedInputs : Type 0 where
   offset_22 : blocks usual (hex "DEC0170B 00000000 16000000 10000000 07000001" ++ bare) ≡ Err (at WrapperOffset 64)
 
 wrapped_inputs : WrappedInputs
-unfolding fixed vbr char6 align32 byte kind valued operand operands definition value_count unabbreviated scalar values_of abbreviated block_id new_width block_head end_of_block define entry describe record_after nested item_after item block top_block version offset wrapper any_bits wrapper_and_gap inner_magic top_blocks stream wrapped input outer_wrapper reading_input normal normal_form
+unfolding fixed vbr char6 align32 byte kind valued operand operands definition value_count unabbreviated scalar values_of abbreviated block_id new_width block_head end_of_block define by_definition entry describe record_after nested item_after item block top_block version offset wrapper any_bits wrapper_and_gap inner_magic top_blocks stream wrapped input outer_wrapper reading_input normal normal_form
 wrapped_inputs = record { with_a_tail = (refl, refl); size_20 = refl; size_20_with_a_tail = refl; wrapper_inside = refl; version_1 = refl; offset_16 = refl; offset_22 = refl }
 
 -- a wrapper whose Size ends in a block's width
@@ -58,7 +58,7 @@ record Parts : Type 0 where
   cut_before_size : blocks usual (take 12 with_a_gap) ≡ Err (at Truncated 96)
 
 parts : Parts
-unfolding fixed vbr char6 align32 byte kind valued operand operands definition value_count unabbreviated scalar values_of abbreviated block_id new_width block_head end_of_block define entry describe record_after nested item_after item block top_block version offset wrapper any_bits wrapper_and_gap inner_magic top_blocks stream wrapped input outer_wrapper reading_input normal normal_form
+unfolding fixed vbr char6 align32 byte kind valued operand operands definition value_count unabbreviated scalar values_of abbreviated block_id new_width block_head end_of_block define by_definition entry describe record_after nested item_after item block top_block version offset wrapper any_bits wrapper_and_gap inner_magic top_blocks stream wrapped input outer_wrapper reading_input normal normal_form
 parts = record { size_6 = refl; size_6_within_limit = refl; size_6_past_limit = refl; gap = (refl, refl); places_after_gap = refl; cut_in_the_gap = refl; cut_before_size = refl }
 
 record Lies : Type 0 where
@@ -68,7 +68,7 @@ record Lies : Type 0 where
   large_offset : blocks usual (hex "DEC0170B 00000000 FCFFFFFF 10000000 07000001" ++ bare) ≡ Err (at Truncated 160)
 
 lies : Lies
-unfolding fixed vbr char6 align32 byte kind valued operand operands definition value_count unabbreviated scalar values_of abbreviated block_id new_width block_head end_of_block define entry describe record_after nested item_after item block top_block version offset wrapper any_bits wrapper_and_gap inner_magic top_blocks stream wrapped input outer_wrapper reading_input
+unfolding fixed vbr char6 align32 byte kind valued operand operands definition value_count unabbreviated scalar values_of abbreviated block_id new_width block_head end_of_block define by_definition entry describe record_after nested item_after item block top_block version offset wrapper any_bits wrapper_and_gap inner_magic top_blocks stream wrapped input outer_wrapper reading_input
 lies = record { large_size = refl; large_size_with_a_tail = refl; large_offset = refl }
 
 -- the first 2,000 bytes of these and of zeros behind them
@@ -84,5 +84,5 @@ record LongInputs : Type 0 where
   cut_header : blocks (with_bytes 10) (and_zeros (hex "DEC0170B")) ≡ Err (at TooLong 80)
 
 long_inputs : LongInputs
-unfolding fixed vbr char6 align32 byte kind valued operand operands definition value_count unabbreviated scalar values_of abbreviated block_id new_width block_head end_of_block define entry describe record_after nested item_after item block top_block version offset wrapper any_bits wrapper_and_gap inner_magic top_blocks stream wrapped input outer_wrapper reading_input
+unfolding fixed vbr char6 align32 byte kind valued operand operands definition value_count unabbreviated scalar values_of abbreviated block_id new_width block_head end_of_block define by_definition entry describe record_after nested item_after item block top_block version offset wrapper any_bits wrapper_and_gap inner_magic top_blocks stream wrapped input outer_wrapper reading_input
 long_inputs = record { accepted_front = refl; size_2000 = refl; large_offset = refl; zeros_only = refl; cut_header = refl }

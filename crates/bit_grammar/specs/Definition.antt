@@ -2,13 +2,15 @@
 -- Source: "LLVM Bitcode File Format", "Abbreviation IDs", "Abbreviations", "DEFINE_ABBREV Encoding". This project's
 -- own: the bounds of the widths, that there is an operand, that the first is no array and no blob, and that an array's
 -- element is a plain field.
-use Rattle.std.specs.Prelude.{ℕ, zero, suc, Bool, true, false, not, ◌&&◌, List, [], ◌∷◌, nat_lt, nat_le, ◌==◌}
+use Rattle.std.specs.Prelude.{ℕ, zero, suc, Bool, true, false, not, ◌&&◌, List, [], ◌∷◌, nat_lt, nat_le, ◌==◌, length}
 use Rattle.bit_grammar.specs.declared.op.Op.{Op}
 use Rattle.bit_grammar.specs.declared.op.Kind.{Kind}
 use Rattle.bit_grammar.specs.declared.op.Kind.TheVariants.{Literal as literal, Fixed as fixed_width, Vbr as vbr_width, Array as array, Char6 as char6, Blob as blob}
 use Rattle.bit_grammar.specs.declared.op.Place.{Place}
 use Rattle.bit_grammar.specs.declared.op.Place.TheVariants.{First as first, Element as element, Later as later}
 use Rattle.bit_grammar.specs.declared.op.Op.TheVariants.{Literal, Fixed, Vbr, Array, Char6, Blob}
+use Rattle.bit_grammar.specs.declared.shapes.Shapes.{Shapes}
+use Rattle.bit_grammar.specs.declared.shapes.Shapes.TheVariants.{AtDefinition, AtUse}
 use Rattle.bit_grammar.specs.declared.reason.Reason.TheVariants.{AbbrevEmpty, AbbrevEncoding, AbbrevShape, FieldWidth}
 use Rattle.bit_grammar.specs.Grammar.{at, Grammar, gives, refuses, position, choose, ◌>>=◌, ◌>>◌, judge}
 use Rattle.bit_grammar.specs.Fields.{fixed, vbr}
@@ -44,6 +46,11 @@ fits later after array = after == 1
 fits later after blob = after == 0
 fits place after _ = true
 
+-- what is asked of that where the operand stands in a definition
+abbrev pub passes : Shapes → (fits : Bool) → Bool
+passes AtDefinition fits = fits
+passes AtUse fits = true
+
 abbrev pub fixed_lawful : ℕ → Bool
 fixed_lawful width = nat_le width 32
 
@@ -67,11 +74,11 @@ valued array = gives Array
 valued char6 = gives Char6
 valued blob = gives Blob
 
-unfoldable pub operand : Place → (after : ℕ) → Grammar Op
-operand place after = do
+unfoldable pub operand : Shapes → Place → (after : ℕ) → Grammar Op
+operand shapes place after = do
   start ← position
   k ← kind
-  judge (fits place after k) AbbrevShape start
+  judge (passes shapes (fits place after k)) AbbrevShape start
   valued k
 
 -- the place after an operand
@@ -79,17 +86,36 @@ abbrev pub place_after : Op → Place
 place_after Array = element
 place_after _ = later
 
-unfoldable pub operands : (count : ℕ) → Place → Grammar (List Op)
-operands zero place = gives []
-operands (suc after) place = do
-  op ← operand place after
-  others ← operands after (place_after op)
+unfoldable pub operands : Shapes → (count : ℕ) → Place → Grammar (List Op)
+operands shapes zero place = gives []
+operands shapes (suc after) place = do
+  op ← operand shapes place after
+  others ← operands shapes after (place_after op)
   gives (op ∷ others)
 
 -- the number of operands, and the operands
-unfoldable pub definition : Grammar (List Op)
-definition = do
+unfoldable pub definition : Shapes → Grammar (List Op)
+definition shapes = do
   start ← position
   count ← vbr 5
   judge (nat_lt 0 count) AbbrevEmpty start
-  operands count first
+  operands shapes count first
+
+-- ---- the shape of a whole list
+
+abbrev pub kind_of : Op → Kind
+kind_of (Literal v) = literal
+kind_of (Fixed width) = fixed_width
+kind_of (Vbr width) = vbr_width
+kind_of Array = array
+kind_of Char6 = char6
+kind_of Blob = blob
+
+-- whether operands, of which the first stands at this place, are in a lawful order: each may stand where it does
+abbrev pub in_order : Place → List Op → Bool
+in_order place [] = true
+in_order place (op ∷ others) = fits place (length others) (kind_of op) && in_order (place_after op) others
+
+-- whether a record may go by these operands
+abbrev pub has_shape : List Op → Bool
+has_shape ops = in_order first ops

@@ -1,4 +1,5 @@
--- Blocks and what stands in them, in the words of the format. No limit is spoken of here.
+-- Blocks and what stands in them, in the words of the format. No limit is spoken of here, and a definition may have its
+-- operands in any order; where their order is judged at the definition, PassIn says so of a whole tree.
 -- Source: "LLVM Bitcode File Format", "Abbreviation IDs", "Blocks", "ENTER_SUBBLOCK Encoding", "END_BLOCK Encoding",
 -- "Standard Blocks", "#0 - BLOCKINFO Block". This project's own: the bounds of block ids and widths; that a BLOCKINFO
 -- block holds no block, makes a table of its own that takes the place of the one before, and holds nothing but records
@@ -6,8 +7,9 @@
 use Rattle.std.specs.Prelude.{◌≡◌, ℕ, ◌+◌, ◌-◌, ◌*◌, ◌^◌, ◌<◌, ◌≤◌, Bool, List, [], ◌∷◌, ◌++◌, length, Option, Some, None, slice_get, ◌⊎◌}
 use Rattle.std.specs.List.{AllByRecursion}
 use Rattle.bit_grammar.specs.declared.op.Op.{Op}
+use Rattle.bit_grammar.specs.declared.shapes.Shapes.{Shapes}
 use Rattle.bit_grammar.specs.FormatFields.{IsFixed, IsVbr, IsPadding}
-use Rattle.bit_grammar.specs.FormatDefinition.{Lawful, IsDefinition}
+use Rattle.bit_grammar.specs.FormatDefinition.{Definable, InOrder, Passes, IsDefinition}
 use Rattle.bit_grammar.specs.Record.{Entry}
 use Rattle.bit_grammar.specs.FormatRecord.{IsUnabbreviated, IsAbbreviated}
 use Rattle.bit_grammar.specs.Forest.{set_bid}
@@ -42,9 +44,9 @@ made_or table (Some info) = info.made
 abbrev pub table_after : Context → Table
 table_after c = made_or c.table c.info
 
--- a table of lawful definitions
-abbrev pub HoldsLawful : Table → Type 0
-HoldsLawful table = (id : ℕ) → AllByRecursion Lawful (table id)
+-- a table of what can be defined
+abbrev pub HoldsDefinable : Table → Type 0
+HoldsDefinable table = (id : ℕ) → AllByRecursion Definable (table id)
 
 -- ---- definitions
 
@@ -68,9 +70,10 @@ IsDefine c p mark s new =
 
 -- ---- records
 
--- by id 3 unabbreviated, by an id from 4 on by the definition numbered id - 4 of those in force
+-- By id 3 unabbreviated; by an id from 4 on by the definition numbered id - 4 of those in force, whose operands are in a
+-- lawful order.
 abbrev pub IsRecord : Context → (id p : ℕ) → Entry → List Bool → Type 0
-IsRecord c id p e s = ((id ≡ 3) × IsUnabbreviated e s) ⊎ ((4 ≤ id) × (ops : List Op) × (slice_get c.definitions (id - 4) ≡ Some ops) × IsAbbreviated ops p e s)
+IsRecord c id p e s = ((id ≡ 3) × IsUnabbreviated e s) ⊎ ((4 ≤ id) × (ops : List Op) × (slice_get c.definitions (id - 4) ≡ Some ops) × InOrder ops × IsAbbreviated ops p e s)
 
 -- In a BLOCKINFO block a record of code 1 names the block that is described from there on, by its first value; a record of
 -- any other code stands only where a block is described.
@@ -131,3 +134,12 @@ AreItems no_marks c p s left = (s ≡ []) × (left ≡ c)
 AreItems (marked_definition mark rest) c p s left = (first others : List Bool) × (new : Context) × (s ≡ first ++ others) × IsDefine c p mark first new × AreItems rest new (p + length first) others left
 AreItems (marked_record mark rest) c p s left = (first others : List Bool) × (new : Context) × (s ≡ first ++ others) × IsNote c p mark first new × AreItems rest new (p + length first) others left
 AreItems (marked_block mark inner rest) c p s left = (first others : List Bool) × (new : Context) × (s ≡ first ++ others) × IsBlock (AreItems inner) c p mark first new × AreItems rest new (p + length first) others left
+
+-- ---- the order of operands, where it is judged at the definition
+
+-- all definitions pass
+abbrev pub PassIn : Shapes → Marks → Type 0
+PassIn shapes no_marks = Unit {0}
+PassIn shapes (marked_block mark inner rest) = PassIn shapes inner × PassIn shapes rest
+PassIn shapes (marked_record mark rest) = PassIn shapes rest
+PassIn shapes (marked_definition mark rest) = Passes shapes mark.ops × PassIn shapes rest

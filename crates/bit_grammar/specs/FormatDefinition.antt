@@ -6,6 +6,8 @@ use Rattle.std.specs.Prelude.{◌≡◌, ℕ, ◌+◌, ◌^◌, ◌<◌, ◌≤�
 use Rattle.std.specs.List.{AllByRecursion}
 use Rattle.bit_grammar.specs.declared.op.Op.{Op}
 use Rattle.bit_grammar.specs.declared.op.Op.TheVariants.{Literal, Fixed, Vbr, Array, Char6, Blob}
+use Rattle.bit_grammar.specs.declared.shapes.Shapes.{Shapes}
+use Rattle.bit_grammar.specs.declared.shapes.Shapes.TheVariants.{AtDefinition, AtUse}
 use Rattle.bit_grammar.specs.FormatFields.{IsFixed, IsVbr}
 
 -- ---- what a lawful list of operands is
@@ -28,15 +30,29 @@ HasLawfulValue (Fixed width) = width ≤ 32
 HasLawfulValue (Vbr width) = (width ≤ 32) × (width ≢ 1)
 HasLawfulValue _ = Unit {0}
 
--- There is an operand. The first is no array and no blob. An array is the last but one, and an element follows it;
--- a blob is the last.
-pub record Lawful (ops : List Op) : Type 0 where
+-- what can be defined: there is an operand, and each has a lawful value
+pub record Definable (ops : List Op) : Type 0 where
   pub some : 0 < length ops
+  pub values : AllByRecursion HasLawfulValue ops
+
+-- A lawful order, without which no record goes by the operands: the first is no array and no blob; an array is the last but
+-- one, and an element follows it; a blob is the last.
+pub record InOrder (ops : List Op) : Type 0 where
   pub first : (op_at ops 0 ≢ Array) × (op_at ops 0 ≢ Blob)
   pub array : (i : ℕ) → op_at ops i ≡ Array → i + 2 ≡ length ops
   pub element : (i : ℕ) → op_at ops i ≡ Array → IsElement (op_at ops (i + 1))
   pub blob : (i : ℕ) → op_at ops i ≡ Blob → i + 1 ≡ length ops
+
+-- what can be defined and used
+pub record Lawful (ops : List Op) : Type 0 where
+  pub some : 0 < length ops
+  pub order : InOrder ops
   pub values : AllByRecursion HasLawfulValue ops
+
+-- what is asked of the order where the operands are defined
+abbrev pub Passes : Shapes → List Op → Type 0
+Passes AtDefinition ops = InOrder ops
+Passes AtUse ops = Unit {0}
 
 -- ---- how it is spelled
 
@@ -61,9 +77,9 @@ abbrev pub AreOperands : List Op → List Bool → Type 0
 AreOperands [] s = s ≡ []
 AreOperands (op ∷ ops) s = (first others : List Bool) × (s ≡ first ++ others) × IsOperand op first × AreOperands ops others
 
--- a definition, after its abbreviation id: the number of operands in VBR 5, and the operands, which are a lawful list
+-- a definition, after its abbreviation id: the number of operands in VBR 5, and the operands, in any order
 pub record IsDefinition (ops : List Op) (s : List Bool) : Type 0 where
-  pub lawful : Lawful ops
+  pub definable : Definable ops
   pub count : List Bool
   pub operands : List Bool
   pub parts : s ≡ count ++ operands

@@ -1,10 +1,12 @@
 ghost use Rattle.std.specs.Prelude.{true, ◌≡◌, ℕ, ◌≤◌, ◌⊎◌, ◌↔◌, List, length};
+ghost use Rattle.bit_grammar.specs.declared.shapes.Shapes.TheVariants.{AtDefinition, AtUse};
+ghost use Rattle.bit_grammar.specs.declared.reason.Reason.TheVariants.{AbbrevShape};
 ghost use Rattle.bit_grammar.specs.Bits.{bits_of_bytes};
 ghost use Rattle.bit_grammar.specs.Grammar.{Fault};
 ghost use Rattle.bit_grammar.specs.Marks.{depth_in, values_in};
-ghost use Rattle.bit_grammar.specs.Blocks.{Limits, item};
+ghost use Rattle.bit_grammar.specs.Blocks.{Limits, judged_at};
+ghost use Rattle.bit_grammar.specs.FormatBlocks.{PassIn};
 ghost use Rattle.bit_grammar.specs.Input.{is_closed, EndsWithin, Marked, SpellsInput, BreaksInput};
-ghost use Rattle.bit_grammar.specs.Dropped.{under};
 ghost use Rattle.bit_grammar.specs.FormatInput.{IsInput};
 
 /// An input spells one marked tree.
@@ -31,12 +33,13 @@ pub fn tree_or_fault()
         ⊎ ((fault : Fault) × BreaksInput limits bytes fault) }
 {}
 
-/// What an input spells under limits it spells under those that it keeps to: limits on depth and values that are judged
-/// item by item are the limits on the tree.
+/// What an input spells under limits it spells under those that it keeps to: limits on depth and values, and shapes, that are
+/// judged item by item are those of the tree.
 pub fn limits_of_tree()
     ensures { (a b : Limits) (bytes : List ℕ) (m : Marked) → SpellsInput a bytes m
         → (SpellsInput b bytes m
-        ↔ ((length bytes ≤ b.bytes) × (depth_in m.blocks ≤ b.depth) × (values_in m.blocks ≤ b.values))) }
+        ↔ ((length bytes ≤ b.bytes) × (depth_in m.blocks ≤ b.depth) × (values_in m.blocks ≤ b.values)
+        × PassIn b.shapes m.blocks)) }
 {}
 
 /// A longer input than the limit keeps a Truncated just where a wrapper header that is whole within the limit says that its
@@ -53,10 +56,22 @@ pub fn one_tree_in_words()
 {}
 
 /// What an input spells under limits is an input in the words of the format that keeps to them: as many bytes, blocks in
-/// one another and values as they permit. And each such input is spelled.
+/// one another and values as they permit, and where shapes are judged at the definition each definition in a lawful order.
+/// And each such input is spelled.
 pub fn input_in_words()
     ensures { (limits : Limits) (bytes : List ℕ) (m : Marked)
         → (SpellsInput limits bytes m
         ↔ (IsInput m (bits_of_bytes bytes) × (length bytes ≤ limits.bytes)
-        × (depth_in m.blocks ≤ limits.depth) × (values_in m.blocks ≤ limits.values))) }
+        × (depth_in m.blocks ≤ limits.depth) × (values_in m.blocks ≤ limits.values)
+        × PassIn limits.shapes m.blocks)) }
+{}
+
+/// Where the shapes of definitions are judged at their use, all is taken that is taken where they are judged at the
+/// definition, with the same tree, and nothing else changes but for inputs that are refused there with AbbrevShape.
+pub fn shapes_apart()
+    ensures taken { (limits : Limits) (bytes : List ℕ) (m : Marked)
+        → SpellsInput (judged_at AtDefinition limits) bytes m → SpellsInput (judged_at AtUse limits) bytes m }
+    ensures refused { (limits : Limits) (bytes : List ℕ) (fault : Fault)
+        → BreaksInput (judged_at AtDefinition limits) bytes fault
+        → (fault.reason ≡ AbbrevShape) ⊎ BreaksInput (judged_at AtUse limits) bytes fault }
 {}

@@ -1,30 +1,38 @@
-ghost use Rattle.std.specs.Prelude.{◌≡◌, ℕ, ◌^◌, ◌<◌, ◌≤◌, ◌⊎◌, ◌↔◌, Bool, List, ◌++◌, length, ◌+◌};
+ghost use Rattle.std.specs.Prelude.{◌≡◌, ℕ, true, ◌^◌, ◌<◌, ◌≤◌, ◌⊎◌, ◌↔◌, Bool, List, ◌++◌, length, ◌+◌};
 ghost use Rattle.bit_grammar.specs.declared.op.Op.{Op};
 ghost use Rattle.bit_grammar.specs.Grammar.{Fault, Spells, Stops};
-ghost use Rattle.bit_grammar.specs.Definition.{definition};
-ghost use Rattle.bit_grammar.specs.FormatDefinition.{Lawful, IsDefinition};
+ghost use Rattle.bit_grammar.specs.declared.shapes.Shapes.{Shapes};
+ghost use Rattle.bit_grammar.specs.declared.shapes.Shapes.TheVariants.{AtDefinition};
+ghost use Rattle.bit_grammar.specs.Definition.{definition, has_shape};
+ghost use Rattle.bit_grammar.specs.FormatDefinition.{Definable, InOrder, Lawful, Passes, IsDefinition};
 ghost use Rattle.bit_grammar.specs.Record.{Entry, abbreviated, unabbreviated};
 ghost use Rattle.bit_grammar.specs.FormatRecord.{IsUnabbreviated, IsAbbreviated};
 
 /// A stream has one front that is a definition, and it defines one list of operands.
 pub fn one_definition()
-    ensures { (p : ℕ) (s t x y : List Bool) (v w : List Op) → s ++ x ≡ t ++ y → Spells definition p s v
-        → Spells definition p t w → (s ≡ t) × (v ≡ w) }
+    ensures { (shapes : Shapes) (p : ℕ) (s t x y : List Bool) (v w : List Op) → s ++ x ≡ t ++ y
+        → Spells (definition shapes) p s v → Spells (definition shapes) p t w → (s ≡ t) × (v ≡ w) }
 {}
 
-/// A definition has a lawful list of operands.
+/// A definition whose shape is judged has a lawful list of operands.
 pub fn lawful_definition()
-    ensures { (p : ℕ) (s : List Bool) (ops : List Op) → Spells definition p s ops → Lawful ops }
+    ensures { (p : ℕ) (s : List Bool) (ops : List Op) → Spells (definition AtDefinition) p s ops → Lawful ops }
 {}
 
-/// A definition is the number of its operands, and each of them, and they are a lawful list.
+/// A definition is the number of its operands, and each of them; and where their order is judged it is lawful.
 pub fn definition_in_words()
-    ensures { (p : ℕ) (s : List Bool) (ops : List Op) → (Spells definition p s ops ↔ IsDefinition ops s) }
+    ensures { (shapes : Shapes) (p : ℕ) (s : List Bool) (ops : List Op)
+        → (Spells (definition shapes) p s ops ↔ (IsDefinition ops s × Passes shapes ops)) }
 {}
 
-/// Each lawful list of operands whose number a VBR can spell has a definition.
-pub fn every_lawful_list()
-    ensures { (ops : List Op) → Lawful ops → length ops < 2 ^ 64 → (s : List Bool) × IsDefinition ops s }
+/// Each list of operands with lawful values whose number a VBR can spell has a definition.
+pub fn every_definable_list()
+    ensures { (ops : List Op) → Definable ops → length ops < 2 ^ 64 → (s : List Bool) × IsDefinition ops s }
+{}
+
+/// Operands have the shape that is judged just where they are in order, each by its index.
+pub fn shape_in_order()
+    ensures { (ops : List Op) → ((has_shape ops ≡ true) ↔ InOrder ops) }
 {}
 
 /// A stream has one front that is a record by given operands.

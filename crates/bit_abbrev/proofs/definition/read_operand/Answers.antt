@@ -5,5 +5,5 @@ use Rattle.bit_abbrev.proofs.definition.read_operand.Goals as goal
 pub returns-in_err-judge-clause-takes : goal.returns-in_err-judge-clause-takes
 returns-in_err-judge-clause-takes g c =
     let failed = err_from_is_err_and c.from_residual-in_err-judge.result c.from_residual-in_err-judge.ensures.1 in
-    let judged = rw c.fits.ensures at c.in_err-judge.ensures.takes in
-    rw (failed.1, failed.2) (misplaced c.args.place c.args.after c.position-start.result c.args.reader.now c.in_ok-kind.kind c.read_kind.new.reader c.in_err-judge.field-0.0 c.judge.new.self c.position-start.ensures.position c.in_ok-kind.ensures judged)
+    let judged = rw (c.passes-passed.ensures, c.fits.ensures) at c.in_err-judge.ensures.takes in
+    rw (failed.1, failed.2) (misplaced c.args.shapes c.args.place c.args.after c.position-start.result c.args.reader.now c.in_ok-kind.kind c.read_kind.new.reader c.in_err-judge.field-0.0 c.judge.new.self c.position-start.ensures.position c.in_ok-kind.ensures judged)
