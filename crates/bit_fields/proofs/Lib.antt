@@ -19,3 +19,4 @@ pub mod Short
 pub mod Glimpses
 pub mod Sights
 pub mod Texts
+pub mod Looking

@@ -8,3 +8,4 @@ pub mod Writer
 pub mod Texts
 pub mod Short
 pub mod Ahead
+pub mod Sight

@@ -25,7 +25,7 @@ mod writer_laws;
 #[cfg(test)]
 mod writer_tests;
 
-pub use ahead::Ahead;
+pub use ahead::{Ahead, Sight};
 pub use bit_grammar::{Reason, Shapes};
 pub use fault::Fault;
 pub use head::{Head, Wrapper};
