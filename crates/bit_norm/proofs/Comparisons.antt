@@ -1,106 +1,135 @@
--- Whether lists of items, or of blocks, are the same, item by item.
-use Rattle.std.proofs.Common.{◌≡◌, ℕ, ◌+◌, ◌<◌, ◌≤◌, List, [], ◌∷◌, length, drop, get_or, refl, sym, ap, ◌∙◌, arith}
-use Rattle.std.proofs.lemmas.List.{drop_all}
-use Rattle.bit_grammar.specs.Forest.{Forest, empty, a_block, a_record}
-use Rattle.bit_tree.specs.TreeSize.{forest_size}
-use Rattle.bit_tree.specs.TreeView.{put_item, put_block, forest_of_items, forest_of_blocks}
-use Rattle.bit_tree.specs.declared.tree.Block.{Block}
-use Rattle.bit_tree.specs.declared.tree.Item.{Item}
-use Rattle.bit_tree.specs.declared.tree.Record.{Record}
-use Rattle.bit_tree.specs.declared.tree.Item.TheVariants as item
-use Rattle.bit_tree.proofs.Placing.{item_placed, block_placed}
+-- What is answered of two inputs.
+use Rattle.std.proofs.Common.{◌≡◌, ℕ, ◌+◌, ◌⊎◌, inl, inr, arith, Bool, true, false, IsTrue, List, [], ◌++◌, Option, Some, None, Result, Ok, Err, refl, sym, ap, ◌∙◌, subst, append-nil}
+use Rattle.std.specs.Prelude.{◌↔◌, IsSome}
+use Rattle.bit_grammar.specs.declared.info.Info.{Info}
+use Rattle.bit_grammar.specs.Forest.{Forest, empty, Tree}
+use Rattle.bit_grammar.specs.Marks.{forest_of}
+use Rattle.bit_grammar.specs.Blocks.{Limits}
+use Rattle.bit_grammar.specs.Input.{Head, Marked, SpellsInput, tree_of}
+use Rattle.bit_grammar.specs.Machine.{Event, flat, Ending, accepted, Told}
+use Rattle.bit_grammar.specs.Grammar as grammar
+use Rattle.bit_grammar.specs.Normal.{Capped}
+use Rattle.bit_grammar.specs.Outlook.{outlook}
+use Rattle.bit_fields.specs.declared.fault.Fault.{Fault}
+use Rattle.bit_events.specs.Reading.{Spent}
+use Rattle.bit_tree.specs.Reading.{HasFit}
+use Rattle.bit_grammar.proofs.Settings.{fit_of_setting}
+use Rattle.bit_grammar.proofs.Telling.{told_if_spelled}
+use Rattle.bit_fields.specs.Devices.{Incoming, known_bytes}
+use Rattle.bit_events.specs.Coming.{Coming, Tells}
+use Rattle.bit_norm.specs.Signs.{signs}
+use Rattle.bit_norm.specs.Whole.{ReadsTree, Misreads, Compares}
+use Rattle.bit_norm.specs.InStep.{Tallied, Finishes, ReadBeside, NotRead, ComparesWith}
+use Rattle.bit_norm.specs.declared.comparing.Which.{Which}
+use Rattle.bit_norm.specs.declared.comparing.Which.TheVariants.{First, Second}
+use Rattle.bit_norm.specs.declared.comparing.SameFault.{SameFault}
+use Rattle.bit_norm.proofs.Signs.{same_signs}
 
--- how many blocks and records stand in an item
-abbrev pub item_size : Item → ℕ
-item_size (item.Block b) = forest_size b.items
-item_size (item.Record r) = 0
+-- what is told of bytes is the head and the events of the marked tree that they spell
+told_parts : (h k : Head) (x y : Told) → ◌≡◌ {A = Result (Head × Told) grammar.Fault} (Ok (h, x)) (Ok (k, y)) → (h ≡ k) × (x.0 ≡ y.0)
+told_parts h k x y same =
+    let pair : Path (Head × Told) (h, x) (k, y) = cc in
+    (ap (λ (p : Head × Told). p.0) pair, ap (λ (p : Head × Told). p.1.0) pair)
 
--- how many items stand in a forest, at its top level
-top_count : Forest → ℕ
-top_count empty = 0
-top_count (a_block id inner rest) = top_count rest + 1
-top_count (a_record code values rest) = top_count rest + 1
+told_is : (limits : Limits) (bytes : List ℕ) (c : Coming) (m : Marked) → outlook limits bytes ≡ Ok (c.head, c.told) → SpellsInput limits bytes m → (c.head ≡ m.head) × (c.told.0 ≡ flat m.blocks [])
+told_is limits bytes c m told spelled = told_parts c.head m.head c.told (flat m.blocks [], accepted m.after) (sym told ∙ (told_if_spelled limits bytes m).0 spelled)
 
-count_of_items : (items : List Item) → top_count (forest_of_items items) ≡ length items
-unfolding top_count
-count_of_items [] = refl
-count_of_items (item.Block b ∷ items) = omega (arith, count_of_items items)
-count_of_items (item.Record r ∷ items) = omega (arith, count_of_items items)
+-- where all signs of the second input came
+signs_told : (info : Info) (c first : Coming) (m other : Marked) (passed : ℕ) (differs same : Bool) → Tells c → c.told.0 ≡ flat other.blocks [] → Tallied info c (flat m.blocks []) info first passed differs → Finishes info first differs (Ok same)
+    → IsTrue same ↔ (forest_of info other.blocks ≡ forest_of info m.blocks)
+signs_told info c first m other passed true same tells told tally finish = (
+  λ yes. let bad : true ≡ false = ((finish (tally.tells tells)).0 yes).0 in absurd cc,
+  λ e. absurd (tally.differs tells refl [] (ap (signs info 0) (append-nil (flat m.blocks [])) ∙ (same_signs info m.blocks other.blocks).1 (sym e) ∙ ap (signs info 0) (sym told))),
+)
+signs_told info c first m other passed false same tells told tally finish =
+    let agrees = tally.agrees tells refl [] in (
+      λ yes. sym ((same_signs info m.blocks other.blocks).0 (ap (signs info 0) (sym (append-nil (flat m.blocks []))) ∙ agrees.1 (sym ((finish (tally.tells tells)).0 yes).1) ∙ ap (signs info 0) told)),
+      λ e. (finish (tally.tells tells)).1 (refl, sym (agrees.0 (ap (signs info 0) (append-nil (flat m.blocks [])) ∙ (same_signs info m.blocks other.blocks).1 (sym e) ∙ ap (signs info 0) (sym told)))),
+    )
 
-count_of_blocks : (blocks : List Block) → top_count (forest_of_blocks blocks) ≡ length blocks
-unfolding top_count
-count_of_blocks [] = refl
-count_of_blocks (b ∷ blocks) = omega (arith, count_of_blocks blocks)
+tree_is : (info : Info) (a b : Marked) → a.head.magic ≡ b.head.magic → forest_of info a.blocks ≡ forest_of info b.blocks → tree_of info a ≡ tree_of info b
+tree_is info a b magic blocks =
+    let make : ℕ → Forest → Tree = λ n f. record { magic = n; blocks = f } in
+    ap (λ (n : ℕ). make n (forest_of info a.blocks)) magic ∙ ap (make b.head.magic) blocks
 
--- lists of the same items are as long
-pub items_as_long : (xs ys : List Item) → forest_of_items xs ≡ forest_of_items ys → length xs ≡ length ys
-items_as_long xs ys same = omega (arith, ap top_count same, count_of_items xs, count_of_items ys)
+-- the answer, where the magics are the same
+pub same_told : (info : Info) (limits : Limits) (bytes : List ℕ) (c first : Coming) (m : Marked) (set : Info) (passed : ℕ) (differs same : Bool) → outlook limits bytes ≡ Ok (c.head, c.told) → Tells c → Tallied info c (flat m.blocks []) set first passed differs
+    → Finishes set first differs (Ok same) → m.head.magic ≡ c.head.magic → (other : Marked) → SpellsInput limits bytes other → IsTrue same ↔ (tree_of info other ≡ tree_of info m)
+same_told info limits bytes c first m set passed differs same told tells tally finish magic other spelled =
+    let parts = told_is limits bytes c other told spelled in
+    let heads : other.head.magic ≡ m.head.magic = ap (λ (h : Head). h.magic) (sym parts.0) ∙ sym magic in
+    let is = signs_told info c first m other passed differs same tells parts.1 (subst (λ (i : Info). Tallied info c (flat m.blocks []) i first passed differs) tally.setting tally) (subst (λ (i : Info). Finishes i first differs (Ok same)) tally.setting finish) in
+    (λ yes. tree_is info other m heads (is.0 yes), λ e. is.1 (ap (λ (t : Tree). t.blocks) e))
 
-pub blocks_as_long : (xs ys : List Block) → forest_of_blocks xs ≡ forest_of_blocks ys → length xs ≡ length ys
-blocks_as_long xs ys same = omega (arith, ap top_count same, count_of_blocks xs, count_of_blocks ys)
+-- where they are not
+pub other_told : (info : Info) (limits : Limits) (bytes : List ℕ) (c : Coming) (m : Marked) (same : Bool) → outlook limits bytes ≡ Ok (c.head, c.told) → (IsTrue same → m.head.magic ≡ c.head.magic) → (m.head.magic ≡ c.head.magic → ⊥) → (other : Marked) → SpellsInput limits bytes other → IsTrue same ↔ (tree_of info other ≡ tree_of info m)
+other_told info limits bytes c m same told only magic other spelled =
+    let parts = told_is limits bytes c other told spelled in
+    (λ yes. absurd (magic (only yes)), λ e. absurd (magic (sym (ap (λ (t : Tree). t.magic) e) ∙ ap (λ (h : Head). h.magic) (sym parts.0))))
 
--- two wholes are the same just if what is left of them is
-pub record Tells (left right whole other : Forest) : Type 0 where
-  pub back : left ≡ right → whole ≡ other
-  pub on : whole ≡ other → left ≡ right
+-- ---- both inputs
 
-same_block : (x y : Block) → x.id ≡ y.id → x.items ≡ y.items → x ≡ y
-same_block x y id items =
-    let make : ℕ → Forest → Block = λ n f. record { id = n; items = f } in
-    ap (λ n. make n x.items) id ∙ ap (make y.id) items
+-- what is told of the first where it was kept
+abbrev pub Kept : Limits → Incoming → Incoming → List ℕ → Type 0
+Kept limits i now bytes = Spent limits i now × (IsSome i.to_come → ((bytes ≡ known_bytes i.to_come) × ((m : Marked) × SpellsInput limits (known_bytes i.to_come) m)) × (known_bytes now.to_come ≡ []))
 
-same_record : (x y : Record) → x.code ≡ y.code → x.values ≡ y.values → x ≡ y
-same_record x y code values =
-    let make : ℕ → List ℕ → Record = λ n vs. record { code = n; values = vs } in
-    ap (λ n. make n x.values) code ∙ ap (make y.code) values
+tells_or_not : (o : Option (List ℕ)) → IsSome o ⊎ (IsSome o → ⊥)
+tells_or_not None = inr (λ tells. absurd cc)
+tells_or_not (Some bytes) = inl refl
 
-put_same : (x y : Item) (f g : Forest) → put_item x f ≡ put_item y g → (x ≡ y) × (f ≡ g)
-put_same (item.Block x) (item.Block y) f g same = (ap item.Block (same_block x y (cc) (cc)), cc)
-put_same (item.Record x) (item.Record y) f g same = (ap item.Record (same_record x y (cc) (cc)), cc)
-put_same (item.Block x) (item.Record y) f g same = absurd cc
-put_same (item.Record x) (item.Block y) f g same = absurd cc
+untold : (info : Info) (limits : Limits) (i now : Incoming) (t : Tree) → Spent limits i now → (IsSome i.to_come → ⊥) → ReadsTree info limits i (Ok t) now
+untold info limits i now t spent none = (spent, λ tells. absurd (none tells))
 
--- one item more is the same
-pub same_so_far : (xs ys : List Item) (i : ℕ) (x y : Item) (whole other : Forest) → i < length xs → i < length ys → x ≡ get_or xs i x → y ≡ get_or ys i y → x ≡ y
-    → Tells (forest_of_items (drop i xs)) (forest_of_items (drop i ys)) whole other → Tells (forest_of_items (drop (i + 1) xs)) (forest_of_items (drop (i + 1) ys)) whole other
-same_so_far xs ys i x y whole other h k is at same t =
-    let a = item_placed xs i x h is in
-    let b = item_placed ys i y k at in
-    record {
-      back = λ e. t.back (a ∙ ap (λ (z : Item). put_item z (forest_of_items (drop (i + 1) xs))) same ∙ ap (put_item y) e ∙ sym b);
-      on = λ e. (put_same x y (forest_of_items (drop (i + 1) xs)) (forest_of_items (drop (i + 1) ys)) (sym a ∙ t.on e ∙ b)).1;
-    }
+has_fit : (info : Info) (limits : Limits) (bytes : List ℕ) (m : Marked) → Capped limits → SpellsInput limits bytes m → HasFit info limits bytes (tree_of info m)
+has_fit info limits bytes m capped spelled = ((m, spelled, refl), fit_of_setting info limits bytes m capped spelled)
 
--- an item is another
-pub item_differs : (xs ys : List Item) (i : ℕ) (x y : Item) (whole other : Forest) → i < length xs → i < length ys → x ≡ get_or xs i x → y ≡ get_or ys i y → (x ≡ y → ⊥)
-    → Tells (forest_of_items (drop i xs)) (forest_of_items (drop i ys)) whole other → whole ≡ other → ⊥
-item_differs xs ys i x y whole other h k is at differs t e =
-    differs (put_same x y (forest_of_items (drop (i + 1) xs)) (forest_of_items (drop (i + 1) ys)) (sym (item_placed xs i x h is) ∙ t.on e ∙ item_placed ys i y k at)).0
+any_tree : Tree
+any_tree = record { magic = 0; blocks = empty }
 
--- no item is left
-pub items_end : (xs ys : List Item) (i : ℕ) (whole other : Forest) → length xs ≤ i → length ys ≤ i → Tells (forest_of_items (drop i xs)) (forest_of_items (drop i ys)) whole other → whole ≡ other
-items_end xs ys i whole other h k t = t.back (ap forest_of_items (drop_all i xs h) ∙ sym (ap forest_of_items (drop_all i ys k)))
+-- some tree that is as the answer has it
+beside : (answer : Bool) (t : Tree) → (other : Tree) × (IsTrue answer ↔ (other ≡ t))
+beside true t = (t, (λ yes. refl, λ e. refl))
+beside false t = (record { magic = t.magic + 1; blocks = t.blocks }, (λ no. absurd cc, λ e. absurd (omega (arith, ap (λ (u : Tree). u.magic) e))))
 
-block_put_same : (x y : Block) (f g : Forest) → put_block x f ≡ put_block y g → (x ≡ y) × (f ≡ g)
-block_put_same x y f g same = (same_block x y (cc) (cc), cc)
+-- the first was read as some tree
+first_read : (info : Info) (limits : Limits) (i now : Incoming) (bytes : List ℕ) → Capped limits → Kept limits i now bytes → (a : Tree) × ReadsTree info limits i (Ok a) now
+first_read info limits i now bytes capped kept =
+    elim (tells_or_not i.to_come) [
+      | inl tells ↦ let found = kept.1 tells in (tree_of info found.0.1.0, (kept.0, λ told. (has_fit info limits (known_bytes i.to_come) found.0.1.0 capped found.0.1.1, found.1)))
+      | inr none ↦ (any_tree, untold info limits i now any_tree kept.0 none)
+    ]
 
--- one block more is the same
-pub block_so_far : (xs ys : List Block) (i : ℕ) (x y : Block) (whole other : Forest) → i < length xs → i < length ys → x ≡ get_or xs i x → y ≡ get_or ys i y → x ≡ y
-    → Tells (forest_of_blocks (drop i xs)) (forest_of_blocks (drop i ys)) whole other → Tells (forest_of_blocks (drop (i + 1) xs)) (forest_of_blocks (drop (i + 1) ys)) whole other
-block_so_far xs ys i x y whole other h k is at same t =
-    let a = block_placed xs i x h is in
-    let b = block_placed ys i y k at in
-    record {
-      back = λ e. t.back (a ∙ ap (λ (z : Block). put_block z (forest_of_blocks (drop (i + 1) xs))) same ∙ ap (put_block y) e ∙ sym b);
-      on = λ e. (block_put_same x y (forest_of_blocks (drop (i + 1) xs)) (forest_of_blocks (drop (i + 1) ys)) (sym a ∙ t.on e ∙ b)).1;
-    }
+swapped : (answer : Bool) (a b : Tree) → IsTrue answer ↔ (a ≡ b) → IsTrue answer ↔ (b ≡ a)
+swapped answer a b is = (λ yes. sym (is.0 yes), λ e. is.1 (sym e))
 
--- a block is another
-pub block_differs : (xs ys : List Block) (i : ℕ) (x y : Block) (whole other : Forest) → i < length xs → i < length ys → x ≡ get_or xs i x → y ≡ get_or ys i y → (x ≡ y → ⊥)
-    → Tells (forest_of_blocks (drop i xs)) (forest_of_blocks (drop i ys)) whole other → whole ≡ other → ⊥
-block_differs xs ys i x y whole other h k is at differs t e =
-    differs (block_put_same x y (forest_of_blocks (drop (i + 1) xs)) (forest_of_blocks (drop (i + 1) ys)) (sym (block_placed xs i x h is) ∙ t.on e ∙ block_placed ys i y k at)).0
+both_read : (info : Info) (limits : Limits) (i now j later : Incoming) (bytes : List ℕ) (same : Bool) → Capped limits → Kept limits i now bytes → ReadBeside info limits bytes j same later → Compares info limits i j (Ok same) now later
+both_read info limits i now j later bytes same capped kept read =
+    elim (tells_or_not j.to_come) [
+      | inr none ↦
+          let first = first_read info limits i now bytes capped kept in
+          let other = beside same first.0 in
+          (first.0, other.0, first.1, untold info limits j later other.0 read.0 none, swapped same other.0 first.0 other.1)
+      | inl tells ↦
+          let found = read.1 tells in
+          let second : ReadsTree info limits j (Ok (tree_of info found.0)) later = (read.0, λ told. (has_fit info limits (known_bytes j.to_come) found.0 capped found.1, found.2)) in
+          elim (tells_or_not i.to_come) [
+            | inr none ↦ let other = beside same (tree_of info found.0) in (other.0, tree_of info found.0, untold info limits i now other.0 kept.0 none, second, other.1)
+            | inl known ↦
+                let first = kept.1 known in
+                let m = first.0.1.0 in (
+                  tree_of info m,
+                  tree_of info found.0,
+                  (kept.0, λ told. (has_fit info limits (known_bytes i.to_come) m capped first.0.1.1, first.1)),
+                  second,
+                  found.3 m (subst (λ (bs : List ℕ). SpellsInput limits bs m) (sym first.0.0) first.0.1.1),
+                )
+          ]
+    ]
 
--- no block is left
-pub blocks_end : (xs ys : List Block) (i : ℕ) (whole other : Forest) → length xs ≤ i → length ys ≤ i → Tells (forest_of_blocks (drop i xs)) (forest_of_blocks (drop i ys)) whole other → whole ≡ other
-blocks_end xs ys i whole other h k t = t.back (ap forest_of_blocks (drop_all i xs h) ∙ sym (ap forest_of_blocks (drop_all i ys k)))
+misread : (info : Info) (limits : Limits) (i now j later : Incoming) (bytes : List ℕ) (which : Which) (fault : Fault) → Capped limits → Kept limits i now bytes → NotRead info limits which fault j later → Misreads info limits which fault i j now later
+misread info limits i now j later bytes First fault capped kept none = (subst (λ (f : Fault). ReadsTree info limits i (Err f) now) (sym none.0) kept.0, none.1)
+misread info limits i now j later bytes Second fault capped kept none = let first = first_read info limits i now bytes capped kept in (first.0, first.1, none)
+
+pub compares : (info : Info) (limits : Limits) (i now j later : Incoming) (bytes : List ℕ) (answer : Result Bool SameFault) → Capped limits → Kept limits i now bytes → ComparesWith info limits bytes j answer later → Compares info limits i j answer now later
+compares info limits i now j later bytes (Ok same) capped kept read = both_read info limits i now j later bytes same capped kept read
+compares info limits i now j later bytes (Err e) capped kept none = misread info limits i now j later bytes e.which e.fault capped kept none

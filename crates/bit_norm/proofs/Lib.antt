@@ -4,5 +4,7 @@ pub mod Ends
 pub mod Falls
 pub mod Gains
 pub mod Going
+pub mod InStep
 pub mod Readings
+pub mod Signs
 pub mod Texts

@@ -4,6 +4,7 @@
 mod comparing;
 #[cfg(test)]
 mod fault_tests;
+mod in_step;
 #[cfg(test)]
 mod input_tests;
 mod lengths;
