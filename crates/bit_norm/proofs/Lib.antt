@@ -6,3 +6,6 @@ pub mod Gains
 pub mod Going
 pub mod Readings
 pub mod Texts
+pub mod ValueTexts
+pub mod Building
+pub mod Forms

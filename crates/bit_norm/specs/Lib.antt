@@ -1,3 +1,4 @@
 pub mod Saturated
 pub mod Whole
+pub mod Building
 pub mod Writing

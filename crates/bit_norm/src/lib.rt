@@ -4,6 +4,8 @@
 mod comparing;
 #[cfg(test)]
 mod fault_tests;
+mod form_builder;
+mod form_values;
 #[cfg(test)]
 mod input_tests;
 mod lengths;
