@@ -8,3 +8,6 @@ pub mod InStep
 pub mod Readings
 pub mod Signs
 pub mod Texts
+pub mod ValueTexts
+pub mod Building
+pub mod Forms

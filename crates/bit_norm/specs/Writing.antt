@@ -1,8 +1,9 @@
 -- What writing a normal form does.
 use Rattle.std.specs.Prelude.{◌≡◌, ℕ, ◌+◌, ◌^◌, ◌<◌, ◌≤◌, true, Bool, List, ◌++◌, length, IsSome, Result, Ok, Err, ◌⊎◌}
 use Rattle.bit_grammar.specs.Bits.{bits_of, bits_of_bytes}
+use Rattle.bit_grammar.specs.FormatFields.{shortest}
 use Rattle.bit_grammar.specs.Forest.{Forest, Tree}
-use Rattle.bit_grammar.specs.Normal.{Text, put, chain, entry_text, block_text, end_text, normal, normal_form}
+use Rattle.bit_grammar.specs.Normal.{Text, put, chain, padding, entry_text, block_text, end_text, normal, normal_form}
 use Rattle.bit_grammar.specs.Size.{size_of}
 use Rattle.bit_fields.specs.Devices.{Outgoing, IsSpent, known_bytes}
 use Rattle.bit_fields.specs.Writer.{Writer}
@@ -18,6 +19,10 @@ record_text code values = chain (put (bits_of 2 3)) (put (entry_text code values
 -- a block that holds these items
 abbrev pub whole_block : (id : ℕ) → Forest → Text
 whole_block id inner = chain (put (bits_of 2 1)) (block_text id (chain (normal inner) end_text))
+
+-- what stands in a block before its length
+abbrev pub open_text : (id : ℕ) → Text
+open_text id = chain (put (bits_of 2 1)) (chain (put (shortest 8 id)) (chain (put (shortest 4 2)) padding))
 
 -- a writer has not failed, and what it is to write ends so early that the words of each block fit 32 bits
 pub record HasRoom (w : Writer) (bits : List Bool) : Type 0 where

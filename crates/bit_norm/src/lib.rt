@@ -5,6 +5,8 @@ mod comparing;
 #[cfg(test)]
 mod fault_tests;
 mod in_step;
+mod form_builder;
+mod form_values;
 #[cfg(test)]
 mod input_tests;
 mod lengths;

@@ -39,7 +39,7 @@ one_less : (count : ℕ) → suc count - 1 ≡ count
 one_less count = omega arith
 
 -- the events of marks leave as many blocks open as were before them
-open_behind-flat : (m : Marks) (following : List Event) (count : ℕ) → open_behind (flat m following) count ≡ open_behind following count
+pub open_behind-flat : (m : Marks) (following : List Event) (count : ℕ) → open_behind (flat m following) count ≡ open_behind following count
 open_behind-flat no_marks following count = refl
 open_behind-flat (marked_block mark inner rest) following count = open_behind-flat inner (leaves mark.after ∷ flat rest following) (suc count) ∙ ap (λ (n : ℕ). open_behind (flat rest following) n) (one_less count) ∙ open_behind-flat rest following count
 open_behind-flat (marked_record mark rest) following count = open_behind-flat rest following count

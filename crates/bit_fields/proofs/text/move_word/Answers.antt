@@ -1,6 +1,6 @@
-use Rattle.std.proofs.Common.{◌≡◌, ℕ, ◌+◌, Bool, List, ◌++◌, length, take, drop, sym, ap, ◌∙◌, arith, length-drop}
+use Rattle.std.proofs.Common.{◌≡◌, ℕ, Bool, List, ◌++◌, length, take, ap, ◌∙◌, arith, length-drop}
 use Rattle.std.proofs.lemmas.List.{take-append-drop}
-use Rattle.bit_grammar.specs.Bits.{bits_of, number}
+use Rattle.bit_grammar.specs.Bits.{bits_of}
 use Rattle.bit_fields.specs.Texts.{bits_of_words}
 use Rattle.bit_fields.proofs.Texts.{words-push, front_spelled, front_below}
 use Rattle.bit_fields.proofs.text.move_word.Goals as goal

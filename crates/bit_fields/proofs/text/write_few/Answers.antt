@@ -1,5 +1,4 @@
-use Rattle.std.proofs.Common.{◌≡◌, ℕ, Bool, List, length, take, ap, ◌∙◌, sym, subst}
-use Rattle.bit_grammar.specs.Bits.{bits_of, number}
+use Rattle.std.proofs.Common.{Bool, List, subst}
 use Rattle.bit_fields.specs.Writer.{Writes}
 use Rattle.bit_fields.proofs.Texts.{all_spelled_by}
 use Rattle.bit_fields.proofs.text.write_few.Goals as goal

@@ -1,8 +1,6 @@
-use Rattle.std.proofs.Common.{◌≡◌, ◌∷◌, ◌++◌, [], ◌-◌, ℕ, List, length, sym, ap, ◌∙◌, subst, arith, length-append}
-use Rattle.std.proofs.Math.ListN.{set}
+use Rattle.std.proofs.Common.{◌≡◌, ◌∷◌, [], ◌-◌, ℕ, length, ap, ◌∙◌, arith, length-append}
 use Rattle.std.specs.Prelude.{vec_len}
 use Rattle.std.specs.Global.{Vec}
-use Rattle.bit_fields.specs.Texts.{joined, AreFull}
 use Rattle.bit_fields.proofs.Texts.{full-swap, joined-swap, swapped_out}
 use Rattle.bit_fields.proofs.word_list.next_chunk.Goals as goal
 

@@ -1,10 +1,10 @@
-use Rattle.std.proofs.Common.{◌≡◌, ℕ, ◌+◌, Bool, List, drop, get_or, Err, ap, sym, subst, ◌∙◌, arith}
+use Rattle.std.proofs.Common.{ℕ, ◌+◌, drop, get_or, Err, ap, subst, arith}
 use Rattle.std.proofs.lemmas.List.{drop_all}
 use Rattle.std.proofs.lemmas.Result.{err_from_is_err_and}
 use Rattle.bit_grammar.specs.Bits.{bits_of}
 use Rattle.bit_fields.specs.Writer.{Writes, Wrote}
 use Rattle.bit_fields.specs.Texts.{bits_of_words}
-use Rattle.bit_fields.proofs.Texts.{Going, going_starts, going_as, going_on, going_wrong, going_ends, words-next, words-length}
+use Rattle.bit_fields.proofs.Texts.{going_starts, going_as, going_on, going_wrong, going_ends, words-next, words-length}
 use Rattle.bit_fields.proofs.word_list.write_words.Goals as goal
 
 pub loop-word-init : goal.loop-word-init

@@ -1,7 +1,6 @@
-use Rattle.std.proofs.Common.{◌≡◌, ℕ, ◌+◌, ◌*◌, ◌<◌, Bool, List, ◌++◌, length, drop, get_or, ap, sym, ◌∙◌, arith, append_assoc, length-append}
-use Rattle.bit_grammar.specs.Bits.{bits_of}
+use Rattle.std.proofs.Common.{length, drop, ap, ◌∙◌, arith, length-append}
 use Rattle.bit_fields.specs.Texts.{bits_of_words}
-use Rattle.bit_fields.proofs.Texts.{words-next, words-length, added_so_far}
+use Rattle.bit_fields.proofs.Texts.{words-length, added_so_far}
 use Rattle.bit_fields.proofs.text.BitText.add_words.Goals as goal
 
 pub fixed-requires-clause-room : goal.fixed-requires-clause-room

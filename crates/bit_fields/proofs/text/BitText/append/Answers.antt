@@ -1,4 +1,4 @@
-use Rattle.std.proofs.Common.{◌≡◌, length, ap, arith, length-append}
+use Rattle.std.proofs.Common.{length, ap, arith, length-append}
 use Rattle.bit_fields.specs.Texts.{bits_of_words}
 use Rattle.bit_fields.proofs.Texts.{words-length}
 use Rattle.bit_fields.proofs.text.BitText.append.Goals as goal

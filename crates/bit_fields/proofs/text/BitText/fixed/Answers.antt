@@ -1,4 +1,4 @@
-use Rattle.std.proofs.Common.{◌≡◌, ℕ, Bool, List, ◌++◌, length, ap, sym, ◌∙◌, arith, length-append}
+use Rattle.std.proofs.Common.{length, ap, arith, length-append}
 use Rattle.bit_grammar.specs.Bits.{bits_of}
 use Rattle.bit_grammar.proofs.Numbers.{length-bits_of}
 use Rattle.bit_fields.specs.Texts.{bits_of_words}

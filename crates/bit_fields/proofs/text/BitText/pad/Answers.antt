@@ -1,4 +1,4 @@
-use Rattle.std.proofs.Common.{◌≡◌, Bool, false, List, ◌++◌, length, replicate, ap, ◌∙◌, sym, subst}
+use Rattle.std.proofs.Common.{◌≡◌, Bool, false, List, ◌++◌, length, replicate, ap, ◌∙◌, subst}
 use Rattle.std.specs.Prelude.{OnOk}
 use Rattle.std.proofs.Common.{ℕ}
 use Rattle.bit_grammar.specs.Fields.{padding_length}

@@ -1,4 +1,4 @@
-use Rattle.std.proofs.Common.{◌≡◌, ℕ, ◌+◌, ◌*◌, ◌<◌, Bool, List, ◌++◌, length, ap, sym, ◌∙◌, arith, length-append, length-set}
+use Rattle.std.proofs.Common.{ℕ, ◌<◌, List, ◌++◌, length, ap, ◌∙◌, arith, length-append, length-set}
 use Rattle.bit_fields.specs.Texts.{bits_of_words, with_word}
 use Rattle.bit_fields.proofs.Texts.{words-set, words-length}
 use Rattle.bit_fields.proofs.text.BitText.set_word.Goals as goal

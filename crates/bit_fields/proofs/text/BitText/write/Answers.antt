@@ -1,4 +1,4 @@
-use Rattle.std.proofs.Common.{◌≡◌, Bool, List, ◌++◌, length, Err, ap, sym, subst, arith, length-append}
+use Rattle.std.proofs.Common.{Bool, List, length, Err, ap, subst, arith, length-append}
 use Rattle.std.proofs.lemmas.Result.{err_from_is_err_and}
 use Rattle.bit_fields.specs.Writer.{Writes}
 use Rattle.bit_fields.specs.Texts.{bits_of_words}

@@ -1,4 +1,4 @@
-use Rattle.std.proofs.Common.{◌≡◌, ℕ, List, ◌++◌, length, ap, arith, length-append}
+use Rattle.std.proofs.Common.{length, ap, arith, length-append}
 use Rattle.bit_fields.specs.Texts.{bits_of_words, joined}
 use Rattle.bit_fields.proofs.Texts.{words-length}
 use Rattle.bit_fields.proofs.word_list.Words.move_behind.Goals as goal

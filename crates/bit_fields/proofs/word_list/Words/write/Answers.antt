@@ -1,9 +1,9 @@
-use Rattle.std.proofs.Common.{◌≡◌, ℕ, ◌+◌, ◌*◌, ◌^◌, ◌<◌, Bool, List, ◌++◌, length, drop, Err, ap, sym, subst, ◌∙◌, arith, length-append}
+use Rattle.std.proofs.Common.{ℕ, ◌+◌, List, ◌++◌, length, drop, Err, ap, sym, subst, ◌∙◌, arith, length-append}
 use Rattle.std.specs.Global.{Vec}
 use Rattle.std.proofs.lemmas.Result.{err_from_is_err_and}
 use Rattle.bit_fields.specs.Writer.{Writes, Wrote}
 use Rattle.bit_fields.specs.Texts.{bits_of_words, joined}
-use Rattle.bit_fields.proofs.Texts.{Going, going_starts, going_as, going_on, going_wrong, words-length, chunks-next, chunks-end}
+use Rattle.bit_fields.proofs.Texts.{going_starts, going_as, going_on, going_wrong, words-length, chunks-next, chunks-end}
 use Rattle.bit_fields.proofs.word_list.Words.write.Goals as goal
 
 pub loop-chunk-init : goal.loop-chunk-init

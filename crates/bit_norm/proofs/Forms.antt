@@ -1,0 +1,95 @@
+-- A magic, and the text behind it.
+use Rattle.std.proofs.Common.{◌≡◌, ℕ, ◌+◌, ◌/◌, Bool, List, [], ◌++◌, length, Option, Some, None, Result, Ok, Err, refl, ap, sym, subst, ◌∙◌, arith}
+use Rattle.bit_grammar.specs.Bits.{bits_of}
+use Rattle.bit_grammar.specs.Forest.{Forest, Tree}
+use Rattle.bit_grammar.specs.Normal.{normal, normal_form}
+use Rattle.bit_grammar.specs.Size.{size_of}
+use Rattle.bit_grammar.proofs.Sizes.{items_end}
+use Rattle.bit_grammar.proofs.Numbers.{length-bits_of}
+use Rattle.std.specs.Prelude.{IsSome}
+use Rattle.bit_grammar.specs.declared.info.Info.{Info}
+use Rattle.bit_grammar.specs.Blocks.{Limits}
+use Rattle.bit_grammar.specs.Forest.{Fit}
+use Rattle.bit_grammar.specs.Input.{Head, tree_of}
+use Rattle.bit_grammar.specs.Machine.{Event, flat}
+use Rattle.bit_grammar.specs.Marks.{forest_of}
+use Rattle.bit_grammar.proofs.Settings.{fit_of_setting}
+use Rattle.bit_fields.specs.Devices.{Incoming, Outgoing, known_bytes}
+use Rattle.bit_fields.specs.declared.fault.Fault.{Fault}
+use Rattle.bit_fields.specs.declared.fault.Fault.TheVariants.{Refused, Read, Write, Memory, OutputTooLong, Failed}
+use Rattle.bit_events.specs.Folding.{Gathered, GatheredSome}
+use Rattle.bit_events.specs.Gathering.{left_open}
+use Rattle.bit_events.specs.Reading.{Spent, ReadsWhole}
+use Rattle.bit_tree.specs.Reading.{HasFit}
+use Rattle.bit_tree.specs.TreeFrames.{told_at_level}
+use Rattle.bit_tree.proofs.Gathered.{open_behind-flat}
+use Rattle.bit_tree.proofs.Growing.{told_flat}
+use Rattle.bit_norm.specs.Building.{IsFormOf}
+use Rattle.bit_norm.specs.Whole.{ReadsTree, Normalises}
+use Rattle.bit_norm.specs.Writing.{WritesForm}
+use Rattle.bit_norm.specs.declared.form_builder.FormBuilder.{FormBuilder}
+
+-- the form is the magic and the text of the blocks
+pub form_bits : (tree : Tree) (n : ℕ) (text : List Bool) → tree.magic ≡ n → normal tree.blocks 32 ≡ text → normal_form tree ≡ bits_of 32 n ++ text
+unfolding normal_form
+form_bits tree n text magic blocks =
+    let place : 0 + length (bits_of 32 tree.magic) ≡ 32 = omega (arith, length-bits_of 32 tree.magic) in
+    ap (λ (p : ℕ). bits_of 32 tree.magic ++ normal tree.blocks p) place ∙ ap (λ (m : ℕ). bits_of 32 m ++ normal tree.blocks 32) magic ∙ ap (λ (s : List Bool). bits_of 32 n ++ s) blocks
+
+pub form_bytes : (tree : Tree) (text : List Bool) → normal tree.blocks 32 ≡ text → 4 + length text / 8 ≡ size_of tree
+unfolding size_of
+form_bytes tree text blocks = omega (arith, ap length blocks, items_end tree.blocks 32)
+
+-- ---- what was read
+
+-- What a builder gathered of an input are events that leave no block open, and where the input is known, its tree is that of
+-- these events.
+pub record Found (info : Info) (limits : Limits) (to_come : Option (List ℕ)) (first last : FormBuilder) (magic : ℕ) : Type 0 where
+  pub events : List Event
+  pub form : IsFormOf first events last
+  pub closed : left_open events ≡ 0
+  pub fit : IsSome to_come → HasFit info limits (known_bytes to_come) (record { magic = magic; blocks = told_at_level first.info events 0 })
+
+pub found : (info : Info) (limits : Limits) (to_come : Option (List ℕ)) (first last : FormBuilder) (head : Head) (after magic : ℕ) → GatheredSome IsFormOf first last → (IsSome to_come → Gathered IsFormOf limits (known_bytes to_come) first head last after)
+    → first.info ≡ info → magic ≡ head.magic → Found info limits to_come first last magic
+found info limits None first last head after magic some all info_is magic_is = record { events = some.0; form = some.1; closed = some.2; fit = λ known. absurd cc }
+found info limits (Some bytes) first last head after magic some all info_is magic_is =
+    let it = all refl in
+    let m = it.marked in
+    let number : m.head.magic ≡ magic = ap (λ (h : Head). h.magic) it.is_head ∙ sym magic_is in
+    let blocks : forest_of info m.blocks ≡ told_at_level first.info (flat m.blocks []) 0 = sym (ap (λ (i : Info). told_at_level i (flat m.blocks []) 0) info_is ∙ told_flat info m.blocks) in
+    let same : tree_of info m ≡ record { magic = magic; blocks = told_at_level first.info (flat m.blocks []) 0 } =
+    ap (λ (n : ℕ). record { magic = n; blocks = forest_of info m.blocks }) number ∙ ap (λ (x : Forest). record { magic = magic; blocks = x }) blocks in
+    record {
+      events = flat m.blocks [];
+      form = it.gathers;
+      closed = open_behind-flat m.blocks [] 0;
+      fit = λ known. ((m, it.spelled, same), subst Fit same (fit_of_setting info limits bytes m it.capped it.spelled));
+    }
+
+abbrev failure : {A : Type 0} → Fault → Result A Fault
+failure fault = Err fault
+
+-- it was read, and its form was written
+pub wrote_form : (info : Info) (limits : Limits) (i : Incoming) (o : Outgoing) (answer : Result ℕ Fault) (now : Incoming) (new : Outgoing) (tree : Tree) → ReadsTree info limits i (Ok tree) now → WritesForm tree limits.bytes o answer new → Normalises info limits i o answer now new
+wrote_form info limits i o (Ok count) now new tree read wrote = (tree, read, wrote)
+wrote_form info limits i o (Err Write) now new tree read wrote = (tree, read, wrote)
+wrote_form info limits i o (Err OutputTooLong) now new tree read wrote = (tree, read, wrote)
+wrote_form info limits i o (Err (Refused reason bit)) now new tree read wrote = absurd wrote
+wrote_form info limits i o (Err Read) now new tree read wrote = absurd wrote
+wrote_form info limits i o (Err Memory) now new tree read wrote = absurd wrote
+wrote_form info limits i o (Err Failed) now new tree read wrote = wrote
+
+-- it was read, whatever is known of it
+pub read_tree : (info : Info) (limits : Limits) (i now : Incoming) (first last : FormBuilder) (head : Head) (after magic : ℕ) (f : Found info limits i.to_come first last magic) → Spent limits i now × (IsSome i.to_come → Gathered IsFormOf limits (known_bytes i.to_come) first head last after × (known_bytes now.to_come ≡ []))
+    → ReadsTree info limits i (Ok (record { magic = magic; blocks = told_at_level first.info f.events 0 })) now
+read_tree info limits i now first last head after magic f all = (all.0, λ known. (f.fit known, (all.1 known).1))
+
+-- what was not read as one thing was not read as another
+pub unread : {A B : Type 0} (H : List ℕ → A → Type 0) (K : List ℕ → B → Type 0) (limits : Limits) (i now : Incoming) (fault : Fault) → ReadsWhole H limits i (failure {A = A} fault) now → ReadsWhole K limits i (failure {A = B} fault) now
+unread H K limits i now (Refused reason bit) r = r
+unread H K limits i now Read r = r
+unread H K limits i now Memory r = r
+unread H K limits i now Write r = r
+unread H K limits i now OutputTooLong r = r
+unread H K limits i now Failed r = r

@@ -1,0 +1,18 @@
+use Rattle.std.proofs.Common.{refl}
+use Rattle.std.proofs.lemmas.Result.{on_ok_weaker}
+use Rattle.bit_grammar.specs.Marks.{RecordMark}
+use Rattle.bit_norm.proofs.Building.{record_idle}
+use Rattle.bit_norm.proofs.form_builder.FormBuilderGatherer.record.Goals as goal
+
+pub returns-then-is_idle-clause-gathers : goal.returns-then-is_idle-clause-gathers
+returns-then-is_idle-clause-gathers c = λ list took first done deepest was stands.
+    let mark : RecordMark = record { abbreviation = c.args._id; code = c.args.code; values = list; first = c.args._first; after = c.args._after } in
+    record_idle first c.args.self.now done mark was (c.is_idle.ensures.yes c.if-is_idle.true)
+
+pub returns-clause-gathers : goal.returns-clause-gathers
+returns-clause-gathers c =
+    on_ok_weaker c.add-added.result
+    (λ adds list took first done deepest was stands.
+    let mark : RecordMark = record { abbreviation = c.args._id; code = c.args.code; values = list; first = c.args._first; after = c.args._after } in
+    adds first done mark refl took was (c.is_idle.ensures.short c.if-is_idle.false) (c.is_idle.ensures.inside c.if-is_idle.false) stands)
+    c.add-added.ensures

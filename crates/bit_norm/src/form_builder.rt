@@ -1,0 +1,275 @@
+ghost use Rattle.std.specs.Prelude.{◌≡◌, ◌+◌, ◌*◌, ◌/◌, ◌%◌, ◌^◌, ◌<◌, ◌≤◌, ℕ, List, [], ◌∷◌, ◌++◌, length, true, false, vec_len, IfSome, MatchOption, OnOk};
+ghost use Rattle.bit_grammar.specs.Machine.{Event, Opened, enters, notes, leaves};
+ghost use Rattle.bit_grammar.specs.Marks.{RecordMark, keeps};
+ghost use Rattle.bit_grammar.specs.Normal.{values_text, end_text, normal};
+ghost use Rattle.bit_events.specs.Gathering.{left_open};
+ghost use Rattle.bit_fields.specs.Texts.{with_word};
+ghost use Rattle.bit_tree.specs.TreeFrames.{told_at_level};
+ghost use Rattle.bit_norm.specs.Building.{HasTaken, IsFormOf};
+ghost use Rattle.bit_norm.specs.Writing.{record_text, open_text};
+
+use crate::form_values::{FormValues, is_long};
+use bit_abbrev::Abbrev;
+use bit_events::Gatherer;
+use bit_fields::{BitText, Limits};
+use bit_tree::Info;
+use std::alloc::{AllocError, Global};
+
+/// Adds what stands in a block before its length.
+fn add_head(text: &mut BitText, id: u32) -> Result<(), AllocError>
+    requires { length text.old < 2 ^ 38 }
+    ensures { OnOk result (text.new ≡ text.old ++ open_text id (length text.old)) }
+{
+    text.fixed(2, 1)?;
+    text.vbr(8, u64::from(id))?;
+    text.vbr(4, 2)?;
+    text.pad()
+}
+
+/// Adds the end of a block, and puts its length in its place.
+fn close_block(text: &mut BitText, hole: u64) -> Result<(), AllocError>
+    requires few { length text.old / 8 ≤ 17179869180 }
+    requires there { 32 * hole + 32 ≤ length text.old }
+    ensures { OnOk result ((words : ℕ) → 32 * (hole + 1 + words) ≡ length text.old + length (end_text (length text.old)) → text.new ≡ with_word hole words (text.old ++ end_text (length text.old))) }
+{
+    text.fixed(2, 0)?;
+    text.pad()?;
+    let words = text.len() / 32 - (hole + 1);
+    text.set_word(hole, words as u32)
+}
+
+/// Adds a record, whose values have these bits, which it takes.
+#[inline(always)]
+fn add_record(
+    text: &mut BitText,
+    code: u64,
+    count: u64,
+    values: &mut BitText,
+) -> Result<(), AllocError>
+    requires few { length text.old < 2 ^ 38 }
+    requires short { length values.old < 2 ^ 38 }
+    ensures { OnOk result ((list : List ℕ) → count ≡ length list → values.old ≡ values_text list → text.new ≡ text.old ++ record_text code list (length text.old)) }
+{
+    text.fixed(2, 3)?;
+    text.vbr(6, code)?;
+    text.vbr(6, count)?;
+    text.append(values)
+}
+
+/// Whether blocks with this id are kept.
+#[inline(always)]
+fn keeps(info: Info, id: u32) -> bool
+    ensures { result ≡ keeps info id }
+{
+    match info {
+        Info::Keep => true,
+        Info::Drop => id != 0,
+    }
+}
+
+/// The normal form of the events so far, behind the magic, under a setting. Of each open block it knows the word where its
+/// length is to stand; nothing is kept of a block that is dropped, and nothing any more once the form is longer than the limit
+/// on bytes.
+#[derive(Drop)]
+pub(crate) struct FormBuilder {
+    alloc: Global,
+    info: Info,
+    limits: Limits,
+    text: BitText,
+    holes: Vec<u64>,
+    dropped: Vec<u32>,
+    long: bool,
+}
+
+impl FormBuilder {
+    /// Nothing is built.
+    pub(crate) fn new(alloc: Global, info: Info, limits: Limits) -> FormBuilder
+        ensures form { IsFormOf result [] result }
+        ensures info { result.info ≡ info }
+        ensures limits { result.limits ≡ limits }
+    {
+        FormBuilder {
+            alloc,
+            info,
+            limits,
+            text: BitText::new(alloc),
+            holes: Vec::new(alloc),
+            dropped: Vec::new(alloc),
+            long: false,
+        }
+    }
+
+    /// Keeps nothing any more.
+    #[cold]
+    fn stop(&mut self)
+        ensures long { self.new.long ≡ true }
+        ensures info { self.new.info ≡ self.old.info }
+        ensures limits { self.new.limits ≡ self.old.limits }
+    {
+        self.text.clear();
+        self.long = true;
+    }
+
+    /// The text, or `None` where the form is longer than the limit on bytes.
+    pub(crate) fn finish(self) -> Option<BitText>
+        ensures form { (first : FormBuilder) (events : List Event) → IsFormOf first events self → left_open events ≡ 0 → MatchOption result (first.limits.bytes < 4 + length (normal (told_at_level first.info events 0) 32) / 8) (λ text. (text ≡ normal (told_at_level first.info events 0) 32) × (length text % 32 ≡ 0) × (4 + length text / 8 ≤ first.limits.bytes)) }
+        ensures capped { IfSome result (λ text. length text < 2 ^ 38) }
+    {
+        let FormBuilder {
+            text,
+            limits,
+            long,
+            alloc: _,
+            info: _,
+            holes: _,
+            dropped: _,
+        } = self;
+        if long {
+            return None;
+        }
+        if text.len() / 8 + 4 > limits.bytes() {
+            return None;
+        }
+        Some(text)
+    }
+
+    /// Whether a block that begins is left out: it is dropped, or a block round it is.
+    fn leaves_out(&self, id: u32) -> bool
+        ensures yes { result ≡ true → vec_len self.now.dropped ≡ 0 → keeps self.now.info id ≡ false }
+        ensures inside { result ≡ false → vec_len self.now.dropped ≡ 0 }
+        ensures kept { result ≡ false → keeps self.now.info id ≡ true }
+    {
+        if self.dropped.is_empty() {
+            return !keeps(self.info, id);
+        }
+        true
+    }
+
+    /// Whether a record is left out, since a block round it is, or the form is too long.
+    #[inline(always)]
+    fn is_idle(&self) -> bool
+        ensures yes { result ≡ true → self.now.long ≡ false → 0 < vec_len self.now.dropped }
+        ensures short { result ≡ false → self.now.long ≡ false }
+        ensures inside { result ≡ false → vec_len self.now.dropped ≡ 0 }
+    {
+        if self.long {
+            return true;
+        }
+        !self.dropped.is_empty()
+    }
+
+    /// Opens a block that is kept.
+    fn open_block(&mut self, id: u32) -> Result<(), AllocError>
+        requires { keeps self.old.info id ≡ true }
+        ensures { OnOk result ((first : FormBuilder) (done : List Event) (opened : Opened) → opened.id ≡ id → IsFormOf first done self.old → self.old.long ≡ false → vec_len self.old.dropped ≡ 0 → IsFormOf first (done ++ enters opened ∷ []) self.new) }
+    {
+        if is_long(&self.text, self.limits) {
+            self.stop();
+            return Ok(());
+        }
+        add_head(&mut self.text, id)?;
+        self.holes.push(self.text.len() / 32)?;
+        self.text.fixed(32, 0)
+    }
+
+    /// Closes a block that is left out.
+    fn leave_out(&mut self) -> Result<(), AllocError>
+        requires { 0 < vec_len self.old.dropped }
+        ensures { OnOk result ((first : FormBuilder) (done : List Event) (after : ℕ) → IsFormOf first done self.old → self.old.long ≡ false → IsFormOf first (done ++ leaves after ∷ []) self.new) }
+    {
+        let Some(_id) = self.dropped.pop() else {
+            unreachable!();
+        };
+        Ok(())
+    }
+
+    /// Closes a block that is kept.
+    fn close(&mut self) -> Result<(), AllocError>
+        ensures { OnOk result ((first : FormBuilder) (done : List Event) (after : ℕ) → IsFormOf first done self.old → self.old.long ≡ false → vec_len self.old.dropped ≡ 0 → 0 < left_open done → IsFormOf first (done ++ leaves after ∷ []) self.new) }
+    {
+        let Some(hole) = self.holes.pop() else {
+            return Ok(());
+        };
+        if is_long(&self.text, self.limits) {
+            self.stop();
+            return Ok(());
+        }
+        if self.text.len() / 32 <= hole {
+            return Ok(());
+        }
+        close_block(&mut self.text, hole)
+    }
+
+    /// Adds a record of a block that is kept, and takes its values. Where these are not known it is as if memory were refused.
+    #[inline]
+    fn add(&mut self, code: u64, values: &mut FormValues) -> Result<(), AllocError>
+        ensures { OnOk result ((first : FormBuilder) (done : List Event) (mark : RecordMark) → mark.code ≡ code → HasTaken values.old mark.values → IsFormOf first done self.old → self.old.long ≡ false → vec_len self.old.dropped ≡ 0 → 0 < left_open done → IsFormOf first (done ++ notes mark ∷ []) self.new) }
+    {
+        if is_long(&self.text, self.limits) {
+            self.stop();
+            return Ok(());
+        }
+        if values.is_past(self.limits) {
+            self.stop();
+            return Ok(());
+        }
+        if !values.is_held() {
+            return Err(AllocError);
+        }
+        add_record(&mut self.text, code, values.count, &mut values.text)
+    }
+}
+
+impl Gatherer for FormBuilder {
+    ghost use Rattle.bit_norm.specs.Building.{IsFormOf};
+
+    type Values = FormValues;
+
+    ghost gathered = { IsFormOf };
+
+    fn values(&self) -> FormValues {
+        FormValues::new(self.alloc, self.limits)
+    }
+
+    fn enter(&mut self, id: u32, _width: u8, _first: u64, _body: u64) -> Result<(), AllocError> {
+        if self.long {
+            return Ok(());
+        }
+        if self.leaves_out(id) {
+            self.dropped.push(id)?;
+            return Ok(());
+        }
+        self.open_block(id)
+    }
+
+    fn define(&mut self, _abbrev: &Abbrev, _first: u64, _after: u64) -> Result<(), AllocError> {
+        Ok(())
+    }
+
+    #[inline]
+    fn record(
+        &mut self,
+        _id: u32,
+        code: u64,
+        values: &mut FormValues,
+        _first: u64,
+        _after: u64,
+    ) -> Result<(), AllocError> {
+        if self.is_idle() {
+            return Ok(());
+        }
+        let added = self.add(code, values);
+        values.clear();
+        added
+    }
+
+    fn leave(&mut self, _after: u64) -> Result<(), AllocError> {
+        if self.long {
+            return Ok(());
+        }
+        if !self.dropped.is_empty() {
+            return self.leave_out();
+        }
+        self.close()
+    }
+}
