@@ -62,12 +62,14 @@ const TWO: &str = "M 21 08 00 00 02 00 00 00 07 81 77 10 78 00 00 00";
 const NESTED: &str = "M 21 08 00 00 04 00 00 00 25 08 00 00 01 00 00 00 00 00 00 00 00 00 00 00";
 
 /// Pairs of inputs, what is told of them where BLOCKINFO blocks are kept, and what the other way round.
-static PAIRS: [(&str, &str, &str, &str); 20] = [
+static PAIRS: [(&str, &str, &str, &str); 22] = [
     ("M", "M", "true", "true"),
     ("M T", "M W", "true", "true"),
     ("M B", "M A", "true", "true"),
     ("M S", "M S", "true", "true"),
     ("M E T", "M E T", "true", "true"),
+    ("M D", "M F", "true", "true"),
+    ("M N", "M N", "true", "true"),
     ("44 49 41 47", "44 49 41 47", "true", "true"),
     ("M T", "M H", "false", "false"),
     ("M T", "M E", "false", "false"),
@@ -108,10 +110,23 @@ fn inputs_are_compared(rt: HostRuntime) {
     }
 }
 
+/// Pairs of inputs, and what is told of them both ways where BLOCKINFO blocks are dropped.
+static WITHOUT_INFO: [(&str, &str, &str); 8] = [
+    (TWO, TWO, "true"),
+    ("M D", "M H", "true"),
+    ("M E D", "M E H", "true"),
+    ("M D E", "M H E", "true"),
+    ("M D D", "M H H", "true"),
+    ("M N", "M N", "true"),
+    ("M D T", "M D E", "false"),
+    ("M D", "M D T", "false"),
+];
+
 #[test]
 fn blockinfo_is_dropped(rt: HostRuntime) {
-    are_told(&rt, rt.alloc(), (TWO, TWO), Info::Drop, "true", "true");
-    are_told(&rt, rt.alloc(), ("M D", "M H"), Info::Drop, "true", "true");
+    for (a, b, wanted) in &WITHOUT_INFO {
+        are_told(&rt, rt.alloc(), (a, b), Info::Drop, wanted, wanted);
+    }
 }
 
 #[test]
