@@ -3,7 +3,6 @@ pub mod Bounds
 pub mod Changes
 pub mod Changing
 pub mod Exact
-pub mod Inner
 pub mod Lists
 pub mod OpenBlocks
 pub mod Prints
@@ -12,6 +11,7 @@ pub mod Reported
 pub mod Reports
 pub mod Saturating
 pub mod Spans
+pub mod Untold
 pub mod Counted
 pub mod Analysed
 pub mod Showings

@@ -1,18 +1,15 @@
 -- The lines of a listing, one after the other.
-use Rattle.std.proofs.Common.{◌≡◌, ℕ, suc, ◌+◌, ◌*◌, ◌<◌, ◌≤◌, List, [], ◌∷◌, ◌++◌, length, get_or, drop, replicate, Result, Err, refl, sym, ap, subst, ◌∙◌, append_assoc, drop-cons, add-one, arith}
+use Rattle.std.proofs.Common.{◌≡◌, ℕ, ◌+◌, ◌*◌, ◌<◌, ◌≤◌, List, [], ◌∷◌, ◌++◌, length, get_or, drop, replicate, Result, Err, sym, ap, subst, ◌∙◌, append_assoc, drop-cons, add-one, arith}
 use Rattle.std.specs.Prelude.{codes, decimal, flat_map}
 use Rattle.std.proofs.lemmas.List.{append-nil, drop_all}
-use Rattle.bit_grammar.specs.Forest.{Forest, Tree}
-use Rattle.bit_grammar.specs.Texts.{block_line, record_line, lines_of, listing_of}
+use Rattle.bit_grammar.specs.Machine.{Event, Told}
+use Rattle.bit_grammar.specs.Steps.{MayStand, open_after}
+use Rattle.bit_grammar.specs.Texts.{record_line, event_text, events_text}
+use Rattle.bit_grammar.proofs.Nesting.{open_within}
+use Rattle.bit_events.specs.Coming.{Coming, Tells, Gives, Ends}
 use Rattle.bit_fields.specs.declared.fault.Fault.{Fault}
-use Rattle.bit_fields.specs.declared.fault.Fault.TheVariants.{Memory}
-use Rattle.bit_tree.specs.TreeView.{put_item, forest_of_items, forest_of_blocks}
-use Rattle.bit_tree.specs.declared.tree.Block.{Block}
-use Rattle.bit_tree.specs.declared.tree.Item.{Item}
-use Rattle.bit_tree.specs.declared.tree.Record.{Record}
-use Rattle.bit_tree.specs.declared.tree.Item.TheVariants as item
-use Rattle.bit_tree.proofs.Placing.{item_placed, block_placed}
 use Rattle.bit_scan.specs.Lines.{listing_head, record_head}
+use Rattle.bit_scan.specs.Listing.{PrintsOne}
 use Rattle.bit_scan.specs.Printing.{Printing, Printed, Prints}
 use Rattle.bit_scan.proofs.Prints.{Goes, goes_starts, goes_as, goes_on, goes_wrong, goes_last, goes_ends}
 
@@ -51,83 +48,62 @@ no_values around code vs old now new fault p q = goes_wrong (record_line around 
 pub record_ends : (around code : ℕ) (vs : List ℕ) (old now last new : Printing) (r : Result (Unit {0}) Fault) → Printed (record_head around code) old now → Printed (values_text vs) now last → Prints (10 ∷ []) last r new → Prints (record_line around code vs) old r new
 record_ends around code vs old now last new r p q e = goes_last (record_line around code vs) old (10 ∷ []) last r new (goes_on (record_line around code vs) old (values_text vs) (10 ∷ []) now last (after_record_head around code vs old now p) q) e
 
--- ---- items
+-- ---- events
 
--- a block, and what it holds
-abbrev pub block_lines : (around id : ℕ) → Forest → List ℕ
-block_lines around id inner = block_line around id ++ lines_of (suc around) inner
+-- a line that was not printed, or not all of it
+pub line_stops : (around : ℕ) (old new : Coming) (p q : Printing) (event : Event) (fault : Fault) → Gives old event new → Prints (event_text around event) p (Err fault) q → Tells old → Prints (events_text around old.told.0) p (Err fault) q
+line_stops around old new p q event fault gives prints tells =
+    let rest = events_text (open_after event around) new.told.0 in
+    let whole : events_text around old.told.0 ≡ event_text around event ++ rest = ap (λ (t : Told). events_text around t.0) (gives.told tells) in
+    subst (λ (l : List ℕ). Prints l p (Err fault) q) (sym whole) (goes_wrong (event_text around event ++ rest) p (event_text around event) rest p q fault (goes_starts (event_text around event ++ rest) p) prints)
 
-abbrev pub item_lines : (around : ℕ) → Item → List ℕ
-item_lines around (item.Block b) = block_lines around b.id b.items
-item_lines around (item.Record r) = record_line around r.code r.values
+-- of a text, the lines of the events to come are left to print, with so many blocks around the first
+pub record Listing (text : List ℕ) (first : Printing) (around : ℕ) (now : Coming) (p : Printing) : Type 0 where
+  pub tells : Tells now
+  pub deepest : now.deepest ≤ 255
+  pub inside : now.depth ≤ now.deepest
+  pub around_is : around ≡ now.depth
+  pub goes : Goes text first (events_text around now.told.0) p
 
-lines_put : (around : ℕ) (x : Item) (rest : Forest) → lines_of around (put_item x rest) ≡ item_lines around x ++ lines_of around rest
-lines_put around (item.Block b) rest = sym (append_assoc (block_line around b.id) (lines_of (suc around) b.items) (lines_of around rest))
-lines_put around (item.Record r) rest = refl
+pub listing_begins : (start : Coming) (p : Printing) → Tells start → start.depth ≡ 0 → start.deepest ≤ 255 → Listing (events_text 0 start.told.0) p 0 start p
+listing_begins start p tells outside deepest = record { tells = tells; deepest = deepest; inside = omega (arith, outside); around_is = sym outside; goes = goes_starts (events_text 0 start.told.0) p }
 
-next_item : (whole : List ℕ) (old now : Printing) (around : ℕ) (items : List Item) (i : ℕ) (x : Item) → i < length items → x ≡ get_or items i x → Goes whole old (lines_of around (forest_of_items (drop i items))) now
-    → Goes whole old (item_lines around x ++ lines_of around (forest_of_items (drop (i + 1) items))) now
-next_item whole old now around items i x h is g =
-    let rest = forest_of_items (drop (i + 1) items) in
-    goes_as whole old (lines_of around (forest_of_items (drop i items))) (item_lines around x ++ lines_of around rest) now (ap (lines_of around) (item_placed items i x h is) ∙ lines_put around x rest) g
+pub listing_goes_on : (text : List ℕ) (first : Printing) (around next : ℕ) (old new : Coming) (p q : Printing) → Listing text first around old p → PrintsOne around old p next new q → Listing text first next new q
+listing_goes_on text first around next old new p q l one =
+    let event = one.event in
+    let gives = one.gives in
+    let may = subst (λ (n : ℕ). MayStand old.deepest event n) (sym l.around_is) gives.stands in
+    let place : next ≡ new.depth = one.next_is ∙ ap (open_after event) l.around_is ∙ sym gives.depth in
+    let whole : events_text around old.told.0 ≡ event_text around event ++ events_text next new.told.0 = ap (λ (t : Told). events_text around t.0) (gives.told l.tells) ∙ ap (λ (n : ℕ). event_text around event ++ events_text n new.told.0) (sym one.next_is) in
+    record {
+      tells = gives.pays.tells l.tells;
+      deepest = omega (arith, gives.deepest, l.deepest);
+      inside = omega (arith, gives.deepest, gives.depth, open_within old.deepest event old.depth gives.stands l.inside);
+      around_is = place;
+      goes = goes_on text first (event_text around event) (events_text next new.told.0) p q (goes_as text first (events_text around old.told.0) _ p whole l.goes) one.printed;
+    }
 
-pub next_in_items : (whole : List ℕ) (old now : Printing) (around : ℕ) (items : List Item) (i : ℕ) (x : Item) (b : Block) → i < length items → x ≡ get_or items i x → x ≡ item.Block b → Goes whole old (lines_of around (forest_of_items (drop i items))) now
-    → Goes whole old (block_lines around b.id b.items ++ lines_of around (forest_of_items (drop (i + 1) items))) now
-next_in_items whole old now around items i x b h is block g =
-    subst (λ (y : Item). Goes whole old (item_lines around y ++ lines_of around (forest_of_items (drop (i + 1) items))) now) block (next_item whole old now around items i x h is g)
+pub listing_is_whole : (text : List ℕ) (first : Printing) (around : ℕ) (old new : Coming) (p q : Printing) → Listing text first around old p → Ends old new × (q ≡ p) → Printed text first q
+listing_is_whole text first around old new p q l ends =
+    let none : events_text around old.told.0 ≡ [] = ap (λ (t : Told). events_text around t.0) (ends.0.told l.tells).0 in
+    rw ends.1 (goes_ends text first p (goes_as text first (events_text around old.told.0) [] p none l.goes))
 
-pub next_record : (whole : List ℕ) (old now : Printing) (around : ℕ) (items : List Item) (i : ℕ) (x : Item) (r : Record) (code : ℕ) (values : List ℕ) → i < length items → x ≡ get_or items i x → x ≡ item.Record r → code ≡ r.code → values ≡ r.values
-    → Goes whole old (lines_of around (forest_of_items (drop i items))) now → Goes whole old (record_line around code values ++ lines_of around (forest_of_items (drop (i + 1) items))) now
-next_record whole old now around items i x r code values h is record_is code_is values_is g =
-    rw (code_is, values_is) (subst (λ (y : Item). Goes whole old (item_lines around y ++ lines_of around (forest_of_items (drop (i + 1) items))) now) record_is (next_item whole old now around items i x h is g))
-
-pub last_item : (whole : List ℕ) (old now : Printing) (around : ℕ) (items : List Item) (i : ℕ) → length items ≤ i → Goes whole old (lines_of around (forest_of_items (drop i items))) now → Printed whole old now
-last_item whole old now around items i h g = goes_ends whole old now (goes_as whole old (lines_of around (forest_of_items (drop i items))) [] now (ap (λ (l : List Item). lines_of around (forest_of_items l)) (drop_all i items h)) g)
-
-pub first_item : (old : Printing) (around : ℕ) (items : List Item) (whole : Forest) → forest_of_items items ≡ whole → Goes (lines_of around whole) old (lines_of around (forest_of_items items)) old
-first_item old around items whole viewed = goes_as (lines_of around whole) old (lines_of around whole) (lines_of around (forest_of_items items)) old (ap (lines_of around) (sym viewed)) (goes_starts (lines_of around whole) old)
-
--- ---- a block
-
-pub no_block : (around id : ℕ) (inner : Forest) (old new : Printing) (fault : Fault) → Prints (block_line around id) old (Err fault) new → Prints (block_lines around id inner) old (Err fault) new
-no_block around id inner old new fault p = goes_wrong (block_lines around id inner) old (block_line around id) (lines_of (suc around) inner) old new fault (goes_starts (block_lines around id inner) old) p
-
--- no memory for the lines of what it holds
-pub no_items : (around id : ℕ) (inner : Forest) (old now : Printing) → Printed (block_line around id) old now → Prints (block_lines around id inner) old (Err Memory) now
-no_items around id inner old now p = no_block around id inner old now Memory (record { front = p.part; rest = now.held; split = p.split; bytes = p.bytes }, p.failures)
-
-pub block_ends : (around id : ℕ) (inner : Forest) (old now new : Printing) (r : Result (Unit {0}) Fault) → Printed (block_line around id) old now → Prints (lines_of (around + 1) inner) now r new → Prints (block_lines around id inner) old r new
-block_ends around id inner old now new r p q =
-    let same : around + 1 ≡ suc around = omega arith in
-    goes_last (block_lines around id inner) old (lines_of (suc around) inner) now r new (goes_on (block_lines around id inner) old (block_line around id) (lines_of (suc around) inner) old now (goes_starts (block_lines around id inner) old) p)
-    (subst (λ (n : ℕ). Prints (lines_of n inner) now r new) same q)
-
--- ---- blocks at the top
-
-pub next_block : (whole : List ℕ) (old now : Printing) (blocks : List Block) (i : ℕ) (b : Block) → i < length blocks → b ≡ get_or blocks i b → Goes whole old (lines_of 0 (forest_of_blocks (drop i blocks))) now
-    → Goes whole old (block_lines 0 b.id b.items ++ lines_of 0 (forest_of_blocks (drop (i + 1) blocks))) now
-next_block whole old now blocks i b h is g =
-    let rest = forest_of_blocks (drop (i + 1) blocks) in
-    goes_as whole old (lines_of 0 (forest_of_blocks (drop i blocks))) (block_lines 0 b.id b.items ++ lines_of 0 rest) now (ap (lines_of 0) (block_placed blocks i b h is) ∙ sym (append_assoc (block_line 0 b.id) (lines_of (suc 0) b.items) (lines_of 0 rest))) g
-
-pub last_block : (whole : List ℕ) (old now : Printing) (blocks : List Block) (i : ℕ) → length blocks ≤ i → Goes whole old (lines_of 0 (forest_of_blocks (drop i blocks))) now → Printed whole old now
-last_block whole old now blocks i h g = goes_ends whole old now (goes_as whole old (lines_of 0 (forest_of_blocks (drop i blocks))) [] now (ap (λ (l : List Block). lines_of 0 (forest_of_blocks l)) (drop_all i blocks h)) g)
+pub listing_stops : (text : List ℕ) (first : Printing) (around : ℕ) (old : Coming) (p q : Printing) (fault : Fault) → Listing text first around old p → (Tells old → Prints (events_text around old.told.0) p (Err fault) q) → Prints text first (Err fault) q
+listing_stops text first around old p q fault l stops = goes_last text first (events_text around old.told.0) p (Err fault) q l.goes (stops l.tells)
 
 -- ---- the whole
 
-listing_starts : (tree : Tree) (w : Printing) → Goes (listing_of tree) w (listing_head tree.magic ++ (lines_of 0 tree.blocks ++ [])) w
-listing_starts tree w = goes_as (listing_of tree) w (listing_of tree) _ w (ap (λ (l : List ℕ). listing_head tree.magic ++ l) (sym (append-nil (lines_of 0 tree.blocks)))) (goes_starts (listing_of tree) w)
+told_starts : (magic : ℕ) (lines : List ℕ) (w : Printing) → Goes (listing_head magic ++ lines) w (listing_head magic ++ (lines ++ [])) w
+told_starts magic lines w = goes_as (listing_head magic ++ lines) w (listing_head magic ++ lines) _ w (ap (λ (l : List ℕ). listing_head magic ++ l) (sym (append-nil lines))) (goes_starts (listing_head magic ++ lines) w)
 
-pub no_head : (tree : Tree) (magic : ℕ) (old new : Printing) (fault : Fault) → magic ≡ tree.magic → Prints (listing_head magic) old (Err fault) new → Prints (listing_of tree) old (Err fault) new
-no_head tree magic old new fault is p = goes_wrong (listing_of tree) old (listing_head tree.magic) (lines_of 0 tree.blocks ++ []) old new fault (listing_starts tree old) (subst (λ (n : ℕ). Prints (listing_head n) old (Err fault) new) is p)
+pub no_head : (magic : ℕ) (lines : List ℕ) (old new : Printing) (fault : Fault) → Prints (listing_head magic) old (Err fault) new → Prints (listing_head magic ++ lines) old (Err fault) new
+no_head magic lines old new fault p = goes_wrong (listing_head magic ++ lines) old (listing_head magic) (lines ++ []) old new fault (told_starts magic lines old) p
 
-after_head : (tree : Tree) (magic : ℕ) (old now : Printing) → magic ≡ tree.magic → Printed (listing_head magic) old now → Goes (listing_of tree) old (lines_of 0 tree.blocks ++ []) now
-after_head tree magic old now is p = goes_on (listing_of tree) old (listing_head tree.magic) (lines_of 0 tree.blocks ++ []) old now (listing_starts tree old) (subst (λ (n : ℕ). Printed (listing_head n) old now) is p)
+after_head : (magic : ℕ) (lines : List ℕ) (old now : Printing) → Printed (listing_head magic) old now → Goes (listing_head magic ++ lines) old (lines ++ []) now
+after_head magic lines old now p = goes_on (listing_head magic ++ lines) old (listing_head magic) (lines ++ []) old now (told_starts magic lines old) p
 
-pub no_blocks : (tree : Tree) (magic : ℕ) (blocks : Forest) (old now new : Printing) (fault : Fault) → magic ≡ tree.magic → blocks ≡ tree.blocks → Printed (listing_head magic) old now → Prints (lines_of 0 blocks) now (Err fault) new → Prints (listing_of tree) old (Err fault) new
-no_blocks tree magic blocks old now new fault is blocks_are p q =
-    goes_wrong (listing_of tree) old (lines_of 0 tree.blocks) [] now new fault (after_head tree magic old now is p) (subst (λ (f : Forest). Prints (lines_of 0 f) now (Err fault) new) blocks_are q)
+pub no_lines : (magic : ℕ) (lines : List ℕ) (old now new : Printing) (fault : Fault) → Printed (listing_head magic) old now → Prints lines now (Err fault) new → Prints (listing_head magic ++ lines) old (Err fault) new
+no_lines magic lines old now new fault p q = goes_wrong (listing_head magic ++ lines) old lines [] now new fault (after_head magic lines old now p) q
 
-pub listing_ends : (tree : Tree) (magic : ℕ) (blocks : Forest) (old now last new : Printing) (r : Result (Unit {0}) Fault) → magic ≡ tree.magic → blocks ≡ tree.blocks → Printed (listing_head magic) old now → Printed (lines_of 0 blocks) now last → Prints [] last r new → Prints (listing_of tree) old r new
-listing_ends tree magic blocks old now last new r is blocks_are p q e =
-    goes_last (listing_of tree) old [] last r new (goes_on (listing_of tree) old (lines_of 0 tree.blocks) [] now last (after_head tree magic old now is p) (subst (λ (f : Forest). Printed (lines_of 0 f) now last) blocks_are q)) e
+pub told_ends : (magic : ℕ) (lines : List ℕ) (old now last new : Printing) (r : Result (Unit {0}) Fault) → Printed (listing_head magic) old now → Printed lines now last → Prints [] last r new → Prints (listing_head magic ++ lines) old r new
+told_ends magic lines old now last new r p q e = goes_last (listing_head magic ++ lines) old [] last r new (goes_on (listing_head magic ++ lines) old lines [] now last (after_head magic lines old now p) q) e

@@ -5,6 +5,7 @@ pub mod Counting
 pub mod Cut
 pub mod Fitting
 pub mod Lines
+pub mod Listing
 pub mod Printing
 pub mod Reporting
 pub mod Rows

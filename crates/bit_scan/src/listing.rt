@@ -1,13 +1,14 @@
-ghost use Rattle.std.specs.Prelude.{◌≡◌, ℕ, suc, ◌+◌, ◌∷◌, ◌++◌, [], OnOk, IfOk, IfErr, decimal, flat_map};
-ghost use Rattle.bit_fields.specs.declared.fault.Fault.{Fault};
-ghost use Rattle.bit_grammar.specs.Texts.{block_line, record_line, lines_of, listing_of};
-ghost use Rattle.bit_tree.specs.TreeView.{forest_of_blocks, tree_with};
+ghost use Rattle.std.specs.Prelude.{◌≡◌, ℕ, ◌≤◌, ◌∷◌, ◌++◌, [], OnOk, decimal, flat_map};
+ghost use Rattle.bit_grammar.specs.Steps.{open_after};
+ghost use Rattle.bit_grammar.specs.Texts.{record_line, event_text, events_text};
+ghost use Rattle.bit_events.specs.Coming.{Tells};
+ghost use Rattle.bit_events.specs.EventView.{shown};
+ghost use Rattle.bit_scan.specs.Listing.{told_text, Continues, ListsBytes};
 ghost use Rattle.bit_scan.specs.Printing.{Prints};
-ghost use Rattle.bit_scan.specs.Written.{WritesText};
 
 use crate::printer::Printer;
-use bit_fields::{Fault, Sink};
-use bit_tree::{Block, Item, Items};
+use bit_events::{Event, Events};
+use bit_fields::{Fault, Limits, Sink, SliceSource, Source};
 use std::alloc::Global;
 
 /// Writes the values of a record.
@@ -34,73 +35,106 @@ fn write_record<K: Sink>(
     printer.line_end()
 }
 
-/// One block more. Blocks that stand 2^32 deep in one another would need more memory for one line than there is.
-fn one_more(around: u32) -> Result<u32, Fault>
-    ensures ok { IfOk result (λ inner. inner ≡ around + 1) }
-    ensures err { IfErr result (λ fault. fault ≡ Fault.Memory) }
-{
-    around.checked_add(1).ok_or(Fault::Memory)
-}
-
-/// Writes the line of a block, and the lines of what it holds.
-#[cycle(write)]
-fn write_block<K: Sink>(printer: &mut Printer<K>, around: u32, block: &Block) -> Result<(), Fault>
-    ensures { Prints (block_line around block.now.id ++ lines_of (suc around) block.now.items) printer.old result printer.new }
-{
-    printer.block_line(around, block.id)?;
-    write_items(printer, one_more(around)?, &block.items)
-}
-
-/// Writes the lines of what a block holds.
-#[cycle(write)]
-fn write_items<K: Sink>(printer: &mut Printer<K>, around: u32, items: &Items) -> Result<(), Fault>
-    ensures { Prints (lines_of around items.now) printer.old result printer.new }
-{
-    for item in &items.0 {
-        match item {
-            Item::Block(block) => write_block(printer, around, block)?,
-            Item::Record(record) => write_record(printer, around, record.code, &record.values.0)?,
-        }
-    }
-    Ok(())
-}
-
-/// Writes the lines of the blocks at the top.
-fn write_blocks<K: Sink>(printer: &mut Printer<K>, blocks: &[Block]) -> Result<(), Fault>
-    ensures { Prints (lines_of 0 (forest_of_blocks blocks.now)) printer.old result printer.new }
-{
-    for block in blocks {
-        write_block(printer, 0, block)?;
-    }
-    Ok(())
-}
-
-/// Writes the listing of a magic and blocks through a printer.
-fn write_contents<K: Sink>(
+/// Writes the line of an event with so many blocks around it, if it has one.
+#[inline]
+fn write_event<K: Sink>(
     printer: &mut Printer<K>,
-    magic: [u8; 4],
-    blocks: &[Block],
+    around: u32,
+    event: &Event<'_>,
 ) -> Result<(), Fault>
-    ensures prints { Prints (listing_of (tree_with magic blocks.now)) printer.old result printer.new }
+    ensures { Prints (event_text around (shown event.now)) printer.old result printer.new }
+{
+    match event {
+        Event::Enter { id, .. } => printer.block_line(around, *id),
+        Event::Record { code, values, .. } => write_record(printer, around, *code, values),
+        Event::Define { .. } | Event::Leave { .. } => Ok(()),
+    }
+}
+
+/// How many blocks stand around what follows an event.
+fn around_after(around: u32, event: &Event<'_>) -> u32
+    requires { around ≤ 255 }
+    ensures { result ≡ open_after (shown event.now) around }
+{
+    match event {
+        Event::Enter { .. } => around + 1,
+        Event::Leave { .. } => around.saturating_sub(1),
+        Event::Define { .. } | Event::Record { .. } => around,
+    }
+}
+
+/// Writes the line of the next event, with so many blocks around it. Answers how many stand around the event that follows, or
+/// nothing where none is left.
+fn write_next<S: Source, K: Sink>(
+    events: &mut Events<S>,
+    printer: &mut Printer<K>,
+    around: u32,
+) -> Result<Option<u32>, Fault>
+    requires { around ≤ 255 }
+    ensures { Continues around events.old printer.old result events.new printer.new }
+{
+    match events.next() {
+        Ok(Some(event)) => {
+            write_event(printer, around, &event)?;
+            Ok(Some(around_after(around, &event)))
+        }
+        Ok(None) => Ok(None),
+        // The input was accepted before, so only memory can be refused.
+        Err(_) => Err(Fault::Memory),
+    }
+}
+
+/// Writes the lines of all events.
+fn write_events<S: Source, K: Sink>(
+    events: &mut Events<S>,
+    printer: &mut Printer<K>,
+) -> Result<(), Fault>
+    requires tells { Tells events.old }
+    requires outside { events.old.depth ≡ 0 }
+    requires deepest { events.old.deepest ≤ 255 }
+    ensures { Prints (events_text 0 events.old.told.0) printer.old result printer.new }
+{
+    let mut around = 0;
+    while let Some(next) = write_next(events, printer, around)? {
+        around = next;
+    }
+    Ok(())
+}
+
+/// Writes the line of a magic and those of all events.
+fn write_told<S: Source, K: Sink>(
+    events: &mut Events<S>,
+    printer: &mut Printer<K>,
+) -> Result<(), Fault>
+    requires tells { Tells events.old }
+    requires outside { events.old.depth ≡ 0 }
+    requires deepest { events.old.deepest ≤ 255 }
+    ensures prints { Prints (told_text events.old.head events.old.told) printer.old result printer.new }
     ensures all { OnOk result (printer.new.held ≡ []) }
 {
-    printer.listing_head(magic)?;
-    write_blocks(printer, blocks)?;
+    printer.listing_head(events.head().magic)?;
+    write_events(events, printer)?;
     printer.finish()
 }
 
-/// Appends the listing of a magic and blocks to a sink: a line for the magic, and one for each block and record in order.
+/// Appends the listing of the bytes of an accepted input to a sink: a line for the magic, and one for each block and record in
+/// order, as they are read.
 ///
-/// `Write`, where the sink fails, and `Memory`, where the buffer's growth is refused, leave the sink a front of the listing.
+/// `Write`, where the sink fails, and `Memory`, where memory is refused, leave the sink a front of the listing.
 pub(crate) fn write_listing<K: Sink>(
     alloc: Global,
-    magic: [u8; 4],
-    blocks: &[Block],
+    bytes: &[u8],
+    limits: Limits,
     sink: K,
 ) -> (Result<(), Fault>, K)
-    ensures { WritesText (listing_of (tree_with magic blocks.now)) (K.outgoing sink) result.0 (K.outgoing result.1) }
+    ensures { ListsBytes limits bytes.now (K.outgoing sink) result.0 (K.outgoing result.1) }
 {
+    let mut events = match Events::start(alloc, SliceSource::new(bytes), limits) {
+        Ok(events) => events,
+        // Accepted bytes begin with a magic, so this does not come.
+        Err(_) => return (Err(Fault::Memory), sink),
+    };
     let mut printer = Printer::new(alloc, sink);
-    let answer = write_contents(&mut printer, magic, blocks);
+    let answer = write_told(&mut events, &mut printer);
     (answer, printer.into_sink())
 }

@@ -1,9 +1,18 @@
-use Rattle.bit_tree.specs.TreeView.{tree_with}
-use Rattle.bit_grammar.specs.Texts.{listing_of}
+use Rattle.std.proofs.Common.{inl, refl, subst}
+use Rattle.bit_fields.specs.Devices.{Incoming}
+use Rattle.bit_events.specs.Events.{Begun}
+use Rattle.bit_scan.specs.Listing.{told_text}
 use Rattle.bit_scan.proofs.Prints.{sink_back}
 use Rattle.bit_scan.proofs.listing.write_listing.Goals as goal
 
 pub returns : goal.returns
 returns g c =
-    sink_back (listing_of (tree_with c.args.magic c.args.blocks.now)) c.write_contents-answer.result (g.K.Sink.outgoing c.args.sink) (g.K.Sink.outgoing c.into_sink.result) c.new-printer.result c.write_contents-answer.new.printer c.new-printer.ensures c.into_sink.ensures c.write_contents-answer.ensures.prints
-    c.write_contents-answer.ensures.all
+    let events = c.in-Ok.events in
+    let begun = subst (λ (i : Incoming). Begun c.args.limits i events) c.new.ensures c.in-Ok.ensures.begun in
+    inl (
+      begun.capped,
+      (events.head, events.told),
+      begun.told refl,
+      sink_back (told_text events.head events.told) c.write_told-answer.result (g.K.Sink.outgoing c.args.sink) (g.K.Sink.outgoing c.into_sink.result) c.new-printer.result c.write_told-answer.new.printer c.new-printer.ensures c.into_sink.ensures
+          c.write_told-answer.ensures.prints c.write_told-answer.ensures.all,
+    )
