@@ -1,6 +1,6 @@
 -- Comparing the first bytes of an input with the rest.
-use Rattle.std.proofs.Common.{◌≡◌, ◌∙◌, ℕ, ◌+◌, ◌<◌, ◌≤◌, min, Bool, true, false, List, [], ◌++◌, length, take, drop, Some, None, Ok, Err, refl, sym, ap, subst, inl, inr, arith, codes, length-append, length-take}
-use Rattle.std.specs.Prelude.{IsSome, IsTrue}
+use Rattle.std.proofs.Common.{◌≡◌, ◌∙◌, ℕ, ◌+◌, ◌<◌, ◌≤◌, min, List, [], ◌++◌, length, take, drop, Some, None, Err, refl, sym, ap, subst, inl, inr, arith, codes, length-append, length-take}
+use Rattle.std.specs.Prelude.{IsSome, IfSome, ◌^◌}
 use Rattle.std.specs.Io.KnownBytes.{Consumes, IsAtEnd}
 use Rattle.std.proofs.lemmas.List.{append-nil, take_all, take_at, drop_at, take-take}
 use Rattle.std.proofs.Math.ListN.{drop_of_length-le}
@@ -8,21 +8,23 @@ use Rattle.std.proofs.lemmas.Bool.{cases_lt}
 use Rattle.bit_grammar.specs.declared.info.Info.{Info}
 use Rattle.bit_grammar.specs.Bits.{bits_of_bytes}
 use Rattle.bit_grammar.specs.Grammar.{Fault, at}
-use Rattle.bit_grammar.specs.Forest.{Tree}
 use Rattle.bit_grammar.specs.Blocks.{Limits}
 use Rattle.bit_grammar.specs.Input.{BreaksInput, Cut, front_broken, front_spelled}
 use Rattle.bit_grammar.specs.Normal.{HasTree}
 use Rattle.bit_fields.specs.declared.fault.Fault as code
 use Rattle.bit_fields.specs.declared.fault.Fault.TheVariants as fault
-use Rattle.bit_fields.specs.Devices.{Incoming, known_bytes}
+use Rattle.bit_fields.specs.Devices.{Incoming, Spends, known_bytes}
+use Rattle.bit_fields.specs.Reader.{SourceFails}
+use Rattle.bit_events.specs.Reading.{Spent}
 use Rattle.bit_norm.specs.declared.comparing.Which.{Which}
 use Rattle.bit_norm.specs.declared.comparing.Which.TheVariants.{First, Second}
-use Rattle.bit_norm.specs.Whole.{Compares, Misreads}
+use Rattle.bit_norm.specs.Whole.{Misreads}
 use Rattle.bitstool.specs.declared.outcome.Outcome.{Outcome}
 use Rattle.bitstool.specs.declared.outcome.Outcome.TheVariants.{Done, Different, Refused, RefusedOf, TooLong, Usage, Read, Write, Memory}
 use Rattle.bitstool.specs.declared.task.Task.TheVariants.{Same}
-use Rattle.bitstool.specs.Performing.{ComparesWith, Finds, TakesFirst, outcome_in, outcome_of}
-use Rattle.bitstool.specs.Runs.{Told}
+use Rattle.bitstool.specs.Performing.{ComparesWith, Finds, Judges, TakesFirst, TakesRest, outcome_in, outcome_of}
+use Rattle.bitstool.specs.Runs.{IsDrained, Takes, Told}
+use Rattle.bitstool.proofs.Taking.{drained, fails_later, spends_more, spends_none, spends_then}
 use Rattle.bitstool.proofs.Known.{if_told}
 
 -- ---- what a comparison found
@@ -30,21 +32,6 @@ use Rattle.bitstool.proofs.Known.{if_told}
 -- a fact of an input that is known
 known_first : (i : Incoming) (first : List ℕ) (P : List ℕ → Type 0) → i.to_come ≡ Some first → (IsSome i.to_come → P (known_bytes i.to_come)) → P first
 known_first i first P is h = subst (λ (o : Told). (IsSome o → P (known_bytes o)) → P first) (sym is) (λ of_first. of_first refl) h
-
--- the trees are one
-pub found_same : (info : Info) (limits : Limits) (first : List ℕ) (i j now later : Incoming) (answer : Bool) → answer ≡ true → i.to_come ≡ Some first → Compares info limits i j (Ok answer) now later → ComparesWith info limits first j.to_come Done
-found_same info limits first i j now later false bad is h = absurd (cc)
-found_same info limits first i j now later true _ is h =
-    let same : h.0 ≡ h.1 = h.4.0 refl in
-    let has : HasTree info limits first h.0 = known_first i first (λ bytes. HasTree info limits bytes h.0) is (λ tells. (h.2.1 tells).0.0) in
-    (h.1, subst (λ (t : Tree). HasTree info limits first t) same has, if_told j.to_come (λ bytes. HasTree info limits bytes h.1) (λ tells. (h.3.1 tells).0.0))
-
--- they are two
-pub found_different : (info : Info) (limits : Limits) (first : List ℕ) (i j now later : Incoming) (answer : Bool) → answer ≡ false → i.to_come ≡ Some first → Compares info limits i j (Ok answer) now later → ComparesWith info limits first j.to_come Different
-found_different info limits first i j now later true bad is h = absurd (cc)
-found_different info limits first i j now later false _ is h =
-    let has : HasTree info limits first h.0 = known_first i first (λ bytes. HasTree info limits bytes h.0) is (λ tells. (h.2.1 tells).0.0) in
-    (h.0, h.1, has, if_told j.to_come (λ bytes. HasTree info limits bytes h.1) (λ tells. (h.3.1 tells).0.0), λ same. let bad : IsTrue false = h.4.1 same in absurd (cc))
 
 -- one was not read
 pub found_fault : (info : Info) (limits : Limits) (first : List ℕ) (i j now later : Incoming) (which : Which) (why : code.Fault) → i.to_come ≡ Some first → Misreads info limits which why i j now later → ComparesWith info limits first j.to_come (outcome_in which limits.bytes why)
@@ -62,6 +49,64 @@ found_fault info limits first i j now later First fault.OutputTooLong is h = abs
 found_fault info limits first i j now later Second fault.OutputTooLong is h = absurd h.2
 found_fault info limits first i j now later First fault.Failed is h = absurd h.0
 found_fault info limits first i j now later Second fault.Failed is h = absurd h.2
+
+-- ---- what was taken of the second input
+
+-- a slice never fails in a comparison
+abbrev pub IsSlice : Incoming → Type 0
+IsSlice i = i.failures ≡ 0
+
+never_fails : (limits : Limits) (i now : Incoming) → limits.bytes < 2 ^ 60 → i.pulls ≡ 0 → IsSlice now → Spent limits i now → SourceFails i now → ⊥
+never_fails limits i now capped fresh slice spent (inl rose) = absurd (omega (arith, slice, rose))
+never_fails limits i now capped fresh slice spent (inr worn) = absurd (omega (arith, slice, worn, spent.pulls, fresh, capped))
+
+-- none, where the first was not read
+none_spent : (limits : Limits) (j later : Incoming) → later ≡ j → Spent limits j later
+none_spent limits j later same = subst (λ (n : Incoming). Spent limits j n) (sym same) (spends_none j (limits.bytes + 1))
+
+pub rest_misread : (info : Info) (limits : Limits) (i j now later : Incoming) (which : Which) (why : code.Fault) → limits.bytes < 2 ^ 60 → i.pulls ≡ 0 → IsSlice now
+    → Misreads info limits which why i j now later → TakesRest limits j later (outcome_in which limits.bytes why)
+rest_misread info limits i j now later First (fault.Refused reason bit) capped fresh slice h = h.1
+rest_misread info limits i j now later Second (fault.Refused reason bit) capped fresh slice h = (h.2.0, tt)
+rest_misread info limits i j now later First fault.Read capped fresh slice h = absurd (never_fails limits i now capped fresh slice h.0.0 h.0.1)
+rest_misread info limits i j now later Second fault.Read capped fresh slice h = h.2
+rest_misread info limits i j now later First fault.Memory capped fresh slice h = (none_spent limits j later h.1, tt)
+rest_misread info limits i j now later Second fault.Memory capped fresh slice h = (h.2, tt)
+rest_misread info limits i j now later First fault.Write capped fresh slice h = absurd h.0
+rest_misread info limits i j now later Second fault.Write capped fresh slice h = absurd h.2
+rest_misread info limits i j now later First fault.OutputTooLong capped fresh slice h = absurd h.0
+rest_misread info limits i j now later Second fault.OutputTooLong capped fresh slice h = absurd h.2
+rest_misread info limits i j now later First fault.Failed capped fresh slice h = absurd h.0
+rest_misread info limits i j now later Second fault.Failed capped fresh slice h = absurd h.2
+
+drained_then : (i mid later : Incoming) (most : ℕ) → Spends i most mid 0 → IsDrained mid later → IsDrained i later
+drained_then i mid later most h all = drained i later (λ t. (left (h.tells t)).0) (λ t. (left (h.tells t)).1)
+  where
+    left : IsSome mid.to_come → IsSome later.to_come × (known_bytes later.to_come ≡ [])
+    left told = go mid.to_come told all
+      where
+        go : (o : Told) → IsSome o → IfSome o (λ bytes. later.to_come ≡ Some []) → IsSome later.to_come × (known_bytes later.to_come ≡ [])
+        go None told all = absurd (cc)
+        go (Some bytes) told all = rw all (refl, refl)
+
+-- what was taken of both
+pub both_taken : (info : Info) (limits : Limits) (first count : ℕ) (i mid later : Incoming) (outcome : Outcome) → count ≡ min first (limits.bytes + 1) → Spends i count mid 0 → TakesRest limits mid later outcome → Takes (Same first limits info) i later outcome
+both_taken info limits first count i mid later outcome counted h rest = go outcome rest
+  where
+    both : Spent limits mid later → Spends i (min first (limits.bytes + 1) + (limits.bytes + 1)) later 0
+    both k = subst (λ (n : ℕ). Spends i (n + (limits.bytes + 1)) later 0) counted (spends_then i mid later count (limits.bytes + 1) h k)
+
+    go : (o : Outcome) → TakesRest limits mid later o → Takes (Same first limits info) i later o
+    go (RefusedOf First reason bit) r = (subst (λ (n : Incoming). Spends i (min first (limits.bytes + 1)) n 0) (sym r) (subst (λ (n : ℕ). Spends i n mid 0) counted h), tt)
+    go (RefusedOf Second reason bit) r = (both r.0, tt)
+    go Done r = (both r.0, drained_then i mid later count h r.1)
+    go Different r = (both r.0, drained_then i mid later count h r.1)
+    go (TooLong limit) r = (both r.0, drained_then i mid later count h r.1)
+    go Read r = (both r.0, fails_later i mid later h.failures r.1)
+    go Memory r = (both r.0, tt)
+    go Write r = (both r.0, tt)
+    go Usage r = (both r.0, tt)
+    go (Refused reason bit) r = (both r.0, tt)
 
 -- ---- the bytes that were taken first
 
@@ -155,10 +200,10 @@ compared info limits first count (Some input) (Some rest) bytes outcome counted 
     go (past long also same) = of_past info limits first input bytes rest outcome long also same h
 
 -- they were not taken
-pub not_taken : (info : Info) (limits : Limits) (first count : ℕ) (i now : Incoming) (why : code.Fault) → TakesFirst count i (Err why) now → Finds (Same first limits info) i.to_come (outcome_of limits.bytes why)
-not_taken info limits first count i now fault.Read h = tt
-not_taken info limits first count i now fault.Memory h = tt
-not_taken info limits first count i now fault.Write h = absurd h
-not_taken info limits first count i now fault.OutputTooLong h = absurd h
-not_taken info limits first count i now fault.Failed h = absurd h
-not_taken info limits first count i now (fault.Refused reason bit) h = absurd h
+pub not_taken : (info : Info) (limits : Limits) (first count : ℕ) (i now : Incoming) (why : code.Fault) → count ≡ min first (limits.bytes + 1) → TakesFirst count i (Err why) now → Judges (Same first limits info) i now (outcome_of limits.bytes why)
+not_taken info limits first count i now fault.Read counted h = ((spends_more i now count _ (omega (arith, counted)) h.0, h.1), tt)
+not_taken info limits first count i now fault.Memory counted h = ((spends_more i now count _ (omega (arith, counted)) h, tt), tt)
+not_taken info limits first count i now fault.Write counted h = absurd h
+not_taken info limits first count i now fault.OutputTooLong counted h = absurd h
+not_taken info limits first count i now fault.Failed counted h = absurd h
+not_taken info limits first count i now (fault.Refused reason bit) counted h = absurd h

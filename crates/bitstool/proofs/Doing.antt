@@ -1,5 +1,5 @@
 -- What commands do, by their steps.
-use Rattle.std.proofs.Common.{◌≡◌, ℕ, List, Result, Ok, Err, ◌<◌, codes, refl, sym, ap, subst, inl, inr}
+use Rattle.std.proofs.Common.{◌≡◌, ◌∙◌, ℕ, ◌+◌, List, Result, Ok, Err, ◌<◌, ◌≤◌, codes, refl, sym, subst, inl, inr, arith}
 use Rattle.std.specs.Prelude.{IfSome}
 use Rattle.std.specs.Io.KnownBytes.{Keeps}
 use Rattle.std.proofs.KnownBytes.{Keeps-refl, Keeps-trans}
@@ -19,29 +19,24 @@ use Rattle.bit_events.specs.Reading.{ReadsWhole}
 use Rattle.bit_tree.specs.Reading.{HasFit}
 use Rattle.bit_scan.specs.Analysing.{HasTally}
 use Rattle.bit_scan.specs.Showing.{ListsNothing, ReadsAndLists, Shows}
-use Rattle.bit_scan.specs.Written.{WritesText}
+use Rattle.bit_scan.specs.Written.{HasFailed, WritesText}
 use Rattle.bit_fields.specs.declared.fault.Fault.{Fault}
 use Rattle.bit_fields.specs.declared.fault.Fault.TheVariants as fault
 use Rattle.bit_fields.specs.Devices.{Incoming, Outgoing}
-use Rattle.bit_norm.specs.Whole.{Normalises}
+use Rattle.bit_norm.specs.declared.comparing.Which.TheVariants.{First, Second}
+use Rattle.bit_norm.specs.Whole.{Normalises, ReadsTree}
 use Rattle.bitstool.specs.declared.outcome.Outcome.{Outcome}
 use Rattle.bitstool.specs.declared.outcome.Outcome.TheVariants.{Done, Different, Refused, RefusedOf, TooLong, Usage, Read, Write, Memory}
 use Rattle.bitstool.specs.declared.task.Task.{Task}
 use Rattle.bitstool.specs.declared.task.Task.TheVariants.{Check, Normal, Same, Analyse, Show}
-use Rattle.bitstool.specs.Performing.{Finds, IsOrWrite, Puts, Tells, ended, outcome_of}
-use Rattle.bitstool.specs.Runs.{Told, Accepts, Answers, Refuses, GainsFront, StopsShort, LacksMemory, Does}
+use Rattle.bitstool.specs.Performing.{Finds, Judges, Settles, TellsLine, ended, outcome_of}
+use Rattle.bitstool.specs.Runs.{Told, Accepts, Answers, Refuses, StopsShort, LacksMemory, Stays, Takes, Leaves, Does, most_taken}
 use Rattle.bitstool.proofs.Known.{gained, gained_front, gains_front, gains_text, gains_part, gains_kept, front_kept, if_told}
+use Rattle.bitstool.proofs.Taking.{spends_more, takes_done, takes_fault, takes_long, takes_memory, takes_write}
 
-keeps_same : (old new : Outgoing) → new ≡ old → Keeps old.bytes new.bytes
-keeps_same old new same = subst (λ (o : Outgoing). Keeps old.bytes o.bytes) (sym same) (Keeps-refl old.bytes)
-
--- the same between outputs, inputs and outcomes that are equal
-pub between : (task : Task) (a input b old d new : Told) (o outcome : Outcome) → a ≡ input → b ≡ old → d ≡ new → o ≡ outcome → Does task a b d o → Does task input old new outcome
-between task a input b old d new o outcome of_input of_old of_new of_outcome does = rw (← of_input, ← of_old, ← of_new, ← of_outcome) does
-
--- what is read of equal things is equal
-pub at_equal : {A : Type 0} {a b : A} → a ≡ b → (f : A → Told) → f b ≡ f a
-at_equal e f = sym (ap f e)
+-- an output that is as it was
+pub stays_same : (old new : Outgoing) → new ≡ old → Stays old new
+stays_same old new same = subst (λ (o : Outgoing). Stays old o) (sym same) (Keeps-refl old.bytes, refl)
 
 -- ---- want of memory
 
@@ -75,77 +70,97 @@ memory_then (Show limits) input old new last h keeps = stopped_then (Show limits
 
 -- ---- checking
 
-abbrev Judges : Limits → Incoming → Result (Unit {0}) Fault → Incoming → Type 0
-Judges limits = ReadsWhole (λ bytes done. Accepts limits bytes) limits
+abbrev Checks : Limits → Incoming → Result (Unit {0}) Fault → Incoming → Type 0
+Checks limits = ReadsWhole (λ bytes done. Accepts limits bytes) limits
 
-pub accepted_here : (limits : Limits) (i now : Incoming) → Judges limits i (Ok tt) now → Finds (Check limits) i.to_come Done
-accepted_here limits i now h = (bits_of_bytes (codes "accepted\n"), (refl, if_told i.to_come (Accepts limits) (λ tells. (h.1 tells).0)))
+pub accepted_here : (limits : Limits) (i now : Incoming) → Checks limits i (Ok tt) now → Judges (Check limits) i now Done
+accepted_here limits i now h =
+    let takes = takes_done {A = Unit {0}} (λ bytes done. Accepts limits bytes) (Check limits) limits (λ o. refl) i now (tt {0}) h in
+    (takes, (bits_of_bytes (codes "accepted\n"), (refl, if_told i.to_come (Accepts limits) (λ tells. (h.1 tells).0))))
 
-pub refused_here : (limits : Limits) (i now : Incoming) (why : Fault) → Judges limits i (Err why) now → Finds (Check limits) i.to_come (outcome_of limits.bytes why)
-refused_here limits i now (fault.Refused reason bit) h = if_told i.to_come (λ bytes. BreaksInput limits bytes (at reason bit)) h.1
-refused_here limits i now fault.Read h = tt
-refused_here limits i now fault.Memory h = tt
-refused_here limits i now fault.Write h = absurd h
-refused_here limits i now fault.OutputTooLong h = absurd h
-refused_here limits i now fault.Failed h = absurd h
+check_refuses : (limits : Limits) (i now : Incoming) (why : Fault) → Checks limits i (Err why) now → Finds (Check limits) i.to_come (outcome_of limits.bytes why)
+check_refuses limits i now (fault.Refused reason bit) h = if_told i.to_come (λ bytes. BreaksInput limits bytes (at reason bit)) h.1
+check_refuses limits i now fault.Read h = tt
+check_refuses limits i now fault.Memory h = tt
+check_refuses limits i now fault.Write h = absurd h
+check_refuses limits i now fault.OutputTooLong h = absurd h
+check_refuses limits i now fault.Failed h = absurd h
+
+pub refused_here : (limits : Limits) (i now : Incoming) (why : Fault) → Checks limits i (Err why) now → Judges (Check limits) i now (outcome_of limits.bytes why)
+refused_here limits i now why h = (takes_fault {A = Unit {0}} (λ bytes done. Accepts limits bytes) (Check limits) limits (λ o. refl) i now why h, check_refuses limits i now why h)
 
 -- ---- normal forms
 
-pub form_done : (info : Info) (limits : Limits) (i now : Incoming) (old new : Outgoing) (count : ℕ) → Normalises info limits i old (Ok count) now new → Does (Normal limits info) i.to_come old.bytes new.bytes Done
+-- the form of a tree answers for the input that has it
+form_answers : (info : Info) (limits : Limits) (i now : Incoming) (tree : Tree) → ReadsTree info limits i (Ok tree) now → size_of tree ≤ limits.bytes → Answers (Normal limits info) i.to_come Done (normal_form tree)
+form_answers info limits i now tree h small = (tree, refl, small, if_told i.to_come (λ bytes. HasTree info limits bytes tree) (λ tells. (h.1 tells).0.0))
+
+pub form_done : (info : Info) (limits : Limits) (i now : Incoming) (old new : Outgoing) (count : ℕ) → Normalises info limits i old (Ok count) now new → Does (Normal limits info) i now old new Done
 form_done info limits i now old new count h =
     let gain = h.2.2 in
-    (normal_form h.0, (h.0, refl, h.2.0, if_told i.to_come (λ bytes. HasTree info limits bytes h.0) (λ tells. (h.1.1 tells).0.0)), gained (normal_form h.0) old.bytes new.bytes gain.tells gain.bytes)
+    (takes_done (HasFit info limits) (Normal limits info) limits (λ o. refl) i now h.0 h.1, (normal_form h.0, form_answers info limits i now h.0 h.1 h.2.0, gained (normal_form h.0) old.bytes new.bytes gain.tells gain.bytes, gain.failures))
 
-pub form_not_done : (info : Info) (limits : Limits) (i now : Incoming) (old new : Outgoing) (why : Fault) → Normalises info limits i old (Err why) now new → Does (Normal limits info) i.to_come old.bytes new.bytes (outcome_of limits.bytes why)
-form_not_done info limits i now old new (fault.Refused reason bit) h = (if_told i.to_come (λ bytes. BreaksInput limits bytes (at reason bit)) h.0.1, keeps_same old new h.1)
-form_not_done info limits i now old new fault.Read h = keeps_same old new h.1
-form_not_done info limits i now old new fault.Memory h = keeps_same old new h.1
+pub form_not_done : (info : Info) (limits : Limits) (i now : Incoming) (old new : Outgoing) (why : Fault) → Normalises info limits i old (Err why) now new → Does (Normal limits info) i now old new (outcome_of limits.bytes why)
+form_not_done info limits i now old new (fault.Refused reason bit) h =
+    (takes_fault (HasFit info limits) (Normal limits info) limits (λ o. refl) i now (fault.Refused reason bit) h.0, (if_told i.to_come (λ bytes. BreaksInput limits bytes (at reason bit)) h.0.1, stays_same old new h.1))
+form_not_done info limits i now old new fault.Read h = (takes_fault (HasFit info limits) (Normal limits info) limits (λ o. refl) i now fault.Read h.0, stays_same old new h.1)
+form_not_done info limits i now old new fault.Memory h = (takes_fault (HasFit info limits) (Normal limits info) limits (λ o. refl) i now fault.Memory h.0, stays_same old new h.1)
 form_not_done info limits i now old new fault.Write h =
-    let gain = h.2.1 in
-    inr (normal_form h.0, Done, (h.0, refl, h.2.0, if_told i.to_come (λ bytes. HasTree info limits bytes h.0) (λ tells. (h.1.1 tells).0.0)), gained_front (normal_form h.0) old.bytes new.bytes gain.tells gain.bytes)
-form_not_done info limits i now old new fault.OutputTooLong h = ((refl, if_told i.to_come (λ bytes. (tree : Tree) × HasTree info limits bytes tree × (limits.bytes < size_of tree)) (λ tells. (h.0, (h.1.1 tells).0.0, h.2.0))), keeps_same old new h.2.1)
+    let gain = h.2.1 in (
+      takes_write (HasFit info limits) (Normal limits info) limits (λ o. refl) i now h.0 h.1,
+      (inr (normal_form h.0, Done, form_answers info limits i now h.0 h.1 h.2.0, gained_front (normal_form h.0) old.bytes new.bytes gain.tells gain.bytes), gain.why),
+    )
+form_not_done info limits i now old new fault.OutputTooLong h = (
+  takes_long (HasFit info limits) (Normal limits info) limits (λ o. refl) i now h.0 limits.bytes h.1,
+  ((refl, if_told i.to_come (λ bytes. (tree : Tree) × HasTree info limits bytes tree × (limits.bytes < size_of tree)) (λ tells. (h.0, (h.1.1 tells).0.0, h.2.0))), stays_same old new h.2.1),
+)
 form_not_done info limits i now old new fault.Failed h = absurd h
 
 -- ---- reports and listings
 
 -- an input that was not read
-not_accepted : {A : Type 0} (Holds : List ℕ → A → Type 0) (task : Task) (limits : Limits) (i now : Incoming) (old new : Told) (why : Fault)
-    → ((reason : Reason) (bit : ℕ) → IfSome i.to_come (λ bytes. BreaksInput limits bytes (at reason bit)) → Refuses task i.to_come (Refused reason bit))
-    → Keeps old new → ReadsWhole Holds limits i (Err why) now → Does task i.to_come old new (outcome_of limits.bytes why)
-not_accepted Holds task limits i now old new (fault.Refused reason bit) refuses keeps h = (refuses reason bit (if_told i.to_come (λ bytes. BreaksInput limits bytes (at reason bit)) h.1), keeps)
-not_accepted Holds task limits i now old new fault.Read refuses keeps h = keeps
-not_accepted Holds task limits i now old new fault.Memory refuses keeps h = memory_kept task i.to_come old new keeps
-not_accepted Holds task limits i now old new fault.Write refuses keeps h = absurd h
-not_accepted Holds task limits i now old new fault.OutputTooLong refuses keeps h = absurd h
-not_accepted Holds task limits i now old new fault.Failed refuses keeps h = absurd h
+module _ {A : Type 0} (Holds : List ℕ → A → Type 0) (task : Task) (limits : Limits) (most : (o : Outcome) → most_taken task o ≡ limits.bytes + 1) (i now : Incoming) (old new : Outgoing) where
+  not_accepted : (why : Fault) → ((reason : Reason) (bit : ℕ) → IfSome i.to_come (λ bytes. BreaksInput limits bytes (at reason bit)) → Refuses task i.to_come (Refused reason bit))
+      → Stays old new → ReadsWhole Holds limits i (Err why) now → Does task i now old new (outcome_of limits.bytes why)
+  not_accepted (fault.Refused reason bit) refuses stays h =
+      (takes_fault Holds task limits most i now (fault.Refused reason bit) h, (refuses reason bit (if_told i.to_come (λ bytes. BreaksInput limits bytes (at reason bit)) h.1), stays))
+  not_accepted fault.Read refuses stays h = (takes_fault Holds task limits most i now fault.Read h, stays)
+  not_accepted fault.Memory refuses stays h = (takes_fault Holds task limits most i now fault.Memory h, (memory_kept task i.to_come old.bytes new.bytes stays.0, stays.1))
+  not_accepted fault.Write refuses stays h = absurd h
+  not_accepted fault.OutputTooLong refuses stays h = absurd h
+  not_accepted fault.Failed refuses stays h = absurd h
 
--- the text of an answer was written, or a front of it
-text_written : (task : Task) (input : Told) (limit : ℕ) (text : List ℕ) (old new : Outgoing) (answer : Result (Unit {0}) Fault) → (StopsShort task input old.bytes new.bytes → LacksMemory task input old.bytes new.bytes)
-    → Answers task input Done (bits_of_bytes text) → WritesText text old answer new → Does task input old.bytes new.bytes (ended limit answer)
-text_written task input limit text old new (Ok _) stops answers h = (bits_of_bytes text, answers, gains_text old.bytes new.bytes text h.bytes)
-text_written task input limit text old new (Err fault.Write) stops answers h = inr (bits_of_bytes text, Done, answers, gains_part old.bytes new.bytes text h.0.front h.0.rest h.0.split h.0.bytes)
-text_written task input limit text old new (Err fault.Memory) stops answers h = stops (inr (bits_of_bytes text, Done, answers, gains_part old.bytes new.bytes text h.0.front h.0.rest h.0.split h.0.bytes))
-text_written task input limit text old new (Err (fault.Refused reason bit)) stops answers h = absurd h
-text_written task input limit text old new (Err fault.Read) stops answers h = absurd h
-text_written task input limit text old new (Err fault.OutputTooLong) stops answers h = absurd h
-text_written task input limit text old new (Err fault.Failed) stops answers h = absurd h
+  -- the text of an answer was written, or a front of it
+  text_written : (a : A) (text : List ℕ) (answer : Result (Unit {0}) Fault) → (StopsShort task i.to_come old.bytes new.bytes → LacksMemory task i.to_come old.bytes new.bytes)
+      → Answers task i.to_come Done (bits_of_bytes text) → ReadsWhole Holds limits i (Ok a) now → WritesText text old answer new → Does task i now old new (ended limits.bytes answer)
+  text_written a text (Ok _) stops answers h w = (takes_done Holds task limits most i now a h, (bits_of_bytes text, answers, gains_text old.bytes new.bytes text w.bytes, w.failures))
+  text_written a text (Err fault.Write) stops answers h w =
+      (takes_write Holds task limits most i now a h, (inr (bits_of_bytes text, Done, answers, gains_part old.bytes new.bytes text w.0.front w.0.rest w.0.split w.0.bytes), w.1))
+  text_written a text (Err fault.Memory) stops answers h w =
+      (takes_memory Holds task limits most i now a h, (stops (inr (bits_of_bytes text, Done, answers, gains_part old.bytes new.bytes text w.0.front w.0.rest w.0.split w.0.bytes)), w.1))
+  text_written a text (Err (fault.Refused reason bit)) stops answers h w = absurd w
+  text_written a text (Err fault.Read) stops answers h w = absurd w
+  text_written a text (Err fault.OutputTooLong) stops answers h w = absurd w
+  text_written a text (Err fault.Failed) stops answers h w = absurd w
 
 pub reported : (limits : Limits) (i now : Incoming) (old new : Outgoing) (tally : Tally) (answer : Result (Unit {0}) Fault) → ReadsWhole (HasTally limits) limits i (Ok tally) now → WritesText (report_of tally) old answer new
-    → Does (Analyse limits) i.to_come old.bytes new.bytes (ended limits.bytes answer)
-reported limits i now old new tally answer h = text_written (Analyse limits) i.to_come limits.bytes (report_of tally) old new answer (λ s. s) (tally, refl, if_told i.to_come (λ bytes. HasTally limits bytes tally) (λ tells. (h.1 tells).0))
+    → Does (Analyse limits) i now old new (ended limits.bytes answer)
+reported limits i now old new tally answer h w =
+    text_written (HasTally limits) (Analyse limits) limits (λ o. refl) i now old new tally (report_of tally) answer (λ s. s) (tally, refl, if_told i.to_come (λ bytes. HasTally limits bytes tally) (λ tells. (h.1 tells).0)) h w
 
-pub not_reported : (limits : Limits) (i now : Incoming) (old : Outgoing) (why : Fault) → ReadsWhole (HasTally limits) limits i (Err why) now → Does (Analyse limits) i.to_come old.bytes old.bytes (outcome_of limits.bytes why)
-not_reported limits i now old why h = not_accepted (HasTally limits) (Analyse limits) limits i now old.bytes old.bytes why (λ reason bit breaks. breaks) (Keeps-refl old.bytes) h
+pub not_reported : (limits : Limits) (i now : Incoming) (old : Outgoing) (why : Fault) → ReadsWhole (HasTally limits) limits i (Err why) now → Does (Analyse limits) i now old old (outcome_of limits.bytes why)
+not_reported limits i now old why h = not_accepted (HasTally limits) (Analyse limits) limits (λ o. refl) i now old old why (λ reason bit breaks. breaks) (stays_same old old refl) h
 
 -- the tree was read
-listed : (limits : Limits) (i now : Incoming) (old new : Outgoing) (answer : Result (Unit {0}) Fault) → ReadsAndLists limits i old answer now new → Does (Show limits) i.to_come old.bytes new.bytes (ended limits.bytes answer)
-listed limits i now old new answer h = text_written (Show limits) i.to_come limits.bytes (listing_of h.0) old new answer (λ s. s) (h.0, refl, if_told i.to_come (λ bytes. HasTree Keep limits bytes h.0) (λ tells. (h.1.1 tells).0.0)) h.2
+listed : (limits : Limits) (i now : Incoming) (old new : Outgoing) (answer : Result (Unit {0}) Fault) → ReadsAndLists limits i old answer now new → Does (Show limits) i now old new (ended limits.bytes answer)
+listed limits i now old new answer h =
+    text_written (HasFit Keep limits) (Show limits) limits (λ o. refl) i now old new h.0 (listing_of h.0) answer (λ s. s) (h.0, refl, if_told i.to_come (λ bytes. HasTree Keep limits bytes h.0) (λ tells. (h.1.1 tells).0.0)) h.1 h.2
 
 -- it was not
-not_listed : (limits : Limits) (i now : Incoming) (old new : Outgoing) (why : Fault) → ListsNothing limits i old why now new → Does (Show limits) i.to_come old.bytes new.bytes (outcome_of limits.bytes why)
-not_listed limits i now old new why h = not_accepted (HasFit Keep limits) (Show limits) limits i now old.bytes new.bytes why (λ reason bit breaks. breaks) (keeps_same old new h.1) h.0
+not_listed : (limits : Limits) (i now : Incoming) (old new : Outgoing) (why : Fault) → ListsNothing limits i old why now new → Does (Show limits) i now old new (outcome_of limits.bytes why)
+not_listed limits i now old new why h = not_accepted (HasFit Keep limits) (Show limits) limits (λ o. refl) i now old new why (λ reason bit breaks. breaks) (stays_same old new h.1) h.0
 
-pub showed : (limits : Limits) (i now : Incoming) (old new : Outgoing) (answer : Result (Unit {0}) Fault) → Shows limits i old answer now new → Does (Show limits) i.to_come old.bytes new.bytes (ended limits.bytes answer)
+pub showed : (limits : Limits) (i now : Incoming) (old new : Outgoing) (answer : Result (Unit {0}) Fault) → Shows limits i old answer now new → Does (Show limits) i now old new (ended limits.bytes answer)
 showed limits i now old new (Ok _) h = listed limits i now old new (Ok tt) h
 showed limits i now old new (Err fault.Write) h = listed limits i now old new (Err fault.Write) h
 showed limits i now old new (Err fault.Memory) (inl h) = not_listed limits i now old new fault.Memory h
@@ -157,64 +172,99 @@ showed limits i now old new (Err fault.Failed) h = absurd h
 
 -- ---- lines
 
--- only the output's failure ends the writing of a line
-pub line_lost : (line : List ℕ) (old new : Outgoing) (why : Fault) → Puts line old (Err why) new → GainsFront (bits_of_bytes line) old.bytes new.bytes
-line_lost line old new fault.Write h = h
-line_lost line old new (fault.Refused reason bit) h = absurd h
-line_lost line old new fault.Read h = absurd h
-line_lost line old new fault.Memory h = absurd h
-line_lost line old new fault.OutputTooLong h = absurd h
-line_lost line old new fault.Failed h = absurd h
+-- a line was told of an input that was drained
+pub done_told : (task : Task) (i now : Incoming) (old new : Outgoing) (line : List ℕ) (after : Outcome) → most_taken task Write ≡ most_taken task Done → Takes task i now Done
+    → Answers task i.to_come Done (bits_of_bytes line) → TellsLine Done line old after new → Does task i now old new after
+done_told task i now old new line after most takes answers (inl h) = rw (h.0) (takes, (bits_of_bytes line, answers, gains_text old.bytes new.bytes line h.1.bytes, h.1.failures))
+done_told task i now old new line after most takes answers (inr h) =
+    rw (h.0) ((rw most takes.0, tt), (inr (bits_of_bytes line, Done, answers, gains_part old.bytes new.bytes line h.1.front h.1.rest h.1.split h.1.bytes), h.2))
 
-pub done_told : (task : Task) (input old new : Told) (line : List ℕ) (after : Outcome) → Answers task input Done (bits_of_bytes line) → Tells Done line old after new → Does task input old new after
-done_told task input old new line after answers (inl h) = rw (h.0) (bits_of_bytes line, answers, h.1)
-done_told task input old new line after answers (inr h) = rw (h.0) (inr (bits_of_bytes line, Done, answers, h.1))
-
-pub different_told : (task : Task) (input old new : Told) (line : List ℕ) (after : Outcome) → Answers task input Different (bits_of_bytes line) → Tells Different line old after new → Does task input old new after
-different_told task input old new line after answers (inl h) = rw (h.0) (bits_of_bytes line, answers, h.1)
-different_told task input old new line after answers (inr h) = rw (h.0) (inr (bits_of_bytes line, Different, answers, h.1))
+pub different_told : (task : Task) (i now : Incoming) (old new : Outgoing) (line : List ℕ) (after : Outcome) → most_taken task Write ≡ most_taken task Different → Takes task i now Different
+    → Answers task i.to_come Different (bits_of_bytes line) → TellsLine Different line old after new → Does task i now old new after
+different_told task i now old new line after most takes answers (inl h) = rw (h.0) (takes, (bits_of_bytes line, answers, gains_text old.bytes new.bytes line h.1.bytes, h.1.failures))
+different_told task i now old new line after most takes answers (inr h) =
+    rw (h.0) ((rw most takes.0, tt), (inr (bits_of_bytes line, Different, answers, gains_part old.bytes new.bytes line h.1.front h.1.rest h.1.split h.1.bytes), h.2))
 
 -- an outcome that is no answer writes no line
-pub no_line : (task : Task) (input old new : Told) (outcome : Outcome) → (outcome ≡ Done → ⊥) → (outcome ≡ Different → ⊥) → Keeps old new → Finds task input outcome → Does task input old new outcome
-no_line task input old new Done not_done not_different keeps found = absurd (not_done refl)
-no_line task input old new Different not_done not_different keeps found = absurd (not_different refl)
-no_line task input old new (Refused reason bit) not_done not_different keeps found = (found, keeps)
-no_line task input old new (RefusedOf which reason bit) not_done not_different keeps found = (found, keeps)
-no_line task input old new (TooLong limit) not_done not_different keeps found = (found, keeps)
-no_line task input old new Usage not_done not_different keeps found = found
-no_line task input old new Read not_done not_different keeps found = keeps
-no_line task input old new Write not_done not_different keeps found = absurd found
-no_line task input old new Memory not_done not_different keeps found = memory_kept task input old new keeps
+pub no_line : (task : Task) (i now : Incoming) (old new : Outgoing) (outcome : Outcome) → (outcome ≡ Done → ⊥) → (outcome ≡ Different → ⊥) → Stays old new → Judges task i now outcome → Does task i now old new outcome
+no_line task i now old new outcome not_done not_different stays judged = (judged.0, go outcome not_done not_different judged.1)
+  where
+    go : (o : Outcome) → (o ≡ Done → ⊥) → (o ≡ Different → ⊥) → Finds task i.to_come o → Leaves task i.to_come old new o
+    go Done not_done not_different found = absurd (not_done refl)
+    go Different not_done not_different found = absurd (not_different refl)
+    go (Refused reason bit) not_done not_different found = (found, stays)
+    go (RefusedOf which reason bit) not_done not_different found = (found, stays)
+    go (TooLong limit) not_done not_different found = (found, stays)
+    go Usage not_done not_different found = found
+    go Read not_done not_different found = stays
+    go Write not_done not_different found = absurd found
+    go Memory not_done not_different found = (memory_kept task i.to_come old.bytes new.bytes stays.0, stays.1)
 
 -- a check never finds two inputs different
-pub never_different : (limits : Limits) (input : Told) (outcome : Outcome) → Finds (Check limits) input outcome → outcome ≡ Different → ⊥
-never_different limits input outcome found is = let it : Finds (Check limits) input Different = subst (λ (o : Outcome). Finds (Check limits) input o) is found in absurd it.1
+pub never_different : (limits : Limits) (i now : Incoming) (outcome : Outcome) → Judges (Check limits) i now outcome → outcome ≡ Different → ⊥
+never_different limits i now outcome judged is = let it : Finds (Check limits) i.to_come Different = subst (λ (o : Outcome). Finds (Check limits) i.to_come o) is judged.1 in absurd it.1
 
 -- ---- flushing
 
+-- the most is taken where the output fails
+most_write : (task : Task) (o : Outcome) → most_taken task o ≤ most_taken task Write
+most_write (Check limits) o = omega arith
+most_write (Normal limits info) o = omega arith
+most_write (Analyse limits) o = omega arith
+most_write (Show limits) o = omega arith
+most_write (Same first limits info) (RefusedOf First reason bit) = omega arith
+most_write (Same first limits info) (RefusedOf Second reason bit) = omega arith
+most_write (Same first limits info) Done = omega arith
+most_write (Same first limits info) Different = omega arith
+most_write (Same first limits info) (Refused reason bit) = omega arith
+most_write (Same first limits info) (TooLong limit) = omega arith
+most_write (Same first limits info) Usage = omega arith
+most_write (Same first limits info) Read = omega arith
+most_write (Same first limits info) Write = omega arith
+most_write (Same first limits info) Memory = omega arith
+
+-- an output that failed before or after
+failed_then : (old new last : Outgoing) → new.failures ≡ old.failures → HasFailed new last → HasFailed old last
+failed_then old new last same (inl rose) = inl (omega (arith, same, rose))
+failed_then old new last same (inr spent) = inr (omega (arith, same, spent))
+
+failed_still : (old new last : Outgoing) → HasFailed old new → new.failures ≤ last.failures → HasFailed old last
+failed_still old new last (inl rose) more = inl (omega (arith, rose, more))
+failed_still old new last (inr spent) more = inr spent
+
+stays_then : (old new last : Outgoing) → Stays old new → Stays new last → Stays old last
+stays_then old new last h k = (Keeps-trans old.bytes new.bytes last.bytes h.0 k.0, k.1 ∙ h.1)
+
 -- what was done stays done where the output keeps it, or the output failed
-pub settled : (task : Task) (input old new last : Told) (outcome after : Outcome) → Does task input old new outcome → Keeps new last → IsOrWrite outcome after → Does task input old last after
-settled task input old new last outcome after does keeps (inl same) = rw same (kept outcome does)
+pub settled : (task : Task) (i now : Incoming) (old new last : Outgoing) (outcome after : Outcome) → Does task i now old new outcome → Settles outcome new after last → Does task i now old last after
+settled task i now old new last outcome after does (inl same) = rw (same.0) (does.0, kept outcome does.1)
   where
-    kept : (o : Outcome) → Does task input old new o → Does task input old last o
-    kept Done d = (d.0, d.1, gains_kept d.0 old new last d.2 keeps)
-    kept Different d = (d.0, d.1, gains_kept d.0 old new last d.2 keeps)
-    kept (Refused reason bit) d = (d.0, Keeps-trans old new last d.1 keeps)
-    kept (RefusedOf which reason bit) d = (d.0, Keeps-trans old new last d.1 keeps)
-    kept (TooLong limit) d = (d.0, Keeps-trans old new last d.1 keeps)
+    stays : Stays new last
+    stays = same.1
+
+    kept : (o : Outcome) → Leaves task i.to_come old new o → Leaves task i.to_come old last o
+    kept Done d = (d.0, d.1, gains_kept d.0 old.bytes new.bytes last.bytes d.2 stays.0, stays.1 ∙ d.3)
+    kept Different d = (d.0, d.1, gains_kept d.0 old.bytes new.bytes last.bytes d.2 stays.0, stays.1 ∙ d.3)
+    kept (Refused reason bit) d = (d.0, stays_then old new last d.1 stays)
+    kept (RefusedOf which reason bit) d = (d.0, stays_then old new last d.1 stays)
+    kept (TooLong limit) d = (d.0, stays_then old new last d.1 stays)
     kept Usage d = d
-    kept Read d = Keeps-trans old new last d keeps
-    kept Memory d = memory_then task input old new last d keeps
-    kept Write d = stopped_then task input old new last d keeps
-settled task input old new last outcome after does keeps (inr failed) = rw failed (lost outcome does)
+    kept Read d = stays_then old new last d stays
+    kept Memory d = (memory_then task i.to_come old.bytes new.bytes last.bytes d.0 stays.0, stays.1 ∙ d.1)
+    kept Write d = (stopped_then task i.to_come old.bytes new.bytes last.bytes d.0 stays.0, failed_still old new last d.1 (omega (arith, stays.1)))
+settled task i now old new last outcome after does (inr failed) =
+    rw (failed.0) ((spends_more i now (most_taken task outcome) (most_taken task Write) (most_write task outcome) does.0.0, tt), lost outcome does.1)
   where
-    lost : (o : Outcome) → Does task input old new o → Does task input old last Write
-    lost Done d = inr (d.0, Done, d.1, gains_front d.0 old last (gains_kept d.0 old new last d.2 keeps))
-    lost Different d = inr (d.0, Different, d.1, gains_front d.0 old last (gains_kept d.0 old new last d.2 keeps))
-    lost (Refused reason bit) d = inl (Keeps-trans old new last d.1 keeps)
-    lost (RefusedOf which reason bit) d = inl (Keeps-trans old new last d.1 keeps)
-    lost (TooLong limit) d = inl (Keeps-trans old new last d.1 keeps)
+    keeps : Keeps new.bytes last.bytes
+    keeps = failed.1
+
+    lost : (o : Outcome) → Leaves task i.to_come old new o → Leaves task i.to_come old last Write
+    lost Done d = (inr (d.0, Done, d.1, gains_front d.0 old.bytes last.bytes (gains_kept d.0 old.bytes new.bytes last.bytes d.2 keeps)), failed_then old new last d.3 failed.3)
+    lost Different d = (inr (d.0, Different, d.1, gains_front d.0 old.bytes last.bytes (gains_kept d.0 old.bytes new.bytes last.bytes d.2 keeps)), failed_then old new last d.3 failed.3)
+    lost (Refused reason bit) d = (inl (Keeps-trans old.bytes new.bytes last.bytes d.1.0 keeps), failed_then old new last d.1.1 failed.3)
+    lost (RefusedOf which reason bit) d = (inl (Keeps-trans old.bytes new.bytes last.bytes d.1.0 keeps), failed_then old new last d.1.1 failed.3)
+    lost (TooLong limit) d = (inl (Keeps-trans old.bytes new.bytes last.bytes d.1.0 keeps), failed_then old new last d.1.1 failed.3)
     lost Usage d = absurd d
-    lost Read d = inl (Keeps-trans old new last d keeps)
-    lost Memory d = stopped_then task input old new last (memory_stops task input old new d) keeps
-    lost Write d = stopped_then task input old new last d keeps
+    lost Read d = (inl (Keeps-trans old.bytes new.bytes last.bytes d.0 keeps), failed_then old new last d.1 failed.3)
+    lost Memory d = (stopped_then task i.to_come old.bytes new.bytes last.bytes (memory_stops task i.to_come old.bytes new.bytes d.0) keeps, failed_then old new last d.1 failed.3)
+    lost Write d = (stopped_then task i.to_come old.bytes new.bytes last.bytes d.0 keeps, failed_still old new last d.1 failed.2)

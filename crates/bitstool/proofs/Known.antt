@@ -1,7 +1,7 @@
 -- What follows for a part of a text that a sink took, and for bytes that a source gave.
 use Rattle.std.proofs.Common.{◌≡◌, ◌∙◌, ℕ, ◌-◌, Bool, List, [], ◌++◌, length, take, drop, refl, sym, ap, subst, append_assoc, arith, Some, None, length-drop}
 use Rattle.std.specs.Prelude.{IsSome, IfSome}
-use Rattle.std.proofs.lemmas.List.{take-append-drop, nil_from_length, append-nil}
+use Rattle.std.proofs.lemmas.List.{take-append-drop, append-nil}
 use Rattle.std.proofs.lemmas.Grind.{common_steps}
 use Rattle.std.specs.Io.KnownBytes.{Appends, Keeps}
 use Rattle.std.proofs.KnownBytes.{Appends-trans}
@@ -30,12 +30,6 @@ pub gains_text : (old new : Told) (text : List ℕ) → Appends old new text →
 gains_text None new text h = tt
 gains_text (Some held) None text h = absurd h
 gains_text (Some held) (Some now) text h = (text, ap Some h, refl)
-
--- the part is all of the text where nothing is left
-pub gains_whole : (old new : Told) (text part rest : List ℕ) → length rest ≡ 0 → text ≡ part ++ rest → Appends old new part → Gains (bits_of_bytes text) old new
-gains_whole old new text part rest none e h =
-    let same : part ≡ text = sym (e ∙ ap (λ (r : List ℕ). part ++ r) (nil_from_length rest none) ∙ append-nil part) in
-    gains_text old new text (subst (λ (p : List ℕ). Appends old new p) same h)
 
 -- an output gained a front of a text
 pub gains_part : (old new : Told) (text part rest : List ℕ) → text ≡ part ++ rest → Appends old new part → GainsFront (bits_of_bytes text) old new

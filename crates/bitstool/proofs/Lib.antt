@@ -3,5 +3,7 @@ pub mod Meaning
 pub mod Walked
 pub mod Given
 pub mod Known
+pub mod Taking
+pub mod Putting
 pub mod Doing
 pub mod Comparing

@@ -1,7 +1,6 @@
 -- The steps of carrying out a command.
 use Rattle.std.specs.Prelude.{◌≡◌, ◌≢◌, ◌⊎◌, ⊤, ℕ, ◌<◌, ◌≤◌, Bool, List, length, Result, Ok, Err, IfSome}
-use Rattle.std.specs.Io.KnownBytes.{Consumes, IsAtEnd}
-use Rattle.bit_grammar.specs.Bits.{bits_of_bytes}
+use Rattle.std.specs.Io.KnownBytes.{Consumes, IsAtEnd, Keeps}
 use Rattle.bit_grammar.specs.declared.info.Info.{Info}
 use Rattle.bit_grammar.specs.Grammar.{at}
 use Rattle.bit_grammar.specs.Forest.{Tree}
@@ -10,25 +9,28 @@ use Rattle.bit_grammar.specs.Input.{BreaksInput}
 use Rattle.bit_grammar.specs.Normal.{HasTree}
 use Rattle.bit_fields.specs.declared.fault.Fault.{Fault}
 use Rattle.bit_fields.specs.declared.fault.Fault.TheVariants as fault
-use Rattle.bit_fields.specs.Devices.{Incoming, Outgoing}
+use Rattle.bit_fields.specs.declared.sink.SinkFailed.{SinkFailed}
+use Rattle.bit_fields.specs.Devices.{Incoming, Outgoing, Spends}
+use Rattle.bit_fields.specs.Reader.{SourceFails}
+use Rattle.bit_events.specs.Reading.{Spent}
+use Rattle.bit_scan.specs.Written.{TookText, TookFront, HasFailed}
 use Rattle.bit_norm.specs.declared.comparing.Which.{Which}
 use Rattle.bit_norm.specs.declared.comparing.Which.TheVariants.{First, Second}
 use Rattle.bitstool.specs.declared.outcome.Outcome.{Outcome}
 use Rattle.bitstool.specs.declared.outcome.Outcome.TheVariants.{Done, Different, Refused, RefusedOf, TooLong, Usage, Read, Write, Memory}
 use Rattle.bitstool.specs.declared.task.Task.{Task}
-use Rattle.bitstool.specs.Runs.{Told, Accepts, Answers, Refuses, Gains, GainsFront}
+use Rattle.bitstool.specs.Runs.{Told, Accepts, Answers, Refuses, EndsAs, Takes, Stays}
 
--- a sink took all of a text, or a front of it
-abbrev pub Puts : List ℕ → Outgoing → Result (Unit {0}) Fault → Outgoing → Type 0
-Puts text old (Ok _) new = Gains (bits_of_bytes text) old.bytes new.bytes
-Puts text old (Err fault.Write) new = GainsFront (bits_of_bytes text) old.bytes new.bytes
-Puts text old (Err fault) new = ⊥
+-- a sink took all of a text; or a front of it, since it failed
+abbrev pub PutsAll : List ℕ → Outgoing → Result (Unit {0}) SinkFailed → Outgoing → Type 0
+PutsAll text old (Ok _) new = TookText text old new
+PutsAll text old (Err e) new = TookFront text old new × HasFailed old new
 
 -- Bytes were taken from a source: so many, or all where it had fewer; or it failed, or no memory.
 abbrev pub TakesFirst : ℕ → Incoming → Result (List ℕ) Fault → Incoming → Type 0
-TakesFirst count i (Ok bytes) now = Consumes i.to_come now.to_come bytes × (length bytes ≤ count) × (length bytes < count → IsAtEnd now.to_come)
-TakesFirst count i (Err fault.Read) now = ⊤
-TakesFirst count i (Err fault.Memory) now = ⊤
+TakesFirst count i (Ok bytes) now = Spends i count now 0 × Consumes i.to_come now.to_come bytes × (length bytes ≤ count) × (length bytes < count → IsAtEnd now.to_come)
+TakesFirst count i (Err fault.Read) now = Spends i count now 0 × SourceFails i now
+TakesFirst count i (Err fault.Memory) now = Spends i count now 0
 TakesFirst count i (Err fault) now = ⊥
 
 -- the outcome of a fault, under this limit on bytes; a call of a whole input never answers that it had failed before
@@ -66,6 +68,10 @@ Finds task input Read = ⊤
 Finds task input Write = ⊥
 Finds task input Memory = ⊤
 
+-- and what it took of its input for that
+abbrev pub Judges : Task → Incoming → Incoming → Outcome → Type 0
+Judges task i now outcome = Takes task i now outcome × Finds task i.to_come outcome
+
 -- Two inputs were compared, of which the first is known: both have this tree; or they have these two; or one breaks so, the
 -- second after the first was accepted; or the source failed, or no memory.
 abbrev pub ComparesWith : Info → Limits → List ℕ → Told → Outcome → Type 0
@@ -77,10 +83,15 @@ ComparesWith info limits first rest Read = ⊤
 ComparesWith info limits first rest Memory = ⊤
 ComparesWith info limits first rest outcome = ⊥
 
--- an answer was written as this line; or the output failed, and took a front of it
-abbrev pub Tells : Outcome → List ℕ → Told → Outcome → Told → Type 0
-Tells answer line old after new = ((after ≡ answer) × Gains (bits_of_bytes line) old new) ⊎ ((after ≡ Write) × GainsFront (bits_of_bytes line) old new)
+-- what was taken of the second for that: nothing where the first is refused
+abbrev pub TakesRest : Limits → Incoming → Incoming → Outcome → Type 0
+TakesRest limits j later (RefusedOf First reason bit) = later ≡ j
+TakesRest limits j later outcome = Spent limits j later × EndsAs outcome j later
 
--- the outcome after a step that writes or flushes: as it was, or the output failed
-abbrev pub IsOrWrite : Outcome → Outcome → Type 0
-IsOrWrite outcome after = (after ≡ outcome) ⊎ (after ≡ Write)
+-- an answer was written as this line; or the output failed, and took a front of it
+abbrev pub TellsLine : Outcome → List ℕ → Outgoing → Outcome → Outgoing → Type 0
+TellsLine answer line old after new = ((after ≡ answer) × TookText line old new) ⊎ ((after ≡ Write) × TookFront line old new × HasFailed old new)
+
+-- the outcome after a flush: as it was, or the output failed; no byte came or went
+abbrev pub Settles : Outcome → Outgoing → Outcome → Outgoing → Type 0
+Settles outcome old after new = ((after ≡ outcome) × Stays old new) ⊎ ((after ≡ Write) × Keeps old.bytes new.bytes × (old.failures ≤ new.failures) × HasFailed old new)

@@ -1,5 +1,5 @@
--- What a command does with its input and its output, and what a run of the program does.
-use Rattle.std.specs.Prelude.{◌≡◌, ◌≢◌, ◌⊎◌, ℕ, ◌<◌, ◌≤◌, Bool, List, ◌++◌, take, drop, codes, Option, Some, IfSome}
+-- What a command does with its input and its output, and what a run of the program does, over any devices.
+use Rattle.std.specs.Prelude.{◌≡◌, ◌≢◌, ◌⊎◌, ⊤, ℕ, ◌+◌, ◌<◌, ◌≤◌, min, Bool, List, [], ◌++◌, take, drop, codes, Option, Some, IfSome, string_bytes}
 use Rattle.std.specs.Io.KnownBytes.{Keeps}
 use Rattle.bit_grammar.specs.declared.info.Info.TheVariants.{Keep}
 use Rattle.bit_grammar.specs.Bits.{bits_of_bytes}
@@ -11,7 +11,10 @@ use Rattle.bit_grammar.specs.Normal.{HasTree, normal_form}
 use Rattle.bit_grammar.specs.Size.{size_of}
 use Rattle.bit_grammar.specs.Tally.{Tally}
 use Rattle.bit_grammar.specs.Texts.{report_of, listing_of}
+use Rattle.bit_fields.specs.Devices.{Incoming, Outgoing, Spends}
+use Rattle.bit_fields.specs.Reader.{SourceFails}
 use Rattle.bit_scan.specs.Analysing.{HasTally}
+use Rattle.bit_scan.specs.Written.{TookText, TookFront, HasFailed}
 use Rattle.bit_norm.specs.declared.comparing.Which.TheVariants.{First, Second}
 use Rattle.bitstool.specs.declared.outcome.Outcome.{Outcome}
 use Rattle.bitstool.specs.declared.outcome.Outcome.TheVariants.{Done, Different, Refused, RefusedOf, TooLong, Usage, Read, Write, Memory}
@@ -19,7 +22,7 @@ use Rattle.bitstool.specs.declared.task.Task.{Task}
 use Rattle.bitstool.specs.declared.task.Task.TheVariants.{Check, Normal, Same, Analyse, Show}
 use Rattle.bitstool.specs.declared.task.Parsed.{Parsed}
 use Rattle.bitstool.specs.declared.task.Parsed.TheVariants as parsed
-use Rattle.bitstool.specs.Outcome.{status_of}
+use Rattle.bitstool.specs.Outcome.{status_of, line_of}
 
 -- ---- what a command says of its input
 
@@ -57,6 +60,33 @@ Refuses (Analyse limits) input (Refused reason bit) = IfSome input (λ bytes. Br
 Refuses (Show limits) input (Refused reason bit) = IfSome input (λ bytes. BreaksInput limits bytes (at reason bit))
 Refuses task input outcome = ⊥
 
+-- ---- what it takes of its input
+
+-- The most bytes that a command takes of its input, and the most pulls that it makes: as many as the limit on bytes, and one more. Of
+-- two inputs so many each, and of the first no more than it has; where the first is refused, the second is asked for none.
+abbrev pub most_taken : Task → Outcome → ℕ
+most_taken (Check limits) outcome = limits.bytes + 1
+most_taken (Normal limits info) outcome = limits.bytes + 1
+most_taken (Same first limits info) (RefusedOf First reason bit) = min first (limits.bytes + 1)
+most_taken (Same first limits info) outcome = min first (limits.bytes + 1) + (limits.bytes + 1)
+most_taken (Analyse limits) outcome = limits.bytes + 1
+most_taken (Show limits) outcome = limits.bytes + 1
+
+-- nothing is left of an input that tells its bytes
+abbrev pub IsDrained : Incoming → Incoming → Type 0
+IsDrained i now = IfSome i.to_come (λ bytes. now.to_come ≡ Some [])
+
+-- an input that was accepted is drained, and one that could not be read failed
+abbrev pub EndsAs : Outcome → Incoming → Incoming → Type 0
+EndsAs Done i now = IsDrained i now
+EndsAs Different i now = IsDrained i now
+EndsAs (TooLong limit) i now = IsDrained i now
+EndsAs Read i now = SourceFails i now
+EndsAs outcome i now = ⊤
+
+abbrev pub Takes : Task → Incoming → Incoming → Outcome → Type 0
+Takes task i now outcome = Spends i (most_taken task outcome) now 0 × EndsAs outcome i now
+
 -- ---- what it leaves on the output
 
 -- an output that tells its bytes gained bytes with these bits
@@ -78,29 +108,66 @@ LacksMemory (Analyse limits) input old new = StopsShort (Analyse limits) input o
 LacksMemory (Show limits) input old new = StopsShort (Show limits) input old new
 LacksMemory task input old new = Keeps old new
 
--- What a command does, by its outcome: an answer is written whole; a refusal, and what fails before there is an answer, writes
--- nothing; and where the output fails it has nothing, or a front of an answer.
-abbrev pub Does : Task → Told → Told → Told → Outcome → Type 0
-Does task input old new Done = (bits : List Bool) × Answers task input Done bits × Gains bits old new
-Does task input old new Different = (bits : List Bool) × Answers task input Different bits × Gains bits old new
-Does task input old new (Refused reason bit) = Refuses task input (Refused reason bit) × Keeps old new
-Does task input old new (RefusedOf which reason bit) = Refuses task input (RefusedOf which reason bit) × Keeps old new
-Does task input old new (TooLong limit) = Refuses task input (TooLong limit) × Keeps old new
-Does task input old new Usage = ⊥
-Does task input old new Read = Keeps old new
-Does task input old new Write = StopsShort task input old new
-Does task input old new Memory = LacksMemory task input old new
+-- no byte came or went, and the output did not fail
+abbrev pub Stays : Outgoing → Outgoing → Type 0
+Stays old new = Keeps old.bytes new.bytes × (new.failures ≡ old.failures)
+
+-- an answer was written whole, and the output did not fail
+abbrev pub WritesAnswer : Task → Told → Outcome → Outgoing → Outgoing → Type 0
+WritesAnswer task input outcome old new = (bits : List Bool) × Answers task input outcome bits × Gains bits old.bytes new.bytes × (new.failures ≡ old.failures)
+
+-- What it leaves, by its outcome: an answer is written whole; a refusal, and what fails before there is an answer, writes nothing;
+-- and where the output fails, and only there, it has nothing, or a front of an answer.
+abbrev pub Leaves : Task → Told → Outgoing → Outgoing → Outcome → Type 0
+Leaves task input old new Done = WritesAnswer task input Done old new
+Leaves task input old new Different = WritesAnswer task input Different old new
+Leaves task input old new (Refused reason bit) = Refuses task input (Refused reason bit) × Stays old new
+Leaves task input old new (RefusedOf which reason bit) = Refuses task input (RefusedOf which reason bit) × Stays old new
+Leaves task input old new (TooLong limit) = Refuses task input (TooLong limit) × Stays old new
+Leaves task input old new Usage = ⊥
+Leaves task input old new Read = Stays old new
+Leaves task input old new Write = StopsShort task input old.bytes new.bytes × HasFailed old new
+Leaves task input old new Memory = LacksMemory task input old.bytes new.bytes × (new.failures ≡ old.failures)
+
+-- what a command does
+abbrev pub Does : Task → Incoming → Incoming → Outgoing → Outgoing → Outcome → Type 0
+Does task i now old new outcome = Takes task i now outcome × Leaves task i.to_come old new outcome
 
 -- ---- a run
 
--- a command was carried out, and the status is that of its outcome
-abbrev pub Performs : Task → Told → Told → Told → ℕ → Type 0
-Performs task input old new status = (outcome : Outcome) × Does task input old new outcome × (status ≡ status_of outcome)
+-- a text was written whole; or a front of it, since the writer failed
+abbrev pub Writes : List ℕ → Outgoing → Outgoing → Type 0
+Writes text old new = TookText text old new ⊎ (TookFront text old new × HasFailed old new)
 
--- What follows from what the words say: a command is carried out; help is status 0, or 3 where it could not be written; a usage
--- fault is status 2 and want of memory 3, and both leave the output as it was.
-abbrev pub Runs : Parsed → Told → Told → Told → ℕ → Type 0
-Runs (parsed.Task task) input old new status = Performs task input old new status
-Runs (parsed.Help text) input old new status = (status ≡ 0) ⊎ (status ≡ 3)
-Runs (parsed.Usage text) input old new status = Keeps old new × (status ≡ 2)
-Runs parsed.Memory input old new status = Keeps old new × (status ≡ 3)
+-- a run ends with the status of an outcome, and its line on errors
+abbrev pub Tells : Outcome → ℕ → Outgoing → Outgoing → Type 0
+Tells outcome status errors last = (status ≡ status_of outcome) × Writes (line_of outcome) errors last
+
+-- a help was written whole; or a front of it, since the output failed
+abbrev pub Helps : List ℕ → Outgoing → Outgoing → Outcome → Type 0
+Helps text old new Done = TookText text old new
+Helps text old new Write = TookFront text old new × HasFailed old new
+Helps text old new outcome = ⊥
+
+-- What follows from what the words say: a command is carried out; help is written; of a usage fault the text goes to errors, with
+-- status 2; and want of memory is told. Only a command takes of the input, and only a command and help write.
+abbrev pub Runs : Parsed → Incoming → Incoming → Outgoing → Outgoing → Outgoing → Outgoing → ℕ → Type 0
+Runs (parsed.Task task) i now old new errors last status = (outcome : Outcome) × Does task i now old new outcome × Tells outcome status errors last
+Runs (parsed.Help text) i now old new errors last status = (now ≡ i) × ((outcome : Outcome) × Helps (string_bytes text) old new outcome × Tells outcome status errors last)
+Runs (parsed.Usage text) i now old new errors last status = (now ≡ i) × (new ≡ old) × (status ≡ 2) × Writes (string_bytes text) errors last
+Runs parsed.Memory i now old new errors last status = (now ≡ i) × (new ≡ old) × Tells Memory status errors last
+
+-- ---- readers and writers
+
+-- a source over such a reader, which nobody has asked yet
+abbrev pub fresh_source : Told → Incoming
+fresh_source told = record { to_come = told; pulls = 0; failures = 0 }
+
+-- a sink over such a writer
+abbrev pub fresh_sink : Told → Outgoing
+fresh_sink told = record { bytes = told; failures = 0 }
+
+-- A run over a reader and two writers does what a run over devices does that hold the same bytes, before and after.
+abbrev pub RunsOver : Parsed → (input rest output written errors line : Told) → ℕ → Type 0
+RunsOver parsed input rest output written errors line status = (now : Incoming) × (new : Outgoing) × (last : Outgoing) × (now.to_come ≡ rest) × (new.bytes ≡ written) × (last.bytes ≡ line)
+    × Runs parsed (fresh_source input) now (fresh_sink output) new (fresh_sink errors) last status

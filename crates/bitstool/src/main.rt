@@ -1,6 +1,7 @@
 //! The program: checks, normalises, compares, analyses and lists inputs in the LLVM bitstream container, from the command line.
 #![tactic(auto)]
 
+mod devices;
 mod outcome;
 mod parse;
 mod perform;
@@ -9,10 +10,12 @@ mod task;
 #[cfg(test)]
 mod tests;
 
+use crate::devices::put_all;
 use crate::outcome::Outcome;
 use crate::run::run;
+use bit_fields::WriteSink;
 use std::alloc::Global;
-use std::io::{BufReader, BufWriter, Write};
+use std::io::{BufReader, BufWriter};
 use std::process::ExitCode;
 use std::{env, io};
 
@@ -37,15 +40,15 @@ fn run_here(alloc: Global, rt: &HostRuntime, words: Vec<String>) -> io::Result<u
 
 /// Says that the run could not begin.
 fn refuse(rt: &HostRuntime, error: io::Error) -> u8 {
-    let mut errors = rt.stderr();
+    let mut errors = WriteSink::new(rt.stderr());
     let outcome = match error.kind() {
         io::ErrorKind::OutOfMemory => Outcome::Memory,
         _ => {
-            let _ = errors.write_all(b"error: an argument is not text\n");
+            let _ = put_all(&mut errors, b"error: an argument is not text\n");
             Outcome::Usage
         }
     };
-    outcome.report(&mut errors);
+    let _ = outcome.report(&mut errors);
     outcome.status()
 }
 

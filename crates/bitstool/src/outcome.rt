@@ -1,11 +1,12 @@
 //! How a command ended.
 
-ghost use Rattle.std.specs.Prelude.{◌≡◌};
-ghost use Rattle.bitstool.specs.Outcome.{status_of};
+ghost use Rattle.std.specs.Prelude.{◌≡◌, ◌++◌};
+ghost use Rattle.bitstool.specs.Outcome.{line_of, reason_text, status_of};
+ghost use Rattle.bitstool.specs.Performing.{PutsAll};
 
-use bit_fields::Reason;
+use crate::devices::{put_all, put_number};
+use bit_fields::{Reason, Sink, SinkFailed};
 use bit_norm::Which;
-use std::io::Write;
 
 /// How a command ended.
 #[derive(Clone, Copy, Debug, PartialEq, Eq)]
@@ -57,24 +58,47 @@ impl Outcome {
         }
     }
 
-    /// Writes the line on errors, if there is one. What fails there changes nothing.
-    pub fn report<E: Write>(self, errors: &mut E) {
-        let _ = match self {
+    /// Writes the line on errors, if there is one.
+    pub fn report<K: Sink>(self, errors: &mut K) -> Result<(), SinkFailed>
+        ensures { PutsAll (line_of self) (K.outgoing errors.old) result (K.outgoing errors.new) }
+    {
+        match self {
             Outcome::Done | Outcome::Different | Outcome::Usage => Ok(()),
-            Outcome::Refused { reason, bit } => {
-                let name = reason.name();
-                writeln!(errors, "refused: {name} at bit {bit}")
-            }
+            Outcome::Refused { reason, bit } => put_refusal(errors, b"refused: ", reason, bit),
             Outcome::RefusedOf { which, reason, bit } => {
-                let name = reason.name();
-                writeln!(errors, "refused: {which}: {name} at bit {bit}")
+                let start = match which {
+                    Which::First => b"refused: first: ".as_slice(),
+                    Which::Second => b"refused: second: ".as_slice(),
+                };
+                put_refusal(errors, start, reason, bit)
             }
-            Outcome::TooLong { limit } => {
-                writeln!(errors, "refused: normal form longer than {limit} bytes")
-            }
-            Outcome::Read => writeln!(errors, "fault: read failed"),
-            Outcome::Write => writeln!(errors, "fault: write failed"),
-            Outcome::Memory => writeln!(errors, "fault: no memory"),
-        };
+            Outcome::TooLong { limit } => put_too_long(errors, limit),
+            Outcome::Read => put_all(errors, b"fault: read failed\n"),
+            Outcome::Write => put_all(errors, b"fault: write failed\n"),
+            Outcome::Memory => put_all(errors, b"fault: no memory\n"),
+        }
     }
+}
+
+/// Gives a sink the beginning of a line, a reason and a bit.
+fn put_refusal<K: Sink>(
+    sink: &mut K,
+    start: &[u8],
+    reason: Reason,
+    bit: u64,
+) -> Result<(), SinkFailed>
+    ensures { PutsAll (start.now ++ reason_text reason bit) (K.outgoing sink.old) result (K.outgoing sink.new) }
+{
+    put_all(sink, start)?;
+    put_all(sink, reason.name().as_bytes())?;
+    put_all(sink, b" at bit ")?;
+    put_number(sink, bit, b"\n")
+}
+
+/// Gives a sink the line of a normal form that has more bytes than this limit.
+fn put_too_long<K: Sink>(sink: &mut K, limit: u64) -> Result<(), SinkFailed>
+    ensures { PutsAll (line_of (Outcome.TooLong limit)) (K.outgoing sink.old) result (K.outgoing sink.new) }
+{
+    put_all(sink, b"refused: normal form longer than ")?;
+    put_number(sink, limit, b" bytes\n")
 }

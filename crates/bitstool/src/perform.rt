@@ -1,21 +1,20 @@
 //! Carrying out a command.
 
 ghost use Rattle.std.specs.Prelude.{◌≡◌, ◌<◌, ◌^◌, vec_items};
-ghost use Rattle.std.specs.Io.KnownBytes.{Keeps};
 ghost use Rattle.bit_fields.specs.Reader.{told_by};
 ghost use Rattle.bitstool.specs.declared.task.Task.{Task as TaskValue};
-ghost use Rattle.bitstool.specs.Performing.{ComparesWith, Finds, IsOrWrite, Puts, TakesFirst, Tells, ended, outcome_in, outcome_of};
+ghost use Rattle.bitstool.specs.Performing.{ComparesWith, Judges, Settles, TakesFirst, TakesRest, TellsLine, ended, outcome_in, outcome_of};
 ghost use Rattle.bitstool.specs.Runs.{Does};
 
+use crate::devices::{Flush, put_all};
 use crate::outcome::Outcome;
 use crate::task::Task;
 use bit_events::check;
-use bit_fields::{BufSource, Fault, Limits, Sink, SliceSource, Source, WriteSink};
+use bit_fields::{Fault, Limits, Sink, SliceSource, Source};
 use bit_norm::{Which, normalise, same};
 use bit_scan::{analyse, write_show};
 use bit_tree::Info;
 use std::alloc::Global;
-use std::io::{BufRead, Write};
 
 /// How many bytes of a first input are taken at once.
 const PIECE: usize = 4096;
@@ -55,21 +54,6 @@ fn ended(limit: u64, answer: Result<(), Fault>) -> Outcome
     }
 }
 
-/// Gives a sink all of a text, in as many puts as it wants.
-fn put_all<K: Sink>(sink: &mut K, text: &[u8]) -> Result<(), Fault>
-    ensures { Puts text.now (K.outgoing sink.old) result (K.outgoing sink.new) }
-{
-    let mut rest = text;
-    while !rest.is_empty() {
-        match sink.put(rest) {
-            Ok(0) => return Err(Fault::Write),
-            Ok(count) => rest = &rest[count..],
-            Err(_) => return Err(Fault::Write),
-        }
-    }
-    Ok(())
-}
-
 /// Takes bytes of a source into memory: so many, or all where it has fewer.
 fn take_first<S: Source>(alloc: Global, source: &mut S, count: u64) -> Result<Vec<u8>, Fault>
     requires { count < 2 ^ 60 }
@@ -101,7 +85,8 @@ fn compare_with<S: Source>(
     limits: Limits,
     info: Info,
 ) -> (Outcome, S)
-    ensures { ComparesWith info limits first.now (S.incoming rest).to_come result.0 }
+    ensures found { ComparesWith info limits first.now (S.incoming rest).to_come result.0 }
+    ensures taken { TakesRest limits (S.incoming rest) (S.incoming result.1) result.0 }
 {
     let (answer, _, rest) = same(alloc, SliceSource::new(first), rest, limits, info);
     match answer {
@@ -122,7 +107,7 @@ fn compare<S: Source>(
     limits: Limits,
     info: Info,
 ) -> (Outcome, S)
-    ensures { Finds (TaskValue.Same first limits info) (S.incoming source).to_come result.0 }
+    ensures { Judges (TaskValue.Same first limits info) (S.incoming source) (S.incoming result.1) result.0 }
 {
     let count = first.min(limits.bytes() + 1);
     match take_first(alloc, &mut source, count) {
@@ -133,7 +118,7 @@ fn compare<S: Source>(
 
 /// Judges a source.
 fn judge<S: Source>(alloc: Global, source: S, limits: Limits) -> (Outcome, S)
-    ensures { Finds (TaskValue.Check limits) (S.incoming source).to_come result.0 }
+    ensures { Judges (TaskValue.Check limits) (S.incoming source) (S.incoming result.1) result.0 }
 {
     let (answer, source) = check(alloc, source, limits);
     match answer {
@@ -144,7 +129,7 @@ fn judge<S: Source>(alloc: Global, source: S, limits: Limits) -> (Outcome, S)
 
 /// Writes the line of an answer.
 fn tell<K: Sink>(answer: Outcome, line: &[u8], sink: &mut K) -> Outcome
-    ensures { Tells answer line.now (K.outgoing sink.old).bytes result (K.outgoing sink.new).bytes }
+    ensures { TellsLine answer line.now (K.outgoing sink.old) result (K.outgoing sink.new) }
 {
     match put_all(sink, line) {
         Ok(()) => answer,
@@ -153,67 +138,68 @@ fn tell<K: Sink>(answer: Outcome, line: &[u8], sink: &mut K) -> Outcome
 }
 
 /// Says whether the input is accepted.
-fn perform_check<R: BufRead, W: Write>(
+fn perform_check<S: Source, K: Sink>(
     alloc: Global,
     limits: Limits,
-    input: R,
-    output: W,
-) -> (Outcome, R, W)
-    ensures { Does (TaskValue.Check limits) (R.remaining input) (W.contents output) (W.contents result.2) result.0 }
+    source: S,
+    mut sink: K,
+) -> (Outcome, S, K)
+    ensures { Does (TaskValue.Check limits) (S.incoming source) (S.incoming result.1) (K.outgoing sink) (K.outgoing result.2) result.0 }
 {
-    let (outcome, source) = judge(alloc, BufSource::new(input), limits);
-    let mut sink = WriteSink::new(output);
+    let (outcome, source) = judge(alloc, source, limits);
     let outcome = match outcome {
         Outcome::Done => tell(Outcome::Done, b"accepted\n", &mut sink),
         other => other,
     };
-    (outcome, source.into_inner(), sink.into_inner())
+    (outcome, source, sink)
 }
 
 /// Writes the normal form of the input.
-fn perform_normal<R: BufRead, W: Write>(
+fn perform_normal<S: Source, K: Sink>(
     alloc: Global,
     limits: Limits,
     info: Info,
-    input: R,
-    output: W,
-) -> (Outcome, R, W)
-    ensures { Does (TaskValue.Normal limits info) (R.remaining input) (W.contents output) (W.contents result.2) result.0 }
+    source: S,
+    sink: K,
+) -> (Outcome, S, K)
+    ensures { Does (TaskValue.Normal limits info) (S.incoming source) (S.incoming result.1) (K.outgoing sink) (K.outgoing result.2) result.0 }
 {
-    let source = BufSource::new(input);
-    let sink = WriteSink::new(output);
     let (answer, source, sink) = normalise(alloc, source, sink, limits, info);
     let outcome = match answer {
         Ok(_) => Outcome::Done,
         Err(fault) => outcome_of(limits.bytes(), fault),
     };
-    (outcome, source.into_inner(), sink.into_inner())
+    (outcome, source, sink)
 }
 
 /// Compares the first bytes of the input, so many, with the rest.
-fn perform_same<R: BufRead, W: Write>(
+fn perform_same<S: Source, K: Sink>(
     alloc: Global,
     first: u64,
     limits: Limits,
     info: Info,
-    input: R,
-    output: W,
-) -> (Outcome, R, W)
-    ensures { Does (TaskValue.Same first limits info) (R.remaining input) (W.contents output) (W.contents result.2) result.0 }
+    source: S,
+    mut sink: K,
+) -> (Outcome, S, K)
+    ensures { Does (TaskValue.Same first limits info) (S.incoming source) (S.incoming result.1) (K.outgoing sink) (K.outgoing result.2) result.0 }
 {
-    let (outcome, source) = compare(alloc, first, BufSource::new(input), limits, info);
-    let mut sink = WriteSink::new(output);
+    let (outcome, source) = compare(alloc, first, source, limits, info);
     let outcome = match outcome {
         Outcome::Done => tell(Outcome::Done, b"same\n", &mut sink),
         Outcome::Different => tell(Outcome::Different, b"different\n", &mut sink),
         other => other,
     };
-    (outcome, source.into_inner(), sink.into_inner())
+    (outcome, source, sink)
 }
 
-/// Writes the report of a source's analysis into a sink.
-fn report<S: Source, K: Sink>(alloc: Global, limits: Limits, source: S, sink: K) -> (Outcome, S, K)
-    ensures { Does (TaskValue.Analyse limits) (S.incoming source).to_come (K.outgoing sink).bytes (K.outgoing result.2).bytes result.0 }
+/// Writes the report of the input's analysis.
+fn perform_analyse<S: Source, K: Sink>(
+    alloc: Global,
+    limits: Limits,
+    source: S,
+    sink: K,
+) -> (Outcome, S, K)
+    ensures { Does (TaskValue.Analyse limits) (S.incoming source) (S.incoming result.1) (K.outgoing sink) (K.outgoing result.2) result.0 }
 {
     let (answer, source) = analyse(alloc, source, limits);
     match answer {
@@ -225,83 +211,59 @@ fn report<S: Source, K: Sink>(alloc: Global, limits: Limits, source: S, sink: K)
     }
 }
 
-/// Writes the report of the input's analysis.
-fn perform_analyse<R: BufRead, W: Write>(
+/// Writes the listing of the input.
+fn perform_show<S: Source, K: Sink>(
     alloc: Global,
     limits: Limits,
-    input: R,
-    output: W,
-) -> (Outcome, R, W)
-    ensures { Does (TaskValue.Analyse limits) (R.remaining input) (W.contents output) (W.contents result.2) result.0 }
+    source: S,
+    sink: K,
+) -> (Outcome, S, K)
+    ensures { Does (TaskValue.Show limits) (S.incoming source) (S.incoming result.1) (K.outgoing sink) (K.outgoing result.2) result.0 }
 {
-    let source = BufSource::new(input);
-    let sink = WriteSink::new(output);
-    let (outcome, source, sink) = report(alloc, limits, source, sink);
-    (outcome, source.into_inner(), sink.into_inner())
+    let (answer, source, sink) = write_show(alloc, source, sink, limits);
+    (ended(limits.bytes(), answer), source, sink)
 }
 
-/// Writes the listing of the input.
-fn perform_show<R: BufRead, W: Write>(
-    alloc: Global,
-    limits: Limits,
-    input: R,
-    output: W,
-) -> (Outcome, R, W)
-    ensures { Does (TaskValue.Show limits) (R.remaining input) (W.contents output) (W.contents result.2) result.0 }
+/// Carries out a command, up to the flush.
+fn carry_out<S: Source, K: Sink>(alloc: Global, task: Task, source: S, sink: K) -> (Outcome, S, K)
+    ensures { Does task (S.incoming source) (S.incoming result.1) (K.outgoing sink) (K.outgoing result.2) result.0 }
 {
-    let source = BufSource::new(input);
-    let sink = WriteSink::new(output);
-    let (answer, source, sink) = write_show(alloc, source, sink, limits);
-    let outcome = ended(limits.bytes(), answer);
-    (outcome, source.into_inner(), sink.into_inner())
+    match task {
+        Task::Check { limits } => perform_check(alloc, limits, source, sink),
+        Task::Normal { limits, info } => perform_normal(alloc, limits, info, source, sink),
+        Task::Same {
+            first,
+            limits,
+            info,
+        } => perform_same(alloc, first, limits, info, source, sink),
+        Task::Analyse { limits } => perform_analyse(alloc, limits, source, sink),
+        Task::Show { limits } => perform_show(alloc, limits, source, sink),
+    }
 }
 
 /// Flushes the output of a command that answered or refused.
-fn settle<W: Write>(outcome: Outcome, output: &mut W) -> Outcome
-    ensures kept { Keeps (W.contents output.old) (W.contents output.new) }
-    ensures outcome { IsOrWrite outcome result }
+fn settle<K: Flush>(outcome: Outcome, sink: &mut K) -> Outcome
+    ensures { Settles outcome (K.outgoing sink.old) result (K.outgoing sink.new) }
 {
     if outcome.status() > 1 {
         return outcome;
     }
-    match output.flush() {
+    match sink.hand_on() {
         Ok(()) => outcome,
         Err(_) => Outcome::Write,
     }
 }
 
-/// Carries out a command, up to the flush.
-fn carry_out<R: BufRead, W: Write>(
-    alloc: Global,
-    task: Task,
-    input: R,
-    output: W,
-) -> (Outcome, R, W)
-    ensures { Does task (R.remaining input) (W.contents output) (W.contents result.2) result.0 }
-{
-    match task {
-        Task::Check { limits } => perform_check(alloc, limits, input, output),
-        Task::Normal { limits, info } => perform_normal(alloc, limits, info, input, output),
-        Task::Same {
-            first,
-            limits,
-            info,
-        } => perform_same(alloc, first, limits, info, input, output),
-        Task::Analyse { limits } => perform_analyse(alloc, limits, input, output),
-        Task::Show { limits } => perform_show(alloc, limits, input, output),
-    }
-}
-
 /// Carries out a command, and answers how it ended; the output is flushed where the command answered or refused.
-pub fn perform<R: BufRead, W: Write>(
+pub fn perform<S: Source, K: Flush>(
     alloc: Global,
     task: Task,
-    input: R,
-    output: W,
-) -> (Outcome, R, W)
-    ensures { Does task (R.remaining input) (W.contents output) (W.contents result.2) result.0 }
+    source: S,
+    sink: K,
+) -> (Outcome, S, K)
+    ensures { Does task (S.incoming source) (S.incoming result.1) (K.outgoing sink) (K.outgoing result.2) result.0 }
 {
-    let (outcome, input, mut output) = carry_out(alloc, task, input, output);
-    let outcome = settle(outcome, &mut output);
-    (outcome, input, output)
+    let (outcome, source, mut sink) = carry_out(alloc, task, source, sink);
+    let outcome = settle(outcome, &mut sink);
+    (outcome, source, sink)
 }

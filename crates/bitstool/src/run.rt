@@ -1,18 +1,19 @@
 //! The whole program, over any reader and writers.
 
-ghost use Rattle.std.specs.Prelude.{◌≡◌, ◌⊎◌, [], map, string_bytes};
+ghost use Rattle.std.specs.Prelude.{◌≡◌, [], map, string_bytes};
 ghost use Rattle.bit_grammar.specs.declared.info.Info.{Info};
 ghost use Rattle.bitstool.specs.declared.task.Parsed.{Parsed as ParsedValue};
 ghost use Rattle.bitstool.specs.declared.task.Task.{Task as TaskValue};
-ghost use Rattle.bitstool.specs.Outcome.{status_of};
-ghost use Rattle.bitstool.specs.Runs.{Performs, Runs};
+ghost use Rattle.bitstool.specs.Performing.{PutsAll};
+ghost use Rattle.bitstool.specs.Runs.{Helps, Runs, RunsOver, Tells, Writes};
 ghost use Rattle.bitstool.specs.Words.{Says};
 
+use crate::devices::{Flush, put_all};
 use crate::outcome::Outcome;
 use crate::parse::parse;
 use crate::perform::perform;
 use crate::task::{Parsed, Task};
-use bit_fields::Limits;
+use bit_fields::{BufSource, Limits, Sink, SinkFailed, Source, WriteSink};
 use bit_tree::Info;
 use std::alloc::Global;
 use std::io::{BufRead, Write};
@@ -26,54 +27,86 @@ pub struct Ran<R, W, E> {
     pub errors: E,
 }
 
-/// Writes a text and flushes it.
-fn show<W: Write>(output: &mut W, text: &str) -> Outcome
-    ensures { (result ≡ Outcome.Done) ⊎ (result ≡ Outcome.Write) }
+/// Writes a text whole, and has it handed on.
+fn put_help<K: Flush>(sink: &mut K, text: &[u8]) -> Result<(), SinkFailed>
+    ensures { PutsAll text.now (K.outgoing sink.old) result (K.outgoing sink.new) }
 {
-    if output.write_all(text.as_bytes()).is_err() || output.flush().is_err() {
-        return Outcome::Write;
-    }
-    Outcome::Done
+    put_all(sink, text)?;
+    sink.hand_on()
 }
 
-/// Says on errors how the run ended, and hands the devices back.
-fn end<R, W, E: Write>(outcome: Outcome, input: R, output: W, mut errors: E) -> Ran<R, W, E>
-    ensures status { result.status ≡ status_of outcome }
-    ensures output { result.output ≡ output }
+/// Writes a help.
+fn help<K: Flush>(sink: &mut K, text: &[u8]) -> Outcome
+    ensures { Helps text.now (K.outgoing sink.old) (K.outgoing sink.new) result }
 {
-    outcome.report(&mut errors);
-    Ran {
-        status: outcome.status(),
-        input,
-        output,
-        errors,
+    match put_help(sink, text) {
+        Ok(()) => Outcome::Done,
+        Err(_) => Outcome::Write,
     }
 }
 
-/// Does what the words said.
-fn obey<R: BufRead, W: Write, E: Write>(
+/// Writes a text on errors. What fails there changes nothing.
+fn put_on_errors<K: Sink>(errors: &mut K, text: &[u8])
+    ensures { Writes text.now (K.outgoing errors.old) (K.outgoing errors.new) }
+{
+    let _ = put_all(errors, text);
+}
+
+/// Says on errors how the run ended, and answers the status. What fails there changes nothing.
+fn tell<K: Sink>(outcome: Outcome, errors: &mut K) -> u8
+    ensures { Tells outcome result (K.outgoing errors.old) (K.outgoing errors.new) }
+{
+    let _ = outcome.report(errors);
+    outcome.status()
+}
+
+/// Does what the words say, over any devices, and answers the status.
+fn obey<S: Source, K: Flush, E: Sink>(
     alloc: Global,
     parsed: Parsed,
-    input: R,
-    mut output: W,
-    mut errors: E,
-) -> Ran<R, W, E>
-    ensures { Runs parsed (R.remaining input) (W.contents output) (W.contents result.output) result.status }
+    source: S,
+    mut sink: K,
+    errors: &mut E,
+) -> (u8, S, K)
+    ensures { Runs parsed (S.incoming source) (S.incoming result.1) (K.outgoing sink) (K.outgoing result.2) (E.outgoing errors.old) (E.outgoing errors.new) result.0 }
 {
     match parsed {
         Parsed::Task(task) => {
-            let (outcome, input, output) = perform(alloc, task, input, output);
-            end(outcome, input, output, errors)
+            let (outcome, source, sink) = perform(alloc, task, source, sink);
+            (tell(outcome, errors), source, sink)
         }
         Parsed::Help(text) => {
-            let outcome = show(&mut output, &text);
-            end(outcome, input, output, errors)
+            let outcome = help(&mut sink, text.as_bytes());
+            (tell(outcome, errors), source, sink)
         }
         Parsed::Usage(text) => {
-            let _ = errors.write_all(text.as_bytes());
-            end(Outcome::Usage, input, output, errors)
+            put_on_errors(errors, text.as_bytes());
+            (Outcome::Usage.status(), source, sink)
         }
-        Parsed::Memory => end(Outcome::Memory, input, output, errors),
+        Parsed::Memory => (tell(Outcome::Memory, errors), source, sink),
+    }
+}
+
+/// The same over a reader and writers.
+fn obey_here<R: BufRead, W: Write, E: Write>(
+    alloc: Global,
+    parsed: Parsed,
+    input: R,
+    output: W,
+    errors: E,
+) -> Ran<R, W, E>
+    ensures { RunsOver parsed (R.remaining input) (R.remaining result.input) (W.contents output) (W.contents result.output)
+        (E.contents errors) (E.contents result.errors) result.status }
+{
+    let source = BufSource::new(input);
+    let sink = WriteSink::new(output);
+    let mut errors = WriteSink::new(errors);
+    let (status, source, sink) = obey(alloc, parsed, source, sink, &mut errors);
+    Ran {
+        status,
+        input: source.into_inner(),
+        output: sink.into_inner(),
+        errors: errors.into_inner(),
     }
 }
 
@@ -89,11 +122,11 @@ pub fn run<R: BufRead, W: Write, E: Write>(
     errors: E,
 ) -> Ran<R, W, E>
     // Without words it writes the normal form under the usual limits, and keeps BLOCKINFO blocks.
-    ensures plain { words.items ≡ [] → Performs (TaskValue.Normal (record { bytes = 1073741824; depth = 64; values = 134217728 }) Info.Keep)
-        (R.remaining input) (W.contents output) (W.contents result.output) result.status }
+    ensures plain { words.items ≡ [] → RunsOver (ParsedValue.Task (TaskValue.Normal (record { bytes = 1073741824; depth = 64; values = 134217728 }) Info.Keep))
+        (R.remaining input) (R.remaining result.input) (W.contents output) (W.contents result.output) (E.contents errors) (E.contents result.errors) result.status }
     // With words it does what they say.
     ensures any { (words.items ≡ [] → ⊥) → (parsed : ParsedValue) × Says (map string_bytes words.items) parsed
-        × Runs parsed (R.remaining input) (W.contents output) (W.contents result.output) result.status }
+        × RunsOver parsed (R.remaining input) (R.remaining result.input) (W.contents output) (W.contents result.output) (E.contents errors) (E.contents result.errors) result.status }
 {
     let parsed = if words.is_empty() {
         Parsed::Task(Task::Normal {
@@ -103,5 +136,5 @@ pub fn run<R: BufRead, W: Write, E: Write>(
     } else {
         parse(alloc, &words)
     };
-    obey(alloc, parsed, input, output, errors)
+    obey_here(alloc, parsed, input, output, errors)
 }

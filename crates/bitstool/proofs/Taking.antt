@@ -1,0 +1,130 @@
+-- What commands take of their input.
+use Rattle.std.proofs.Common.{◌≡◌, ℕ, ◌+◌, ◌^◌, ◌-◌, ◌<◌, ◌≤◌, max, List, [], length, Some, None, Ok, Err, refl, sym, ap, ◌∙◌, subst, inl, inr, arith, take, length-append, length-take}
+use Rattle.std.specs.Prelude.{IsSome}
+use Rattle.std.specs.Io.KnownBytes.{Consumes, Keeps}
+use Rattle.std.proofs.lemmas.Bool.{cases_lt}
+use Rattle.bit_grammar.specs.Blocks.{Limits}
+use Rattle.bit_fields.specs.declared.fault.Fault.{Fault}
+use Rattle.bit_fields.specs.declared.fault.Fault.TheVariants as fault
+use Rattle.bit_fields.specs.Devices.{Gave, GaveNone, Incoming, IsWorn, Spends, known_bytes}
+use Rattle.bit_fields.specs.Reader.{SourceFails}
+use Rattle.bit_events.specs.Reading.{ReadsWhole}
+use Rattle.bitstool.specs.declared.outcome.Outcome.{Outcome}
+use Rattle.bitstool.specs.declared.outcome.Outcome.TheVariants.{Done, TooLong, Write, Memory}
+use Rattle.bitstool.specs.declared.task.Task.{Task}
+use Rattle.bitstool.specs.Performing.{outcome_of}
+use Rattle.bitstool.specs.Runs.{IsDrained, Takes, Told, most_taken}
+use Rattle.bitstool.proofs.Known.{if_told}
+
+-- ---- what is paid for
+
+pub spends_none : (i : Incoming) (most : ℕ) → Spends i most i 0
+spends_none i most = record { pulls = omega arith; failures = omega arith; tells = λ t. t; bytes = λ t. omega arith }
+
+pub spends_more : (i now : Incoming) (a b : ℕ) → a ≤ b → Spends i a now 0 → Spends i b now 0
+spends_more i now a b le h = record { pulls = omega (arith, h.pulls); failures = h.failures; tells = h.tells; bytes = λ t. let few = h.bytes t in omega (arith, few) }
+
+pub spends_then : (i mid now : Incoming) (a b : ℕ) → Spends i a mid 0 → Spends mid b now 0 → Spends i (a + b) now 0
+spends_then i mid now a b h k = record {
+  pulls = omega (arith, h.pulls, k.pulls);
+  failures = omega (arith, h.failures, k.failures);
+  tells = λ t. k.tells (h.tells t);
+  bytes = λ t.
+      let first = h.bytes t in
+      let second = k.bytes (h.tells t) in
+      omega (arith, first, second);
+}
+
+pub fails_later : (i mid now : Incoming) → i.failures ≤ mid.failures → SourceFails mid now → SourceFails i now
+fails_later i mid now before (inl rose) = inl (omega (arith, before, rose))
+fails_later i mid now before (inr worn) = inr worn
+
+-- ---- pulls
+
+known_after : (a b : Told) (bytes : List ℕ) → Consumes a b bytes → IsSome a → IsSome b × (length (known_bytes a) ≡ length bytes + length (known_bytes b))
+known_after None b bytes h told = absurd (cc)
+known_after (Some xs) None bytes h told = absurd h
+known_after (Some xs) (Some ys) bytes h told = (refl, ap length h ∙ length-append bytes ys)
+
+known_kept : (a b : Told) → Keeps a b → IsSome a → IsSome b × (length (known_bytes a) ≡ length (known_bytes b))
+known_kept None b h told = absurd (cc)
+known_kept (Some xs) None h told = absurd h
+known_kept (Some xs) (Some ys) h told = (refl, ap length (sym h))
+
+-- bytes that a pull gave, of which each pays for it
+pub gave_spends : (old new : Incoming) (count : ℕ) (into : List ℕ) → Gave old new count into → 0 < count → Spends old count new 0
+gave_spends old new count into g some =
+    let long : length (take count into) ≤ count = omega (arith, length-take count into) in
+    record {
+      pulls = omega (arith, g.pulls);
+      failures = omega (arith, g.failures);
+      tells = λ t. (known_after old.to_come new.to_come (take count into) g.bytes t).0;
+      bytes = λ t. let more = (known_after old.to_come new.to_come (take count into) g.bytes t).1 in omega (arith, more, long);
+    }
+
+-- a pull that gave none
+pub gave_none : (old new : Incoming) (count : ℕ) (into : List ℕ) → Gave old new count into → count ≡ 0 → Spends old 1 new 0
+gave_none old new count into g none =
+    let long : length (take count into) ≤ count = omega (arith, length-take count into) in
+    record {
+      pulls = omega (arith, g.pulls);
+      failures = omega (arith, g.failures);
+      tells = λ t. (known_after old.to_come new.to_come (take count into) g.bytes t).0;
+      bytes = λ t. let more = (known_after old.to_come new.to_come (take count into) g.bytes t).1 in omega (arith, more, long);
+    }
+
+-- a pull that failed
+pub failed_spends : (old new : Incoming) → GaveNone old new → Spends old 1 new 0 × SourceFails old new
+failed_spends old new g = elim (cases_lt (max old.pulls old.failures) (2 ^ 64 - 1)) [
+  | inl fresh ↦
+      let counted = g.counted fresh in (
+        record {
+          pulls = omega (arith, counted.0);
+          failures = omega (arith, counted.1);
+          tells = λ t. (known_kept old.to_come new.to_come g.bytes t).0;
+          bytes = λ t. let same = (known_kept old.to_come new.to_come g.bytes t).1 in omega (arith, same);
+        },
+        inl (omega (arith, counted.1)),
+      )
+  | inr worn ↦
+      let same = g.worn worn in
+      (subst (λ (n : Incoming). Spends old 1 n 0) (sym same) (spends_none old 1), inr (subst IsWorn (sym same) worn))
+]
+
+-- ---- what is left
+
+none_left : (o : Told) → IsSome o → known_bytes o ≡ [] → o ≡ Some []
+none_left None told empty = absurd (cc)
+none_left (Some bytes) told empty = rw empty refl
+
+pub drained : (i now : Incoming) → (IsSome i.to_come → IsSome now.to_come) → (IsSome i.to_come → known_bytes now.to_come ≡ []) → IsDrained i now
+drained i now tells empty = if_told i.to_come (λ bytes. now.to_come ≡ Some []) (λ t. none_left now.to_come (tells t) (empty t))
+
+-- ---- commands that read one input
+
+module _ {A : Type 0} (Holds : List ℕ → A → Type 0) (task : Task) (limits : Limits) (most : (o : Outcome) → most_taken task o ≡ limits.bytes + 1) (i now : Incoming) where
+  spent : (o : Outcome) → Spends i (limits.bytes + 1) now 0 → Spends i (most_taken task o) now 0
+  spent o h = subst (λ (n : ℕ). Spends i n now 0) (sym (most o)) h
+
+  all_read : (a : A) → ReadsWhole Holds limits i (Ok a) now → IsDrained i now
+  all_read a h = drained i now h.0.tells (λ t. (h.1 t).1)
+
+  pub takes_done : (a : A) → ReadsWhole Holds limits i (Ok a) now → Takes task i now Done
+  takes_done a h = (spent Done h.0, all_read a h)
+
+  pub takes_long : (a : A) (limit : ℕ) → ReadsWhole Holds limits i (Ok a) now → Takes task i now (TooLong limit)
+  takes_long a limit h = (spent (TooLong limit) h.0, all_read a h)
+
+  pub takes_write : (a : A) → ReadsWhole Holds limits i (Ok a) now → Takes task i now Write
+  takes_write a h = (spent Write h.0, tt)
+
+  pub takes_memory : (a : A) → ReadsWhole Holds limits i (Ok a) now → Takes task i now Memory
+  takes_memory a h = (spent Memory h.0, tt)
+
+  pub takes_fault : (why : Fault) → ReadsWhole Holds limits i (Err why) now → Takes task i now (outcome_of limits.bytes why)
+  takes_fault (fault.Refused reason bit) h = (spent _ h.0, tt)
+  takes_fault fault.Read h = (spent _ h.0, h.1)
+  takes_fault fault.Memory h = (spent _ h, tt)
+  takes_fault fault.Write h = absurd h
+  takes_fault fault.OutputTooLong h = absurd h
+  takes_fault fault.Failed h = absurd h
