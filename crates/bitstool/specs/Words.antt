@@ -10,6 +10,8 @@ use Rattle.clap.specs.declared.builder.action.ArgAction.TheVariants.{SetTrue}
 use Rattle.clap.specs.declared.builder.value_parser.ValueParser.TheVariants.{Unsigned}
 use Rattle.clap.specs.declared.error.kind.ErrorKind.{ErrorKind}
 use Rattle.clap.specs.declared.error.kind.ErrorKind.TheVariants.{DisplayHelp, DisplayVersion, OutOfMemory}
+use Rattle.bit_grammar.specs.declared.shapes.Shapes.{Shapes}
+use Rattle.bit_grammar.specs.declared.shapes.Shapes.TheVariants.{AtDefinition, AtUse}
 use Rattle.bit_grammar.specs.declared.info.Info.{Info}
 use Rattle.bit_grammar.specs.declared.info.Info.TheVariants.{Keep, Drop}
 use Rattle.bit_grammar.specs.Blocks.{Limits}
@@ -37,7 +39,10 @@ depth_rule = limit_rule (codes "depth") (codes "64") 255
 abbrev pub values_rule : Rule
 values_rule = limit_rule (codes "values") (codes "134217728") 4294967295
 
--- a flag
+-- flags
+abbrev pub shapes_rule : Rule
+shapes_rule = record (new_rule (codes "shapes-at-use")) { long = Some (codes "shapes-at-use"); action = Some SetTrue }
+
 abbrev pub drop_rule : Rule
 drop_rule = record (new_rule (codes "drop-info")) { long = Some (codes "drop-info"); action = Some SetTrue }
 
@@ -47,11 +52,15 @@ first_rule = record (number_rule (codes "first") 17179869180) { required = true 
 
 -- ---- the commands
 
+-- a command with the limits that are numbers
+abbrev pub numbered : Text → App
+numbered name = with_rule (with_rule (with_rule (new_app name) bytes_rule) depth_rule) values_rule
+
 -- a command with the limits as its options
 abbrev pub limited : Text → App
-limited name = with_rule (with_rule (with_rule (new_app name) bytes_rule) depth_rule) values_rule
+limited name = with_rule (numbered name) shapes_rule
 
--- a command that has the flag too
+-- a command that may drop BLOCKINFO blocks too
 abbrev pub dropping : Text → App
 dropping name = with_rule (limited name) drop_rule
 
@@ -76,8 +85,13 @@ bitstool = with_subcommand (with_subcommand three (limited (codes "analyse")).to
 abbrev pub HasNumber : Text → List Row → ℕ → Type 0
 HasNumber id rows n = (text : Text) × (one_of id rows ≡ Some text) × IsNumeral 10 (without_leading_plus text) × (digits_value 10 (without_leading_plus text) ≡ n)
 
+-- shapes are judged at their use exactly where the flag was given
+abbrev pub HasShapes : List Row → Shapes → Type 0
+HasShapes rows AtDefinition = one_of (codes "shapes-at-use") rows ≢ Some (codes "true")
+HasShapes rows AtUse = one_of (codes "shapes-at-use") rows ≡ Some (codes "true")
+
 abbrev pub HasLimits : List Row → Limits → Type 0
-HasLimits rows limits = HasNumber (codes "bytes") rows limits.bytes × HasNumber (codes "depth") rows limits.depth × HasNumber (codes "values") rows limits.values
+HasLimits rows limits = HasNumber (codes "bytes") rows limits.bytes × HasNumber (codes "depth") rows limits.depth × HasNumber (codes "values") rows limits.values × HasShapes rows limits.shapes
 
 -- BLOCKINFO blocks are dropped exactly where the flag was given
 abbrev pub HasSetting : List Row → Info → Type 0

@@ -3,10 +3,10 @@
 ghost use Rattle.std.specs.Prelude.{◌≡◌, ◌<◌, ◌^◌, ℕ, false, map, string_bytes, IfOk, IfErr, IfSome, IsSome, Some};
 ghost use Rattle.bitstool.specs.declared.task.Parsed.{Parsed as ParsedValue};
 ghost use Rattle.clap.specs.Words.{app_of, found_of, kind_of, rows_of, rule_of, subcommand_rows_of};
-ghost use Rattle.bitstool.specs.Words.{FindsAll, HasAllLimits, HasLimits, HasNumber, HasSetting, Means, Says, Fails, Shows, bitstool, limit_rule, limited, number_rule, dropping, comparing};
+ghost use Rattle.bitstool.specs.Words.{numbered, FindsAll, HasAllLimits, HasLimits, HasNumber, HasSetting, HasShapes, Means, Says, Fails, Shows, bitstool, limit_rule, limited, number_rule, dropping, comparing};
 
 use crate::task::{Parsed, Task};
-use bit_fields::Limits;
+use bit_fields::{Limits, Shapes};
 use bit_tree::Info;
 use clap::builder::ValueParser;
 use clap::error::ErrorKind;
@@ -53,6 +53,10 @@ const SHOW: &str =
     "Prints the tree of the input: a line for each block, with its id, and for each record, with its code and values, \
 indented by the blocks around it";
 
+const SHAPES: &str =
+    "Judge the order of a definition's operands where a record uses it, as LLVM's reader does, and not where it stands; \
+precompiled headers and module files of Clang 19 and later want this";
+
 /// An option with a number from 0 to `most`.
 fn number_option<'a>(alloc: Global, name: &'a str, most: u64) -> Arg<'a>
     ensures rule { rule_of result ≡ number_rule name.entry.now most }
@@ -74,9 +78,9 @@ fn limit<'a>(alloc: Global, name: &'a str, usual: &'a str, most: u64, help: &'a 
         .help(help)
 }
 
-/// A command with the limits as its options.
-fn limited<'a>(alloc: Global, name: &'a str, about: &'a str) -> Result<Command<'a>, AllocError>
-    ensures { IfOk result (λ command. app_of command ≡ (limited name.entry.now)) }
+/// A command with the limits that are numbers.
+fn numbered<'a>(alloc: Global, name: &'a str, about: &'a str) -> Result<Command<'a>, AllocError>
+    ensures { IfOk result (λ command. app_of command ≡ (numbered name.entry.now)) }
 {
     let bytes = limit(
         alloc,
@@ -104,6 +108,17 @@ fn limited<'a>(alloc: Global, name: &'a str, about: &'a str) -> Result<Command<'
         .arg(bytes)?
         .arg(depth)?
         .arg(values)
+}
+
+/// A command with the limits as its options.
+fn limited<'a>(alloc: Global, name: &'a str, about: &'a str) -> Result<Command<'a>, AllocError>
+    ensures { IfOk result (λ command. app_of command ≡ (limited name.entry.now)) }
+{
+    let shapes = Arg::new(alloc, "shapes-at-use")
+        .long("shapes-at-use")
+        .action(ArgAction::SetTrue)
+        .help(SHAPES);
+    numbered(alloc, name, about)?.arg(shapes)
 }
 
 /// A command with the limits and the setting as its options.
@@ -159,6 +174,17 @@ fn number(matches: &ArgMatches<'_>, name: &str) -> Option<u64>
     matches.get_one(name)
 }
 
+/// Where a command was told to judge the shapes of definitions.
+fn shapes_of(matches: &ArgMatches<'_>) -> Shapes
+    ensures { HasShapes (rows_of (found_of matches.now)) result }
+{
+    match matches.get_one::<bool>("shapes-at-use") {
+        Some(true) => Shapes::AtUse,
+        Some(false) => Shapes::AtDefinition,
+        None => Shapes::AtDefinition,
+    }
+}
+
 /// The limits that a command was given.
 fn limits_of(matches: &ArgMatches<'_>) -> Option<Limits>
     ensures limits { IfSome result (λ limits. HasLimits (rows_of (found_of matches.now)) limits) }
@@ -167,7 +193,11 @@ fn limits_of(matches: &ArgMatches<'_>) -> Option<Limits>
     let bytes = number(matches, "bytes")?;
     let depth = u32::try_from(number(matches, "depth")?).ok()?;
     let values = number(matches, "values")?;
-    Limits::new(bytes, depth, values)
+    let limits = Limits::new(bytes, depth, values)?;
+    match shapes_of(matches) {
+        Shapes::AtDefinition => Some(limits),
+        Shapes::AtUse => Some(limits.shapes_at_use()),
+    }
 }
 
 /// The setting that a command was given.

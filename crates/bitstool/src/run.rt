@@ -2,6 +2,7 @@
 
 ghost use Rattle.std.specs.Prelude.{◌≡◌, [], map, string_bytes};
 ghost use Rattle.bit_grammar.specs.declared.info.Info.{Info};
+ghost use Rattle.bit_grammar.specs.declared.shapes.Shapes.TheVariants.{AtDefinition};
 ghost use Rattle.bitstool.specs.declared.task.Parsed.{Parsed as ParsedValue};
 ghost use Rattle.bitstool.specs.declared.task.Task.{Task as TaskValue};
 ghost use Rattle.bitstool.specs.Performing.{PutsAll};
@@ -122,7 +123,7 @@ pub fn run<R: BufRead, W: Write, E: Write>(
     errors: E,
 ) -> Ran<R, W, E>
     // Without words it writes the normal form under the usual limits, and keeps BLOCKINFO blocks.
-    ensures plain { words.items ≡ [] → RunsOver (ParsedValue.Task (TaskValue.Normal (record { bytes = 1073741824; depth = 64; values = 134217728 }) Info.Keep))
+    ensures plain { words.items ≡ [] → RunsOver (ParsedValue.Task (TaskValue.Normal (record { bytes = 1073741824; depth = 64; values = 134217728; shapes = AtDefinition }) Info.Keep))
         (R.remaining input) (R.remaining result.input) (W.contents output) (W.contents result.output) (E.contents errors) (E.contents result.errors) result.status }
     // With words it does what they say.
     ensures any { (words.items ≡ [] → ⊥) → (parsed : ParsedValue) × Says (map string_bytes words.items) parsed
