@@ -6,6 +6,7 @@ ghost use Rattle.std.specs.List.{AllByRecursion};
 ghost use Rattle.bit_grammar.specs.Grammar.{repeat};
 ghost use Rattle.bit_grammar.specs.Fields.{fixed, vbr, char6};
 ghost use Rattle.bit_grammar.specs.Record.{scalar, singles, value_count, values_of, unabbreviated, abbreviated};
+ghost use Rattle.bit_grammar.specs.Definition.{has_shape};
 ghost use Rattle.bit_grammar.specs.FormatDefinition.{op_at, IsElement, HasLawfulValue, Lawful};
 ghost use Rattle.bit_grammar.specs.declared.op.Op.{Op};
 ghost use Rattle.bit_grammar.specs.declared.op.Op.TheVariants.{Array};
@@ -275,8 +276,8 @@ fn glance_record<V: ValueTaker>(
     Some(code)
 }
 
-/// Reads a record by its definition, after its abbreviation id: hands its values on and answers its code. Where it answers
-/// `None`, some of its values may stand behind the others.
+/// Reads a record by its definition, after its abbreviation id: hands its values on and answers its code. The operands of the
+/// definition are in a lawful order. Where it answers `None`, some of its values may stand behind the others.
 #[inline(always)]
 pub fn glance_abbreviated<V: ValueTaker>(
     ahead: &mut Ahead<'_>,
@@ -284,10 +285,11 @@ pub fn glance_abbreviated<V: ValueTaker>(
     room: u64,
     values: &mut V,
 ) -> Option<u64>
+    requires { has_shape «abbrev».now ≡ true }
     ensures glimpsed { IfSome result (λ code. Gains V.took values.old values.new (λ before after. (at : ℕ) → AddsWithin (abbreviated at room «abbrev».now) room (reader_at ahead.old) (Ok code) (reader_at ahead.new) before after)) }
     ensures keeps { Keeps V.took values.old values.new }
 {
-    glance_record(ahead, abbrev.ops(), room, values)
+    glance_record(ahead, abbrev.lawful_ops(), room, values)
 }
 
 /// Reads a record that is not abbreviated, after its abbreviation id: hands its values on and answers its code. Where it

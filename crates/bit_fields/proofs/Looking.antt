@@ -42,6 +42,7 @@ looked_on p f j looked =
         failures = omega (arith, looked.failures);
         tells = λ k. (kept f.incoming.to_come j.to_come looked.bytes k).0;
         bytes = λ k. omega (arith, ap length (same k));
+        accounts = looked.accounts;
       };
       forward = omega arith;
       end = refl;
