@@ -17,3 +17,4 @@ pub mod Cutting
 pub mod Short
 pub mod Glimpses
 pub mod Sights
+pub mod Looking

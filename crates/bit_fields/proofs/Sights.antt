@@ -1,15 +1,17 @@
 -- What is read from bits that lie in a window and in bytes behind it.
-use Rattle.std.proofs.Common.{◌≡◌, ℕ, suc, ◌+◌, ◌*◌, ◌-◌, ◌%◌, ◌^◌, ◌<◌, ◌≤◌, Bool, List, [], ◌++◌, length, take, drop, Result, Ok, Err, refl, sym, ap, ◌∙◌, subst, arith, inl, inr}
+use Rattle.std.proofs.Common.{◌≡◌, ℕ, suc, ◌+◌, ◌*◌, ◌-◌, ◌%◌, ◌^◌, ◌<◌, ◌≤◌, Bool, List, [], ◌++◌, length, take, drop, Result, Ok, Err, Bor, refl, sym, ap, ◌∙◌, subst, arith, inl, inr}
 use Rattle.std.proofs.lemmas.Bool.{cases_lt}
 use Rattle.std.proofs.lemmas.List.{append-nil, length-append, length-drop, length-take-le, drop_at, take-append-drop}
 use Rattle.std.proofs.Math.Seq.{drop-append-add}
 use Rattle.bit_grammar.specs.declared.reason.Reason.TheVariants.{Truncated}
-use Rattle.bit_grammar.specs.Bits.{number, bits_of_bytes}
+use Rattle.bit_grammar.specs.Bits.{number, bits_of, bits_of_bytes}
 use Rattle.bit_grammar.specs.Grammar.{Fault, at, repeat, reading}
 use Rattle.bit_grammar.specs.Fields.{fixed, vbr, char6, character}
 use Rattle.bit_fields.specs.Inside.{part_of, numbers}
 use Rattle.bit_fields.specs.Reader.{Took}
 use Rattle.bit_fields.specs.Short.{EndsAt, gathered}
+use Rattle.bit_grammar.proofs.Numbers.{length-bits_of}
+use Rattle.bit_fields.specs.Sight.{told}
 use Rattle.bit_fields.specs.Ahead.{InSight, Glimpsed, reader_at, beyond}
 use Rattle.bit_fields.proofs.BitLaws.{length-bits_of_bytes, bits_of_bytes-append, drop_more}
 use Rattle.bit_fields.proofs.Parts.{part_at, part_short}
@@ -122,3 +124,12 @@ pub fields_glimpsed : (n count bits : ℕ) (a b : InSight) → bits ≡ count * 
 fields_glimpsed n count bits a b all there is =
     let e : bits ≡ n * count = omega (arith, all) in
     rw (is, e) (fields_whole n count a.position a.bits (omega (arith, there, e)))
+
+-- ---- what was lent
+
+pub sight_told : (word held position end : ℕ) (window : List Bool) (bytes : Bor (List ℕ)) → window ≡ bits_of held word → end ≡ position + (held + 8 * length bytes.now) → sight_of end window bytes.now ≡ told (record { word = word; held = held; bytes = bytes; position = position })
+sight_told word held position end window bytes is end_is =
+    sight_is (end - (length window + 8 * length bytes.now)) position (window ++ bits_of_bytes bytes.now) (bits_of held word ++ bits_of_bytes bytes.now) (omega (arith, end_is, ap length is, length-bits_of held word)) (ap (λ (w : List Bool). w ++ bits_of_bytes bytes.now) is)
+
+pub sight_fits : (word held position end : ℕ) (window : List Bool) (bytes : List ℕ) → window ≡ bits_of held word → end ≡ position + (held + 8 * length bytes) → length window + 8 * length bytes ≤ end
+sight_fits word held position end window bytes is end_is = omega (arith, end_is, ap length is, length-bits_of held word)

@@ -7,3 +7,4 @@ pub mod Ending
 pub mod Writer
 pub mod Short
 pub mod Ahead
+pub mod Sight

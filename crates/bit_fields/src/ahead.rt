@@ -4,11 +4,22 @@ ghost use Rattle.bit_grammar.specs.Grammar.{repeat};
 ghost use Rattle.bit_grammar.specs.Fields.{fixed, vbr, char6};
 ghost use Rattle.bit_fields.specs.Inside.{part_of, numbers};
 ghost use Rattle.bit_fields.specs.Ahead.{Glimpsed, beyond};
+ghost use Rattle.bit_fields.specs.Sight.{told, IsSight};
 
 use crate::reader::{MOST_SHORT, character, payload_of, placed};
 use crate::window::Window;
 use crate::word::four_of;
 use std::marker::Model;
+
+/// Bits of a stream that lie in memory, as a reader lends them: those of a word, so many, and those of bytes behind it, from
+/// a position on.
+#[derive(Clone, Copy)]
+pub struct Sight<'a> {
+    pub(crate) word: u64,
+    pub(crate) held: u32,
+    pub(crate) bytes: &'a [u8],
+    pub(crate) position: u64,
+}
 
 /// Bits of a stream that lie in memory, from the bit at which a reader stands, and that it has not taken. Fields are read from
 /// here in a few instructions each, and the reader then takes their bits by `BitReader::catch_up`.
@@ -37,6 +48,20 @@ impl<'a> Model for Ahead<'a> {
 }
 
 impl<'a> Ahead<'a> {
+    /// What is in sight.
+    #[inline(always)]
+    pub fn new(sight: Sight<'a>) -> Ahead<'a>
+        requires { IsSight sight }
+        ensures { result ≡ told sight.entry }
+    {
+        let end = sight.position + (u64::from(sight.held) + 8 * sight.bytes.len() as u64);
+        Ahead {
+            window: Window::of(sight.word, sight.held),
+            bytes: sight.bytes,
+            end,
+        }
+    }
+
     /// The bit at which what is in sight begins, counted from the first bit of the input.
     #[inline(always)]
     pub fn position(&self) -> u64

@@ -22,7 +22,7 @@ mod writer_laws;
 #[cfg(test)]
 mod writer_tests;
 
-pub use ahead::Ahead;
+pub use ahead::{Ahead, Sight};
 pub use bit_grammar::Reason;
 pub use fault::Fault;
 pub use head::{Head, Wrapper};

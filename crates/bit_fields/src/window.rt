@@ -41,6 +41,16 @@ impl Window {
         }
     }
 
+    /// The word of the bits, and how many they are.
+    #[inline(always)]
+    pub fn parts(&self) -> (u64, u32)
+        ensures bits { bits_of result.1 result.0 ≡ self.now }
+        ensures below { result.0 < 2 ^ result.1 }
+        ensures most { result.1 ≤ 64 }
+    {
+        (self.word, self.held)
+    }
+
     /// How many bits there are.
     #[inline(always)]
     pub fn len(&self) -> u32
