@@ -3,7 +3,7 @@ use Rattle.std.proofs.Common.{◌≡◌, ◌≢◌, ℕ, ◌+◌, ◌-◌, ◌<�
 use Rattle.std.specs.Prelude.{IfSome, slice_get}
 use Rattle.std.proofs.lemmas.List.{drop_at}
 use Rattle.bit_grammar.specs.Grammar as grammar
-use Rattle.bit_grammar.specs.Grammar.{Grammar, gives, reading}
+use Rattle.bit_grammar.specs.Grammar.{Grammar, gives, ◌>>=◌, reading}
 use Rattle.bit_grammar.specs.Input.{any_bits}
 use Rattle.bit_grammar.specs.Fields.{fixed}
 use Rattle.bit_grammar.specs.Record.{Entry, unabbreviated, abbreviated}
@@ -16,7 +16,7 @@ use Rattle.bit_fields.specs.declared.fault.Fault.{Fault}
 use Rattle.bit_fields.specs.declared.fault.Fault.TheVariants.{Refused, Read, Write, Memory, OutputTooLong, Failed}
 use Rattle.bit_fields.specs.Reader.{Reader, TellsBytes, GoesOn, Took, Why, Takes, stopped}
 use Rattle.bit_fields.specs.Short.{TookNothing}
-use Rattle.bit_fields.proofs.Composing.{stops_here}
+use Rattle.bit_fields.proofs.Composing.{same_reading, stops_here, took_then}
 use Rattle.bit_fields.proofs.Gap.{gap_whole}
 use Rattle.bit_fields.proofs.BitLaws.{drop_more}
 use Rattle.bit_fields.proofs.Glimpses.{glimpsed_took, glimpsed_forward, glimpsed_passed, took_glimpsed, seen_took, not_caught_up}
@@ -25,12 +25,12 @@ use Rattle.bit_abbrev.specs.Values.{AddsWithin, Gains, Has}
 use Rattle.bit_events.specs.declared.frame.Frame.{Frame}
 use Rattle.bit_events.specs.declared.machine.Machine.{Machine}
 use Rattle.bit_events.specs.FrameView.{frame_shown, frames_shown}
-use Rattle.bit_events.specs.Folding.{left_to_tell, GathersOne, GathersSome, Misses, TakesRun}
+use Rattle.bit_events.specs.Folding.{left_to_tell, GathersSome, Misses, TakesRun}
 use Rattle.bit_events.specs.Gathering.{Gathers}
 use Rattle.bit_events.specs.MachineView.{machine_shown, record_of, Leaves}
 use Rattle.bit_events.specs.Runs.{after_record, Passed, GathersTo, GathersRun}
 use Rattle.bit_events.proofs.Advancing.{pays_both}
-use Rattle.bit_events.proofs.Folds.{in_block, none_yet, one_event, some_then, some_missed, step_missed}
+use Rattle.bit_events.proofs.Folds.{in_block, none_yet, one_event, some_then, step_missed}
 use Rattle.bit_events.proofs.Framing.{none_described, plain_entry, short_entry}
 use Rattle.bit_events.proofs.Framing as framing
 use Rattle.bit_events.proofs.Stepping.{in_then, after_record as record_follows, record_took, other_than, length-frames}
@@ -191,18 +191,6 @@ same_answer x y r p q = (let e = sym p ∙ q in (cc, cc))
 same_left : (limits : Limits) (m : Machine) (a b : Reader) → b.extent ≡ a.extent → a.position ≡ b.position → a.left ≡ b.left → left_to_tell limits m a ≡ left_to_tell limits m b
 same_left limits m a b extent position left = rw (extent, position, left) refl
 
--- a reader that took nothing
-pub nothing_gathered : {G : Type 0} (gathered : G → List Event → G → Type 0) (limits : Limits) (m : Machine) (a : Reader) (g : G) (b : Reader) → 0 < vec_len m.frames → TookNothing a b → GathersSome gathered limits m a g m b g
-nothing_gathered gathered limits m a g b some t = record {
-  events = [];
-  live = t.live;
-  pays = t.goes_on;
-  forward = t.forward;
-  aligned = λ none. absurd (omega (arith, some, none));
-  told = λ k. let e = same_answer (tt, a.position, a.left) (tt, b.position, b.left) (reading (gives (tt {0})) a.position a.left) refl (t.reads k) in same_left limits m a b (t.extent k) e.0 e.1;
-  gathers = (none_yet gathered limits m a g t.was_live (λ none. absurd (omega (arith, some, none)))).gathers;
-}
-
 -- a reader that caught up
 run_taken : {G : Type 0} (gathered : G → List Event → G → Type 0) (limits : Limits) (m : Machine) (r : Reader) (g : G) (n : Machine) (h : G) (a b : InSight) (c : Reader) → 0 < vec_len n.frames → Passed a b → Sees r a → GathersSome gathered limits m r g n (advanced r (b.position - a.position)) h → Took (any_bits (b.position - a.position)) r tt c → GathersSome gathered limits m r g n c h
 run_taken gathered limits m r g n h a b c some p sees all t = record {
@@ -234,23 +222,21 @@ nothing_missed rule a OutputTooLong b why = why
 pub no_sight : (limits : Limits) (m : Machine) (a : Reader) (fault : Fault) (b : Reader) → 0 < vec_len m.frames → a.live ≡ true → Why (gives (tt {0})) a fault b → Misses limits m a fault b
 no_sight limits m a fault b some live why = step_missed limits m a a fault b (in_block m a live some) (nothing_missed (step limits (machine_shown m)) a fault b why)
 
--- a run, by a reader that then catches up
-pub run_gathered : {G : Type 0} (gathered : G → List Event → G → Type 0) (limits : Limits) (f : Frame) (m : Machine) (outer : List machine.Frame) (a : Reader) (g : G) (b : Reader) (sight : InSight) (used after : ℕ) (h : G) (result : Result (Unit {0}) Fault) (c : Reader) → frames_shown m.frames.items ≡ frame_shown f ∷ outer → TookNothing a b → Sees b sight
-    → GathersRun gathered limits f m.used sight g used after h → Takes (any_bits (after - sight.position)) b result c → TakesRun gathered limits m a g result (record m { used = used }) c h
-run_gathered gathered limits f m outer a g b sight used after h result c split nothing sees run t = go result (subst (λ (q : ℕ). Takes (any_bits (q - sight.position)) b result c) (sym run.1) t)
-  where
-    n : Machine
-    n = record m { used = used }
+-- a reader that took nothing before
+after_nothing : {A : Type 0} (rule : Grammar A) (a b : Reader) (result : Result A Fault) (c : Reader) → TookNothing a b → Takes rule b result c → Takes rule a result c
+after_nothing rule a b result c nothing t = same_reading (gives (tt {0}) >>= λ v. rule) rule a result c (λ p r. refl) (took_then (gives (tt {0})) (λ v. rule) a (tt {0}) b result c nothing t)
 
+-- a run, by a reader that then catches up
+pub run_gathered : {G : Type 0} (gathered : G → List Event → G → Type 0) (limits : Limits) (f : Frame) (m : Machine) (outer : List machine.Frame) (a : Reader) (g : G) (b : Reader) (sight : InSight) (used after : ℕ) (h : G) (result : Result (Unit {0}) Fault) (c : Reader) → frames_shown m.frames.items ≡ frame_shown f ∷ outer → TookNothing a b → Sees a sight
+    → GathersRun gathered limits f m.used sight g used after h → Takes (any_bits (after - sight.position)) b result c → TakesRun gathered limits m a g result (record m { used = used }) c h
+run_gathered gathered limits f m outer a g b sight used after h result c split nothing sees run t = go result (subst (λ (q : ℕ). Takes (any_bits (q - sight.position)) a result c) (sym run.1) (after_nothing (any_bits (after - sight.position)) a b result c nothing t))
+  where
     some : 0 < vec_len m.frames
     some = omega (arith, m.frames.ok.0, length-frames m.frames.items, ap length split)
 
-    first : GathersSome gathered limits m a g m b g
-    first = nothing_gathered gathered limits m a g b some nothing
-
-    go : (result : Result (Unit {0}) Fault) → Takes (any_bits (run.0.position - sight.position)) b result c → TakesRun gathered limits m a g result n c h
-    go (Ok x) t = some_then gathered limits m a g m b g n c h first (run_taken gathered limits m b g n h sight run.0 c some run.2.passed sees (run.2.gathers m outer b split refl sees).0 t)
-    go (Err fault) t = some_missed gathered limits m a g m b g fault c first (step_missed limits m b b fault c (in_block m b nothing.live some) (not_caught_up (any_bits (run.0.position - sight.position)) b sight tt run.0 fault c (step limits (machine_shown m)) sees (any_seen sight run.0 run.2.passed) t))
+    go : (result : Result (Unit {0}) Fault) → Takes (any_bits (run.0.position - sight.position)) a result c → TakesRun gathered limits m a g result (record m { used = used }) c h
+    go (Ok x) t = run_taken gathered limits m a g (record m { used = used }) h sight run.0 c some run.2.passed sees (run.2.gathers m outer a split refl sees).0 t
+    go (Err fault) t = step_missed limits m a a fault c (in_block m a nothing.was_live some) (not_caught_up (any_bits (run.0.position - sight.position)) a sight tt run.0 fault c (step limits (machine_shown m)) sees (any_seen sight run.0 run.2.passed) t)
 
 -- no memory for a run
 pub run_lost : (limits : Limits) (m : Machine) (a b c : Reader) → TookNothing a b → c ≡ stopped b → Misses limits m a Memory c
