@@ -1,27 +1,36 @@
 -- Records that are in sight, gathered one after the other.
-use Rattle.std.proofs.Common.{◌≡◌, ◌≢◌, ℕ, ◌+◌, ◌-◌, ◌<◌, ◌≤◌, Bool, true, List, [], ◌∷◌, ◌++◌, length, drop, None, Some, Option, Ok, refl, sym, ap, subst, ◌∙◌, arith, append_assoc, length-append, vec_len}
+use Rattle.std.proofs.Common.{◌≡◌, ◌≢◌, ℕ, ◌+◌, ◌-◌, ◌<◌, ◌≤◌, Bool, true, List, [], ◌∷◌, ◌++◌, length, drop, None, Some, Option, Result, Ok, Err, refl, sym, ap, subst, ◌∙◌, arith, append_assoc, length-append, vec_len}
 use Rattle.std.specs.Prelude.{IfSome, slice_get}
-use Rattle.bit_grammar.specs.Grammar.{Grammar}
+use Rattle.std.proofs.lemmas.List.{drop_at}
+use Rattle.bit_grammar.specs.Grammar as grammar
+use Rattle.bit_grammar.specs.Grammar.{Grammar, gives, ◌>>=◌, reading}
+use Rattle.bit_grammar.specs.Input.{any_bits}
 use Rattle.bit_grammar.specs.Fields.{fixed}
 use Rattle.bit_grammar.specs.Record.{Entry, unabbreviated, abbreviated}
 use Rattle.bit_grammar.specs.Blocks as blocks
 use Rattle.bit_grammar.specs.Blocks.{Limits, Handed, Scope, entry}
 use Rattle.bit_grammar.specs.Machine as machine
-use Rattle.bit_grammar.specs.Machine.{Event, scope_of, step_of}
+use Rattle.bit_grammar.specs.Machine.{Event, Told, scope_of, step, step_of}
 use Rattle.bit_fields.specs.Ahead.{InSight, Glimpsed, Sees, advanced, reader_at}
-use Rattle.bit_fields.specs.Reader.{Reader, Took}
+use Rattle.bit_fields.specs.declared.fault.Fault.{Fault}
+use Rattle.bit_fields.specs.declared.fault.Fault.TheVariants.{Refused, Read, Write, Memory, OutputTooLong, Failed}
+use Rattle.bit_fields.specs.Reader.{Reader, TellsBytes, GoesOn, Took, Why, Takes, stopped}
+use Rattle.bit_fields.specs.Short.{TookNothing}
+use Rattle.bit_fields.proofs.Composing.{same_reading, stops_here, took_then}
+use Rattle.bit_fields.proofs.Gap.{gap_whole}
 use Rattle.bit_fields.proofs.BitLaws.{drop_more}
-use Rattle.bit_fields.proofs.Glimpses.{glimpsed_took, glimpsed_forward, glimpsed_passed, took_glimpsed, seen_took}
+use Rattle.bit_fields.proofs.Glimpses.{glimpsed_took, glimpsed_forward, glimpsed_passed, took_glimpsed, seen_took, not_caught_up}
 use Rattle.bit_grammar.specs.declared.op.Op.{Op}
 use Rattle.bit_abbrev.specs.Values.{AddsWithin, Gains, Has}
 use Rattle.bit_events.specs.declared.frame.Frame.{Frame}
 use Rattle.bit_events.specs.declared.machine.Machine.{Machine}
 use Rattle.bit_events.specs.FrameView.{frame_shown, frames_shown}
-use Rattle.bit_events.specs.Folding.{GathersOne, GathersSome}
+use Rattle.bit_events.specs.Folding.{left_to_tell, GathersSome, Misses, TakesRun}
 use Rattle.bit_events.specs.Gathering.{Gathers}
 use Rattle.bit_events.specs.MachineView.{machine_shown, record_of, Leaves}
-use Rattle.bit_events.specs.Runs.{after_record, Passed, GathersTo}
-use Rattle.bit_events.proofs.Folds.{in_block, none_yet, one_event, some_then}
+use Rattle.bit_events.specs.Runs.{after_record, Passed, GathersTo, GathersRun}
+use Rattle.bit_events.proofs.Advancing.{pays_both}
+use Rattle.bit_events.proofs.Folds.{in_block, none_yet, one_event, some_then, step_missed}
 use Rattle.bit_events.proofs.Framing.{none_described, plain_entry, short_entry}
 use Rattle.bit_events.proofs.Framing as framing
 use Rattle.bit_events.proofs.Stepping.{in_then, after_record as record_follows, record_took, other_than, length-frames}
@@ -163,3 +172,72 @@ gathers_more {G = G} gathered limits f used a g now_used b h id code list c k mo
 
     forward : b.position ≤ c.position
     forward = glimpsed_forward rule b value c seen
+
+-- ---- a run
+
+-- what was passed is some bits
+any_seen : (a b : InSight) → Passed a b → Glimpsed (any_bits (b.position - a.position)) a tt b
+unfolding any_bits
+any_seen a b p =
+    let n : ℕ = b.position - a.position in
+    let whole : length a.bits ≡ length p.0 + length b.bits = ap length p.1 ∙ length-append p.0 b.bits in
+    let place : a.position + n ≡ b.position = omega (arith, p.2) in
+    let left : drop n a.bits ≡ b.bits = ap (drop n) p.1 ∙ drop_at p.0 b.bits n (omega (arith, p.2)) in
+    gap_whole n a.position a.position a.bits (omega (arith, whole, p.2)) ∙ rw (place, left) refl
+
+same_answer : (x y : (Unit {0}) × ℕ × List Bool) (r : Result ((Unit {0}) × ℕ × List Bool) grammar.Fault) → r ≡ Ok x → r ≡ Ok y → (x.1 ≡ y.1) × (x.2 ≡ y.2)
+same_answer x y r p q = (let e = sym p ∙ q in (cc, cc))
+
+same_left : (limits : Limits) (m : Machine) (a b : Reader) → b.extent ≡ a.extent → a.position ≡ b.position → a.left ≡ b.left → left_to_tell limits m a ≡ left_to_tell limits m b
+same_left limits m a b extent position left = rw (extent, position, left) refl
+
+-- a reader that caught up
+run_taken : {G : Type 0} (gathered : G → List Event → G → Type 0) (limits : Limits) (m : Machine) (r : Reader) (g : G) (n : Machine) (h : G) (a b : InSight) (c : Reader) → 0 < vec_len n.frames → Passed a b → Sees r a → GathersSome gathered limits m r g n (advanced r (b.position - a.position)) h → Took (any_bits (b.position - a.position)) r tt c → GathersSome gathered limits m r g n c h
+run_taken gathered limits m r g n h a b c some p sees all t = record {
+  events = all.events;
+  live = t.live;
+  pays = t.goes_on;
+  forward = t.forward;
+  aligned = λ none. absurd (omega (arith, some, none));
+  told = λ k. all.told k ∙ ap (λ (told : Told). (all.events ++ told.0, told.1)) (same_left limits n there c (t.extent k) (here k).0 (here k).1);
+  gathers = all.gathers;
+}
+  where
+    there : Reader
+    there = advanced r (b.position - a.position)
+
+    here : TellsBytes r → (there.position ≡ c.position) × (there.left ≡ c.left)
+    here k = same_answer (tt, there.position, there.left) (tt, c.position, c.left) (reading (any_bits (b.position - a.position)) r.position r.left) ((seen_took (any_bits (b.position - a.position)) r a tt b sees (any_seen a b p)).0.reads k) (t.reads k)
+
+-- what is no fault of the rules is none of any rule
+nothing_missed : {A : Type 0} (rule : Grammar A) (a : Reader) (fault : Fault) (b : Reader) → Why (gives (tt {0})) a fault b → Why rule a fault b
+nothing_missed rule a (Refused reason bit) b why = (why.0, λ k. absurd (why.1 k))
+nothing_missed rule a Read b why = why
+nothing_missed rule a Memory b why = why
+nothing_missed rule a Failed b why = why
+nothing_missed rule a Write b why = why
+nothing_missed rule a OutputTooLong b why = why
+
+-- nothing is in sight, since the source failed
+pub no_sight : (limits : Limits) (m : Machine) (a : Reader) (fault : Fault) (b : Reader) → 0 < vec_len m.frames → a.live ≡ true → Why (gives (tt {0})) a fault b → Misses limits m a fault b
+no_sight limits m a fault b some live why = step_missed limits m a a fault b (in_block m a live some) (nothing_missed (step limits (machine_shown m)) a fault b why)
+
+-- a reader that took nothing before
+after_nothing : {A : Type 0} (rule : Grammar A) (a b : Reader) (result : Result A Fault) (c : Reader) → TookNothing a b → Takes rule b result c → Takes rule a result c
+after_nothing rule a b result c nothing t = same_reading (gives (tt {0}) >>= λ v. rule) rule a result c (λ p r. refl) (took_then (gives (tt {0})) (λ v. rule) a (tt {0}) b result c nothing t)
+
+-- a run, by a reader that then catches up
+pub run_gathered : {G : Type 0} (gathered : G → List Event → G → Type 0) (limits : Limits) (f : Frame) (m : Machine) (outer : List machine.Frame) (a : Reader) (g : G) (b : Reader) (sight : InSight) (used after : ℕ) (h : G) (result : Result (Unit {0}) Fault) (c : Reader) → frames_shown m.frames.items ≡ frame_shown f ∷ outer → TookNothing a b → Sees a sight
+    → GathersRun gathered limits f m.used sight g used after h → Takes (any_bits (after - sight.position)) b result c → TakesRun gathered limits m a g result (record m { used = used }) c h
+run_gathered gathered limits f m outer a g b sight used after h result c split nothing sees run t = go result (subst (λ (q : ℕ). Takes (any_bits (q - sight.position)) a result c) (sym run.1) (after_nothing (any_bits (after - sight.position)) a b result c nothing t))
+  where
+    some : 0 < vec_len m.frames
+    some = omega (arith, m.frames.ok.0, length-frames m.frames.items, ap length split)
+
+    go : (result : Result (Unit {0}) Fault) → Takes (any_bits (run.0.position - sight.position)) a result c → TakesRun gathered limits m a g result (record m { used = used }) c h
+    go (Ok x) t = run_taken gathered limits m a g (record m { used = used }) h sight run.0 c some run.2.passed sees (run.2.gathers m outer a split refl sees).0 t
+    go (Err fault) t = step_missed limits m a a fault c (in_block m a nothing.was_live some) (not_caught_up (any_bits (run.0.position - sight.position)) a sight tt run.0 fault c (step limits (machine_shown m)) sees (any_seen sight run.0 run.2.passed) t)
+
+-- no memory for a run
+pub run_lost : (limits : Limits) (m : Machine) (a b c : Reader) → TookNothing a b → c ≡ stopped b → Misses limits m a Memory c
+run_lost limits m a b c nothing is = subst (λ (r : Reader). GoesOn a r) (sym is) (pays_both a b (stopped b) nothing.goes_on (stops_here b nothing.live).goes_on)

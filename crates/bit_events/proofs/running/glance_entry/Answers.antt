@@ -1,4 +1,4 @@
-use Rattle.std.proofs.Common.{ℕ, List, [], Ok, sym}
+use Rattle.std.proofs.Common.{ℕ, Ok, sym}
 use Rattle.bit_grammar.specs.Record.{abbreviated, unabbreviated}
 use Rattle.bit_fields.specs.Ahead.{reader_at}
 use Rattle.bit_abbrev.specs.Values.{AddsWithin, Gains}

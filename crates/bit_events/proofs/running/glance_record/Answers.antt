@@ -1,5 +1,5 @@
-use Rattle.std.proofs.Common.{◌≡◌, ℕ, ◌-◌, List, [], None, refl, sym, ap, subst, arith}
-use Rattle.bit_grammar.specs.Blocks.{Handed, Scope}
+use Rattle.std.proofs.Common.{◌≡◌, ℕ, ◌-◌, [], None, refl, ap, subst, arith}
+use Rattle.bit_grammar.specs.Blocks.{Scope}
 use Rattle.bit_grammar.specs.Fields.{fixed}
 use Rattle.bit_grammar.specs.Machine.{scope_of}
 use Rattle.bit_fields.specs.Ahead.{Glimpsed}
