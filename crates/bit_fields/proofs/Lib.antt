@@ -20,3 +20,4 @@ pub mod Glimpses
 pub mod Sights
 pub mod Texts
 pub mod Looking
+pub mod AtOnce
