@@ -4,7 +4,7 @@ import subprocess
 from dataclasses import dataclass
 
 import reports
-from clang_files import find_tool
+from clang_files import find_all, find_tool
 from program import skip
 from worked_inputs import TREE_100, octets
 
@@ -28,6 +28,20 @@ def find():
     tool = find_tool("llvm-bcanalyzer")
     if tool is None:
         skip("no llvm-bcanalyzer")
+    return known(tool)
+
+
+def find_of(version):
+    """The same of the tool of a version of LLVM."""
+    tool = find_all("llvm-bcanalyzer").get(version)
+    if tool is None:
+        skip(f"no llvm-bcanalyzer of version {version}")
+    return known(tool)
+
+
+def known(tool):
+    """The tool, if there is one and it prints what is known here."""
+    if tool is None:
         return None
     try:
         told, _ = read(dump_of(tool, octets("magic info use")))

@@ -60,25 +60,40 @@ ASKED = {
 }
 
 
+# The files of those that hold a syntax tree.
+TREES = ("a precompiled header", "a precompiled header of C++", "a C++ module's interface")
+
+
+def find_all(name):
+    """The paths of a tool of LLVM by its main version, 0 where it does not tell: first the one that goes by the plain name,
+    and then those that have a version in their names, the newest first."""
+    plain = shutil.which(name)
+    numbered = sorted(glob.glob(f"/usr/bin/{name}-[0-9]*") + glob.glob(f"/usr/lib/llvm-*/bin/{name}"), reverse=True)
+    found = {}
+    for path in [plain, *numbered] if plain else numbered:
+        found.setdefault(version(path), path)
+    return found
+
+
 def find_tool(name):
     """The path of a tool of LLVM, also of one that has a version in its name; None where there is none."""
-    numbered = sorted(glob.glob(f"/usr/bin/{name}-[0-9]*") + glob.glob(f"/usr/lib/llvm-*/bin/{name}"))
-    return shutil.which(name) or (numbered[-1] if numbered else None)
+    return next(iter(find_all(name).values()), None)
 
 
-def version(clang):
-    """The main version of a clang, 0 where it does not tell."""
-    told = re.search(r"version (\d+)", subprocess.run([clang, "--version"], capture_output=True, text=True).stdout)
+def version(tool):
+    """The main version of a tool, 0 where it does not tell."""
+    told = re.search(r"version (\d+)", subprocess.run([tool, "--version"], capture_output=True, text=True).stdout)
     return int(told[1]) if told else 0
 
 
-def make(clang, folder):
-    """The bytes of each file that clang makes in the folder, by name; None for one that it doesn't make."""
+def make(clang, folder, names=tuple(ASKED)):
+    """The bytes of each file with one of these names that clang makes in the folder; None for one that it doesn't make."""
     for name, text in SOURCES.items():
         with open(f"{folder}/{name}", "w") as file:
             file.write(text)
     made = {}
-    for name, (file, words) in ASKED.items():
+    for name in names:
+        file, words = ASKED[name]
         subprocess.run([clang, *words.split()], cwd=folder, env={**os.environ, "TMPDIR": folder}, capture_output=True)
         made[name] = None
         if os.path.isfile(f"{folder}/{file}") and os.path.getsize(f"{folder}/{file}"):

@@ -245,6 +245,37 @@ def definitions():
     ]
 
 
+def shapes():
+    """Definitions with operands in no lawful order, judged where a record uses them."""
+    at_use, one = "--shapes-at-use", "magic 21 08 00 00 01 00 00 00 07 01 39 00"
+    array, element, blob = "22 03 4C 8E 1C", "1A 03 AC 00", "1A 03 54 0E"
+    empty, short = "magic 21 0C 00 00 02 00 00 00", "magic 21 0C 00 00 03 00 00 00"
+    info = "magic 01 08 00 00 02 00 00 00 07 01 22 19 60 72 E4 00"
+    return [
+        accepts("an array before the end, not used", f"{empty} {array} 00 00 00", [block(8)], "magic empty", options=at_use),
+        refuses("an array before the end, not used, judged", f"{empty} {array} 00 00 00", "AbbrevShape", 113),
+        refuses("an array before the end, used", f"{short} {array} 02 00 00 00*4", "AbbrevShape", 135, at_use),
+        accepts("an array before the end, and another definition that is used", f"{short} 22 03 4C 8E 1C 89 01 72 4A 06 00 00",
+                [block(8, record(1, 100))], one, options=at_use,
+                report="magic 4243c0de bits 192\n"
+                "block 8 count 1 bits 160 definitions 2 records 1 abbreviated 1 values 1\n"
+                "  record 1 count 1 bits 10\n"),
+        accepts("a literal as an element, not used", f"{empty} {element} 00*4", [block(8)], "magic empty", options=at_use),
+        refuses("a literal as an element, used", f"{short} {element} 01 00*7", "AbbrevShape", 126, at_use),
+        accepts("a blob before the end, not used", f"{empty} {blob} 00*4", [block(8)], "magic empty", options=at_use),
+        refuses("a blob before the end, used", f"{short} {blob} 01 00*7", "AbbrevShape", 126, at_use),
+        refuses("an array before the end, used in another block", f"{info} 21 0C 00 00 02 00 00 00 04 00*7", "AbbrevShape", 224,
+                at_use),
+        accepts("an array before the end, for another block", f"{info} 21 0C 00 00 01 00 00 00 00*4",
+                [block(0, record(1, 8)), block(8)], "magic info_normal empty", "magic empty", options=at_use),
+        refuses("a width that is judged all the same", "magic 21 0C 00 00 01 00 00 00 12 26 51 00", "FieldWidth", 112, at_use),
+        refuses("an array before the end, used without room", f"{short} 2A 03 E4 98 1C 39 04 00*5", "AbbrevShape", 144,
+                f"{at_use} --values 0"),
+        accepts("a definition whose shape is lawful", "magic info use", TREE_100, "magic info_normal use_normal",
+                "magic use_normal", options=at_use),
+    ]
+
+
 def zero_widths():
     """Operands of width 0."""
     within = "magic 21 0C 00 00"
@@ -386,5 +417,5 @@ def counts_that_lie():
 
 
 def all_rows():
-    return [*plain_blocks(), *cuts_of_one_record(), *widths_and_nesting(), *limits(), *definitions(), *zero_widths(),
-            *definitions_for_other_blocks(), *blobs(), *wrappers(), *counts_that_lie()]
+    return [*plain_blocks(), *cuts_of_one_record(), *widths_and_nesting(), *limits(), *definitions(), *shapes(),
+            *zero_widths(), *definitions_for_other_blocks(), *blobs(), *wrappers(), *counts_that_lie()]
