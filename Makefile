@@ -1,6 +1,7 @@
 # make              builds the program to one file, which needs nothing of the toolchain: crates/bitstool/out/bitstool
 # make run < FILE   writes the normal form of a file; make run WORDS="check" < FILE gives the program these words
-# make install      copies the program to PREFIX/bin
+# make lib          proves the C library and builds it: capi/out/libbitstream.a and libbitstream.so
+# make install      puts the program, the C library, its header and its pkg-config file below PREFIX
 # make bench        the program beside other tools; bench/tool says on which files
 # make test         the gate: every proof from nothing, the edits that must be refused, and the tests; then make ask-program
 # make ask-program  the scripts of tests/ alone, which ask the built program; README.md tells what they do
@@ -9,9 +10,10 @@ JOBS ?= $(shell nproc)
 PROGRAM := crates/bitstool/out/bitstool
 LIBRARIES := $(filter-out bit_c,$(patsubst crates/%/src/lib.rt,%,$(wildcard crates/*/src/lib.rt)))
 sources = $(shell find crates/$(1) -path '*/out' -prune -o \( -name '*.rt' -o -name '*.antt' \) -print)
-below = $(filter $(LIBRARIES),$(shell sed -n 's/^$(1)://p' crates.txt))
+below = $(filter $(LIBRARIES),$(shell sed -n 's/^$(1)[^:]*://p' crates.txt))
+HEAP := $(dir $(shell rt doc))c/liblibc_c.a
 
-.PHONY: all libraries run install bench test ask-program
+.PHONY: all libraries lib run install bench test ask-program
 all: $(PROGRAM)
 
 # Proved, built, and run once on its stored input.
@@ -34,13 +36,33 @@ crates/$(1)/out/built: crates.txt $(call sources,$(1)) $(patsubst %,crates/%/out
 	@cd crates/$(1) && rt lib --jobs $(JOBS) > out/make.log 2>&1 || { cat out/make.log; exit 1; }
 	@touch $$@
 endef
-$(foreach name,$(LIBRARIES),$(eval $(call library,$(name))))
+$(foreach name,$(LIBRARIES) bit_c,$(eval $(call library,$(name))))
+
+lib: capi/out/libbitstream.a capi/out/libbitstream.so
+
+# The crate's code, and the kit's three functions of the heap, which call malloc, realloc and free.
+capi/out/libbitstream.a: crates/bit_c/out/built
+	@mkdir -p capi/out
+	@cp crates/bit_c/out/libbit_c.a $@
+	@cd capi/out && ar x $(HEAP) heap.pic.o && ar rs libbitstream.a heap.pic.o
+	@echo "built $@" >&2
+
+capi/out/libbitstream.so: capi/out/libbitstream.a capi/bitstream.map
+	@$(CC) -shared -Wl,--whole-archive $< -Wl,--no-whole-archive -Wl,-soname,libbitstream.so.1 -Wl,--version-script,capi/bitstream.map -Wl,-z,defs -o $@
+	@ln -sf libbitstream.so $@.1
+	@echo "built $@" >&2
 
 run: $(PROGRAM)
 	@$(PROGRAM) $(WORDS)
 
-install: $(PROGRAM)
+install: $(PROGRAM) lib
 	install -D $(PROGRAM) $(DESTDIR)$(PREFIX)/bin/bitstool
+	install -D -m 644 capi/bitstream.h $(DESTDIR)$(PREFIX)/include/bitstream.h
+	install -D -m 644 capi/out/libbitstream.a $(DESTDIR)$(PREFIX)/lib/libbitstream.a
+	install -D capi/out/libbitstream.so $(DESTDIR)$(PREFIX)/lib/libbitstream.so.1
+	ln -sf libbitstream.so.1 $(DESTDIR)$(PREFIX)/lib/libbitstream.so
+	mkdir -p $(DESTDIR)$(PREFIX)/lib/pkgconfig
+	sed 's|@PREFIX@|$(PREFIX)|' capi/bitstream.pc.in > $(DESTDIR)$(PREFIX)/lib/pkgconfig/bitstream.pc
 
 bench: $(PROGRAM)
 	bench/tool
@@ -49,5 +71,5 @@ bench: $(PROGRAM)
 test:
 	@tests/run --gate
 
-ask-program: $(PROGRAM)
+ask-program: $(PROGRAM) lib
 	@tests/run

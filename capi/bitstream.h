@@ -1,0 +1,195 @@
+/* Calls on streams in the LLVM bitstream container: check, normal form, comparison, analysis, listing and events.
+
+   Each call is a function of Rattle whose contract is proved: docs/PROMISES.md lists them. What a caller owes is not checked by
+   anything, and what a call does where it is not kept is undefined:
+
+   - A pointer leads to what its type says, aligned, and is not null; a pointer with a length leads to so many elements, and is not
+     null where the length is 0 either. Lengths are below 2^63 bytes. What is not const is initialised, and no two arguments that
+     are not const overlap, nor one that is not const and one that is.
+   - A bool is 0 or 1.
+   - malloc, realloc and free of the program are of one allocator, and align a block to each power of two up to 16 that divides
+     its size. No call is made from a signal handler, or from the forked child of a process with threads.
+
+   Calls in several threads do not disturb each other; a reader or a text is used by the thread that opened it, one call at a time.
+   No call keeps what it is passed, but bs_open, which says so. */
+#ifndef BITSTREAM_H
+#define BITSTREAM_H
+
+#include <stdbool.h>
+#include <stddef.h>
+#include <stdint.h>
+
+#ifdef __cplusplus
+extern "C" {
+#endif
+
+/* How a call ended. */
+enum {
+    BS_DONE = 0,
+    /* Two inputs do not hold the same. */
+    BS_DIFFERENT = 1,
+    /* An input breaks a rule, as the fault says. */
+    BS_REFUSED = 2,
+    /* A request for memory was refused. */
+    BS_MEMORY = 3,
+    /* The normal form has more bytes than the limit. */
+    BS_TOO_LONG = 4,
+    /* A limit is past its cap. */
+    BS_LIMITS = 5,
+    /* The room does not hold what was to be put there; how much is needed was told, and the room is as it was. */
+    BS_ROOM = 6,
+    /* The reader is closed. */
+    BS_CLOSED = 7
+};
+
+/* How much of an input is taken: the bytes of the whole input, wrapper included, at most 17179869180; the depth of blocks, where
+   one at the top has depth 1, at most 255; the values of all records, at most 4294967295. */
+struct bs_limits {
+    uint64_t bytes;
+    uint32_t depth;
+    uint64_t values;
+};
+
+/* What of an input is left out. All zeros where nothing is. */
+struct bs_left_out {
+    /* The BLOCKINFO blocks. */
+    bool info;
+};
+
+/* Why an input was refused; all zeros where none was. */
+struct bs_fault {
+    /* The number of the reason, from 1 to 22. */
+    uint32_t reason;
+    /* 0 for the only or the first input, 1 for the second. */
+    uint32_t input;
+    /* The bit, counted from the first bit of that input. */
+    uint64_t bit;
+};
+
+/* Bytes of the library. Begin with BS_NO_BYTES. */
+struct bs_bytes {
+    const uint8_t *at;
+    size_t len;
+};
+#define BS_NO_BYTES {(const uint8_t *)"", 0}
+
+/* The version of these calls, structures and numbers: 1. */
+uint32_t bs_version(void);
+
+/* Sets limits to those that serve most inputs: 1073741824 bytes, depth 64, 134217728 values. */
+void bs_usual_limits(struct bs_limits *limits);
+
+/* Sets a name, which lives as long as the library, to that of a reason, without a zero at its end; to no bytes where no reason has
+   the number. */
+void bs_reason_name(uint32_t number, struct bs_bytes *name);
+
+/* Whether bytes are accepted: BS_DONE, or BS_REFUSED, BS_MEMORY, BS_LIMITS. */
+uint32_t bs_check(const uint8_t *bytes, size_t bytes_len, const struct bs_limits *limits, struct bs_fault *fault);
+
+/* Puts the normal form of what bytes hold, whole or without what is left out, into the room, and tells in `needed` how many bytes
+   it has: BS_DONE, or BS_ROOM; or BS_REFUSED, BS_TOO_LONG, BS_MEMORY, BS_LIMITS, and then `needed` is 0 and the room as it was. */
+uint32_t bs_normal(const uint8_t *bytes, size_t bytes_len, const struct bs_limits *limits, const struct bs_left_out *left_out,
+                   uint8_t *room, size_t room_len, size_t *needed, struct bs_fault *fault);
+
+/* The same of the report of an analysis, as `bitstool analyse` prints it. */
+uint32_t bs_report(const uint8_t *bytes, size_t bytes_len, const struct bs_limits *limits, uint8_t *room, size_t room_len,
+                   size_t *needed, struct bs_fault *fault);
+
+/* The same of the listing, as `bitstool show` prints it. */
+uint32_t bs_show(const uint8_t *bytes, size_t bytes_len, const struct bs_limits *limits, uint8_t *room, size_t room_len,
+                 size_t *needed, struct bs_fault *fault);
+
+/* Whether two inputs have the same magic and the same blocks and records, whole or without what is left out: BS_DONE where they
+   have, BS_DIFFERENT, or BS_REFUSED, BS_MEMORY, BS_LIMITS. The second is refused only where the first is accepted. */
+uint32_t bs_same(const uint8_t *first, size_t first_len, const uint8_t *second, size_t second_len, const struct bs_limits *limits,
+                 const struct bs_left_out *left_out, struct bs_fault *fault);
+
+/* What a stream holds, and how many rows its analysis has. */
+struct bs_tally {
+    /* The magic of the stream, its first byte first. */
+    uint8_t magic[4];
+    /* The bits of the stream, from its magic to its end, without a wrapper. */
+    uint64_t bits;
+    /* How many rows of block ids, and of codes over all block ids. */
+    size_t blocks;
+    size_t codes;
+};
+
+/* What the blocks with one id add up to. No number counts what stands in blocks inside them. */
+struct bs_block_row {
+    uint32_t id;
+    uint64_t blocks;
+    uint64_t bits;
+    uint64_t definitions;
+    uint64_t records;
+    uint64_t abbreviated;
+    uint64_t values;
+    /* How many of the rows of codes are this one's: they follow those of the row before. */
+    size_t codes;
+};
+
+/* What the records with one code add up to, in blocks with one id. */
+struct bs_code_row {
+    uint64_t code;
+    uint64_t count;
+    uint64_t bits;
+};
+
+/* Analyses bytes, and tells the magic, the bits and how many rows there are. The rows, in order of first entry, go into the rooms,
+   all of them or none: BS_DONE, or BS_ROOM; or BS_REFUSED, BS_MEMORY, BS_LIMITS, and then the tally is all zeros. */
+uint32_t bs_analyse(const uint8_t *bytes, size_t bytes_len, const struct bs_limits *limits, struct bs_tally *tally,
+                    struct bs_block_row *block_room, size_t block_room_len, struct bs_code_row *code_room, size_t code_room_len,
+                    struct bs_fault *fault);
+
+/* A reader of events. Begin with all zeros, which is a closed one; never copy one. Its fields are the library's. */
+struct bs_reader {
+    bool live;
+    void *inner;
+};
+
+enum {
+    /* The whole input is accepted, and no event is left. */
+    BS_OVER = 0,
+    BS_ENTER = 1,
+    BS_DEFINE = 2,
+    BS_RECORD = 3,
+    BS_LEAVE = 4
+};
+
+/* An event. What its kind does not name is 0. */
+struct bs_event {
+    uint32_t kind;
+    /* Of a block's beginning the id of the block, of a record its abbreviation id. */
+    uint32_t id;
+    /* Of a block's beginning the width of its abbreviation ids. */
+    uint32_t width;
+    /* Of a record its code, and how many values it has, the code not counted. */
+    uint64_t code;
+    size_t count;
+    /* The bit at which it begins, of a block's end 0; and the bit behind it, of a block's beginning the first bit of the body. */
+    uint64_t first;
+    uint64_t after;
+};
+
+/* Begins the events of bytes: BS_DONE; or BS_REFUSED, BS_MEMORY, BS_LIMITS, and then the reader is closed. A reader that is open is
+   closed before. The bytes stay where and as they are until the reader is closed. */
+uint32_t bs_open(const uint8_t *bytes, size_t bytes_len, const struct bs_limits *limits, struct bs_reader *reader,
+                 struct bs_fault *fault);
+
+/* The next event: BS_DONE, with an event of kind BS_OVER where no event is left and the whole input is accepted, and then that
+   again ever after. Or BS_REFUSED or BS_MEMORY, and then the same with the same fault ever after; or BS_CLOSED. These leave the
+   event as it was. */
+uint32_t bs_next(struct bs_reader *reader, struct bs_event *event, struct bs_fault *fault);
+
+/* Puts the values of the record that was given last into the room, and tells in `needed` how many they are, 0 where no record was
+   given: BS_DONE, or BS_ROOM; or what bs_next says after a fault or of a closed reader. */
+uint32_t bs_values(struct bs_reader *reader, uint64_t *room, size_t room_len, size_t *needed, struct bs_fault *fault);
+
+/* Closes a reader, and frees what it holds. Of a closed one nothing is done. */
+void bs_close(struct bs_reader *reader);
+
+#ifdef __cplusplus
+}
+#endif
+
+#endif

@@ -1,0 +1,221 @@
+/* What tests/c_library asks of the library in C.
+   memory FILE: refuses each request for memory in turn; each call is to answer BS_MEMORY then, and nothing may leak. It is linked
+   with -Wl,--wrap=malloc,--wrap=realloc,--wrap=free.
+   threads FILE..: four threads ask each file in another order, and each answer has to be that of one thread alone.
+   each FILE..: asks each file once. */
+#include "bitstream.h"
+#include <pthread.h>
+#include <stdio.h>
+#include <stdlib.h>
+#include <string.h>
+
+struct file {
+    uint8_t *at;
+    size_t len;
+};
+
+/* What the calls answered, as one number. */
+static uint64_t mixed(uint64_t sum, uint64_t number) { return (sum ^ number) * 1099511628211u; }
+
+static uint64_t mixed_text(uint64_t sum, const uint8_t *at, size_t len) {
+    for (size_t i = 0; i < len; i++) sum = mixed(sum, at[i]);
+    return sum;
+}
+
+/* Whether any call answered that there is no memory. */
+static int lacked;
+
+static uint32_t noted(uint32_t status) {
+    if (status == BS_MEMORY) lacked = 1;
+    return status;
+}
+
+static uint8_t *room_for(size_t len) {
+    uint8_t *room = malloc(len + 1);
+    if (!room) exit(9);
+    return room;
+}
+
+#ifdef WRAPPED
+void *__real_malloc(size_t);
+void *__real_realloc(void *, size_t);
+void __real_free(void *);
+static long left = -1, live;
+static int counted;
+static int refuses(void) { return counted && left >= 0 && left-- == 0; }
+void *__wrap_malloc(size_t size) {
+    if (refuses()) return NULL;
+    void *at = __real_malloc(size);
+    if (counted && at) live += 1;
+    return at;
+}
+void *__wrap_realloc(void *old, size_t size) {
+    if (refuses()) return NULL;
+    void *at = __real_realloc(old, size);
+    if (counted && at && !old) live += 1;
+    return at;
+}
+void __wrap_free(void *at) {
+    if (counted && at) live -= 1;
+    __real_free(at);
+}
+#endif
+
+static void count_memory(int is_counted) {
+#ifdef WRAPPED
+    counted = is_counted;
+#else
+    (void)is_counted;
+#endif
+}
+
+static uint64_t ask_events(const struct file *file, const struct bs_limits *limits, uint64_t sum) {
+    struct bs_reader reader = {0};
+    struct bs_fault fault;
+    struct bs_event event = {0};
+    uint64_t values[64];
+    size_t count = 0;
+    count_memory(1);
+    uint32_t status = noted(bs_open(file->at, file->len, limits, &reader, &fault));
+    while (status == BS_DONE) {
+        status = noted(bs_next(&reader, &event, &fault));
+        sum = mixed(mixed(mixed(sum, status), event.kind), event.after);
+        if (status != BS_DONE || event.kind == BS_OVER) break;
+        if (event.kind == BS_RECORD && bs_values(&reader, values, 64, &count, &fault) == BS_DONE) {
+            for (size_t i = 0; i < count; i++) sum = mixed(sum, values[i]);
+        }
+    }
+    bs_close(&reader);
+    bs_close(&reader);
+    count_memory(0);
+    return mixed(mixed(sum, fault.reason), fault.bit);
+}
+
+/* The texts go into room for four times the file and 64 KiB, which these files need less than. */
+static uint64_t ask_texts(const struct file *file, const struct bs_limits *limits, uint64_t sum) {
+    struct bs_left_out left_out = {false};
+    struct bs_fault fault;
+    size_t len = 32 * file->len + 65536, needed = 0;
+    uint8_t *room = room_for(len);
+    for (int call = 0; call < 4; call++) {
+        left_out.info = call == 1;
+        count_memory(1);
+        uint32_t status = call < 2    ? bs_normal(file->at, file->len, limits, &left_out, room, len, &needed, &fault)
+                          : call == 2 ? bs_report(file->at, file->len, limits, room, len, &needed, &fault)
+                                      : bs_show(file->at, file->len, limits, room, len, &needed, &fault);
+        count_memory(0);
+        sum = mixed(mixed(sum, noted(status)), needed);
+        if (status == BS_DONE) sum = mixed_text(sum, room, needed);
+    }
+    free(room);
+    return sum;
+}
+
+static uint64_t ask_rows(const struct file *file, const struct bs_limits *limits, uint64_t sum) {
+    static const size_t most = 4096;
+    struct bs_tally tally;
+    struct bs_fault fault;
+    struct bs_block_row *blocks = (struct bs_block_row *)room_for(most * sizeof *blocks);
+    struct bs_code_row *codes = (struct bs_code_row *)room_for(most * sizeof *codes);
+    count_memory(1);
+    uint32_t status = noted(bs_analyse(file->at, file->len, limits, &tally, blocks, most, codes, most, &fault));
+    count_memory(0);
+    sum = mixed(mixed(mixed(sum, status), tally.bits), tally.codes);
+    for (size_t i = 0; status == BS_DONE && i < tally.codes; i++) sum = mixed(sum, codes[i].bits);
+    free(blocks);
+    free(codes);
+    return sum;
+}
+
+static uint64_t ask(const struct file *file) {
+    struct bs_limits limits;
+    struct bs_left_out left_out = {false};
+    struct bs_fault fault;
+    bs_usual_limits(&limits);
+    count_memory(1);
+    uint64_t sum = mixed(14695981039346656037u, noted(bs_check(file->at, file->len, &limits, &fault)));
+    sum = mixed(sum, noted(bs_same(file->at, file->len, file->at, file->len, &limits, &left_out, &fault)));
+    count_memory(0);
+    return ask_rows(file, &limits, ask_texts(file, &limits, ask_events(file, &limits, sum)));
+}
+
+static struct file file_of(const char *path) {
+    struct file file = {NULL, 0};
+    FILE *stream = fopen(path, "rb");
+    if (!stream || fseek(stream, 0, SEEK_END)) exit(8);
+    file.len = (size_t)ftell(stream);
+    rewind(stream);
+    file.at = room_for(file.len);
+    if (fread(file.at, 1, file.len, stream) != file.len) exit(8);
+    fclose(stream);
+    return file;
+}
+
+static struct file *files;
+static uint64_t *wanted;
+static size_t count;
+
+static void *work(void *from) {
+    for (size_t k = 0; k < count; k++) {
+        size_t i = (k + (size_t)from * 7919) % count;
+        if (ask(&files[i]) != wanted[i]) {
+            printf("differs: file %zu\n", i);
+            exit(1);
+        }
+    }
+    return NULL;
+}
+
+static int in_threads(void) {
+    pthread_t threads[4];
+    for (size_t i = 0; i < 4; i++) {
+        if (pthread_create(&threads[i], NULL, work, (void *)i)) return 7;
+    }
+    for (size_t i = 0; i < 4; i++) pthread_join(threads[i], NULL);
+    return 0;
+}
+
+#ifdef WRAPPED
+static int with_refusals(const struct file *file) {
+    for (long place = 0;; place++) {
+        left = place;
+        live = 0;
+        lacked = 0;
+        uint64_t sum = ask(file);
+        if (live) {
+            printf("request %ld refused: %ld blocks leak\n", place, live);
+            return 1;
+        }
+        if (left >= 0) {
+            if (lacked || sum != wanted[0]) return 6;
+            printf("%ld requests\n", place);
+            return 0;
+        }
+        /* A block that was only to shrink may stay as it is. */
+        if (!lacked && sum != wanted[0]) {
+            printf("request %ld refused: another answer\n", place);
+            return 1;
+        }
+    }
+}
+#endif
+
+int main(int words, char **word) {
+    if (words < 3) return 2;
+    count = (size_t)words - 2;
+    files = (struct file *)room_for(count * sizeof *files);
+    wanted = (uint64_t *)room_for(count * sizeof *wanted);
+    for (size_t i = 0; i < count; i++) {
+        files[i] = file_of(word[i + 2]);
+        wanted[i] = ask(&files[i]);
+    }
+    int status = 0;
+    if (!strcmp(word[1], "threads")) status = in_threads();
+#ifdef WRAPPED
+    if (!strcmp(word[1], "memory")) status = with_refusals(&files[0]);
+#endif
+    for (size_t i = 0; i < count; i++) free(files[i].at);
+    free(files);
+    free(wanted);
+    return status;
+}
