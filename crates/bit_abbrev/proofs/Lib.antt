@@ -5,3 +5,4 @@ pub mod Taking
 pub mod Operands
 pub mod Shapes
 pub mod Records
+pub mod Glancing

@@ -18,10 +18,26 @@ Gains took old new P = (before : List ℕ) → took old before → Has took new 
 abbrev pub GainsMore : {V : Type 0} → (took : V → List ℕ → Type 0) → (old new : V) → (List ℕ → List ℕ → Type 0) → Type 0
 GainsMore took old new P = (before : List ℕ) → took old before → 0 < length before → Has took new (P before)
 
+-- whatever it took before, it took some values after a call
+abbrev pub Keeps : {V : Type 0} → (took : V → List ℕ → Type 0) → (old new : V) → Type 0
+Keeps took old new = (before : List ℕ) → took old before → (after : List ℕ) × took new after
+
+-- the same, where it had some before
+abbrev pub KeepsMore : {V : Type 0} → (took : V → List ℕ → Type 0) → (old new : V) → Type 0
+KeepsMore took old new = (before : List ℕ) → took old before → 0 < length before → (after : List ℕ) × took new after
+
+-- what passes over so many values of a rule
+abbrev pub Passes : Grammar ℕ → (count : ℕ) → Reader → Reader → Type 0
+Passes rule count old new = (values : List ℕ) × (length values ≡ count) × Took (repeat count rule) old values new
+
 -- A call adds to a list the values that the rule reads; after a fault some values may stand behind those that were there.
 abbrev pub Adds : Grammar (List ℕ) → Reader → Result (Unit {0}) Fault → (before after : List ℕ) → Reader → Type 0
 Adds rule old (Ok x) before after new = (values : List ℕ) × (after ≡ before ++ values) × Took rule old values new
 Adds rule old (Err fault) before after new = (values : List ℕ) × (after ≡ before ++ values) × Why rule old fault new
+
+-- A call adds to a list the values that the rule reads, no more than there was room for.
+abbrev pub AddsFew : Grammar (List ℕ) → (room : ℕ) → (old new : Reader) → (before after : List ℕ) → Type 0
+AddsFew rule room old new before after = Adds rule old (Ok tt) before after new × (length after ≤ length before + room)
 
 -- A call adds so many values to a list.
 abbrev pub AddsAll : Grammar ℕ → (count : ℕ) → Reader → Result (Unit {0}) Fault → Reader → (before after : List ℕ) → Type 0

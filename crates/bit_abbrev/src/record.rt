@@ -29,7 +29,7 @@ fn singles(ops: &[Op]) -> u64
 }
 
 /// Whether there is room for the values of the single operands. They are counted only where the list is longer than that.
-fn have_room(ops: &[Op], room: u64) -> bool
+pub(crate) fn have_room(ops: &[Op], room: u64) -> bool
     ensures is { result ≡ nat_le (singles ops.now) room }
     ensures yes { result ≡ true → singles ops.now ≤ room }
 {

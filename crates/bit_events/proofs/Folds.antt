@@ -180,6 +180,14 @@ inner_ready m head a is live = in_block m a live (omega (arith, m.frames.ok.0, l
 pub open_aligned : (m : Machine) (head : BlockHead) (a : Reader) → HasHead m head → vec_len m.frames ≡ 0 → a.position % 8 ≡ 0
 open_aligned m head a is none = absurd (omega (arith, none, m.frames.ok.0, length-frames m.frames.items, ap length (inner_of m head is).split))
 
+-- it is open
+pub some_open : (m : Machine) (head : BlockHead) → HasHead m head → 0 < vec_len m.frames
+some_open m head is = omega (arith, m.frames.ok.0, length-frames m.frames.items, ap length (inner_of m head is).split)
+
+-- it stays where no block was opened or closed
+pub head_stays : (m n : Machine) (head : BlockHead) → n.frames ≡ m.frames → HasHead m head → HasHead n head
+head_stays m n head same is = rw same is
+
 -- where its next id is not read
 pub no_id : (limits : Limits) (m : Machine) (head : BlockHead) (a : Reader) (fault : Fault) (b : Reader) → HasHead m head → a.live ≡ true → Why (fixed head.width) a fault b → Misses limits m a fault b
 no_id limits m head a fault b is live why = step_missed limits m a a fault b (inner_ready m head a is live) (id_missed limits m head a fault b (inner_of m head is) why)

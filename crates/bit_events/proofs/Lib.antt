@@ -7,3 +7,4 @@ pub mod Beginnings
 pub mod Faults
 pub mod WholeInputs
 pub mod Folds
+pub mod Runs

@@ -66,6 +66,11 @@ abbrev pub TakesSome : {G : Type 0} → (G → List Event → G → Type 0) → 
 TakesSome gathered limits m a g (Ok _) n b h = GathersSome gathered limits m a g n b h × (a.position < b.position)
 TakesSome gathered limits m a g (Err fault) n b h = Misses limits m a fault b
 
+-- a run of records that came and were gathered, possibly none
+abbrev pub TakesRun : {G : Type 0} → (G → List Event → G → Type 0) → Limits → Machine → Reader → G → Result (Unit {0}) Fault → Machine → Reader → G → Type 0
+TakesRun gathered limits m a g (Ok _) n b h = GathersSome gathered limits m a g n b h
+TakesRun gathered limits m a g (Err fault) n b h = Misses limits m a fault b
+
 abbrev pub TakesAll : {G : Type 0} → (G → List Event → G → Type 0) → Limits → Machine → Reader → G → Result (Unit {0}) Fault → Reader → G → Type 0
 TakesAll gathered limits m a g (Ok _) b h = GathersAll gathered limits m a g b h
 TakesAll gathered limits m a g (Err fault) b h = Misses limits m a fault b

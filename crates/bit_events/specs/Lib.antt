@@ -7,3 +7,4 @@ pub mod MachineView
 pub mod Reading
 pub mod Gathering
 pub mod Folding
+pub mod Runs

@@ -4,7 +4,7 @@ ghost use Rattle.std.specs.Prelude.{◌≡◌, ◌<◌, ◌≤◌, ◌%◌, true
 ghost use Rattle.bit_grammar.specs.Machine as machine;
 ghost use Rattle.bit_grammar.specs.Machine.{scope_of, step_after, step_top};
 ghost use Rattle.bit_fields.specs.Opening.{head_told};
-ghost use Rattle.bit_events.specs.Folding.{TakesOne, TakesSome, TakesAll, Gathered};
+ghost use Rattle.bit_events.specs.Folding.{TakesOne, TakesRun, TakesSome, TakesAll, Gathered};
 ghost use Rattle.bit_events.specs.FrameView.{frames_shown};
 ghost use Rattle.bit_events.specs.Gathering.{Gathers};
 ghost use Rattle.bit_events.specs.HeadView.{head_shown};
@@ -16,7 +16,8 @@ use crate::gatherer::Gatherer;
 use crate::head::BlockHead;
 use crate::heads::granted;
 use crate::machine::{Aside, Machine};
-use bit_fields::{BitReader, Fault, Head, Limits, Source};
+use crate::running::gather_records;
+use bit_fields::{Ahead, BitReader, Fault, Head, Limits, Source};
 use std::alloc::{AllocError, Global};
 
 /// What was read of a whole input: its head, what gathered its events, and the bit after its stream.
@@ -113,6 +114,31 @@ impl<S: Source, G: Gatherer> Folding<S, G> {
         granted(&mut self.reader, done)
     }
 
+    /// Gathers records of the innermost block that lie in memory whole, possibly none. Those of a BLOCKINFO block, each of which
+    /// may tell which block is described, are left.
+    fn gather_run(&mut self, limits: &Limits, values: &mut G::Values) -> Result<(), Fault>
+        requires live { self.old.reader.live ≡ true }
+        requires took { TookSome G.Values.took values.old }
+        requires some { 0 < vec_len self.old.machine.frames }
+        ensures took { TookSome G.Values.took values.new }
+        ensures takes { TakesRun G.gathered limits.now self.old.machine self.old.reader self.old.gatherer result self.new.machine self.new.reader self.new.gatherer }
+        ensures frames { self.new.machine.frames ≡ self.old.machine.frames }
+    {
+        let Some(frame) = self.machine.frames.last() else {
+            return Ok(());
+        };
+        if frame.info.is_some() {
+            return Ok(());
+        }
+        let ahead = Ahead::new(self.reader.sight()?);
+        let start = ahead.position();
+        let used = &mut self.machine.used;
+        match gather_records(ahead, frame, limits, used, &mut self.gatherer, values) {
+            Ok(after) => self.reader.catch_up(after - start),
+            Err(_) => Err(self.reader.fail(Fault::Memory)),
+        }
+    }
+
     /// Gathers records of the innermost block, whose head this is, and what comes first that is none.
     fn gather_block(
         &mut self,
@@ -128,6 +154,7 @@ impl<S: Source, G: Gatherer> Folding<S, G> {
         ensures takes { TakesSome G.gathered limits.now self.old.machine self.old.reader self.old.gatherer result self.new.machine self.new.reader self.new.gatherer }
     {
         loop {
+            self.gather_run(limits, values)?;
             let first = self.reader.position();
             let id = self.reader.fixed(u32::from(head.width))?;
             if id < 3 {

@@ -14,6 +14,7 @@ mod gatherer;
 mod head;
 mod heads;
 mod machine;
+mod running;
 
 pub use checking::check;
 pub use event::Event;

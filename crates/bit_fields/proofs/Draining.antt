@@ -13,7 +13,7 @@ use Rattle.bit_fields.proofs.InflowLaws.{Spends-refl, Spends-trans, Spends-none,
 -- ---- bytes of the stream
 
 -- bytes of the stream came that are not kept
-pub passed : (f : Flow) (i : Incoming) (count : ℕ) (into : List ℕ) → f.window ≡ [] → f.ended ≡ false → length into ≤ stop_of f - f.loaded → f.loaded ≤ stop_of f → (count ≡ 0 → ⊥) → Gave f.incoming i count into → Passes f (record f { incoming = i; loaded = f.loaded + count }) count
+pub passed : (f : Flow) (i : Incoming) (count : ℕ) (into : List ℕ) → f.window ≡ [] → f.ended ≡ false → count ≤ stop_of f - f.loaded → f.loaded ≤ stop_of f → (count ≡ 0 → ⊥) → Gave f.incoming i count into → Passes f (record f { incoming = i; loaded = f.loaded + count }) count
 passed f i count into empty going fits le some gave =
     let few : f.loaded + count ≤ stop_of f = omega (arith, gave.fits) in
     let after : ℕ = stop_of f - (f.loaded + count) in
@@ -33,7 +33,7 @@ passed f i count into empty going fits le some gave =
       total = λ k. omega (arith, (came f.incoming i count into gave k).1);
     }
 
-pub passed_is_flow : (f : Flow) (i : Incoming) (count : ℕ) (into : List ℕ) → IsFlow f → f.ended ≡ false → length into ≤ stop_of f - f.loaded → f.loaded ≤ stop_of f → Gave f.incoming i count into → IsFlow (record f { incoming = i; loaded = f.loaded + count })
+pub passed_is_flow : (f : Flow) (i : Incoming) (count : ℕ) (into : List ℕ) → IsFlow f → f.ended ≡ false → count ≤ stop_of f - f.loaded → f.loaded ≤ stop_of f → Gave f.incoming i count into → IsFlow (record f { incoming = i; loaded = f.loaded + count })
 passed_is_flow f i count into was going fits le gave = record {
   held = was.held;
   loaded = omega (arith, gave.fits);

@@ -37,7 +37,7 @@ consumed None new gone c known = absurd cc
 consumed (Some xs) None gone c known = absurd c
 consumed (Some xs) (Some ys) gone c known = (refl, c)
 
-kept : (old new : Option (List ℕ)) → bytes.Keeps old new → IsSome old → IsSome new × (known_bytes old ≡ known_bytes new)
+pub kept : (old new : Option (List ℕ)) → bytes.Keeps old new → IsSome old → IsSome new × (known_bytes old ≡ known_bytes new)
 kept None new c known = absurd cc
 kept (Some xs) None c known = absurd c
 kept (Some xs) (Some ys) c known = (refl, sym c)

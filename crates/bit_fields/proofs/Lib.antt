@@ -15,3 +15,6 @@ pub mod WriterLaws
 pub mod WriterChunks
 pub mod Cutting
 pub mod Short
+pub mod Glimpses
+pub mod Sights
+pub mod Looking

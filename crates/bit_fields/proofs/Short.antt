@@ -185,7 +185,7 @@ four_at_most (suc (suc (suc zero))) n few narrow = omega (arith, narrow)
 four_at_most (suc (suc (suc (suc zero)))) n few narrow = omega (arith, narrow)
 four_at_most (suc (suc (suc (suc (suc k))))) n few narrow = absurd (omega (arith, few))
 
-vbr_reads : (payload count p : ℕ) (w rest : List Bool) → 1 ≤ payload → payload ≤ 13 → count ≤ 4 → Ends payload count (number w) → suc payload * count ≤ length w → reading (vbr (suc payload)) p (w ++ rest) ≡ Ok (gathered payload count (number w), p + suc payload * count, drop (suc payload * count) w ++ rest)
+pub vbr_reads : (payload count p : ℕ) (w rest : List Bool) → 1 ≤ payload → payload ≤ 13 → count ≤ 4 → Ends payload count (number w) → suc payload * count ≤ length w → reading (vbr (suc payload)) p (w ++ rest) ≡ Ok (gathered payload count (number w), p + suc payload * count, drop (suc payload * count) w ++ rest)
 unfolding vbr
 vbr_reads payload count p w rest some narrow few ends there =
     let turned : count * suc payload ≡ suc payload * count = omega arith in

@@ -1,5 +1,6 @@
 -- What is known of a source and of a sink, and what a call of them does.
-use Rattle.std.specs.Prelude.{◌≡◌, ℕ, ◌+◌, ◌*◌, ◌-◌, ◌^◌, ◌<◌, ◌≤◌, max, List, [], length, take, Option, Some, None, IsSome, Result, Ok, Err}
+use Rattle.std.specs.Prelude.{◌≡◌, ℕ, ◌+◌, ◌*◌, ◌-◌, ◌^◌, ◌<◌, ◌≤◌, max, Bool, List, [], length, take, Option, Some, None, IsSome, Result, Ok, Err}
+use Rattle.std.specs.Io.{StartsWith}
 use Rattle.std.specs.Io.KnownBytes.{Consumes, Appends, Keeps, IsAtEnd}
 use Rattle.bit_grammar.specs.Bits.{bits_of, bits_of_bytes}
 use Rattle.bit_fields.specs.declared.source.SourceFailed.{SourceFailed}
@@ -73,6 +74,28 @@ abbrev pub PullsAtHand : ℕ → Incoming → Incoming → AtHand → Type 0
 PullsAtHand room old new (Word word) = GaveWord old new room word room
 PullsAtHand room old new Few = Looked old new
 PullsAtHand room old new Failed = GaveNone old new
+
+-- a pull took so many bytes that nobody looks at, as a pull into some slice takes them
+pub record GaveUnseen (old new : Incoming) (most count : ℕ) : Type 0 where
+  pub into : List ℕ
+  pub some : 0 < length into
+  pub few : count ≤ most
+  pub gave : Gave old new count into
+
+-- what passing over bytes does, at most so many
+abbrev pub PullsUnseen : ℕ → Incoming → Incoming → Result ℕ SourceFailed → Type 0
+PullsUnseen most old new (Ok count) = GaveUnseen old new most count
+PullsUnseen most old new (Err e) = GaveNone old new
+
+-- the bytes begin with these, where they are known
+abbrev pub Begins : Option (List ℕ) → List ℕ → Type 0
+Begins None shown = Unit {0}
+Begins (Some bytes) shown = StartsWith bytes shown
+
+-- what looking for bytes that come next does
+abbrev pub Looks : Incoming → Result Bool SourceFailed → Incoming → Type 0
+Looks old (Ok some) new = Looked old new
+Looks old (Err e) new = GaveNone old new
 
 -- What may be asked of a source, as a number of pulls and of bytes, went from one number to another: each pull and each
 -- byte was paid for, no failure was forgotten, and the source tells its bytes as before.

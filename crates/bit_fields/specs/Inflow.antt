@@ -2,7 +2,8 @@
 use Rattle.std.specs.Prelude.{◌≡◌, ℕ, ◌+◌, ◌-◌, ◌*◌, ◌^◌, ◌<◌, ◌≤◌, min, Bool, true, false, if◌then◌else◌, List, [], ◌++◌, length, take, drop, IsSome, Result, Ok, Err, nat_lt, ◌&&◌, ◌⊎◌}
 use Rattle.std.specs.Io.KnownBytes.{IsAtEnd}
 use Rattle.bit_grammar.specs.Bits.{bits_of_bytes}
-use Rattle.bit_fields.specs.Devices.{Incoming, IsWorn, Spends, known_bytes}
+use Rattle.bit_fields.specs.Devices.{Incoming, IsWorn, Looked, Spends, known_bytes}
+use Rattle.bit_fields.specs.declared.source.SourceFailed.{SourceFailed}
 use Rattle.bit_fields.specs.declared.inflow.Missing.{Missing}
 use Rattle.bit_fields.specs.declared.inflow.Missing.TheVariants.{End, Limit, Read}
 
@@ -144,6 +145,20 @@ pub record Skips (old new : Flow) (count : ℕ) : Type 0 where
 abbrev pub SkipsSome : ℕ → Flow → Flow → Result ℕ Missing → Type 0
 SkipsSome most old new (Ok count) = Skips old new count × (count ≤ most)
 SkipsSome most old new (Err missing) = Fills 1 old new (Err missing)
+
+-- the source was looked at, and nothing was taken
+pub record LooksOn (old new : Flow) : Type 0 where
+  pub same : new ≡ record old { incoming = new.incoming }
+  pub looked : Looked old.incoming new.incoming
+
+-- what looking for bytes behind the window does
+abbrev pub LooksOver : Flow → Result Bool SourceFailed → Flow → Type 0
+LooksOver old (Ok some) new = LooksOn old new
+LooksOver old (Err e) new = Lost old new
+
+-- these bytes come next in the stream behind the window
+abbrev pub LiesBehind : Flow → List ℕ → Type 0
+LiesBehind f bytes = IsKnown f → (rest : List Bool) × (left_of f ≡ (f.window ++ bits_of_bytes bytes) ++ rest)
 
 -- ---- all that is left, which nobody reads
 

@@ -6,3 +6,5 @@ pub mod Opening
 pub mod Ending
 pub mod Writer
 pub mod Short
+pub mod Ahead
+pub mod Sight

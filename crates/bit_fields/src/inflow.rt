@@ -1,14 +1,13 @@
 ghost use Rattle.std.specs.Prelude.{ℕ, ◌≡◌, ◌+◌, ◌*◌, ◌-◌, ◌<◌, ◌≤◌, ◌^◌, length, true, false, take, drop, [], OnOk};
-ghost use Rattle.bit_grammar.specs.Bits.{number};
+ghost use Rattle.bit_grammar.specs.Bits.{number, bits_of};
 ghost use Rattle.bit_fields.specs.Short.{EndsAt, gathered};
-ghost use Rattle.bit_fields.specs.Inflow.{Brings, Misses, Fills, Steps, SkipsSome, Drains, DrainsSome, stop_of, shortened, to_drain};
+ghost use Rattle.bit_fields.specs.Inflow.{Brings, Misses, Fills, Steps, SkipsSome, Drains, DrainsSome, LooksOn, LooksOver, LiesBehind, stop_of, shortened, to_drain};
+ghost use Rattle.std.specs.Borrow.{sem};
+ghost use Rattle.std.specs.Io.BufRead.{Rests};
 
 use crate::source::{AtHand, Source, SourceFailed};
 use crate::window::Window;
 use std::marker::Model;
-
-/// How many bytes that nobody reads are pulled at once.
-const BLOCK: usize = 512;
 
 /// Why bits are not there.
 #[derive(Clone, Copy, Debug, PartialEq, Eq)]
@@ -43,6 +42,8 @@ impl<S: Source> Model for Inflow<S> {
 }
 
 impl<S: Source> Inflow<S> {
+    ghost use Rattle.bit_fields.specs.contracts.inflow.Inflow.{the_row};
+
     /// The whole of what a source has, up to a limit on bytes.
     pub fn new(source: S, limit: u64) -> Inflow<S>
         requires { limit < 2 ^ 35 }
@@ -218,6 +219,45 @@ impl<S: Source> Inflow<S> {
         self.window.take_number(n, bits)
     }
 
+    /// The word of the bits in the window, and how many they are.
+    #[inline(always)]
+    pub fn window(&self) -> (u64, u32)
+        ensures bits { bits_of result.1 result.0 ≡ self.now.window }
+        ensures below { result.0 < 2 ^ result.1 }
+        ensures most { result.1 ≤ 64 }
+        ensures loaded { self.now.loaded ≤ 2 ^ 35 }
+    {
+        self.window.parts()
+    }
+
+    /// Looks for bytes of the stream that lie in memory behind the window, and takes none: whether `lend` has any to lend. It
+    /// fails only where the source does.
+    #[inline(always)]
+    pub fn look(&mut self) -> Result<bool, SourceFailed>
+        ensures { LooksOver self.old result self.new }
+    {
+        if self.ended || self.loaded >= self.end.min(self.limit) {
+            return Ok(false);
+        }
+        self.source.look()
+    }
+
+    /// Lends bytes of the stream that lie in memory behind the window, possibly none.
+    #[inline(always)]
+    pub fn lend(&mut self) -> &[u8]
+        ensures front { LiesBehind self.old result.now }
+        ensures few { length result.now ≤ 2 ^ 35 }
+        ensures* rests { sem 𝓛 (Rests (the_row S.row S.Source) self.entry (λ new. LooksOn self.old new)) }
+    {
+        let stop = self.end.min(self.limit);
+        if self.ended || self.loaded >= stop {
+            return &[];
+        }
+        let room = (stop - self.loaded) as usize;
+        let bytes = self.source.lend();
+        &bytes[..room.min(bytes.len())]
+    }
+
     /// Drops the bits that are in the window.
     pub fn clear(&mut self)
         ensures { self.new ≡ record self.old { window = [] } }
@@ -249,12 +289,11 @@ impl<S: Source> Inflow<S> {
             return Err(Missing::End);
         }
         let stop = self.end.min(self.limit);
-        let mut bytes = [0; BLOCK];
         if self.loaded >= stop {
             return Err(self.past());
         }
-        let room = most.min(stop - self.loaded).min(BLOCK as u64) as usize;
-        match self.source.pull(&mut bytes[..room]) {
+        let room = most.min(stop - self.loaded) as usize;
+        match self.source.pass(room) {
             Ok(0) => {
                 self.ended = true;
                 Err(Missing::End)
@@ -292,12 +331,11 @@ impl<S: Source> Inflow<S> {
         ensures drains { DrainsSome self.old self.new result }
         ensures fewer { OnOk result (to_drain self.new < to_drain self.old) }
     {
-        let mut bytes = [0; BLOCK];
         if self.loaded > self.limit {
             return Err(Missing::Limit);
         }
-        let room = (self.limit + 1 - self.loaded).min(BLOCK as u64) as usize;
-        match self.source.pull(&mut bytes[..room]) {
+        let room = (self.limit + 1 - self.loaded) as usize;
+        match self.source.pass(room) {
             Ok(0) => {
                 self.ended = true;
                 Ok(())

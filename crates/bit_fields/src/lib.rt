@@ -2,6 +2,7 @@
 //! "LLVM Bitcode File Format", each call told by a rule of `bit_grammar`.
 #![tactic(auto)]
 
+mod ahead;
 mod fault;
 mod head;
 mod inflow;
@@ -21,6 +22,7 @@ mod writer_laws;
 #[cfg(test)]
 mod writer_tests;
 
+pub use ahead::{Ahead, Sight};
 pub use bit_grammar::{Reason, Shapes};
 pub use fault::Fault;
 pub use head::{Head, Wrapper};

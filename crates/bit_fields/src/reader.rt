@@ -1,18 +1,23 @@
 ghost use Rattle.std.specs.Prelude.{◌≡◌, ◌+◌, ◌*◌, ◌-◌, ◌<◌, ◌≤◌, ◌^◌, ◌%◌, length, true, false, take, drop, [], OnErr, OnOk, IfOk, IfErr, MatchOption, ◌&&◌, ◌==◌, nat_le};
+ghost use Rattle.std.specs.Borrow.{sem};
+ghost use Rattle.std.specs.Io.BufRead.{Rests};
 ghost use Rattle.bit_grammar.specs.Fields.{fixed, vbr, char6, align32, byte, character, chunks, chunk_limit, zeros};
-ghost use Rattle.bit_grammar.specs.Grammar.{at, test, repeat};
+ghost use Rattle.bit_grammar.specs.Grammar.{at, gives, test, repeat};
 ghost use Rattle.bit_grammar.specs.Input.{version, offset, wrapper, any_bits, inner_magic};
 ghost use Rattle.bit_fields.specs.Reader.{Extent, Takes, Took, Why, IsOnly, NeedsNoMemory, within, told_by, stopped};
 ghost use Rattle.bit_fields.specs.Short.{TookNothing};
+ghost use Rattle.bit_fields.specs.Ahead.{Sees};
+ghost use Rattle.bit_fields.specs.Sight.{told, IsSight, Shown, Shows};
 ghost use Rattle.bit_fields.specs.Opening.{fresh, Opened, Declines, Opens, wrapper_told};
 ghost use Rattle.bit_fields.specs.Ending.{reach_of, Looks, Closes, IsThrough};
 ghost use Rattle.bit_fields.specs.Inside.{part_of, gap_of, above, stopped_at, fault_of, numbers, TookZeros, TookGap};
 
+use crate::ahead::Sight;
 use crate::fault::Fault;
 use crate::head::{Head, Wrapper};
 use crate::inflow::{Inflow, Missing};
 use crate::limits::Limits;
-use crate::source::Source;
+use crate::source::{Source, SourceFailed};
 use bit_grammar::Reason;
 use std::marker::Model;
 
@@ -20,7 +25,7 @@ use std::marker::Model;
 const WRAPPER_MAGIC: u64 = 0x0B17_C0DE;
 
 /// The greatest width of chunks of which four are read at once.
-const MOST_SHORT: u32 = 14;
+pub(crate) const MOST_SHORT: u32 = 14;
 
 /// Reads the fields of a stream of bits.
 ///
@@ -45,6 +50,8 @@ impl<S: Source> Model for BitReader<S> {
 }
 
 impl<S: Source> BitReader<S> {
+    ghost use Rattle.bit_fields.specs.contracts.reader.BitReader.{the_row};
+
     /// Begins the stream of a source: reads its wrapper, if there is one, and the magic of the stream, and answers them as
     /// the head. The reader stands behind the magic, at a multiple of 32 bits. Sources: "Magic Numbers", "Bitcode Wrapper
     /// Format".
@@ -152,12 +159,8 @@ impl<S: Source> BitReader<S> {
         ensures memory { NeedsNoMemory result }
         ensures place { OnOk result (self.new.position ≡ 8 * offset) }
     {
-        let mut left = 8 * u64::from(offset - 20);
-        while left > 0 {
-            let count = self.skip_some(start, start, left)?;
-            left -= count;
-        }
-        Ok(())
+        let _start = start;
+        self.catch_up(8 * u64::from(offset - 20))
     }
 
     /// Skips bits of what began at a bit, at least one and at most so many, and answers how many. Where not one is left it
@@ -181,6 +184,93 @@ impl<S: Source> BitReader<S> {
                 Err(self.stop(fault, start))
             }
         }
+    }
+
+    /// Lends bits that come next and lie in memory, for `Ahead` to read, and takes none of them.
+    ///
+    /// It fails only where the source does.
+    #[inline(always)]
+    pub fn sight(&mut self) -> Result<Sight<'_>, Fault>
+        ensures lawful { IfOk result (λ sight. IsSight sight) }
+        ensures* shows { sem 𝓛 (Rests (the_row S.row S.Source) self.entry (λ new. Shows self.old result new)) }
+    {
+        if self.look()? {
+            Ok(self.in_sight())
+        } else {
+            Ok(self.at_hand())
+        }
+    }
+
+    /// Looks for bytes behind the window: whether there are any.
+    #[inline(always)]
+    fn look(&mut self) -> Result<bool, Fault>
+        ensures looks { OnOk result (TookNothing self.old self.new) }
+        ensures missed { IfErr result (λ fault. Why (gives (tt {0})) self.old fault self.new) }
+        ensures stays { self.new.position ≡ self.old.position }
+    {
+        if !self.live {
+            return Err(Fault::Failed);
+        }
+        let start = self.position;
+        match self.inflow.look() {
+            Ok(some) => Ok(some),
+            Err(SourceFailed) => Err(self.stop(Fault::Read, start)),
+        }
+    }
+
+    /// Lends the bits in the window and those of bytes behind it.
+    #[inline(always)]
+    fn in_sight(&mut self) -> Sight<'_>
+        requires { self.old.live ≡ true }
+        ensures lawful { IsSight result }
+        ensures* shown { sem 𝓛 (Rests (the_row S.row S.Source) self.entry (λ new. Shown self.old result new)) }
+    {
+        let (word, held) = self.inflow.window();
+        let position = self.position;
+        let bytes = self.inflow.lend();
+        Sight {
+            word,
+            held,
+            bytes,
+            position,
+        }
+    }
+
+    /// Lends the bits in the window.
+    #[inline(always)]
+    fn at_hand(&self) -> Sight<'_>
+        requires { self.now.live ≡ true }
+        ensures lawful { IsSight result }
+        ensures sees { Sees self.now (told result) }
+    {
+        let (word, held) = self.inflow.window();
+        Sight {
+            word,
+            held,
+            bytes: &[],
+            position: self.position,
+        }
+    }
+
+    /// Takes so many bits, whatever they are: those that were read from what is in sight.
+    ///
+    /// Fewer bits are `Truncated` at the first of them.
+    pub fn catch_up(&mut self, bits: u64) -> Result<(), Fault>
+        ensures takes { Takes (any_bits bits) self.old result self.new }
+        ensures memory { NeedsNoMemory result }
+        ensures stays { OnErr result (self.new.position ≡ self.old.position) }
+        ensures moves { OnOk result (self.new.position ≡ self.old.position + bits) }
+    {
+        if !self.live {
+            return Err(Fault::Failed);
+        }
+        let start = self.position;
+        let mut left = bits;
+        while left > 0 {
+            let count = self.skip_some(start, start, left)?;
+            left -= count;
+        }
+        Ok(())
     }
 
     /// Skips so many fields of n bits, n from 1 to 32, whatever they are.
@@ -708,7 +798,7 @@ fn is_lawful(offset: u64) -> bool
 }
 
 /// The bits of a chunk without the top one.
-fn payload_of(chunk: u64, n: u32) -> u64
+pub(crate) fn payload_of(chunk: u64, n: u32) -> u64
     requires some { 2 ≤ n }
     requires few { n ≤ 32 }
     ensures { result ≡ chunk % 2 ^ (n - 1) }
@@ -717,7 +807,7 @@ fn payload_of(chunk: u64, n: u32) -> u64
 }
 
 /// A payload moved up to a place, if it fits 64 bits there.
-fn placed(payload: u64, place: u32) -> Option<u64>
+pub(crate) fn placed(payload: u64, place: u32) -> Option<u64>
     requires some { 0 < place }
     requires few { place < 64 }
     ensures { MatchOption result (2 ^ (64 - place) ≤ payload) (λ worth. (worth ≡ payload * 2 ^ place) × (payload < 2 ^ (64 - place))) }
@@ -730,7 +820,7 @@ fn placed(payload: u64, place: u32) -> Option<u64>
 }
 
 /// The character of a code of six bits.
-fn character(code: u64) -> u64
+pub(crate) fn character(code: u64) -> u64
     requires { code < 64 }
     ensures { result ≡ character code }
 {

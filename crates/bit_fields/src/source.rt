@@ -1,8 +1,14 @@
 ghost use Rattle.std.specs.Prelude.{◌≡◌, Some};
+ghost use Rattle.std.specs.Borrow.{sem};
+ghost use Rattle.std.specs.Io.BufRead.{Rests};
+ghost use Rattle.bit_fields.specs.Devices.{Begins, Looked};
 
 use crate::word::{front_of, word_of};
 use std::io::{BufRead, Read};
 use thiserror::Error;
+
+/// How many bytes that nobody reads are pulled at once.
+const BLOCK: usize = 512;
 
 /// A source gave no bytes.
 #[derive(Clone, Copy, Debug, PartialEq, Eq, Error)]
@@ -24,7 +30,9 @@ pub enum AtHand {
 /// stands at `u64::MAX`.
 pub trait Source {
     ghost use Rattle.std.specs.Prelude.{◌<◌, ◌≤◌};
-    ghost use Rattle.bit_fields.specs.Devices.{Incoming, Pulls, PullsWord, PullsAtHand};
+    ghost use Rattle.std.specs.Borrow.{sem};
+    ghost use Rattle.std.specs.Io.BufRead.{Rests};
+    ghost use Rattle.bit_fields.specs.Devices.{Incoming, Pulls, PullsWord, PullsAtHand, PullsUnseen, Begins, Looked, Looks};
 
     // The bytes still to come, where the source tells them, and the counts.
     ghost incoming: { Self → Incoming };
@@ -63,6 +71,35 @@ pub trait Source {
     {
         let _room = room;
         AtHand::Few
+    }
+
+    /// Looks for bytes that come next and lie in memory, and takes none: whether there are any, which `lend` then lends.
+    /// `SourceFailed` is one pull that failed.
+    #[inline(always)]
+    fn look(&mut self) -> Result<bool, SourceFailed>
+        ensures { Looks (incoming self.old) result (incoming self.new) }
+    {
+        Ok(false)
+    }
+
+    /// Lends bytes that come next and lie in memory, possibly none, and takes none.
+    #[inline(always)]
+    fn lend(&mut self) -> &[u8]
+        ensures front { Begins (incoming self.old).to_come result.now }
+        ensures* rests { sem 𝓛 (Rests Self.row self.entry (λ new. Looked (incoming self.old) (incoming new))) }
+    {
+        &[]
+    }
+
+    /// Takes the next bytes, at least one and at most so many, without giving them, and answers how many; 0 says that no byte
+    /// is left. It is one pull, and fails as `pull` does.
+    fn pass(&mut self, most: usize) -> Result<usize, SourceFailed>
+        requires { 0 < most }
+        ensures { PullsUnseen most (incoming self.old) (incoming self.new) result }
+    {
+        let mut bytes = [0; BLOCK];
+        let room = most.min(BLOCK);
+        self.pull(&mut bytes[..room])
     }
 }
 
@@ -107,6 +144,27 @@ impl<'a> Source for SliceSource<'a> {
         self.rest = &bytes[room..];
         AtHand::Word(front_of(bytes, room))
     }
+
+    #[inline(always)]
+    fn look(&mut self) -> Result<bool, SourceFailed> {
+        Ok(!self.rest.is_empty())
+    }
+
+    #[inline(always)]
+    fn lend(&mut self) -> &[u8] {
+        self.rest
+    }
+
+    #[inline(always)]
+    fn pass(&mut self, most: usize) -> Result<usize, SourceFailed> {
+        if self.pulls == u64::MAX {
+            return Err(SourceFailed);
+        }
+        self.pulls += 1;
+        let count = most.min(self.rest.len());
+        self.rest = &self.rest[count..];
+        Ok(count)
+    }
 }
 
 /// What a reader gives. Any error of the reader is a failure; no read is tried again.
@@ -134,6 +192,25 @@ impl<R: Read> ReadSource<R> {
         ensures { R.remaining result ≡ (⟦<ReadSource<R> as Source>⟧.incoming self).to_come }
     {
         self.reader
+    }
+}
+
+impl<R: BufRead> ReadSource<R> {
+    ghost use Rattle.bit_fields.specs.contracts.source.ReadSource.{the_row};
+
+    /// Lends what the reader shows, unless it is worn.
+    #[inline(always)]
+    fn lend(&mut self) -> &[u8]
+        ensures front { Begins (⟦<ReadSource<R> as Source>⟧.incoming self.old).to_come result.now }
+        ensures* rests { sem 𝓛 (Rests (the_row R.row) self.entry (λ new. Looked (⟦<ReadSource<R> as Source>⟧.incoming self.old) (⟦<ReadSource<R> as Source>⟧.incoming new))) }
+    {
+        if self.pulls == u64::MAX || self.failures == u64::MAX {
+            return &[];
+        }
+        match self.reader.fill_buf() {
+            Ok(bytes) => bytes,
+            Err(_) => &[], // of a reader that has just shown some
+        }
     }
 }
 
@@ -211,6 +288,49 @@ impl<R: BufRead> Source for BufSource<R> {
         source.reader.consume(room);
         source.pulls += 1;
         AtHand::Word(word)
+    }
+
+    #[inline(always)]
+    fn look(&mut self) -> Result<bool, SourceFailed> {
+        let source = &mut self.source;
+        if source.pulls == u64::MAX || source.failures == u64::MAX {
+            return Ok(false);
+        }
+        match source.reader.fill_buf() {
+            Ok(bytes) => Ok(!bytes.is_empty()),
+            Err(_) => {
+                source.pulls += 1;
+                source.failures += 1;
+                Err(SourceFailed)
+            }
+        }
+    }
+
+    #[inline(always)]
+    fn lend(&mut self) -> &[u8] {
+        self.source.lend()
+    }
+
+    #[inline(always)]
+    fn pass(&mut self, most: usize) -> Result<usize, SourceFailed> {
+        let source = &mut self.source;
+        if source.pulls == u64::MAX || source.failures == u64::MAX {
+            return Err(SourceFailed);
+        }
+        let count = match source.reader.fill_buf() {
+            Ok(bytes) => most.min(bytes.len()),
+            Err(_) => {
+                source.pulls += 1;
+                source.failures += 1;
+                return Err(SourceFailed);
+            }
+        };
+        if count == 0 {
+            return self.source.pull(&mut [0]);
+        }
+        source.reader.consume(count);
+        source.pulls += 1;
+        Ok(count)
     }
 }
 

@@ -30,7 +30,29 @@ impl Window {
         Window { word: 0, held: 0 }
     }
 
+    /// The same bits once more.
+    #[inline(always)]
+    pub fn copy(&self) -> Window
+        ensures { result ≡ self.now }
+    {
+        Window {
+            word: self.word,
+            held: self.held,
+        }
+    }
+
+    /// The word of the bits, and how many they are.
+    #[inline(always)]
+    pub fn parts(&self) -> (u64, u32)
+        ensures bits { bits_of result.1 result.0 ≡ self.now }
+        ensures below { result.0 < 2 ^ result.1 }
+        ensures most { result.1 ≤ 64 }
+    {
+        (self.word, self.held)
+    }
+
     /// How many bits there are.
+    #[inline(always)]
     pub fn len(&self) -> u32
         ensures length { result ≡ length self.now }
         ensures most { result ≤ 64 }
@@ -39,6 +61,7 @@ impl Window {
     }
 
     /// The number of the first n bits.
+    #[inline(always)]
     pub fn peek(&self, n: u32) -> u64
         requires few { n ≤ 32 }
         requires there { n ≤ length self.now }
@@ -48,6 +71,7 @@ impl Window {
     }
 
     /// Takes the number of the first n bits.
+    #[inline(always)]
     pub fn take(&mut self, n: u32) -> u64
         requires few { n ≤ 32 }
         requires there { n ≤ length self.old }
@@ -95,6 +119,7 @@ impl Window {
     }
 
     /// Puts the low n bits of a word behind those that are here.
+    #[inline(always)]
     pub fn push(&mut self, word: u64, n: u32)
         requires fits { word < 2 ^ n }
         requires room { length self.old + n ≤ 64 }

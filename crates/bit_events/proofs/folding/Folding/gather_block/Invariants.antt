@@ -5,12 +5,12 @@ use Rattle.bit_events.specs.HeadView.{head_shown}
 use Rattle.bit_events.specs.MachineView.{innermost_head, TookSome}
 use Rattle.bit_events.proofs.folding.Folding.gather_block.Given as goal
 
-abbrev pub invariant-loop-id : goal.invariant-loop-id
-invariant-loop-id g l = record {
+abbrev pub invariant-loop-first : goal.invariant-loop-first
+invariant-loop-first g l = record {
   some : GathersSome g.G.Gatherer.gathered l.limits l.initial.self.machine l.initial.self.reader l.initial.self.gatherer l.self.machine l.self.reader l.self.gatherer;
   took : TookSome g.G.Values.ValueTaker.took l.values;
   head : innermost_head (frames_shown l.self.machine.frames.items) ≡ Some (head_shown l.head);
 }
 
-abbrev pub decreases-loop-id : goal.decreases-loop-id
-decreases-loop-id g l = 2 ^ 64 - l.self.reader.position
+abbrev pub decreases-loop-first : goal.decreases-loop-first
+decreases-loop-first g l = 2 ^ 64 - l.self.reader.position

@@ -1,0 +1,310 @@
+//! Reading records from the bytes at hand, where all of a record is there. `None` says that it was not read, and why not is
+//! no matter: the calls over a reader read it from its beginning and judge it. So whatever is odd here is `None`.
+
+ghost use Rattle.std.specs.Prelude.{◌≡◌, ◌+◌, ◌*◌, ◌-◌, ◌<◌, ◌≤◌, ◌^◌, ℕ, List, [], ◌∷◌, ◌++◌, IfSome, OnSome, Ok, length, true};
+ghost use Rattle.std.specs.List.{AllByRecursion};
+ghost use Rattle.bit_grammar.specs.Grammar.{repeat};
+ghost use Rattle.bit_grammar.specs.Fields.{fixed, vbr, char6};
+ghost use Rattle.bit_grammar.specs.Record.{scalar, singles, value_count, values_of, unabbreviated, abbreviated};
+ghost use Rattle.bit_grammar.specs.Definition.{has_shape};
+ghost use Rattle.bit_grammar.specs.FormatDefinition.{op_at, IsElement, HasLawfulValue, Lawful};
+ghost use Rattle.bit_grammar.specs.declared.op.Op.{Op};
+ghost use Rattle.bit_grammar.specs.declared.op.Op.TheVariants.{Array};
+ghost use Rattle.bit_fields.specs.Ahead.{Glimpsed, reader_at};
+ghost use Rattle.bit_abbrev.specs.Values.{Adds, AddsAll, AddsFew, AddsWithin, Gains, GainsMore, Keeps, KeepsMore, Passes};
+
+use crate::abbrev::Abbrev;
+use crate::record::have_room;
+use bit_fields::{Ahead, ValueTaker};
+use bit_grammar::Op;
+
+/// How many fields may be passed at once.
+const MOST_PASSED: u64 = u32::MAX as u64;
+
+/// Hands a value on, where memory is there.
+#[inline(always)]
+fn keep<V: ValueTaker>(values: &mut V, value: u64) -> Option<()>
+    ensures some { OnSome result ((before : List ℕ) → V.took values.old before → V.took values.new (before ++ value ∷ [])) }
+    ensures keeps { Keeps V.took values.old values.new }
+{
+    match values.take(value) {
+        Ok(()) => Some(()),
+        Err(_) => None,
+    }
+}
+
+/// Reads a number of values, of which there is room for so many.
+#[inline(always)]
+#[tactic(auto, unfolding(bit_grammar::specs::Record::value_count))]
+fn glance_count(ahead: &mut Ahead<'_>, room: u64) -> Option<u64>
+    ensures glimpsed { IfSome result (λ count. Glimpsed (value_count room) ahead.old count ahead.new) }
+    ensures few { IfSome result (λ count. count ≤ room) }
+{
+    let count = ahead.vbr(6)?;
+    if count > room { None } else { Some(count) }
+}
+
+/// Passes over so many numbers in chunks of n bits.
+#[inline(always)]
+fn pass_vbrs(ahead: &mut Ahead<'_>, count: u64, n: u32) -> Option<()>
+    requires some { 2 ≤ n }
+    requires few { n ≤ 32 }
+    ensures { OnSome result (Passes (vbr n) count (reader_at ahead.old) (reader_at ahead.new)) }
+{
+    for _ in 0..count {
+        ahead.vbr(n)?;
+    }
+    Some(())
+}
+
+/// Reads so many numbers in chunks of n bits behind other values, or passes over them where nobody looks at them.
+#[inline(always)]
+fn more_vbrs<V: ValueTaker>(ahead: &mut Ahead<'_>, count: u64, n: u32, values: &mut V) -> Option<()>
+    requires some { 2 ≤ n }
+    requires few { n ≤ 32 }
+    ensures glimpsed { OnSome result (GainsMore V.took values.old values.new (AddsAll (vbr n) count (reader_at ahead.old) (Ok tt) (reader_at ahead.new))) }
+    ensures keeps { KeepsMore V.took values.old values.new }
+{
+    if values.pass(count) {
+        return pass_vbrs(ahead, count, n);
+    }
+    for _ in 0..count {
+        let value = ahead.vbr(n)?;
+        keep(values, value)?;
+    }
+    Some(())
+}
+
+/// Reads so many numbers in chunks of n bits.
+#[inline(always)]
+fn glance_vbrs<V: ValueTaker>(
+    ahead: &mut Ahead<'_>,
+    count: u64,
+    n: u32,
+    values: &mut V,
+) -> Option<()>
+    requires some { 2 ≤ n }
+    requires few { n ≤ 32 }
+    ensures glimpsed { OnSome result (Gains V.took values.old values.new (AddsAll (vbr n) count (reader_at ahead.old) (Ok tt) (reader_at ahead.new))) }
+    ensures keeps { Keeps V.took values.old values.new }
+{
+    if count == 0 {
+        return Some(());
+    }
+    let value = ahead.vbr(n)?;
+    keep(values, value)?;
+    more_vbrs(ahead, count - 1, n, values)
+}
+
+/// Reads so many fields of n bits behind other values, or passes over them where nobody looks at them.
+#[inline(always)]
+fn more_fixed<V: ValueTaker>(
+    ahead: &mut Ahead<'_>,
+    count: u64,
+    n: u32,
+    values: &mut V,
+) -> Option<()>
+    requires some { 0 < n }
+    requires few { n ≤ 32 }
+    ensures glimpsed { OnSome result (GainsMore V.took values.old values.new (AddsAll (fixed n) count (reader_at ahead.old) (Ok tt) (reader_at ahead.new))) }
+    ensures keeps { KeepsMore V.took values.old values.new }
+{
+    if count <= MOST_PASSED && values.pass(count) {
+        return ahead.skip_fixed(count, n);
+    }
+    for _ in 0..count {
+        let value = ahead.fixed(n)?;
+        keep(values, value)?;
+    }
+    Some(())
+}
+
+/// Reads so many fields of n bits.
+#[inline(always)]
+fn glance_fixed<V: ValueTaker>(
+    ahead: &mut Ahead<'_>,
+    count: u64,
+    n: u32,
+    values: &mut V,
+) -> Option<()>
+    requires some { 0 < n }
+    requires few { n ≤ 32 }
+    ensures glimpsed { OnSome result (Gains V.took values.old values.new (AddsAll (fixed n) count (reader_at ahead.old) (Ok tt) (reader_at ahead.new))) }
+    ensures keeps { Keeps V.took values.old values.new }
+{
+    if count == 0 {
+        return Some(());
+    }
+    let value = ahead.fixed(n)?;
+    keep(values, value)?;
+    more_fixed(ahead, count - 1, n, values)
+}
+
+/// Reads so many characters behind other values, or passes over them where nobody looks at them.
+#[inline(always)]
+fn more_characters<V: ValueTaker>(ahead: &mut Ahead<'_>, count: u64, values: &mut V) -> Option<()>
+    ensures glimpsed { OnSome result (GainsMore V.took values.old values.new (AddsAll char6 count (reader_at ahead.old) (Ok tt) (reader_at ahead.new))) }
+    ensures keeps { KeepsMore V.took values.old values.new }
+{
+    if count <= MOST_PASSED && values.pass(count) {
+        return ahead.skip_fixed(count, 6);
+    }
+    for _ in 0..count {
+        let value = ahead.char6()?;
+        keep(values, value)?;
+    }
+    Some(())
+}
+
+/// Reads so many characters.
+#[inline(always)]
+fn glance_characters<V: ValueTaker>(ahead: &mut Ahead<'_>, count: u64, values: &mut V) -> Option<()>
+    ensures glimpsed { OnSome result (Gains V.took values.old values.new (AddsAll char6 count (reader_at ahead.old) (Ok tt) (reader_at ahead.new))) }
+    ensures keeps { Keeps V.took values.old values.new }
+{
+    if count == 0 {
+        return Some(());
+    }
+    let value = ahead.char6()?;
+    keep(values, value)?;
+    more_characters(ahead, count - 1, values)
+}
+
+/// Reads so many fields of an operand, which is the element of an array.
+#[inline(always)]
+fn glance_elements<V: ValueTaker>(
+    ahead: &mut Ahead<'_>,
+    count: u64,
+    element: Op,
+    values: &mut V,
+) -> Option<()>
+    requires { HasLawfulValue element }
+    ensures glimpsed { OnSome result (Gains V.took values.old values.new (AddsAll (scalar element) count (reader_at ahead.old) (Ok tt) (reader_at ahead.new))) }
+    ensures keeps { Keeps V.took values.old values.new }
+{
+    match element {
+        Op::Fixed(0) | Op::Vbr(0) => None,
+        Op::Fixed(width) => glance_fixed(ahead, count, u32::from(width), values),
+        Op::Vbr(6) => glance_vbrs(ahead, count, 6, values),
+        Op::Vbr(width) => glance_vbrs(ahead, count, u32::from(width), values),
+        Op::Char6 => glance_characters(ahead, count, values),
+        Op::Literal(_) | Op::Array | Op::Blob => None,
+    }
+}
+
+/// Reads an array of fields of an operand, with room for so many values.
+#[inline(always)]
+fn glance_array<V: ValueTaker>(
+    ahead: &mut Ahead<'_>,
+    room: u64,
+    element: Op,
+    values: &mut V,
+) -> Option<()>
+    requires { HasLawfulValue element }
+    ensures glimpsed { (others : List Op) → OnSome result (Gains V.took values.old values.new (AddsFew (values_of room (Array ∷ element ∷ others)) room (reader_at ahead.old) (reader_at ahead.new))) }
+    ensures keeps { Keeps V.took values.old values.new }
+{
+    let count = glance_count(ahead, room)?;
+    glance_elements(ahead, count, element, values)
+}
+
+/// Reads the field of an operand that stands for one value. Into the calls for the usual widths the width is written.
+#[inline(always)]
+#[tactic(auto, unfolding(bit_grammar::specs::Record::scalar))]
+fn glance_scalar(ahead: &mut Ahead<'_>, op: Op) -> Option<u64>
+    requires { HasLawfulValue op }
+    ensures { IfSome result (λ value. Glimpsed (scalar op) ahead.old value ahead.new) }
+{
+    match op {
+        Op::Literal(value) => Some(value),
+        Op::Fixed(0) | Op::Vbr(0) | Op::Array | Op::Blob => None,
+        Op::Fixed(width) => ahead.fixed(u32::from(width)),
+        Op::Vbr(6) => ahead.vbr(6),
+        Op::Vbr(8) => ahead.vbr(8),
+        Op::Vbr(4) => ahead.vbr(4),
+        Op::Vbr(width) => ahead.vbr(u32::from(width)),
+        Op::Char6 => ahead.char6(),
+    }
+}
+
+/// Reads the values of operands, with room for so many.
+#[inline(always)]
+fn glance_values<V: ValueTaker>(
+    ahead: &mut Ahead<'_>,
+    room: u64,
+    ops: &[Op],
+    values: &mut V,
+) -> Option<()>
+    requires elements { (i : ℕ) → op_at ops.now i ≡ Array → IsElement (op_at ops.now (i + 1)) }
+    requires lawful { AllByRecursion HasLawfulValue ops.now }
+    requires fits { singles ops.now ≤ room }
+    ensures glimpsed { OnSome result (Gains V.took values.old values.new (AddsFew (values_of (room - singles ops.now) ops.now) room (reader_at ahead.old) (reader_at ahead.new))) }
+    ensures keeps { Keeps V.took values.old values.new }
+{
+    for (index, op) in ops.iter().enumerate() {
+        match op {
+            Op::Array => return glance_array(ahead, room - index as u64, ops[index + 1], values),
+            Op::Blob => return None,
+            _ => {}
+        }
+        let value = glance_scalar(ahead, *op)?;
+        keep(values, value)?;
+    }
+    Some(())
+}
+
+/// Reads a record by its operands.
+#[inline(always)]
+fn glance_record<V: ValueTaker>(
+    ahead: &mut Ahead<'_>,
+    ops: &[Op],
+    room: u64,
+    values: &mut V,
+) -> Option<u64>
+    requires { Lawful ops.now }
+    ensures glimpsed { IfSome result (λ code. Gains V.took values.old values.new (λ before after. (at : ℕ) → AddsWithin (abbreviated at room ops.now) room (reader_at ahead.old) (Ok code) (reader_at ahead.new) before after)) }
+    ensures keeps { Keeps V.took values.old values.new }
+{
+    let [first, others @ ..] = ops else {
+        unreachable!();
+    };
+    if !have_room(others, room) {
+        return None;
+    }
+    let code = glance_scalar(ahead, *first)?;
+    glance_values(ahead, room, others, values)?;
+    Some(code)
+}
+
+/// Reads a record by its definition, after its abbreviation id: hands its values on and answers its code. Where it answers
+/// `None`, some of its values may stand behind the others.
+#[inline(always)]
+pub fn glance_abbreviated<V: ValueTaker>(
+    ahead: &mut Ahead<'_>,
+    abbrev: &Abbrev,
+    room: u64,
+    values: &mut V,
+) -> Option<u64>
+    requires { has_shape «abbrev».now ≡ true }
+    ensures glimpsed { IfSome result (λ code. Gains V.took values.old values.new (λ before after. (at : ℕ) → AddsWithin (abbreviated at room «abbrev».now) room (reader_at ahead.old) (Ok code) (reader_at ahead.new) before after)) }
+    ensures keeps { Keeps V.took values.old values.new }
+{
+    glance_record(ahead, abbrev.lawful_ops(), room, values)
+}
+
+/// Reads a record that is not abbreviated, after its abbreviation id: hands its values on and answers its code. Where it
+/// answers `None`, some of its values may stand behind the others.
+#[inline(always)]
+pub fn glance_unabbreviated<V: ValueTaker>(
+    ahead: &mut Ahead<'_>,
+    room: u64,
+    values: &mut V,
+) -> Option<u64>
+    ensures glimpsed { IfSome result (λ code. Gains V.took values.old values.new (AddsWithin (unabbreviated room) room (reader_at ahead.old) (Ok code) (reader_at ahead.new))) }
+    ensures keeps { Keeps V.took values.old values.new }
+{
+    let code = ahead.vbr(6)?;
+    let count = glance_count(ahead, room)?;
+    glance_vbrs(ahead, count, 6, values)?;
+    Some(code)
+}

@@ -1,0 +1,243 @@
+-- Records that are in sight, gathered one after the other.
+use Rattle.std.proofs.Common.{◌≡◌, ◌≢◌, ℕ, ◌+◌, ◌-◌, ◌<◌, ◌≤◌, Bool, true, List, [], ◌∷◌, ◌++◌, length, drop, None, Some, Option, Result, Ok, Err, refl, sym, ap, subst, ◌∙◌, arith, append_assoc, length-append, vec_len}
+use Rattle.std.specs.Prelude.{IfSome, slice_get}
+use Rattle.std.proofs.lemmas.List.{drop_at}
+use Rattle.bit_grammar.specs.Grammar as grammar
+use Rattle.bit_grammar.specs.Grammar.{Grammar, gives, ◌>>=◌, reading}
+use Rattle.bit_grammar.specs.Input.{any_bits}
+use Rattle.bit_grammar.specs.Fields.{fixed}
+use Rattle.bit_grammar.specs.Record.{Entry, unabbreviated, abbreviated}
+use Rattle.bit_grammar.specs.Blocks as blocks
+use Rattle.bit_grammar.specs.Blocks.{Limits, Handed, Scope, entry}
+use Rattle.bit_grammar.specs.Machine as machine
+use Rattle.bit_grammar.specs.Machine.{Event, Told, scope_of, step, step_of}
+use Rattle.bit_fields.specs.Ahead.{InSight, Glimpsed, Sees, advanced, reader_at}
+use Rattle.bit_fields.specs.declared.fault.Fault.{Fault}
+use Rattle.bit_fields.specs.declared.fault.Fault.TheVariants.{Refused, Read, Write, Memory, OutputTooLong, Failed}
+use Rattle.bit_fields.specs.Reader.{Reader, TellsBytes, GoesOn, Took, Why, Takes, stopped}
+use Rattle.bit_fields.specs.Short.{TookNothing}
+use Rattle.bit_fields.proofs.Composing.{same_reading, stops_here, took_then}
+use Rattle.bit_fields.proofs.Gap.{gap_whole}
+use Rattle.bit_fields.proofs.BitLaws.{drop_more}
+use Rattle.bit_fields.proofs.Glimpses.{glimpsed_took, glimpsed_forward, glimpsed_passed, took_glimpsed, seen_took, not_caught_up}
+use Rattle.bit_grammar.specs.declared.op.Op.{Op}
+use Rattle.bit_abbrev.specs.Values.{AddsWithin, Gains, Has}
+use Rattle.bit_events.specs.declared.frame.Frame.{Frame}
+use Rattle.bit_events.specs.declared.machine.Machine.{Machine}
+use Rattle.bit_events.specs.FrameView.{frame_shown, frames_shown}
+use Rattle.bit_events.specs.Folding.{left_to_tell, GathersSome, Misses, TakesRun}
+use Rattle.bit_events.specs.Gathering.{Gathers}
+use Rattle.bit_events.specs.MachineView.{machine_shown, record_of, Leaves}
+use Rattle.bit_events.specs.Runs.{after_record, Passed, GathersTo, GathersRun}
+use Rattle.bit_events.proofs.Advancing.{pays_both}
+use Rattle.bit_events.proofs.Folds.{in_block, none_yet, one_event, some_then, step_missed}
+use Rattle.bit_events.proofs.Framing.{none_described, plain_entry, short_entry}
+use Rattle.bit_events.proofs.Framing as framing
+use Rattle.bit_events.proofs.Stepping.{in_then, after_record as record_follows, record_took, other_than, length-frames}
+
+-- what follows from a success
+pub if_some : {A : Type 0} (result : Option A) (P Q : A → Type 0) → ((x : A) → P x → Q x) → IfSome result P → IfSome result Q
+if_some (Some x) P Q so h = so x h
+if_some None P Q so h = tt
+
+-- ---- one record
+
+pub took_at : {A : Type 0} (rule : Grammar A) (a : InSight) (value : A) (b : InSight) → Glimpsed rule a value b → Took rule (reader_at a) value (reader_at b)
+took_at rule a value b seen = glimpsed_took rule a value b seen (glimpsed_forward rule a value b seen)
+
+-- a record of a block that is no BLOCKINFO block, after the id
+pub record_seen : (limits : Limits) (f : machine.Frame) (outer : List machine.Frame) (handed : Handed) (id code : ℕ) (list : List ℕ) (a b c : InSight) → f.info ≡ None → 3 ≤ id → Glimpsed (fixed f.head.width) a id b → Took (entry limits.values a.position id (scope_of f handed)) (reader_at b) (record { code = code; values = list }) (reader_at c)
+    → Glimpsed (step_of limits (f ∷ outer) handed) a (record_of id list a.position (code, c.position), after_record f outer handed list) c
+record_seen limits f outer handed id code list a b c none most seen t =
+    took_glimpsed (step_of limits (f ∷ outer) handed) a (event, new) c
+    (in_then limits f.head outer scope (reader_at a) id (reader_at b) a.position (Ok (event, new)) (reader_at c) refl (took_at (fixed f.head.width) a id b seen)
+    (record_follows limits f outer a.position id handed (reader_at b) (Ok (event, new)) (reader_at c) (other_than id 0 most (omega arith)) (other_than id 1 most (omega arith)) (other_than id 2 most (omega arith))
+    (record_took limits.values f outer a.position id handed (reader_at b) (record { abbreviation = id; code = code; values = list; first = a.position; after = c.position }) (record scope { info = None; handed = more }) (reader_at c) new
+    (framing.record_took limits.values a.position id scope (reader_at b) (record { code = code; values = list }) (reader_at c) c.position None (reader_at c) t refl described) made)))
+  where
+    scope : Scope
+    scope = scope_of f handed
+
+    more : Handed
+    more = record { table = handed.table; used = handed.used + length list }
+
+    event : Event
+    event = record_of id list a.position (code, c.position)
+
+    new : machine.Machine
+    new = after_record f outer handed list
+
+    described : Took (blocks.describe scope.info a.position (record { code = code; values = list })) (reader_at c) None (reader_at c)
+    described = rw none (none_described a.position (record { code = code; values = list }) (reader_at c) refl)
+
+    made : new ≡ machine.inside f.head outer (record scope { info = None; handed = more })
+    made = ap (λ (info : Option blocks.BlockInfo). record { frames = record { head = f.head; definitions = f.definitions; info = info } ∷ outer; handed = more }) none
+
+-- the values of a record are those that were taken
+entry_read : (rule : Grammar Entry) (room : ℕ) (a : Reader) (code : ℕ) (b : Reader) (list : List ℕ) → AddsWithin rule room a (Ok code) b [] list → Took rule a (record { code = code; values = list }) b
+entry_read rule room a code b list h = rw h.0.1 h.0.2
+
+-- an entry that has these values
+abbrev pub EntrySeen : (V : Type 0) → (took : V → List ℕ → Type 0) → V → (definitions : List (List Op)) → (room id : ℕ) → InSight → InSight → (code : ℕ) → Type 0
+EntrySeen V took v definitions room id a b code = Has took v (λ list. (length list ≤ room) × ((limit first : ℕ) (scope : Scope) → scope.definitions ≡ definitions → limit - scope.handed.used ≡ room → Took (entry limit first id scope) (reader_at a) (record { code = code; values = list }) (reader_at b)))
+
+pub plain_seen : {V : Type 0} (took : V → List ℕ → Type 0) (v w : V) (definitions : List (List Op)) (room id : ℕ) (a b : InSight) (code : ℕ) → id ≡ 3 → took v [] → Gains took v w (AddsWithin (unabbreviated room) room (reader_at a) (Ok code) (reader_at b)) → EntrySeen V took w definitions room id a b code
+plain_seen took v w definitions room id a b code is none gains =
+    let h = gains [] none in
+    (h.0, h.1, (omega (arith, h.2.1), λ limit first scope force same. plain_entry limit first id room scope (reader_at a) (Ok (record { code = code; values = h.0 })) (reader_at b) is same (entry_read (unabbreviated room) room (reader_at a) code (reader_at b) h.0 h.2)))
+
+pub short_seen : {V : Type 0} (took : V → List ℕ → Type 0) (v w : V) (definitions : List (List Op)) (ops : List Op) (room id : ℕ) (a b : InSight) (code : ℕ) → id ≢ 3 → slice_get definitions (id - 4) ≡ Some ops → took v [] → Gains took v w (λ before after. (at : ℕ) → AddsWithin (abbreviated at room ops) room (reader_at a) (Ok code) (reader_at b) before after)
+    → EntrySeen V took w definitions room id a b code
+short_seen took v w definitions ops room id a b code other found none gains =
+    let h = gains [] none in
+    (h.0, h.1, (omega (arith, (h.2 0).1), λ limit first scope force same. short_entry limit first id room scope definitions ops (reader_at a) (Ok (record { code = code; values = h.0 })) (reader_at b) other force same found (entry_read (abbreviated first room ops) room (reader_at a) code (reader_at b) h.0 (h.2 first))))
+
+-- ---- several
+
+advanced_both : (r : Reader) (n m k : ℕ) → n + m ≡ k → advanced (advanced r n) m ≡ advanced r k
+advanced_both r n m k all =
+    let place : r.position + n + m ≡ r.position + k = omega (arith, all) in
+    rw (place, drop_more n m r.left, all) refl
+
+passed_forward : (a b : InSight) → Passed a b → a.position ≤ b.position
+passed_forward a b p = omega (arith, p.2)
+
+passed_both : (a b c : InSight) → Passed a b → Passed b c → Passed a c
+passed_both a b c p q = (p.0 ++ q.0, p.1 ∙ ap (λ (s : List Bool). p.0 ++ s) q.1 ∙ sym (append_assoc p.0 q.0 c.bits), omega (arith, p.2, q.2, length-append p.0 q.0))
+
+-- no record
+pub gathers_none : {G : Type 0} (gathered : G → List Event → G → Type 0) (limits : Limits) (f : Frame) (used : ℕ) (a : InSight) (g : G) → GathersTo gathered limits f used a g used a g
+gathers_none gathered limits f used a g = record {
+  passed = ([], refl, omega arith);
+  gathers = λ m outer r split is sees.
+      let none : a.position - a.position ≡ 0 = omega arith in
+      let same : r.position + 0 ≡ r.position = omega arith in
+      rw (none, same, ← is) (none_yet gathered limits m r g sees.live (λ closed. absurd (omega (arith, closed, m.frames.ok.0, length-frames m.frames.items, ap length split))), sees);
+}
+
+-- a step that was seen, after what was passed
+passed_more : {A : Type 0} (rule : Grammar A) (a b : InSight) (value : A) (c : InSight) → Passed a b → Glimpsed rule b value c → Passed a c
+passed_more rule a b value c p seen = (let q = glimpsed_passed rule b value c seen in passed_both a b c p (q.0, q.1, q.2))
+
+-- a step of the innermost block, by a reader that sees it
+one_seen : {G : Type 0} (gathered : G → List Event → G → Type 0) (limits : Limits) (m n : Machine) (outer : List machine.Frame) (f : machine.Frame) (g h : G) (id code : ℕ) (list : List ℕ) (r : Reader) (b c : InSight) → frames_shown m.frames.items ≡ f ∷ outer → n.frames ≡ m.frames → machine_shown n ≡ after_record f outer (machine_shown m).handed list → b.position ≤ c.position
+    → Sees r b → Glimpsed (step_of limits (f ∷ outer) (machine_shown m).handed) b (record_of id list b.position (code, c.position), after_record f outer (machine_shown m).handed list) c → Gathers gathered g (record_of id list b.position (code, c.position)) h
+    → GathersSome gathered limits m r g n (advanced r (c.position - b.position)) h
+one_seen gathered limits m n outer f g h id code list r b c split same made forward sees seen gathers =
+    one_event gathered limits m r r g n (advanced r (c.position - b.position)) h (in_block m r sees.live some) (record { event = event; took = took; leaves = leaves; gathers = gathers })
+  where
+    event : Event
+    event = record_of id list b.position (code, c.position)
+
+    some : 0 < vec_len m.frames
+    some = omega (arith, m.frames.ok.0, length-frames m.frames.items, ap length split)
+
+    took : Took (step_of limits (machine_shown m).frames (machine_shown m).handed) r (event, machine_shown n) (advanced r (c.position - b.position))
+    took = rw (split, made) (seen_took (step_of limits (f ∷ outer) (machine_shown m).handed) r b (event, after_record f outer (machine_shown m).handed list) c sees seen).0
+
+    leaves : Leaves limits.depth m r event n (advanced r (c.position - b.position))
+    leaves = record { stands = some; opens = ap vec_len same; forward = omega arith; aligned = λ none. absurd (omega (arith, some, none, ap vec_len same)); holds = tt }
+
+-- one more
+pub gathers_more : {G : Type 0} (gathered : G → List Event → G → Type 0) (limits : Limits) (f : Frame) (used : ℕ) (a : InSight) (g : G) (now_used : ℕ) (b : InSight) (h : G) (id code : ℕ) (list : List ℕ) (c : InSight) (k : G) (more_used : ℕ) → GathersTo gathered limits f used a g now_used b h → more_used ≡ now_used + length list
+    → ((outer : List machine.Frame) (handed : Handed) → handed.used ≡ now_used → Glimpsed (step_of limits (frame_shown f ∷ outer) handed) b (record_of id list b.position (code, c.position), after_record (frame_shown f) outer handed list) c)
+    → Gathers gathered h (record_of id list b.position (code, c.position)) k → GathersTo gathered limits f used a g more_used c k
+gathers_more {G = G} gathered limits f used a g now_used b h id code list c k more_used so is step gathers = record {
+  passed = passed_more rule a b value c so.passed seen;
+  gathers = λ m outer r split same sees.
+      let before = so.gathers m outer r split same sees in
+      let n : Machine = record m { used = now_used } in
+      let o : Machine = record m { used = more_used } in
+      let there : Reader = advanced r (b.position - a.position) in
+      let here = step outer (machine_shown n).handed refl in
+      let made : machine_shown o ≡ after_record (frame_shown f) outer (machine_shown n).handed list = rw (split, is) refl in
+      let one = one_seen gathered limits n o outer (frame_shown f) h k id code list there b c split refl made forward before.1 here gathers in
+      let e : advanced there (c.position - b.position) ≡ advanced r (c.position - a.position) = advanced_both r (b.position - a.position) (c.position - b.position) (c.position - a.position) (omega (arith, passed_forward a b so.passed, forward)) in (
+        subst (λ (t : Reader). GathersSome gathered limits m r g o t k) e (some_then gathered limits m r g n there h o (advanced there (c.position - b.position)) k before.0 one),
+        subst (λ (t : Reader). Sees t c) e (seen_took (step_of limits (frame_shown f ∷ outer) (machine_shown n).handed) there b (record_of id list b.position (code, c.position), after_record (frame_shown f) outer (machine_shown n).handed list) c before.1 here).1,
+      );
+}
+  where
+    some : Handed
+    some = record { table = λ id. []; used = now_used }
+
+    rule : Grammar (Event × machine.Machine)
+    rule = step_of limits (frame_shown f ∷ []) some
+
+    value : Event × machine.Machine
+    value = (record_of id list b.position (code, c.position), after_record (frame_shown f) [] some list)
+
+    seen : Glimpsed rule b value c
+    seen = step [] some refl
+
+    forward : b.position ≤ c.position
+    forward = glimpsed_forward rule b value c seen
+
+-- ---- a run
+
+-- what was passed is some bits
+any_seen : (a b : InSight) → Passed a b → Glimpsed (any_bits (b.position - a.position)) a tt b
+unfolding any_bits
+any_seen a b p =
+    let n : ℕ = b.position - a.position in
+    let whole : length a.bits ≡ length p.0 + length b.bits = ap length p.1 ∙ length-append p.0 b.bits in
+    let place : a.position + n ≡ b.position = omega (arith, p.2) in
+    let left : drop n a.bits ≡ b.bits = ap (drop n) p.1 ∙ drop_at p.0 b.bits n (omega (arith, p.2)) in
+    gap_whole n a.position a.position a.bits (omega (arith, whole, p.2)) ∙ rw (place, left) refl
+
+same_answer : (x y : (Unit {0}) × ℕ × List Bool) (r : Result ((Unit {0}) × ℕ × List Bool) grammar.Fault) → r ≡ Ok x → r ≡ Ok y → (x.1 ≡ y.1) × (x.2 ≡ y.2)
+same_answer x y r p q = (let e = sym p ∙ q in (cc, cc))
+
+same_left : (limits : Limits) (m : Machine) (a b : Reader) → b.extent ≡ a.extent → a.position ≡ b.position → a.left ≡ b.left → left_to_tell limits m a ≡ left_to_tell limits m b
+same_left limits m a b extent position left = rw (extent, position, left) refl
+
+-- a reader that caught up
+run_taken : {G : Type 0} (gathered : G → List Event → G → Type 0) (limits : Limits) (m : Machine) (r : Reader) (g : G) (n : Machine) (h : G) (a b : InSight) (c : Reader) → 0 < vec_len n.frames → Passed a b → Sees r a → GathersSome gathered limits m r g n (advanced r (b.position - a.position)) h → Took (any_bits (b.position - a.position)) r tt c → GathersSome gathered limits m r g n c h
+run_taken gathered limits m r g n h a b c some p sees all t = record {
+  events = all.events;
+  live = t.live;
+  pays = t.goes_on;
+  forward = t.forward;
+  aligned = λ none. absurd (omega (arith, some, none));
+  told = λ k. all.told k ∙ ap (λ (told : Told). (all.events ++ told.0, told.1)) (same_left limits n there c (t.extent k) (here k).0 (here k).1);
+  gathers = all.gathers;
+}
+  where
+    there : Reader
+    there = advanced r (b.position - a.position)
+
+    here : TellsBytes r → (there.position ≡ c.position) × (there.left ≡ c.left)
+    here k = same_answer (tt, there.position, there.left) (tt, c.position, c.left) (reading (any_bits (b.position - a.position)) r.position r.left) ((seen_took (any_bits (b.position - a.position)) r a tt b sees (any_seen a b p)).0.reads k) (t.reads k)
+
+-- what is no fault of the rules is none of any rule
+nothing_missed : {A : Type 0} (rule : Grammar A) (a : Reader) (fault : Fault) (b : Reader) → Why (gives (tt {0})) a fault b → Why rule a fault b
+nothing_missed rule a (Refused reason bit) b why = (why.0, λ k. absurd (why.1 k))
+nothing_missed rule a Read b why = why
+nothing_missed rule a Memory b why = why
+nothing_missed rule a Failed b why = why
+nothing_missed rule a Write b why = why
+nothing_missed rule a OutputTooLong b why = why
+
+-- nothing is in sight, since the source failed
+pub no_sight : (limits : Limits) (m : Machine) (a : Reader) (fault : Fault) (b : Reader) → 0 < vec_len m.frames → a.live ≡ true → Why (gives (tt {0})) a fault b → Misses limits m a fault b
+no_sight limits m a fault b some live why = step_missed limits m a a fault b (in_block m a live some) (nothing_missed (step limits (machine_shown m)) a fault b why)
+
+-- a reader that took nothing before
+after_nothing : {A : Type 0} (rule : Grammar A) (a b : Reader) (result : Result A Fault) (c : Reader) → TookNothing a b → Takes rule b result c → Takes rule a result c
+after_nothing rule a b result c nothing t = same_reading (gives (tt {0}) >>= λ v. rule) rule a result c (λ p r. refl) (took_then (gives (tt {0})) (λ v. rule) a (tt {0}) b result c nothing t)
+
+-- a run, by a reader that then catches up
+pub run_gathered : {G : Type 0} (gathered : G → List Event → G → Type 0) (limits : Limits) (f : Frame) (m : Machine) (outer : List machine.Frame) (a : Reader) (g : G) (b : Reader) (sight : InSight) (used after : ℕ) (h : G) (result : Result (Unit {0}) Fault) (c : Reader) → frames_shown m.frames.items ≡ frame_shown f ∷ outer → TookNothing a b → Sees a sight
+    → GathersRun gathered limits f m.used sight g used after h → Takes (any_bits (after - sight.position)) b result c → TakesRun gathered limits m a g result (record m { used = used }) c h
+run_gathered gathered limits f m outer a g b sight used after h result c split nothing sees run t = go result (subst (λ (q : ℕ). Takes (any_bits (q - sight.position)) a result c) (sym run.1) (after_nothing (any_bits (after - sight.position)) a b result c nothing t))
+  where
+    some : 0 < vec_len m.frames
+    some = omega (arith, m.frames.ok.0, length-frames m.frames.items, ap length split)
+
+    go : (result : Result (Unit {0}) Fault) → Takes (any_bits (run.0.position - sight.position)) a result c → TakesRun gathered limits m a g result (record m { used = used }) c h
+    go (Ok x) t = run_taken gathered limits m a g (record m { used = used }) h sight run.0 c some run.2.passed sees (run.2.gathers m outer a split refl sees).0 t
+    go (Err fault) t = step_missed limits m a a fault c (in_block m a nothing.was_live some) (not_caught_up (any_bits (run.0.position - sight.position)) a sight tt run.0 fault c (step limits (machine_shown m)) sees (any_seen sight run.0 run.2.passed) t)
+
+-- no memory for a run
+pub run_lost : (limits : Limits) (m : Machine) (a b c : Reader) → TookNothing a b → c ≡ stopped b → Misses limits m a Memory c
+run_lost limits m a b c nothing is = subst (λ (r : Reader). GoesOn a r) (sym is) (pays_both a b (stopped b) nothing.goes_on (stops_here b nothing.live).goes_on)

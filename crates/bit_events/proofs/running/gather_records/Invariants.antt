@@ -1,0 +1,14 @@
+use Rattle.std.proofs.Common.{◌≡◌, ◌-◌, ◌^◌}
+use Rattle.bit_events.specs.MachineView.{TookSome}
+use Rattle.bit_events.specs.Runs.{GathersTo}
+use Rattle.bit_events.proofs.running.gather_records.Given as goal
+
+abbrev pub invariant-loop-id : goal.invariant-loop-id
+invariant-loop-id g l = record {
+  gathers : GathersTo g.G.Gatherer.gathered l.limits l.frame l.fn.used l.fn.ahead l.fn.gatherer l.spent l.ahead l.gatherer;
+  first : l.first ≡ l.ahead.position;
+  took : TookSome g.G.Values.ValueTaker.took l.values;
+}
+
+abbrev pub decreases-loop-id : goal.decreases-loop-id
+decreases-loop-id g l = 2 ^ 64 - l.first

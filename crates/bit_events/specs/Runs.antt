@@ -1,0 +1,29 @@
+-- Gathering records that are in sight, before a reader takes them.
+use Rattle.std.specs.Prelude.{◌≡◌, ℕ, ◌+◌, ◌-◌, List, ◌∷◌, ◌++◌, Bool, length}
+use Rattle.bit_grammar.specs.Blocks.{Limits, Handed}
+use Rattle.bit_grammar.specs.Machine as machine
+use Rattle.bit_grammar.specs.Machine.{Event}
+use Rattle.bit_fields.specs.Ahead.{InSight, Sees, advanced}
+use Rattle.bit_fields.specs.Reader.{Reader}
+use Rattle.bit_events.specs.declared.frame.Frame.{Frame}
+use Rattle.bit_events.specs.declared.machine.Machine.{Machine}
+use Rattle.bit_events.specs.FrameView.{frame_shown, frames_shown}
+use Rattle.bit_events.specs.Folding.{GathersSome}
+
+-- the machine after a record with these values, in the innermost block f, which is no BLOCKINFO block
+abbrev pub after_record : machine.Frame → List machine.Frame → Handed → List ℕ → machine.Machine
+after_record f outer handed values = record { frames = f ∷ outer; handed = record { table = handed.table; used = handed.used + length values } }
+
+-- bits that were in sight first stand before what is in sight now
+abbrev pub Passed : InSight → InSight → Type 0
+Passed a b = (bits : List Bool) × (a.bits ≡ bits ++ b.bits) × (b.position ≡ a.position + length bits)
+
+-- Whatever reader sees the first and whatever machine has this innermost block, and so many values: further on events were
+-- gathered, the machine has so many values now, and the reader sees the second.
+pub record GathersTo {G : Type 0} (gathered : G → List Event → G → Type 0) (limits : Limits) (f : Frame) (used : ℕ) (a : InSight) (g : G) (now_used : ℕ) (b : InSight) (h : G) : Type 0 where
+  pub passed : Passed a b
+  pub gathers : (m : Machine) (outer : List machine.Frame) (r : Reader) → frames_shown m.frames.items ≡ frame_shown f ∷ outer → m.used ≡ used → Sees r a → GathersSome gathered limits m r g (record m { used = now_used }) (advanced r (b.position - a.position)) h × Sees (advanced r (b.position - a.position)) b
+
+-- the same, up to a bit
+abbrev pub GathersRun : {G : Type 0} → (G → List Event → G → Type 0) → Limits → Frame → (used : ℕ) → InSight → G → (now_used after : ℕ) → G → Type 0
+GathersRun gathered limits f used a g now_used after h = (b : InSight) × (b.position ≡ after) × GathersTo gathered limits f used a g now_used b h

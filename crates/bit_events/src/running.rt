@@ -1,0 +1,103 @@
+//! Gathering records that lie in memory whole, before a reader takes them.
+
+ghost use Rattle.std.specs.Prelude.{◌≡◌, ◌<◌, ◌≤◌, ◌-◌, ◌+◌, ℕ, List, [], ◌∷◌, None, IfSome, OnSome, IfOk, length};
+ghost use Rattle.bit_grammar.specs.Blocks as blocks;
+ghost use Rattle.bit_grammar.specs.Blocks.{Handed, Scope, entry};
+ghost use Rattle.bit_grammar.specs.Machine as machine;
+ghost use Rattle.bit_grammar.specs.Machine.{step_of};
+ghost use Rattle.bit_fields.specs.Ahead.{Glimpsed, reader_at};
+ghost use Rattle.bit_fields.specs.Reader.{Took};
+ghost use Rattle.bit_abbrev.specs.Values.{Has, Keeps};
+ghost use Rattle.bit_events.specs.FrameView.{frame_shown};
+ghost use Rattle.bit_events.specs.MachineView.{record_of, TookSome};
+ghost use Rattle.bit_events.specs.Runs.{GathersRun, after_record};
+
+use crate::frame::Frame;
+use crate::gatherer::Gatherer;
+use bit_abbrev::{InForce, glance_abbreviated, glance_unabbreviated};
+use bit_fields::{Ahead, Limits, ValueTaker};
+use std::alloc::AllocError;
+
+/// Reads the code and the values of a record, after its id. What takes its values has none before.
+#[inline(always)]
+fn glance_entry<V: ValueTaker>(
+    ahead: &mut Ahead<'_>,
+    definitions: &InForce,
+    room: u64,
+    values: &mut V,
+    id: u32,
+) -> Option<u64>
+    requires none { V.took values.old [] }
+    requires id { 3 ≤ id }
+    ensures glimpsed { IfSome result (λ code. Has V.took values.new (λ list. (length list ≤ room) × ((limit first : ℕ) (scope : Scope) → scope.definitions ≡ definitions.now → limit - scope.handed.used ≡ room → Took (entry limit first id scope) (reader_at ahead.old) (record { code = code; values = list }) (reader_at ahead.new)))) }
+    ensures took { TookSome V.took values.new }
+{
+    if id == 3 {
+        return glance_unabbreviated(ahead, room, values);
+    }
+    match definitions.get((id - 4) as usize) {
+        Some(abbrev) => {
+            if !abbrev.is_usable() {
+                return None;
+            }
+            glance_abbreviated(ahead, abbrev, room, values)
+        }
+        None => None,
+    }
+}
+
+/// Reads a record and its id, where the block is no BLOCKINFO block: the id and the code. The values are those of the record
+/// alone.
+#[inline(always)]
+fn glance_record<V: ValueTaker>(
+    ahead: &mut Ahead<'_>,
+    frame: &Frame,
+    room: u64,
+    values: &mut V,
+) -> Option<(u32, u64)>
+    requires took { TookSome V.took values.old }
+    requires plain { frame.now.info ≡ None }
+    ensures glimpsed { IfSome result (λ read. Has V.took values.new (λ list. (length list ≤ room) × ((limits : blocks.Limits) (outer : List machine.Frame) (handed : Handed) → limits.values - handed.used ≡ room → Glimpsed (step_of limits (frame_shown frame.now ∷ outer) handed) ahead.old (record_of read.0 list ahead.old.position (read.1, ahead.new.position), after_record (frame_shown frame.now) outer handed list) ahead.new))) }
+    ensures took { TookSome V.took values.new }
+    ensures moves { OnSome result (ahead.old.position < ahead.new.position) }
+{
+    let id = ahead.fixed(u32::from(frame.head.width))?;
+    if id < 3 {
+        return None;
+    }
+    values.truncate(0);
+    let code = glance_entry(ahead, &frame.definitions, room, values, id as u32)?;
+    Some((id as u32, code))
+}
+
+/// Gathers records of a block, as long as they are whole in sight, and answers the bit behind the last one. The block is no
+/// BLOCKINFO block.
+#[inline(always)]
+pub(crate) fn gather_records<G: Gatherer>(
+    ahead: Ahead<'_>,
+    frame: &Frame,
+    limits: &Limits,
+    used: &mut u64,
+    gatherer: &mut G,
+    values: &mut G::Values,
+) -> Result<u64, AllocError>
+    requires took { TookSome G.Values.took values.old }
+    requires plain { frame.now.info ≡ None }
+    ensures took { TookSome G.Values.took values.new }
+    ensures gathers { IfOk result (λ after. GathersRun G.gathered limits.now frame.now used.old ahead.entry gatherer.old used.new after gatherer.new) }
+{
+    let mut ahead = ahead;
+    let mut first = ahead.position();
+    let mut spent = *used;
+    loop {
+        let room = limits.values().saturating_sub(spent);
+        let Some((id, code)) = glance_record(&mut ahead, frame, room, values) else {
+            *used = spent;
+            return Ok(first);
+        };
+        let after = ahead.position();
+        spent += values.count();
+        gatherer.record(id, code, values, first, after)?;
+        first = after;
+    }
+}

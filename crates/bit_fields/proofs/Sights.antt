@@ -1,0 +1,135 @@
+-- What is read from bits that lie in a window and in bytes behind it.
+use Rattle.std.proofs.Common.{◌≡◌, ℕ, suc, ◌+◌, ◌*◌, ◌-◌, ◌%◌, ◌^◌, ◌<◌, ◌≤◌, Bool, List, [], ◌++◌, length, take, drop, Result, Ok, Err, Bor, refl, sym, ap, ◌∙◌, subst, arith, inl, inr}
+use Rattle.std.proofs.lemmas.Bool.{cases_lt}
+use Rattle.std.proofs.lemmas.List.{append-nil, length-append, length-drop, length-take-le, drop_at, take-append-drop}
+use Rattle.std.proofs.Math.Seq.{drop-append-add}
+use Rattle.bit_grammar.specs.declared.reason.Reason.TheVariants.{Truncated}
+use Rattle.bit_grammar.specs.Bits.{number, bits_of, bits_of_bytes}
+use Rattle.bit_grammar.specs.Grammar.{Fault, at, repeat, reading}
+use Rattle.bit_grammar.specs.Fields.{fixed, vbr, char6, character}
+use Rattle.bit_fields.specs.Inside.{part_of, numbers}
+use Rattle.bit_fields.specs.Reader.{Took}
+use Rattle.bit_fields.specs.Short.{EndsAt, gathered}
+use Rattle.bit_grammar.proofs.Numbers.{length-bits_of}
+use Rattle.bit_fields.specs.Sight.{told}
+use Rattle.bit_fields.specs.Ahead.{InSight, Glimpsed, reader_at, beyond}
+use Rattle.bit_fields.proofs.BitLaws.{length-bits_of_bytes, bits_of_bytes-append, drop_more}
+use Rattle.bit_fields.proofs.Parts.{part_at, part_short}
+use Rattle.bit_fields.proofs.Short.{vbr_reads}
+use Rattle.bit_fields.proofs.Chunks.{one_chunk, several_chunks, chunking_begins, Chunking}
+use Rattle.bit_fields.proofs.Skipping.{fields_whole}
+use Rattle.bit_fields.proofs.Glimpses.{glimpsed_took, took_glimpsed}
+
+-- what is in sight, by its parts
+abbrev pub sight_of : (end : ℕ) → List Bool → List ℕ → InSight
+sight_of end window bytes = record { position = end - (length window + 8 * length bytes); bits = window ++ bits_of_bytes bytes }
+
+sight_is : (p q : ℕ) (s t : List Bool) → p ≡ q → s ≡ t → ◌≡◌ {A = InSight} (record { position = p; bits = s }) (record { position = q; bits = t })
+sight_is p q s t place same = rw (place, same) refl
+
+-- bytes moved into the window
+pub same_sight : (end : ℕ) (w v : List Bool) (bytes rest : List ℕ) → v ++ bits_of_bytes rest ≡ w ++ bits_of_bytes bytes → length v ≡ length w + 32 → length bytes ≡ 4 + length rest → sight_of end v rest ≡ sight_of end w bytes
+same_sight end w v bytes rest same longer fewer = sight_is (end - (length v + 8 * length rest)) (end - (length w + 8 * length bytes)) (v ++ bits_of_bytes rest) (w ++ bits_of_bytes bytes) (omega (arith, longer, fewer)) same
+
+-- ---- fields of one part
+
+pub fixed_glimpsed : (n value : ℕ) (a b : InSight) → Glimpsed (part_of a.position n) a value b → Glimpsed (fixed n) a value b
+unfolding fixed
+fixed_glimpsed n value a b seen = seen
+
+pub char6_glimpsed : (code value : ℕ) (a b : InSight) → Glimpsed (part_of a.position 6) a code b → value ≡ character code → Glimpsed char6 a value b
+unfolding char6 fixed
+char6_glimpsed code value a b seen is = rw (seen, is) refl
+
+-- ---- numbers in chunks
+
+pub part_glimpsed : (n start end : ℕ) (w : List Bool) (bytes : List ℕ) → n ≤ length w → length w + 8 * length bytes ≤ end → Glimpsed (part_of start n) (sight_of end w bytes) (number (take n w)) (sight_of end (drop n w) bytes)
+part_glimpsed n start end w bytes there fits =
+    let place : end - (length w + 8 * length bytes) + n ≡ end - (length (drop n w) + 8 * length bytes) = omega (arith, length-drop n w) in
+    part_at n start (end - (length w + 8 * length bytes)) w (bits_of_bytes bytes) there ∙ ap (λ (q : ℕ). Ok (number (take n w), q, drop n w ++ bits_of_bytes bytes)) place
+
+pub one_glimpsed : (n end chunk : ℕ) (a : InSight) (w after : List Bool) (bytes : List ℕ) → sight_of end w bytes ≡ a → 2 ≤ n → n ≤ 32 → n ≤ length w → length w + 8 * length bytes ≤ end → chunk ≡ number (take n w) → chunk < 2 ^ (n - 1) → after ≡ drop n w → Glimpsed (vbr n) a chunk (sight_of end after bytes)
+one_glimpsed n end chunk a w after bytes is two few there fits chunk_is last after_is =
+    let seen : Glimpsed (part_of a.position n) a chunk (sight_of end after bytes) = rw (after_is, chunk_is, ← is) (part_glimpsed n (end - (length w + 8 * length bytes)) end w bytes there fits) in
+    let on : a.position ≤ (sight_of end after bytes).position = rw (after_is, ← is) (omega (arith, length-drop n w)) in
+    took_glimpsed (vbr n) a chunk (sight_of end after bytes) (one_chunk n a.position (reader_at a) chunk (reader_at (sight_of end after bytes)) two few refl last (glimpsed_took (part_of a.position n) a chunk (sight_of end after bytes) seen on))
+
+pub few_glimpsed : (n bits end value : ℕ) (a : InSight) (w after : List Bool) (bytes : List ℕ) → sight_of end w bytes ≡ a → 2 ≤ n → n ≤ 14 → EndsAt n bits (number w) → bits ≤ length w → length w + 8 * length bytes ≤ end → ((count : ℕ) → count ≤ 4 → bits ≡ n * count → value ≡ gathered (n - 1) count (number w)) → after ≡ drop bits w
+    → Glimpsed (vbr n) a value (sight_of end after bytes)
+few_glimpsed n bits end value a w after bytes is two narrow at_bits there fits value_is after_is =
+    let width : n ≡ suc (n - 1) = omega (arith, two) in
+    let all : n * at_bits.0 ≤ length w = omega (arith, at_bits.2, there) in
+    let read : reading (vbr n) (end - (length w + 8 * length bytes)) (w ++ bits_of_bytes bytes) ≡ Ok (gathered (n - 1) at_bits.0 (number w), end - (length w + 8 * length bytes) + n * at_bits.0, drop (n * at_bits.0) w ++ bits_of_bytes bytes) =
+    subst (λ (m : ℕ). reading (vbr m) (end - (length w + 8 * length bytes)) (w ++ bits_of_bytes bytes) ≡ Ok (gathered (n - 1) at_bits.0 (number w), end - (length w + 8 * length bytes) + m * at_bits.0, drop (m * at_bits.0) w ++ bits_of_bytes bytes)) (sym width)
+    (vbr_reads (n - 1) at_bits.0 (end - (length w + 8 * length bytes)) w (bits_of_bytes bytes) (omega (arith, two)) (omega (arith, narrow)) at_bits.1 at_bits.3 (subst (λ (m : ℕ). m * at_bits.0 ≤ length w) width all)) in
+    let gone : after ≡ drop (n * at_bits.0) w = after_is ∙ ap (λ (k : ℕ). drop k w) at_bits.2 in
+    let place : end - (length w + 8 * length bytes) + n * at_bits.0 ≡ end - (length (drop (n * at_bits.0) w) + 8 * length bytes) = omega (arith, length-drop (n * at_bits.0) w) in
+    rw (gone, value_is at_bits.0 at_bits.1 at_bits.2, ← is, ← place) read
+
+-- the first chunk says that others follow
+pub chunking_goes_on : (n : ℕ) (a b : InSight) (chunk payload : ℕ) → 2 ≤ n → n ≤ 32 → 2 ^ (n - 1) ≤ chunk → payload ≡ chunk % 2 ^ (n - 1) → payload < 2 ^ (n - 1) → a.position ≤ b.position → Glimpsed (part_of a.position n) a chunk b → Chunking (n - 1) a.position (vbr n) (reader_at a) (reader_at b) (n - 1) payload
+chunking_goes_on n a b chunk payload two few goes is below on seen =
+    let took : Took (part_of a.position n) (reader_at a) chunk (reader_at b) = glimpsed_took (part_of a.position n) a chunk b seen on in
+    let so = chunking_begins (n - 1) a.position payload (reader_at b) (omega (arith, two)) refl on below in
+    record {
+      most = so.most;
+      count = so.count;
+      below = so.below;
+      positive = so.positive;
+      live = refl;
+      ahead = on;
+      rest = λ result c t. several_chunks n a.position (reader_at a) chunk payload (reader_at b) result c two few refl goes is took (so.rest result c t);
+    }
+
+-- ---- bits that nobody looks at
+
+answer_of : (x y : ℕ × ℕ × List Bool) → ◌≡◌ {A = Result (ℕ × ℕ × List Bool) Fault} (Ok x) (Ok y) → (x.1 ≡ y.1) × (x.2 ≡ y.2)
+answer_of x y e = (cc, cc)
+
+no_answer : (fault : Fault) (x : ℕ × ℕ × List Bool) → ◌≡◌ {A = Result (ℕ × ℕ × List Bool) Fault} (Err fault) (Ok x) → ⊥
+no_answer fault x e = cc
+
+-- what is left behind a part
+part_passed : (n start value : ℕ) (a b : InSight) → Glimpsed (part_of start n) a value b → (n ≤ length a.bits) × (b ≡ beyond a n)
+part_passed n start value a b seen = elim (cases_lt (length a.bits) n) [
+  | inl short ↦ absurd (no_answer (at Truncated start) (value, b.position, b.bits) (sym (part_short n start a.position a.bits short) ∙ seen))
+  | inr there ↦
+      let none : drop n a.bits ++ [] ≡ drop n a.bits = append-nil (drop n a.bits) in
+      let whole : reading (part_of start n) a.position (a.bits ++ []) ≡ Ok (number (take n a.bits), a.position + n, drop n a.bits ++ []) = part_at n start a.position a.bits [] there in
+      let read = ap (reading (part_of start n) a.position) (append-nil a.bits) in
+      let e = answer_of (number (take n a.bits), a.position + n, drop n a.bits ++ []) (value, b.position, b.bits) (sym whole ∙ read ∙ seen) in
+      (there, sight_is b.position (a.position + n) b.bits (drop n a.bits) (sym e.0) (sym e.1 ∙ none))
+]
+
+bytes_dropped : (count : ℕ) (bytes : List ℕ) → count ≤ length bytes → bits_of_bytes (drop count bytes) ≡ drop (8 * count) (bits_of_bytes bytes)
+bytes_dropped count bytes few =
+    let parts : bits_of_bytes bytes ≡ bits_of_bytes (take count bytes) ++ bits_of_bytes (drop count bytes) = ap bits_of_bytes (sym (take-append-drop count bytes)) ∙ bits_of_bytes-append (take count bytes) (drop count bytes) in
+    sym (ap (drop (8 * count)) parts ∙ drop_at (bits_of_bytes (take count bytes)) (bits_of_bytes (drop count bytes)) (8 * count) (omega (arith, length-bits_of_bytes (take count bytes), length-take-le count bytes few)))
+
+-- the window, whole bytes and a part of a byte were passed
+pub far_passed : (end bits behind whole rest value : ℕ) (a : InSight) (w : List Bool) (bytes after : List ℕ) (b : InSight) → sight_of end w bytes ≡ a → length w + 8 * length bytes ≤ end → bits ≡ length w + behind → behind ≡ 8 * whole + rest → whole ≤ length bytes → after ≡ drop whole bytes
+    → Glimpsed (part_of 0 rest) (sight_of end [] after) value b → (bits ≤ length a.bits) × (b ≡ beyond a bits)
+far_passed end bits behind whole rest value a w bytes after b is fits all parts few after_is seen =
+    let p = part_passed rest 0 value (sight_of end [] after) b seen in
+    let len : length after ≡ length bytes - whole = ap length after_is ∙ length-drop whole bytes in
+    let total : length (w ++ bits_of_bytes bytes) ≡ length w + 8 * length bytes = omega (arith, length-append w (bits_of_bytes bytes), length-bits_of_bytes bytes) in
+    let there : rest ≤ 8 * length after = omega (arith, p.0, length-bits_of_bytes after) in
+    let place : end - (length {A = Bool} [] + 8 * length after) + rest ≡ end - (length w + 8 * length bytes) + bits = omega (arith, len, all, parts, few, fits, there) in
+    let gone : bits ≡ length w + (8 * whole + rest) = omega (arith, all, parts) in
+    let left : drop rest ([] ++ bits_of_bytes after) ≡ drop bits (w ++ bits_of_bytes bytes) =
+    ap (λ (s : List ℕ). drop rest (bits_of_bytes s)) after_is ∙ ap (drop rest) (bytes_dropped whole bytes few) ∙ drop_more (8 * whole) rest (bits_of_bytes bytes) ∙ sym (drop-append-add w (bits_of_bytes bytes) (8 * whole + rest)) ∙ ap (λ (k : ℕ). drop k (w ++ bits_of_bytes bytes)) (sym gone) in
+    rw (← is) (omega (arith, total, len, all, parts, few, there), p.1 ∙ sight_is (end - (length {A = Bool} [] + 8 * length after) + rest) (end - (length w + 8 * length bytes) + bits) (drop rest ([] ++ bits_of_bytes after)) (drop bits (w ++ bits_of_bytes bytes)) place left)
+
+pub fields_glimpsed : (n count bits : ℕ) (a b : InSight) → bits ≡ count * n → bits ≤ length a.bits → b ≡ beyond a bits → Glimpsed (repeat count (fixed n)) a (numbers n count a.bits) b
+fields_glimpsed n count bits a b all there is =
+    let e : bits ≡ n * count = omega (arith, all) in
+    rw (is, e) (fields_whole n count a.position a.bits (omega (arith, there, e)))
+
+-- ---- what was lent
+
+pub sight_told : (word held position end : ℕ) (window : List Bool) (bytes : Bor (List ℕ)) → window ≡ bits_of held word → end ≡ position + (held + 8 * length bytes.now) → sight_of end window bytes.now ≡ told (record { word = word; held = held; bytes = bytes; position = position })
+sight_told word held position end window bytes is end_is =
+    sight_is (end - (length window + 8 * length bytes.now)) position (window ++ bits_of_bytes bytes.now) (bits_of held word ++ bits_of_bytes bytes.now) (omega (arith, end_is, ap length is, length-bits_of held word)) (ap (λ (w : List Bool). w ++ bits_of_bytes bytes.now) is)
+
+pub sight_fits : (word held position end : ℕ) (window : List Bool) (bytes : List ℕ) → window ≡ bits_of held word → end ≡ position + (held + 8 * length bytes) → length window + 8 * length bytes ≤ end
+sight_fits word held position end window bytes is end_is = omega (arith, end_is, ap length is, length-bits_of held word)

@@ -1,0 +1,281 @@
+ghost use Rattle.std.specs.Prelude.{ℕ, ◌≡◌, ◌+◌, ◌*◌, ◌-◌, ◌<◌, ◌≤◌, ◌^◌, ◌++◌, length, drop, IfSome, OnSome, MatchOption, IfNone};
+ghost use Rattle.bit_grammar.specs.Bits.{bits_of_bytes};
+ghost use Rattle.bit_grammar.specs.Grammar.{repeat};
+ghost use Rattle.bit_grammar.specs.Fields.{fixed, vbr, char6};
+ghost use Rattle.bit_fields.specs.Inside.{part_of, numbers};
+ghost use Rattle.bit_fields.specs.Ahead.{Glimpsed, beyond};
+ghost use Rattle.bit_fields.specs.Sight.{told, IsSight};
+
+use crate::reader::{MOST_SHORT, character, payload_of, placed};
+use crate::window::Window;
+use crate::word::four_of;
+use std::marker::Model;
+
+/// Bits of a stream that lie in memory, as a reader lends them: those of a word, so many, and those of bytes behind it, from
+/// a position on.
+#[derive(Clone, Copy)]
+pub struct Sight<'a> {
+    pub(crate) word: u64,
+    pub(crate) held: u32,
+    pub(crate) bytes: &'a [u8],
+    pub(crate) position: u64,
+}
+
+/// Bits of a stream that lie in memory, from the bit at which a reader stands, and that it has not taken. Fields are read from
+/// here in a few instructions each, and the reader then takes their bits by `BitReader::catch_up`.
+///
+/// `None` refuses nothing: it says that a field is not to be had here, since bits are missing or since it is long or odd,
+/// and the reader itself has to read it. What is in sight is then not to be used any more.
+#[derive(Drop)]
+pub struct Ahead<'a> {
+    window: Window,
+    /// Those behind the window.
+    bytes: &'a [u8],
+    /// The position behind them.
+    end: u64,
+}
+
+impl<'a> Model for Ahead<'a> {
+    ghost use Rattle.std.specs.Prelude.{◌+◌, ◌*◌, ◌-◌, ◌≤◌, ◌++◌, length};
+    ghost use Rattle.bit_grammar.specs.Bits.{bits_of_bytes};
+    ghost use Rattle.bit_fields.specs.Ahead.{InSight};
+
+    ghost Value = { InSight };
+
+    ghost view = { λ a. record { position = a.end - (length a.window + 8 * length a.bytes.now); bits = a.window ++ bits_of_bytes a.bytes.now } };
+
+    ghost invariant = { λ a. length a.window + 8 * length a.bytes.now ≤ a.end };
+}
+
+impl<'a> Ahead<'a> {
+    /// What is in sight.
+    #[inline(always)]
+    pub fn new(sight: Sight<'a>) -> Ahead<'a>
+        requires { IsSight sight }
+        ensures { result ≡ told sight.entry }
+    {
+        let end = sight.position + (u64::from(sight.held) + 8 * sight.bytes.len() as u64);
+        Ahead {
+            window: Window::of(sight.word, sight.held),
+            bytes: sight.bytes,
+            end,
+        }
+    }
+
+    /// The bit at which what is in sight begins, counted from the first bit of the input.
+    #[inline(always)]
+    pub fn position(&self) -> u64
+        ensures { result ≡ self.now.position }
+    {
+        self.end - (u64::from(self.window.len()) + 8 * self.bytes.len() as u64)
+    }
+
+    /// Takes n bits, which are a part of a field.
+    #[inline(always)]
+    fn part(&mut self, n: u32) -> Option<u64>
+        requires { n ≤ 32 }
+        ensures glimpsed { IfSome result (λ value. (start : ℕ) → Glimpsed (part_of start n) self.old value self.new) }
+        ensures below { IfSome result (λ value. value < 2 ^ n) }
+        ensures moves { OnSome result (self.new.position ≡ self.old.position + n) }
+    {
+        if self.window.len() < n {
+            self.bytes = load(&mut self.window, self.bytes)?;
+        }
+        Some(self.window.take(n))
+    }
+
+    /// Reads a number of n bits, n from 1 to 32, the lowest bit first. Source: "Fixed Width Integers".
+    #[inline(always)]
+    pub fn fixed(&mut self, n: u32) -> Option<u64>
+        requires some { 0 < n }
+        requires few { n ≤ 32 }
+        ensures glimpsed { IfSome result (λ value. Glimpsed (fixed n) self.old value self.new) }
+        ensures below { IfSome result (λ value. value < 2 ^ n) }
+        ensures moves { OnSome result (self.new.position ≡ self.old.position + n) }
+    {
+        let value = self.part(n)?;
+        Some(value)
+    }
+
+    /// Reads a character in six bits and answers its ASCII code. Source: "6-bit characters".
+    #[inline(always)]
+    pub fn char6(&mut self) -> Option<u64>
+        ensures glimpsed { IfSome result (λ value. Glimpsed char6 self.old value self.new) }
+        ensures moves { OnSome result (self.new.position ≡ self.old.position + 6) }
+    {
+        let code = self.part(6)?;
+        Some(character(code))
+    }
+
+    /// Reads a number in chunks of n bits, n from 2 to 32. Source: "Variable Width Integers".
+    #[inline(always)]
+    pub fn vbr(&mut self, n: u32) -> Option<u64>
+        requires some { 2 ≤ n }
+        requires few { n ≤ 32 }
+        ensures glimpsed { IfSome result (λ value. Glimpsed (vbr n) self.old value self.new) }
+        ensures moves { OnSome result (self.old.position + n ≤ self.new.position) }
+    {
+        if let Some(value) = self.one_chunk(n) {
+            return Some(value);
+        }
+        if let Some(value) = self.few_chunks(n) {
+            return Some(value);
+        }
+        let (ahead, value) = self.copy().far_vbr(n)?;
+        *self = ahead;
+        Some(value)
+    }
+
+    /// Takes a number of one chunk of n bits. Most are such.
+    #[inline(always)]
+    fn one_chunk(&mut self, n: u32) -> Option<u64>
+        requires some { 2 ≤ n }
+        requires few { n ≤ 32 }
+        ensures glimpsed { MatchOption result (self.new ≡ self.old) (λ value. Glimpsed (vbr n) self.old value self.new) }
+        ensures moves { OnSome result (self.new.position ≡ self.old.position + n) }
+    {
+        if self.window.len() < n {
+            self.bytes = load(&mut self.window, self.bytes)?;
+        }
+        if self.window.peek(n) >= 1 << (n - 1) {
+            return None;
+        }
+        Some(self.window.take(n))
+    }
+
+    /// Takes a number in chunks of n bits, where it takes at most four of them and they are all in the window.
+    #[inline(always)]
+    fn few_chunks(&mut self, n: u32) -> Option<u64>
+        requires some { 2 ≤ n }
+        requires few { n ≤ 32 }
+        ensures glimpsed { MatchOption result (self.new ≡ self.old) (λ value. Glimpsed (vbr n) self.old value self.new) }
+        ensures moves { OnSome result (self.old.position + n ≤ self.new.position) }
+    {
+        if n > MOST_SHORT {
+            return None;
+        }
+        let bits = self.window.number_bits(n);
+        if bits > self.window.len() {
+            return None;
+        }
+        Some(self.window.take_number(n, bits))
+    }
+
+    /// Reads a number in chunks of n bits that is not whole in the window, or takes more than four chunks. It takes what is
+    /// ahead by value, so that its callers keep that in registers.
+    #[cold]
+    #[inline(never)]
+    fn far_vbr(self, n: u32) -> Option<(Ahead<'a>, u64)>
+        requires some { 2 ≤ n }
+        requires few { n ≤ 32 }
+        ensures glimpsed { IfSome result (λ read. Glimpsed (vbr n) self.entry read.1 read.0) }
+        ensures moves { IfSome result (λ read. self.entry.position + n ≤ read.0.position) }
+    {
+        let mut ahead = self;
+        ahead.fill();
+        if let Some(value) = ahead.few_chunks(n) {
+            return Some((ahead, value));
+        }
+        let value = ahead.chunk_by_chunk(n)?;
+        Some((ahead, value))
+    }
+
+    /// Puts more bytes into the window, where there is room for them and they are there.
+    fn fill(&mut self)
+        ensures { self.new ≡ self.old }
+    {
+        if self.window.len() <= 32 {
+            if let Some(rest) = load(&mut self.window, self.bytes) {
+                self.bytes = rest;
+            }
+        }
+    }
+
+    /// Reads a number in chunks of n bits, chunk by chunk.
+    fn chunk_by_chunk(&mut self, n: u32) -> Option<u64>
+        requires some { 2 ≤ n }
+        requires few { n ≤ 32 }
+        ensures glimpsed { IfSome result (λ value. Glimpsed (vbr n) self.old value self.new) }
+        ensures moves { OnSome result (self.old.position + n ≤ self.new.position) }
+    {
+        let chunk = self.part(n)?;
+        if chunk < 1 << (n - 1) {
+            return Some(chunk);
+        }
+        let mut value = payload_of(chunk, n);
+        let mut place = n - 1;
+        while place < 64 {
+            let chunk = self.part(n)?;
+            value += placed(payload_of(chunk, n), place)?;
+            if chunk < 1 << (n - 1) {
+                return Some(value);
+            }
+            place += n - 1;
+        }
+        None
+    }
+
+    /// Skips so many fields of n bits, n from 1 to 32, whatever they are.
+    #[inline(always)]
+    pub fn skip_fixed(&mut self, count: u64, n: u32) -> Option<()>
+        requires some { 0 < n }
+        requires few { n ≤ 32 }
+        requires fits { count < 2 ^ 32 }
+        ensures glimpsed { OnSome result (Glimpsed (repeat count (fixed n)) self.old (numbers n count self.old.bits) self.new) }
+        ensures moves { OnSome result (self.new.position ≡ self.old.position + n * count) }
+    {
+        self.skip(count * u64::from(n))?;
+        Some(())
+    }
+
+    /// Skips so many bits.
+    #[inline(always)]
+    fn skip(&mut self, bits: u64) -> Option<()>
+        ensures there { OnSome result (bits ≤ length self.old.bits) }
+        ensures skipped { OnSome result (self.new ≡ beyond self.old bits) }
+        ensures moves { OnSome result (self.new.position ≡ self.old.position + bits) }
+    {
+        let held = u64::from(self.window.len());
+        if bits < held {
+            self.window.split(bits as u32);
+            return Some(());
+        }
+        let behind = bits - held;
+        let whole = behind / 8;
+        if whole > self.bytes.len() as u64 {
+            return None;
+        }
+        self.window = Window::new();
+        self.bytes = &self.bytes[whole as usize..];
+        self.part((behind % 8) as u32)?;
+        Some(())
+    }
+
+    /// The same once more.
+    #[inline(always)]
+    fn copy(&self) -> Ahead<'a>
+        ensures { result ≡ self.now }
+    {
+        Ahead {
+            window: self.window.copy(),
+            bytes: self.bytes,
+            end: self.end,
+        }
+    }
+}
+
+/// Puts the next four bytes into a window, and answers those behind them.
+#[inline(always)]
+fn load<'a>(window: &mut Window, bytes: &'a [u8]) -> Option<&'a [u8]>
+    requires { length window.old ≤ 32 }
+    ensures same { IfSome result (λ rest. window.new ++ bits_of_bytes rest.now ≡ window.old ++ bits_of_bytes bytes.now) }
+    ensures longer { OnSome result (length window.new ≡ length window.old + 32) }
+    ensures fewer { IfSome result (λ rest. length bytes.now ≡ 4 + length rest.now) }
+    ensures none { IfNone result (window.new ≡ window.old) }
+{
+    if bytes.len() < 4 {
+        return None;
+    }
+    window.push(four_of(bytes), 32);
+    Some(&bytes[4..])
+}
