@@ -266,7 +266,7 @@ fn glance_record<V: ValueTaker>(
     ensures keeps { Keeps V.took values.old values.new }
 {
     let [first, others @ ..] = ops else {
-        return None;
+        unreachable!();
     };
     if !have_room(others, room) {
         return None;

@@ -36,7 +36,12 @@ fn glance_entry<V: ValueTaker>(
         return glance_unabbreviated(ahead, room, values);
     }
     match definitions.get((id - 4) as usize) {
-        Some(abbrev) => glance_abbreviated(ahead, abbrev, room, values),
+        Some(abbrev) => {
+            if !abbrev.is_usable() {
+                return None;
+            }
+            glance_abbreviated(ahead, abbrev, room, values)
+        }
         None => None,
     }
 }
