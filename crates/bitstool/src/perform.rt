@@ -10,8 +10,8 @@ ghost use Rattle.bitstool.specs.Runs.{Does};
 use crate::outcome::Outcome;
 use crate::task::Task;
 use bit_events::check;
-use bit_fields::{BufSource, Fault, Limits, Sink, SliceSource, Source, WriteSink};
-use bit_norm::{Which, normalise, same};
+use bit_fields::{BufSource, Fault, Limits, Sink, Source, WriteSink};
+use bit_norm::{Which, normalise, same_as};
 use bit_scan::{analyse, write_show};
 use bit_tree::Info;
 use std::alloc::Global;
@@ -103,7 +103,7 @@ fn compare_with<S: Source>(
 ) -> (Outcome, S)
     ensures { ComparesWith info limits first.now (S.incoming rest).to_come result.0 }
 {
-    let (answer, _, rest) = same(alloc, SliceSource::new(first), rest, limits, info);
+    let (answer, rest) = same_as(alloc, first, rest, limits, info);
     match answer {
         Ok(true) => (Outcome::Done, rest),
         Ok(false) => (Outcome::Different, rest),
