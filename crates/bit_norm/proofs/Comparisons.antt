@@ -11,14 +11,15 @@ use Rattle.bit_grammar.specs.Grammar as grammar
 use Rattle.bit_grammar.specs.Normal.{Capped}
 use Rattle.bit_grammar.specs.Outlook.{outlook}
 use Rattle.bit_fields.specs.declared.fault.Fault.{Fault}
-use Rattle.bit_events.specs.Reading.{Spent}
+use Rattle.bit_fields.specs.declared.fault.Fault.TheVariants.{Refused, Read, Write, Memory, OutputTooLong, Failed}
+use Rattle.bit_events.specs.Reading.{Spent, ReadsWhole}
 use Rattle.bit_tree.specs.Reading.{HasFit}
 use Rattle.bit_grammar.proofs.Settings.{fit_of_setting}
 use Rattle.bit_grammar.proofs.Telling.{told_if_spelled}
 use Rattle.bit_fields.specs.Devices.{Incoming, known_bytes}
 use Rattle.bit_events.specs.Coming.{Coming, Tells}
 use Rattle.bit_norm.specs.Signs.{signs}
-use Rattle.bit_norm.specs.Whole.{ReadsTree, Misreads, Compares}
+use Rattle.bit_norm.specs.Whole.{ReadsTree, Misreads, Compares, source_of, ComparesBytes}
 use Rattle.bit_norm.specs.InStep.{Tallied, Finishes, ReadBeside, NotRead, ComparesWith}
 use Rattle.bit_norm.specs.declared.comparing.Which.{Which}
 use Rattle.bit_norm.specs.declared.comparing.Which.TheVariants.{First, Second}
@@ -133,3 +134,24 @@ misread info limits i now j later bytes Second fault capped kept none = let firs
 pub compares : (info : Info) (limits : Limits) (i now j later : Incoming) (bytes : List ℕ) (answer : Result Bool SameFault) → Capped limits → Kept limits i now bytes → ComparesWith info limits bytes j answer later → Compares info limits i j answer now later
 compares info limits i now j later bytes (Ok same) capped kept read = both_read info limits i now j later bytes same capped kept read
 compares info limits i now j later bytes (Err e) capped kept none = misread info limits i now j later bytes e.which e.fault capped kept none
+
+-- the first was in memory
+pub compares_bytes : (info : Info) (limits : Limits) (bytes : List ℕ) (i now j later : Incoming) (checked : Unit {0}) (answer : Result Bool SameFault) → Capped limits → i ≡ source_of bytes → now.failures ≡ 0
+    → ReadsWhole (λ (all : List ℕ) (_ : Unit {0}). (m : Marked) × SpellsInput limits all m) limits i (Ok checked) now → ComparesWith info limits bytes j answer later → ComparesBytes info limits bytes j answer later
+compares_bytes info limits bytes i now j later checked answer capped is never read compared =
+    let whole = subst (λ (s : Incoming). ReadsWhole (λ (all : List ℕ) (_ : Unit {0}). (m : Marked) × SpellsInput limits all m) limits s (Ok checked) now) is read in
+    (now, never, compares info limits (source_of bytes) now j later bytes answer capped (whole.0, λ tells. let found = whole.1 tells in ((refl, found.0), found.1)) compared)
+
+misread_first : (info : Info) (limits : Limits) (i now j : Incoming) (fault : Fault) → ReadsWhole (λ (all : List ℕ) (_ : Unit {0}). (m : Marked) × SpellsInput limits all m) limits i (Err fault) now → Compares info limits i j (Err (record { which = First; fault = fault })) now j
+misread_first info limits i now j (Refused reason bit) read = (read, refl)
+misread_first info limits i now j Read read = (read, refl)
+misread_first info limits i now j Memory read = (read, refl)
+misread_first info limits i now j Write read = absurd read
+misread_first info limits i now j OutputTooLong read = absurd read
+misread_first info limits i now j Failed read = absurd read
+
+-- it was not accepted
+pub bytes_misread : (info : Info) (limits : Limits) (bytes : List ℕ) (i now j : Incoming) (fault : Fault) → i ≡ source_of bytes → now.failures ≡ 0 → ReadsWhole (λ (all : List ℕ) (_ : Unit {0}). (m : Marked) × SpellsInput limits all m) limits i (Err fault) now
+    → ComparesBytes info limits bytes j (Err (record { which = First; fault = fault })) j
+bytes_misread info limits bytes i now j fault is never read =
+    (now, never, misread_first info limits (source_of bytes) now j fault (subst (λ (s : Incoming). ReadsWhole (λ (all : List ℕ) (_ : Unit {0}). (m : Marked) × SpellsInput limits all m) limits s (Err fault) now) is read))

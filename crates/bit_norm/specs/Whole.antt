@@ -1,5 +1,5 @@
 -- What the calls on whole inputs do.
-use Rattle.std.specs.Prelude.{◌≡◌, ◌↔◌, ℕ, Bool, IsTrue, Result, Ok, Err}
+use Rattle.std.specs.Prelude.{◌≡◌, ◌↔◌, ℕ, Bool, IsTrue, List, [], Some, Result, Ok, Err}
 use Rattle.bit_grammar.specs.declared.info.Info.{Info}
 use Rattle.bit_grammar.specs.Forest.{Tree}
 use Rattle.bit_grammar.specs.Blocks.{Limits}
@@ -50,3 +50,11 @@ Misreads info limits Second fault i j now later = (a : Tree) × ReadsTree info l
 abbrev pub Compares : Info → Limits → (i j : Incoming) → Result Bool SameFault → (now later : Incoming) → Type 0
 Compares info limits i j (Ok answer) now later = (a : Tree) × (b : Tree) × ReadsTree info limits i (Ok a) now × ReadsTree info limits j (Ok b) later × (IsTrue answer ↔ (a ≡ b))
 Compares info limits i j (Err e) now later = Misreads info limits e.which e.fault i j now later
+
+-- a source of bytes that was asked for nothing yet
+abbrev pub source_of : List ℕ → Incoming
+source_of bytes = record { to_come = Some bytes; pulls = 0; failures = 0; accounts = [] }
+
+-- such a source, which never failed, and another one were compared
+abbrev pub ComparesBytes : Info → Limits → (bytes : List ℕ) → (j : Incoming) → Result Bool SameFault → (later : Incoming) → Type 0
+ComparesBytes info limits bytes j answer later = (now : Incoming) × (now.failures ≡ 0) × Compares info limits (source_of bytes) j answer now later

@@ -1,9 +1,9 @@
 ghost use Rattle.std.specs.Prelude.{◌≡◌};
-ghost use Rattle.bit_norm.specs.Whole.{Compares};
+ghost use Rattle.bit_norm.specs.Whole.{Compares, ComparesBytes};
 
 use crate::in_step::compare_with;
-use bit_events::check_keeping;
-use bit_fields::{Fault, Limits, Source};
+use bit_events::{check, check_keeping};
+use bit_fields::{Fault, Limits, SliceSource, Source};
 use bit_tree::Info;
 use std::alloc::Global;
 use std::fmt;
@@ -64,4 +64,23 @@ pub fn same<A: Source, B: Source>(
     };
     let (answer, b) = compare_with(alloc, &first, b, limits, info);
     (answer, a, b)
+}
+
+/// The same of bytes and an input: what `same` says of a source of these bytes, which are not copied.
+pub fn same_as<B: Source>(
+    alloc: Global,
+    first: &[u8],
+    b: B,
+    limits: Limits,
+    info: Info,
+) -> (Result<bool, SameFault>, B)
+    ensures { ComparesBytes info limits first.now (B.incoming b) result.0 (B.incoming result.1) }
+{
+    // Trees are fit since limits are within their caps.
+    let _bytes = limits.bytes();
+    let (checked, _) = check(alloc, SliceSource::new(first), limits);
+    match checked {
+        Ok(()) => compare_with(alloc, first, b, limits, info),
+        Err(fault) => (Err(faulty(Which::First, fault)), b),
+    }
 }

@@ -19,7 +19,7 @@ mod writing;
 
 pub use bit_grammar::{normal_once, normal_spelled};
 pub use bit_tree::Info;
-pub use comparing::{SameFault, Which, same};
+pub use comparing::{SameFault, Which, same, same_as};
 pub use lengths::normal_len;
 pub use normalising::normalise;
 pub use writing::write_normal;

@@ -3,20 +3,13 @@
 use crate::fault_tests::{agrees, told_of_fault};
 use crate::input_tests::{Cuts, bytes_of};
 use crate::tests::within;
-use crate::{Info, SameFault, Which, same};
+use crate::{Info, SameFault, Which, same, same_as};
 use bit_fields::{Fault, Limits, Reason, SliceSource, Source};
 use std::alloc::{AllocError, Global};
 use std::process::Abort;
 
-/// What is answered of two inputs, as text; where memory was refused there is none.
-fn told<A: Source + Drop, B: Source + Drop>(
-    alloc: Global,
-    a: A,
-    b: B,
-    limits: Limits,
-    info: Info,
-) -> Result<String, AllocError> {
-    let (answer, _, _) = same(alloc, a, b, limits, info);
+/// An answer as text; where memory was refused there is none.
+fn text_of(alloc: Global, answer: Result<bool, SameFault>) -> Result<String, AllocError> {
     match answer {
         Ok(are_same) => are_same.to_string(alloc),
         Err(
@@ -29,15 +22,30 @@ fn told<A: Source + Drop, B: Source + Drop>(
     }
 }
 
+/// What is answered of two inputs, as text.
+fn told<A: Source + Drop, B: Source + Drop>(
+    alloc: Global,
+    a: A,
+    b: B,
+    limits: Limits,
+    info: Info,
+) -> Result<String, AllocError> {
+    let (answer, _, _) = same(alloc, a, b, limits, info);
+    text_of(alloc, answer)
+}
+
+/// What is answered of bytes and an input, as text.
+fn told_as(alloc: Global, a: &[u8], b: &[u8], info: Info) -> Result<String, AllocError> {
+    let (answer, _) = same_as(alloc, a, SliceSource::new(b), Limits::usual(), info);
+    text_of(alloc, answer)
+}
+
 /// This is told of two inputs.
 fn is_told(rt: &impl Abort, alloc: Global, a: &[u8], b: &[u8], info: Info, wanted: &str) {
-    let (a, b) = (SliceSource::new(a), SliceSource::new(b));
-    agrees(
-        rt,
-        told(alloc, a, b, Limits::usual(), info),
-        wanted,
-        "two inputs",
-    );
+    let (first, second) = (SliceSource::new(a), SliceSource::new(b));
+    let told = told(alloc, first, second, Limits::usual(), info);
+    agrees(rt, told, wanted, "two inputs");
+    agrees(rt, told_as(alloc, a, b, info), wanted, "bytes and an input");
 }
 
 /// This is told of two inputs, and this the other way round.

@@ -10,8 +10,8 @@ use crate::devices::{Flush, put_all};
 use crate::outcome::Outcome;
 use crate::task::Task;
 use bit_events::check;
-use bit_fields::{Fault, Limits, Sink, SliceSource, Source};
-use bit_norm::{Which, normalise, same};
+use bit_fields::{Fault, Limits, Sink, Source};
+use bit_norm::{Which, normalise, same_as};
 use bit_scan::{analyse, write_show};
 use bit_tree::Info;
 use std::alloc::Global;
@@ -88,7 +88,7 @@ fn compare_with<S: Source>(
     ensures found { ComparesWith info limits first.now (S.incoming rest).to_come result.0 }
     ensures taken { TakesRest limits (S.incoming rest) (S.incoming result.1) result.0 }
 {
-    let (answer, _, rest) = same(alloc, SliceSource::new(first), rest, limits, info);
+    let (answer, rest) = same_as(alloc, first, rest, limits, info);
     match answer {
         Ok(true) => (Outcome::Done, rest),
         Ok(false) => (Outcome::Different, rest),
