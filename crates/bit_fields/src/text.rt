@@ -74,7 +74,7 @@ impl BitText {
         requires room { length self.old < 2 ^ 63 }
         ensures { OnOk result (self.new ≡ self.old ++ bits_of n value) }
     {
-        make_room(&mut self.words, &mut self.window)?;
+        make_room(&mut self.words, &mut self.window, n)?;
         self.window.push(value, n);
         self.len += u64::from(n);
         Ok(())
@@ -198,19 +198,21 @@ fn move_word(words: &mut Words, window: &mut Window) -> Result<(), AllocError>
     Ok(())
 }
 
-/// Moves the first 32 bits behind words to the words where 32 more would not fit.
+/// Moves whole words behind words to the words where n more bits would fill the window.
 #[inline(always)]
-fn make_room(words: &mut Words, window: &mut Window) -> Result<(), AllocError>
+fn make_room(words: &mut Words, window: &mut Window, n: u32) -> Result<(), AllocError>
+    requires { n ≤ 32 }
     ensures same { bits_of_words words.new ++ window.new ≡ bits_of_words words.old ++ window.old }
-    ensures few { OnOk result (length window.new ≤ 32) }
+    ensures few { OnOk result (length window.new + n < 64) }
 {
-    if window.len() > 32 {
-        return move_word(words, window);
+    if window.len() + n >= 64 {
+        return settle(words, window);
     }
     Ok(())
 }
 
-/// Moves all whole words behind words to the words.
+/// Moves all whole words behind words to the words. It is kept out of the callers, which seldom need it.
+#[inline(never)]
 fn settle(words: &mut Words, window: &mut Window) -> Result<(), AllocError>
     ensures same { bits_of_words words.new ++ window.new ≡ bits_of_words words.old ++ window.old }
     ensures few { OnOk result (length window.new < 32) }

@@ -98,12 +98,21 @@ fn limits_of(rt: &impl Abort, (bytes, depth, values): (u64, u32, u64)) -> Limits
     Limits::new(bytes, depth, values).expect(rt, "limits within their caps")
 }
 
+/// A record with an array of two million values that take no bits.
+const ZEROS: &str = "M 21 0C 00 00 03 00 00 00 1A 01 4C 00 41 32 EC 03 00 00 00 00";
+
 /// Limits on bytes, depth and values, inputs, and their faults or the lengths of their forms.
-static LIMITED: [((u64, u32, u64), &str, &str); 7] = [
+static LIMITED: [((u64, u32, u64), &str, &str); 9] = [
     ((1000, 64, 13), "M S", "refused: TooManyValues at bit 179"),
     ((24, 64, 14), "M S", "the normal form is too long"),
     ((27, 64, 14), "M S", "the normal form is too long"),
     ((28, 1, 14), "M S", "28"),
+    ((1_500_020, 1, 2_000_000), ZEROS, "1500020"),
+    (
+        (1_500_019, 1, 2_000_000),
+        ZEROS,
+        "the normal form is too long",
+    ),
     ((15, 64, 0), "M E", "refused: TooLong at bit 120"),
     ((16, 0, 0), "M E", "refused: TooDeep at bit 32"),
     (
@@ -149,11 +158,13 @@ fn bomb(alloc: Global, uses: usize) -> Result<Vec<u8>, AllocError> {
     Ok(bytes)
 }
 
-/// How often the definition is used, a limit on bytes, and what is told.
-static BOMBS: [(usize, u64, &str); 3] = [
+/// How often the definition is used, a limit on bytes, and what is told. A refusal comes first also where it stands behind the
+/// place at which the form passes the limit.
+static BOMBS: [(usize, u64, &str); 4] = [
     (100, 75_264, "75264"),
     (100, 75_263, "the normal form is too long"),
     (101, 75_264, "refused: TooManyValues at bit 9423"),
+    (101, 1_500, "refused: TooManyValues at bit 9423"),
 ];
 
 #[test]

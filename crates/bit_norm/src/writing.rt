@@ -136,7 +136,8 @@ pub(crate) fn write_form<K: Sink>(
     }
 }
 
-/// Gives a sink the normal form of a document, and answers how many bytes that are. It takes no memory.
+/// Gives a sink the normal form of a document, and answers how many bytes that are. It takes no memory; so the length of each
+/// block is summed anew where it is written, and the time grows with the number of items times the depth at which they stand.
 ///
 /// `OutputTooLong`, where they pass the limit on bytes, gives the sink nothing; `Write` leaves it a front of the form.
 pub fn write_normal<K: Sink>(doc: &Document, sink: K, limits: Limits) -> (Result<u64, Fault>, K)
