@@ -156,18 +156,3 @@ Runs (parsed.Task task) i now old new errors last status = (outcome : Outcome) �
 Runs (parsed.Help text) i now old new errors last status = (now ≡ i) × ((outcome : Outcome) × Helps (string_bytes text) old new outcome × Tells outcome status errors last)
 Runs (parsed.Usage text) i now old new errors last status = (now ≡ i) × (new ≡ old) × (status ≡ 2) × Writes (string_bytes text) errors last
 Runs parsed.Memory i now old new errors last status = (now ≡ i) × (new ≡ old) × Tells Memory status errors last
-
--- ---- readers and writers
-
--- a source over such a reader, which nobody has asked yet
-abbrev pub fresh_source : Told → Incoming
-fresh_source told = record { to_come = told; pulls = 0; failures = 0 }
-
--- a sink over such a writer
-abbrev pub fresh_sink : Told → Outgoing
-fresh_sink told = record { bytes = told; failures = 0 }
-
--- A run over a reader and two writers does what a run over devices does that hold the same bytes, before and after.
-abbrev pub RunsOver : Parsed → (input rest output written errors line : Told) → ℕ → Type 0
-RunsOver parsed input rest output written errors line status = (now : Incoming) × (new : Outgoing) × (last : Outgoing) × (now.to_come ≡ rest) × (new.bytes ≡ written) × (last.bytes ≡ line)
-    × Runs parsed (fresh_source input) now (fresh_sink output) new (fresh_sink errors) last status

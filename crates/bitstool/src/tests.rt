@@ -1,4 +1,5 @@
-use crate::run::{Ran, run};
+use crate::run::run;
+use bit_fields::{BufSource, WriteSink};
 use std::alloc::{AllocError, Global};
 use std::io;
 use std::io::{BufRead, Read, Write};
@@ -112,14 +113,46 @@ fn words_of(alloc: Global, line: &str) -> Result<Vec<String>, AllocError> {
     Ok(words)
 }
 
+/// The status of a run, and what its writers hold.
+#[derive(Drop)]
+struct Finished<W, E> {
+    status: u8,
+    output: W,
+    errors: E,
+}
+
+/// A run over a reader and two writers.
+fn run_over<R: BufRead + Drop, W: Write, E: Write>(
+    alloc: Global,
+    words: Vec<String>,
+    input: R,
+    output: W,
+    errors: E,
+) -> Finished<W, E> {
+    let mut errors = WriteSink::new(errors);
+    let ran = run(
+        alloc,
+        words,
+        BufSource::new(input),
+        WriteSink::new(output),
+        &mut errors,
+    );
+    Finished {
+        status: ran.status,
+        output: ran.sink.into_inner(),
+        errors: errors.into_inner(),
+    }
+}
+
 /// What a run on these words and this input ends with.
 fn ran<R: BufRead + Drop>(
     alloc: Global,
     line: &str,
     input: R,
-) -> Result<Ran<R, Vec<u8>, Vec<u8>>, AllocError> {
+) -> Result<Finished<Vec<u8>, Vec<u8>>, AllocError> {
     let words = words_of(alloc, line)?;
-    Ok(run(alloc, words, input, Vec::new(alloc), Vec::new(alloc)))
+    let (output, errors) = (Vec::new(alloc), Vec::new(alloc));
+    Ok(run_over(alloc, words, input, output, errors))
 }
 
 /// A status, an output, and a line on errors.
@@ -433,7 +466,7 @@ fn short_texts_and_inputs_without_a_report(rt: HostRuntime) -> Result<(), Fail> 
 }
 
 /// The status of a run, whether it wrote a help, and whether it said what is wrong with its words.
-fn told_by(ran: &Ran<&[u8], Vec<u8>, Vec<u8>>) -> (u8, bool, bool) {
+fn told_by(ran: &Finished<Vec<u8>, Vec<u8>>) -> (u8, bool, bool) {
     let help = ran.output.len() > 100 && ran.errors.is_empty();
     let usage = ran.output.is_empty() && ran.errors.starts_with(b"error: ");
     (ran.status, help, usage)
@@ -511,7 +544,7 @@ fn ends_in(
 ) -> Result<(), AllocError> {
     let input = LONG;
     let words = words_of(alloc, line)?;
-    let ran = run(alloc, words, input.as_slice(), output, Vec::new(alloc));
+    let ran = run_over(alloc, words, input.as_slice(), output, Vec::new(alloc));
     let end = (
         ran.status,
         ran.output.bytes.as_slice(),
@@ -582,7 +615,7 @@ fn errors_fail(rt: &impl Abort, alloc: Global, line: &str) -> Result<(), AllocEr
     let input = LONG;
     let words = words_of(alloc, line)?;
     let errors = Room::new(alloc, 3, true);
-    let ran = run(alloc, words, input.as_slice(), Vec::new(alloc), errors);
+    let ran = run_over(alloc, words, input.as_slice(), Vec::new(alloc), errors);
     let end = (
         ran.status,
         ran.output.as_slice(),
