@@ -10,7 +10,7 @@
    - malloc, realloc and free of the program are of one allocator, and align a block to each power of two up to 16 that divides
      its size. No call is made from a signal handler, or from the forked child of a process with threads.
 
-   Calls in several threads do not disturb each other; a reader or a text is used by the thread that opened it, one call at a time.
+   Calls in several threads do not disturb each other; a handle is used by the thread that opened it, one call at a time.
    No call keeps what it is passed, but bs_open, which says so. */
 #ifndef BITSTREAM_H
 #define BITSTREAM_H
@@ -38,7 +38,7 @@ enum {
     BS_LIMITS = 5,
     /* The room does not hold what was to be put there; how much is needed was told, and the room is as it was. */
     BS_ROOM = 6,
-    /* The reader is closed. */
+    /* The handle is closed, or holds something else. */
     BS_CLOSED = 7
 };
 
@@ -141,11 +141,25 @@ uint32_t bs_analyse(const uint8_t *bytes, size_t bytes_len, const struct bs_limi
                     struct bs_block_row *block_room, size_t block_room_len, struct bs_code_row *code_room, size_t code_room_len,
                     struct bs_fault *fault);
 
-/* A reader of events. Begin with all zeros, which is a closed one; never copy one. Its fields are the library's. */
-struct bs_reader {
+/* A handle: what the library holds of a text or of the events of bytes. Begin with all zeros, which is a closed one; never copy one.
+   Its fields are the library's. */
+struct bs_handle {
     bool live;
     void *inner;
 };
+
+/* Makes a text, as bs_normal, bs_report and bs_show do, and holds it behind the handle: BS_DONE; or what these say but BS_ROOM, and
+   then the handle is closed. A handle that is open is closed before. So a text is made once, and there can be room for it. */
+uint32_t bs_hold_normal(const uint8_t *bytes, size_t bytes_len, const struct bs_limits *limits, const struct bs_left_out *left_out,
+                        struct bs_handle *handle, struct bs_fault *fault);
+uint32_t bs_hold_report(const uint8_t *bytes, size_t bytes_len, const struct bs_limits *limits, struct bs_handle *handle,
+                        struct bs_fault *fault);
+uint32_t bs_hold_show(const uint8_t *bytes, size_t bytes_len, const struct bs_limits *limits, struct bs_handle *handle,
+                      struct bs_fault *fault);
+
+/* Puts the text that is held into the room, and tells in `needed` how many bytes it has: BS_DONE, or BS_ROOM; or BS_CLOSED where the
+   handle holds no text. The handle stays open, until bs_close gives the text back. */
+uint32_t bs_text(struct bs_handle *handle, uint8_t *room, size_t room_len, size_t *needed, struct bs_fault *fault);
 
 enum {
     /* The whole input is accepted, and no event is left. */
@@ -171,22 +185,22 @@ struct bs_event {
     uint64_t after;
 };
 
-/* Begins the events of bytes: BS_DONE; or BS_REFUSED, BS_MEMORY, BS_LIMITS, and then the reader is closed. A reader that is open is
-   closed before. The bytes stay where and as they are until the reader is closed. */
-uint32_t bs_open(const uint8_t *bytes, size_t bytes_len, const struct bs_limits *limits, struct bs_reader *reader,
+/* Begins the events of bytes: BS_DONE; or BS_REFUSED, BS_MEMORY, BS_LIMITS, and then the handle is closed. A handle that is open is
+   closed before. The bytes stay where and as they are until the handle is closed. */
+uint32_t bs_open(const uint8_t *bytes, size_t bytes_len, const struct bs_limits *limits, struct bs_handle *handle,
                  struct bs_fault *fault);
 
 /* The next event: BS_DONE, with an event of kind BS_OVER where no event is left and the whole input is accepted, and then that
-   again ever after. Or BS_REFUSED or BS_MEMORY, and then the same with the same fault ever after; or BS_CLOSED. These leave the
-   event as it was. */
-uint32_t bs_next(struct bs_reader *reader, struct bs_event *event, struct bs_fault *fault);
+   again ever after. Or BS_REFUSED or BS_MEMORY, and then the same with the same fault ever after; or BS_CLOSED, also where the handle
+   holds a text. These leave the event as it was. */
+uint32_t bs_next(struct bs_handle *handle, struct bs_event *event, struct bs_fault *fault);
 
 /* Puts the values of the record that was given last into the room, and tells in `needed` how many they are, 0 where no record was
-   given: BS_DONE, or BS_ROOM; or what bs_next says after a fault or of a closed reader. */
-uint32_t bs_values(struct bs_reader *reader, uint64_t *room, size_t room_len, size_t *needed, struct bs_fault *fault);
+   given: BS_DONE, or BS_ROOM; or what bs_next says after a fault or of a closed handle. */
+uint32_t bs_values(struct bs_handle *handle, uint64_t *room, size_t room_len, size_t *needed, struct bs_fault *fault);
 
-/* Closes a reader, and frees what it holds. Of a closed one nothing is done. */
-void bs_close(struct bs_reader *reader);
+/* Closes a handle, and frees what it holds. Of a closed one nothing is done. */
+void bs_close(struct bs_handle *handle);
 
 #ifdef __cplusplus
 }

@@ -39,7 +39,7 @@ class CodeRow(Structure):
     _fields_ = [("code", c_uint64), ("count", c_uint64), ("bits", c_uint64)]
 
 
-class Reader(Structure):
+class Handle(Structure):
     _fields_ = [("live", c_bool), ("inner", c_void_p)]
 
 
@@ -125,6 +125,23 @@ class Library:
             return Answer("what is behind the text was written to", held, "")
         return self.as_run(told, limits, held[:needed])
 
+    def held(self, call, given, options=(), left_out=None):
+        """A text that is held behind a handle, asked with a byte too few and then with room for it; and closed."""
+        limits, handle, needed = self.limits(options), Handle(), c_size_t(77)
+        setting = [] if left_out is None else [byref(left_out)]
+        made = self.ask(call, given, c_size_t(len(given)), byref(limits), *setting, byref(handle))
+        none = self.ask("bs_text", byref(handle), room_of(c_uint8, 0), c_size_t(0), byref(needed))
+        held = room_of(c_uint8, needed.value)
+        told = self.ask("bs_text", byref(handle), held, c_size_t(needed.value), byref(needed))
+        event = self.ask("bs_next", byref(handle), byref(Event()))
+        self.calls.bs_close(byref(handle))
+        closed = self.ask("bs_text", byref(handle), held, c_size_t(needed.value), byref(needed))
+        wanted = [CLOSED, CLOSED, CLOSED, CLOSED] if made.status != DONE else [ROOM, DONE, CLOSED, CLOSED]
+        found = [none.status, told.status, event.status, closed.status]
+        if found != wanted:
+            return Answer(f"the library's statuses {found}", b"", "")
+        return self.as_run(made, limits, bytes(held))
+
     def normal(self, given, options=(), drop=False):
         return self.text("bs_normal", given, options, LeftOut(drop))
 
@@ -168,7 +185,7 @@ class Library:
 
     def events(self, given, options=()):
         """The listing that the events make, without its first line, and how they ended."""
-        limits, reader, event, lines, depth = self.limits(options), Reader(), Event(), [], 0
+        limits, reader, event, lines, depth = self.limits(options), Handle(), Event(), [], 0
         told = self.ask("bs_open", given, c_size_t(len(given)), byref(limits), byref(reader))
         while told.status == DONE:
             told = self.ask("bs_next", byref(reader), byref(event))

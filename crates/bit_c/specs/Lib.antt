@@ -3,6 +3,7 @@ pub mod Comparing
 pub mod Ending
 pub mod Handing
 pub mod Held
+pub mod Holding
 pub mod Limiting
 pub mod Naming
 pub mod Opened

@@ -1,5 +1,5 @@
 -- What a handle leads to.
-use Rattle.std.specs.Prelude.{Bool, true, false, Option, Some, None}
+use Rattle.std.specs.Prelude.{ℕ, List, Option, Some, None}
 use Rattle.bit_c.specs.declared.home.Reading.{Reading}
 use Rattle.bit_c.specs.declared.home.Home.{Home}
 use Rattle.bit_c.specs.declared.home.Home.TheVariants as home
@@ -10,8 +10,8 @@ reading_of None = None
 reading_of (Some (home.Reading reading)) = Some reading
 reading_of (Some (home.Text text)) = None
 
--- whether it leads to events, where it leads to no text
-abbrev pub reads : Option Home → Option Bool
-reads None = Some false
-reads (Some (home.Reading reading)) = Some true
-reads (Some (home.Text text)) = None
+-- the text that it leads to, if it does
+abbrev pub text_of : Option Home → Option (List ℕ)
+text_of None = None
+text_of (Some (home.Reading reading)) = None
+text_of (Some (home.Text text)) = Some text.bytes.items

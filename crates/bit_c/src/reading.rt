@@ -7,10 +7,10 @@ ghost use Rattle.bit_c.specs.Opened.{reading_of};
 ghost use Rattle.bit_c.specs.Stepping.{Begins, Lists, ListsOf, Nexts, NextsIn, Opens, Steps};
 
 use crate::event::{BsEvent, next_of};
+use crate::handle::{BsHandle, opened, take_out};
 use crate::home::{Home, Reading};
 use crate::limits::BsLimits;
 use crate::outcome::{BsFault, Outcome};
-use crate::reader::{BsReader, opened, take_out};
 use crate::room::hand_out;
 use bit_events::Events;
 use bit_fields::{Limits, SliceSource};
@@ -30,9 +30,9 @@ fn begin(alloc: Global, bytes: &'static [u8], limits: Limits) -> Result<Reading,
 }
 
 /// Begins the events of bytes behind a handle that is closed.
-fn open_at(alloc: Global, bytes: &'static [u8], limits: Limits, reader: &mut BsReader) -> Outcome
-    requires { reader.old.inner.home ≡ None }
-    ensures { Opens limits bytes.now (reading_of reader.new.inner.home) result }
+fn open_at(alloc: Global, bytes: &'static [u8], limits: Limits, handle: &mut BsHandle) -> Outcome
+    requires { handle.old.inner.home ≡ None }
+    ensures { Opens limits bytes.now (reading_of handle.new.inner.home) result }
 {
     let reading = match begin(alloc, bytes, limits) {
         Ok(reading) => reading,
@@ -40,7 +40,7 @@ fn open_at(alloc: Global, bytes: &'static [u8], limits: Limits, reader: &mut BsR
     };
     match Box::new(alloc, Home::Reading(reading)) {
         Ok(home) => {
-            *reader = opened(home);
+            *handle = opened(home);
             Outcome::Done
         }
         Err(_) => Outcome::Memory,
@@ -52,13 +52,13 @@ fn open_within(
     alloc: Global,
     bytes: &'static [u8],
     limits: &BsLimits,
-    reader: &mut BsReader,
+    handle: &mut BsHandle,
 ) -> Outcome
-    ensures { let l = limits_told limits.now in let new = reading_of reader.new.inner.home in Within l (new ≡ None) (Opens l bytes.now new) result }
+    ensures { let l = limits_told limits.now in let new = reading_of handle.new.inner.home in Within l (new ≡ None) (Opens l bytes.now new) result }
 {
-    let _ = take_out(alloc, reader);
+    let _ = take_out(alloc, handle);
     match limits.told() {
-        Some(limits) => open_at(alloc, bytes, limits, reader),
+        Some(limits) => open_at(alloc, bytes, limits, handle),
         None => Outcome::Limits,
     }
 }
@@ -70,12 +70,12 @@ pub extern "C" fn bs_open(
     alloc: Global,
     bytes: &'static [u8],
     limits: &BsLimits,
-    reader: &mut BsReader,
+    handle: &mut BsHandle,
     fault: &mut BsFault,
 ) -> u32
-    ensures { let l = limits_told limits.now in let new = reading_of reader.new.inner.home in Ends result fault.new (Within l (new ≡ None) (Opens l bytes.now new)) }
+    ensures { let l = limits_told limits.now in let new = reading_of handle.new.inner.home in Ends result fault.new (Within l (new ≡ None) (Opens l bytes.now new)) }
 {
-    open_within(alloc, bytes, limits, reader).tell(fault)
+    open_within(alloc, bytes, limits, handle).tell(fault)
 }
 
 /// The next event of events, or the fault that they met.
@@ -108,13 +108,13 @@ fn step_in(home: &mut Home, event: &mut BsEvent) -> Outcome
 }
 
 /// The next event of a handle.
-fn step_of(alloc: Global, reader: &mut BsReader, event: &mut BsEvent) -> Outcome
-    ensures { Nexts (reading_of reader.old.inner.home) event.old (reading_of reader.new.inner.home) event.new result }
+fn step_of(alloc: Global, handle: &mut BsHandle, event: &mut BsEvent) -> Outcome
+    ensures { Nexts (reading_of handle.old.inner.home) event.old (reading_of handle.new.inner.home) event.new result }
 {
-    match take_out(alloc, reader) {
+    match take_out(alloc, handle) {
         Some(mut home) => {
             let outcome = step_in(&mut home, event);
-            *reader = opened(home);
+            *handle = opened(home);
             outcome
         }
         None => Outcome::Closed,
@@ -125,13 +125,13 @@ fn step_of(alloc: Global, reader: &mut BsReader, event: &mut BsEvent) -> Outcome
 #[unsafe(no_mangle)]
 pub extern "C" fn bs_next(
     alloc: Global,
-    reader: &mut BsReader,
+    handle: &mut BsHandle,
     event: &mut BsEvent,
     fault: &mut BsFault,
 ) -> u32
-    ensures { Ends result fault.new (Nexts (reading_of reader.old.inner.home) event.old (reading_of reader.new.inner.home) event.new) }
+    ensures { Ends result fault.new (Nexts (reading_of handle.old.inner.home) event.old (reading_of handle.new.inner.home) event.new) }
 {
-    step_of(alloc, reader, event).tell(fault)
+    step_of(alloc, handle, event).tell(fault)
 }
 
 /// Hands out the values of the record that was given last.
@@ -159,14 +159,14 @@ fn list_in(home: &Home, room: &mut [u64], needed: &mut usize) -> Outcome
 }
 
 /// The same of a handle, which stays as it is.
-fn list_of(alloc: Global, reader: &mut BsReader, room: &mut [u64], needed: &mut usize) -> Outcome
-    ensures kept { reader.new.inner.home ≡ reader.old.inner.home }
-    ensures lists { ListsOf (reading_of reader.old.inner.home) room.old needed.new room.new result }
+fn list_of(alloc: Global, handle: &mut BsHandle, room: &mut [u64], needed: &mut usize) -> Outcome
+    ensures kept { handle.new.inner.home ≡ handle.old.inner.home }
+    ensures lists { ListsOf (reading_of handle.old.inner.home) room.old needed.new room.new result }
 {
-    match take_out(alloc, reader) {
+    match take_out(alloc, handle) {
         Some(home) => {
             let outcome = list_in(&home, room, needed);
-            *reader = opened(home);
+            *handle = opened(home);
             outcome
         }
         None => {
@@ -180,21 +180,21 @@ fn list_of(alloc: Global, reader: &mut BsReader, room: &mut [u64], needed: &mut 
 #[unsafe(no_mangle)]
 pub extern "C" fn bs_values(
     alloc: Global,
-    reader: &mut BsReader,
+    handle: &mut BsHandle,
     room: &mut [u64],
     needed: &mut usize,
     fault: &mut BsFault,
 ) -> u32
-    ensures kept { reader.new.inner.home ≡ reader.old.inner.home }
-    ensures lists { Ends result fault.new (ListsOf (reading_of reader.old.inner.home) room.old needed.new room.new) }
+    ensures kept { handle.new.inner.home ≡ handle.old.inner.home }
+    ensures lists { Ends result fault.new (ListsOf (reading_of handle.old.inner.home) room.old needed.new room.new) }
 {
-    list_of(alloc, reader, room, needed).tell(fault)
+    list_of(alloc, handle, room, needed).tell(fault)
 }
 
-/// Closes a handle, and frees what it leads to. Closing one that is closed does nothing.
+/// Closes a handle, of events or of a text, and frees what it leads to. Closing one that is closed does nothing.
 #[unsafe(no_mangle)]
-pub extern "C" fn bs_close(alloc: Global, reader: &mut BsReader)
-    ensures { reader.new.inner.home ≡ None }
+pub extern "C" fn bs_close(alloc: Global, handle: &mut BsHandle)
+    ensures { handle.new.inner.home ≡ None }
 {
-    let _ = take_out(alloc, reader);
+    let _ = take_out(alloc, handle);
 }

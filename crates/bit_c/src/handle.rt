@@ -1,0 +1,60 @@
+//! Handles: what C holds of the events of bytes, or of a text.
+
+ghost use Rattle.std.specs.Prelude.{◌≡◌, Option, Some, None, MatchOption, is_some};
+
+use crate::home::Home;
+use crate::inner::Inner;
+use crate::parts::Parts;
+use std::alloc::Global;
+use std::{mem, ptr};
+
+/// A handle of events or of a text. All zeros are a closed one.
+#[repr(C)]
+#[derive(Drop)]
+pub struct BsHandle {
+    live: bool,
+    pub inner: Inner,
+    ghost known: { is_some inner.home ≡ live },
+}
+
+/// A closed one.
+// The second part brings `Home` into the table of types.
+fn closed(alloc: Global) -> (BsHandle, Option<Box<Home>>)
+    ensures { result.0.inner.home ≡ None }
+{
+    let at: *mut () = ptr::null_mut();
+    let handle = BsHandle {
+        live: false,
+        inner: Inner::none(at, alloc),
+    };
+    (handle, None)
+}
+
+/// An open one.
+pub(crate) fn opened(home: Box<Home>) -> BsHandle
+    ensures { result.inner.home ≡ Some home.value }
+{
+    let inner = Inner::some(Parts::of(home));
+    BsHandle { live: true, inner }
+}
+
+/// What one leads to.
+fn taken(handle: BsHandle) -> Option<Box<Home>>
+    ensures { MatchOption result (handle.inner.home ≡ None) (λ home. handle.inner.home ≡ Some home.value) }
+{
+    let BsHandle { live, inner } = handle;
+    if live {
+        Some(inner.take().into_box())
+    } else {
+        None
+    }
+}
+
+/// Takes out what a handle leads to, and leaves it closed.
+pub(crate) fn take_out(alloc: Global, handle: &mut BsHandle) -> Option<Box<Home>>
+    ensures closed { handle.new.inner.home ≡ None }
+    ensures told { MatchOption result (handle.old.inner.home ≡ None) (λ home. handle.old.inner.home ≡ Some home.value) }
+{
+    let (none, _) = closed(alloc);
+    taken(mem::replace(handle, none))
+}

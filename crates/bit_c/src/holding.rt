@@ -1,0 +1,152 @@
+//! Texts that are held behind a handle, so that they are made once and their length is known before there is room for them.
+
+ghost use Rattle.std.specs.Prelude.{◌≡◌, None, Some};
+ghost use Rattle.bit_c.specs.Ending.{Ends};
+ghost use Rattle.bit_c.specs.Holding.{Holds, PutsBehind, TellsText};
+ghost use Rattle.bit_c.specs.Limiting.{Within, limits_told, setting_of};
+ghost use Rattle.bit_c.specs.Opened.{text_of};
+ghost use Rattle.bit_c.specs.declared.texts.Text.{Text as TextTold};
+
+use crate::handle::{BsHandle, opened, take_out};
+use crate::home::Home;
+use crate::left_out::BsLeftOut;
+use crate::limits::BsLimits;
+use crate::outcome::{BsFault, Outcome};
+use crate::room::hand_out;
+use crate::texts::{Text, make};
+use bit_fields::{Limits, VecSink};
+use std::alloc::Global;
+
+/// Puts a text behind a handle that is closed.
+fn put_behind(alloc: Global, made: VecSink, handle: &mut BsHandle) -> Outcome
+    requires { handle.old.inner.home ≡ None }
+    ensures { PutsBehind made.bytes.items handle.new.inner.home result }
+{
+    match Box::new(alloc, Home::Text(made)) {
+        Ok(home) => {
+            *handle = opened(home);
+            Outcome::Done
+        }
+        Err(_) => Outcome::Memory,
+    }
+}
+
+/// Makes a text of what bytes hold, and puts it behind a handle that is closed.
+fn hold(alloc: Global, bytes: &[u8], limits: Limits, text: Text, handle: &mut BsHandle) -> Outcome
+    requires { handle.old.inner.home ≡ None }
+    ensures { Holds text limits bytes.now handle.new.inner.home result }
+{
+    let (outcome, made) = make(alloc, bytes, limits, text);
+    match outcome {
+        Outcome::Done => put_behind(alloc, made, handle),
+        other => other,
+    }
+}
+
+/// The same under limits that may be past their caps, and behind a handle that may be open.
+fn hold_within(
+    alloc: Global,
+    bytes: &[u8],
+    limits: &BsLimits,
+    text: Text,
+    handle: &mut BsHandle,
+) -> Outcome
+    ensures { let l = limits_told limits.now in let new = handle.new.inner.home in Within l (new ≡ None) (Holds text l bytes.now new) result }
+{
+    let _ = take_out(alloc, handle);
+    match limits.told() {
+        Some(limits) => hold(alloc, bytes, limits, text, handle),
+        None => Outcome::Limits,
+    }
+}
+
+/// Makes the normal form of what bytes hold, whole or without what is left out, and puts it behind a handle. A handle that is
+/// open is closed before.
+#[unsafe(no_mangle)]
+pub extern "C" fn bs_hold_normal(
+    alloc: Global,
+    bytes: &[u8],
+    limits: &BsLimits,
+    left_out: &BsLeftOut,
+    handle: &mut BsHandle,
+    fault: &mut BsFault,
+) -> u32
+    ensures { let l = limits_told limits.now in let new = handle.new.inner.home in let text = TextTold.Form (setting_of left_out.now) in Ends result fault.new (Within l (new ≡ None) (Holds text l bytes.now new)) }
+{
+    let text = Text::Form(left_out.setting());
+    hold_within(alloc, bytes, limits, text, handle).tell(fault)
+}
+
+/// The same of the report of an analysis of bytes.
+#[unsafe(no_mangle)]
+pub extern "C" fn bs_hold_report(
+    alloc: Global,
+    bytes: &[u8],
+    limits: &BsLimits,
+    handle: &mut BsHandle,
+    fault: &mut BsFault,
+) -> u32
+    ensures { let l = limits_told limits.now in let new = handle.new.inner.home in Ends result fault.new (Within l (new ≡ None) (Holds TextTold.Report l bytes.now new)) }
+{
+    hold_within(alloc, bytes, limits, Text::Report, handle).tell(fault)
+}
+
+/// The same of the listing of bytes.
+#[unsafe(no_mangle)]
+pub extern "C" fn bs_hold_show(
+    alloc: Global,
+    bytes: &[u8],
+    limits: &BsLimits,
+    handle: &mut BsHandle,
+    fault: &mut BsFault,
+) -> u32
+    ensures { let l = limits_told limits.now in let new = handle.new.inner.home in Ends result fault.new (Within l (new ≡ None) (Holds TextTold.Listing l bytes.now new)) }
+{
+    hold_within(alloc, bytes, limits, Text::Listing, handle).tell(fault)
+}
+
+/// Hands out the text that a handle leads to.
+fn tell_in(home: &Home, room: &mut [u8], needed: &mut usize) -> Outcome
+    ensures { TellsText (text_of (Some home.now)) room.old needed.new room.new result }
+{
+    match home {
+        Home::Text(made) => hand_out(made.bytes(), room, needed),
+        Home::Reading(_) => {
+            *needed = 0;
+            Outcome::Closed
+        }
+    }
+}
+
+/// The same of a handle, which stays as it is.
+fn tell_of(alloc: Global, handle: &mut BsHandle, room: &mut [u8], needed: &mut usize) -> Outcome
+    ensures kept { handle.new.inner.home ≡ handle.old.inner.home }
+    ensures tells { TellsText (text_of handle.old.inner.home) room.old needed.new room.new result }
+{
+    match take_out(alloc, handle) {
+        Some(home) => {
+            let outcome = tell_in(&home, room, needed);
+            *handle = opened(home);
+            outcome
+        }
+        None => {
+            *needed = 0;
+            Outcome::Closed
+        }
+    }
+}
+
+/// Puts the text that a handle leads to into the caller's room, and tells how many bytes it has. The handle stays open.
+#[unsafe(no_mangle)]
+pub extern "C" fn bs_text(
+    alloc: Global,
+    handle: &mut BsHandle,
+    room: &mut [u8],
+    needed: &mut usize,
+    fault: &mut BsFault,
+) -> u32
+    ensures kept { handle.new.inner.home ≡ handle.old.inner.home }
+    ensures tells { Ends result fault.new (TellsText (text_of handle.old.inner.home) room.old needed.new room.new) }
+{
+    tell_of(alloc, handle, room, needed).tell(fault)
+}
