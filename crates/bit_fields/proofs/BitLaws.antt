@@ -1,7 +1,7 @@
 -- Laws of bits and the numbers that they spell.
 use Rattle.std.proofs.Common.{◌≡◌, ℕ, zero, suc, ◌+◌, ◌*◌, ◌-◌, ◌/◌, ◌%◌, ◌^◌, ◌<◌, ◌≤◌, Bool, true, false, eqb, List, [], ◌∷◌, ◌++◌, length, take, drop, refl, sym, ap, ◌∙◌, arith, append_assoc, add-one, bit_and}
 use Rattle.std.proofs.lemmas.Nat.{mod-pow-add, shr-shr, pow-add, and_mask, one_shl, shr_below, shl_whole, mul-add-lt, mod_below, pow_pos, shr_high}
-use Rattle.std.proofs.lemmas.List.{take_at, length-append, take-append-drop, length-take-le}
+use Rattle.std.proofs.lemmas.List.{take_at, length-append, take-append-drop, length-take-le, drop_at}
 use Rattle.std.proofs.Math.Nat.{pow-suc}
 use Rattle.std.specs.Int.{w32, w64, to_le_bytes}
 use Rattle.bit_grammar.specs.Bits.{bit, bits_of, number, bits_of_bytes}
@@ -143,6 +143,11 @@ bits_of_bytes-take k bytes few =
     let parts : bits_of_bytes bytes ≡ bits_of_bytes (take k bytes) ++ bits_of_bytes (drop k bytes) = ap bits_of_bytes (sym (take-append-drop k bytes)) ∙ bits_of_bytes-append (take k bytes) (drop k bytes) in
     let len : length (bits_of_bytes (take k bytes)) ≡ 8 * k = omega (arith, length-bits_of_bytes (take k bytes), length-take-le k bytes few) in
     sym (ap (take (8 * k)) parts ∙ take_at (bits_of_bytes (take k bytes)) (bits_of_bytes (drop k bytes)) (8 * k) len)
+
+pub bytes_dropped : (count : ℕ) (bytes : List ℕ) → count ≤ length bytes → bits_of_bytes (drop count bytes) ≡ drop (8 * count) (bits_of_bytes bytes)
+bytes_dropped count bytes few =
+    let parts : bits_of_bytes bytes ≡ bits_of_bytes (take count bytes) ++ bits_of_bytes (drop count bytes) = ap bits_of_bytes (sym (take-append-drop count bytes)) ∙ bits_of_bytes-append (take count bytes) (drop count bytes) in
+    sym (ap (drop (8 * count)) parts ∙ drop_at (bits_of_bytes (take count bytes)) (bits_of_bytes (drop count bytes)) (8 * count) (omega (arith, length-bits_of_bytes (take count bytes), length-take-le count bytes few)))
 
 pub window_bytes : (held word k : ℕ) (s : List Bool) (bytes : List ℕ) → held ≤ 64 → bits_of held word ≡ s → bytes ≡ to_le_bytes w64 word → 8 * k ≤ length s → bits_of_bytes (take k bytes) ≡ take (8 * k) s
 window_bytes held word k s bytes most is bytes_is few =

@@ -191,3 +191,9 @@ gap_skipped start bits left a b so done here =
     let n : bits - left ≡ bits = omega arith in
     let all : Took (gap_of start bits) a tt b = subst (λ (m : ℕ). Took (gap_of start m) a tt b) n (so.took start) in
     from_here (λ s. gap_of s bits) a (Ok tt) b (subst (λ (s : ℕ). Took (gap_of s bits) a tt b) here all)
+
+-- so many bits at once
+pub bits_at_once : (was : Bool) (bits p q : ℕ) (f g : Flow) (now : Reader) → reader_of was p f ≡ now → was ≡ true → Skips f g bits → q ≡ p + bits → Took (any_bits bits) now tt (reader_of was q g)
+unfolding any_bits
+bits_at_once was bits p q f g now view live skips q_is =
+    from_here (λ s. gap_of s bits) now (Ok tt) (reader_of was q g) (bits_skipped was now.position bits bits p q f g now view live skips (omega arith) q_is).took

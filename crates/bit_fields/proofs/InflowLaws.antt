@@ -205,7 +205,7 @@ front_came i j count into room gave k =
     ap bits_of_bytes split ∙ bits_of_bytes-append (take count into) (take room (known_bytes j.to_come))
 
 -- bytes came into the window
-bytes_came : (f : Flow) (i : Incoming) (count : ℕ) (into : List ℕ) → f.ended ≡ false → f.loaded + count ≤ stop_of f → 0 < count → Gave f.incoming i count into
+pub bytes_came : (f : Flow) (i : Incoming) (count : ℕ) (into : List ℕ) → f.ended ≡ false → f.loaded + count ≤ stop_of f → 0 < count → Gave f.incoming i count into
     → Keeps f (record f { window = f.window ++ bits_of_bytes (take count into); incoming = i; loaded = f.loaded + count })
 bytes_came f i count into going le some gave =
     let taken : length (take count into) ≡ count = length-take-le count into gave.fits in

@@ -18,3 +18,4 @@ pub mod Short
 pub mod Glimpses
 pub mod Sights
 pub mod Looking
+pub mod AtOnce

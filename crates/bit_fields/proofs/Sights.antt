@@ -1,7 +1,7 @@
 -- What is read from bits that lie in a window and in bytes behind it.
 use Rattle.std.proofs.Common.{◌≡◌, ℕ, suc, ◌+◌, ◌*◌, ◌-◌, ◌%◌, ◌^◌, ◌<◌, ◌≤◌, Bool, List, [], ◌++◌, length, take, drop, Result, Ok, Err, Bor, refl, sym, ap, ◌∙◌, subst, arith, inl, inr}
 use Rattle.std.proofs.lemmas.Bool.{cases_lt}
-use Rattle.std.proofs.lemmas.List.{append-nil, length-append, length-drop, length-take-le, drop_at, take-append-drop}
+use Rattle.std.proofs.lemmas.List.{append-nil, length-append, length-drop}
 use Rattle.std.proofs.Math.Seq.{drop-append-add}
 use Rattle.bit_grammar.specs.declared.reason.Reason.TheVariants.{Truncated}
 use Rattle.bit_grammar.specs.Bits.{number, bits_of, bits_of_bytes}
@@ -13,7 +13,7 @@ use Rattle.bit_fields.specs.Short.{EndsAt, gathered}
 use Rattle.bit_grammar.proofs.Numbers.{length-bits_of}
 use Rattle.bit_fields.specs.Sight.{told}
 use Rattle.bit_fields.specs.Ahead.{InSight, Glimpsed, reader_at, beyond}
-use Rattle.bit_fields.proofs.BitLaws.{length-bits_of_bytes, bits_of_bytes-append, drop_more}
+use Rattle.bit_fields.proofs.BitLaws.{length-bits_of_bytes, bytes_dropped, drop_more}
 use Rattle.bit_fields.proofs.Parts.{part_at, part_short}
 use Rattle.bit_fields.proofs.Short.{vbr_reads}
 use Rattle.bit_fields.proofs.Chunks.{one_chunk, several_chunks, chunking_begins, Chunking}
@@ -100,11 +100,6 @@ part_passed n start value a b seen = elim (cases_lt (length a.bits) n) [
       let e = answer_of (number (take n a.bits), a.position + n, drop n a.bits ++ []) (value, b.position, b.bits) (sym whole ∙ read ∙ seen) in
       (there, sight_is b.position (a.position + n) b.bits (drop n a.bits) (sym e.0) (sym e.1 ∙ none))
 ]
-
-bytes_dropped : (count : ℕ) (bytes : List ℕ) → count ≤ length bytes → bits_of_bytes (drop count bytes) ≡ drop (8 * count) (bits_of_bytes bytes)
-bytes_dropped count bytes few =
-    let parts : bits_of_bytes bytes ≡ bits_of_bytes (take count bytes) ++ bits_of_bytes (drop count bytes) = ap bits_of_bytes (sym (take-append-drop count bytes)) ∙ bits_of_bytes-append (take count bytes) (drop count bytes) in
-    sym (ap (drop (8 * count)) parts ∙ drop_at (bits_of_bytes (take count bytes)) (bits_of_bytes (drop count bytes)) (8 * count) (omega (arith, length-bits_of_bytes (take count bytes), length-take-le count bytes few)))
 
 -- the window, whole bytes and a part of a byte were passed
 pub far_passed : (end bits behind whole rest value : ℕ) (a : InSight) (w : List Bool) (bytes after : List ℕ) (b : InSight) → sight_of end w bytes ≡ a → length w + 8 * length bytes ≤ end → bits ≡ length w + behind → behind ≡ 8 * whole + rest → whole ≤ length bytes → after ≡ drop whole bytes

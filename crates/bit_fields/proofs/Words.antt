@@ -1,11 +1,11 @@
 -- Bytes as a word.
 use Rattle.std.proofs.Common.{◌≡◌, ℕ, ◌+◌, ◌*◌, ◌-◌, ◌^◌, ◌<◌, ◌≤◌, min, Bool, List, [], ◌∷◌, ◌++◌, length, take, drop, get_or, Some, refl, sym, ap, subst, ◌∙◌, arith, take-take, append_assoc}
 use Rattle.std.specs.Io.KnownBytes as bytes
-use Rattle.std.proofs.lemmas.List.{length-append, length-take-le, take-append-le, take-append-drop, drop_all, take_all, length-drop}
+use Rattle.std.proofs.lemmas.List.{drop-take, length-append, length-take-le, take-append-le, take-append-drop, drop_all, take_all, length-drop}
 use Rattle.bit_grammar.specs.Bits.{bits_of, bits_of_bytes}
 use Rattle.std.specs.Int.{w32, to_le_bytes}
 use Rattle.bit_fields.proofs.BitLaws.{le_bytes_bits_32, bits_of_bytes-append}
-use Rattle.bit_fields.specs.Devices.{Incoming, IsFresh, GaveWord, GaveUnseen}
+use Rattle.bit_fields.specs.Devices.{Incoming, IsFresh, GaveWord, GaveUnseen, GaveBehind}
 
 abbrev zeros : List ℕ
 zeros = 0 ∷ 0 ∷ 0 ∷ 0 ∷ 0 ∷ 0 ∷ 0 ∷ 0 ∷ []
@@ -111,3 +111,36 @@ slice_passed rest pulls most count fresh some is =
     let i : Incoming = record { to_come = Some rest; pulls = pulls; failures = 0 } in
     let j : Incoming = record { to_come = Some (take (length rest - count) (drop count rest)); pulls = pulls + 1; failures = 0 } in
     front_passed i j rest most count (omega arith) refl refl split (λ none. whole ∙ drop_all count rest (omega arith)) (omega arith) (omega arith)
+
+-- ---- a word behind bytes that nobody looks at
+
+-- it was taken from the front of what a source showed
+pub behind_taken : (i j : Incoming) (shown : List ℕ) (count word : ℕ) → IsFresh i → j.pulls ≡ i.pulls + 1 → j.failures ≡ i.failures → bytes.Consumes i.to_come j.to_come (take (count + 8) shown) → count + 8 ≤ length shown → word < 2 ^ 64
+    → bits_of 64 word ≡ bits_of_bytes (take 8 (take (length shown - count) (drop count shown))) → GaveBehind i j count word
+behind_taken i j shown count word fresh pulls failures gone there below bits =
+    let wide : length (take (count + 8) shown) ≡ count + 8 = length-take-le (count + 8) shown there in
+    let same : take (count + 8) (take (count + 8) shown) ≡ take (count + 8) shown = take_all (count + 8) (take (count + 8) shown) (omega (arith, wide)) in
+    let all : take (length shown - count) (drop count shown) ≡ drop count shown = take_all (length shown - count) (drop count shown) (omega (arith, length-drop count shown)) in
+    record {
+      into = take (count + 8) shown;
+      wide = wide;
+      gave = record {
+        fresh = fresh;
+        fits = omega (arith, wide);
+        bytes = subst (bytes.Consumes i.to_come j.to_come) (sym same) gone;
+        end = λ none more. absurd (omega arith);
+        pulls = pulls;
+        failures = failures;
+      };
+      below = below;
+      bits = bits ∙ ap (λ (s : List ℕ). bits_of_bytes (take 8 s)) all ∙ ap bits_of_bytes (sym (drop-take count 8 shown));
+    }
+
+pub slice_behind_taken : (rest : List ℕ) (pulls count word : ℕ) → pulls < 2 ^ 64 - 1 → count + 8 ≤ length rest → word < 2 ^ 64 → bits_of 64 word ≡ bits_of_bytes (take 8 (take (length rest - count) (drop count rest)))
+    → GaveBehind (record { to_come = Some rest; pulls = pulls; failures = 0 }) (record { to_come = Some (take (length rest - (count + 8)) (drop (count + 8) rest)); pulls = pulls + 1; failures = 0 }) count word
+slice_behind_taken rest pulls count word fresh there below bits =
+    let whole : take (length rest - (count + 8)) (drop (count + 8) rest) ≡ drop (count + 8) rest = take_all (length rest - (count + 8)) (drop (count + 8) rest) (omega (arith, length-drop (count + 8) rest)) in
+    let split : rest ≡ take (count + 8) rest ++ take (length rest - (count + 8)) (drop (count + 8) rest) = sym (ap (λ (s : List ℕ). take (count + 8) rest ++ s) whole ∙ take-append-drop (count + 8) rest) in
+    let i : Incoming = record { to_come = Some rest; pulls = pulls; failures = 0 } in
+    let j : Incoming = record { to_come = Some (take (length rest - (count + 8)) (drop (count + 8) rest)); pulls = pulls + 1; failures = 0 } in
+    behind_taken i j rest count word (omega arith) refl refl split there below bits

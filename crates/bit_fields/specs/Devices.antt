@@ -1,5 +1,5 @@
 -- What is known of a source and of a sink, and what a call of them does.
-use Rattle.std.specs.Prelude.{◌≡◌, ℕ, ◌+◌, ◌*◌, ◌-◌, ◌^◌, ◌<◌, ◌≤◌, max, Bool, List, [], length, take, Option, Some, None, IsSome, Result, Ok, Err}
+use Rattle.std.specs.Prelude.{◌≡◌, ℕ, ◌+◌, ◌*◌, ◌-◌, ◌^◌, ◌<◌, ◌≤◌, max, Bool, List, [], length, take, drop, Option, Some, None, IsSome, Result, Ok, Err}
 use Rattle.std.specs.Io.{StartsWith}
 use Rattle.std.specs.Io.KnownBytes.{Consumes, Appends, Keeps, IsAtEnd}
 use Rattle.bit_grammar.specs.Bits.{bits_of, bits_of_bytes}
@@ -74,6 +74,20 @@ abbrev pub PullsAtHand : ℕ → Incoming → Incoming → AtHand → Type 0
 PullsAtHand room old new (Word word) = GaveWord old new room word room
 PullsAtHand room old new Few = Looked old new
 PullsAtHand room old new Failed = GaveNone old new
+
+-- a pull into a slice gave so many bytes and eight behind them, which are this word
+pub record GaveBehind (old new : Incoming) (count word : ℕ) : Type 0 where
+  pub into : List ℕ
+  pub wide : length into ≡ count + 8
+  pub gave : Gave old new (count + 8) into
+  pub below : word < 2 ^ 64
+  pub bits : bits_of 64 word ≡ bits_of_bytes (drop count into)
+
+-- what taking so many bytes, and eight behind them that are at hand, does
+abbrev pub PullsBehind : ℕ → Incoming → Incoming → AtHand → Type 0
+PullsBehind count old new (Word word) = GaveBehind old new count word
+PullsBehind count old new Few = Looked old new
+PullsBehind count old new Failed = GaveNone old new
 
 -- a pull took so many bytes that nobody looks at, as a pull into some slice takes them
 pub record GaveUnseen (old new : Incoming) (most count : ℕ) : Type 0 where

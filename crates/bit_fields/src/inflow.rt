@@ -1,7 +1,7 @@
 ghost use Rattle.std.specs.Prelude.{ℕ, ◌≡◌, ◌+◌, ◌*◌, ◌-◌, ◌<◌, ◌≤◌, ◌^◌, length, true, false, take, drop, [], OnOk};
 ghost use Rattle.bit_grammar.specs.Bits.{number, bits_of};
 ghost use Rattle.bit_fields.specs.Short.{EndsAt, gathered};
-ghost use Rattle.bit_fields.specs.Inflow.{Brings, Misses, Fills, Steps, SkipsSome, Drains, DrainsSome, LooksOn, LooksOver, LiesBehind, stop_of, shortened, to_drain};
+ghost use Rattle.bit_fields.specs.Inflow.{Brings, Misses, Fills, Steps, SkipsSome, SkipsAtHand, Drains, DrainsSome, LooksOn, LooksOver, LiesBehind, stop_of, shortened, to_drain};
 ghost use Rattle.std.specs.Borrow.{sem};
 ghost use Rattle.std.specs.Io.BufRead.{Rests};
 
@@ -303,6 +303,36 @@ impl<S: Source> Inflow<S> {
                 Ok(count as u64)
             }
             Err(SourceFailed) => Err(Missing::Read),
+        }
+    }
+
+    /// Takes so many bits of the stream that nobody reads, where they are in the window, or eight bytes at least are at hand
+    /// behind them, with which the window is filled: whether it did.
+    #[inline(always)]
+    pub fn skip_at_hand(&mut self, bits: u64) -> Result<bool, Missing>
+        requires { 0 < bits }
+        ensures skips { SkipsAtHand bits self.old self.new result }
+        ensures loaded { self.new.loaded ≤ 2 ^ 35 }
+    {
+        let held = u64::from(self.window.len());
+        if bits < held {
+            self.window.split(bits as u32);
+            return Ok(true);
+        }
+        let behind = bits - held;
+        let count = behind / 8;
+        if self.ended || self.loaded + count + 8 > self.end.min(self.limit) {
+            return Ok(false);
+        }
+        match self.source.word_behind(count as usize) {
+            AtHand::Word(word) => {
+                let part = (behind % 8) as u32;
+                self.window = Window::of(word >> part, 64 - part);
+                self.loaded += count + 8;
+                Ok(true)
+            }
+            AtHand::Few => Ok(false),
+            AtHand::Failed => Err(Missing::Read),
         }
     }
 

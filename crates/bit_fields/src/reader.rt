@@ -160,7 +160,7 @@ impl<S: Source> BitReader<S> {
         ensures place { OnOk result (self.new.position ≡ 8 * offset) }
     {
         let _start = start;
-        self.catch_up(8 * u64::from(offset - 20))
+        self.skip_bits(8 * u64::from(offset - 20))
     }
 
     /// Skips bits of what began at a bit, at least one and at most so many, and answers how many. Where not one is left it
@@ -255,7 +255,44 @@ impl<S: Source> BitReader<S> {
     /// Takes so many bits, whatever they are: those that were read from what is in sight.
     ///
     /// Fewer bits are `Truncated` at the first of them.
+    #[inline(always)]
     pub fn catch_up(&mut self, bits: u64) -> Result<(), Fault>
+        ensures takes { Takes (any_bits bits) self.old result self.new }
+        ensures memory { NeedsNoMemory result }
+        ensures stays { OnErr result (self.new.position ≡ self.old.position) }
+        ensures moves { OnOk result (self.new.position ≡ self.old.position + bits) }
+    {
+        if self.live && bits > 0 && self.skip_at_hand(bits)? {
+            return Ok(());
+        }
+        self.skip_bits(bits)
+    }
+
+    /// Skips so many bits where they are at hand: whether it did.
+    #[inline(always)]
+    fn skip_at_hand(&mut self, bits: u64) -> Result<bool, Fault>
+        requires live { self.old.live ≡ true }
+        requires some { 0 < bits }
+        ensures skips { IfOk result (λ done. (done ≡ true → Took (any_bits bits) self.old tt self.new) × (done ≡ false → TookNothing self.old self.new)) }
+        ensures missed { IfErr result (λ fault. Why (gives (tt {0})) self.old fault self.new) }
+        ensures memory { NeedsNoMemory result }
+        ensures stays { OnErr result (self.new.position ≡ self.old.position) }
+        ensures moves { IfOk result (λ done. (done ≡ true → self.new.position ≡ self.old.position + bits) × (done ≡ false → self.new.position ≡ self.old.position)) }
+    {
+        let start = self.position;
+        match self.inflow.skip_at_hand(bits) {
+            Ok(true) => {
+                self.position = start + bits;
+                Ok(true)
+            }
+            Ok(false) => Ok(false),
+            Err(missing) => Err(self.miss(missing, start)),
+        }
+    }
+
+    /// Skips so many bits, whatever they are.
+    #[inline(never)]
+    fn skip_bits(&mut self, bits: u64) -> Result<(), Fault>
         ensures takes { Takes (any_bits bits) self.old result self.new }
         ensures memory { NeedsNoMemory result }
         ensures stays { OnErr result (self.new.position ≡ self.old.position) }

@@ -29,10 +29,10 @@ pub enum AtHand {
 /// What gives bytes in order, and counts how often it was asked and how often it failed. A source is worn once a count
 /// stands at `u64::MAX`.
 pub trait Source {
-    ghost use Rattle.std.specs.Prelude.{◌<◌, ◌≤◌};
+    ghost use Rattle.std.specs.Prelude.{◌<◌, ◌≤◌, ◌^◌};
     ghost use Rattle.std.specs.Borrow.{sem};
     ghost use Rattle.std.specs.Io.BufRead.{Rests};
-    ghost use Rattle.bit_fields.specs.Devices.{Incoming, Pulls, PullsWord, PullsAtHand, PullsUnseen, Begins, Looked, Looks};
+    ghost use Rattle.bit_fields.specs.Devices.{Incoming, Pulls, PullsWord, PullsAtHand, PullsBehind, PullsUnseen, Begins, Looked, Looks};
 
     // The bytes still to come, where the source tells them, and the counts.
     ghost incoming: { Self → Incoming };
@@ -70,6 +70,17 @@ pub trait Source {
         ensures { PullsAtHand room (incoming self.old) (incoming self.new) result }
     {
         let _room = room;
+        AtHand::Few
+    }
+
+    /// Takes so many bytes without giving them, and then the next eight as a word, where the source has them all at hand. It is
+    /// one pull then, and one that failed where it fails. Else nothing is taken.
+    #[inline(always)]
+    fn word_behind(&mut self, count: usize) -> AtHand
+        requires { count < 2 ^ 60 }
+        ensures { PullsBehind count (incoming self.old) (incoming self.new) result }
+    {
+        let _count = count;
         AtHand::Few
     }
 
@@ -143,6 +154,17 @@ impl<'a> Source for SliceSource<'a> {
         self.pulls += 1;
         self.rest = &bytes[room..];
         AtHand::Word(front_of(bytes, room))
+    }
+
+    #[inline(always)]
+    fn word_behind(&mut self, count: usize) -> AtHand {
+        let bytes = self.rest;
+        if self.pulls == u64::MAX || bytes.len() < count + 8 {
+            return AtHand::Few;
+        }
+        self.pulls += 1;
+        self.rest = &bytes[count + 8..];
+        AtHand::Word(front_of(&bytes[count..], 8))
     }
 
     #[inline(always)]
@@ -286,6 +308,30 @@ impl<R: BufRead> Source for BufSource<R> {
             }
         };
         source.reader.consume(room);
+        source.pulls += 1;
+        AtHand::Word(word)
+    }
+
+    #[inline(always)]
+    fn word_behind(&mut self, count: usize) -> AtHand {
+        let source = &mut self.source;
+        if source.pulls == u64::MAX || source.failures == u64::MAX {
+            return AtHand::Few;
+        }
+        let word = match source.reader.fill_buf() {
+            Ok(bytes) => {
+                if bytes.len() < count + 8 {
+                    return AtHand::Few;
+                }
+                front_of(&bytes[count..], 8)
+            }
+            Err(_) => {
+                source.pulls += 1;
+                source.failures += 1;
+                return AtHand::Failed;
+            }
+        };
+        source.reader.consume(count + 8);
         source.pulls += 1;
         AtHand::Word(word)
     }
