@@ -6,6 +6,7 @@ use Rattle.bit_grammar.specs.Grammar as grammar
 use Rattle.bit_grammar.specs.Grammar.{Grammar, gives, ◌>>=◌, reading}
 use Rattle.bit_grammar.specs.Input.{any_bits}
 use Rattle.bit_grammar.specs.Fields.{fixed}
+use Rattle.bit_grammar.specs.Definition.{has_shape}
 use Rattle.bit_grammar.specs.Record.{Entry, unabbreviated, abbreviated}
 use Rattle.bit_grammar.specs.Blocks as blocks
 use Rattle.bit_grammar.specs.Blocks.{Limits, Handed, Scope, entry}
@@ -86,11 +87,11 @@ plain_seen took v w definitions room id a b code is none gains =
     let h = gains [] none in
     (h.0, h.1, (omega (arith, h.2.1), λ limit first scope force same. plain_entry limit first id room scope (reader_at a) (Ok (record { code = code; values = h.0 })) (reader_at b) is same (entry_read (unabbreviated room) room (reader_at a) code (reader_at b) h.0 h.2)))
 
-pub short_seen : {V : Type 0} (took : V → List ℕ → Type 0) (v w : V) (definitions : List (List Op)) (ops : List Op) (room id : ℕ) (a b : InSight) (code : ℕ) → id ≢ 3 → slice_get definitions (id - 4) ≡ Some ops → took v [] → Gains took v w (λ before after. (at : ℕ) → AddsWithin (abbreviated at room ops) room (reader_at a) (Ok code) (reader_at b) before after)
+pub short_seen : {V : Type 0} (took : V → List ℕ → Type 0) (v w : V) (definitions : List (List Op)) (ops : List Op) (room id : ℕ) (a b : InSight) (code : ℕ) → id ≢ 3 → slice_get definitions (id - 4) ≡ Some ops → has_shape ops ≡ true → took v [] → Gains took v w (λ before after. (at : ℕ) → AddsWithin (abbreviated at room ops) room (reader_at a) (Ok code) (reader_at b) before after)
     → EntrySeen V took w definitions room id a b code
-short_seen took v w definitions ops room id a b code other found none gains =
+short_seen took v w definitions ops room id a b code other found shape none gains =
     let h = gains [] none in
-    (h.0, h.1, (omega (arith, (h.2 0).1), λ limit first scope force same. short_entry limit first id room scope definitions ops (reader_at a) (Ok (record { code = code; values = h.0 })) (reader_at b) other force same found (entry_read (abbreviated first room ops) room (reader_at a) code (reader_at b) h.0 (h.2 first))))
+    (h.0, h.1, (omega (arith, (h.2 0).1), λ limit first scope force same. short_entry limit first id room scope definitions ops (reader_at a) (Ok (record { code = code; values = h.0 })) (reader_at b) other force same found shape (entry_read (abbreviated first room ops) room (reader_at a) code (reader_at b) h.0 (h.2 first))))
 
 -- ---- several
 
