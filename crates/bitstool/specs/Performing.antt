@@ -28,7 +28,8 @@ PutsAll text old (Err e) new = TookFront text old new × HasFailed old new
 
 -- Bytes were taken from a source: so many, or all where it had fewer; or it failed, or no memory.
 abbrev pub TakesFirst : ℕ → Incoming → Result (List ℕ) Fault → Incoming → Type 0
-TakesFirst count i (Ok bytes) now = Spends i count now 0 × Consumes i.to_come now.to_come bytes × (length bytes ≤ count) × (length bytes < count → IsAtEnd now.to_come)
+TakesFirst count i (Ok bytes) now =
+    Spends i count now 0 × Consumes i.to_come now.to_come bytes × (length bytes ≤ count) × (length bytes < count → IsAtEnd now.to_come)
 TakesFirst count i (Err fault.Read) now = Spends i count now 0 × SourceFails i now
 TakesFirst count i (Err fault.Memory) now = Spends i count now 0
 TakesFirst count i (Err fault) now = ⊥
@@ -94,4 +95,5 @@ TellsLine answer line old after new = ((after ≡ answer) × TookText line old n
 
 -- the outcome after a flush: as it was, or the output failed; no byte came or went
 abbrev pub Settles : Outcome → Outgoing → Outcome → Outgoing → Type 0
-Settles outcome old after new = ((after ≡ outcome) × Stays old new) ⊎ ((after ≡ Write) × Keeps old.bytes new.bytes × (old.failures ≤ new.failures) × HasFailed old new)
+Settles outcome old after new =
+    ((after ≡ outcome) × Stays old new) ⊎ ((after ≡ Write) × Keeps old.bytes new.bytes × (old.failures ≤ new.failures) × HasFailed old new)

@@ -153,6 +153,7 @@ Helps text old new outcome = ⊥
 -- status 2; and want of memory is told. Only a command takes of the input, and only a command and help write.
 abbrev pub Runs : Parsed → Incoming → Incoming → Outgoing → Outgoing → Outgoing → Outgoing → ℕ → Type 0
 Runs (parsed.Task task) i now old new errors last status = (outcome : Outcome) × Does task i now old new outcome × Tells outcome status errors last
-Runs (parsed.Help text) i now old new errors last status = (now ≡ i) × ((outcome : Outcome) × Helps (string_bytes text) old new outcome × Tells outcome status errors last)
+Runs (parsed.Help text) i now old new errors last status =
+    (now ≡ i) × ((outcome : Outcome) × Helps (string_bytes text) old new outcome × Tells outcome status errors last)
 Runs (parsed.Usage text) i now old new errors last status = (now ≡ i) × (new ≡ old) × (status ≡ 2) × Writes (string_bytes text) errors last
 Runs parsed.Memory i now old new errors last status = (now ≡ i) × (new ≡ old) × Tells Memory status errors last

@@ -3,7 +3,8 @@
 ghost use Rattle.std.specs.Prelude.{◌≡◌, ◌<◌, ◌^◌, ℕ, false, map, string_bytes, IfOk, IfErr, IfSome, IsSome, Some};
 ghost use Rattle.bitstool.specs.declared.task.Parsed.{Parsed as ParsedValue};
 ghost use Rattle.clap.specs.Words.{app_of, found_of, kind_of, rows_of, rule_of, subcommand_rows_of};
-ghost use Rattle.bitstool.specs.Words.{numbered, FindsAll, HasAllLimits, HasLimits, HasNumber, HasSetting, HasShapes, Means, Says, Fails, Shows, bitstool, limit_rule, limited, number_rule, dropping, comparing};
+ghost use Rattle.bitstool.specs.Words.{numbered, FindsAll, HasAllLimits, HasLimits, HasNumber, HasSetting, HasShapes, Means, Says, Fails, Shows};
+ghost use Rattle.bitstool.specs.Words.{bitstool, limit_rule, limited, number_rule, dropping, comparing};
 
 use crate::task::{Parsed, Task};
 use bit_fields::{Limits, Shapes};

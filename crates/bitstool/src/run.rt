@@ -67,7 +67,8 @@ fn obey<S: Source, K: Flush, E: Sink>(
     mut sink: K,
     errors: &mut E,
 ) -> Ran<S, K>
-    ensures { Runs parsed (S.incoming source) (S.incoming result.source) (K.outgoing sink) (K.outgoing result.sink) (E.outgoing errors.old) (E.outgoing errors.new) result.status }
+    ensures { Runs parsed (S.incoming source) (S.incoming result.source) (K.outgoing sink) (K.outgoing result.sink)
+        (E.outgoing errors.old) (E.outgoing errors.new) result.status }
 {
     match parsed {
         Parsed::Task(task) => {
@@ -120,11 +121,14 @@ pub fn run<S: Source, K: Flush, E: Sink>(
     errors: &mut E,
 ) -> Ran<S, K>
     // Without words it writes the normal form under the usual limits, and keeps BLOCKINFO blocks.
-    ensures plain { words.items ≡ [] → Runs (ParsedValue.Task (TaskValue.Normal (record { bytes = 1073741824; depth = 64; values = 134217728; shapes = AtDefinition }) Info.Keep))
-        (S.incoming source) (S.incoming result.source) (K.outgoing sink) (K.outgoing result.sink) (E.outgoing errors.old) (E.outgoing errors.new) result.status }
+    ensures plain { words.items ≡ []
+        → Runs (ParsedValue.Task (TaskValue.Normal (record { bytes = 1073741824; depth = 64; values = 134217728; shapes = AtDefinition }) Info.Keep))
+        (S.incoming source) (S.incoming result.source) (K.outgoing sink) (K.outgoing result.sink)
+        (E.outgoing errors.old) (E.outgoing errors.new) result.status }
     // With words it does what they say.
     ensures any { (words.items ≡ [] → ⊥) → (parsed : ParsedValue) × Says (map string_bytes words.items) parsed
-        × Runs parsed (S.incoming source) (S.incoming result.source) (K.outgoing sink) (K.outgoing result.sink) (E.outgoing errors.old) (E.outgoing errors.new) result.status }
+        × Runs parsed (S.incoming source) (S.incoming result.source) (K.outgoing sink) (K.outgoing result.sink)
+        (E.outgoing errors.old) (E.outgoing errors.new) result.status }
 {
     let parsed = if words.is_empty() {
         Parsed::Task(Task::Normal {

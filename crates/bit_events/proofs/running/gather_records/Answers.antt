@@ -19,7 +19,7 @@ loop-id-preserved g c =
     record {
       gathers = gathers_more g.G.Gatherer.gathered c.args.limits.now c.args.frame.now c.args.used.now c.args.ahead c.args.gatherer.now c.loop-id.spent b c.loop-id.gatherer c.in-Some.id c.in-Some.code h.0 d c.record.new.self (c.loop-id.spent + c.count-spent.result) c.loop-id.invariant.gathers more
           (λ outer handed same. h.2.1 c.args.limits.now outer handed (ap (λ (u : ℕ). c.args.limits.now.values - u) same ∙ sym room))
-          (subst (λ (e : Event). Gathers g.G.Gatherer.gathered c.loop-id.gatherer e c.record.new.self) event (c.in_ok-record.ensures h.0 h.1));
+          (subst (λ (e : Event). Gathers g.G.Gatherer.gathered c.loop-id.gatherer e c.record.new.self) event (c.in_ok-record.ensures.gathers h.0 h.1));
       first = c.position-after.ensures;
-      took = (h.0, h.1);
+      took = c.in_ok-record.ensures.took (h.0, h.1);
     }
