@@ -61,7 +61,8 @@ pub fn normalise<S: Source, K: Sink>(
 ) -> (Result<u64, Fault>, S, K)
     ensures { Normalises info limits (S.incoming source) (K.outgoing sink) result.0 (S.incoming result.1) (K.outgoing result.2) }
 {
-    let (answer, source) = fold(alloc, source, limits, FormBuilder::new(alloc, info, limits));
+    let builder = FormBuilder::new(alloc, info, limits);
+    let (answer, source) = fold(alloc, source, limits, builder);
     match answer {
         Ok(folded) => match folded.gatherer.finish() {
             Some(text) => {

@@ -18,7 +18,7 @@ returns-in-Err g c =
 pub give-written-requires-clause-whole : goal.give-written-requires-clause-whole
 give-written-requires-clause-whole g c =
     let some = rw c.in-Ok.is at c.fold-answer.ensures.some in
-    (c.in-Some.ensures.form c.new.result some.0 some.1 some.2).1
+    (c.in-Some.ensures.form c.new-builder.result some.0 some.1 some.2).1
 
 pub returns-in-Some : goal.returns-in-Some
 returns-in-Some g c =
@@ -26,12 +26,12 @@ returns-in-Some g c =
     let all = rw c.in-Ok.is at c.fold-answer.ensures.whole in
     let some = rw c.in-Ok.is at c.fold-answer.ensures.some in
     let magic = magic_number c.in-Ok.folded.head.magic in
-    let f : Found c.args.info c.args.limits i.to_come c.new.result c.in-Ok.folded.gatherer magic = found c.args.info c.args.limits i.to_come c.new.result c.in-Ok.folded.gatherer (head_told c.in-Ok.folded.head) c.in-Ok.folded.after magic some (λ known. (all.1 known).0) c.new.ensures.info refl in
-    let told = c.in-Some.ensures.form c.new.result f.events f.form f.closed in
-    let tree : Tree = record { magic = magic; blocks = told_at_level c.new.result.info f.events 0 } in
-    let fits : 4 + length c.in-Some.text / 8 ≤ c.args.limits.bytes = omega (arith, told.2, ap (λ (l : Limits). l.bytes) c.new.ensures.limits) in
+    let f : Found c.args.info c.args.limits i.to_come c.new-builder.result c.in-Ok.folded.gatherer magic = found c.args.info c.args.limits i.to_come c.new-builder.result c.in-Ok.folded.gatherer (head_told c.in-Ok.folded.head) c.in-Ok.folded.after magic some (λ known. (all.1 known).0) c.new-builder.ensures.info refl in
+    let told = c.in-Some.ensures.form c.new-builder.result f.events f.form f.closed in
+    let tree : Tree = record { magic = magic; blocks = told_at_level c.new-builder.result.info f.events 0 } in
+    let fits : 4 + length c.in-Some.text / 8 ≤ c.args.limits.bytes = omega (arith, told.2, ap (λ (l : Limits). l.bytes) c.new-builder.ensures.limits) in
     wrote_form c.args.info c.args.limits i (g.K.Sink.outgoing c.args.sink) c.give-written.result.0 (g.S.Source.incoming c.fold-answer.result.1) (g.K.Sink.outgoing c.give-written.result.1) tree
-    (read_tree c.args.info c.args.limits i (g.S.Source.incoming c.fold-answer.result.1) c.new.result c.in-Ok.folded.gatherer (head_told c.in-Ok.folded.head) c.in-Ok.folded.after magic f all)
+    (read_tree c.args.info c.args.limits i (g.S.Source.incoming c.fold-answer.result.1) c.new-builder.result c.in-Ok.folded.gatherer (head_told c.in-Ok.folded.head) c.in-Ok.folded.after magic f all)
     (c.give-written.ensures tree c.args.limits.bytes refl (sym told.0) fits)
 
 pub returns-in-None : goal.returns-in-None
@@ -40,8 +40,8 @@ returns-in-None g c =
     let all = rw c.in-Ok.is at c.fold-answer.ensures.whole in
     let some = rw c.in-Ok.is at c.fold-answer.ensures.some in
     let magic = magic_number c.in-Ok.folded.head.magic in
-    let f : Found c.args.info c.args.limits i.to_come c.new.result c.in-Ok.folded.gatherer magic = found c.args.info c.args.limits i.to_come c.new.result c.in-Ok.folded.gatherer (head_told c.in-Ok.folded.head) c.in-Ok.folded.after magic some (λ known. (all.1 known).0) c.new.ensures.info refl in
-    let told = c.in-None.ensures.form c.new.result f.events f.form f.closed in
-    let tree : Tree = record { magic = magic; blocks = told_at_level c.new.result.info f.events 0 } in
-    let over : c.args.limits.bytes < size_of tree = omega (arith, told, ap (λ (l : Limits). l.bytes) c.new.ensures.limits, form_bytes tree _ refl) in
-    (tree, read_tree c.args.info c.args.limits i (g.S.Source.incoming c.fold-answer.result.1) c.new.result c.in-Ok.folded.gatherer (head_told c.in-Ok.folded.head) c.in-Ok.folded.after magic f all, (over, refl))
+    let f : Found c.args.info c.args.limits i.to_come c.new-builder.result c.in-Ok.folded.gatherer magic = found c.args.info c.args.limits i.to_come c.new-builder.result c.in-Ok.folded.gatherer (head_told c.in-Ok.folded.head) c.in-Ok.folded.after magic some (λ known. (all.1 known).0) c.new-builder.ensures.info refl in
+    let told = c.in-None.ensures.form c.new-builder.result f.events f.form f.closed in
+    let tree : Tree = record { magic = magic; blocks = told_at_level c.new-builder.result.info f.events 0 } in
+    let over : c.args.limits.bytes < size_of tree = omega (arith, told, ap (λ (l : Limits). l.bytes) c.new-builder.ensures.limits, form_bytes tree _ refl) in
+    (tree, read_tree c.args.info c.args.limits i (g.S.Source.incoming c.fold-answer.result.1) c.new-builder.result c.in-Ok.folded.gatherer (head_told c.in-Ok.folded.head) c.in-Ok.folded.after magic f all, (over, refl))
