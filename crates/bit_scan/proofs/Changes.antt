@@ -1,19 +1,15 @@
 -- Rows of codes and of block ids with one of them changed.
-use Rattle.std.proofs.Common.{◌≡◌, ℕ, ◌+◌, false, List, map, Option, Some, None, is_some, Result, Ok, Err, nat_eq, refl, ap, sym, ◌∙◌, min, arith, slice_get, get_or, position}
+use Rattle.std.proofs.Common.{◌≡◌, ℕ, ◌+◌, List, [], ◌∷◌, ◌++◌, map, Some, Result, Ok, Err, refl, ap, ◌∙◌, min, arith, slice_get}
 use Rattle.std.specs.Prelude.{OnOk}
 use Rattle.std.specs.declared.alloc.AllocError.{AllocError}
-use Rattle.std.proofs.lemmas.List.Quantifiers.{position-Some}
-use Rattle.std.proofs.lemmas.Option.{slice_get-get_or}
-use Rattle.std.proofs.lemmas.Bool.{eqb-true}
-use Rattle.std.specs.List.{IsDistinct}
-use Rattle.std.specs.Map.{lookup, keys_of}
-use Rattle.indexmap.specs.IndexMap.{insert_entry}
-use Rattle.indexmap.specs.Layout.{set_value_at}
+use Rattle.std.proofs.Math.ListN.{set}
+use Rattle.std.specs.Map.{keys_of}
 use Rattle.bit_grammar.specs.Tally.{CodeTally, BlockTally}
 use Rattle.bit_grammar.specs.Counting.{fresh_code, fresh_row, with_row}
 use Rattle.bit_scan.specs.Additions.{with_added}
 use Rattle.bit_scan.specs.CodesView.{code_tally, code_tallies, one_more, with_use}
 use Rattle.bit_scan.specs.Cut.{saturated, cut_code, cut_row, cut_rows}
+use Rattle.bit_scan.specs.Indexed.{IsAbsent, AreDistinct}
 use Rattle.bit_scan.specs.Rows.{block_tally, block_tallies}
 use Rattle.bit_scan.specs.declared.rows.Addition.{Addition}
 use Rattle.bit_scan.specs.declared.rows.BlockRow.{BlockRow}
@@ -26,7 +22,7 @@ codes_shown = record { by_key = λ e. refl; kept = λ row. refl }
 
 -- one more record of a code that was there
 pub use_at : (es : List (ℕ × CodeRow)) (tallies : List CodeTally) (code j bits i : ℕ) (old new : CodeRow) → new.count ≡ min (old.count + 1) 18446744073709551615 → new.bits ≡ min (old.bits + bits) 18446744073709551615
-    → IsDistinct nat_eq (keys_of es) → slice_get es i ≡ Some (j, old) → slice_get (keys_of es) i ≡ Some code → code_tallies es ≡ map cut_code tallies → code_tallies (set_value_at es i new) ≡ map cut_code (with_use code bits tallies)
+    → AreDistinct (keys_of es) → slice_get es i ≡ Some (j, old) → slice_get (keys_of es) i ≡ Some code → code_tallies es ≡ map cut_code tallies → code_tallies (set es i (j, new)) ≡ map cut_code (with_use code bits tallies)
 use_at es tallies code j bits i old new count sum distinct found at shown =
     changed_at code_tally (λ (x : CodeTally). x.code) cut_code fresh_code (one_more bits) codes_shown code j old new
     (λ row same.
@@ -38,7 +34,7 @@ use_at es tallies code j bits i old new count sum distinct found at shown =
 
 -- the first record of a code
 pub use_absent : (es : List (ℕ × CodeRow)) (tallies : List CodeTally) (code bits : ℕ) (new : CodeRow) → new.count ≡ 1 → new.bits ≡ saturated bits
-    → code_tallies es ≡ map cut_code tallies → None ≡ lookup (nat_eq code) es → code_tallies (insert_entry nat_eq es code new) ≡ map cut_code (with_use code bits tallies)
+    → code_tallies es ≡ map cut_code tallies → IsAbsent code (keys_of es) → code_tallies (es ++ (code, new) ∷ []) ≡ map cut_code (with_use code bits tallies)
 use_absent es tallies code bits new count sum shown absent =
     let none : 0 + bits ≡ bits = omega arith in
     changed_absent code_tally (λ (x : CodeTally). x.code) cut_code fresh_code (one_more bits) codes_shown code new (rw (count, sum, none) refl) es tallies shown absent
@@ -49,26 +45,15 @@ rows_shown = record { by_key = λ e. refl; kept = λ row. refl }
 -- something more in a row that was there, if it was added
 pub added_at : (result : Result (Unit {0}) AllocError) (es : List (ℕ × BlockRow)) (tallies : List BlockTally) (id j i : ℕ) (addition : Addition) (old new : BlockRow)
     → ((tally : BlockTally) → block_tally (id, old) ≡ cut_row tally → OnOk result (block_tally (id, new) ≡ cut_row (with_added addition tally)))
-    → IsDistinct nat_eq (keys_of es) → slice_get es i ≡ Some (j, old) → slice_get (keys_of es) i ≡ Some id → block_tallies es ≡ cut_rows tallies
-    → OnOk result (block_tallies (set_value_at es i new) ≡ cut_rows (with_row (with_added addition) id tallies))
+    → AreDistinct (keys_of es) → slice_get es i ≡ Some (j, old) → slice_get (keys_of es) i ≡ Some id → block_tallies es ≡ cut_rows tallies
+    → OnOk result (block_tallies (set es i (j, new)) ≡ cut_rows (with_row (with_added addition) id tallies))
 added_at (Ok v) es tallies id j i addition old new step distinct found at shown =
     changed_at block_tally (λ (x : BlockTally). x.id) cut_row fresh_row (with_added addition) rows_shown id j old new step es tallies i shown distinct found at
 added_at (Err e) es tallies id j i addition old new step distinct found at shown = tt
 
--- a key found at a place stands there
-pub place_of_key : {V : Type 0} (es : List (ℕ × V)) (k i : ℕ) → position (nat_eq k) (keys_of es) ≡ Some i → slice_get (keys_of es) i ≡ Some k
-place_of_key es k i found =
-    let at = position-Some (nat_eq k) (keys_of es) i 0 found in
-    slice_get-get_or (keys_of es) i 0 at.0 ∙ ap (λ (n : ℕ). Some n) (sym (eqb-true k (get_or (keys_of es) i 0) at.1))
-
--- a key that is not found has no value
-pub no_value : {V : Type 0} (found : Option V) → false ≡ is_some found → None ≡ found
-no_value None is = refl
-no_value (Some v) is = absurd cc
-
 -- the first of a row
 pub added_absent : (es : List (ℕ × BlockRow)) (tallies : List BlockTally) (id : ℕ) (addition : Addition) (fresh new : BlockRow)
     → block_tally (id, fresh) ≡ fresh_row id → ((tally : BlockTally) → block_tally (id, fresh) ≡ cut_row tally → block_tally (id, new) ≡ cut_row (with_added addition tally))
-    → block_tallies es ≡ cut_rows tallies → None ≡ lookup (nat_eq id) es → block_tallies (insert_entry nat_eq es id new) ≡ cut_rows (with_row (with_added addition) id tallies)
+    → block_tallies es ≡ cut_rows tallies → IsAbsent id (keys_of es) → block_tallies (es ++ (id, new) ∷ []) ≡ cut_rows (with_row (with_added addition) id tallies)
 added_absent es tallies id addition fresh new none step shown absent =
     changed_absent block_tally (λ (x : BlockTally). x.id) cut_row fresh_row (with_added addition) rows_shown id new (step (fresh_row id) none) es tallies shown absent

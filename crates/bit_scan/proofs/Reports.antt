@@ -1,5 +1,5 @@
 -- The lines of a report, one after the other.
-use Rattle.std.proofs.Common.{◌≡◌, ℕ, List, [], ◌∷◌, ◌++◌, Result, Err, sym, ap}
+use Rattle.std.proofs.Common.{◌≡◌, ℕ, ◌+◌, ◌<◌, List, [], ◌∷◌, ◌++◌, length, get_or, drop, drop-cons, add-one, Result, Err, sym, ap}
 use Rattle.std.specs.Prelude.{flat_map}
 use Rattle.std.proofs.lemmas.List.{append-nil}
 use Rattle.bit_grammar.specs.Tally.{Tally}
@@ -12,6 +12,10 @@ use Rattle.bit_scan.specs.Rows.{block_tally, block_tallies}
 use Rattle.bit_scan.specs.declared.rows.BlockRow.{BlockRow}
 use Rattle.bit_scan.specs.declared.rows.CodeRow.{CodeRow}
 use Rattle.bit_scan.proofs.Prints.{Goes, goes_starts, goes_as, goes_on, goes_wrong, goes_last, goes_ends}
+
+-- the first of what is left
+pub drop_first : {A : Type 0} (xs : List A) (i : ℕ) (x : A) → i < length xs → drop i xs ≡ get_or xs i x ∷ drop (i + 1) xs
+drop_first xs i x h = rw add-one (drop-cons xs i x h)
 
 -- ---- codes
 

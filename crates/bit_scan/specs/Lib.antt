@@ -4,6 +4,7 @@ pub mod CodesView
 pub mod Counting
 pub mod Cut
 pub mod Fitting
+pub mod Indexed
 pub mod Lines
 pub mod Listing
 pub mod Printing

@@ -9,7 +9,6 @@ ghost use Rattle.bit_scan.specs.Written.{WritesText};
 use crate::printer::Printer;
 use crate::rows::{BlockRow, Codes};
 use bit_fields::{Fault, Sink};
-use indexmap::IndexMap;
 use std::alloc::Global;
 use std::marker::Model;
 
@@ -19,7 +18,7 @@ pub struct Analysis {
     alloc: Global,
     magic: [u8; 4],
     bits: u64,
-    rows: IndexMap<u32, BlockRow>,
+    rows: Vec<(u32, BlockRow)>,
 }
 
 impl Model for Analysis {
@@ -30,14 +29,14 @@ impl Model for Analysis {
     ghost use Rattle.bit_fields.specs.Opening.{magic_number};
     ghost use Rattle.bit_scan.specs.Rows.{block_tallies};
 
-    ghost view = { λ analysis. record { magic = magic_number analysis.magic; bits = analysis.bits; rows = block_tallies analysis.rows.entries } };
+    ghost view = { λ analysis. record { magic = magic_number analysis.magic; bits = analysis.bits; rows = block_tallies analysis.rows.items } };
 }
 
 /// Writes the lines of codes.
 fn write_codes<K: Sink>(printer: &mut Printer<K>, codes: &Codes) -> Result<(), Fault>
     ensures { Prints (flat_map code_text (code_tallies codes.now)) printer.old result printer.new }
 {
-    for (code, row) in codes.rows().iter() {
+    for (code, row) in codes.rows() {
         printer.code_row(*code, *row)?;
     }
     Ok(())
@@ -52,13 +51,10 @@ fn write_row<K: Sink>(printer: &mut Printer<K>, id: u32, row: &BlockRow) -> Resu
 }
 
 /// Writes the lines of all rows.
-fn write_rows<K: Sink>(
-    printer: &mut Printer<K>,
-    rows: &IndexMap<u32, BlockRow>,
-) -> Result<(), Fault>
-    ensures { Prints (flat_map row_text (block_tallies rows.now.entries)) printer.old result printer.new }
+fn write_rows<K: Sink>(printer: &mut Printer<K>, rows: &[(u32, BlockRow)]) -> Result<(), Fault>
+    ensures { Prints (flat_map row_text (block_tallies rows.now)) printer.old result printer.new }
 {
-    for (id, row) in rows.iter() {
+    for (id, row) in rows {
         write_row(printer, *id, row)?;
     }
     Ok(())
@@ -70,9 +66,9 @@ impl Analysis {
         alloc: Global,
         magic: [u8; 4],
         bits: u64,
-        rows: IndexMap<u32, BlockRow>,
+        rows: Vec<(u32, BlockRow)>,
     ) -> Analysis
-        ensures { result ≡ record { magic = magic_number magic; bits = bits; rows = block_tallies rows.entries } }
+        ensures { result ≡ record { magic = magic_number magic; bits = bits; rows = block_tallies rows.items } }
     {
         Analysis {
             alloc,
@@ -96,11 +92,11 @@ impl Analysis {
         self.bits
     }
 
-    /// A row for each block id, in order of first entry.
-    pub fn rows(&self) -> &IndexMap<u32, BlockRow>
-        ensures { block_tallies result.now.entries ≡ self.now.rows }
+    /// Each block id and its row, in order of first entry.
+    pub fn rows(&self) -> &[(u32, BlockRow)]
+        ensures { block_tallies result.now ≡ self.now.rows }
     {
-        &self.rows
+        self.rows.as_slice()
     }
 
     /// Writes the report through a printer.

@@ -5,11 +5,10 @@ ghost use Rattle.bit_scan.specs.Counting.{open_counts, added_here, Closes};
 ghost use Rattle.bit_scan.specs.Cut.{cut, cut_open};
 ghost use Rattle.bit_scan.specs.Rows.{block_tallies};
 
-use crate::rows::{Addition, BlockRow, add_by_id, add_to_row};
+use crate::rows::{Addition, BlockRow, BlockRows};
 use bit_abbrev::Abbrev;
 use bit_events::Gatherer;
 use bit_fields::{ValueCount, ValueTaker};
-use indexmap::IndexMap;
 use std::alloc::{AllocError, Global};
 use std::marker::Model;
 
@@ -26,8 +25,7 @@ struct OpenBlock {
 /// last. It holds no tree.
 #[derive(Drop)]
 pub(crate) struct Counter {
-    alloc: Global,
-    rows: IndexMap<u32, BlockRow>,
+    rows: BlockRows,
     open: Vec<OpenBlock>,
 }
 
@@ -52,7 +50,7 @@ impl Model for Counter {
     ghost use Rattle.bit_scan.specs.Counting.{open_counts};
     ghost use Rattle.bit_scan.specs.Rows.{block_tallies};
 
-    ghost view = { λ counter. record { rows = block_tallies counter.rows.entries; around = open_counts counter.open.items } };
+    ghost view = { λ counter. record { rows = block_tallies counter.rows; around = open_counts counter.open.items } };
 }
 
 impl Counter {
@@ -61,8 +59,7 @@ impl Counter {
         ensures { result ≡ no_counts }
     {
         Counter {
-            alloc,
-            rows: IndexMap::new(alloc),
+            rows: BlockRows::new(alloc),
             open: Vec::new(alloc),
         }
     }
@@ -71,7 +68,7 @@ impl Counter {
     fn open_block(&mut self, id: u32, first: u64) -> Result<(), AllocError>
         ensures { (counts : Counts) (opened : Opened) → opened.id ≡ id → opened.first ≡ first → self.old ≡ cut counts → OnOk result (self.new ≡ cut (count_event (enters opened) counts)) }
     {
-        let place = add_by_id(self.alloc, &mut self.rows, id, Addition::Block)?;
+        let place = self.rows.add_by_id(id, Addition::Block)?;
         self.open.push(OpenBlock {
             id,
             place,
@@ -88,7 +85,7 @@ impl Counter {
         match close_block(&mut self.open, after) {
             Some((block, bits)) => {
                 let own = Addition::Bits(bits);
-                add_to_row(self.alloc, &mut self.rows, block.id, block.place, own)
+                self.rows.add(block.id, block.place, own)
             }
             None => Ok(()),
         }
@@ -100,18 +97,16 @@ impl Counter {
         ensures { (counts : Counts) → self.old ≡ cut counts → OnOk result (self.new ≡ cut (added_here addition counts)) }
     {
         match self.open.last() {
-            Some(block) => {
-                add_to_row(self.alloc, &mut self.rows, block.id, block.place, addition)
-            }
+            Some(block) => self.rows.add(block.id, block.place, addition),
             None => Ok(()),
         }
     }
 
     /// The rows.
-    pub(crate) fn into_rows(self) -> IndexMap<u32, BlockRow>
-        ensures { block_tallies result.entries ≡ self.rows }
+    pub(crate) fn into_rows(self) -> Vec<(u32, BlockRow)>
+        ensures { block_tallies result.items ≡ self.rows }
     {
-        self.rows
+        self.rows.into_rows()
     }
 }
 

@@ -1,6 +1,6 @@
-ghost use Rattle.std.specs.Prelude.{◌≡◌, ◌↔◌, ◌<◌, ℕ, map, nat_eq, slice_get, List, [], Some, None, IsTrue, OnOk};
-ghost use Rattle.std.specs.Map.{lookup};
-ghost use Rattle.indexmap.specs.IndexMap.{keys, index_map_len};
+ghost use Rattle.std.specs.Prelude.{◌≡◌, ◌↔◌, ◌<◌, ℕ, map, length, slice_get, List, [], Some, IsTrue, OnOk};
+ghost use Rattle.std.specs.Map.{keys_of};
+ghost use Rattle.bit_scan.specs.Indexed.{IsAbsent, AreDistinct, IsIndexed};
 ghost use Rattle.bit_grammar.specs.Tally.{CodeTally, BlockTally};
 ghost use Rattle.bit_grammar.specs.Counting.{fresh_row, with_row};
 ghost use Rattle.bit_scan.specs.Additions.{with_added};
@@ -8,8 +8,8 @@ ghost use Rattle.bit_scan.specs.CodesView.{code_tallies, with_use};
 ghost use Rattle.bit_scan.specs.Cut.{cut_code, cut_row, cut_rows};
 ghost use Rattle.bit_scan.specs.Rows.{block_tally, block_tallies};
 
-use indexmap::IndexMap;
 use std::alloc::{AllocError, Global};
+use std::collections::BTreeMap;
 use std::marker::Model;
 
 /// What the records with one code add up to, in blocks with one id.
@@ -27,7 +27,8 @@ const REMEMBERED: usize = 64;
 /// A row for each code of records, in order of first use.
 #[derive(Drop)]
 pub struct Codes {
-    rows: IndexMap<u64, CodeRow>,
+    rows: Vec<(u64, CodeRow)>,
+    index: BTreeMap<u64, usize>,
     /// By the low bits of a code, the place of the row that was found last for a code with these bits. A place that is
     /// another code's costs a look-up, and changes no answer.
     places: [u8; REMEMBERED],
@@ -39,15 +40,20 @@ impl Model for Codes {
 
     ghost Value = { List (ℕ × CodeRow) };
 
-    ghost view = { λ codes. codes.rows.entries };
+    ghost use Rattle.std.specs.Map.{keys_of};
+    ghost use Rattle.bit_scan.specs.Indexed.{IsIndexed};
+
+    ghost view = { λ codes. codes.rows.items };
+
+    ghost invariant = { λ codes. IsIndexed (keys_of codes.rows.items) codes.index.entries };
 }
 
 /// Whether the row at a place is that of a code.
 #[inline(always)]
-fn is_code_at(rows: &IndexMap<u64, CodeRow>, place: usize, code: u64) -> bool
-    ensures { IsTrue result ↔ (slice_get (keys rows.now) place ≡ Some code) }
+fn is_code_at(rows: &[(u64, CodeRow)], place: usize, code: u64) -> bool
+    ensures { IsTrue result ↔ (slice_get (keys_of rows.now) place ≡ Some code) }
 {
-    match rows.get_index(place) {
+    match rows.get(place) {
         Some((at, _)) => *at == code,
         None => false,
     }
@@ -55,32 +61,56 @@ fn is_code_at(rows: &IndexMap<u64, CodeRow>, place: usize, code: u64) -> bool
 
 /// Counts one more record in the row at a place.
 #[inline(always)]
-fn count_at(rows: &mut IndexMap<u64, CodeRow>, place: usize, bits: u64)
-    requires { place < index_map_len rows.old }
-    ensures { (code : ℕ) (tallies : List CodeTally) → slice_get (keys rows.old) place ≡ Some code → code_tallies rows.old.entries ≡ map cut_code tallies → code_tallies rows.new.entries ≡ map cut_code (with_use code bits tallies) }
+fn count_at(rows: &mut [(u64, CodeRow)], place: usize, bits: u64)
+    requires { place < length rows.old }
+    ensures keys { keys_of rows.new ≡ keys_of rows.old }
+    ensures counts { (code : ℕ) (tallies : List CodeTally) → AreDistinct (keys_of rows.old) → slice_get (keys_of rows.old) place ≡ Some code → code_tallies rows.old ≡ map cut_code tallies → code_tallies rows.new ≡ map cut_code (with_use code bits tallies) }
 {
-    let (_, row) = rows.pair_mut(place);
+    let (_, row) = &mut rows[place];
     row.count = row.count.saturating_add(1);
     row.bits = row.bits.saturating_add(bits);
 }
 
-/// Counts one more record in the row of its code, which is a new one at the end if there is none, and answers the row's place.
-fn count_by_code(
-    rows: &mut IndexMap<u64, CodeRow>,
+/// Begins the row of a code that has none, at the end, with one record, and answers its place.
+fn begin_code(
+    rows: &mut Vec<(u64, CodeRow)>,
+    index: &mut BTreeMap<u64, usize>,
     code: u64,
     bits: u64,
 ) -> Result<usize, AllocError>
-    ensures { (tallies : List CodeTally) → code_tallies rows.old.entries ≡ map cut_code tallies → OnOk result (code_tallies rows.new.entries ≡ map cut_code (with_use code bits tallies)) }
+    requires indexed { IsIndexed (keys_of rows.old.items) index.old.entries }
+    requires absent { IsAbsent code (keys_of rows.old.items) }
+    ensures indexed { IsIndexed (keys_of rows.new.items) index.new.entries }
+    ensures counts { (tallies : List CodeTally) → code_tallies rows.old.items ≡ map cut_code tallies → OnOk result (code_tallies rows.new.items ≡ map cut_code (with_use code bits tallies)) }
 {
-    match rows.get_index_of(&code) {
+    let place = rows.len();
+    rows.push((code, CodeRow { count: 1, bits }))?;
+    match index.insert(code, place) {
+        Ok(_) => Ok(place),
+        Err(_) => {
+            rows.truncate(place);
+            Err(AllocError)
+        }
+    }
+}
+
+/// Counts one more record in the row of its code, which is a new one at the end if there is none, and answers the row's place.
+fn count_by_code(
+    rows: &mut Vec<(u64, CodeRow)>,
+    index: &mut BTreeMap<u64, usize>,
+    code: u64,
+    bits: u64,
+) -> Result<usize, AllocError>
+    requires { IsIndexed (keys_of rows.old.items) index.old.entries }
+    ensures indexed { IsIndexed (keys_of rows.new.items) index.new.entries }
+    ensures counts { (tallies : List CodeTally) → code_tallies rows.old.items ≡ map cut_code tallies → OnOk result (code_tallies rows.new.items ≡ map cut_code (with_use code bits tallies)) }
+{
+    match index.get(&code) {
         Some(place) => {
-            count_at(rows, place, bits);
-            Ok(place)
+            count_at(rows, *place, bits);
+            Ok(*place)
         }
-        None => {
-            let (place, _) = rows.insert_full(code, CodeRow { count: 1, bits })?;
-            Ok(place)
-        }
+        None => begin_code(rows, index, code, bits),
     }
 }
 
@@ -90,16 +120,17 @@ impl Codes {
         ensures { result ≡ [] }
     {
         Codes {
-            rows: IndexMap::new(alloc),
+            rows: Vec::new(alloc),
+            index: BTreeMap::new(alloc),
             places: [0; REMEMBERED],
         }
     }
 
-    /// The rows, in order of first use.
-    pub fn rows(&self) -> &IndexMap<u64, CodeRow>
-        ensures { result.now.entries ≡ self.now }
+    /// Each code and its row, in order of first use.
+    pub fn rows(&self) -> &[(u64, CodeRow)]
+        ensures { result.now ≡ self.now }
     {
-        &self.rows
+        self.rows.as_slice()
     }
 
     /// Counts one more record, and remembers the place of its row.
@@ -108,7 +139,7 @@ impl Codes {
     fn add_by_code(&mut self, code: u64, bits: u64) -> Result<(), AllocError>
         ensures { (tallies : List CodeTally) → code_tallies self.old ≡ map cut_code tallies → OnOk result (code_tallies self.new ≡ map cut_code (with_use code bits tallies)) }
     {
-        let place = count_by_code(&mut self.rows, code, bits)?;
+        let place = count_by_code(&mut self.rows, &mut self.index, code, bits)?;
         self.places[(code % 64) as usize] = u8::try_from(place).unwrap_or(0);
         Ok(())
     }
@@ -212,30 +243,12 @@ impl BlockRow {
     }
 }
 
-/// Begins the row of an id that has none, at the end, with what an event adds, and answers its place.
-#[cold]
-#[inline(never)]
-fn begin_row(
-    alloc: Global,
-    rows: &mut IndexMap<u32, BlockRow>,
-    id: u32,
-    addition: Addition,
-) -> Result<usize, AllocError>
-    requires { lookup (nat_eq id) rows.old.entries ≡ None }
-    ensures { (tallies : List BlockTally) → block_tallies rows.old.entries ≡ cut_rows tallies → OnOk result (block_tallies rows.new.entries ≡ cut_rows (with_row (with_added addition) id tallies)) }
-{
-    let mut row = BlockRow::new(alloc);
-    row.add(addition)?;
-    let (place, _) = rows.insert_full(id, row)?;
-    Ok(place)
-}
-
 /// Whether the row at a place is that of an id.
 #[inline(always)]
-fn is_id_at(rows: &IndexMap<u32, BlockRow>, place: usize, id: u32) -> bool
-    ensures { IsTrue result ↔ (slice_get (keys rows.now) place ≡ Some id) }
+fn is_id_at(rows: &[(u32, BlockRow)], place: usize, id: u32) -> bool
+    ensures { IsTrue result ↔ (slice_get (keys_of rows.now) place ≡ Some id) }
 {
-    match rows.get_index(place) {
+    match rows.get(place) {
         Some((at, _)) => *at == id,
         None => false,
     }
@@ -243,50 +256,113 @@ fn is_id_at(rows: &IndexMap<u32, BlockRow>, place: usize, id: u32) -> bool
 
 /// Counts what an event adds to the row at a place.
 #[inline(always)]
-fn add_at(
-    rows: &mut IndexMap<u32, BlockRow>,
-    place: usize,
-    addition: Addition,
-) -> Result<(), AllocError>
-    requires { place < index_map_len rows.old }
-    ensures { (id : ℕ) (tallies : List BlockTally) → slice_get (keys rows.old) place ≡ Some id → block_tallies rows.old.entries ≡ cut_rows tallies → OnOk result (block_tallies rows.new.entries ≡ cut_rows (with_row (with_added addition) id tallies)) }
+fn add_at(rows: &mut [(u32, BlockRow)], place: usize, addition: Addition) -> Result<(), AllocError>
+    requires { place < length rows.old }
+    ensures keys { keys_of rows.new ≡ keys_of rows.old }
+    ensures adds { (id : ℕ) (tallies : List BlockTally) → AreDistinct (keys_of rows.old) → slice_get (keys_of rows.old) place ≡ Some id → block_tallies rows.old ≡ cut_rows tallies → OnOk result (block_tallies rows.new ≡ cut_rows (with_row (with_added addition) id tallies)) }
 {
-    let (_, row) = rows.pair_mut(place);
+    let (_, row) = &mut rows[place];
     row.add(addition)
 }
 
-/// Counts what an event adds to the row of an id, which is a new one at the end if there is none, and answers the row's place.
-pub(crate) fn add_by_id(
+/// Begins the row of an id that has none, at the end, with what an event adds, and answers its place.
+#[cold]
+#[inline(never)]
+fn begin_row(
     alloc: Global,
-    rows: &mut IndexMap<u32, BlockRow>,
+    rows: &mut Vec<(u32, BlockRow)>,
+    index: &mut BTreeMap<u32, usize>,
     id: u32,
     addition: Addition,
 ) -> Result<usize, AllocError>
-    ensures { (tallies : List BlockTally) → block_tallies rows.old.entries ≡ cut_rows tallies → OnOk result (block_tallies rows.new.entries ≡ cut_rows (with_row (with_added addition) id tallies)) }
+    requires indexed { IsIndexed (keys_of rows.old.items) index.old.entries }
+    requires absent { IsAbsent id (keys_of rows.old.items) }
+    ensures indexed { IsIndexed (keys_of rows.new.items) index.new.entries }
+    ensures adds { (tallies : List BlockTally) → block_tallies rows.old.items ≡ cut_rows tallies → OnOk result (block_tallies rows.new.items ≡ cut_rows (with_row (with_added addition) id tallies)) }
 {
-    match rows.get_index_of(&id) {
-        Some(place) => {
-            add_at(rows, place, addition)?;
-            Ok(place)
+    let place = rows.len();
+    let mut row = BlockRow::new(alloc);
+    row.add(addition)?;
+    rows.push((id, row))?;
+    match index.insert(id, place) {
+        Ok(_) => Ok(place),
+        Err(_) => {
+            rows.truncate(place);
+            Err(AllocError)
         }
-        None => begin_row(alloc, rows, id, addition),
     }
 }
 
-/// The same, where the row's place is known. A place that is another id's costs a look-up, and changes no answer.
-#[inline(always)]
-pub(crate) fn add_to_row(
+/// A row for each block id, in order of first entry.
+#[derive(Drop)]
+pub(crate) struct BlockRows {
     alloc: Global,
-    rows: &mut IndexMap<u32, BlockRow>,
-    id: u32,
-    place: usize,
-    addition: Addition,
-) -> Result<(), AllocError>
-    ensures { (tallies : List BlockTally) → block_tallies rows.old.entries ≡ cut_rows tallies → OnOk result (block_tallies rows.new.entries ≡ cut_rows (with_row (with_added addition) id tallies)) }
-{
-    if is_id_at(rows, place, id) {
-        return add_at(rows, place, addition);
+    rows: Vec<(u32, BlockRow)>,
+    index: BTreeMap<u32, usize>,
+}
+
+impl Model for BlockRows {
+    ghost use Rattle.std.specs.Prelude.{ℕ, List};
+    ghost use Rattle.bit_scan.specs.declared.rows.BlockRow.{BlockRow};
+
+    ghost Value = { List (ℕ × BlockRow) };
+
+    ghost use Rattle.std.specs.Map.{keys_of};
+    ghost use Rattle.bit_scan.specs.Indexed.{IsIndexed};
+
+    ghost view = { λ all. all.rows.items };
+
+    ghost invariant = { λ all. IsIndexed (keys_of all.rows.items) all.index.entries };
+}
+
+impl BlockRows {
+    /// No block is entered yet.
+    pub(crate) fn new(alloc: Global) -> BlockRows
+        ensures { result ≡ [] }
+    {
+        BlockRows {
+            alloc,
+            rows: Vec::new(alloc),
+            index: BTreeMap::new(alloc),
+        }
     }
-    add_by_id(alloc, rows, id, addition)?;
-    Ok(())
+
+    /// Counts what an event adds to the row of an id, which is a new one at the end if there is none, and answers the row's
+    /// place.
+    pub(crate) fn add_by_id(&mut self, id: u32, addition: Addition) -> Result<usize, AllocError>
+        ensures { (tallies : List BlockTally) → block_tallies self.old ≡ cut_rows tallies → OnOk result (block_tallies self.new ≡ cut_rows (with_row (with_added addition) id tallies)) }
+    {
+        match self.index.get(&id) {
+            Some(place) => {
+                let place = *place;
+                add_at(&mut self.rows, place, addition)?;
+                Ok(place)
+            }
+            None => begin_row(self.alloc, &mut self.rows, &mut self.index, id, addition),
+        }
+    }
+
+    /// The same, where the row's place is known. A place that is another id's costs a look-up, and changes no answer.
+    #[inline(always)]
+    pub(crate) fn add(
+        &mut self,
+        id: u32,
+        place: usize,
+        addition: Addition,
+    ) -> Result<(), AllocError>
+        ensures { (tallies : List BlockTally) → block_tallies self.old ≡ cut_rows tallies → OnOk result (block_tallies self.new ≡ cut_rows (with_row (with_added addition) id tallies)) }
+    {
+        if is_id_at(&self.rows, place, id) {
+            return add_at(&mut self.rows, place, addition);
+        }
+        self.add_by_id(id, addition)?;
+        Ok(())
+    }
+
+    /// Each id and its row.
+    pub(crate) fn into_rows(self) -> Vec<(u32, BlockRow)>
+        ensures { result.items ≡ self }
+    {
+        self.rows
+    }
 }

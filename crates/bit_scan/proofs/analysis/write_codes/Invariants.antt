@@ -1,6 +1,7 @@
+use Rattle.std.proofs.Common.{drop}
 use Rattle.bit_scan.proofs.Prints.{Goes}
 use Rattle.bit_scan.proofs.Reports.{lines_of_codes}
 use Rattle.bit_scan.proofs.analysis.write_codes.Given as goal
 
 abbrev pub invariant-loop-code : goal.invariant-loop-code
-invariant-loop-code g l = Goes (lines_of_codes l.codes) l.initial.printer (lines_of_codes l.code-iterator) l.printer
+invariant-loop-code g l = Goes (lines_of_codes l.codes) l.fn.printer (lines_of_codes (drop l.code-index l.code-items)) l.printer
