@@ -223,9 +223,28 @@ static EVENTS: [(u64, &str, &str); 10] = [
     (1000, "H DE C0 17 0B", "refused: WrapperNested at bit 160"),
 ];
 
-/// The events of an input under a limit are these, however it is cut.
-fn are_told(rt: &impl Abort, alloc: Global, limit: u64, text: &str, wanted: &str) {
-    let limits = Limits::new(limit, 64, 1000).expect(rt, "limits within their caps");
+/// Inputs with a definition of which the operands are in no lawful order, and their events where shapes are judged at their
+/// use.
+static AT_USE: [(&str, &str); 2] = [
+    // another definition is used
+    (
+        "M 21 0C 00 00 03 00 00 00 22 03 4C 8E 1C 89 01 72 4A 06 00 00",
+        "32 Enter { id: 8, width: 3, first: 32, body: 96 } \
+        Define { abbrev: Abbrev { ops: [Literal(1), Array, Fixed(7), Fixed(7)], usable: false }, first: 96, after: 135 } \
+        Define { abbrev: Abbrev { ops: [Literal(1), Fixed(7)], usable: true }, first: 135, after: 161 } \
+        Record { abbrev: 5, code: 1, values: [100], first: 161, after: 171 } Leave { after: 192 } None None ",
+    ),
+    // it is used
+    (
+        "M 21 0C 00 00 03 00 00 00 22 03 4C 8E 1C 02 00 00 00 00 00 00",
+        "32 Enter { id: 8, width: 3, first: 32, body: 96 } \
+        Define { abbrev: Abbrev { ops: [Literal(1), Array, Fixed(7), Fixed(7)], usable: false }, first: 96, after: 135 } \
+        refused: AbbrevShape at bit 135 used after a fault ",
+    ),
+];
+
+/// The events of an input under limits are these, however it is cut.
+fn are_told(rt: &impl Abort, alloc: Global, limits: Limits, text: &str, wanted: &str) {
     let bytes = bytes_of(alloc, text).expect(rt, "memory");
     for most in [1, 3, 4, 64] {
         let source = in_pieces(&bytes, most, 0);
@@ -236,7 +255,16 @@ fn are_told(rt: &impl Abort, alloc: Global, limit: u64, text: &str, wanted: &str
 #[test]
 fn events(rt: HostRuntime) {
     for (limit, text, wanted) in &EVENTS {
-        are_told(&rt, rt.alloc(), *limit, text, wanted);
+        let limits = Limits::new(*limit, 64, 1000).expect(&rt, "limits within their caps");
+        are_told(&rt, rt.alloc(), limits, text, wanted);
+    }
+}
+
+#[test]
+fn events_with_shapes_at_use(rt: HostRuntime) {
+    for (text, wanted) in &AT_USE {
+        let limits = Limits::usual().shapes_at_use();
+        are_told(&rt, rt.alloc(), limits, text, wanted);
     }
 }
 
