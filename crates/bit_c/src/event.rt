@@ -39,7 +39,7 @@ pub struct BsEvent {
 }
 
 /// No event is left.
-const NONE: BsEvent = BsEvent {
+pub(crate) const NONE: BsEvent = BsEvent {
     kind: OVER,
     id: 0,
     width: 0,

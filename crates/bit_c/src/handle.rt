@@ -19,7 +19,7 @@ pub struct BsHandle {
 
 /// A closed one.
 // The second part brings `Home` into the table of types.
-fn closed(alloc: Global) -> (BsHandle, Option<Box<Home>>)
+pub(crate) fn closed(alloc: Global) -> (BsHandle, Option<Box<Home>>)
     ensures { result.0.inner.home ≡ None }
 {
     let at: *mut () = ptr::null_mut();

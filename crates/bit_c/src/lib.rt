@@ -17,6 +17,8 @@ mod parts;
 mod reading;
 mod reasons;
 mod room;
+#[cfg(test)]
+mod tests;
 mod texts;
 
 pub use analysing::{BsBlockRow, BsCodeRow, BsTally, bs_analyse};

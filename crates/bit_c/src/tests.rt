@@ -1,0 +1,134 @@
+//! Each call once where it succeeds; tests/c_library asks them from outside.
+
+use crate::event::NONE;
+use crate::handle::closed;
+use crate::{
+    BsBlockRow, BsCodeRow, BsEvent, BsFault, BsHandle, BsLeftOut, BsLimits, BsTally, bs_analyse,
+    bs_check, bs_close, bs_hold_normal, bs_hold_report, bs_hold_show, bs_next, bs_normal, bs_open,
+    bs_report, bs_same, bs_show, bs_text, bs_usual_limits, bs_values,
+};
+use std::alloc::Global;
+
+/// A magic, and block 8 with a record of code 1 and the value 30.
+static THIRTY: [u8; 16] = [
+    0x42, 0x43, 0xC0, 0xDE, 0x21, 8, 0, 0, 1, 0, 0, 0, 7, 0x81, 7, 0,
+];
+
+const NO_FAULT: BsFault = BsFault {
+    reason: 0,
+    input: 0,
+    bit: 0,
+};
+
+const WHOLE: BsLeftOut = BsLeftOut { info: false };
+
+fn usual() -> BsLimits {
+    let mut limits = BsLimits {
+        bytes: 0,
+        depth: 0,
+        values: 0,
+    };
+    bs_usual_limits(&mut limits);
+    limits
+}
+
+fn judged(alloc: Global) -> [u32; 2] {
+    let (limits, mut fault) = (usual(), NO_FAULT);
+    let check = bs_check(alloc, &THIRTY, &limits, &mut fault);
+    let same = bs_same(alloc, &THIRTY, &THIRTY, &limits, &WHOLE, &mut fault);
+    [check, same]
+}
+
+/// How the calls for texts end, and how long the normal form is.
+fn given(alloc: Global) -> ([u32; 3], usize) {
+    let (limits, mut fault, mut room) = (usual(), NO_FAULT, [0; 128]);
+    let (mut form, mut other) = (0, 0);
+    let normal = bs_normal(
+        alloc, &THIRTY, &limits, &WHOLE, &mut room, &mut form, &mut fault,
+    );
+    let report = bs_report(alloc, &THIRTY, &limits, &mut room, &mut other, &mut fault);
+    let show = bs_show(alloc, &THIRTY, &limits, &mut room, &mut other, &mut fault);
+    ([normal, report, show], form)
+}
+
+#[test]
+fn what_is_accepted(rt: HostRuntime) {
+    assert!(rt; judged(rt.alloc()) == [0, 0]);
+    assert!(rt; given(rt.alloc()) == ([0; 3], 16));
+}
+
+fn held(alloc: Global, handle: &mut BsHandle) -> [u32; 4] {
+    let (limits, mut fault, mut room, mut needed) = (usual(), NO_FAULT, [0; 64], 0);
+    let report = bs_hold_report(alloc, &THIRTY, &limits, handle, &mut fault);
+    let show = bs_hold_show(alloc, &THIRTY, &limits, handle, &mut fault);
+    let normal = bs_hold_normal(alloc, &THIRTY, &limits, &WHOLE, handle, &mut fault);
+    let text = bs_text(alloc, handle, &mut room, &mut needed, &mut fault);
+    [report, show, normal, text]
+}
+
+#[test]
+fn what_is_held(rt: HostRuntime) {
+    let (mut handle, _) = closed(rt.alloc());
+    assert!(rt; held(rt.alloc(), &mut handle) == [0; 4]);
+    bs_close(rt.alloc(), &mut handle);
+}
+
+fn row() -> BsBlockRow {
+    BsBlockRow {
+        id: 0,
+        blocks: 0,
+        bits: 0,
+        definitions: 0,
+        records: 0,
+        abbreviated: 0,
+        values: 0,
+        codes: 0,
+    }
+}
+
+#[test]
+fn what_is_counted(rt: HostRuntime) {
+    let (limits, mut fault) = (usual(), NO_FAULT);
+    let mut tally = BsTally {
+        magic: [0; 4],
+        bits: 0,
+        blocks: 0,
+        codes: 0,
+    };
+    let code = BsCodeRow {
+        code: 0,
+        count: 0,
+        bits: 0,
+    };
+    let (mut blocks, mut codes) = ([row(); 2], [code; 2]);
+    let status = bs_analyse(
+        rt.alloc(),
+        &THIRTY,
+        &limits,
+        &mut tally,
+        &mut blocks,
+        &mut codes,
+        &mut fault,
+    );
+    assert!(rt; status == 0 && tally.bits == 128 && blocks[0].values == 1 && codes[0].code == 1);
+}
+
+/// The kind and the number of values of the next event.
+fn next(alloc: Global, handle: &mut BsHandle) -> (u32, u32, usize) {
+    let (mut event, mut fault) = (NONE, NO_FAULT);
+    let status = bs_next(alloc, handle, &mut event, &mut fault);
+    (status, event.kind, event.count)
+}
+
+#[test]
+fn what_is_read(rt: HostRuntime) {
+    let (mut handle, _) = closed(rt.alloc());
+    let (mut fault, mut room, mut needed) = (NO_FAULT, [0; 2], 0);
+    let opened = bs_open(rt.alloc(), &THIRTY, &usual(), &mut handle, &mut fault);
+    let first = [next(rt.alloc(), &mut handle), next(rt.alloc(), &mut handle)];
+    assert!(rt; opened == 0 && first == [(0, 1, 0), (0, 3, 1)]);
+    let values = bs_values(rt.alloc(), &mut handle, &mut room, &mut needed, &mut fault);
+    assert!(rt; values == 0 && needed == 1 && room == [30, 0]);
+    bs_close(rt.alloc(), &mut handle);
+    assert!(rt; next(rt.alloc(), &mut handle) == (7, 0, 0));
+}
