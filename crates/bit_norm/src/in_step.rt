@@ -210,7 +210,7 @@ impl<'a> Gatherer for Comparer<'a> {
         &mut self,
         _id: u32,
         code: u64,
-        values: &Vec<u64>,
+        values: &mut Vec<u64>,
         _first: u64,
         _after: u64,
     ) -> Result<(), AllocError> {

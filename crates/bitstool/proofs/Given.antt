@@ -183,27 +183,27 @@ first_numeric = record { action = refl; least = refl; parser = refl }
 
 limited_within : (name : Text) (words : List Text) → level_fault (leaf (limited name)) [] nothing_held words false [] ≡ [] → HasAllLimits (AfterWords (leaf (limited name)) words)
 limited_within name words passes = (
-  with_default_within (leaf (limited name)) words passes 17179869180 (filled bytes_rule) (codes "1073741824") bytes_numeric ((λ _. refl), (never, (never, (never, tt)))) (inl refl) refl,
-  with_default_within (leaf (limited name)) words passes 255 (filled depth_rule) (codes "64") depth_numeric (never, ((λ _. refl), (never, (never, tt)))) (inr (inl refl)) refl,
-  with_default_within (leaf (limited name)) words passes 4294967295 (filled values_rule) (codes "134217728") values_numeric (never, (never, ((λ _. refl), (never, tt)))) (inr (inr (inl refl))) refl,
+  with_default_within (leaf (limited name)) words passes 17179869180 (filled bytes_rule) (codes "1073741824") bytes_numeric ((λ _. refl), (never, (never, (never, (never, tt))))) (inl refl) refl,
+  with_default_within (leaf (limited name)) words passes 255 (filled depth_rule) (codes "64") depth_numeric (never, ((λ _. refl), (never, (never, (never, tt))))) (inr (inl refl)) refl,
+  with_default_within (leaf (limited name)) words passes 4294967295 (filled values_rule) (codes "134217728") values_numeric (never, (never, ((λ _. refl), (never, (never, tt))))) (inr (inr (inl refl))) refl,
 )
 
 dropping_within : (name : Text) (words : List Text) → level_fault (leaf (dropping name)) [] nothing_held words false [] ≡ [] → HasAllLimits (AfterWords (leaf (dropping name)) words)
 dropping_within name words passes = (
-  with_default_within (leaf (dropping name)) words passes 17179869180 (filled bytes_rule) (codes "1073741824") bytes_numeric ((λ _. refl), (never, (never, (never, (never, tt))))) (inl refl) refl,
-  with_default_within (leaf (dropping name)) words passes 255 (filled depth_rule) (codes "64") depth_numeric (never, ((λ _. refl), (never, (never, (never, tt))))) (inr (inl refl)) refl,
-  with_default_within (leaf (dropping name)) words passes 4294967295 (filled values_rule) (codes "134217728") values_numeric (never, (never, ((λ _. refl), (never, (never, tt))))) (inr (inr (inl refl))) refl,
+  with_default_within (leaf (dropping name)) words passes 17179869180 (filled bytes_rule) (codes "1073741824") bytes_numeric ((λ _. refl), (never, (never, (never, (never, (never, tt)))))) (inl refl) refl,
+  with_default_within (leaf (dropping name)) words passes 255 (filled depth_rule) (codes "64") depth_numeric (never, ((λ _. refl), (never, (never, (never, (never, tt)))))) (inr (inl refl)) refl,
+  with_default_within (leaf (dropping name)) words passes 4294967295 (filled values_rule) (codes "134217728") values_numeric (never, (never, ((λ _. refl), (never, (never, (never, tt)))))) (inr (inr (inl refl))) refl,
 )
 
 comparing_within : (words : List Text) → level_fault (leaf comparing) [] nothing_held words false [] ≡ [] → HasAllLimits (AfterWords (leaf comparing) words)
 comparing_within words passes = (
-  with_default_within (leaf comparing) words passes 17179869180 (filled bytes_rule) (codes "1073741824") bytes_numeric ((λ _. refl), (never, (never, (never, (never, (never, tt)))))) (inl refl) refl,
-  with_default_within (leaf comparing) words passes 255 (filled depth_rule) (codes "64") depth_numeric (never, ((λ _. refl), (never, (never, (never, (never, tt)))))) (inr (inl refl)) refl,
-  with_default_within (leaf comparing) words passes 4294967295 (filled values_rule) (codes "134217728") values_numeric (never, (never, ((λ _. refl), (never, (never, (never, tt)))))) (inr (inr (inl refl))) refl,
+  with_default_within (leaf comparing) words passes 17179869180 (filled bytes_rule) (codes "1073741824") bytes_numeric ((λ _. refl), (never, (never, (never, (never, (never, (never, tt))))))) (inl refl) refl,
+  with_default_within (leaf comparing) words passes 255 (filled depth_rule) (codes "64") depth_numeric (never, ((λ _. refl), (never, (never, (never, (never, (never, tt))))))) (inr (inl refl)) refl,
+  with_default_within (leaf comparing) words passes 4294967295 (filled values_rule) (codes "134217728") values_numeric (never, (never, ((λ _. refl), (never, (never, (never, (never, tt))))))) (inr (inr (inl refl))) refl,
 )
 
 first_within : (words : List Text) → level_fault (leaf comparing) [] nothing_held words false [] ≡ [] → HasWithin (codes "first") 17179869180 (AfterWords (leaf comparing) words)
-first_within words passes = required_within (leaf comparing) words passes 17179869180 (filled first_rule) first_numeric (never, (never, (never, (never, ((λ _. refl), (never, tt)))))) (inr (inr (inr (inr (inl refl))))) refl refl
+first_within words passes = required_within (leaf comparing) words passes 17179869180 (filled first_rule) first_numeric (never, (never, (never, (never, (never, ((λ _. refl), (never, tt))))))) (inr (inr (inr (inr (inr (inl refl)))))) refl refl
 
 -- ---- the whole command line
 

@@ -19,10 +19,10 @@ use Rattle.bitstool.proofs.Known.{if_told}
 -- ---- what is paid for
 
 pub spends_none : (i : Incoming) (most : ℕ) → Spends i most i 0
-spends_none i most = record { pulls = omega arith; failures = omega arith; tells = λ t. t; bytes = λ t. omega arith }
+spends_none i most = record { pulls = omega arith; failures = omega arith; tells = λ t. t; bytes = λ t. omega arith; accounts = λ n all says. says }
 
 pub spends_more : (i now : Incoming) (a b : ℕ) → a ≤ b → Spends i a now 0 → Spends i b now 0
-spends_more i now a b le h = record { pulls = omega (arith, h.pulls); failures = h.failures; tells = h.tells; bytes = λ t. let few = h.bytes t in omega (arith, few) }
+spends_more i now a b le h = record { pulls = omega (arith, h.pulls); failures = h.failures; tells = h.tells; bytes = λ t. let few = h.bytes t in omega (arith, few); accounts = h.accounts }
 
 pub spends_then : (i mid now : Incoming) (a b : ℕ) → Spends i a mid 0 → Spends mid b now 0 → Spends i (a + b) now 0
 spends_then i mid now a b h k = record {
@@ -33,6 +33,7 @@ spends_then i mid now a b h k = record {
       let first = h.bytes t in
       let second = k.bytes (h.tells t) in
       omega (arith, first, second);
+  accounts = λ n all says. k.accounts n all (h.accounts n all says);
 }
 
 pub fails_later : (i mid now : Incoming) → i.failures ≤ mid.failures → SourceFails mid now → SourceFails i now
@@ -60,6 +61,7 @@ gave_spends old new count into g some =
       failures = omega (arith, g.failures);
       tells = λ t. (known_after old.to_come new.to_come (take count into) g.bytes t).0;
       bytes = λ t. let more = (known_after old.to_come new.to_come (take count into) g.bytes t).1 in omega (arith, more, long);
+      accounts = g.accounts;
     }
 
 -- a pull that gave none
@@ -71,6 +73,7 @@ gave_none old new count into g none =
       failures = omega (arith, g.failures);
       tells = λ t. (known_after old.to_come new.to_come (take count into) g.bytes t).0;
       bytes = λ t. let more = (known_after old.to_come new.to_come (take count into) g.bytes t).1 in omega (arith, more, long);
+      accounts = g.accounts;
     }
 
 -- a pull that failed
@@ -83,6 +86,7 @@ failed_spends old new g = elim (cases_lt (max old.pulls old.failures) (2 ^ 64 - 
           failures = omega (arith, counted.1);
           tells = λ t. (known_kept old.to_come new.to_come g.bytes t).0;
           bytes = λ t. let same = (known_kept old.to_come new.to_come g.bytes t).1 in omega (arith, same);
+          accounts = g.accounts;
         },
         inl (omega (arith, counted.1)),
       )

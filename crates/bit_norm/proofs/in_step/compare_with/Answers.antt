@@ -9,7 +9,7 @@ use Rattle.bit_norm.proofs.in_step.compare_with.Goals.{then-same_magic, else-sam
 
 pub returns-after-same_magic : goal.returns-after-same_magic
 returns-after-same_magic g c =
-    let read = rw c.in-Ok-read.is at c.fold-read.ensures in
+    let read = rw c.in-Ok-read.is at c.fold-read.ensures.whole in
     let begun = subst (λ (i : Incoming). Begun c.args.limits i c.in-Ok.events) c.new.ensures c.in-Ok.ensures.begun in
     let comparer = c.in-Ok-read.folded.gatherer in
     let first = c.number_of_magic-magic.ensures.magic ∙ ap (λ (h : Head). h.magic) c.head.ensures in (
