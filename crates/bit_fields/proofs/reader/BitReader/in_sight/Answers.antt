@@ -7,7 +7,7 @@ use Rattle.bit_fields.proofs.reader.BitReader.in_sight.Goals as goal
 pub returns : goal.returns
 returns g c =
     let held : c.window-word.result.1 ≡ length c.self.inside.inflow.window = sym (length-bits_of c.window-word.result.1 c.window-word.result.0) ∙ ap length c.window-word.ensures.bits in
-    let live : c.self.inside.live ≡ true = subst (λ (r : Reader). r.live ≡ true) (sym c.self.view_is) c.requires in (
+    let live : c.self.inside.live ≡ true = subst (λ (r : Reader). r.live ≡ true) (sym c.self.view_is) c.requires.live in (
       (
         refl,
         λ _. tt,
