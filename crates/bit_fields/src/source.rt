@@ -256,7 +256,7 @@ impl<R: Read> Source for ReadSource<R> {
 }
 
 /// What a reader with a buffer gives. What is at hand is what the buffer has, and no byte is taken ahead. Any error of the reader
-/// is a failure; no read is tried again.
+/// is a failure, and no read is tried again; only where it fails to show once more what it has just shown, nothing is lent.
 #[derive(Drop)]
 pub struct BufSource<R> {
     source: ReadSource<R>,

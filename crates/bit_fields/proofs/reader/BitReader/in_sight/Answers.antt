@@ -13,6 +13,7 @@ returns g c =
         λ _. tt,
         record {
           nothing = looked_as c.self.inside.live c.self.inside.position c.self.inside.inflow c.lend-bytes.follows.lender-at-none c.args.self.now live c.self.view_is c.lend-bytes.follows.holds-at-none;
+          stays = ap (λ (r : Reader). r.position) c.self.view_is;
           sees = sees_behind c.self.inside.live c.self.inside.position c.self.inside.inflow c.args.self.now c.window-word.result.0 c.window-word.result.1 c.lend-bytes.result live c.self.view_is c.window-word.ensures.bits c.lend-bytes.ensures.front;
         },
       ),
