@@ -192,3 +192,19 @@ fn failures_of_what_is_shown(rt: HostRuntime) {
         assert!(rt; failed(far) || fails_at % 2 == 0, "{fails_at}");
     }
 }
+
+/// The fault with which lending ends, if it does.
+fn unseen<S: Source>(reader: &mut BitReader<S>) -> Option<Fault> {
+    match reader.sight() {
+        Ok(_) => None,
+        Err(fault) => Some(fault),
+    }
+}
+
+#[test]
+fn failed_sights(rt: HostRuntime) {
+    let input = after_magic(&BYTES);
+    let mut reader = begun(&rt, shown(&input, 5, 3));
+    let faults = [unseen(&mut reader), unseen(&mut reader)];
+    assert!(rt; faults == [Some(Fault::Read), Some(Fault::Failed)] && reader.position() == 32);
+}
