@@ -1,5 +1,5 @@
 -- What a reader lends of its stream.
-use Rattle.std.specs.Prelude.{◌+◌, ◌*◌, ◌^◌, ◌<◌, ◌≤◌, ◌++◌, length, Result, Ok, Err}
+use Rattle.std.specs.Prelude.{◌≡◌, ◌+◌, ◌*◌, ◌^◌, ◌<◌, ◌≤◌, ◌++◌, length, Result, Ok, Err}
 use Rattle.bit_grammar.specs.Bits.{bits_of, bits_of_bytes}
 use Rattle.bit_grammar.specs.Grammar.{gives}
 use Rattle.bit_fields.specs.declared.fault.Fault.{Fault}
@@ -21,6 +21,7 @@ pub record IsSight (s : Sight) : Type 0 where
 -- nothing was taken, and this was lent
 pub record Shown (old : Reader) (sight : Sight) (new : Reader) : Type 0 where
   pub nothing : TookNothing old new
+  pub stays : new.position ≡ old.position
   pub sees : Sees old (told sight)
 
 -- what asking a reader for what is in sight does

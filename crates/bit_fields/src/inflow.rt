@@ -1,8 +1,9 @@
-ghost use Rattle.std.specs.Prelude.{ℕ, ◌≡◌, ◌+◌, ◌*◌, ◌-◌, ◌<◌, ◌≤◌, ◌^◌, length, true, false, take, drop, [], OnOk};
+ghost use Rattle.std.specs.Prelude.{ℕ, ◌≡◌, ◌+◌, ◌*◌, ◌-◌, ◌<◌, ◌≤◌, ◌^◌, length, true, false, take, drop, [], OnOk, IfOk};
 ghost use Rattle.bit_grammar.specs.Bits.{number, bits_of};
 ghost use Rattle.bit_fields.specs.Short.{EndsAt, gathered};
 ghost use Rattle.bit_fields.specs.Inflow.{Brings, Misses, Fills, Steps, SkipsSome, SkipsAtHand, Drains, DrainsSome, LooksOn, LooksOver, LiesBehind, stop_of, shortened, to_drain};
 ghost use Rattle.std.specs.Borrow.{sem};
+ghost use Rattle.bit_fields.specs.Devices.{IsFresh};
 ghost use Rattle.std.specs.Io.BufRead.{Rests};
 
 use crate::source::{AtHand, Source, SourceFailed};
@@ -230,11 +231,12 @@ impl<S: Source> Inflow<S> {
         self.window.parts()
     }
 
-    /// Looks for bytes of the stream that lie in memory behind the window, and takes none: whether `lend` has any to lend. It
-    /// fails only where the source does.
+    /// Looks for bytes of the stream that lie in memory behind the window, and takes none: whether there are any, which `lend`
+    /// then lends. It fails only where the source does.
     #[inline(always)]
     pub fn look(&mut self) -> Result<bool, SourceFailed>
-        ensures { LooksOver self.old result self.new }
+        ensures looks { LooksOver self.old result self.new }
+        ensures fresh { IfOk result (λ some. some ≡ true → IsFresh self.new.incoming) }
     {
         if self.ended || self.loaded >= self.end.min(self.limit) {
             return Ok(false);
@@ -245,15 +247,15 @@ impl<S: Source> Inflow<S> {
     /// Lends bytes of the stream that lie in memory behind the window, possibly none.
     #[inline(always)]
     pub fn lend(&mut self) -> &[u8]
+        requires { IsFresh self.old.incoming }
         ensures front { LiesBehind self.old result.now }
         ensures few { length result.now ≤ 2 ^ 35 }
         ensures* rests { sem 𝓛 (Rests (the_row S.row S.Source) self.entry (λ new. LooksOn self.old new)) }
     {
-        let stop = self.end.min(self.limit);
-        if self.ended || self.loaded >= stop {
+        if self.ended {
             return &[];
         }
-        let room = (stop - self.loaded) as usize;
+        let room = self.end.min(self.limit).saturating_sub(self.loaded) as usize;
         let bytes = self.source.lend();
         &bytes[..room.min(bytes.len())]
     }

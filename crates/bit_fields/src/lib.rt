@@ -3,6 +3,8 @@
 #![tactic(auto)]
 
 mod ahead;
+#[cfg(test)]
+mod ahead_tests;
 mod fault;
 mod head;
 mod inflow;

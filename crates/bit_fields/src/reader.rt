@@ -1,5 +1,6 @@
 ghost use Rattle.std.specs.Prelude.{◌≡◌, ◌+◌, ◌*◌, ◌-◌, ◌<◌, ◌≤◌, ◌^◌, ◌%◌, length, true, false, take, drop, [], OnErr, OnOk, IfOk, IfErr, MatchOption, ◌&&◌, ◌==◌, nat_le};
 ghost use Rattle.std.specs.Borrow.{sem};
+ghost use Rattle.bit_fields.specs.Devices.{IsFresh};
 ghost use Rattle.std.specs.Io.BufRead.{Rests};
 ghost use Rattle.bit_grammar.specs.Fields.{fixed, vbr, char6, align32, byte, character, chunks, chunk_limit, zeros};
 ghost use Rattle.bit_grammar.specs.Grammar.{at, gives, test, repeat};
@@ -205,6 +206,7 @@ impl<S: Source> BitReader<S> {
     #[inline(always)]
     fn look(&mut self) -> Result<bool, Fault>
         ensures looks { OnOk result (TookNothing self.old self.new) }
+        ensures fresh { IfOk result (λ some. some ≡ true → IsFresh self.new.incoming) }
         ensures missed { IfErr result (λ fault. Why (gives (tt {0})) self.old fault self.new) }
         ensures stays { self.new.position ≡ self.old.position }
     {
@@ -221,7 +223,8 @@ impl<S: Source> BitReader<S> {
     /// Lends the bits in the window and those of bytes behind it.
     #[inline(always)]
     fn in_sight(&mut self) -> Sight<'_>
-        requires { self.old.live ≡ true }
+        requires live { self.old.live ≡ true }
+        requires fresh { IsFresh self.old.incoming }
         ensures lawful { IsSight result }
         ensures* shown { sem 𝓛 (Rests (the_row S.row S.Source) self.entry (λ new. Shown self.old result new)) }
     {

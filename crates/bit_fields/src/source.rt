@@ -1,7 +1,7 @@
 ghost use Rattle.std.specs.Prelude.{◌≡◌, Some};
 ghost use Rattle.std.specs.Borrow.{sem};
 ghost use Rattle.std.specs.Io.BufRead.{Rests};
-ghost use Rattle.bit_fields.specs.Devices.{Begins, Looked};
+ghost use Rattle.bit_fields.specs.Devices.{Begins, IsFresh, Looked};
 
 use crate::word::{front_of, word_of};
 use std::io::{BufRead, Read};
@@ -29,10 +29,10 @@ pub enum AtHand {
 /// What gives bytes in order, and counts how often it was asked and how often it failed. A source is worn once a count
 /// stands at `u64::MAX`.
 pub trait Source {
-    ghost use Rattle.std.specs.Prelude.{◌<◌, ◌≤◌, ◌^◌};
+    ghost use Rattle.std.specs.Prelude.{◌≡◌, ◌<◌, ◌≤◌, ◌^◌, true, IfOk};
     ghost use Rattle.std.specs.Borrow.{sem};
     ghost use Rattle.std.specs.Io.BufRead.{Rests};
-    ghost use Rattle.bit_fields.specs.Devices.{Incoming, Pulls, PullsWord, PullsAtHand, PullsBehind, PullsUnseen, Begins, Looked, Looks};
+    ghost use Rattle.bit_fields.specs.Devices.{Incoming, Pulls, PullsWord, PullsAtHand, PullsBehind, PullsUnseen, Begins, IsFresh, Looked, Looks};
 
     // The bytes still to come, where the source tells them, and the counts.
     ghost incoming: { Self → Incoming };
@@ -85,10 +85,11 @@ pub trait Source {
     }
 
     /// Looks for bytes that come next and lie in memory, and takes none: whether there are any, which `lend` then lends.
-    /// `SourceFailed` is one pull that failed.
+    /// `SourceFailed` is one pull that failed; a worn source has none to lend.
     #[inline(always)]
     fn look(&mut self) -> Result<bool, SourceFailed>
-        ensures { Looks (incoming self.old) result (incoming self.new) }
+        ensures looks { Looks (incoming self.old) result (incoming self.new) }
+        ensures fresh { IfOk result (λ some. some ≡ true → IsFresh (incoming self.new)) }
     {
         Ok(false)
     }
@@ -96,6 +97,7 @@ pub trait Source {
     /// Lends bytes that come next and lie in memory, possibly none, and takes none.
     #[inline(always)]
     fn lend(&mut self) -> &[u8]
+        requires { IsFresh (incoming self.old) }
         ensures front { Begins (incoming self.old).to_come result.now }
         ensures* rests { sem 𝓛 (Rests Self.row self.entry (λ new. Looked (incoming self.old) (incoming new))) }
     {
@@ -169,7 +171,7 @@ impl<'a> Source for SliceSource<'a> {
 
     #[inline(always)]
     fn look(&mut self) -> Result<bool, SourceFailed> {
-        Ok(!self.rest.is_empty())
+        Ok(!self.rest.is_empty() && self.pulls < u64::MAX)
     }
 
     #[inline(always)]
@@ -220,15 +222,13 @@ impl<R: Read> ReadSource<R> {
 impl<R: BufRead> ReadSource<R> {
     ghost use Rattle.bit_fields.specs.contracts.source.ReadSource.{the_row};
 
-    /// Lends what the reader shows, unless it is worn.
+    /// Lends what the reader shows.
     #[inline(always)]
     fn lend(&mut self) -> &[u8]
+        requires { IsFresh (⟦<ReadSource<R> as Source>⟧.incoming self.old) }
         ensures front { Begins (⟦<ReadSource<R> as Source>⟧.incoming self.old).to_come result.now }
         ensures* rests { sem 𝓛 (Rests (the_row R.row) self.entry (λ new. Looked (⟦<ReadSource<R> as Source>⟧.incoming self.old) (⟦<ReadSource<R> as Source>⟧.incoming new))) }
     {
-        if self.pulls == u64::MAX || self.failures == u64::MAX {
-            return &[];
-        }
         match self.reader.fill_buf() {
             Ok(bytes) => bytes,
             Err(_) => &[], // of a reader that has just shown some
@@ -256,7 +256,7 @@ impl<R: Read> Source for ReadSource<R> {
 }
 
 /// What a reader with a buffer gives. What is at hand is what the buffer has, and no byte is taken ahead. Any error of the reader
-/// is a failure; no read is tried again.
+/// is a failure, and no read is tried again; only where it fails to show once more what it has just shown, nothing is lent.
 #[derive(Drop)]
 pub struct BufSource<R> {
     source: ReadSource<R>,

@@ -7,12 +7,13 @@ use Rattle.bit_fields.proofs.reader.BitReader.in_sight.Goals as goal
 pub returns : goal.returns
 returns g c =
     let held : c.window-word.result.1 ≡ length c.self.inside.inflow.window = sym (length-bits_of c.window-word.result.1 c.window-word.result.0) ∙ ap length c.window-word.ensures.bits in
-    let live : c.self.inside.live ≡ true = subst (λ (r : Reader). r.live ≡ true) (sym c.self.view_is) c.requires in (
+    let live : c.self.inside.live ≡ true = subst (λ (r : Reader). r.live ≡ true) (sym c.self.view_is) c.requires.live in (
       (
         refl,
         λ _. tt,
         record {
           nothing = looked_as c.self.inside.live c.self.inside.position c.self.inside.inflow c.lend-bytes.follows.lender-at-none c.args.self.now live c.self.view_is c.lend-bytes.follows.holds-at-none;
+          stays = ap (λ (r : Reader). r.position) c.self.view_is;
           sees = sees_behind c.self.inside.live c.self.inside.position c.self.inside.inflow c.args.self.now c.window-word.result.0 c.window-word.result.1 c.lend-bytes.result live c.self.view_is c.window-word.ensures.bits c.lend-bytes.ensures.front;
         },
       ),

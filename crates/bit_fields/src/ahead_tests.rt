@@ -1,0 +1,210 @@
+//! Fields read from what is in sight, against fields that the reader reads.
+
+use crate::tests::{after_magic, in_steps, shown};
+use crate::{Ahead, BitReader, Fault, Limits, SliceSource, Source};
+use std::process::Abort;
+
+/// Bits of every kind of field; numbers of one chunk, of few and of many.
+const BYTES: [u8; 20] = [
+    0x5B, 0xF7, 0xFF, 0x1F, 0x82, 0x40, 0x9C, 0x31, 0xEE, 0xFF, 0xFF, 0x7F, 0x03, 0xA5, 0x5A, 0x77,
+    0xC6, 0x21, 0x0F, 0x68,
+];
+
+/// How many fields are read at most.
+const MOST: u64 = 60;
+
+/// A number that tells apart which values were read in which order.
+fn mixed(before: u64, value: u64) -> u64 {
+    before
+        .wrapping_mul(0x9E37_79B9_7F4A_7C15)
+        .wrapping_add(value.wrapping_add(1))
+}
+
+/// The field at a place, from what is in sight.
+fn seen(ahead: &mut Ahead<'_>, place: u64) -> Option<u64> {
+    match place % 7 {
+        0 => ahead.fixed(1),
+        1 => ahead.vbr(6),
+        2 => ahead.char6(),
+        3 => ahead.vbr(3),
+        4 => ahead.fixed(13),
+        5 => ahead.vbr(4),
+        _ => Some(skipped(ahead.skip_fixed(3, 5)?)),
+    }
+}
+
+/// The same from the reader.
+fn read<S: Source>(reader: &mut BitReader<S>, place: u64) -> Result<u64, Fault> {
+    match place % 7 {
+        0 => reader.fixed(1),
+        1 => reader.vbr(6),
+        2 => reader.char6(),
+        3 => reader.vbr(3),
+        4 => reader.fixed(13),
+        5 => reader.vbr(4),
+        _ => Ok(skipped(reader.skip_fixed(3, 5)?)),
+    }
+}
+
+fn skipped(_: ()) -> u64 {
+    7
+}
+
+/// How far it has come: fields read, their values, and how many of them were in sight.
+#[derive(Clone, Copy, Debug, PartialEq, Eq)]
+struct Far {
+    place: u64,
+    values: u64,
+    in_sight: u64,
+}
+
+/// Takes one more value.
+fn further(far: Far, value: u64, in_sight: u64) -> Far {
+    Far {
+        place: far.place.saturating_add(1),
+        values: mixed(far.values, value),
+        in_sight: far.in_sight.saturating_add(in_sight),
+    }
+}
+
+/// Reads what is in sight, at most so many fields: how far it came, and how many bits it read.
+fn run(mut ahead: Ahead<'_>, most: u64, from: Far) -> (Far, u64) {
+    let start = ahead.position();
+    let mut bits = 0;
+    let mut far = from;
+    for _ in 0..most {
+        match seen(&mut ahead, far.place) {
+            None => return (far, bits),
+            Some(value) => far = further(far, value, 1),
+        }
+        bits = ahead.position().saturating_sub(start);
+    }
+    (far, bits)
+}
+
+/// Lends, reads a run of so many fields at most, and takes its bits.
+fn run_of<S: Source>(reader: &mut BitReader<S>, most: u64, from: Far) -> Result<Far, Fault> {
+    let (far, bits) = run(Ahead::new(reader.sight()?), most, from);
+    reader.catch_up(bits)?;
+    Ok(far)
+}
+
+/// Reads one field of the reader.
+fn one_of<S: Source>(reader: &mut BitReader<S>, from: Far) -> Result<Far, Fault> {
+    let value = read(reader, from.place)?;
+    Ok(further(from, value, 0))
+}
+
+/// Reads to a fault by runs, and a field of the reader behind each: how far it came, the fault and the position.
+fn by_runs<S: Source>(reader: &mut BitReader<S>, most: u64) -> (Far, Option<Fault>, u64) {
+    let mut far = Far {
+        place: 0,
+        values: 0,
+        in_sight: 0,
+    };
+    for turn in 0..2 * MOST {
+        let next = if turn % 2 == 0 {
+            run_of(reader, most, far)
+        } else {
+            one_of(reader, far)
+        };
+        match next {
+            Ok(more) => far = more,
+            Err(fault) => return (far, Some(fault), reader.position()),
+        }
+    }
+    (far, None, reader.position())
+}
+
+/// A reader behind the magic.
+fn begun<S: Source + Drop>(rt: &impl Abort, source: S) -> BitReader<S> {
+    match BitReader::start(source, Limits::usual()) {
+        Ok((reader, _)) => reader,
+        Err((fault, _)) => panic!(rt; "{fault}"),
+    }
+}
+
+/// The same of a source from its beginning.
+fn runs_of<S: Source + Drop>(rt: &impl Abort, source: S, most: u64) -> (Far, Option<Fault>, u64) {
+    by_runs(&mut begun(rt, source), most)
+}
+
+/// What reading without what is in sight comes to: the values, the fault and the position.
+fn plain(rt: &impl Abort, input: &[u8]) -> (u64, Option<Fault>, u64) {
+    let (far, fault, position) = runs_of(rt, SliceSource::new(input), 0);
+    (far.values, fault, position)
+}
+
+/// Whether runs of so many fields come to the same, and read fields in sight.
+fn same(told: (Far, Option<Fault>, u64), plain: (u64, Option<Fault>, u64)) -> bool {
+    let (far, fault, position) = told;
+    (far.values, fault, position) == plain && far.in_sight > 0
+}
+
+#[test]
+fn runs_of_a_slice(rt: HostRuntime) {
+    let input = after_magic(&BYTES);
+    for length in 12..24usize {
+        let told = plain(&rt, &input[..length]);
+        for most in [1, 2, 3, 5, MOST] {
+            let far = runs_of(&rt, SliceSource::new(&input[..length]), most);
+            assert!(rt; same(far, told), "{length} {most}");
+        }
+    }
+}
+
+#[test]
+fn runs_of_what_is_shown(rt: HostRuntime) {
+    let input = after_magic(&BYTES);
+    let told = plain(&rt, &input);
+    for step in 1..25 {
+        for most in [1, 3, MOST] {
+            let far = runs_of(&rt, shown(&input, step, 0), most);
+            assert!(rt; same(far, told), "{step} {most}");
+        }
+    }
+}
+
+#[test]
+fn runs_of_what_is_read(rt: HostRuntime) {
+    let input = after_magic(&BYTES);
+    let told = plain(&rt, &input);
+    for step in 1..12 {
+        let far = runs_of(&rt, in_steps(&input, step, 0), MOST);
+        assert!(rt; same(far, told), "{step}");
+    }
+}
+
+/// Whether they came to the fault of a reader that failed.
+fn failed(told: (Far, Option<Fault>, u64)) -> bool {
+    let (far, fault, position) = told;
+    fault == Some(Fault::Read) && far.place < MOST && position <= 192
+}
+
+#[test]
+fn failures_of_what_is_shown(rt: HostRuntime) {
+    let input = after_magic(&BYTES);
+    let told = plain(&rt, &input);
+    for fails_at in 3..12 {
+        // where it fails to show once more what it has shown, nothing is lent
+        let far = runs_of(&rt, shown(&input, 5, fails_at), 2);
+        assert!(rt; failed(far) || same(far, told), "{fails_at}");
+        assert!(rt; failed(far) || fails_at % 2 == 0, "{fails_at}");
+    }
+}
+
+/// The fault with which lending ends, if it does.
+fn unseen<S: Source>(reader: &mut BitReader<S>) -> Option<Fault> {
+    match reader.sight() {
+        Ok(_) => None,
+        Err(fault) => Some(fault),
+    }
+}
+
+#[test]
+fn failed_sights(rt: HostRuntime) {
+    let input = after_magic(&BYTES);
+    let mut reader = begun(&rt, shown(&input, 5, 3));
+    let faults = [unseen(&mut reader), unseen(&mut reader)];
+    assert!(rt; faults == [Some(Fault::Read), Some(Fault::Failed)] && reader.position() == 32);
+}
