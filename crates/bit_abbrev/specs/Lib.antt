@@ -1,3 +1,4 @@
 pub mod Breaks
 pub mod Table
 pub mod Values
+pub mod Plain

@@ -167,7 +167,7 @@ impl Abbrev {
     }
 
     /// The operands, by which a record may go.
-    pub(crate) fn lawful_ops(&self) -> &[Op]
+    pub fn lawful_ops(&self) -> &[Op]
         requires { has_shape self.now ≡ true }
         ensures items { result.now ≡ self.now }
         ensures lawful { Lawful self.now }

@@ -5,15 +5,14 @@ ghost use Rattle.std.specs.Prelude.{◌≡◌, ◌+◌, ◌*◌, ◌-◌, ◌<�
 ghost use Rattle.std.specs.List.{AllByRecursion};
 ghost use Rattle.bit_grammar.specs.Grammar.{repeat};
 ghost use Rattle.bit_grammar.specs.Fields.{fixed, vbr, char6};
-ghost use Rattle.bit_grammar.specs.Record.{scalar, singles, value_count, values_of, unabbreviated, abbreviated};
-ghost use Rattle.bit_grammar.specs.Definition.{has_shape};
+ghost use Rattle.bit_grammar.specs.Record.{scalar, singles, value_count, values_of, abbreviated};
 ghost use Rattle.bit_grammar.specs.FormatDefinition.{op_at, IsElement, HasLawfulValue, Lawful};
 ghost use Rattle.bit_grammar.specs.declared.op.Op.{Op};
 ghost use Rattle.bit_grammar.specs.declared.op.Op.TheVariants.{Array};
 ghost use Rattle.bit_fields.specs.Ahead.{Glimpsed, reader_at};
+ghost use Rattle.bit_abbrev.specs.Plain.{plain_ops};
 ghost use Rattle.bit_abbrev.specs.Values.{Adds, AddsAll, AddsFew, AddsWithin, Gains, GainsMore, Keeps, KeepsMore, Passes};
 
-use crate::abbrev::Abbrev;
 use crate::record::have_room;
 use bit_fields::{Ahead, ValueTaker};
 use bit_grammar::Op;
@@ -52,7 +51,7 @@ fn pass_vbrs(ahead: &mut Ahead<'_>, count: u64, n: u32) -> Option<()>
     ensures { OnSome result (Passes (vbr n) count (reader_at ahead.old) (reader_at ahead.new)) }
 {
     for _ in 0..count {
-        ahead.vbr(n)?;
+        ahead.pass_vbr(n)?;
     }
     Some(())
 }
@@ -208,7 +207,7 @@ fn glance_array<V: ValueTaker>(
     glance_elements(ahead, count, element, values)
 }
 
-/// Reads the field of an operand that stands for one value. Into the calls for the usual widths the width is written.
+/// Reads the field of an operand that stands for one value.
 #[inline(always)]
 #[tactic(auto, unfolding(bit_grammar::specs::Record::scalar))]
 fn glance_scalar(ahead: &mut Ahead<'_>, op: Op) -> Option<u64>
@@ -219,9 +218,6 @@ fn glance_scalar(ahead: &mut Ahead<'_>, op: Op) -> Option<u64>
         Op::Literal(value) => Some(value),
         Op::Fixed(0) | Op::Vbr(0) | Op::Array | Op::Blob => None,
         Op::Fixed(width) => ahead.fixed(u32::from(width)),
-        Op::Vbr(6) => ahead.vbr(6),
-        Op::Vbr(8) => ahead.vbr(8),
-        Op::Vbr(4) => ahead.vbr(4),
         Op::Vbr(width) => ahead.vbr(u32::from(width)),
         Op::Char6 => ahead.char6(),
     }
@@ -253,9 +249,10 @@ fn glance_values<V: ValueTaker>(
     Some(())
 }
 
-/// Reads a record by its operands.
+/// Reads a record by its operands, after its abbreviation id: hands its values on and answers its code. Where it answers
+/// `None`, some of its values may stand behind the others.
 #[inline(always)]
-fn glance_record<V: ValueTaker>(
+pub fn glance_record<V: ValueTaker>(
     ahead: &mut Ahead<'_>,
     ops: &[Op],
     room: u64,
@@ -276,35 +273,10 @@ fn glance_record<V: ValueTaker>(
     Some(code)
 }
 
-/// Reads a record by its definition, after its abbreviation id: hands its values on and answers its code. The operands of the
-/// definition are in a lawful order. Where it answers `None`, some of its values may stand behind the others.
-#[inline(always)]
-pub fn glance_abbreviated<V: ValueTaker>(
-    ahead: &mut Ahead<'_>,
-    abbrev: &Abbrev,
-    room: u64,
-    values: &mut V,
-) -> Option<u64>
-    requires { has_shape «abbrev».now ≡ true }
-    ensures glimpsed { IfSome result (λ code. Gains V.took values.old values.new (λ before after. (at : ℕ) → AddsWithin (abbreviated at room «abbrev».now) room (reader_at ahead.old) (Ok code) (reader_at ahead.new) before after)) }
-    ensures keeps { Keeps V.took values.old values.new }
+/// The operands by which a record that is not abbreviated can be read.
+pub fn plain_ops() -> [Op; 3]
+    ensures ops { result ≡ plain_ops }
+    ensures lawful { Lawful result }
 {
-    glance_record(ahead, abbrev.lawful_ops(), room, values)
-}
-
-/// Reads a record that is not abbreviated, after its abbreviation id: hands its values on and answers its code. Where it
-/// answers `None`, some of its values may stand behind the others.
-#[inline(always)]
-pub fn glance_unabbreviated<V: ValueTaker>(
-    ahead: &mut Ahead<'_>,
-    room: u64,
-    values: &mut V,
-) -> Option<u64>
-    ensures glimpsed { IfSome result (λ code. Gains V.took values.old values.new (AddsWithin (unabbreviated room) room (reader_at ahead.old) (Ok code) (reader_at ahead.new))) }
-    ensures keeps { Keeps V.took values.old values.new }
-{
-    let code = ahead.vbr(6)?;
-    let count = glance_count(ahead, room)?;
-    glance_vbrs(ahead, count, 6, values)?;
-    Some(code)
+    [Op::Vbr(6), Op::Array, Op::Vbr(6)]
 }

@@ -2,6 +2,8 @@
 use Rattle.std.specs.Prelude.{◌≡◌, ◌⊎◌, if◌then◌else◌}
 use Rattle.bit_grammar.specs.declared.info.Info.{Info}
 use Rattle.bit_grammar.specs.declared.info.Info.TheVariants.{Keep, Drop}
+use Rattle.bit_grammar.specs.declared.shapes.Shapes.{Shapes}
+use Rattle.bit_grammar.specs.declared.shapes.Shapes.TheVariants.{AtDefinition, AtUse}
 use Rattle.bit_grammar.specs.Blocks as blocks
 use Rattle.bit_grammar.specs.Normal.{Capped}
 use Rattle.bit_fields.specs.Opening.{PassCaps}
@@ -10,8 +12,12 @@ use Rattle.bit_c.specs.declared.limits.BsLimits.{BsLimits}
 use Rattle.bit_c.specs.declared.outcome.Outcome.{Outcome}
 use Rattle.bit_c.specs.declared.outcome.Outcome.TheVariants.{Limits}
 
+-- where the shapes of definitions are judged
+abbrev pub shapes_told : BsLimits → Shapes
+shapes_told l = if l.shapes_at_use then AtUse else AtDefinition
+
 abbrev pub limits_told : BsLimits → blocks.Limits
-limits_told l = record { bytes = l.bytes; depth = l.depth; values = l.values }
+limits_told l = record { bytes = l.bytes; depth = l.depth; values = l.values; shapes = shapes_told l }
 
 -- the setting
 abbrev pub setting_of : BsLeftOut → Info

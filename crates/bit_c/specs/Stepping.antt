@@ -1,5 +1,5 @@
 -- Events one at a time, as C sees them.
-use Rattle.std.specs.Prelude.{◌≡◌, ℕ, List, length, Option, Some, None, Result, Ok, Err, MatchOption}
+use Rattle.std.specs.Prelude.{◌≡◌, ℕ, List, [], length, Option, Some, None, Result, Ok, Err, MatchOption}
 use Rattle.bit_grammar.specs.Blocks as blocks
 use Rattle.bit_grammar.specs.Machine.{Event, enters, defines, notes, leaves}
 use Rattle.bit_fields.specs.declared.fault.Fault.{Fault}
@@ -33,7 +33,7 @@ Gets old (Err fault) new = Goes old (Err fault) new
 
 -- the bytes of a slice, from the first to the last
 abbrev pub whole : List ℕ → Incoming
-whole bytes = record { to_come = Some bytes; pulls = 0; failures = 0 }
+whole bytes = record { to_come = Some bytes; pulls = 0; failures = 0; accounts = [] }
 
 -- the events of the bytes were begun; or not, for this reason
 abbrev pub Begins : blocks.Limits → List ℕ → Result Reading Outcome → Type 0

@@ -1,6 +1,6 @@
 //! How much of an input is taken.
 
-ghost use Rattle.std.specs.Prelude.{◌≡◌, MatchOption};
+ghost use Rattle.std.specs.Prelude.{◌≡◌, false, MatchOption};
 ghost use Rattle.bit_fields.specs.Opening.{PassCaps};
 ghost use Rattle.bit_grammar.specs.Normal.{Capped};
 ghost use Rattle.bit_c.specs.Limiting.{limits_told};
@@ -8,13 +8,15 @@ ghost use Rattle.bit_c.specs.Limiting.{limits_told};
 use bit_fields::Limits;
 
 /// Limits on the bytes of the whole input, wrapper included, on the depth of blocks, where a block at the top has depth 1, and
-/// on the values of all records. Their caps are 17,179,869,180 bytes, depth 255 and 4,294,967,295 values.
+/// on the values of all records. Their caps are 17,179,869,180 bytes, depth 255 and 4,294,967,295 values. And whether the shape of
+/// a definition is judged where a record uses it, not where it stands.
 #[repr(C)]
 #[derive(Clone, Copy)]
 pub struct BsLimits {
     pub bytes: u64,
     pub depth: u32,
     pub values: u64,
+    pub shapes_at_use: bool,
 }
 
 impl BsLimits {
@@ -22,19 +24,25 @@ impl BsLimits {
     pub(crate) fn told(&self) -> Option<Limits>
         ensures { MatchOption result (PassCaps (limits_told self.now)) (λ limits. (limits ≡ limits_told self.now) × Capped limits) }
     {
-        Limits::new(self.bytes, self.depth, self.values)
+        let limits = Limits::new(self.bytes, self.depth, self.values)?;
+        if self.shapes_at_use {
+            Some(limits.shapes_at_use())
+        } else {
+            Some(limits)
+        }
     }
 }
 
-/// Sets limits to those that serve most inputs: 1 GiB, depth 64, 134,217,728 values.
+/// Sets limits to those that serve most inputs: 1 GiB, depth 64, 134,217,728 values. Shapes are judged at the definition.
 #[unsafe(no_mangle)]
 pub extern "C" fn bs_usual_limits(limits: &mut BsLimits)
-    ensures { limits.new ≡ record { bytes = 1073741824; depth = 64; values = 134217728 } }
+    ensures { limits.new ≡ record { bytes = 1073741824; depth = 64; values = 134217728; shapes_at_use = false } }
 {
     let usual = Limits::usual();
     *limits = BsLimits {
         bytes: usual.bytes(),
         depth: usual.depth(),
         values: usual.values(),
+        shapes_at_use: false,
     };
 }

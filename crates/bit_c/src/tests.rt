@@ -27,6 +27,7 @@ fn usual() -> BsLimits {
         bytes: 0,
         depth: 0,
         values: 0,
+        shapes_at_use: true,
     };
     bs_usual_limits(&mut limits);
     limits

@@ -1,13 +1,11 @@
 -- Records that are in sight, gathered one after the other.
-use Rattle.std.proofs.Common.{◌≡◌, ◌≢◌, ℕ, ◌+◌, ◌-◌, ◌<◌, ◌≤◌, Bool, true, List, [], ◌∷◌, ◌++◌, length, drop, None, Some, Option, Result, Ok, Err, refl, sym, ap, subst, ◌∙◌, arith, append_assoc, length-append, vec_len}
-use Rattle.std.specs.Prelude.{IfSome, slice_get}
+use Rattle.std.proofs.Common.{◌≡◌, ℕ, ◌+◌, ◌-◌, ◌<◌, ◌≤◌, Bool, true, List, [], ◌∷◌, ◌++◌, length, drop, None, Some, Option, Result, Ok, Err, refl, sym, ap, subst, ◌∙◌, arith, append_assoc, length-append, vec_len, inl, inr}
 use Rattle.std.proofs.lemmas.List.{drop_at}
 use Rattle.bit_grammar.specs.Grammar as grammar
 use Rattle.bit_grammar.specs.Grammar.{Grammar, gives, ◌>>=◌, reading}
 use Rattle.bit_grammar.specs.Input.{any_bits}
 use Rattle.bit_grammar.specs.Fields.{fixed}
-use Rattle.bit_grammar.specs.Definition.{has_shape}
-use Rattle.bit_grammar.specs.Record.{Entry, unabbreviated, abbreviated}
+use Rattle.bit_grammar.specs.Record.{Entry, abbreviated}
 use Rattle.bit_grammar.specs.Blocks as blocks
 use Rattle.bit_grammar.specs.Blocks.{Limits, Handed, Scope, entry}
 use Rattle.bit_grammar.specs.Machine as machine
@@ -20,31 +18,24 @@ use Rattle.bit_fields.specs.Short.{TookNothing}
 use Rattle.bit_fields.proofs.Composing.{same_reading, stops_here, took_then}
 use Rattle.bit_fields.proofs.Gap.{gap_whole}
 use Rattle.bit_fields.proofs.BitLaws.{drop_more}
-use Rattle.bit_fields.proofs.Glimpses.{glimpsed_took, glimpsed_forward, glimpsed_passed, took_glimpsed, seen_took, not_caught_up}
+use Rattle.bit_fields.proofs.Glimpses.{glimpsed_forward, glimpsed_passed, took_glimpsed, seen_took, not_caught_up}
 use Rattle.bit_grammar.specs.declared.op.Op.{Op}
-use Rattle.bit_abbrev.specs.Values.{AddsWithin, Gains, Has}
+use Rattle.bit_abbrev.specs.Values.{AddsWithin}
+use Rattle.bit_abbrev.proofs.Glancing.{took_at, plain_took}
 use Rattle.bit_events.specs.declared.frame.Frame.{Frame}
 use Rattle.bit_events.specs.declared.machine.Machine.{Machine}
 use Rattle.bit_events.specs.FrameView.{frame_shown, frames_shown}
 use Rattle.bit_events.specs.Folding.{left_to_tell, GathersSome, Misses, TakesRun}
 use Rattle.bit_events.specs.Gathering.{Gathers}
 use Rattle.bit_events.specs.MachineView.{machine_shown, record_of, Leaves}
-use Rattle.bit_events.specs.Runs.{after_record, Passed, GathersTo, GathersRun}
+use Rattle.bit_events.specs.Runs.{IsFor, after_record, Passed, GathersTo, GathersRun}
 use Rattle.bit_events.proofs.Advancing.{pays_both}
 use Rattle.bit_events.proofs.Folds.{in_block, none_yet, one_event, some_then, step_missed}
 use Rattle.bit_events.proofs.Framing.{none_described, plain_entry, short_entry}
 use Rattle.bit_events.proofs.Framing as framing
 use Rattle.bit_events.proofs.Stepping.{in_then, after_record as record_follows, record_took, other_than, length-frames}
 
--- what follows from a success
-pub if_some : {A : Type 0} (result : Option A) (P Q : A → Type 0) → ((x : A) → P x → Q x) → IfSome result P → IfSome result Q
-if_some (Some x) P Q so h = so x h
-if_some None P Q so h = tt
-
 -- ---- one record
-
-pub took_at : {A : Type 0} (rule : Grammar A) (a : InSight) (value : A) (b : InSight) → Glimpsed rule a value b → Took rule (reader_at a) value (reader_at b)
-took_at rule a value b seen = glimpsed_took rule a value b seen (glimpsed_forward rule a value b seen)
 
 -- a record of a block that is no BLOCKINFO block, after the id
 pub record_seen : (limits : Limits) (f : machine.Frame) (outer : List machine.Frame) (handed : Handed) (id code : ℕ) (list : List ℕ) (a b c : InSight) → f.info ≡ None → 3 ≤ id → Glimpsed (fixed f.head.width) a id b → Took (entry limits.values a.position id (scope_of f handed)) (reader_at b) (record { code = code; values = list }) (reader_at c)
@@ -78,20 +69,14 @@ record_seen limits f outer handed id code list a b c none most seen t =
 entry_read : (rule : Grammar Entry) (room : ℕ) (a : Reader) (code : ℕ) (b : Reader) (list : List ℕ) → AddsWithin rule room a (Ok code) b [] list → Took rule a (record { code = code; values = list }) b
 entry_read rule room a code b list h = rw h.0.1 h.0.2
 
--- an entry that has these values
-abbrev pub EntrySeen : (V : Type 0) → (took : V → List ℕ → Type 0) → V → (definitions : List (List Op)) → (room id : ℕ) → InSight → InSight → (code : ℕ) → Type 0
-EntrySeen V took v definitions room id a b code = Has took v (λ list. (length list ≤ room) × ((limit first : ℕ) (scope : Scope) → scope.definitions ≡ definitions → limit - scope.handed.used ≡ room → Took (entry limit first id scope) (reader_at a) (record { code = code; values = list }) (reader_at b)))
-
-pub plain_seen : {V : Type 0} (took : V → List ℕ → Type 0) (v w : V) (definitions : List (List Op)) (room id : ℕ) (a b : InSight) (code : ℕ) → id ≡ 3 → took v [] → Gains took v w (AddsWithin (unabbreviated room) room (reader_at a) (Ok code) (reader_at b)) → EntrySeen V took w definitions room id a b code
-plain_seen took v w definitions room id a b code is none gains =
-    let h = gains [] none in
-    (h.0, h.1, (omega (arith, h.2.1), λ limit first scope force same. plain_entry limit first id room scope (reader_at a) (Ok (record { code = code; values = h.0 })) (reader_at b) is same (entry_read (unabbreviated room) room (reader_at a) code (reader_at b) h.0 h.2)))
-
-pub short_seen : {V : Type 0} (took : V → List ℕ → Type 0) (v w : V) (definitions : List (List Op)) (ops : List Op) (room id : ℕ) (a b : InSight) (code : ℕ) → id ≢ 3 → slice_get definitions (id - 4) ≡ Some ops → has_shape ops ≡ true → took v [] → Gains took v w (λ before after. (at : ℕ) → AddsWithin (abbreviated at room ops) room (reader_at a) (Ok code) (reader_at b) before after)
-    → EntrySeen V took w definitions room id a b code
-short_seen took v w definitions ops room id a b code other found shape none gains =
-    let h = gains [] none in
-    (h.0, h.1, (omega (arith, (h.2 0).1), λ limit first scope force same. short_entry limit first id room scope definitions ops (reader_at a) (Ok (record { code = code; values = h.0 })) (reader_at b) other force same found shape (entry_read (abbreviated first room ops) room (reader_at a) code (reader_at b) h.0 (h.2 first))))
+-- an entry that was read by its operands
+pub entry_seen : (definitions : List (List Op)) (ops : List Op) (limit first id room : ℕ) (scope : Scope) (a b : InSight) (code : ℕ) (list : List ℕ) → IsFor definitions id ops → scope.definitions ≡ definitions → limit - scope.handed.used ≡ room → AddsWithin (abbreviated first room ops) room (reader_at a) (Ok code) (reader_at b) [] list
+    → Took (entry limit first id scope) (reader_at a) (record { code = code; values = list }) (reader_at b)
+entry_seen definitions ops limit first id room scope a b code list (inl plain) force same h =
+    plain_entry limit first id room scope (reader_at a) (Ok (record { code = code; values = list })) (reader_at b) plain.0 same
+    (plain_took first room (reader_at a) (record { code = code; values = list }) (reader_at b) (subst (λ (o : List Op). Took (abbreviated first room o) (reader_at a) (record { code = code; values = list }) (reader_at b)) plain.1 (entry_read (abbreviated first room ops) room (reader_at a) code (reader_at b) list h)))
+entry_seen definitions ops limit first id room scope a b code list (inr short) force same h =
+    short_entry limit first id room scope definitions ops (reader_at a) (Ok (record { code = code; values = list })) (reader_at b) short.0 force same short.1 short.2 (entry_read (abbreviated first room ops) room (reader_at a) code (reader_at b) list h)
 
 -- ---- several
 

@@ -1,5 +1,8 @@
 -- Gathering records that are in sight, before a reader takes them.
-use Rattle.std.specs.Prelude.{◌≡◌, ℕ, ◌+◌, ◌-◌, List, ◌∷◌, ◌++◌, Bool, length}
+use Rattle.std.specs.Prelude.{◌≡◌, ◌≢◌, ◌⊎◌, ℕ, ◌+◌, ◌-◌, List, ◌∷◌, ◌++◌, Bool, true, Some, length, slice_get}
+use Rattle.bit_grammar.specs.declared.op.Op.{Op}
+use Rattle.bit_grammar.specs.Definition.{has_shape}
+use Rattle.bit_abbrev.specs.Plain.{plain_ops}
 use Rattle.bit_grammar.specs.Blocks.{Limits, Handed}
 use Rattle.bit_grammar.specs.Machine as machine
 use Rattle.bit_grammar.specs.Machine.{Event}
@@ -9,6 +12,10 @@ use Rattle.bit_events.specs.declared.frame.Frame.{Frame}
 use Rattle.bit_events.specs.declared.machine.Machine.{Machine}
 use Rattle.bit_events.specs.FrameView.{frame_shown, frames_shown}
 use Rattle.bit_events.specs.Folding.{GathersSome}
+
+-- these are the operands of a record with this id, in a lawful order
+abbrev pub IsFor : (definitions : List (List Op)) → (id : ℕ) → List Op → Type 0
+IsFor definitions id ops = ((id ≡ 3) × (ops ≡ plain_ops)) ⊎ ((id ≢ 3) × (slice_get definitions (id - 4) ≡ Some ops) × (has_shape ops ≡ true))
 
 -- the machine after a record with these values, in the innermost block f, which is no BLOCKINFO block
 abbrev pub after_record : machine.Frame → List machine.Frame → Handed → List ℕ → machine.Machine

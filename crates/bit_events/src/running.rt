@@ -2,45 +2,41 @@
 
 ghost use Rattle.std.specs.Prelude.{◌≡◌, ◌<◌, ◌≤◌, ◌-◌, ◌+◌, ℕ, List, [], ◌∷◌, None, IfSome, OnSome, IfOk, length};
 ghost use Rattle.bit_grammar.specs.Blocks as blocks;
-ghost use Rattle.bit_grammar.specs.Blocks.{Handed, Scope, entry};
+ghost use Rattle.bit_grammar.specs.Blocks.{Handed};
+ghost use Rattle.bit_grammar.specs.FormatDefinition.{Lawful};
 ghost use Rattle.bit_grammar.specs.Machine as machine;
 ghost use Rattle.bit_grammar.specs.Machine.{step_of};
-ghost use Rattle.bit_fields.specs.Ahead.{Glimpsed, reader_at};
-ghost use Rattle.bit_fields.specs.Reader.{Took};
-ghost use Rattle.bit_abbrev.specs.Values.{Has, Keeps};
+ghost use Rattle.bit_fields.specs.Ahead.{Glimpsed};
+ghost use Rattle.bit_abbrev.specs.Plain.{plain_ops};
+ghost use Rattle.bit_abbrev.specs.Values.{Has};
 ghost use Rattle.bit_events.specs.FrameView.{frame_shown};
 ghost use Rattle.bit_events.specs.MachineView.{record_of, TookSome};
-ghost use Rattle.bit_events.specs.Runs.{GathersRun, after_record};
+ghost use Rattle.bit_events.specs.Runs.{GathersRun, IsFor, after_record};
 
 use crate::frame::Frame;
 use crate::gatherer::Gatherer;
-use bit_abbrev::{InForce, glance_abbreviated, glance_unabbreviated};
+use bit_abbrev::{InForce, Op, glance_record, plain_ops};
 use bit_fields::{Ahead, Limits, ValueTaker};
 use std::alloc::AllocError;
 
-/// Reads the code and the values of a record, after its id. What takes its values has none before.
+/// The operands of a record with this id, where it is not abbreviated or has a definition; `plain` are those of records that
+/// are not abbreviated.
 #[inline(always)]
-fn glance_entry<V: ValueTaker>(
-    ahead: &mut Ahead<'_>,
-    definitions: &InForce,
-    room: u64,
-    values: &mut V,
-    id: u32,
-) -> Option<u64>
-    requires none { V.took values.old [] }
+fn ops_for<'a>(definitions: &'a InForce, plain: &'a [Op], id: u32) -> Option<&'a [Op]>
     requires id { 3 ≤ id }
-    ensures glimpsed { IfSome result (λ code. Has V.took values.new (λ list. (length list ≤ room) × ((limit first : ℕ) (scope : Scope) → scope.definitions ≡ definitions.now → limit - scope.handed.used ≡ room → Took (entry limit first id scope) (reader_at ahead.old) (record { code = code; values = list }) (reader_at ahead.new)))) }
-    ensures took { TookSome V.took values.new }
+    requires plain { plain.now ≡ plain_ops }
+    ensures lawful { IfSome result (λ ops. Lawful ops.now) }
+    ensures found { IfSome result (λ ops. IsFor definitions.now id ops.now) }
 {
     if id == 3 {
-        return glance_unabbreviated(ahead, room, values);
+        return Some(plain);
     }
     match definitions.get((id - 4) as usize) {
         Some(abbrev) => {
             if !abbrev.is_usable() {
                 return None;
             }
-            glance_abbreviated(ahead, abbrev, room, values)
+            Some(abbrev.lawful_ops())
         }
         None => None,
     }
@@ -49,12 +45,14 @@ fn glance_entry<V: ValueTaker>(
 /// Reads a record and its id, where the block is no BLOCKINFO block: the id and the code. The values are those of the record
 /// alone.
 #[inline(always)]
-fn glance_record<V: ValueTaker>(
+fn glance_item<V: ValueTaker>(
     ahead: &mut Ahead<'_>,
     frame: &Frame,
+    plain: &[Op],
     room: u64,
     values: &mut V,
 ) -> Option<(u32, u64)>
+    requires ops { plain.now ≡ plain_ops }
     requires took { TookSome V.took values.old }
     requires plain { frame.now.info ≡ None }
     ensures glimpsed { IfSome result (λ read. Has V.took values.new (λ list. (length list ≤ room) × ((limits : blocks.Limits) (outer : List machine.Frame) (handed : Handed) → limits.values - handed.used ≡ room → Glimpsed (step_of limits (frame_shown frame.now ∷ outer) handed) ahead.old (record_of read.0 list ahead.old.position (read.1, ahead.new.position), after_record (frame_shown frame.now) outer handed list) ahead.new))) }
@@ -66,7 +64,8 @@ fn glance_record<V: ValueTaker>(
         return None;
     }
     values.truncate(0);
-    let code = glance_entry(ahead, &frame.definitions, room, values, id as u32)?;
+    let ops = ops_for(&frame.definitions, plain, id as u32)?;
+    let code = glance_record(ahead, ops, room, values)?;
     Some((id as u32, code))
 }
 
@@ -89,9 +88,10 @@ pub(crate) fn gather_records<G: Gatherer>(
     let mut ahead = ahead;
     let mut first = ahead.position();
     let mut spent = *used;
+    let plain = plain_ops();
     loop {
         let room = limits.values().saturating_sub(spent);
-        let Some((id, code)) = glance_record(&mut ahead, frame, room, values) else {
+        let Some((id, code)) = glance_item(&mut ahead, frame, &plain, room, values) else {
             *used = spent;
             return Ok(first);
         };

@@ -12,7 +12,7 @@ use Rattle.bit_fields.specs.Short.{TookNothing}
 use Rattle.bit_fields.specs.declared.ahead.Sight.{Sight}
 use Rattle.bit_fields.specs.Sight.{told, Shown}
 use Rattle.bit_fields.proofs.Composing.{took_then, same_reading}
-use Rattle.bit_fields.specs.Ahead.{InSight, Glimpsed, Sees, advanced, reader_at}
+use Rattle.bit_fields.specs.Ahead.{InSight, Glimpsed, Sees, advanced, reader_at, beyond}
 use Rattle.bit_fields.proofs.InflowLaws.{Spends-refl}
 use Rattle.bit_fields.proofs.Gap.{gap_whole}
 
@@ -68,6 +68,14 @@ left_behind rule a value b seen rest =
 -- so many bits are in sight
 glimpsed_there : {A : Type 0} (rule : Grammar A) (a : InSight) (value : A) (b : InSight) → Glimpsed rule a value b → b.position - a.position ≤ length a.bits
 glimpsed_there rule a value b seen = let p = glimpsed_passed rule a value b seen in omega (arith, p.2, ap length p.1, length-append p.0 b.bits)
+
+-- what is left in sight is what stands behind so many bits
+pub glimpsed_beyond : {A : Type 0} (rule : Grammar A) (a : InSight) (value : A) (b : InSight) (bits : ℕ) → Glimpsed rule a value b → bits ≡ b.position - a.position → Glimpsed rule a value (beyond a bits)
+glimpsed_beyond rule a value b bits seen is =
+    let p = glimpsed_passed rule a value b seen in
+    let place : b.position ≡ a.position + bits = omega (arith, p.2, is) in
+    let left : b.bits ≡ drop bits a.bits = sym (ap (drop bits) p.1 ∙ drop_at p.0 b.bits bits (omega (arith, p.2, is))) in
+    seen ∙ rw (place, left) refl
 
 -- ---- a reader that sees it
 

@@ -70,6 +70,18 @@ impl<'a> Ahead<'a> {
         self.end - (u64::from(self.window.len()) + 8 * self.bytes.len() as u64)
     }
 
+    /// Puts four more bytes into the window, where fewer than 32 bits are in it and the bytes are there.
+    #[inline(always)]
+    fn fill(&mut self)
+        ensures { self.new ≡ self.old }
+    {
+        if self.window.len() < 32 {
+            if let Some(rest) = load(&mut self.window, self.bytes) {
+                self.bytes = rest;
+            }
+        }
+    }
+
     /// Takes n bits, which are a part of a field.
     #[inline(always)]
     fn part(&mut self, n: u32) -> Option<u64>
@@ -78,8 +90,20 @@ impl<'a> Ahead<'a> {
         ensures below { IfSome result (λ value. value < 2 ^ n) }
         ensures moves { OnSome result (self.new.position ≡ self.old.position + n) }
     {
+        self.fill();
+        self.held_part(n)
+    }
+
+    /// Takes n bits, where they are in the window.
+    #[inline(always)]
+    fn held_part(&mut self, n: u32) -> Option<u64>
+        requires { n ≤ 32 }
+        ensures glimpsed { IfSome result (λ value. (start : ℕ) → Glimpsed (part_of start n) self.old value self.new) }
+        ensures below { IfSome result (λ value. value < 2 ^ n) }
+        ensures moves { OnSome result (self.new.position ≡ self.old.position + n) }
+    {
         if self.window.len() < n {
-            self.bytes = load(&mut self.window, self.bytes)?;
+            return None;
         }
         Some(self.window.take(n))
     }
@@ -115,18 +139,46 @@ impl<'a> Ahead<'a> {
         ensures glimpsed { IfSome result (λ value. Glimpsed (vbr n) self.old value self.new) }
         ensures moves { OnSome result (self.old.position + n ≤ self.new.position) }
     {
-        if let Some(value) = self.one_chunk(n) {
-            return Some(value);
+        self.fill();
+        match self.one_chunk(n) {
+            Some(value) => Some(value),
+            None => self.longer_vbr(n),
         }
+    }
+
+    /// Reads such a number without asking whether it is one chunk: that takes a few instructions more where its value is
+    /// wanted, and none that depends on it where nobody looks at the value.
+    #[inline(always)]
+    pub fn pass_vbr(&mut self, n: u32) -> Option<u64>
+        requires some { 2 ≤ n }
+        requires few { n ≤ 32 }
+        ensures glimpsed { IfSome result (λ value. Glimpsed (vbr n) self.old value self.new) }
+        ensures moves { OnSome result (self.old.position + n ≤ self.new.position) }
+    {
+        self.fill();
+        self.longer_vbr(n)
+    }
+
+    /// Reads a number that may be longer than one chunk of n bits.
+    #[inline(always)]
+    fn longer_vbr(&mut self, n: u32) -> Option<u64>
+        requires some { 2 ≤ n }
+        requires few { n ≤ 32 }
+        ensures glimpsed { IfSome result (λ value. Glimpsed (vbr n) self.old value self.new) }
+        ensures moves { OnSome result (self.old.position + n ≤ self.new.position) }
+    {
         if let Some(value) = self.few_chunks(n) {
             return Some(value);
         }
-        let (ahead, value) = self.copy().far_vbr(n)?;
-        *self = ahead;
+        let (value, bits) = self.copy().far_vbr(n);
+        if bits == 0 {
+            return None;
+        }
+        self.skip(bits)?;
         Some(value)
     }
 
-    /// Takes a number of one chunk of n bits. Most are such.
+    /// Takes a number of one chunk of n bits, where it is in the window. Most are such.
     #[inline(always)]
     fn one_chunk(&mut self, n: u32) -> Option<u64>
         requires some { 2 ≤ n }
@@ -134,10 +186,7 @@ impl<'a> Ahead<'a> {
         ensures glimpsed { MatchOption result (self.new ≡ self.old) (λ value. Glimpsed (vbr n) self.old value self.new) }
         ensures moves { OnSome result (self.new.position ≡ self.old.position + n) }
     {
-        if self.window.len() < n {
-            self.bytes = load(&mut self.window, self.bytes)?;
-        }
-        if self.window.peek(n) >= 1 << (n - 1) {
+        if self.window.len() < n || self.window.peek(n) >= 1 << (n - 1) {
             return None;
         }
         Some(self.window.take(n))
@@ -161,33 +210,22 @@ impl<'a> Ahead<'a> {
         Some(self.window.take_number(n, bits))
     }
 
-    /// Reads a number in chunks of n bits that is not whole in the window, or takes more than four chunks. It takes what is
-    /// ahead by value, so that its callers keep that in registers.
+    /// Reads a number in chunks of n bits that is not whole in the window, or takes more than four chunks: the number, and how
+    /// many bits it takes; 0 bits where it is not to be had. It takes what is ahead by value, so that its callers keep that in
+    /// registers, and answers what fits two of them.
     #[cold]
     #[inline(never)]
-    fn far_vbr(self, n: u32) -> Option<(Ahead<'a>, u64)>
+    fn far_vbr(self, n: u32) -> (u64, u64)
         requires some { 2 ≤ n }
         requires few { n ≤ 32 }
-        ensures glimpsed { IfSome result (λ read. Glimpsed (vbr n) self.entry read.1 read.0) }
-        ensures moves { IfSome result (λ read. self.entry.position + n ≤ read.0.position) }
+        ensures glimpsed { 0 < result.1 → Glimpsed (vbr n) self.entry result.0 (beyond self.entry result.1) }
+        ensures moves { 0 < result.1 → n ≤ result.1 }
     {
         let mut ahead = self;
-        ahead.fill();
-        if let Some(value) = ahead.few_chunks(n) {
-            return Some((ahead, value));
-        }
-        let value = ahead.chunk_by_chunk(n)?;
-        Some((ahead, value))
-    }
-
-    /// Puts more bytes into the window, where there is room for them and they are there.
-    fn fill(&mut self)
-        ensures { self.new ≡ self.old }
-    {
-        if self.window.len() <= 32 {
-            if let Some(rest) = load(&mut self.window, self.bytes) {
-                self.bytes = rest;
-            }
+        let start = ahead.position();
+        match ahead.chunk_by_chunk(n) {
+            Some(value) => (value, ahead.position() - start),
+            None => (0, 0),
         }
     }
 

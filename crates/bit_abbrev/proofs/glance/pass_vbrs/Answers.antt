@@ -8,7 +8,7 @@ pub loop-init : goal.loop-init
 loop-init c = past_begins (vbr c.args.n) c.args.count c.args.ahead.now
 
 pub loop-preserved : goal.loop-preserved
-loop-preserved c = past_goes_on (vbr c.args.n) c.args.count c.loop.counter (reader_at c.args.ahead.now) (reader_at c.loop.ahead) c.in_ok-vbr.field-0 (reader_at c.vbr.new.self) c.loop-test.true c.loop.invariant (took_at (vbr c.args.n) c.loop.ahead c.in_ok-vbr.field-0 c.vbr.new.self c.in_ok-vbr.ensures.glimpsed)
+loop-preserved c = past_goes_on (vbr c.args.n) c.args.count c.loop.counter (reader_at c.args.ahead.now) (reader_at c.loop.ahead) c.in_ok-pass_vbr.field-0 (reader_at c.pass_vbr.new.self) c.loop-test.true c.loop.invariant (took_at (vbr c.args.n) c.loop.ahead c.in_ok-pass_vbr.field-0 c.pass_vbr.new.self c.in_ok-pass_vbr.ensures.glimpsed)
 
 pub returns : goal.returns
 returns c = past_ends (vbr c.args.n) c.args.count c.loop.counter (reader_at c.args.ahead.now) (reader_at c.loop.ahead) c.loop-test.false (omega arith) c.loop.invariant

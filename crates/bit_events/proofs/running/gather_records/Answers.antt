@@ -12,7 +12,7 @@ pub loop-id-preserved : goal.loop-id-preserved
 loop-id-preserved g c =
     let h = c.in-Some.ensures.glimpsed in
     let b = c.loop-id.ahead in
-    let d = c.glance_record.new.ahead in
+    let d = c.glance_item.new.ahead in
     let room : c.saturating_sub-room.result ≡ c.args.limits.now.values - c.loop-id.spent = omega (arith, c.saturating_sub-room.ensures, c.values.ensures.values) in
     let more : c.loop-id.spent + c.count-spent.result ≡ c.loop-id.spent + length h.0 = omega (arith, c.count-spent.ensures h.0 h.1, h.2.0, c.values.ensures.capped) in
     let event : record_of c.in-Some.id h.0 c.loop-id.first (c.in-Some.code, c.position-after.result) ≡ record_of c.in-Some.id h.0 b.position (c.in-Some.code, d.position) = rw (c.loop-id.invariant.first, c.position-after.ensures) refl in
