@@ -5,10 +5,12 @@
 mod ahead;
 #[cfg(test)]
 mod ahead_tests;
+mod characters;
 mod fault;
 mod head;
 mod inflow;
 mod limits;
+mod numbers;
 mod reader;
 mod sink;
 mod source;
