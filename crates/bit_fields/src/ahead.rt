@@ -1,4 +1,4 @@
-ghost use Rattle.std.specs.Prelude.{ℕ, ◌≡◌, ◌+◌, ◌*◌, ◌-◌, ◌<◌, ◌≤◌, ◌^◌, ◌++◌, length, drop, IfSome, OnSome, MatchOption, IfNone};
+ghost use Rattle.std.specs.Prelude.{ℕ, ◌≡◌, ◌+◌, ◌*◌, ◌-◌, ◌<◌, ◌≤◌, ◌^◌, ◌++◌, length, IfSome, OnSome, MatchOption, IfNone};
 ghost use Rattle.bit_grammar.specs.Bits.{bits_of_bytes};
 ghost use Rattle.bit_grammar.specs.Grammar.{repeat};
 ghost use Rattle.bit_grammar.specs.Fields.{fixed, vbr, char6};
@@ -6,7 +6,7 @@ ghost use Rattle.bit_fields.specs.Inside.{part_of, numbers};
 ghost use Rattle.bit_fields.specs.Ahead.{Glimpsed, beyond};
 ghost use Rattle.bit_fields.specs.Sight.{told, IsSight};
 
-use crate::reader::{MOST_SHORT, character, payload_of, placed};
+use crate::numbers::{MOST_SHORT, character, payload_of, placed};
 use crate::window::Window;
 use crate::word::four_of;
 use std::marker::Model;

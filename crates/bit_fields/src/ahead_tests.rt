@@ -28,7 +28,7 @@ fn seen(ahead: &mut Ahead<'_>, place: u64) -> Option<u64> {
         2 => ahead.char6(),
         3 => ahead.vbr(3),
         4 => ahead.fixed(13),
-        5 => ahead.vbr(4),
+        5 => ahead.pass_vbr(4),
         _ => Some(skipped(ahead.skip_fixed(3, 5)?)),
     }
 }

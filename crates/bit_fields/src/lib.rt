@@ -5,11 +5,13 @@
 mod ahead;
 #[cfg(test)]
 mod ahead_tests;
+mod characters;
 mod fault;
 mod head;
 mod inflow;
 mod kept;
 mod limits;
+mod numbers;
 mod reader;
 mod sink;
 mod source;

@@ -1,8 +1,8 @@
-ghost use Rattle.std.specs.Prelude.{◌≡◌, ◌+◌, ◌*◌, ◌-◌, ◌<◌, ◌≤◌, ◌^◌, ◌%◌, length, true, false, take, drop, [], OnErr, OnOk, IfOk, IfErr, MatchOption, ◌&&◌, ◌==◌, nat_le};
+ghost use Rattle.std.specs.Prelude.{◌≡◌, ◌+◌, ◌*◌, ◌-◌, ◌<◌, ◌≤◌, ◌^◌, ◌%◌, length, true, false, take, OnErr, OnOk, IfOk, IfErr, MatchOption};
 ghost use Rattle.std.specs.Borrow.{sem};
 ghost use Rattle.bit_fields.specs.Devices.{IsFresh};
 ghost use Rattle.std.specs.Io.BufRead.{Rests};
-ghost use Rattle.bit_grammar.specs.Fields.{fixed, vbr, char6, align32, byte, character, chunks, chunk_limit, zeros};
+ghost use Rattle.bit_grammar.specs.Fields.{fixed, vbr, align32, chunks, chunk_limit, zeros};
 ghost use Rattle.bit_grammar.specs.Grammar.{at, gives, test, repeat};
 ghost use Rattle.bit_grammar.specs.Input.{version, offset, wrapper, any_bits, inner_magic};
 ghost use Rattle.bit_fields.specs.Reader.{Extent, Takes, Took, Why, IsOnly, NeedsNoMemory, within, told_by, stopped};
@@ -18,15 +18,13 @@ use crate::fault::Fault;
 use crate::head::{Head, Wrapper};
 use crate::inflow::{Inflow, Missing};
 use crate::limits::Limits;
+use crate::numbers::{MOST_SHORT, is_lawful, payload_of, placed};
 use crate::source::{Source, SourceFailed};
 use bit_grammar::Reason;
 use std::marker::Model;
 
 /// The number that the first four bytes of a wrapped input spell.
 const WRAPPER_MAGIC: u64 = 0x0B17_C0DE;
-
-/// The greatest width of chunks of which four are read at once.
-pub(crate) const MOST_SHORT: u32 = 14;
 
 /// Reads the fields of a stream of bits.
 ///
@@ -94,8 +92,9 @@ impl<S: Source> BitReader<S> {
             });
         }
         let wrapper = self.wrapper()?;
-        let start = self.position;
-        self.gap(start, wrapper.offset)?;
+        // the gap begins here, no further than the input goes
+        let _start = self.position;
+        self.gap(wrapper.offset)?;
         self.end_after(wrapper.offset, wrapper.size);
         let magic = self.inner_magic()?;
         Ok(Head {
@@ -150,17 +149,15 @@ impl<S: Source> BitReader<S> {
         Ok(offset)
     }
 
-    /// Skips what stands between a wrapper and its stream, whatever it is, from the bit where it begins.
-    fn gap(&mut self, start: u64, offset: u32) -> Result<(), Fault>
+    /// Skips what stands between a wrapper and its stream, whatever it is.
+    fn gap(&mut self, offset: u32) -> Result<(), Fault>
         requires live { self.old.live ≡ true }
         requires position { self.old.position ≡ 160 }
-        requires start { start ≡ 160 }
         requires least { 20 ≤ offset }
         ensures takes { Takes (any_bits (8 * (offset - 20))) self.old result self.new }
         ensures memory { NeedsNoMemory result }
         ensures place { OnOk result (self.new.position ≡ 8 * offset) }
     {
-        let _start = start;
         self.skip_bits(8 * u64::from(offset - 20))
     }
 
@@ -499,36 +496,6 @@ impl<S: Source> BitReader<S> {
         self.part(n, start)
     }
 
-    /// Reads a byte. The position is a multiple of 8.
-    ///
-    /// Fewer than 8 bits are `Truncated` at the first bit of the byte.
-    pub fn byte(&mut self) -> Result<u8, Fault>
-        requires { self.old.position % 8 ≡ 0 }
-        ensures takes { Takes byte self.old result self.new }
-        ensures only { IsOnly byte self.old result self.new }
-        ensures memory { NeedsNoMemory result }
-        ensures stays { OnErr result (self.new.position ≡ self.old.position) }
-        ensures moves { OnOk result (self.new.position ≡ self.old.position + 8) }
-    {
-        let byte = self.fixed(8)?;
-        Ok(byte as u8)
-    }
-
-    /// Reads a character in six bits and answers its ASCII code: a letter, a digit, '.' or '_'. Source: "6-bit
-    /// characters".
-    ///
-    /// Fewer bits are `Truncated` at the first bit of the field.
-    pub fn char6(&mut self) -> Result<u64, Fault>
-        ensures takes { Takes char6 self.old result self.new }
-        ensures only { IsOnly char6 self.old result self.new }
-        ensures memory { NeedsNoMemory result }
-        ensures stays { OnErr result (self.new.position ≡ self.old.position) }
-        ensures moves { OnOk result (self.new.position ≡ self.old.position + 6) }
-    {
-        let code = self.fixed(6)?;
-        Ok(character(code))
-    }
-
     /// Reads a number in chunks of n bits, n from 2 to 32: of each chunk the top bit says whether another one follows, and
     /// the others are payload, the lowest first. Source: "Variable Width Integers".
     ///
@@ -827,52 +794,5 @@ impl<S: Source> BitReader<S> {
         ensures failed { self.new ≡ stopped self.old }
     {
         self.stop(fault, self.position)
-    }
-}
-
-/// Whether the stream of a wrapper may begin at a byte.
-fn is_lawful(offset: u64) -> bool
-    ensures { result ≡ (nat_le 20 offset && (offset % 4 == 0)) }
-{
-    offset >= 20 && offset % 4 == 0
-}
-
-/// The bits of a chunk without the top one.
-pub(crate) fn payload_of(chunk: u64, n: u32) -> u64
-    requires some { 2 ≤ n }
-    requires few { n ≤ 32 }
-    ensures { result ≡ chunk % 2 ^ (n - 1) }
-{
-    chunk & ((1 << (n - 1)) - 1)
-}
-
-/// A payload moved up to a place, if it fits 64 bits there.
-pub(crate) fn placed(payload: u64, place: u32) -> Option<u64>
-    requires some { 0 < place }
-    requires few { place < 64 }
-    ensures { MatchOption result (2 ^ (64 - place) ≤ payload) (λ worth. (worth ≡ payload * 2 ^ place) × (payload < 2 ^ (64 - place))) }
-{
-    if payload >> (64 - place) == 0 {
-        Some(payload << place)
-    } else {
-        None
-    }
-}
-
-/// The character of a code of six bits.
-pub(crate) fn character(code: u64) -> u64
-    requires { code < 64 }
-    ensures { result ≡ character code }
-{
-    if code < 26 {
-        97 + code
-    } else if code < 52 {
-        65 + (code - 26)
-    } else if code < 62 {
-        48 + (code - 52)
-    } else if code == 62 {
-        46
-    } else {
-        95
     }
 }
