@@ -48,6 +48,9 @@ struct bs_limits {
     uint64_t bytes;
     uint32_t depth;
     uint64_t values;
+    /* Whether definitions whose operands are in no lawful order are taken, and judged where a record uses them, as LLVM's reader
+       does; else they are refused where they stand. */
+    bool shapes_at_use;
 };
 
 /* What of an input is left out. All zeros where nothing is. */
@@ -76,7 +79,7 @@ struct bs_bytes {
 /* The version of these calls, structures and numbers: 1. */
 uint32_t bs_version(void);
 
-/* Sets limits to those that serve most inputs: 1073741824 bytes, depth 64, 134217728 values. */
+/* Sets limits to those that serve most inputs: 1073741824 bytes, depth 64, 134217728 values, and shapes not judged at their use. */
 void bs_usual_limits(struct bs_limits *limits);
 
 /* Sets a name, which lives as long as the library, to that of a reason, without a zero at its end; to no bytes where no reason has

@@ -9,6 +9,7 @@ mod bitstream {
         pub bytes: u64,
         pub depth: u32,
         pub values: u64,
+        pub shapes_at_use: bool,
     }
 
     #[repr(C)]
@@ -47,8 +48,8 @@ mod bitstream {
 
     impl Default for Limits {
         fn default() -> Limits {
-            let mut limits = Limits { bytes: 0, depth: 0, values: 0 };
-            // SAFETY: it writes three numbers.
+            let mut limits = Limits { bytes: 0, depth: 0, values: 0, shapes_at_use: false };
+            // SAFETY: it writes three numbers and a bool.
             unsafe { bs_usual_limits(&mut limits) };
             limits
         }

@@ -5,7 +5,8 @@ import sys
 
 
 class Limits(ctypes.Structure):
-    _fields_ = [("bytes", ctypes.c_uint64), ("depth", ctypes.c_uint32), ("values", ctypes.c_uint64)]
+    _fields_ = [("bytes", ctypes.c_uint64), ("depth", ctypes.c_uint32), ("values", ctypes.c_uint64),
+                ("shapes_at_use", ctypes.c_bool)]
 
 
 class Fault(ctypes.Structure):
