@@ -51,7 +51,7 @@ impl Gatherer for Text {
         &mut self,
         id: u32,
         code: u64,
-        values: &Vec<u64>,
+        values: &mut Vec<u64>,
         first: u64,
         after: u64,
     ) -> Result<(), AllocError> {

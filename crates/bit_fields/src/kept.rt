@@ -85,7 +85,7 @@ mod tests {
 
     fn read_bytes<S: Source>(reader: &mut BitReader<S>, count: u64) -> Result<(), Fault> {
         for _ in 0..count {
-            reader.byte()?;
+            reader.fixed(8)?;
         }
         Ok(())
     }
@@ -95,9 +95,10 @@ mod tests {
         let Some(source) = read(KeptSource::new(alloc, source), count) else {
             return false;
         };
-        match source.into_parts() {
-            (Ok(bytes), _) => bytes.len() >= least && INPUT.starts_with(bytes.as_slice()),
-            (Err(_), _) => false,
+        let (bytes, _) = source.into_parts();
+        match bytes {
+            Ok(bytes) => bytes.len() >= least && INPUT.starts_with(bytes.as_slice()),
+            Err(_) => false,
         }
     }
 
