@@ -12,7 +12,7 @@ OVER, ENTER, DEFINE, RECORD, LEAVE = range(5)
 
 
 class Limits(Structure):
-    _fields_ = [("bytes", c_uint64), ("depth", c_uint32), ("values", c_uint64)]
+    _fields_ = [("bytes", c_uint64), ("depth", c_uint32), ("values", c_uint64), ("shapes_at_use", c_bool)]
 
 
 class LeftOut(Structure):
@@ -80,8 +80,12 @@ class Library:
         """The usual limits, with those that the program's options set."""
         limits = Limits()
         self.calls.bs_usual_limits(byref(limits))
-        for option, number in zip(options[::2], options[1::2]):
-            setattr(limits, option[2:], int(number))
+        words = iter(options)
+        for option in words:
+            if option == "--shapes-at-use":
+                limits.shapes_at_use = True
+            else:
+                setattr(limits, option[2:], int(next(words)))
         return limits
 
     def reason_name(self, number):
