@@ -4,4 +4,5 @@ pub mod Adding
 pub mod Taking
 pub mod Operands
 pub mod Records
+pub mod Scalars
 pub mod Glancing
