@@ -5,4 +5,5 @@ pub mod Taking
 pub mod Operands
 pub mod Shapes
 pub mod Records
+pub mod Scalars
 pub mod Glancing

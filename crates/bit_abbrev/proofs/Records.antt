@@ -247,5 +247,17 @@ in_parts (op ∷ others) some =
     let same : take (suc (length others) - 1) others ≡ others = take_all (suc (length others) - 1) others (omega arith) in
     ap (λ (rest : List Op). op ∷ rest) (sym same)
 
+later_array : (op : Op) (others : List Op) → Lawful (op ∷ others) → (i : ℕ) → op_at others i ≡ Array → i + 2 ≡ length others
+later_array op others h i e = omega (arith, h.array (suc i) e)
+
+later_blob : (op : Op) (others : List Op) → Lawful (op ∷ others) → (i : ℕ) → op_at others i ≡ Blob → i + 1 ≡ length others
+later_blob op others h i e = omega (arith, h.blob (suc i) e)
+
+pub array_behind : (ops : List Op) → 1 ≤ length ops → Lawful ops → (i : ℕ) → op_at (behind_first ops) i ≡ Array → i + 2 ≡ length (behind_first ops)
+array_behind ops some h = later_array (op_at ops 0) (behind_first ops) (subst Lawful (in_parts ops some) h)
+
+pub blob_behind : (ops : List Op) → 1 ≤ length ops → Lawful ops → (i : ℕ) → op_at (behind_first ops) i ≡ Blob → i + 1 ≡ length (behind_first ops)
+blob_behind ops some h = later_blob (op_at ops 0) (behind_first ops) (subst Lawful (in_parts ops some) h)
+
 pub elements_behind : (ops : List Op) → 1 ≤ length ops → Lawful ops → (i : ℕ) → op_at (behind_first ops) i ≡ Array → IsElement (op_at (behind_first ops) (i + 1))
 elements_behind ops some h = later_elements (op_at ops 0) (behind_first ops) (subst Lawful (in_parts ops some) h)

@@ -3,8 +3,10 @@ use Rattle.std.specs.Prelude.{◌≡◌, ℕ, ◌+◌, ◌<◌, ◌≤◌, List,
 use Rattle.std.specs.Result.{OnOk}
 use Rattle.bit_grammar.specs.Grammar.{Grammar, repeat}
 use Rattle.bit_grammar.specs.Record.{Entry}
+use Rattle.bit_grammar.specs.declared.op.Op.{Op}
 use Rattle.bit_fields.specs.declared.fault.Fault.{Fault}
 use Rattle.bit_fields.specs.Reader.{Reader, Took, Why}
+use Rattle.bit_abbrev.specs.Plain.{scalars}
 
 -- it took values of which this holds
 abbrev pub Has : {V : Type 0} → (took : V → List ℕ → Type 0) → V → (List ℕ → Type 0) → Type 0
@@ -34,6 +36,14 @@ Passes rule count old new = (values : List ℕ) × (length values ≡ count) × 
 abbrev pub Adds : Grammar (List ℕ) → Reader → Result (Unit {0}) Fault → (before after : List ℕ) → Reader → Type 0
 Adds rule old (Ok x) before after new = (values : List ℕ) × (after ≡ before ++ values) × Took rule old values new
 Adds rule old (Err fault) before after new = (values : List ℕ) × (after ≡ before ++ values) × Why rule old fault new
+
+-- what passes over a value of each of these operands
+abbrev pub PassesEach : List Op → Reader → Reader → Type 0
+PassesEach ops old new = (values : List ℕ) × (length values ≡ length ops) × Took (scalars ops) old values new
+
+-- A call adds to a list a value of each of these operands.
+abbrev pub AddsEach : List Op → (old new : Reader) → (before after : List ℕ) → Type 0
+AddsEach ops old new before after = Adds (scalars ops) old (Ok tt) before after new × (length after ≡ length before + length ops)
 
 -- A call adds to a list the values that the rule reads, no more than there was room for.
 abbrev pub AddsFew : Grammar (List ℕ) → (room : ℕ) → (old new : Reader) → (before after : List ℕ) → Type 0

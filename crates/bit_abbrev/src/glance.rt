@@ -1,17 +1,17 @@
 //! Reading records from the bytes at hand, where all of a record is there. `None` says that it was not read, and why not is
 //! no matter: the calls over a reader read it from its beginning and judge it. So whatever is odd here is `None`.
 
-ghost use Rattle.std.specs.Prelude.{◌≡◌, ◌+◌, ◌*◌, ◌-◌, ◌<◌, ◌≤◌, ◌^◌, ℕ, List, [], ◌∷◌, ◌++◌, IfSome, OnSome, Ok, length, true};
+ghost use Rattle.std.specs.Prelude.{◌≡◌, ◌≢◌, ◌+◌, ◌*◌, ◌-◌, ◌<◌, ◌≤◌, ◌^◌, ℕ, List, [], ◌∷◌, ◌++◌, IfSome, OnSome, Ok, length, true, false};
 ghost use Rattle.std.specs.List.{AllByRecursion};
 ghost use Rattle.bit_grammar.specs.Grammar.{repeat};
 ghost use Rattle.bit_grammar.specs.Fields.{fixed, vbr, char6};
 ghost use Rattle.bit_grammar.specs.Record.{scalar, singles, value_count, values_of, abbreviated};
-ghost use Rattle.bit_grammar.specs.FormatDefinition.{op_at, IsElement, HasLawfulValue, Lawful};
+ghost use Rattle.bit_grammar.specs.FormatDefinition.{op_at, HasLawfulValue, Lawful};
 ghost use Rattle.bit_grammar.specs.declared.op.Op.{Op};
-ghost use Rattle.bit_grammar.specs.declared.op.Op.TheVariants.{Array};
+ghost use Rattle.bit_grammar.specs.declared.op.Op.TheVariants.{Array, Blob};
 ghost use Rattle.bit_fields.specs.Ahead.{Glimpsed, reader_at};
-ghost use Rattle.bit_abbrev.specs.Plain.{plain_ops};
-ghost use Rattle.bit_abbrev.specs.Values.{Adds, AddsAll, AddsFew, AddsWithin, Gains, GainsMore, Keeps, KeepsMore, Passes};
+ghost use Rattle.bit_abbrev.specs.Plain.{plain_ops, IsBehindSingles};
+ghost use Rattle.bit_abbrev.specs.Values.{Adds, AddsAll, AddsEach, AddsFew, AddsWithin, Gains, GainsMore, Keeps, KeepsMore, Passes, PassesEach};
 
 use crate::record::have_room;
 use bit_fields::{Ahead, ValueTaker};
@@ -223,6 +223,111 @@ fn glance_scalar(ahead: &mut Ahead<'_>, op: Op) -> Option<u64>
     }
 }
 
+/// Does so where nobody looks at the value. Into the calls for the usual widths the width is written.
+#[inline(always)]
+#[tactic(auto, unfolding(bit_grammar::specs::Record::scalar))]
+fn pass_scalar(ahead: &mut Ahead<'_>, op: Op) -> Option<u64>
+    requires { HasLawfulValue op }
+    ensures { IfSome result (λ value. Glimpsed (scalar op) ahead.old value ahead.new) }
+{
+    match op {
+        Op::Literal(value) => Some(value),
+        Op::Fixed(0) | Op::Vbr(0) | Op::Array | Op::Blob => None,
+        Op::Fixed(width) => ahead.fixed(u32::from(width)),
+        Op::Vbr(6) => ahead.pass_vbr(6),
+        Op::Vbr(8) => ahead.pass_vbr(8),
+        Op::Vbr(width) => ahead.pass_vbr(u32::from(width)),
+        Op::Char6 => ahead.char6(),
+    }
+}
+
+/// Passes over the fields of operands that stand for one value each.
+#[inline(always)]
+fn pass_scalars(ahead: &mut Ahead<'_>, ops: &[Op]) -> Option<()>
+    requires { AllByRecursion HasLawfulValue ops.now }
+    ensures { OnSome result (PassesEach ops.now (reader_at ahead.old) (reader_at ahead.new)) }
+{
+    for op in ops {
+        pass_scalar(ahead, *op)?;
+    }
+    Some(())
+}
+
+/// Reads the values of operands that stand for one value each behind other values, or passes over them where nobody looks at
+/// them.
+#[inline(always)]
+fn more_scalars<V: ValueTaker>(ahead: &mut Ahead<'_>, ops: &[Op], values: &mut V) -> Option<()>
+    requires { AllByRecursion HasLawfulValue ops.now }
+    ensures glimpsed { OnSome result (GainsMore V.took values.old values.new (AddsEach ops.now (reader_at ahead.old) (reader_at ahead.new))) }
+    ensures keeps { KeepsMore V.took values.old values.new }
+{
+    if values.pass(ops.len() as u64) {
+        return pass_scalars(ahead, ops);
+    }
+    for op in ops {
+        let value = glance_scalar(ahead, *op)?;
+        keep(values, value)?;
+    }
+    Some(())
+}
+
+/// Reads the values of operands that stand for one value each.
+#[inline(always)]
+fn glance_scalars<V: ValueTaker>(ahead: &mut Ahead<'_>, ops: &[Op], values: &mut V) -> Option<()>
+    requires { AllByRecursion HasLawfulValue ops.now }
+    ensures glimpsed { OnSome result (Gains V.took values.old values.new (AddsEach ops.now (reader_at ahead.old) (reader_at ahead.new))) }
+    ensures keeps { Keeps V.took values.old values.new }
+{
+    let [first, others @ ..] = ops else {
+        return Some(());
+    };
+    let value = glance_scalar(ahead, *first)?;
+    keep(values, value)?;
+    more_scalars(ahead, others, values)
+}
+
+/// Whether the last operand but one is an array.
+#[inline(always)]
+fn has_array(ops: &[Op]) -> bool
+    ensures yes { result ≡ true → (2 ≤ length ops.now) × (op_at ops.now (length ops.now - 2) ≡ Array) }
+    ensures no { result ≡ false → 2 ≤ length ops.now → op_at ops.now (length ops.now - 2) ≢ Array }
+{
+    if ops.len() < 2 {
+        return false;
+    }
+    match ops[ops.len() - 2] {
+        Op::Array => true,
+        _ => false,
+    }
+}
+
+/// Whether the last operand is a blob.
+#[inline(always)]
+fn has_blob(ops: &[Op]) -> bool
+    ensures no { result ≡ false → 1 ≤ length ops.now → op_at ops.now (length ops.now - 1) ≢ Blob }
+{
+    if ops.is_empty() {
+        return false;
+    }
+    match ops[ops.len() - 1] {
+        Op::Blob => true,
+        _ => false,
+    }
+}
+
+/// How many operands stand for one value each, where no blob stands behind them. An array stands last but one.
+#[inline(always)]
+fn count_singles(ops: &[Op]) -> Option<usize>
+    requires array { (i : ℕ) → op_at ops.now i ≡ Array → i + 2 ≡ length ops.now }
+    requires blob { (i : ℕ) → op_at ops.now i ≡ Blob → i + 1 ≡ length ops.now }
+    ensures { IfSome result (λ count. IsBehindSingles ops.now count) }
+{
+    if has_array(ops) {
+        return Some(ops.len() - 2);
+    }
+    if has_blob(ops) { None } else { Some(ops.len()) }
+}
+
 /// Reads the values of operands, with room for so many.
 #[inline(always)]
 fn glance_values<V: ValueTaker>(
@@ -231,22 +336,19 @@ fn glance_values<V: ValueTaker>(
     ops: &[Op],
     values: &mut V,
 ) -> Option<()>
-    requires elements { (i : ℕ) → op_at ops.now i ≡ Array → IsElement (op_at ops.now (i + 1)) }
+    requires array { (i : ℕ) → op_at ops.now i ≡ Array → i + 2 ≡ length ops.now }
+    requires blob { (i : ℕ) → op_at ops.now i ≡ Blob → i + 1 ≡ length ops.now }
     requires lawful { AllByRecursion HasLawfulValue ops.now }
     requires fits { singles ops.now ≤ room }
     ensures glimpsed { OnSome result (Gains V.took values.old values.new (AddsFew (values_of (room - singles ops.now) ops.now) room (reader_at ahead.old) (reader_at ahead.new))) }
     ensures keeps { Keeps V.took values.old values.new }
 {
-    for (index, op) in ops.iter().enumerate() {
-        match op {
-            Op::Array => return glance_array(ahead, room - index as u64, ops[index + 1], values),
-            Op::Blob => return None,
-            _ => {}
-        }
-        let value = glance_scalar(ahead, *op)?;
-        keep(values, value)?;
+    let count = count_singles(ops)?;
+    glance_scalars(ahead, &ops[..count], values)?;
+    if count == ops.len() {
+        return Some(());
     }
-    Some(())
+    glance_array(ahead, room - count as u64, ops[count + 1], values)
 }
 
 /// Reads a record by its operands, after its abbreviation id: hands its values on and answers its code. Where it answers

@@ -9,11 +9,14 @@ use Rattle.bit_fields.specs.Ahead.{reader_at}
 use Rattle.bit_fields.proofs.Composing.{holds_last}
 use Rattle.bit_abbrev.specs.Values.{AddsRecord}
 use Rattle.bit_abbrev.proofs.Glancing.{took_at}
-use Rattle.bit_abbrev.proofs.Records.{behind_first, in_parts, elements_behind, record_read}
+use Rattle.bit_abbrev.proofs.Records.{behind_first, in_parts, array_behind, blob_behind, record_read}
 use Rattle.bit_abbrev.proofs.glance.glance_record.Goals as goal
 
-pub glance_values-requires-clause-elements : goal.glance_values-requires-clause-elements
-glance_values-requires-clause-elements g c = elements_behind c.args.ops.now c.in-len1-up.len_at_least c.requires
+pub glance_values-requires-clause-array : goal.glance_values-requires-clause-array
+glance_values-requires-clause-array g c = array_behind c.args.ops.now c.in-len1-up.len_at_least c.requires
+
+pub glance_values-requires-clause-blob : goal.glance_values-requires-clause-blob
+glance_values-requires-clause-blob g c = blob_behind c.args.ops.now c.in-len1-up.len_at_least c.requires
 
 pub returns-clause-glimpsed : goal.returns-clause-glimpsed
 returns-clause-glimpsed g c = λ before t.
