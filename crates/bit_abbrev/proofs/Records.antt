@@ -248,10 +248,10 @@ in_parts (op ∷ others) some =
     ap (λ (rest : List Op). op ∷ rest) (sym same)
 
 later_array : (op : Op) (others : List Op) → Lawful (op ∷ others) → (i : ℕ) → op_at others i ≡ Array → i + 2 ≡ length others
-later_array op others h i e = omega (arith, h.array (suc i) e)
+later_array op others h i e = omega (arith, h.order.array (suc i) e)
 
 later_blob : (op : Op) (others : List Op) → Lawful (op ∷ others) → (i : ℕ) → op_at others i ≡ Blob → i + 1 ≡ length others
-later_blob op others h i e = omega (arith, h.blob (suc i) e)
+later_blob op others h i e = omega (arith, h.order.blob (suc i) e)
 
 pub array_behind : (ops : List Op) → 1 ≤ length ops → Lawful ops → (i : ℕ) → op_at (behind_first ops) i ≡ Array → i + 2 ≡ length (behind_first ops)
 array_behind ops some h = later_array (op_at ops 0) (behind_first ops) (subst Lawful (in_parts ops some) h)
