@@ -26,7 +26,7 @@ gave_kept was is kept now i j count into gave keeps = record {
   pulls = gave.pulls;
   failures = gave.failures;
   accounts = says_before (record { kept = was; whole = prepend_known kept i.to_come }) (record { kept = is; whole = prepend_known now j.to_come }) i.accounts j.accounts
-    (λ all says h. told_on kept now (take count into) i.to_come j.to_come all gave.bytes (keeps h).1 (says (keeps h).0)) gave.accounts;
+      (λ all says h. told_on kept now (take count into) i.to_come j.to_come all gave.bytes (keeps h).1 (says (keeps h).0)) gave.accounts;
 }
 
 kept_told : (kept : List ℕ) (i j : Option (List ℕ)) (all : List ℕ) → Keeps i j → prepend_known kept i ≡ Some all → prepend_known kept j ≡ Some all
@@ -41,7 +41,7 @@ gave_none is kept i j none = record {
   counted = none.counted;
   worn = λ worn. ap (keeps_of is kept) (none.worn worn);
   accounts = says_before (record { kept = is; whole = prepend_known kept i.to_come }) (record { kept = is; whole = prepend_known kept j.to_come }) i.accounts j.accounts
-    (λ all says h. kept_told kept i.to_come j.to_come all none.bytes (says h)) none.accounts;
+      (λ all says h. kept_told kept i.to_come j.to_come all none.bytes (says h)) none.accounts;
 }
 
 -- ---- in the end

@@ -4,9 +4,9 @@
 mod comparing;
 #[cfg(test)]
 mod fault_tests;
-mod in_step;
 mod form_builder;
 mod form_values;
+mod in_step;
 #[cfg(test)]
 mod input_tests;
 mod lengths;

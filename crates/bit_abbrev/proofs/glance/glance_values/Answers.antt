@@ -19,7 +19,7 @@ returns-clause-glimpsed g c =
     let count = c.in_ok-count.count in
     on_some c.glance_array.result (Gains g.V.ValueTaker.took c.glance_scalars.new.values c.glance_array.new.values (AddsFew (values_of (c.args.room - count) (Array ∷ op_at ops (count + 1) ∷ drop (count + 1 + 1) ops)) (c.args.room - count) (reader_at c.glance_scalars.new.ahead) (reader_at c.glance_array.new.ahead))) (Gains g.V.ValueTaker.took c.args.values.now c.glance_array.new.values (AddsFew (values_of (c.args.room - singles ops) ops) c.args.room (reader_at c.args.ahead.now) (reader_at c.glance_array.new.ahead)))
     (λ gains before t.
-      let h = c.in_ok-glance_scalars.ensures.glimpsed before t in
-      let k = gains h.0 h.1 in
-      (k.0, k.1, values_and_array c.args.room ops count (reader_at c.args.ahead.now) (reader_at c.glance_scalars.new.ahead) before h.0 k.0 (reader_at c.glance_array.new.ahead) c.in_ok-count.ensures c.if-count-ops.false c.requires.fits h.2 k.2))
+    let h = c.in_ok-glance_scalars.ensures.glimpsed before t in
+    let k = gains h.0 h.1 in
+    (k.0, k.1, values_and_array c.args.room ops count (reader_at c.args.ahead.now) (reader_at c.glance_scalars.new.ahead) before h.0 k.0 (reader_at c.glance_array.new.ahead) c.in_ok-count.ensures c.if-count-ops.false c.requires.fits h.2 k.2))
     (c.glance_array.ensures.glimpsed (drop (count + 1 + 1) ops))
