@@ -3,4 +3,5 @@ pub mod Saturated
 pub mod Signs
 pub mod Whole
 pub mod Building
+pub mod Entries
 pub mod Writing
