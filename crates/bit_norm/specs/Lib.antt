@@ -4,3 +4,4 @@ pub mod Signs
 pub mod Whole
 pub mod Building
 pub mod Writing
+pub mod Told
