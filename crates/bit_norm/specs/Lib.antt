@@ -5,3 +5,4 @@ pub mod Whole
 pub mod Building
 pub mod Entries
 pub mod Writing
+pub mod Told
