@@ -258,20 +258,20 @@ events_stop limits values i old new told is_told w =
 
 pub told_events : (limits : Limits) (values : Values) (i now : Incoming) (old new : Outgoing) (answer : Result (Unit {0}) Fault) → TellsInput values limits i old answer now new → Does (Events limits values) i now old new (ended limits.bytes answer)
 told_events limits values i now old new (Ok _) h =
-    let known = if_told i.to_come (λ bytes. outlook limits bytes ≡ h.1.0) h.1.1 in
-    let text = outlook_text values h.1.0 in (
-      (h.0, drained i now h.0.tells h.1.2.2),
-      (bits_of_bytes text, (h.1.2.1.0, (h.1.0, h.1.2.1.1, refl, known)), gains_text old.bytes new.bytes text h.1.2.0.bytes, h.1.2.0.failures),
+    let known = if_told i.to_come (λ bytes. outlook limits bytes ≡ h.1) h.2 in
+    let text = outlook_text values h.1 in (
+      (h.0, drained i now h.0.tells h.3.2),
+      (bits_of_bytes text, (h.3.1.0, (h.1, h.3.1.1, refl, known)), gains_text old.bytes new.bytes text h.3.0.bytes, h.3.0.failures),
     )
 told_events limits values i now old new (Err (fault.Refused reason bit)) h =
-    let known = if_told i.to_come (λ bytes. outlook limits bytes ≡ h.1.0) h.1.1 in
-    let text = outlook_text values h.1.0 in
-    ((h.0, tt), (bits_of_bytes text, (h.1.0, h.1.2.1, refl, known), gains_text old.bytes new.bytes text h.1.2.0.bytes, h.1.2.0.failures))
-told_events limits values i now old new (Err fault.Read) h = ((h.0, h.1.2.2), (events_stop limits values i old new h.1.0 h.1.1 h.1.2.0, h.1.2.1))
-told_events limits values i now old new (Err fault.Write) h = ((h.0, tt), (events_stop limits values i old new h.1.0 h.1.1 h.1.2.0, h.1.2.1))
-told_events limits values i now old new (Err fault.Memory) h = ((h.0, tt), (events_stop limits values i old new h.1.0 h.1.1 h.1.2.0, h.1.2.1))
-told_events limits values i now old new (Err fault.OutputTooLong) h = absurd h.1.2
-told_events limits values i now old new (Err fault.Failed) h = absurd h.1.2
+    let known = if_told i.to_come (λ bytes. outlook limits bytes ≡ h.1) h.2 in
+    let text = outlook_text values h.1 in
+    ((h.0, tt), (bits_of_bytes text, (h.1, h.3.1, refl, known), gains_text old.bytes new.bytes text h.3.0.bytes, h.3.0.failures))
+told_events limits values i now old new (Err fault.Read) h = ((h.0, h.3.2), (events_stop limits values i old new h.1 h.2 h.3.0, h.3.1))
+told_events limits values i now old new (Err fault.Write) h = ((h.0, tt), (events_stop limits values i old new h.1 h.2 h.3.0, h.3.1))
+told_events limits values i now old new (Err fault.Memory) h = ((h.0, tt), (events_stop limits values i old new h.1 h.2 h.3.0, h.3.1))
+told_events limits values i now old new (Err fault.OutputTooLong) h = absurd h.3
+told_events limits values i now old new (Err fault.Failed) h = absurd h.3
 
 -- ---- lines
 
