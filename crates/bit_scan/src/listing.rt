@@ -12,7 +12,7 @@ use bit_fields::{Fault, Limits, Sink, SliceSource, Source};
 use std::alloc::Global;
 
 /// Writes the values of a record.
-fn write_values<K: Sink>(printer: &mut Printer<K>, values: &[u64]) -> Result<(), Fault>
+pub(crate) fn write_values<K: Sink>(printer: &mut Printer<K>, values: &[u64]) -> Result<(), Fault>
     ensures { Prints (flat_map (λ (v : ℕ). 32 ∷ decimal v) values.now) printer.old result printer.new }
 {
     for value in values {
@@ -52,7 +52,7 @@ fn write_event<K: Sink>(
 }
 
 /// How many blocks stand around what follows an event.
-fn around_after(around: u32, event: &Event<'_>) -> u32
+pub(crate) fn around_after(around: u32, event: &Event<'_>) -> u32
     requires { around ≤ 255 }
     ensures { result ≡ open_after (shown event.now) around }
 {
