@@ -35,6 +35,10 @@ abbrev pub shown_values : Values → List ℕ → List ℕ
 shown_values Shown values = values_text values
 shown_values LeftOut values = []
 
+-- a block's beginning: its id, the width of the ids in it, and the first bit of its body
+abbrev pub opened_text : (id width body : ℕ) → List ℕ
+opened_text id width body = codes "block " ++ decimal id ++ codes " width " ++ decimal width ++ codes " body " ++ decimal body
+
 -- a record: its code, its abbreviation id, the number of its values, and these
 abbrev pub noted_text : Values → (code abbreviation : ℕ) → List ℕ → List ℕ
 noted_text values code abbreviation listed = codes "record " ++ decimal code ++ codes " by " ++ decimal abbreviation ++ codes " count " ++ decimal (length listed) ++ shown_values values listed
@@ -42,7 +46,7 @@ noted_text values code abbreviation listed = codes "record " ++ decimal code ++ 
 -- The line of an event, with so many blocks open before it. It tells the first bit of what begins there, and of a block's end
 -- the bit behind the block. An end stands under the line of its own block.
 abbrev pub event_line : Values → (around : ℕ) → Event → List ℕ
-event_line values around (enters o) = line_at o.first around (codes "block " ++ decimal o.id ++ codes " width " ++ decimal o.width ++ codes " body " ++ decimal o.body)
+event_line values around (enters o) = line_at o.first around (opened_text o.id o.width o.body)
 event_line values around (defines mark) = line_at mark.first around (codes "define " ++ ops_text mark.ops)
 event_line values around (notes mark) = line_at mark.first around (noted_text values mark.code mark.abbreviation mark.values)
 event_line values around (leaves after) = line_at after (around - 1) (codes "end")

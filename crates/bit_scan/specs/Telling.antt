@@ -41,7 +41,11 @@ IsTold limits i told = IsSome i.to_come → outlook limits (known_bytes i.to_com
 
 -- the text of what is told of an input was written, to the end that is answered
 abbrev pub TellsInput : Values → Limits → Incoming → Outgoing → Result (Unit {0}) Fault → Incoming → Outgoing → Type 0
-TellsInput values limits i old answer now new = Spent limits i now × (told : Outlook) × IsTold limits i told × WritesToEnd (outlook_text values told) (outlook_end told) i old answer now new
+TellsInput values limits i old answer now new =
+    Spent limits i now
+    × (told : Outlook)
+    × IsTold limits i told
+    × WritesToEnd (outlook_text values told) (outlook_end told) i old answer now new
 
 -- ---- by way of a printer
 
@@ -61,7 +65,11 @@ PrintsToEnd text end i old (Err Failed) now new = ⊥
 
 -- a text of the events to come was printed, to the end that is answered
 abbrev pub TellsBy : (Told → List ℕ) → Coming → Printing → Result (Unit {0}) Fault → Coming → Printing → Type 0
-TellsBy text old before answer new after = Pays old new × (told : Told) × (Tells old → old.told ≡ told) × PrintsToEnd (text told) told.1 old.incoming before answer new.incoming after
+TellsBy text old before answer new after =
+    Pays old new
+    × (told : Told)
+    × (Tells old → old.told ≡ told)
+    × PrintsToEnd (text told) told.1 old.incoming before answer new.incoming after
 
 -- so were the lines of the events to come, with so many blocks open before the first
 abbrev pub TellsRest : Values → (around : ℕ) → Coming → Printing → Result (Unit {0}) Fault → Coming → Printing → Type 0

@@ -1,5 +1,5 @@
 ghost use Rattle.std.specs.Prelude.{◌≡◌, ℕ, ◌*◌, ◌-◌, ◌++◌, ◌∷◌, OnOk, codes, decimal, flat_map, replicate, string_bytes};
-ghost use Rattle.bit_grammar.specs.EventTexts.{line_at, op_text};
+ghost use Rattle.bit_grammar.specs.EventTexts.{line_at, op_text, opened_text};
 ghost use Rattle.bit_grammar.specs.Texts.{hex_text, magic_text, block_line};
 ghost use Rattle.bit_fields.specs.Opening.{magic_number};
 ghost use Rattle.bit_scan.specs.Lines.{report_head, listing_head, block_row_text, block_start, block_middle, block_end, code_row_text, record_head};
@@ -173,7 +173,7 @@ pub(crate) fn push_opened_line(
     first: u64,
     body: u64,
 ) -> Result<(), AllocError>
-    ensures { OnOk result (string_bytes text.new ≡ string_bytes text.old ++ line_at first around (codes "block " ++ decimal id ++ codes " width " ++ decimal width ++ codes " body " ++ decimal body)) }
+    ensures { OnOk result (string_bytes text.new ≡ string_bytes text.old ++ line_at first around (opened_text id width body)) }
 {
     push_place(text, first, around)?;
     writeln!(text, "block {id} width {width} body {body}")

@@ -1,5 +1,5 @@
 ghost use Rattle.std.specs.Prelude.{◌≡◌, ◌-◌, ◌∷◌, ◌++◌, [], OnOk, codes, decimal};
-ghost use Rattle.bit_grammar.specs.EventTexts.{line_at, op_text};
+ghost use Rattle.bit_grammar.specs.EventTexts.{line_at, op_text, opened_text};
 ghost use Rattle.bit_grammar.specs.Texts.{magic_text, block_line};
 ghost use Rattle.bit_fields.specs.Opening.{magic_number};
 ghost use Rattle.bit_scan.specs.Lines.{report_head, listing_head, block_row_text, code_row_text, record_head, definition_head, noted_head};
@@ -188,7 +188,7 @@ impl<K: Sink> Printer<K> {
         first: u64,
         body: u64,
     ) -> Result<(), Fault>
-        ensures { Prints (line_at first around (codes "block " ++ decimal id ++ codes " width " ++ decimal width ++ codes " body " ++ decimal body)) self.old result self.new }
+        ensures { Prints (line_at first around (opened_text id width body)) self.old result self.new }
     {
         match push_opened_line(&mut self.held, around, id, width, first, body) {
             Ok(()) => self.settle(),
