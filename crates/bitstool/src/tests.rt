@@ -561,7 +561,7 @@ fn events_before_a_fault_and_the_version(rt: HostRuntime) -> Result<(), Fail> {
         &rt,
         rt.alloc(),
         "--version",
-        &MAGIC,
+        MAGIC.as_slice(),
         (0, b"bitstool 1.0.0\n", ""),
     )?;
     Ok(())
