@@ -13,3 +13,4 @@ pub mod Texts
 pub mod ValueTexts
 pub mod Building
 pub mod Forms
+pub mod Told
