@@ -1,6 +1,8 @@
+pub mod Apart
 pub mod ChunkCounting
 pub mod Comparisons
 pub mod Ends
+pub mod EventEntries
 pub mod Falls
 pub mod Gains
 pub mod Going

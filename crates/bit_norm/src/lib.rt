@@ -14,13 +14,15 @@ mod lengths;
 mod normalising;
 #[cfg(test)]
 mod same_tests;
+mod sign;
 #[cfg(test)]
 mod tests;
+mod walk;
 mod writing;
 
 pub use bit_grammar::{normal_once, normal_spelled};
 pub use bit_tree::Info;
-pub use comparing::{SameFault, Which, same, same_as};
+pub use comparing::{SameFault, Which, first_difference, first_difference_from, same, same_as};
 pub use differences::{Difference, OpenBlock, Place, Standing, ValueDifference, What};
 pub use lengths::normal_len;
 pub use normalising::normalise;
