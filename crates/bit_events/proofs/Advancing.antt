@@ -14,13 +14,13 @@ use Rattle.bit_grammar.proofs.Machines.{Step, comes}
 use Rattle.bit_fields.specs.declared.fault.Fault.{Fault}
 use Rattle.bit_fields.specs.declared.fault.Fault.TheVariants.{Refused, Read, Write, Memory, OutputTooLong, Failed}
 use Rattle.bit_fields.specs.declared.head.Head.{Head}
-use Rattle.bit_fields.specs.Devices.{Incoming, known_bytes}
+use Rattle.bit_fields.specs.Devices.{Incoming, Fails, known_bytes}
 use Rattle.bit_fields.specs.Reader as fields
-use Rattle.bit_fields.specs.Reader.{Reader, Extent, TellsBytes, GoesOn, Took, Why, SourceFails, within}
+use Rattle.bit_fields.specs.Reader.{Reader, Extent, TellsBytes, GoesOn, Took, Why, within}
 use Rattle.bit_fields.specs.Opening as opening
 use Rattle.bit_fields.specs.Opening.{head_told, Opened, fresh, beginning, Beginning, wrapper_of, end_of}
 use Rattle.bit_fields.specs.Ending.{Stays}
-use Rattle.bit_fields.proofs.InflowLaws.{Spends-trans}
+use Rattle.bit_fields.proofs.InflowLaws.{Spends-trans, fails_later}
 use Rattle.bit_events.specs.declared.frame.Frame.{Frame}
 use Rattle.bit_events.specs.declared.machine.Found.{Found}
 use Rattle.bit_events.specs.declared.machine.Machine.{Machine}
@@ -30,7 +30,7 @@ use Rattle.bit_events.specs.declared.machine.Aside.TheVariants.{Enter, Define, L
 use Rattle.bit_events.specs.Coming.{held_after}
 use Rattle.bit_events.specs.MachineView.{machine_shown, definition_of, found_shown, found_lent, after_found, HoldsDefinition, Leaves}
 use Rattle.bit_events.specs.Coming.{over as over_stage}
-use Rattle.bit_events.specs.Coming.{failed, Goes, Gives, Ends, Breaks, Stops, before, end_at, end_by, told_of}
+use Rattle.bit_events.specs.Coming.{failed, Goes, Gives, Ends, Breaks, Stops, Loses, before, end_at, end_by, told_of}
 use Rattle.bit_events.specs.Folding.{left_to_tell}
 use Rattle.bit_events.specs.Events.{stage_of, coming_of, IsEvents, Over, Shuts, Begun, Declines}
 use Rattle.bit_events.proofs.Beginnings.{outlook_begun, outlook_declined}
@@ -95,10 +95,9 @@ told_end limits e m p left none empty = rw (none, empty) refl
 pub pays_both : (a b c : Reader) → GoesOn a b → GoesOn b c → GoesOn a c
 pays_both a b c p q = Spends-trans a.incoming a.budget b.incoming b.budget c.incoming c.budget p q
 
--- a source that failed later failed
-pub fails_later : (a b c : Reader) → GoesOn a b → SourceFails b.incoming c.incoming → SourceFails a.incoming c.incoming
-fails_later a b c p (inl more) = inl (omega (arith, p.failures, more))
-fails_later a b c p (inr worn) = inr worn
+-- a source that failed later
+pub loses_both : (a b c : Reader) → GoesOn a b → Fails b.incoming b.budget c.incoming c.budget → Fails a.incoming a.budget c.incoming c.budget
+loses_both a b c p q = fails_later a.incoming a.budget b.incoming b.budget c.incoming c.budget p q
 
 -- ---- the answers
 
@@ -131,7 +130,10 @@ shut_told limits m a ending none empty is =
     told_end limits a.extent (machine_shown m) a.position a.left (shown_none m.frames.items (sym m.frames.ok.0 ∙ none)) empty ∙ ap (λ (e : Ending). ([], e)) is
 
 stops : (limits : Limits) (head : Head) (m new : Machine) (vs ws : List ℕ) (found next_found : Option Found) (a b c : Reader) → Stays a b → fields.Stops b c → Stops (coming_of false limits head m vs found a) (coming_of false limits head new ws next_found c)
-stops limits head m new vs ws found next_found a b c h s = record { went = rw h.was_live refl; stopped = rw s.failed refl; pays = pays_both a b c h.goes_on s.goes_on }
+stops limits head m new vs ws found next_found a b c h s = record { went = rw h.was_live refl; stopped = rw s.failed refl; head = refl; pays = pays_both a b c h.goes_on s.goes_on }
+
+loses : (limits : Limits) (head : Head) (m new : Machine) (vs ws : List ℕ) (found next_found : Option Found) (a b c : Reader) → Stays a b → fields.Loses b c → Loses (coming_of false limits head m vs found a) (coming_of false limits head new ws next_found c)
+loses limits head m new vs ws found next_found a b c h s = record { went = rw h.was_live refl; stopped = rw s.failed refl; head = refl; fails = loses_both a b c h.goes_on s.fails }
 
 -- an event came
 gives : (limits : Limits) (head : Head) (m new : Machine) (vs ws : List ℕ) (found : Option Found) (next_found : Found) (a b c : Reader) → Ready m a b
@@ -155,7 +157,7 @@ gives limits head m new vs ws found next_found a b c h took leaves held forward 
 misses : (limits : Limits) (head : Head) (m new : Machine) (vs ws : List ℕ) (found next_found : Option Found) (a b c : Reader) (fault : Fault) → Ready m a b
     → Why (step limits (machine_shown m)) b fault c → Breaks (coming_of false limits head m vs found a) fault (coming_of false limits head new ws next_found c)
 misses limits head m new vs ws found next_found a b c (Refused reason bit) h why = (stops limits head m new vs ws found next_found a b c h.0 why.0, λ tells. break_told limits m reason bit a b h why.1 tells)
-misses limits head m new vs ws found next_found a b c Read h why = (stops limits head m new vs ws found next_found a b c h.0 why.0, fails_later a b c h.0.goes_on why.1)
+misses limits head m new vs ws found next_found a b c Read h why = loses limits head m new vs ws found next_found a b c h.0 why
 misses limits head m new vs ws found next_found a b c Memory h why = stops limits head m new vs ws found next_found a b c h.0 why
 misses limits head m new vs ws found next_found a b c Failed h why = absurd (dead b.live h.0.live why.0)
 misses limits head m new vs ws found next_found a b c Write h why = absurd why
@@ -191,10 +193,10 @@ ends limits head m vs found a c none live over = record {
 refuses : (limits : Limits) (head : Head) (m : Machine) (vs : List ℕ) (found : Option Found) (a c : Reader) (fault : Fault) → vec_len m.frames ≡ 0 → Shuts true a (Err fault) c
     → Breaks (coming_of false limits head m vs found a) fault (coming_of false limits head m vs found c)
 refuses limits head m vs found a c (Refused reason bit) none (_, s, told) = (
-  record { went = rw s.was_live refl; stopped = rw s.failed refl; pays = s.goes_on },
+  record { went = rw s.was_live refl; stopped = rw s.failed refl; head = refl; pays = s.goes_on },
   λ tells. shut_told limits m a (broke (at reason bit)) none (told tells).0 (told tells).1,
 )
-refuses limits head m vs found a c Read none (_, s, failed_so) = (record { went = rw s.was_live refl; stopped = rw s.failed refl; pays = s.goes_on }, failed_so)
+refuses limits head m vs found a c Read none (_, s) = record { went = rw s.was_live refl; stopped = rw s.failed refl; head = refl; fails = s.fails }
 refuses limits head m vs found a c Memory none h = absurd h
 refuses limits head m vs found a c Failed none h = absurd h
 refuses limits head m vs found a c Write none h = absurd h

@@ -9,8 +9,8 @@ use Rattle.bit_grammar.specs.Outlook.{outlook}
 use Rattle.bit_fields.specs.declared.fault.Fault.{Fault}
 use Rattle.bit_fields.specs.declared.fault.Fault.TheVariants.{Refused, Read, Write, Memory, OutputTooLong, Failed}
 use Rattle.bit_fields.specs.declared.head.Head.{Head}
-use Rattle.bit_fields.specs.Devices.{Incoming, Spends, known_bytes}
-use Rattle.bit_fields.specs.Reader.{Reader, TellsBytes, Stops, SourceFails}
+use Rattle.bit_fields.specs.Devices.{Incoming, Spends, Fails, known_bytes}
+use Rattle.bit_fields.specs.Reader.{Reader, TellsBytes, Stops, Loses}
 use Rattle.bit_fields.specs.Ending.{Stays}
 use Rattle.bit_fields.specs.Opening.{head_told}
 use Rattle.bit_events.specs.declared.event.Event.{Event}
@@ -92,7 +92,7 @@ abbrev pub Shuts : (outside : Bool) → Reader → Result Bool Fault → Reader 
 Shuts outside old (Ok true) new = (outside ≡ true) × Over old new
 Shuts outside old (Ok false) new = Stays old new × (outside ≡ true → TellsBytes old → 0 < length old.left)
 Shuts outside old (Err (Refused reason bit)) new = (outside ≡ true) × Stops old new × (TellsBytes old → (old.left ≡ []) × (end_at old.extent old.position ≡ broke (at reason bit)))
-Shuts outside old (Err Read) new = (outside ≡ true) × Stops old new × SourceFails old.incoming new.incoming
+Shuts outside old (Err Read) new = (outside ≡ true) × Loses old new
 Shuts outside old (Err Memory) new = ⊥
 Shuts outside old (Err Failed) new = ⊥
 Shuts outside old (Err Write) new = ⊥
@@ -113,7 +113,7 @@ pub record Begun (limits : Limits) (i : Incoming) (c : Coming) : Type 0 where
 -- why an input was not begun: it breaks so before its first block, or the source failed
 abbrev pub Declines : Limits → Incoming → Fault → Incoming → Type 0
 Declines limits i (Refused reason bit) now = Spends i (limits.bytes + 1) now 0 × (IsSome i.to_come → outlook limits (known_bytes i.to_come) ≡ Err (at reason bit))
-Declines limits i Read now = Spends i (limits.bytes + 1) now 0 × SourceFails i now
+Declines limits i Read now = Fails i (limits.bytes + 1) now 0
 Declines limits i Memory now = ⊥
 Declines limits i Failed now = ⊥
 Declines limits i Write now = ⊥

@@ -1,7 +1,7 @@
 -- What a source that keeps what it gives has kept.
 use Rattle.std.proofs.Common.{◌≡◌, ℕ, zero, suc, Bool, true, false, List, [], ◌∷◌, ◌++◌, take, Option, Some, None, refl, sym, ap, ◌∙◌, append_assoc, append-nil}
 use Rattle.std.specs.Io.KnownBytes.{Consumes, Keeps, prepend_known}
-use Rattle.bit_fields.specs.Devices.{Account, SaysOf, Incoming, Gave, GaveNone, Spends, known_bytes, keeps_of}
+use Rattle.bit_fields.specs.Devices.{Account, SaysOf, Incoming, Gave, GaveNone, Spends, Fails, known_bytes, keeps_of}
 
 -- ---- a pull
 
@@ -55,6 +55,15 @@ pub spends_within : (was is : Bool) (xs ys : List ℕ) (i j : Incoming) (before 
 spends_within was is xs ys i j before after p = record {
   pulls = p.pulls;
   failures = p.failures;
+  tells = p.tells;
+  bytes = p.bytes;
+  accounts = spared (record { kept = was; whole = prepend_known xs i.to_come }) (record { kept = is; whole = prepend_known ys j.to_come }) i.accounts j.accounts p.accounts;
+}
+
+pub fails_within : (was is : Bool) (xs ys : List ℕ) (i j : Incoming) (before after : ℕ) → Fails (keeps_of was xs i) before (keeps_of is ys j) after → Fails i before j after
+fails_within was is xs ys i j before after p = record {
+  pulls = p.pulls;
+  failed = p.failed;
   tells = p.tells;
   bytes = p.bytes;
   accounts = spared (record { kept = was; whole = prepend_known xs i.to_come }) (record { kept = is; whole = prepend_known ys j.to_come }) i.accounts j.accounts p.accounts;

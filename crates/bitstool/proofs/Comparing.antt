@@ -13,9 +13,8 @@ use Rattle.bit_grammar.specs.Input.{BreaksInput, Cut, front_broken, front_spelle
 use Rattle.bit_grammar.specs.Normal.{HasTree}
 use Rattle.bit_fields.specs.declared.fault.Fault as code
 use Rattle.bit_fields.specs.declared.fault.Fault.TheVariants as fault
-use Rattle.bit_fields.specs.Devices.{Incoming, Spends, known_bytes}
-use Rattle.bit_fields.specs.Reader.{SourceFails}
-use Rattle.bit_events.specs.Reading.{Spent}
+use Rattle.bit_fields.specs.Devices.{Incoming, Spends, Fails, known_bytes}
+use Rattle.bit_events.specs.Reading.{Spent, Lost}
 use Rattle.bit_norm.specs.declared.comparing.Which.{Which}
 use Rattle.bit_norm.specs.declared.comparing.Which.TheVariants.{First, Second}
 use Rattle.bit_norm.specs.Whole.{Misreads}
@@ -24,7 +23,7 @@ use Rattle.bitstool.specs.declared.outcome.Outcome.TheVariants.{Done, Different,
 use Rattle.bitstool.specs.declared.task.Task.TheVariants.{Same}
 use Rattle.bitstool.specs.Performing.{ComparesWith, Finds, Judges, TakesFirst, TakesRest, outcome_in, outcome_of}
 use Rattle.bitstool.specs.Runs.{IsDrained, Takes, Told}
-use Rattle.bitstool.proofs.Taking.{drained, fails_later, spends_more, spends_none, spends_then}
+use Rattle.bitstool.proofs.Taking.{drained, fails_more, fails_then, spends_more, spends_none, spends_then}
 use Rattle.bitstool.proofs.Known.{if_told}
 
 -- ---- what a comparison found
@@ -56,9 +55,11 @@ found_fault info limits first i j now later Second fault.Failed is h = absurd h.
 abbrev pub IsSlice : Incoming → Type 0
 IsSlice i = i.failures ≡ 0
 
-never_fails : (limits : Limits) (i now : Incoming) → limits.bytes < 2 ^ 60 → i.pulls ≡ 0 → IsSlice now → Spent limits i now → SourceFails i now → ⊥
-never_fails limits i now capped fresh slice spent (inl rose) = absurd (omega (arith, slice, rose))
-never_fails limits i now capped fresh slice spent (inr worn) = absurd (omega (arith, slice, worn, spent.pulls, fresh, capped))
+never_fails : (limits : Limits) (i now : Incoming) → limits.bytes < 2 ^ 60 → i.pulls ≡ 0 → IsSlice now → Lost limits i now → ⊥
+never_fails limits i now capped fresh slice lost = elim lost.failed [
+  | inl rose ↦ omega (arith, slice, rose)
+  | inr worn ↦ omega (arith, slice, worn.1, lost.pulls, fresh, capped)
+]
 
 -- none, where the first was not read
 none_spent : (limits : Limits) (j later : Incoming) → later ≡ j → Spent limits j later
@@ -68,8 +69,8 @@ pub rest_misread : (info : Info) (limits : Limits) (i j now later : Incoming) (w
     → Misreads info limits which why i j now later → TakesRest limits j later (outcome_in which limits.bytes why)
 rest_misread info limits i j now later First (fault.Refused reason bit) capped fresh slice h = h.1
 rest_misread info limits i j now later Second (fault.Refused reason bit) capped fresh slice h = (h.2.0, tt)
-rest_misread info limits i j now later First fault.Read capped fresh slice h = absurd (never_fails limits i now capped fresh slice h.0.0 h.0.1)
-rest_misread info limits i j now later Second fault.Read capped fresh slice h = h.2
+rest_misread info limits i j now later First fault.Read capped fresh slice h = absurd (never_fails limits i now capped fresh slice h.0)
+rest_misread info limits i j now later Second fault.Read capped fresh slice h = (h.2, tt)
 rest_misread info limits i j now later First fault.Memory capped fresh slice h = (none_spent limits j later h.1, tt)
 rest_misread info limits i j now later Second fault.Memory capped fresh slice h = (h.2, tt)
 rest_misread info limits i j now later First fault.Write capped fresh slice h = absurd h.0
@@ -102,7 +103,7 @@ both_taken info limits first count i mid later outcome counted h rest = go outco
     go Done r = (both r.0, drained_then i mid later count h r.1)
     go Different r = (both r.0, drained_then i mid later count h r.1)
     go (TooLong limit) r = (both r.0, drained_then i mid later count h r.1)
-    go Read r = (both r.0, fails_later i mid later h.failures r.1)
+    go Read r = (subst (λ (n : ℕ). Fails i (n + (limits.bytes + 1)) later 0) counted (fails_then i mid later count (limits.bytes + 1) h r.0), tt)
     go Memory r = (both r.0, tt)
     go Write r = (both r.0, tt)
     go Usage r = (both r.0, tt)
@@ -201,7 +202,7 @@ compared info limits first count (Some input) (Some rest) bytes outcome counted 
 
 -- they were not taken
 pub not_taken : (info : Info) (limits : Limits) (first count : ℕ) (i now : Incoming) (why : code.Fault) → count ≡ min first (limits.bytes + 1) → TakesFirst count i (Err why) now → Judges (Same first limits info) i now (outcome_of limits.bytes why)
-not_taken info limits first count i now fault.Read counted h = ((spends_more i now count _ (omega (arith, counted)) h.0, h.1), tt)
+not_taken info limits first count i now fault.Read counted h = ((fails_more i now count _ (omega (arith, counted)) h, tt), tt)
 not_taken info limits first count i now fault.Memory counted h = ((spends_more i now count _ (omega (arith, counted)) h, tt), tt)
 not_taken info limits first count i now fault.Write counted h = absurd h
 not_taken info limits first count i now fault.OutputTooLong counted h = absurd h

@@ -1,6 +1,6 @@
 -- What commands do, by their steps.
 use Rattle.std.proofs.Common.{◌≡◌, ◌∙◌, ℕ, ◌+◌, List, Result, Ok, Err, ◌<◌, ◌≤◌, codes, refl, sym, subst, inl, inr, arith}
-use Rattle.std.specs.Prelude.{IfSome}
+use Rattle.std.specs.Prelude.{◌≢◌, IfSome}
 use Rattle.std.specs.Io.KnownBytes.{Keeps}
 use Rattle.std.proofs.KnownBytes.{Keeps-refl, Keeps-trans}
 use Rattle.bit_grammar.specs.declared.info.Info.{Info}
@@ -22,7 +22,7 @@ use Rattle.bit_scan.specs.Showing.{ListsNothing, ReadsAndLists, Shows}
 use Rattle.bit_scan.specs.Written.{HasFailed, WritesText}
 use Rattle.bit_fields.specs.declared.fault.Fault.{Fault}
 use Rattle.bit_fields.specs.declared.fault.Fault.TheVariants as fault
-use Rattle.bit_fields.specs.Devices.{Incoming, Outgoing}
+use Rattle.bit_fields.specs.Devices.{Incoming, Outgoing, Spends}
 use Rattle.bit_norm.specs.declared.comparing.Which.TheVariants.{First, Second}
 use Rattle.bit_norm.specs.Whole.{Normalises, ReadsTree}
 use Rattle.bitstool.specs.declared.outcome.Outcome.{Outcome}
@@ -30,7 +30,7 @@ use Rattle.bitstool.specs.declared.outcome.Outcome.TheVariants.{Done, Different,
 use Rattle.bitstool.specs.declared.task.Task.{Task}
 use Rattle.bitstool.specs.declared.task.Task.TheVariants.{Check, Normal, Same, Analyse, Show}
 use Rattle.bitstool.specs.Performing.{Finds, Judges, Settles, TellsLine, ended, outcome_of}
-use Rattle.bitstool.specs.Runs.{Told, Accepts, Answers, Refuses, StopsShort, LacksMemory, Stays, Takes, Leaves, Does, most_taken}
+use Rattle.bitstool.specs.Runs.{Told, Accepts, Answers, Refuses, StopsShort, LacksMemory, Stays, Pays, Takes, Leaves, Does, most_taken}
 use Rattle.bitstool.proofs.Known.{gained, gained_front, gains_front, gains_text, gains_part, gains_kept, front_kept, if_told}
 use Rattle.bitstool.proofs.Taking.{spends_more, takes_done, takes_fault, takes_long, takes_memory, takes_write}
 
@@ -253,18 +253,29 @@ settled task i now old new last outcome after does (inl same) = rw (same.0) (doe
     kept Memory d = (memory_then task i.to_come old.bytes new.bytes last.bytes d.0 stays.0, stays.1 ∙ d.1)
     kept Write d = (stopped_then task i.to_come old.bytes new.bytes last.bytes d.0 stays.0, failed_still old new last d.1 (omega (arith, stays.1)))
 settled task i now old new last outcome after does (inr failed) =
-    rw (failed.0) ((spends_more i now (most_taken task outcome) (most_taken task Write) (most_write task outcome) does.0.0, tt), lost outcome does.1)
+    rw (failed.0) ((spends_more i now (most_taken task outcome) (most_taken task Write) (most_write task outcome) (paid outcome failed.1 does.0.0), tt), lost outcome does.1)
   where
+    paid : (o : Outcome) → o ≢ Read → Pays o i (most_taken task o) now → Spends i (most_taken task o) now 0
+    paid Done other p = p
+    paid Different other p = p
+    paid (Refused reason bit) other p = p
+    paid (RefusedOf which reason bit) other p = p
+    paid (TooLong limit) other p = p
+    paid Usage other p = p
+    paid Read other p = absurd (other refl)
+    paid Write other p = p
+    paid Memory other p = p
+
     keeps : Keeps new.bytes last.bytes
-    keeps = failed.1
+    keeps = failed.2
 
     lost : (o : Outcome) → Leaves task i.to_come old new o → Leaves task i.to_come old last Write
-    lost Done d = (inr (d.0, Done, d.1, gains_front d.0 old.bytes last.bytes (gains_kept d.0 old.bytes new.bytes last.bytes d.2 keeps)), failed_then old new last d.3 failed.3)
-    lost Different d = (inr (d.0, Different, d.1, gains_front d.0 old.bytes last.bytes (gains_kept d.0 old.bytes new.bytes last.bytes d.2 keeps)), failed_then old new last d.3 failed.3)
-    lost (Refused reason bit) d = (inl (Keeps-trans old.bytes new.bytes last.bytes d.1.0 keeps), failed_then old new last d.1.1 failed.3)
-    lost (RefusedOf which reason bit) d = (inl (Keeps-trans old.bytes new.bytes last.bytes d.1.0 keeps), failed_then old new last d.1.1 failed.3)
-    lost (TooLong limit) d = (inl (Keeps-trans old.bytes new.bytes last.bytes d.1.0 keeps), failed_then old new last d.1.1 failed.3)
+    lost Done d = (inr (d.0, Done, d.1, gains_front d.0 old.bytes last.bytes (gains_kept d.0 old.bytes new.bytes last.bytes d.2 keeps)), failed_then old new last d.3 failed.4)
+    lost Different d = (inr (d.0, Different, d.1, gains_front d.0 old.bytes last.bytes (gains_kept d.0 old.bytes new.bytes last.bytes d.2 keeps)), failed_then old new last d.3 failed.4)
+    lost (Refused reason bit) d = (inl (Keeps-trans old.bytes new.bytes last.bytes d.1.0 keeps), failed_then old new last d.1.1 failed.4)
+    lost (RefusedOf which reason bit) d = (inl (Keeps-trans old.bytes new.bytes last.bytes d.1.0 keeps), failed_then old new last d.1.1 failed.4)
+    lost (TooLong limit) d = (inl (Keeps-trans old.bytes new.bytes last.bytes d.1.0 keeps), failed_then old new last d.1.1 failed.4)
     lost Usage d = absurd d
-    lost Read d = (inl (Keeps-trans old.bytes new.bytes last.bytes d.0 keeps), failed_then old new last d.1 failed.3)
-    lost Memory d = (stopped_then task i.to_come old.bytes new.bytes last.bytes (memory_stops task i.to_come old.bytes new.bytes d.0) keeps, failed_then old new last d.1 failed.3)
-    lost Write d = (stopped_then task i.to_come old.bytes new.bytes last.bytes d.0 keeps, failed_still old new last d.1 failed.2)
+    lost Read d = (inl (Keeps-trans old.bytes new.bytes last.bytes d.0 keeps), failed_then old new last d.1 failed.4)
+    lost Memory d = (stopped_then task i.to_come old.bytes new.bytes last.bytes (memory_stops task i.to_come old.bytes new.bytes d.0) keeps, failed_then old new last d.1 failed.4)
+    lost Write d = (stopped_then task i.to_come old.bytes new.bytes last.bytes d.0 keeps, failed_still old new last d.1 failed.3)

@@ -10,16 +10,14 @@ use Rattle.bit_grammar.specs.Normal.{HasTree}
 use Rattle.bit_fields.specs.declared.fault.Fault.{Fault}
 use Rattle.bit_fields.specs.declared.fault.Fault.TheVariants as fault
 use Rattle.bit_fields.specs.declared.sink.SinkFailed.{SinkFailed}
-use Rattle.bit_fields.specs.Devices.{Incoming, Outgoing, Spends}
-use Rattle.bit_fields.specs.Reader.{SourceFails}
-use Rattle.bit_events.specs.Reading.{Spent}
+use Rattle.bit_fields.specs.Devices.{Incoming, Outgoing, Spends, Fails}
 use Rattle.bit_scan.specs.Written.{TookText, TookFront, HasFailed}
 use Rattle.bit_norm.specs.declared.comparing.Which.{Which}
 use Rattle.bit_norm.specs.declared.comparing.Which.TheVariants.{First, Second}
 use Rattle.bitstool.specs.declared.outcome.Outcome.{Outcome}
 use Rattle.bitstool.specs.declared.outcome.Outcome.TheVariants.{Done, Different, Refused, RefusedOf, TooLong, Usage, Read, Write, Memory}
 use Rattle.bitstool.specs.declared.task.Task.{Task}
-use Rattle.bitstool.specs.Runs.{Told, Accepts, Answers, Refuses, EndsAs, Takes, Stays}
+use Rattle.bitstool.specs.Runs.{Told, Accepts, Answers, Refuses, Pays, EndsAs, Takes, Stays}
 
 -- a sink took all of a text; or a front of it, since it failed
 abbrev pub PutsAll : List ℕ → Outgoing → Result (Unit {0}) SinkFailed → Outgoing → Type 0
@@ -30,7 +28,7 @@ PutsAll text old (Err e) new = TookFront text old new × HasFailed old new
 abbrev pub TakesFirst : ℕ → Incoming → Result (List ℕ) Fault → Incoming → Type 0
 TakesFirst count i (Ok bytes) now =
     Spends i count now 0 × Consumes i.to_come now.to_come bytes × (length bytes ≤ count) × (length bytes < count → IsAtEnd now.to_come)
-TakesFirst count i (Err fault.Read) now = Spends i count now 0 × SourceFails i now
+TakesFirst count i (Err fault.Read) now = Fails i count now 0
 TakesFirst count i (Err fault.Memory) now = Spends i count now 0
 TakesFirst count i (Err fault) now = ⊥
 
@@ -87,13 +85,13 @@ ComparesWith info limits first rest outcome = ⊥
 -- what was taken of the second for that: nothing where the first is refused
 abbrev pub TakesRest : Limits → Incoming → Incoming → Outcome → Type 0
 TakesRest limits j later (RefusedOf First reason bit) = later ≡ j
-TakesRest limits j later outcome = Spent limits j later × EndsAs outcome j later
+TakesRest limits j later outcome = Pays outcome j (limits.bytes + 1) later × EndsAs outcome j later
 
 -- an answer was written as this line; or the output failed, and took a front of it
 abbrev pub TellsLine : Outcome → List ℕ → Outgoing → Outcome → Outgoing → Type 0
 TellsLine answer line old after new = ((after ≡ answer) × TookText line old new) ⊎ ((after ≡ Write) × TookFront line old new × HasFailed old new)
 
--- the outcome after a flush: as it was, or the output failed; no byte came or went
+-- the outcome after a flush: as it was, or the output failed, which is not looked at where the input did; no byte came or went
 abbrev pub Settles : Outcome → Outgoing → Outcome → Outgoing → Type 0
 Settles outcome old after new =
-    ((after ≡ outcome) × Stays old new) ⊎ ((after ≡ Write) × Keeps old.bytes new.bytes × (old.failures ≤ new.failures) × HasFailed old new)
+    ((after ≡ outcome) × Stays old new) ⊎ ((after ≡ Write) × (outcome ≢ Read) × Keeps old.bytes new.bytes × (old.failures ≤ new.failures) × HasFailed old new)

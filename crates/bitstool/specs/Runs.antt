@@ -11,8 +11,7 @@ use Rattle.bit_grammar.specs.Normal.{HasTree, normal_form}
 use Rattle.bit_grammar.specs.Size.{size_of}
 use Rattle.bit_grammar.specs.Tally.{Tally}
 use Rattle.bit_grammar.specs.Texts.{report_of, listing_of}
-use Rattle.bit_fields.specs.Devices.{Incoming, Outgoing, Spends}
-use Rattle.bit_fields.specs.Reader.{SourceFails}
+use Rattle.bit_fields.specs.Devices.{Incoming, Outgoing, Spends, Fails}
 use Rattle.bit_scan.specs.Analysing.{HasTally}
 use Rattle.bit_scan.specs.Written.{TookText, TookFront, HasFailed}
 use Rattle.bit_norm.specs.declared.comparing.Which.TheVariants.{First, Second}
@@ -76,16 +75,20 @@ most_taken (Show limits) outcome = limits.bytes + 1
 abbrev pub IsDrained : Incoming → Incoming → Type 0
 IsDrained i now = IfSome i.to_come (λ bytes. now.to_come ≡ Some [])
 
--- an input that was accepted is drained, and one that could not be read failed
+-- No pull failed; but where the input could not be read one did, the last one.
+abbrev pub Pays : Outcome → Incoming → (most : ℕ) → Incoming → Type 0
+Pays Read i most now = Fails i most now 0
+Pays outcome i most now = Spends i most now 0
+
+-- an input that was accepted is drained
 abbrev pub EndsAs : Outcome → Incoming → Incoming → Type 0
 EndsAs Done i now = IsDrained i now
 EndsAs Different i now = IsDrained i now
 EndsAs (TooLong limit) i now = IsDrained i now
-EndsAs Read i now = SourceFails i now
 EndsAs outcome i now = ⊤
 
 abbrev pub Takes : Task → Incoming → Incoming → Outcome → Type 0
-Takes task i now outcome = Spends i (most_taken task outcome) now 0 × EndsAs outcome i now
+Takes task i now outcome = Pays outcome i (most_taken task outcome) now × EndsAs outcome i now
 
 -- ---- what it leaves on the output
 
