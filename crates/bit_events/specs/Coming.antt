@@ -62,7 +62,7 @@ pub record Coming : Type 0 where
 abbrev pub Tells : Coming → Type 0
 Tells c = IsSome c.incoming.to_come
 
--- each pull and each byte was paid for, and none failed
+-- each pull and each byte was paid for, and the source did not fail
 abbrev pub Pays : Coming → Coming → Type 0
 Pays old new = Spends old.incoming old.budget new.incoming new.budget
 
@@ -110,7 +110,7 @@ pub record Stops (old new : Coming) : Type 0 where
   pub head : new.head ≡ old.head
   pub pays : Pays old new
 
--- a call failed for its source, of which nothing was asked after that
+-- a call failed for its source
 pub record Loses (old new : Coming) : Type 0 where
   pub went : old.stage ≡ going
   pub stopped : new.stage ≡ failed

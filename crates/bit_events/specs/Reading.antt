@@ -7,11 +7,11 @@ use Rattle.bit_fields.specs.declared.fault.Fault.{Fault}
 use Rattle.bit_fields.specs.declared.fault.Fault.TheVariants.{Refused, Read, Write, Memory, OutputTooLong, Failed}
 use Rattle.bit_fields.specs.Devices.{Incoming, Spends, Fails, known_bytes}
 
--- at most one byte past the limit was taken, in at most as many pulls, of which none failed
+-- at most one byte past the limit was taken, in at most as many pulls, and the source did not fail
 abbrev pub Spent : Limits → Incoming → Incoming → Type 0
 Spent limits i now = Spends i (limits.bytes + 1) now 0
 
--- the same, but that the last pull failed
+-- the same, but that the source failed, once, or was worn
 abbrev pub Lost : Limits → Incoming → Incoming → Type 0
 Lost limits i now = Fails i (limits.bytes + 1) now 0
 

@@ -129,7 +129,7 @@ Looks old (Ok some) new = Looked old new
 Looks old (Err e) new = GaveNone old new
 
 -- What may be asked of a source, as a number of pulls and of bytes, went from one number to another: each pull and each
--- byte was paid for, none failed, and the source tells its bytes and accounts for what it keeps as before.
+-- byte was paid for, no failure was counted, and the source tells its bytes and accounts for what it keeps as before.
 pub record Spends (old : Incoming) (before : ℕ) (new : Incoming) (after : ℕ) : Type 0 where
   pub pulls : new.pulls + after ≤ old.pulls + before
   pub failures : new.failures ≡ old.failures
@@ -137,7 +137,7 @@ pub record Spends (old : Incoming) (before : ℕ) (new : Incoming) (after : ℕ)
   pub bytes : IsSome old.to_come → length (known_bytes old.to_come) + after ≤ length (known_bytes new.to_come) + before
   pub accounts : (n : ℕ) (all : List ℕ) → SaysOf old.accounts n all → SaysOf new.accounts n all
 
--- the same, but that a pull failed: one, which was counted; or the source was worn, and counts no more
+-- the same, but that the source failed: one failure was counted, or it was worn, and counts no more
 pub record Fails (old : Incoming) (before : ℕ) (new : Incoming) (after : ℕ) : Type 0 where
   pub pulls : new.pulls + after ≤ old.pulls + before
   pub failed : (new.failures ≡ old.failures + 1) ⊎ ((new.failures ≡ old.failures) × IsWorn new)

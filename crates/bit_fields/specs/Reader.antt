@@ -46,7 +46,7 @@ abbrev pub Breaks : {A : Type 0} → Extent → Result (A × ℕ × List Bool) g
 Breaks e (Ok x) reason bit = ⊥
 Breaks e (Err fault) reason bit = within e fault.reason fault.bit ≡ at reason bit
 
--- what a call leaves: it paid for its pulls and bytes, of which none failed, and the source tells its bytes as before
+-- what a call leaves: it paid for its pulls and bytes, the source did not fail, and tells its bytes as before
 abbrev pub GoesOn : Reader → Reader → Type 0
 GoesOn old new = Spends old.incoming old.budget new.incoming new.budget
 
@@ -67,7 +67,7 @@ pub record Stops (old new : Reader) : Type 0 where
   pub failed : new.live ≡ false
   pub goes_on : GoesOn old new
 
--- a call in which the source failed, or was worn; nothing was asked of it after that
+-- a call in which the source failed, once, or was worn
 pub record Loses (old new : Reader) : Type 0 where
   pub was_live : old.live ≡ true
   pub failed : new.live ≡ false

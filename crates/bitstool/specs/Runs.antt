@@ -75,7 +75,7 @@ most_taken (Show limits) outcome = limits.bytes + 1
 abbrev pub IsDrained : Incoming → Incoming → Type 0
 IsDrained i now = IfSome i.to_come (λ bytes. now.to_come ≡ Some [])
 
--- No pull failed; but where the input could not be read one did, the last one.
+-- so much was paid for; the source did not fail, or once, where the input could not be read
 abbrev pub Pays : Outcome → Incoming → (most : ℕ) → Incoming → Type 0
 Pays Read i most now = Fails i most now 0
 Pays outcome i most now = Spends i most now 0
