@@ -252,13 +252,13 @@ no_top limits m a b fault c none shut why = step_missed limits m a b fault c (sh
 
 -- ---- a whole input
 
-pub spent : (limits : Limits) (i : Incoming) (head : Head) (m : Machine) (a b : Reader) → Begun limits i (coming_of false limits head m [] None a) → GoesOn a b → Spent limits i b.incoming
+pub spent : (limits : Limits) (i : Incoming) (head : Head) (m : Machine) (a b : Reader) → Begun limits i (coming_of false limits head m [] None a.position a) → GoesOn a b → Spent limits i b.incoming
 spent limits i head m a b begun pays = Spends-none i (limits.bytes + 1) b.incoming b.budget (Spends-trans i (limits.bytes + 1) a.incoming a.budget b.incoming b.budget begun.pays pays)
 
 abbrev failure : {A : Type 0} → Fault → Result A Fault
 failure fault = Err fault
 
-pub not_read : {A : Type 0} (Holds : List ℕ → A → Type 0) (limits : Limits) (i now : Incoming) (head : Head) (m : Machine) (a b : Reader) (fault : Fault) → Begun limits i (coming_of false limits head m [] None a) → now ≡ b.incoming → Misses limits m a fault b → ReadsWhole Holds limits i (Err fault) now
+pub not_read : {A : Type 0} (Holds : List ℕ → A → Type 0) (limits : Limits) (i now : Incoming) (head : Head) (m : Machine) (a b : Reader) (fault : Fault) → Begun limits i (coming_of false limits head m [] None a.position a) → now ≡ b.incoming → Misses limits m a fault b → ReadsWhole Holds limits i (Err fault) now
 not_read {A = A} Holds limits i now head m a b fault begun is_now miss = subst (λ (x : Incoming). ReadsWhole Holds limits i (failure {A = A} fault) x) (sym is_now) (go fault miss)
   where
     go : (fault : Fault) → Misses limits m a fault b → ReadsWhole Holds limits i (failure {A = A} fault) b.incoming
@@ -269,7 +269,7 @@ not_read {A = A} Holds limits i now head m a b fault begun is_now miss = subst (
     go Write h = h
     go OutputTooLong h = h
 
-pub whole_gathered : {G : Type 0} (gathered : G → List Event → G → Type 0) (limits : Limits) (i : Incoming) (head : Head) (m : Machine) (a : Reader) (g : G) (b : Reader) (h : G) (after : ℕ) → Begun limits i (coming_of false limits head m [] None a) → gathered g [] g → after ≡ b.position → GathersAll gathered limits m a g b h → IsSome i.to_come
+pub whole_gathered : {G : Type 0} (gathered : G → List Event → G → Type 0) (limits : Limits) (i : Incoming) (head : Head) (m : Machine) (a : Reader) (g : G) (b : Reader) (h : G) (after : ℕ) → Begun limits i (coming_of false limits head m [] None a.position a) → gathered g [] g → after ≡ b.position → GathersAll gathered limits m a g b h → IsSome i.to_come
     → Gathered gathered limits (known_bytes i.to_come) g (head_told head) h after
 whole_gathered gathered limits i head m a g b h after begun none is_after all tells =
     let it = accepted_input limits (known_bytes i.to_come) (head_told head) all.events b.position (begun.told tells ∙ ap (λ (told : Told). Ok (head_told head, told)) (all.told (begun.pays.tells tells))) in

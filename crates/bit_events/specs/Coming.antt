@@ -52,7 +52,7 @@ pub record Coming : Type 0 where
   pub held : List ℕ
   -- the event that was given last
   pub last : Option Event
-  -- in bits from the first bit of the input
+  -- the bit behind the event that was given last, or behind the head, from the first bit of the input
   pub position : ℕ
   pub incoming : Incoming
   -- how many pulls it may still make, and bytes take
@@ -108,6 +108,7 @@ pub record Stops (old new : Coming) : Type 0 where
   pub went : old.stage ≡ going
   pub stopped : new.stage ≡ failed
   pub head : new.head ≡ old.head
+  pub position : new.position ≡ old.position
   pub pays : Pays old new
 
 -- a call failed for its source
@@ -115,6 +116,7 @@ pub record Loses (old new : Coming) : Type 0 where
   pub went : old.stage ≡ going
   pub stopped : new.stage ≡ failed
   pub head : new.head ≡ old.head
+  pub position : new.position ≡ old.position
   pub fails : Fails old.incoming old.budget new.incoming new.budget
 
 -- Why no event came: the events end with this fault; the source failed; no memory; or a call before had failed, and nothing

@@ -27,24 +27,24 @@ stage_of true is_live = over
 stage_of false true = going
 stage_of false false = failed
 
-abbrev pub told_from : (is_over : Bool) → Limits → Machine → Reader → Told
-told_from true limits m r = ([], accepted r.position)
-told_from false limits m r = told_of limits r.extent (machine_shown m) r.position r.left
+abbrev pub told_from : (is_over : Bool) → Limits → Machine → (place : ℕ) → Reader → Told
+told_from true limits m place r = ([], accepted place)
+told_from false limits m place r = told_of limits r.extent (machine_shown m) r.position r.left
 
 abbrev pub last_of : Machine → List ℕ → Option Found → Option machine.Event
 last_of m values None = None
 last_of m values (Some found) = found_lent m values found
 
-abbrev pub coming_of : (is_over : Bool) → Limits → Head → Machine → (values : List ℕ) → Option Found → Reader → Coming
-coming_of is_over limits head m values found r = record {
+abbrev pub coming_of : (is_over : Bool) → Limits → Head → Machine → (values : List ℕ) → Option Found → (place : ℕ) → Reader → Coming
+coming_of is_over limits head m values found place r = record {
   stage = stage_of is_over r.live;
   head = head_told head;
-  told = told_from is_over limits m r;
+  told = told_from is_over limits m place r;
   depth = vec_len m.frames;
   deepest = limits.depth;
   held = values;
   last = last_of m values found;
-  position = r.position;
+  position = place;
   incoming = r.incoming;
   budget = r.budget;
 }
@@ -54,8 +54,9 @@ pub record IsClosed (m : Machine) (found : Option Found) : Type 0 where
   pub frames : vec_len m.frames ≡ 0
   pub last : found ≡ None
 
--- what holds between calls: outside of all blocks the reader stands at a byte
-pub record IsEvents (is_over : Bool) (m : Machine) (found : Option Found) (r : Reader) : Type 0 where
+-- what holds between calls: the reader stands behind the last event, and outside of all blocks at a byte
+pub record IsEvents (is_over : Bool) (m : Machine) (found : Option Found) (place : ℕ) (r : Reader) : Type 0 where
+  pub stands : r.live ≡ true → place ≡ r.position
   pub aligned : r.live ≡ true → vec_len m.frames ≡ 0 → r.position % 8 ≡ 0
   pub closed : is_over ≡ true → IsClosed m found
 
