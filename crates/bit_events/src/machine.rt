@@ -1,7 +1,6 @@
-ghost use Rattle.std.specs.Prelude.{◌≡◌, ◌<◌, ◌≤◌, ◌+◌, true, [], ◌∷◌, ℕ, List, OnOk, IfOk, vec_len, is_none, IfSome, IfNone, IsTrue, ◌↔◌};
+ghost use Rattle.std.specs.Prelude.{◌≡◌, ◌<◌, ◌≤◌, ◌+◌, true, [], ℕ, List, OnOk, IfOk, vec_len, is_none, IfSome, IfNone, IsTrue, ◌↔◌};
 ghost use Rattle.std.specs.Option.{option_copied, option_map};
 ghost use Rattle.bit_grammar.specs.Blocks.{enter, leave, info_for};
-ghost use Rattle.bit_grammar.specs.Machine as machine;
 ghost use Rattle.bit_grammar.specs.Machine.{at_start, open_block, open_nested, step_after, step_in, step_top, step, scope_of, inside};
 ghost use Rattle.bit_fields.specs.Reader.{Takes, told_by};
 ghost use Rattle.bit_abbrev.specs.Values.{Has};
