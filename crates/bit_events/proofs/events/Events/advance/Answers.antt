@@ -37,4 +37,4 @@ returns g c =
     let s = c.self.inside in
     let shut = subst (λ (b : Bool). Shuts c.is_outside-outside.result s.reader (Ok b) c.shuts.new.reader) c.if-branch.false c.in_ok-shuts.ensures in
     let view = subst (λ (p : ℕ). coming_of s.over s.limits s.head s.machine s.values.items s.found p s.reader ≡ c.args.self.now) (c.self.invariant.stands shut.0.was_live) c.self.view_is in
-    rw (c.position.ensures.position) (subst (λ (old : Coming). Goes old (Ok (found_lent c.step.new.self c.step.new.values.items c.in_ok-found.found)) (coming_of s.over s.limits s.head c.step.new.self c.step.new.values.items (Some c.in_ok-found.found) c.step.new.reader.position c.step.new.reader)) view (kept_goes s.over s.limits s.head s.machine c.step.new.self s.values.items c.step.new.values.items s.found c.in_ok-found.found s.reader c.shuts.new.reader c.step.new.reader c.is_outside-outside.result c.if-self.false c.is_outside-outside.ensures.1 shut c.in_ok-found.ensures.takes c.in_ok-found.ensures.leaves c.in_ok-found.ensures.holds c.in_ok-found.ensures.moves (omega (arith, c.position.ensures.position))))
+    rw (c.position-self-inside.ensures.position) (subst (λ (old : Coming). Goes old (Ok (found_lent c.step.new.self c.step.new.values.items c.in_ok-found.found)) (coming_of s.over s.limits s.head c.step.new.self c.step.new.values.items (Some c.in_ok-found.found) c.step.new.reader.position c.step.new.reader)) view (kept_goes s.over s.limits s.head s.machine c.step.new.self s.values.items c.step.new.values.items s.found c.in_ok-found.found s.reader c.shuts.new.reader c.step.new.reader c.is_outside-outside.result c.if-self.false c.is_outside-outside.ensures.1 shut c.in_ok-found.ensures.takes c.in_ok-found.ensures.leaves c.in_ok-found.ensures.holds c.in_ok-found.ensures.moves (omega (arith, c.position-self-inside.ensures.position))))
