@@ -1,6 +1,6 @@
 -- Comparing the first bytes of an input with the rest.
 use Rattle.std.proofs.Common.{◌≡◌, ◌∙◌, ℕ, ◌+◌, ◌<◌, ◌≤◌, min, List, [], ◌++◌, length, take, drop, Some, None, Err, refl, sym, ap, subst, inl, inr, arith, codes, length-append, length-take}
-use Rattle.std.specs.Prelude.{IsSome, IfSome, ◌^◌}
+use Rattle.std.specs.Prelude.{◌⊎◌, IsSome, IfSome, ◌^◌}
 use Rattle.std.specs.Io.KnownBytes.{Consumes, IsAtEnd}
 use Rattle.std.proofs.lemmas.List.{append-nil, take_all, take_at, drop_at, take-take}
 use Rattle.std.proofs.Math.ListN.{drop_of_length-le}
@@ -71,8 +71,8 @@ rest_misread info limits i j now later First (fault.Refused reason bit) capped f
 rest_misread info limits i j now later Second (fault.Refused reason bit) capped fresh slice h = (h.2.0, tt)
 rest_misread info limits i j now later First fault.Read capped fresh slice h = absurd (never_fails limits i now capped fresh slice h.0)
 rest_misread info limits i j now later Second fault.Read capped fresh slice h = (h.2, tt)
-rest_misread info limits i j now later First fault.Memory capped fresh slice h = (none_spent limits j later h.1, tt)
-rest_misread info limits i j now later Second fault.Memory capped fresh slice h = (h.2, tt)
+rest_misread info limits i j now later First fault.Memory capped fresh slice h = (inl (none_spent limits j later h.1), tt)
+rest_misread info limits i j now later Second fault.Memory capped fresh slice h = (inl h.2, tt)
 rest_misread info limits i j now later First fault.Write capped fresh slice h = absurd h.0
 rest_misread info limits i j now later Second fault.Write capped fresh slice h = absurd h.2
 rest_misread info limits i j now later First fault.OutputTooLong capped fresh slice h = absurd h.0
@@ -97,15 +97,21 @@ both_taken info limits first count i mid later outcome counted h rest = go outco
     both : Spent limits mid later → Spends i (min first (limits.bytes + 1) + (limits.bytes + 1)) later 0
     both k = subst (λ (n : ℕ). Spends i (n + (limits.bytes + 1)) later 0) counted (spends_then i mid later count (limits.bytes + 1) h k)
 
+    lost : Lost limits mid later → Fails i (min first (limits.bytes + 1) + (limits.bytes + 1)) later 0
+    lost k = subst (λ (n : ℕ). Fails i (n + (limits.bytes + 1)) later 0) counted (fails_then i mid later count (limits.bytes + 1) h k)
+
+    either : Spent limits mid later ⊎ Lost limits mid later → Spends i (min first (limits.bytes + 1) + (limits.bytes + 1)) later 0 ⊎ Fails i (min first (limits.bytes + 1) + (limits.bytes + 1)) later 0
+    either p = elim p [ inl spends ↦ inl (both spends) | inr fails ↦ inr (lost fails) ]
+
     go : (o : Outcome) → TakesRest limits mid later o → Takes (Same first limits info) i later o
     go (RefusedOf First reason bit) r = (subst (λ (n : Incoming). Spends i (min first (limits.bytes + 1)) n 0) (sym r) (subst (λ (n : ℕ). Spends i n mid 0) counted h), tt)
     go (RefusedOf Second reason bit) r = (both r.0, tt)
     go Done r = (both r.0, drained_then i mid later count h r.1)
     go Different r = (both r.0, drained_then i mid later count h r.1)
     go (TooLong limit) r = (both r.0, drained_then i mid later count h r.1)
-    go Read r = (subst (λ (n : ℕ). Fails i (n + (limits.bytes + 1)) later 0) counted (fails_then i mid later count (limits.bytes + 1) h r.0), tt)
-    go Memory r = (both r.0, tt)
-    go Write r = (both r.0, tt)
+    go Read r = (lost r.0, tt)
+    go Memory r = (either r.0, tt)
+    go Write r = (either r.0, tt)
     go Usage r = (both r.0, tt)
     go (Refused reason bit) r = (both r.0, tt)
 
@@ -203,7 +209,7 @@ compared info limits first count (Some input) (Some rest) bytes outcome counted 
 -- they were not taken
 pub not_taken : (info : Info) (limits : Limits) (first count : ℕ) (i now : Incoming) (why : code.Fault) → count ≡ min first (limits.bytes + 1) → TakesFirst count i (Err why) now → Judges (Same first limits info) i now (outcome_of limits.bytes why)
 not_taken info limits first count i now fault.Read counted h = ((fails_more i now count _ (omega (arith, counted)) h, tt), tt)
-not_taken info limits first count i now fault.Memory counted h = ((spends_more i now count _ (omega (arith, counted)) h, tt), tt)
+not_taken info limits first count i now fault.Memory counted h = ((inl (spends_more i now count _ (omega (arith, counted)) h), tt), tt)
 not_taken info limits first count i now fault.Write counted h = absurd h
 not_taken info limits first count i now fault.OutputTooLong counted h = absurd h
 not_taken info limits first count i now fault.Failed counted h = absurd h

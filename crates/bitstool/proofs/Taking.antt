@@ -129,15 +129,15 @@ module _ {A : Type 0} (Holds : List ℕ → A → Type 0) (task : Task) (limits 
   takes_long a limit h = (spent (TooLong limit) h.0, all_read a h)
 
   pub takes_write : (a : A) → ReadsWhole Holds limits i (Ok a) now → Takes task i now Write
-  takes_write a h = (spent Write h.0, tt)
+  takes_write a h = (inl (spent Write h.0), tt)
 
   pub takes_memory : (a : A) → ReadsWhole Holds limits i (Ok a) now → Takes task i now Memory
-  takes_memory a h = (spent Memory h.0, tt)
+  takes_memory a h = (inl (spent Memory h.0), tt)
 
   pub takes_fault : (why : Fault) → ReadsWhole Holds limits i (Err why) now → Takes task i now (outcome_of limits.bytes why)
   takes_fault (fault.Refused reason bit) h = (spent _ h.0, tt)
   takes_fault fault.Read h = (subst (λ (n : ℕ). Fails i n now 0) (sym (most _)) h, tt)
-  takes_fault fault.Memory h = (spent _ h, tt)
+  takes_fault fault.Memory h = (inl (spent Memory h), tt)
   takes_fault fault.Write h = absurd h
   takes_fault fault.OutputTooLong h = absurd h
   takes_fault fault.Failed h = absurd h

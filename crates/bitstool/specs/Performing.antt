@@ -91,7 +91,7 @@ TakesRest limits j later outcome = Pays outcome j (limits.bytes + 1) later × En
 abbrev pub TellsLine : Outcome → List ℕ → Outgoing → Outcome → Outgoing → Type 0
 TellsLine answer line old after new = ((after ≡ answer) × TookText line old new) ⊎ ((after ≡ Write) × TookFront line old new × HasFailed old new)
 
--- the outcome after a flush: as it was, or the output failed, which is not looked at where the input did; no byte came or went
+-- the outcome after a flush: as it was, or the output failed; no byte came or went
 abbrev pub Settles : Outcome → Outgoing → Outcome → Outgoing → Type 0
 Settles outcome old after new =
-    ((after ≡ outcome) × Stays old new) ⊎ ((after ≡ Write) × (outcome ≢ Read) × Keeps old.bytes new.bytes × (old.failures ≤ new.failures) × HasFailed old new)
+    ((after ≡ outcome) × Stays old new) ⊎ ((after ≡ Write) × Keeps old.bytes new.bytes × (old.failures ≤ new.failures) × HasFailed old new)
