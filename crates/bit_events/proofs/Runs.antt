@@ -12,10 +12,9 @@ use Rattle.bit_grammar.specs.Machine as machine
 use Rattle.bit_grammar.specs.Machine.{Event, Told, scope_of, step, step_of}
 use Rattle.bit_fields.specs.Ahead.{InSight, Glimpsed, Sees, advanced, reader_at}
 use Rattle.bit_fields.specs.declared.fault.Fault.{Fault}
-use Rattle.bit_fields.specs.declared.fault.Fault.TheVariants.{Refused, Read, Write, Memory, OutputTooLong, Failed}
-use Rattle.bit_fields.specs.Reader.{Reader, TellsBytes, GoesOn, Took, Why, Takes, stopped}
+use Rattle.bit_fields.specs.Reader.{Reader, TellsBytes, Took, Takes}
 use Rattle.bit_fields.specs.Short.{TookNothing}
-use Rattle.bit_fields.proofs.Composing.{same_reading, stops_here, took_then}
+use Rattle.bit_fields.proofs.Composing.{same_reading, took_then}
 use Rattle.bit_fields.proofs.Gap.{gap_whole}
 use Rattle.bit_fields.proofs.BitLaws.{drop_more}
 use Rattle.bit_fields.proofs.Glimpses.{glimpsed_forward, glimpsed_passed, took_glimpsed, seen_took, not_caught_up}
@@ -25,11 +24,10 @@ use Rattle.bit_abbrev.proofs.Glancing.{took_at, plain_took}
 use Rattle.bit_events.specs.declared.frame.Frame.{Frame}
 use Rattle.bit_events.specs.declared.machine.Machine.{Machine}
 use Rattle.bit_events.specs.FrameView.{frame_shown, frames_shown}
-use Rattle.bit_events.specs.Folding.{left_to_tell, GathersSome, Misses, TakesRun}
+use Rattle.bit_events.specs.Folding.{left_to_tell, GathersSome, TakesRun}
 use Rattle.bit_events.specs.Gathering.{Gathers}
 use Rattle.bit_events.specs.MachineView.{machine_shown, record_of, Leaves}
 use Rattle.bit_events.specs.Runs.{IsFor, after_record, Passed, GathersTo, GathersRun}
-use Rattle.bit_events.proofs.Advancing.{pays_both}
 use Rattle.bit_events.proofs.Folds.{in_block, none_yet, one_event, some_then, step_missed}
 use Rattle.bit_events.proofs.Framing.{none_described, plain_entry, short_entry}
 use Rattle.bit_events.proofs.Framing as framing

@@ -94,7 +94,14 @@ pub(crate) fn gather_records<G: Gatherer>(
     let plain = plain_ops();
     loop {
         let room = limits.values().saturating_sub(spent);
-        let Some((id, code)) = glance_item::<G>(&mut ahead, frame, &definitions, &plain, room, values) else {
+        let Some((id, code)) = glance_item::<G>(
+            &mut ahead,
+            frame,
+            &definitions,
+            &plain,
+            room,
+            values,
+        ) else {
             *used = spent;
             return Ok(first);
         };
