@@ -5,8 +5,9 @@ use Rattle.std.proofs.lemmas.List.{drop_all}
 use Rattle.bit_grammar.specs.declared.op.Op.{Op}
 use Rattle.bit_grammar.specs.declared.values.Values.{Values}
 use Rattle.bit_grammar.specs.EventTexts.{line_at, op_text, ops_text, noted_text, shown_values}
+use Rattle.bit_grammar.specs.Texts.{record_line, values_text}
 use Rattle.bit_fields.specs.declared.fault.Fault.{Fault}
-use Rattle.bit_scan.specs.Lines.{definition_head, noted_head}
+use Rattle.bit_scan.specs.Lines.{definition_head, noted_head, record_head}
 use Rattle.bit_scan.specs.Printing.{Printing, Printed, Prints}
 use Rattle.bit_scan.proofs.Prints.{Goes, goes_starts, goes_as, goes_on, goes_wrong, goes_last, goes_ends}
 use Rattle.bit_scan.proofs.Reports.{drop_first}
@@ -40,11 +41,31 @@ next_part part whole old now xs i x h g = goes_as whole old (flat_map part (drop
 pub last_part : {A : Type 0} (part : A → List ℕ) (whole : List ℕ) (old now : Printing) (xs : List A) (i : ℕ) → length xs ≤ i → Goes whole old (flat_map part (drop i xs)) now → Printed whole old now
 last_part part whole old now xs i h g = goes_ends whole old now (goes_as whole old (flat_map part (drop i xs)) [] now (ap (flat_map part) (drop_all i xs h)) g)
 
+-- ---- values
+
+-- a value behind a space
+abbrev pub value_text : ℕ → List ℕ
+value_text v = 32 ∷ decimal v
+
+-- the line of a record in a listing: up to its values, these, and its end
+pub record_parts : (around code : ℕ) (vs : List ℕ) → Parts (record_line around code vs) (record_head around code) (values_text vs) (10 ∷ [])
+record_parts around code vs = record { are = regrouped (replicate (2 * around) 32) (codes "record ") (decimal code) (values_text vs) (10 ∷ []) }
+  where
+    regrouped : (a b c d e : List ℕ) → a ++ ((b ++ c ++ d) ++ e) ≡ (a ++ (b ++ c)) ++ (d ++ e)
+    regrouped a b c d e = simp append_assoc
+
+-- the line of a record among events
+pub noted_parts : (values : Values) (around first code abbreviation : ℕ) (vs : List ℕ) → Parts (line_at first around (noted_text values code abbreviation vs)) (noted_head around first code abbreviation (length vs)) (shown_values values vs) (10 ∷ [])
+noted_parts values around first code abbreviation vs = record { are = regrouped (decimal first) (replicate (2 * around) 32) (codes "record ") (decimal code) (codes " by ") (decimal abbreviation) (codes " count ") (decimal (length vs)) (shown_values values vs) (10 ∷ []) }
+  where
+    regrouped : (a b c d e f g h i j : List ℕ) → a ++ (32 ∷ (b ++ ((c ++ d ++ e ++ f ++ g ++ h ++ i) ++ j))) ≡ ((a ++ (32 ∷ b)) ++ (c ++ d ++ e ++ f ++ g ++ h)) ++ (i ++ j)
+    regrouped a b c d e f g h i j = simp append_assoc
+
+-- ---- operands
+
 -- an operand behind another one
 abbrev pub further_text : Op → List ℕ
 further_text op = codes ", " ++ op_text op
-
--- ---- lines of events
 
 -- the line of a definition: up to its operands, these, and its end
 pub definition_parts : (around first : ℕ) (ops : List Op) → Parts (line_at first around (codes "define " ++ ops_text ops)) (definition_head around first) (ops_text ops) (10 ∷ [])
@@ -52,13 +73,6 @@ definition_parts around first ops = record { are = regrouped (decimal first) (re
   where
     regrouped : (a b c d e : List ℕ) → a ++ (32 ∷ (b ++ ((c ++ d) ++ e))) ≡ ((a ++ (32 ∷ b)) ++ c) ++ (d ++ e)
     regrouped a b c d e = simp append_assoc
-
--- the line of a record: up to its values, these, and its end
-pub noted_parts : (values : Values) (around first code abbreviation : ℕ) (vs : List ℕ) → Parts (line_at first around (noted_text values code abbreviation vs)) (noted_head around first code abbreviation (length vs)) (shown_values values vs) (10 ∷ [])
-noted_parts values around first code abbreviation vs = record { are = regrouped (decimal first) (replicate (2 * around) 32) (codes "record ") (decimal code) (codes " by ") (decimal abbreviation) (codes " count ") (decimal (length vs)) (shown_values values vs) (10 ∷ []) }
-  where
-    regrouped : (a b c d e f g h i j : List ℕ) → a ++ (32 ∷ (b ++ ((c ++ d ++ e ++ f ++ g ++ h ++ i) ++ j))) ≡ ((a ++ (32 ∷ b)) ++ (c ++ d ++ e ++ f ++ g ++ h)) ++ (i ++ j)
-    regrouped a b c d e f g h i j = simp append_assoc
 
 -- the first operand was not written, or not all of it
 pub first_wrong : (ops others : List Op) (op : Op) (old new : Printing) (fault : Fault) → ops ≡ op ∷ others → Prints (op_text op) old (Err fault) new → Prints (ops_text ops) old (Err fault) new
