@@ -7,6 +7,8 @@ use Rattle.std.proofs.lemmas.Bool.{cases_lt}
 use Rattle.std.proofs.lemmas.Grind.{flat_map-append}
 use Rattle.std.specs.Global.{Vec}
 use Rattle.bit_grammar.specs.Bits.{bits_of, number}
+use Rattle.bit_grammar.specs.FormatFields.{shortest}
+use Rattle.bit_grammar.specs.Normal.{values_text}
 use Rattle.bit_grammar.proofs.Numbers.{length-bits_of, number_below}
 use Rattle.bit_fields.specs.Texts.{joined, AreFull, bits_of_words, with_word}
 use Rattle.bit_fields.specs.Writer.{Writer, Wrote, Writes}
@@ -195,3 +197,9 @@ moved_so_far chunks chunk now next some is next_is =
 
 pub chunk_fits : (chunks : List (Vec ℕ)) (chunk : Vec ℕ) → 0 < length chunks → chunk ≡ get_or chunks 0 chunk → length chunk.items ≤ length (joined chunks)
 chunk_fits chunks chunk some is = omega (arith, ap length (first_chunk chunks chunk some is), length-append chunk.items (joined (drop 1 chunks)))
+
+-- ---- numbers
+
+-- the number at a place comes next
+pub value-next : (vs : List ℕ) (i : ℕ) → i < length vs → values_text (drop i vs) ≡ shortest 6 (get_or vs i 0) ++ values_text (drop (i + 1) vs)
+value-next vs i lt = rw add-one (ap values_text (drop-cons vs i 0 lt))

@@ -68,6 +68,15 @@ impl Words {
         }
     }
 
+    /// How many words there are.
+    #[inline(always)]
+    pub(crate) fn len(&self) -> usize
+        requires { length self.now < 2 ^ 64 }
+        ensures { result ≡ length self.now }
+    {
+        self.full.len() * CHUNK + self.last.len()
+    }
+
     /// Adds a word.
     #[inline(always)]
     pub(crate) fn push(&mut self, word: u32) -> Result<(), AllocError>
