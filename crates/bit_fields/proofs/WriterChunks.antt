@@ -278,6 +278,7 @@ short_below value more word few more_is word_is = elim (cases_lt value 32) [ inl
   where
     one : value < 32 → word < 2 ^ (6 + 6 * more)
     one lt = let e = one_chunk value more word lt more_is word_is in subst (λ (k : ℕ). word < 2 ^ (6 + 6 * k)) (sym e.0) (omega (arith, e.1, lt))
+
     two : 32 ≤ value → word < 2 ^ (6 + 6 * more)
     two le = let e = two_chunks value more word few le more_is word_is in subst (λ (k : ℕ). word < 2 ^ (6 + 6 * k)) (sym e.0) (omega (arith, e.1, few))
 
@@ -286,10 +287,12 @@ short_spelled value more word few more_is word_is = elim (cases_lt value 32) [ i
   where
     starts : Spelling 6 value [] [] value
     starts = spelling_starts 6 value [] (omega arith) (omega arith) (omega (arith, few)) (omega arith)
+
     one : value < 32 → bits_of (6 + 6 * more) word ≡ shortest 6 value
     one lt =
         let e = one_chunk value more word lt more_is word_is in
         ap (λ (k : ℕ). bits_of (6 + 6 * k) word) e.0 ∙ ap (bits_of 6) e.1 ∙ spelling_ends 6 value [] [] value (omega arith) lt starts
+
     two : 32 ≤ value → bits_of (6 + 6 * more) word ≡ shortest 6 value
     two le =
         let e = two_chunks value more word few le more_is word_is in

@@ -226,12 +226,7 @@ fn settle(words: &mut Words, window: &mut Window) -> Result<(), AllocError>
 
 /// Adds a number of n bits behind words and a window.
 #[inline(always)]
-fn add_field(
-    words: &mut Words,
-    window: &mut Window,
-    n: u32,
-    value: u64,
-) -> Result<(), AllocError>
+fn add_field(words: &mut Words, window: &mut Window, n: u32, value: u64) -> Result<(), AllocError>
     requires few { n ≤ 32 }
     requires fits { value < 2 ^ n }
     ensures ok { OnOk result (bits_of_words words.new ++ window.new ≡ (bits_of_words words.old ++ window.old) ++ bits_of n value) }
