@@ -1,7 +1,13 @@
 -- What a source that keeps what it gives has kept.
-use Rattle.std.proofs.Common.{◌≡◌, ℕ, zero, suc, Bool, true, false, List, [], ◌∷◌, ◌++◌, take, Option, Some, None, refl, sym, ap, ◌∙◌, append_assoc, append-nil}
+use Rattle.std.proofs.Common.{◌≡◌, ℕ, zero, suc, ◌+◌, ◌<◌, ◌≤◌, Bool, true, false, List, [], ◌∷◌, ◌++◌, length, take, Option, Some, None, Result, Ok, Err, refl, sym, ap, subst, ◌∙◌, arith, append_assoc, append-nil, take-take}
+use Rattle.std.proofs.lemmas.List.{length-take-le}
+use lib.Seq.{take-append_seam}
+use Rattle.std.proofs.KnownBytes.{Keeps-trans}
 use Rattle.std.specs.Io.KnownBytes.{Consumes, Keeps, prepend_known}
-use Rattle.bit_fields.specs.Devices.{Account, SaysOf, Incoming, Gave, GaveNone, Spends, known_bytes, keeps_of}
+use Rattle.bit_fields.specs.declared.kept.Kept.{Kept}
+use Rattle.bit_fields.specs.declared.source.SourceFailed.{SourceFailed}
+use Rattle.bit_fields.specs.Devices.{Account, SaysOf, Incoming, IsFresh, IsWorn, Begins, Gave, GaveNone, GaveWord, GaveBehind, Looked, Looks, Spends, known_bytes, keeps_of}
+use Rattle.bit_fields.specs.Kept.{GrewBy, KeptAhead}
 
 -- ---- a pull
 
@@ -43,6 +49,131 @@ gave_none is kept i j none = record {
   accounts = says_before (record { kept = is; whole = prepend_known kept i.to_come }) (record { kept = is; whole = prepend_known kept j.to_come }) i.accounts j.accounts
       (λ all says h. kept_told kept i.to_come j.to_come all none.bytes (says h)) none.accounts;
 }
+
+-- ---- a source that is looked at
+
+-- nothing was taken, and what is kept stays
+pub looked_kept : (is : Bool) (kept : List ℕ) (i j : Incoming) → Looked i j → Looked (keeps_of is kept i) (keeps_of is kept j)
+looked_kept is kept i j looked = record {
+  bytes = looked.bytes;
+  pulls = looked.pulls;
+  failures = looked.failures;
+  worn = λ worn. ap (keeps_of is kept) (looked.worn worn);
+  accounts = says_before (record { kept = is; whole = prepend_known kept i.to_come }) (record { kept = is; whole = prepend_known kept j.to_come }) i.accounts j.accounts
+      (λ all says h. kept_told kept i.to_come j.to_come all looked.bytes (says h)) looked.accounts;
+}
+
+pub looks_kept : (is : Bool) (kept : List ℕ) (i j : Incoming) (answer : Result Bool SourceFailed) → Looks i answer j → Looks (keeps_of is kept i) answer (keeps_of is kept j)
+looks_kept is kept i j (Ok some) looks = looked_kept is kept i j looks
+looks_kept is kept i j (Err e) looks = gave_none is kept i j looks
+
+-- it was looked at twice
+pub looked_again : (a b c : Incoming) → Looked a b → Looked b c → Looked a c
+looked_again a b c p q = record {
+  bytes = Keeps-trans a.to_come b.to_come c.to_come p.bytes q.bytes;
+  pulls = q.pulls ∙ p.pulls;
+  failures = q.failures ∙ p.failures;
+  worn = λ worn. q.worn (subst IsWorn (sym (p.worn worn)) worn) ∙ p.worn worn;
+  accounts = λ n all says. q.accounts n all (p.accounts n all says);
+}
+
+kept_consumed : (a b c : Option (List ℕ)) (gone : List ℕ) → Keeps a b → Consumes b c gone → Consumes a c gone
+kept_consumed None b c gone same gave = tt
+kept_consumed (Some xs) None c gone same gave = absurd same
+kept_consumed (Some xs) (Some ys) None gone same gave = absurd gave
+kept_consumed (Some xs) (Some ys) (Some zs) gone same gave = sym same ∙ gave
+
+-- what lies in memory was kept before it was taken, or memory was refused
+told_ahead : (kept now front gone : List ℕ) (i j : Option (List ℕ)) (all : List ℕ) → Consumes i j gone → Begins i front → length front ≡ length gone → now ≡ kept ++ front → prepend_known kept i ≡ Some all → prepend_known now j ≡ Some all
+told_ahead kept now front gone None j all gave begins same more is = absurd cc
+told_ahead kept now front gone (Some xs) None all gave begins same more is = absurd gave
+told_ahead kept now front gone (Some xs) (Some ys) all gave begins same more is =
+    let taken : front ≡ gone = sym begins ∙ ap (λ (n : ℕ). take n xs) same ∙ ap (take (length gone)) gave ∙ take-append_seam gone ys in
+    told_on kept now gone (Some xs) (Some ys) all gave (more ∙ ap (λ (s : List ℕ). kept ++ s) taken) is
+
+-- the front of what a source shows are bytes that came next before it was looked at
+pub begins_before : (a b : Option (List ℕ)) (shown : List ℕ) (count : ℕ) → Keeps a b → Begins b shown → count ≤ length shown → Begins a (take count shown)
+begins_before None b shown count same begins there = tt
+begins_before (Some xs) None shown count same begins there = absurd same
+begins_before (Some xs) (Some ys) shown count same begins there =
+    ap (λ (n : ℕ). take n xs) (length-take-le count shown there) ∙ sym (take-take count (length shown) xs there) ∙ ap (λ (s : List ℕ). take count (take (length shown) s)) (sym same) ∙ ap (take count) begins
+
+-- the source was looked at, the bytes that come next were kept, and as many were taken
+pub gave_ahead : (old new : Kept) (a b c : Incoming) (count : ℕ) (into : List ℕ) → Looked a b → KeptAhead count a.to_come old new → Gave b c count into → Gave (keeps_of old.whole old.bytes.items a) (keeps_of new.whole new.bytes.items c) count into
+gave_ahead old new a b c count into looked ahead gave = record {
+  fresh = omega (arith, gave.fresh, looked.pulls, looked.failures);
+  fits = gave.fits;
+  bytes = kept_consumed a.to_come b.to_come c.to_come (take count into) looked.bytes gave.bytes;
+  end = gave.end;
+  pulls = gave.pulls ∙ ap (λ (n : ℕ). n + 1) looked.pulls;
+  failures = gave.failures ∙ looked.failures;
+  accounts = says_before (record { kept = old.whole; whole = prepend_known old.bytes.items a.to_come }) (record { kept = new.whole; whole = prepend_known new.bytes.items c.to_come }) a.accounts c.accounts
+      (λ all says h. let grew = ahead.3 h in
+      told_ahead old.bytes.items new.bytes.items ahead.0 (take count into) a.to_come c.to_come all (kept_consumed a.to_come b.to_come c.to_come (take count into) looked.bytes gave.bytes) ahead.2 (ahead.1 ∙ sym (length-take-le count into gave.fits)) grew.1 (says grew.0))
+      (λ n all says. gave.accounts n all (looked.accounts n all says));
+}
+
+pub word_ahead : (old new : Kept) (a b c : Incoming) (room word : ℕ) → Looked a b → KeptAhead room a.to_come old new → GaveWord b c room word room → GaveWord (keeps_of old.whole old.bytes.items a) (keeps_of new.whole new.bytes.items c) room word room
+word_ahead old new a b c room word looked ahead taken = record {
+  into = taken.into;
+  wide = taken.wide;
+  gave = gave_ahead old new a b c room taken.into looked ahead taken.gave;
+  below = taken.below;
+  bits = taken.bits;
+}
+
+pub behind_ahead : (old new : Kept) (a b c : Incoming) (count word : ℕ) → Looked a b → KeptAhead (count + 8) a.to_come old new → GaveBehind b c count word → GaveBehind (keeps_of old.whole old.bytes.items a) (keeps_of new.whole new.bytes.items c) count word
+behind_ahead old new a b c count word looked ahead taken = record {
+  into = taken.into;
+  wide = taken.wide;
+  gave = gave_ahead old new a b c (count + 8) taken.into looked ahead taken.gave;
+  below = taken.below;
+  bits = taken.bits;
+}
+
+-- bytes that were not taken were given up again
+gave_up : (old mid : Kept) (len : ℕ) (now front : List ℕ) → GrewBy front old mid → len ≡ length old.bytes.items → now ≡ take len mid.bytes.items → mid.whole ≡ true → (old.whole ≡ true) × (now ≡ old.bytes.items)
+gave_up old mid len now front grew len_is cut whole = let g = grew whole in
+    (g.0, cut ∙ ap (λ (n : ℕ). take n mid.bytes.items) len_is ∙ ap (take (length old.bytes.items)) g.1 ∙ take-append_seam old.bytes.items front)
+
+-- of a source that can still be asked nothing was taken, and what is kept is as before, or memory was refused
+lost_looked : (was is : Bool) (kept now : List ℕ) (i j : Incoming) → IsFresh i → (is ≡ true → (was ≡ true) × (now ≡ kept)) → Looked i j → Looked (keeps_of was kept i) (keeps_of is now j)
+lost_looked was is kept now i j fresh same looked = record {
+  bytes = looked.bytes;
+  pulls = looked.pulls;
+  failures = looked.failures;
+  worn = λ worn. absurd (omega (arith, fresh, worn));
+  accounts = says_before (record { kept = was; whole = prepend_known kept i.to_come }) (record { kept = is; whole = prepend_known now j.to_come }) i.accounts j.accounts
+      (λ all says h. let s = same h in subst (λ (list : List ℕ). prepend_known list j.to_come ≡ Some all) (sym s.1) (kept_told kept i.to_come j.to_come all looked.bytes (says s.0))) looked.accounts;
+}
+
+lost_none : (was is : Bool) (kept now : List ℕ) (i j : Incoming) → IsFresh i → (is ≡ true → (was ≡ true) × (now ≡ kept)) → GaveNone i j → GaveNone (keeps_of was kept i) (keeps_of is now j)
+lost_none was is kept now i j fresh same none = record {
+  bytes = none.bytes;
+  counted = none.counted;
+  worn = λ worn. absurd (omega (arith, fresh, worn));
+  accounts = says_before (record { kept = was; whole = prepend_known kept i.to_come }) (record { kept = is; whole = prepend_known now j.to_come }) i.accounts j.accounts
+      (λ all says h. let s = same h in subst (λ (list : List ℕ). prepend_known list j.to_come ≡ Some all) (sym s.1) (kept_told kept i.to_come j.to_come all none.bytes (says s.0))) none.accounts;
+}
+
+fresh_before : (a b : Incoming) → Looked a b → IsFresh b → IsFresh a
+fresh_before a b looked fresh = omega (arith, fresh, looked.pulls, looked.failures)
+
+none_after : (a b c : Incoming) → IsFresh b → Looked a b → GaveNone b c → GaveNone a c
+none_after a b c fresh looked none = record {
+  bytes = Keeps-trans a.to_come b.to_come c.to_come looked.bytes none.bytes;
+  counted = λ f. let n = none.counted fresh in (n.0 ∙ ap (λ (m : ℕ). m + 1) looked.pulls, n.1 ∙ ap (λ (m : ℕ). m + 1) looked.failures);
+  worn = λ worn. absurd (omega (arith, fresh_before a b looked fresh, worn));
+  accounts = λ n all says. none.accounts n all (looked.accounts n all says);
+}
+
+pub few_ahead : (old mid : Kept) (len count : ℕ) (now : List ℕ) (a b c : Incoming) → IsFresh b → Looked a b → KeptAhead count a.to_come old mid → len ≡ length old.bytes.items → now ≡ take len mid.bytes.items → Looked b c → Looked (keeps_of old.whole old.bytes.items a) (keeps_of mid.whole now c)
+few_ahead old mid len count now a b c fresh looked ahead len_is cut few =
+    lost_looked old.whole mid.whole old.bytes.items now a c (fresh_before a b looked fresh) (gave_up old mid len now ahead.0 ahead.3 len_is cut) (looked_again a b c looked few)
+
+pub failed_ahead : (old mid : Kept) (len count : ℕ) (now : List ℕ) (a b c : Incoming) → IsFresh b → Looked a b → KeptAhead count a.to_come old mid → len ≡ length old.bytes.items → now ≡ take len mid.bytes.items → GaveNone b c → GaveNone (keeps_of old.whole old.bytes.items a) (keeps_of mid.whole now c)
+failed_ahead old mid len count now a b c fresh looked ahead len_is cut none =
+    lost_none old.whole mid.whole old.bytes.items now a c (fresh_before a b looked fresh) (gave_up old mid len now ahead.0 ahead.3 len_is cut) (none_after a b c fresh looked none)
 
 -- ---- in the end
 

@@ -1,4 +1,5 @@
 pub mod Devices
+pub mod Kept
 pub mod Inflow
 pub mod Reader
 pub mod Inside

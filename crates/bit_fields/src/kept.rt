@@ -1,8 +1,64 @@
-ghost use Rattle.std.specs.Prelude.{◌≡◌, ◌++◌, ℕ, List, [], true, false, MatchResult};
-ghost use Rattle.bit_fields.specs.Devices.{keeps_of};
+ghost use Rattle.std.specs.Prelude.{◌≡◌, ℕ, List, [], true, false, take, vec_len, MatchResult, IfOk, OnErr};
+ghost use Rattle.bit_fields.specs.Devices.{keeps_of, IsFresh, Looks};
+ghost use Rattle.bit_fields.specs.Kept.{GrewBy, KeptAhead};
 
-use crate::source::{Source, SourceFailed};
+use crate::source::{AtHand, Source, SourceFailed};
 use std::alloc::{AllocError, Global};
+
+/// How many bytes the list of what is kept grows by at most, where no more come at once.
+const STEP: usize = 4 << 20;
+
+/// Bytes that are kept, in a list that grows as they come.
+#[derive(Drop)]
+struct Kept {
+    bytes: Vec<u8>,
+    /// All that came is kept: memory was not refused.
+    whole: bool,
+}
+
+impl Kept {
+    /// How many bytes there are.
+    fn len(&self) -> usize
+        ensures { result ≡ vec_len self.now.bytes }
+    {
+        self.bytes.len()
+    }
+
+    /// Makes room for so many bytes. The list doubles up to a step and grows by steps from then on, so that at most a step of
+    /// it is unused.
+    #[inline(always)]
+    fn make_room(&mut self, count: usize) -> Result<(), AllocError>
+        ensures whole { self.new.whole ≡ self.old.whole }
+        ensures bytes { self.new.bytes.items ≡ self.old.bytes.items }
+    {
+        if count <= self.bytes.capacity() - self.bytes.len() {
+            return Ok(());
+        }
+        let more = self.bytes.len().min(STEP);
+        self.bytes.reserve_exact(more.max(count))
+    }
+
+    /// Keeps bytes behind those that it has.
+    #[inline]
+    fn keep(&mut self, bytes: &[u8])
+        ensures { GrewBy bytes.now self.old self.new }
+    {
+        if !self.whole {
+            return;
+        }
+        if self.make_room(bytes.len()).is_err() || self.bytes.extend_from_slice(bytes).is_err() {
+            self.whole = false;
+        }
+    }
+
+    /// Gives up all but so many of its first bytes.
+    fn cut(&mut self, len: usize)
+        ensures whole { self.new.whole ≡ self.old.whole }
+        ensures bytes { self.new.bytes.items ≡ take len self.old.bytes.items }
+    {
+        self.bytes.truncate(len);
+    }
+}
 
 /// A source that gives what another one gives, and keeps the bytes that it gave, in a list that grows as they pass.
 ///
@@ -10,9 +66,7 @@ use std::alloc::{AllocError, Global};
 #[derive(Drop)]
 pub struct KeptSource<S> {
     source: S,
-    bytes: Vec<u8>,
-    /// All that was given is kept: memory was not refused.
-    whole: bool,
+    kept: Kept,
 }
 
 impl<S: Source> KeptSource<S> {
@@ -22,8 +76,10 @@ impl<S: Source> KeptSource<S> {
     {
         KeptSource {
             source,
-            bytes: Vec::new(alloc),
-            whole: true,
+            kept: Kept {
+                bytes: Vec::new(alloc),
+                whole: true,
+            },
         }
     }
 
@@ -31,32 +87,92 @@ impl<S: Source> KeptSource<S> {
     pub fn into_parts(self) -> (Result<Vec<u8>, AllocError>, S)
         ensures { MatchResult result.0 (λ bytes. ⟦<KeptSource<S> as Source>⟧.incoming self ≡ keeps_of true bytes.items (S.incoming result.1)) (λ _. (bytes : List ℕ) × (⟦<KeptSource<S> as Source>⟧.incoming self ≡ keeps_of false bytes (S.incoming result.1))) }
     {
-        if !self.whole {
+        if !self.kept.whole {
             return (Err(AllocError), self.source);
         }
-        (Ok(self.bytes), self.source)
+        (Ok(self.kept.bytes), self.source)
     }
 
-    /// Keeps bytes behind those that it has.
+    /// Keeps so many bytes that come next before they are taken, where they lie in memory: whether it did.
     #[inline]
-    fn keep(&mut self, bytes: &[u8])
-        ensures source { self.new.source ≡ self.old.source }
-        ensures kept { self.new.whole ≡ true → (self.old.whole ≡ true) × (self.new.bytes.items ≡ self.old.bytes.items ++ bytes.now) }
+    fn keep_ahead(&mut self, count: usize) -> Result<bool, SourceFailed>
+        ensures looks { Looks (S.incoming self.old.source) result (S.incoming self.new.source) }
+        ensures ahead { IfOk result (λ did. did ≡ true → IsFresh (S.incoming self.new.source) × KeptAhead count (S.incoming self.old.source).to_come self.old.kept self.new.kept) }
+        ensures none { IfOk result (λ did. did ≡ false → self.new.kept ≡ self.old.kept) }
+        ensures failed { OnErr result (self.new.kept ≡ self.old.kept) }
     {
-        if self.whole && self.bytes.extend_from_slice(bytes).is_err() {
-            self.whole = false;
+        if !self.source.look()? {
+            return Ok(false);
         }
+        let bytes = self.source.lend();
+        if bytes.len() < count {
+            return Ok(false);
+        }
+        self.kept.keep(&bytes[..count]);
+        Ok(true)
     }
 }
 
 impl<S: Source> Source for KeptSource<S> {
-    ghost incoming = { λ s. keeps_of s.whole s.bytes.items (S.incoming s.source) };
+    ghost incoming = { λ s. keeps_of s.kept.whole s.kept.bytes.items (S.incoming s.source) };
 
     #[inline]
     fn pull(&mut self, into: &mut [u8]) -> Result<usize, SourceFailed> {
         let count = self.source.pull(into)?;
-        self.keep(&into[..count]);
+        self.kept.keep(&into[..count]);
         Ok(count)
+    }
+
+    #[inline]
+    fn at_hand(&mut self, room: usize) -> AtHand {
+        let before = self.kept.len();
+        match self.keep_ahead(room) {
+            Ok(true) => {}
+            Ok(false) => return AtHand::Few,
+            Err(SourceFailed) => return AtHand::Failed,
+        }
+        match self.source.at_hand(room) {
+            AtHand::Word(word) => AtHand::Word(word),
+            AtHand::Few => {
+                self.kept.cut(before);
+                AtHand::Few
+            }
+            AtHand::Failed => {
+                self.kept.cut(before);
+                AtHand::Failed
+            }
+        }
+    }
+
+    #[inline]
+    fn word_behind(&mut self, count: usize) -> AtHand {
+        let before = self.kept.len();
+        match self.keep_ahead(count + 8) {
+            Ok(true) => {}
+            Ok(false) => return AtHand::Few,
+            Err(SourceFailed) => return AtHand::Failed,
+        }
+        match self.source.word_behind(count) {
+            AtHand::Word(word) => AtHand::Word(word),
+            AtHand::Few => {
+                self.kept.cut(before);
+                AtHand::Few
+            }
+            AtHand::Failed => {
+                self.kept.cut(before);
+                AtHand::Failed
+            }
+        }
+    }
+
+    #[inline(always)]
+    fn look(&mut self) -> Result<bool, SourceFailed> {
+        self.source.look()
+    }
+
+    #[inline(always)]
+    fn lend(&mut self) -> &[u8] {
+        self.source.lend()
     }
 }
 

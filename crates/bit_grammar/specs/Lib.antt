@@ -22,5 +22,6 @@ pub mod Outlook
 pub mod Steps
 pub mod Tally
 pub mod Texts
+pub mod EventTexts
 pub mod Happening
 pub mod Counting

@@ -46,9 +46,13 @@ report_of tally = line 0 (magic_text tally.magic ++ codes " bits " ++ decimal ta
 abbrev pub block_line : (around id : ℕ) → List ℕ
 block_line around id = line around (codes "block " ++ decimal id)
 
+-- the values of a record, a space before each
+abbrev pub values_text : List ℕ → List ℕ
+values_text values = flat_map (λ v. 32 ∷ decimal v) values
+
 -- the line of a record: its code and each value
 abbrev pub record_line : (around code : ℕ) → List ℕ → List ℕ
-record_line around code values = line around (codes "record " ++ decimal code ++ flat_map (λ v. 32 ∷ decimal v) values)
+record_line around code values = line around (codes "record " ++ decimal code ++ values_text values)
 
 -- the items in order, with so many blocks around them
 abbrev pub lines_of : (around : ℕ) → Forest → List ℕ

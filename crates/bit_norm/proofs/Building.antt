@@ -21,7 +21,7 @@ use Rattle.bit_fields.specs.Texts.{with_word}
 use Rattle.bit_fields.proofs.BitLaws.{bits_of-above}
 use Rattle.bit_fields.proofs.Texts.{with_word_between}
 use Rattle.bit_fields.proofs.WriterChunks.{short_spelled}
-use Rattle.bit_tree.specs.TreeFrames.{told_at_level}
+use Rattle.bit_norm.specs.Told.{told_at_level}
 use Rattle.bit_norm.specs.Building.{written, begins, closed, completed, form_with, left_out, holes_of, AreWords, Builds, PassesLimit, IsFormOf}
 use Rattle.bit_norm.specs.Writing.{record_head, record_text, open_text}
 use Rattle.bit_norm.proofs.ChunkCounting.{short_few}

@@ -21,9 +21,9 @@ use Rattle.bit_events.specs.Folding.{Gathered, GatheredSome}
 use Rattle.bit_events.specs.Gathering.{left_open}
 use Rattle.bit_events.specs.Reading.{Spent, ReadsWhole}
 use Rattle.bit_tree.specs.Reading.{HasFit}
-use Rattle.bit_tree.specs.TreeFrames.{told_at_level}
+use Rattle.bit_norm.specs.Told.{told_at_level}
 use Rattle.bit_tree.proofs.Gathered.{open_behind-flat}
-use Rattle.bit_tree.proofs.Growing.{told_flat}
+use Rattle.bit_norm.proofs.Told.{told_flat}
 use Rattle.bit_norm.specs.Building.{IsFormOf}
 use Rattle.bit_norm.specs.Whole.{ReadsTree, Normalises}
 use Rattle.bit_norm.specs.Writing.{WritesForm}

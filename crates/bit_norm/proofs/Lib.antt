@@ -11,3 +11,4 @@ pub mod Texts
 pub mod ValueTexts
 pub mod Building
 pub mod Forms
+pub mod Told

@@ -7,7 +7,7 @@ use Rattle.bit_grammar.specs.Machine.{Event}
 use Rattle.bit_grammar.specs.Normal.{values_text, end_text, normal}
 use Rattle.bit_grammar.specs.Size.{end_of}
 use Rattle.bit_events.specs.Gathering.{left_open}
-use Rattle.bit_tree.specs.TreeFrames.{told_at_level}
+use Rattle.bit_norm.specs.Told.{told_at_level}
 use Rattle.bit_norm.specs.declared.form_values.Holding.{Holding}
 use Rattle.bit_norm.specs.declared.form_values.Holding.TheVariants.{All, TooLong, Unknown}
 use Rattle.bit_norm.specs.declared.form_values.FormValues.{FormValues}

@@ -3,4 +3,6 @@ pub mod Saturated
 pub mod Signs
 pub mod Whole
 pub mod Building
+pub mod Entries
 pub mod Writing
+pub mod Told

@@ -4,7 +4,7 @@ ghost use Rattle.bit_grammar.specs.Marks.{RecordMark, keeps};
 ghost use Rattle.bit_grammar.specs.Normal.{values_text, end_text, normal};
 ghost use Rattle.bit_events.specs.Gathering.{left_open};
 ghost use Rattle.bit_fields.specs.Texts.{with_word};
-ghost use Rattle.bit_tree.specs.TreeFrames.{told_at_level};
+ghost use Rattle.bit_norm.specs.Told.{told_at_level};
 ghost use Rattle.bit_norm.specs.Building.{HasTaken, IsFormOf};
 ghost use Rattle.bit_events.specs.MachineView.{TookSome};
 ghost use Rattle.bit_norm.specs.Writing.{record_head, record_text, open_text};

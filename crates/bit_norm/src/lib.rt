@@ -2,6 +2,7 @@
 #![tactic(auto)]
 
 mod comparing;
+mod differences;
 #[cfg(test)]
 mod fault_tests;
 mod form_builder;
@@ -20,6 +21,7 @@ mod writing;
 pub use bit_grammar::{normal_once, normal_spelled};
 pub use bit_tree::Info;
 pub use comparing::{SameFault, Which, same, same_as};
+pub use differences::{Difference, OpenBlock, Place, Standing, ValueDifference, What};
 pub use lengths::normal_len;
 pub use normalising::normalise;
 pub use writing::write_normal;

@@ -69,3 +69,12 @@ all_parts e (Ok x) old one two new first second third =
     joined : (a b c d : List ℕ) → ((a ++ b) ++ c) ++ d ≡ a ++ (b ++ (c ++ d))
     joined a b c d = simp append_assoc
 all_parts e (Err x) old one two new first second third = tt
+
+-- ---- a line behind its bit
+
+pub line_placed : (bit : ℕ) (text : List ℕ) (r : Result (Unit {0}) AllocError) (old middle new : List ℕ) → middle ≡ old ++ (decimal bit ++ (32 ∷ [])) → OnOk r (new ≡ middle ++ text) → OnOk r (new ≡ old ++ (decimal bit ++ (32 ∷ text)))
+line_placed bit text (Ok x) old middle new first second = second ∙ ap (λ (l : List ℕ). l ++ text) first ∙ joined old (decimal bit) text
+  where
+    joined : (a b c : List ℕ) → (a ++ (b ++ (32 ∷ []))) ++ c ≡ a ++ (b ++ (32 ∷ c))
+    joined a b c = simp append_assoc
+line_placed bit text (Err x) old middle new first second = tt

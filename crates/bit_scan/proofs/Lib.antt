@@ -16,3 +16,5 @@ pub mod Untold
 pub mod Counted
 pub mod Analysed
 pub mod Showings
+pub mod Parted
+pub mod Tellings

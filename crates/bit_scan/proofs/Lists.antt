@@ -1,52 +1,16 @@
 -- The lines of a listing, one after the other.
-use Rattle.std.proofs.Common.{◌≡◌, ℕ, ◌+◌, ◌*◌, ◌<◌, ◌≤◌, List, [], ◌∷◌, ◌++◌, length, get_or, drop, replicate, Result, Err, sym, ap, subst, ◌∙◌, append_assoc, drop-cons, add-one, arith}
-use Rattle.std.specs.Prelude.{codes, decimal, flat_map}
-use Rattle.std.proofs.lemmas.List.{append-nil, drop_all}
+use Rattle.std.proofs.Common.{◌≡◌, ℕ, ◌≤◌, List, [], ◌++◌, Result, Err, sym, ap, subst, ◌∙◌, arith}
+use Rattle.std.proofs.lemmas.List.{append-nil}
 use Rattle.bit_grammar.specs.Machine.{Event, Told}
 use Rattle.bit_grammar.specs.Steps.{MayStand, open_after}
-use Rattle.bit_grammar.specs.Texts.{record_line, event_text, events_text}
+use Rattle.bit_grammar.specs.Texts.{event_text, events_text}
 use Rattle.bit_grammar.proofs.Nesting.{open_within}
 use Rattle.bit_events.specs.Coming.{Coming, Tells, Gives, Ends}
 use Rattle.bit_fields.specs.declared.fault.Fault.{Fault}
-use Rattle.bit_scan.specs.Lines.{listing_head, record_head}
+use Rattle.bit_scan.specs.Lines.{listing_head}
 use Rattle.bit_scan.specs.Listing.{PrintsOne}
 use Rattle.bit_scan.specs.Printing.{Printing, Printed, Prints}
 use Rattle.bit_scan.proofs.Prints.{Goes, goes_starts, goes_as, goes_on, goes_wrong, goes_last, goes_ends}
-
--- ---- values
-
--- a value
-abbrev pub value_text : ℕ → List ℕ
-value_text v = 32 ∷ decimal v
-
-abbrev pub values_text : List ℕ → List ℕ
-values_text vs = flat_map (λ (v : ℕ). 32 ∷ decimal v) vs
-
-pub next_value : (whole : List ℕ) (old now : Printing) (vs : List ℕ) (i : ℕ) → i < length vs → Goes whole old (values_text (drop i vs)) now → Goes whole old (value_text (get_or vs i 0) ++ values_text (drop (i + 1) vs)) now
-next_value whole old now vs i h g = goes_as whole old (values_text (drop i vs)) _ now (rw add-one (ap values_text (drop-cons vs i 0 h))) g
-
-pub last_value : (whole : List ℕ) (old now : Printing) (vs : List ℕ) (i : ℕ) → length vs ≤ i → Goes whole old (values_text (drop i vs)) now → Printed whole old now
-last_value whole old now vs i h g = goes_ends whole old now (goes_as whole old (values_text (drop i vs)) [] now (ap values_text (drop_all i vs h)) g)
-
--- ---- a record
-
-record_starts : (around code : ℕ) (vs : List ℕ) (w : Printing) → Goes (record_line around code vs) w (record_head around code ++ (values_text vs ++ 10 ∷ [])) w
-record_starts around code vs w = goes_as (record_line around code vs) w (record_line around code vs) _ w (regrouped (replicate {A = ℕ} (2 * around) 32) (codes "record ") (decimal code) (values_text vs) (10 ∷ [])) (goes_starts (record_line around code vs) w)
-  where
-    regrouped : (a b c d e : List ℕ) → a ++ ((b ++ c ++ d) ++ e) ≡ (a ++ (b ++ c)) ++ (d ++ e)
-    regrouped a b c d e = simp append_assoc
-
-pub no_record : (around code : ℕ) (vs : List ℕ) (old new : Printing) (fault : Fault) → Prints (record_head around code) old (Err fault) new → Prints (record_line around code vs) old (Err fault) new
-no_record around code vs old new fault p = goes_wrong (record_line around code vs) old (record_head around code) (values_text vs ++ 10 ∷ []) old new fault (record_starts around code vs old) p
-
-after_record_head : (around code : ℕ) (vs : List ℕ) (old now : Printing) → Printed (record_head around code) old now → Goes (record_line around code vs) old (values_text vs ++ 10 ∷ []) now
-after_record_head around code vs old now p = goes_on (record_line around code vs) old (record_head around code) (values_text vs ++ 10 ∷ []) old now (record_starts around code vs old) p
-
-pub no_values : (around code : ℕ) (vs : List ℕ) (old now new : Printing) (fault : Fault) → Printed (record_head around code) old now → Prints (values_text vs) now (Err fault) new → Prints (record_line around code vs) old (Err fault) new
-no_values around code vs old now new fault p q = goes_wrong (record_line around code vs) old (values_text vs) (10 ∷ []) now new fault (after_record_head around code vs old now p) q
-
-pub record_ends : (around code : ℕ) (vs : List ℕ) (old now last new : Printing) (r : Result (Unit {0}) Fault) → Printed (record_head around code) old now → Printed (values_text vs) now last → Prints (10 ∷ []) last r new → Prints (record_line around code vs) old r new
-record_ends around code vs old now last new r p q e = goes_last (record_line around code vs) old (10 ∷ []) last r new (goes_on (record_line around code vs) old (values_text vs) (10 ∷ []) now last (after_record_head around code vs old now p) q) e
 
 -- ---- events
 

@@ -11,4 +11,5 @@ pub mod Printing
 pub mod Reporting
 pub mod Rows
 pub mod Showing
+pub mod Telling
 pub mod Written

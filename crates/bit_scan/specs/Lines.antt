@@ -1,5 +1,5 @@
--- The lines of a report and of a listing, as the code makes them.
-use Rattle.std.specs.Prelude.{ℕ, ◌*◌, List, ◌++◌, replicate, codes, decimal}
+-- The lines of a report, of a listing and of events, as the code makes them.
+use Rattle.std.specs.Prelude.{ℕ, ◌*◌, List, ◌∷◌, ◌++◌, replicate, codes, decimal}
 use Rattle.bit_grammar.specs.Texts.{line, magic_text, code_text}
 use Rattle.bit_scan.specs.CodesView.{code_tally}
 use Rattle.bit_scan.specs.declared.rows.BlockRow.{BlockRow}
@@ -36,3 +36,15 @@ code_row_text e = code_text (code_tally e)
 -- the line of a record up to its values
 abbrev pub record_head : (around code : ℕ) → List ℕ
 record_head around code = replicate (2 * around) 32 ++ (codes "record " ++ decimal code)
+
+-- a bit, a space, and the spaces before what stands there
+abbrev pub place_text : (bit around : ℕ) → List ℕ
+place_text bit around = decimal bit ++ (32 ∷ replicate (2 * around) 32)
+
+-- the line of a definition up to its operands
+abbrev pub definition_head : (around first : ℕ) → List ℕ
+definition_head around first = place_text first around ++ codes "define "
+
+-- the line of a record among events up to its values
+abbrev pub noted_head : (around first code abbreviation count : ℕ) → List ℕ
+noted_head around first code abbreviation count = place_text first around ++ (codes "record " ++ decimal code ++ codes " by " ++ decimal abbreviation ++ codes " count " ++ decimal count)

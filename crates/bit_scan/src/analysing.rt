@@ -13,7 +13,7 @@ use bit_fields::{Fault, Head, Limits, Source};
 use std::alloc::Global;
 
 /// The bit where a stream begins, with its magic.
-fn begin_of(head: Head) -> u64
+pub(crate) fn begin_of(head: Head) -> u64
     ensures { result ≡ stream_begin (head_told head).wrapper }
 {
     match head.wrapper {

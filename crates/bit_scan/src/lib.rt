@@ -11,12 +11,17 @@ mod printer;
 mod reporting;
 mod rows;
 mod showing;
+mod telling;
+#[cfg(test)]
+mod telling_tests;
 #[cfg(test)]
 mod tests;
 
 pub use analysing::analyse;
 pub use analysis::Analysis;
+pub use bit_grammar::Values;
 pub use laws::numbers_fit;
 pub use reporting::write_report;
 pub use rows::{BlockRow, CodeRow, Codes};
 pub use showing::write_show;
+pub use telling::write_events;

@@ -1,9 +1,12 @@
-ghost use Rattle.std.specs.Prelude.{◌≡◌, ℕ, ◌*◌, ◌++◌, ◌∷◌, OnOk, decimal, flat_map, replicate, string_bytes};
+ghost use Rattle.std.specs.Prelude.{◌≡◌, ℕ, ◌*◌, ◌-◌, ◌++◌, ◌∷◌, OnOk, codes, decimal, flat_map, replicate, string_bytes};
+ghost use Rattle.bit_grammar.specs.EventTexts.{line_at, op_text, opened_text};
 ghost use Rattle.bit_grammar.specs.Texts.{hex_text, magic_text, block_line};
 ghost use Rattle.bit_fields.specs.Opening.{magic_number};
 ghost use Rattle.bit_scan.specs.Lines.{report_head, listing_head, block_row_text, block_start, block_middle, block_end, code_row_text, record_head};
+ghost use Rattle.bit_scan.specs.Lines.{place_text, definition_head, noted_head};
 
 use crate::rows::{BlockRow, CodeRow};
+use bit_grammar::Op;
 use itoa::Buffer;
 use std::alloc::AllocError;
 
@@ -138,4 +141,97 @@ pub(crate) fn push_value(text: &mut String, value: u64) -> Result<(), AllocError
 {
     text.push(' ')?;
     push_number(text, value)
+}
+
+/// Appends a bit, a space, and two spaces for each block around.
+fn push_place(text: &mut String, bit: u64, around: u32) -> Result<(), AllocError>
+    ensures { OnOk result (string_bytes text.new ≡ string_bytes text.old ++ place_text bit around) }
+{
+    push_number(text, bit)?;
+    text.push(' ')?;
+    push_indent(text, around)
+}
+
+/// Appends the line of a magic among events.
+pub(crate) fn push_head_line(
+    text: &mut String,
+    begin: u64,
+    magic: [u8; 4],
+) -> Result<(), AllocError>
+    ensures { OnOk result (string_bytes text.new ≡ string_bytes text.old ++ line_at begin 0 (magic_text (magic_number magic))) }
+{
+    push_place(text, begin, 0)?;
+    push_listing_head(text, magic)
+}
+
+/// Appends the line of a block's beginning.
+pub(crate) fn push_opened_line(
+    text: &mut String,
+    around: u32,
+    id: u32,
+    width: u8,
+    first: u64,
+    body: u64,
+) -> Result<(), AllocError>
+    ensures { OnOk result (string_bytes text.new ≡ string_bytes text.old ++ line_at first around (opened_text id width body)) }
+{
+    push_place(text, first, around)?;
+    writeln!(text, "block {id} width {width} body {body}")
+}
+
+/// Appends the line of a definition, up to its operands.
+pub(crate) fn push_definition_head(
+    text: &mut String,
+    around: u32,
+    first: u64,
+) -> Result<(), AllocError>
+    ensures { OnOk result (string_bytes text.new ≡ string_bytes text.old ++ definition_head around first) }
+{
+    push_place(text, first, around)?;
+    text.push_str("define ")
+}
+
+/// Appends an operand.
+pub(crate) fn push_operand(text: &mut String, op: Op) -> Result<(), AllocError>
+    ensures { OnOk result (string_bytes text.new ≡ string_bytes text.old ++ op_text op) }
+{
+    match op {
+        Op::Literal(value) => write!(text, "literal {value}"),
+        Op::Fixed(width) => write!(text, "fixed {width}"),
+        Op::Vbr(width) => write!(text, "vbr {width}"),
+        Op::Array => text.push_str("array"),
+        Op::Char6 => text.push_str("char6"),
+        Op::Blob => text.push_str("blob"),
+    }
+}
+
+/// Appends an operand that stands behind another one.
+pub(crate) fn push_further_operand(text: &mut String, op: Op) -> Result<(), AllocError>
+    ensures { OnOk result (string_bytes text.new ≡ string_bytes text.old ++ (codes ", " ++ op_text op)) }
+{
+    text.push_str(", ")?;
+    push_operand(text, op)
+}
+
+/// Appends the line of a record among events, up to its values.
+pub(crate) fn push_noted_head(
+    text: &mut String,
+    around: u32,
+    first: u64,
+    code: u64,
+    abbreviation: u32,
+    count: usize,
+) -> Result<(), AllocError>
+    ensures { OnOk result (string_bytes text.new ≡ string_bytes text.old ++ noted_head around first code abbreviation count) }
+{
+    push_place(text, first, around)?;
+    write!(text, "record {code} by {abbreviation} count {count}")
+}
+
+/// Appends the line of a block's end, with so many blocks open before it.
+pub(crate) fn push_end_line(text: &mut String, around: u32, after: u64) -> Result<(), AllocError>
+    ensures { OnOk result (string_bytes text.new ≡ string_bytes text.old ++ line_at after (around - 1) (codes "end")) }
+{
+    push_place(text, after, around.saturating_sub(1))?;
+    text.push_str("end\n")
 }

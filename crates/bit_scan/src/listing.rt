@@ -1,6 +1,6 @@
-ghost use Rattle.std.specs.Prelude.{◌≡◌, ℕ, ◌≤◌, ◌∷◌, ◌++◌, [], OnOk, decimal, flat_map};
+ghost use Rattle.std.specs.Prelude.{◌≡◌, ◌≤◌, [], OnOk};
 ghost use Rattle.bit_grammar.specs.Steps.{open_after};
-ghost use Rattle.bit_grammar.specs.Texts.{record_line, event_text, events_text};
+ghost use Rattle.bit_grammar.specs.Texts.{values_text, record_line, event_text, events_text};
 ghost use Rattle.bit_events.specs.Coming.{Tells};
 ghost use Rattle.bit_events.specs.EventView.{shown};
 ghost use Rattle.bit_scan.specs.Listing.{told_text, Continues, ListsBytes};
@@ -12,8 +12,8 @@ use bit_fields::{Fault, Limits, Sink, SliceSource, Source};
 use std::alloc::Global;
 
 /// Writes the values of a record.
-fn write_values<K: Sink>(printer: &mut Printer<K>, values: &[u64]) -> Result<(), Fault>
-    ensures { Prints (flat_map (λ (v : ℕ). 32 ∷ decimal v) values.now) printer.old result printer.new }
+pub(crate) fn write_values<K: Sink>(printer: &mut Printer<K>, values: &[u64]) -> Result<(), Fault>
+    ensures { Prints (values_text values.now) printer.old result printer.new }
 {
     for value in values {
         printer.value(*value)?;
@@ -52,7 +52,7 @@ fn write_event<K: Sink>(
 }
 
 /// How many blocks stand around what follows an event.
-fn around_after(around: u32, event: &Event<'_>) -> u32
+pub(crate) fn around_after(around: u32, event: &Event<'_>) -> u32
     requires { around ≤ 255 }
     ensures { result ≡ open_after (shown event.now) around }
 {

@@ -1,16 +1,19 @@
-ghost use Rattle.std.specs.Prelude.{◌≡◌, ◌∷◌, [], OnOk, decimal};
-ghost use Rattle.bit_grammar.specs.Texts.{block_line};
+ghost use Rattle.std.specs.Prelude.{◌≡◌, ◌-◌, ◌∷◌, ◌++◌, [], OnOk, codes, decimal};
+ghost use Rattle.bit_grammar.specs.EventTexts.{line_at, op_text, opened_text};
+ghost use Rattle.bit_grammar.specs.Texts.{magic_text, block_line};
 ghost use Rattle.bit_fields.specs.Opening.{magic_number};
-ghost use Rattle.bit_scan.specs.Lines.{report_head, listing_head, block_row_text, code_row_text, record_head};
+ghost use Rattle.bit_scan.specs.Lines.{report_head, listing_head, block_row_text, code_row_text, record_head, definition_head, noted_head};
 ghost use Rattle.bit_scan.specs.Printing.{Prints};
 ghost use Rattle.bit_scan.specs.Written.{WritesText};
 
 use crate::lines::{
-    push_block_line, push_block_row, push_code_row, push_listing_head, push_record_head,
-    push_report_head, push_value,
+    push_block_line, push_block_row, push_code_row, push_definition_head, push_end_line,
+    push_further_operand, push_head_line, push_listing_head, push_noted_head, push_opened_line,
+    push_operand, push_record_head, push_report_head, push_value,
 };
 use crate::rows::{BlockRow, CodeRow};
 use bit_fields::{Fault, Sink, SinkFailed};
+use bit_grammar::Op;
 use std::alloc::{AllocError, Global};
 use std::marker::Model;
 
@@ -161,6 +164,90 @@ impl<K: Sink> Printer<K> {
         ensures { Prints (10 ∷ []) self.old result self.new }
     {
         match self.held.push_str("\n") {
+            Ok(()) => self.settle(),
+            Err(AllocError) => Err(Fault::Memory),
+        }
+    }
+
+    /// The line of a magic among events, behind the bit where its stream begins.
+    pub(crate) fn head_line(&mut self, begin: u64, magic: [u8; 4]) -> Result<(), Fault>
+        ensures { Prints (line_at begin 0 (magic_text (magic_number magic))) self.old result self.new }
+    {
+        match push_head_line(&mut self.held, begin, magic) {
+            Ok(()) => self.settle(),
+            Err(AllocError) => Err(Fault::Memory),
+        }
+    }
+
+    /// The line of a block's beginning, with so many blocks around it.
+    pub(crate) fn opened_line(
+        &mut self,
+        around: u32,
+        id: u32,
+        width: u8,
+        first: u64,
+        body: u64,
+    ) -> Result<(), Fault>
+        ensures { Prints (line_at first around (opened_text id width body)) self.old result self.new }
+    {
+        match push_opened_line(&mut self.held, around, id, width, first, body) {
+            Ok(()) => self.settle(),
+            Err(AllocError) => Err(Fault::Memory),
+        }
+    }
+
+    /// The line of a definition, up to its operands.
+    pub(crate) fn definition_head(&mut self, around: u32, first: u64) -> Result<(), Fault>
+        ensures { Prints (definition_head around first) self.old result self.new }
+    {
+        match push_definition_head(&mut self.held, around, first) {
+            Ok(()) => self.settle(),
+            Err(AllocError) => Err(Fault::Memory),
+        }
+    }
+
+    /// The first operand of a definition.
+    pub(crate) fn operand(&mut self, op: Op) -> Result<(), Fault>
+        ensures { Prints (op_text op) self.old result self.new }
+    {
+        match push_operand(&mut self.held, op) {
+            Ok(()) => self.settle(),
+            Err(AllocError) => Err(Fault::Memory),
+        }
+    }
+
+    /// An operand behind another one.
+    pub(crate) fn further_operand(&mut self, op: Op) -> Result<(), Fault>
+        ensures { Prints (codes ", " ++ op_text op) self.old result self.new }
+    {
+        match push_further_operand(&mut self.held, op) {
+            Ok(()) => self.settle(),
+            Err(AllocError) => Err(Fault::Memory),
+        }
+    }
+
+    /// The line of a record among events, up to its values.
+    pub(crate) fn noted_head(
+        &mut self,
+        around: u32,
+        first: u64,
+        code: u64,
+        abbreviation: u32,
+        count: usize,
+    ) -> Result<(), Fault>
+        ensures { Prints (noted_head around first code abbreviation count) self.old result self.new }
+    {
+        match push_noted_head(&mut self.held, around, first, code, abbreviation, count) {
+            Ok(()) => self.settle(),
+            Err(AllocError) => Err(Fault::Memory),
+        }
+    }
+
+    /// The line of a block's end, with so many blocks open before it.
+    pub(crate) fn end_line(&mut self, around: u32, after: u64) -> Result<(), Fault>
+        ensures { Prints (line_at after (around - 1) (codes "end")) self.old result self.new }
+    {
+        match push_end_line(&mut self.held, around, after) {
             Ok(()) => self.settle(),
             Err(AllocError) => Err(Fault::Memory),
         }

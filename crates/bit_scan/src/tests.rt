@@ -8,7 +8,7 @@ use std::test::Fail;
 
 /// A sink that takes few bytes a put, and fails after some puts.
 #[derive(Drop)]
-struct Pieces {
+pub(crate) struct Pieces {
     bytes: Vec<u8>,
     most: usize,
     puts_left: u64,
@@ -17,7 +17,7 @@ struct Pieces {
 
 impl Pieces {
     /// It has room, so that it fails only after its puts.
-    fn new(alloc: Global, most: usize, puts_left: u64) -> Result<Pieces, AllocError> {
+    pub(crate) fn new(alloc: Global, most: usize, puts_left: u64) -> Result<Pieces, AllocError> {
         Ok(Pieces {
             bytes: Vec::with_capacity(alloc, 50_000)?,
             most,
@@ -59,10 +59,10 @@ impl Sink for Pieces {
 static MAGIC: [u8; 4] = [0x42, 0x43, 0xc0, 0xde];
 
 /// The empty stream.
-static EMPTY: [u8; 4] = MAGIC;
+pub(crate) static EMPTY: [u8; 4] = MAGIC;
 
 /// A BLOCKINFO block with a definition for block 8, and a block 8 with a record by it.
-static DESCRIBED: [u8; 32] = [
+pub(crate) static DESCRIBED: [u8; 32] = [
     0x42, 0x43, 0xc0, 0xde, 0x01, 0x08, 0, 0, 0x02, 0, 0, 0, 0x07, 0x01, 0xa2, 0x18, 0x20, 0x07, 0,
     0, 0x21, 0x0c, 0, 0, 0x01, 0, 0, 0, 0x24, 0x03, 0, 0,
 ];
@@ -79,7 +79,7 @@ static ZEROS: [u8; 20] = [
 ];
 
 /// Bytes behind the last block.
-static TAIL: [u8; 20] = [
+pub(crate) static TAIL: [u8; 20] = [
     0x42, 0x43, 0xc0, 0xde, 0x21, 0x08, 0, 0, 0x01, 0, 0, 0, 0, 0, 0, 0, 0x0a, 0x0a, 0x0a, 0x0a,
 ];
 
@@ -98,10 +98,10 @@ fn front_of(text: &[u8], bytes: &[u8]) -> Option<usize> {
 }
 
 /// What a call answers, how often its sink fails, and how much of a text the sink has.
-type Told = (Result<(), Fault>, u64, Option<usize>);
+pub(crate) type Told = (Result<(), Fault>, u64, Option<usize>);
 
 /// What a call of a text tells by its answer and its sink.
-fn told(answer: Result<(), Fault>, sink: Pieces, text: &str) -> Told {
+pub(crate) fn told(answer: Result<(), Fault>, sink: Pieces, text: &str) -> Told {
     (
         answer,
         sink.failures,
@@ -110,7 +110,11 @@ fn told(answer: Result<(), Fault>, sink: Pieces, text: &str) -> Told {
 }
 
 /// A call tells this; where memory was refused its sink has a front of the text, and no failure.
-fn tells(rt: &impl Abort, told: Result<Told, AllocError>, wanted: Told) -> Result<(), Fail> {
+pub(crate) fn tells(
+    rt: &impl Abort,
+    told: Result<Told, AllocError>,
+    wanted: Told,
+) -> Result<(), Fail> {
     match told {
         Err(_) | Ok((Err(Fault::Memory), 0, Some(_))) => Err("no memory".into()),
         Ok(told) => {
@@ -121,7 +125,7 @@ fn tells(rt: &impl Abort, told: Result<Told, AllocError>, wanted: Told) -> Resul
 }
 
 /// How many bytes a sink takes at once, and after how many puts it fails.
-static SINKS: [(usize, u64); 7] = [
+pub(crate) static SINKS: [(usize, u64); 7] = [
     (1, u64::MAX),
     (5, u64::MAX),
     (100, u64::MAX),
@@ -132,7 +136,7 @@ static SINKS: [(usize, u64); 7] = [
 ];
 
 /// What a call of a longer text tells with such a sink: all of it, or a front where the sink fails.
-fn wanted(text: &str, most: usize, puts: u64) -> Told {
+pub(crate) fn wanted(text: &str, most: usize, puts: u64) -> Told {
     match puts {
         0..=3 => (
             Err(Fault::Write),

@@ -12,7 +12,7 @@ use Rattle.bit_tree.specs.declared.marked.MarkedItem.{MarkedItem}
 
 -- ---- items
 
-pub put_items-push : (items : List Item) (item : Item) (rest : Forest) → put_items (items ++ item ∷ []) rest ≡ put_items items (put_item item rest)
+put_items-push : (items : List Item) (item : Item) (rest : Forest) → put_items (items ++ item ∷ []) rest ≡ put_items items (put_item item rest)
 put_items-push [] item rest = refl
 put_items-push (first ∷ items) item rest = ap (put_item first) (put_items-push items item rest)
 
@@ -38,7 +38,7 @@ skipped info out marked i m total h is same so_far =
 
 -- ---- blocks
 
-pub put_blocks-push : (blocks : List Block) (b : Block) (rest : Forest) → put_blocks (blocks ++ b ∷ []) rest ≡ put_blocks blocks (put_block b rest)
+put_blocks-push : (blocks : List Block) (b : Block) (rest : Forest) → put_blocks (blocks ++ b ∷ []) rest ≡ put_blocks blocks (put_block b rest)
 put_blocks-push [] b rest = refl
 put_blocks-push (first ∷ blocks) b rest = ap (put_block first) (put_blocks-push blocks b rest)
 

@@ -4,14 +4,13 @@ use Rattle.std.proofs.lemmas.List.{append-nil}
 use Rattle.std.specs.Global.{Vec}
 use Rattle.std.specs.Prelude.{OnOk}
 use Rattle.std.specs.declared.alloc.AllocError.{AllocError}
-use Rattle.bit_grammar.specs.declared.info.Info.{Info}
 use Rattle.bit_grammar.specs.declared.info.Info.TheVariants.{Keep}
-use Rattle.bit_grammar.specs.Forest.{Forest, empty, Tree, Fit}
+use Rattle.bit_grammar.specs.Forest.{Fit}
 use Rattle.bit_grammar.specs.Blocks.{Limits}
-use Rattle.bit_grammar.specs.Input.{Head, Marked, SpellsInput, tree_of}
+use Rattle.bit_grammar.specs.Input.{Head, Marked, SpellsInput}
 use Rattle.bit_grammar.proofs.Settings.{fit_of_setting}
 use Rattle.bit_grammar.specs.Machine.{Event, leaves, flat}
-use Rattle.bit_grammar.specs.Marks.{Marks, no_marks, marked_block, marked_record, marked_definition, keeps, forest_of}
+use Rattle.bit_grammar.specs.Marks.{Marks, no_marks, marked_block, marked_record, marked_definition}
 use Rattle.bit_grammar.specs.Steps.{open_after}
 use Rattle.bit_grammar.proofs.Telling.{flat_only}
 use Rattle.bit_events.specs.Folding.{Gathered}
@@ -20,20 +19,12 @@ use Rattle.bit_events.proofs.Folds.{open_behind-push}
 use Rattle.bit_tree.specs.declared.marked.MarkedBlock.{MarkedBlock}
 use Rattle.bit_tree.specs.declared.marked.MarkedItem.{MarkedItem}
 use Rattle.bit_tree.specs.declared.marked.MarkedItem.TheVariants as marked_item
-use Rattle.bit_tree.specs.declared.tree.Block.{Block}
-use Rattle.bit_tree.specs.declared.tree.Item.{Item}
-use Rattle.bit_tree.specs.declared.tree.Item.TheVariants.{Block as block_item}
 use Rattle.bit_tree.specs.declared.marked_builder.MarkedBuilder.{MarkedBuilder}
 use Rattle.bit_tree.specs.declared.marked_builder.MarkedFrame.{MarkedFrame}
-use Rattle.bit_tree.specs.declared.tree_builder.TreeBuilder.{TreeBuilder}
-use Rattle.bit_tree.specs.declared.tree_builder.TreeFrame.{TreeFrame}
 use Rattle.bit_tree.specs.MarkedFrames.{flat_item, flat_frames, built_from, IsBuiltFrom}
 use Rattle.bit_tree.specs.MarkedView.{marks_of_blocks}
-use Rattle.bit_tree.specs.TreeFrames.{told_at_level, forest_of_frames, built_with, IsBuiltOf}
-use Rattle.bit_tree.specs.TreeView.{put_item, put_items, put_blocks, forest_of_blocks}
-use Rattle.bit_tree.specs.Reading.{SpellsFit, HasFit}
+use Rattle.bit_tree.specs.Reading.{SpellsFit}
 use Rattle.bit_tree.proofs.MarkedFlats.{flat_frames-push}
-use Rattle.bit_tree.proofs.Growing.{told_flat, put_first, leave_inside}
 
 one_less : (count : ℕ) → suc count - 1 ≡ count
 one_less count = omega arith
@@ -83,50 +74,6 @@ built_whole m b built =
     let none : length b.frames.items ≡ 0 = omega (arith, b.frames.ok.0, built.depth, open_behind-flat m [] 0) in
     flat_only (marks_of_blocks b.blocks.items) m (ap (flat (marks_of_blocks b.blocks.items)) (sym (no_frames b.frames.items [] none)) ∙ built.whole [] ∙ append-nil (flat m []))
 
--- ---- trees
-
-pub built_tree : (info : Info) (event : Event) (events : List Event) (old new : TreeBuilder) → IsBuiltOf info events old → new.info ≡ old.info → ((following : List Event) → built_with new following ≡ built_with old (event ∷ following)) → vec_len new.frames ≡ open_after event (vec_len old.frames) → IsBuiltOf info (events ++ event ∷ []) new
-built_tree info event events old new built same more depth = record {
-  setting = same ∙ built.setting;
-  whole = λ following. more following ∙ built.whole (event ∷ following) ∙ ap (λ (es : List Event). told_at_level info es 0) (sym (append_assoc events (event ∷ []) following));
-  depth = depth ∙ ap (open_after event) built.depth ∙ sym (open_behind-push events event 0);
-}
-
-no_tree_frames : (info : Info) (frames : List TreeFrame) (coming : ℕ → Forest) → length frames ≡ 0 → forest_of_frames info frames coming ≡ coming 0
-no_tree_frames info [] coming none = refl
-no_tree_frames info (f ∷ frames) coming none = absurd (omega arith)
-
--- an item is added to the innermost block
-pub tree_item_added : (item : Item) (event : Event) (old : TreeBuilder) (frames : Vec TreeFrame) (result : Result (Unit {0}) AllocError) → ((following : List Event) → told_at_level old.info (event ∷ following) 0 ≡ put_item item (told_at_level old.info following 0))
-    → ((following : List Event) (level : ℕ) → told_at_level old.info (event ∷ following) (suc level) ≡ told_at_level old.info following (suc level)) → ((count : ℕ) → open_after event count ≡ count)
-    → OnOk result (0 < vec_len old.frames → (info : Info) (here new : ℕ → Forest) → here 0 ≡ put_item item (new 0) → ((level : ℕ) → here (suc level) ≡ new (suc level)) → forest_of_frames info frames.items new ≡ forest_of_frames info old.frames.items here)
-    → OnOk result (vec_len frames ≡ vec_len old.frames)
-    → OnOk result ((first : TreeBuilder) (done : List Event) (deepest : ℕ) → IsBuiltOf first.info done old → 0 < left_open done → IsBuiltOf first.info (done ++ event ∷ []) (record old { frames = frames }))
-tree_item_added item event old frames (Ok x) here above same more depth = λ first done deepest built some.
-    built_tree first.info event done old (record old { frames = frames }) built refl
-    (λ following. ap (put_blocks old.blocks.items) (more (omega (arith, built.depth, some)) old.info (told_at_level old.info (event ∷ following)) (told_at_level old.info following) (here following) (above following)))
-    (depth ∙ sym (same (vec_len old.frames)))
-tree_item_added item event old frames (Err e) here above same more depth = tt
-
--- the innermost block ends in another one
-pub tree_block_added : (b : Block) (after : ℕ) (old : TreeBuilder) (others frames : Vec TreeFrame) (f : TreeFrame) (result : Result (Unit {0}) AllocError) → old.frames.items ≡ others.items ++ f ∷ [] → 0 < vec_len others → keeps old.info f.id ≡ true → b.id ≡ f.id → b.items ≡ put_items f.items.items empty
-    → OnOk result (0 < vec_len others → (info : Info) (here new : ℕ → Forest) → here 0 ≡ put_item (block_item b) (new 0) → ((level : ℕ) → here (suc level) ≡ new (suc level)) → forest_of_frames info frames.items new ≡ forest_of_frames info others.items here)
-    → OnOk result (vec_len frames ≡ vec_len others)
-    → OnOk result ((first : TreeBuilder) (done : List Event) (deepest : ℕ) → IsBuiltOf first.info done old → 0 < left_open done → IsBuiltOf first.info (done ++ leaves after ∷ []) (record old { frames = frames }))
-tree_block_added b after old others frames f (Ok x) split some kept id items more depth = λ first done deepest built any.
-    built_tree first.info (leaves after) done old (record old { frames = frames }) built refl
-    (λ following. ap (put_blocks old.blocks.items) (
-    more some old.info (put_first (block_item b) (told_at_level old.info following)) (told_at_level old.info following) refl (λ level. refl)
-    ∙ leave_inside old.info others.items f b after following kept id items
-    ∙ ap (λ (fs : List TreeFrame). forest_of_frames old.info fs (told_at_level old.info (leaves after ∷ following))) (sym split)))
-    (omega (arith, depth, old.frames.ok.0, others.ok.0, ap length split, length-append others.items (f ∷ [])))
-tree_block_added b after old others frames f (Err e) split some kept id items more depth = tt
-
-pub tree_whole : (info : Info) (m : Marks) (b : TreeBuilder) → IsBuiltOf info (flat m []) b → forest_of_blocks b.blocks.items ≡ forest_of info m
-tree_whole info m b built =
-    let none : length b.frames.items ≡ 0 = omega (arith, b.frames.ok.0, built.depth, open_behind-flat m [] 0) in
-    ap (put_blocks b.blocks.items) (sym (no_tree_frames b.info b.frames.items (told_at_level b.info []) none)) ∙ built.whole [] ∙ ap (λ (es : List Event). told_at_level info es 0) (append-nil (flat m [])) ∙ told_flat info m
-
 -- ---- answers
 
 pub some_left : (count : ℕ) → false ≡ (count == 0) → 0 < count
@@ -141,13 +88,3 @@ marked_fit limits bytes first last head marks after found finished =
     let same : ◌≡◌ {A = Marked} (record { head = m.head; blocks = m.blocks; after = m.after }) (record { head = head; blocks = marks; after = after }) = rw (found.is_head, found.is_after, finished m.blocks found.gathers) refl in
     let spelled : SpellsInput limits bytes (record { head = head; blocks = marks; after = after }) = subst (SpellsInput limits bytes) same found.spelled in
     (spelled, fit_of_setting Keep limits bytes (record { head = head; blocks = marks; after = after }) found.capped spelled)
-
--- a tree under a setting
-pub tree_fit : (info : Info) (limits : Limits) (bytes : List ℕ) (first last : TreeBuilder) (head : Head) (tree : Tree) (after : ℕ) → Gathered (λ (first : TreeBuilder) (events : List Event) (last : TreeBuilder). IsBuiltOf first.info events last) limits bytes first head last after
-    → first.info ≡ info → tree.magic ≡ head.magic → ((m : Marks) → IsBuiltOf info (flat m []) last → tree.blocks ≡ forest_of info m) → HasFit info limits bytes tree
-tree_fit info limits bytes first last head tree after found setting magic finished =
-    let m = found.marked in
-    let number : m.head.magic ≡ tree.magic = ap (λ (h : Head). h.magic) found.is_head ∙ sym magic in
-    let blocks : forest_of info m.blocks ≡ tree.blocks = sym (finished m.blocks (subst (λ (i : Info). IsBuiltOf i (flat m.blocks []) last) setting found.gathers)) in
-    let same : tree_of info m ≡ tree = ap (λ (n : ℕ). record { magic = n; blocks = forest_of info m.blocks }) number ∙ ap (λ (x : Forest). record { magic = tree.magic; blocks = x }) blocks in
-    ((m, found.spelled, same), subst Fit same (fit_of_setting info limits bytes m found.capped found.spelled))

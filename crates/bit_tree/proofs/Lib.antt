@@ -1,7 +1,6 @@
 pub mod Copies
 pub mod Depths
 pub mod Documents
-pub mod Growing
 pub mod Magics
 pub mod MarkedFlats
 pub mod Placing

@@ -6,6 +6,5 @@ pub mod MarksCode
 pub mod Reading
 pub mod TreeCode
 pub mod TreeFalls
-pub mod TreeFrames
 pub mod TreeSize
 pub mod TreeView

@@ -30,7 +30,7 @@ pub fn tree_with(alloc: Global, marked: &Marked, info: Info) -> Result<Document,
 }
 
 /// Whether blocks with this id are kept.
-pub(crate) fn keeps(info: Info, id: u32) -> bool
+fn keeps(info: Info, id: u32) -> bool
     ensures { result ≡ keeps info id }
 {
     match info {
@@ -49,7 +49,7 @@ fn is_kept(item: &MarkedItem, info: Info) -> bool {
 }
 
 /// A record without its marks.
-pub(crate) fn record_of(alloc: Global, code: u64, values: &[u64]) -> Result<Record, AllocError>
+fn record_of(alloc: Global, code: u64, values: &[u64]) -> Result<Record, AllocError>
     ensures code { IfOk result (λ copy. copy.code ≡ code) }
     ensures values { IfOk result (λ copy. copy.values ≡ values.now) }
 {

@@ -3,7 +3,6 @@
 
 #[cfg(test)]
 mod builder_tests;
-mod contents;
 mod copying;
 mod document;
 mod judging;
@@ -15,15 +14,13 @@ mod reading_tests;
 #[cfg(test)]
 mod tests;
 mod tree;
-mod tree_builder;
 
 pub use bit_events::{Event, Events};
 pub use bit_grammar::{Info, not_both, one_fault, one_tree, tree_or_fault};
-pub use contents::Contents;
 pub use copying::{tree_of, tree_with};
 pub use document::{BadDocument, Document, DocumentReason};
 pub use marked::{
     Marked, MarkedBlock, MarkedBlocks, MarkedDefine, MarkedItem, MarkedItems, MarkedRecord,
 };
-pub use reading::{read, read_contents};
+pub use reading::read;
 pub use tree::{Block, Item, Items, Record, Values};

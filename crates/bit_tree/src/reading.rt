@@ -1,15 +1,12 @@
 //! Reading a whole input.
 
 ghost use Rattle.bit_events.specs.Reading.{ReadsWhole};
-ghost use Rattle.bit_tree.specs.Reading.{SpellsFit, HasFit};
+ghost use Rattle.bit_tree.specs.Reading.{SpellsFit};
 
-use crate::contents::Contents;
 use crate::marked::Marked;
 use crate::marked_builder::MarkedBuilder;
-use crate::tree_builder::TreeBuilder;
 use bit_events::fold;
 use bit_fields::{Fault, Limits, Source};
-use bit_grammar::Info;
 use std::alloc::Global;
 
 /// Reads an input as a marked tree, from the first byte that its source still has to the last.
@@ -28,27 +25,6 @@ pub fn read<S: Source>(alloc: Global, source: S, limits: Limits) -> (Result<Mark
                 after: folded.after,
             };
             (Ok(marked), source)
-        }
-        Err(fault) => (Err(fault), source),
-    }
-}
-
-/// Reads an input as its magic and its blocks, whole or without its BLOCKINFO blocks, and keeps nothing else of it in
-/// memory. Otherwise it is as `read`.
-pub fn read_contents<S: Source>(
-    alloc: Global,
-    source: S,
-    limits: Limits,
-    info: Info,
-) -> (Result<Contents, Fault>, S)
-    ensures { ReadsWhole (HasFit info limits) limits (S.incoming source) result.0 (S.incoming result.1) }
-{
-    let (answer, source) = fold(alloc, source, limits, TreeBuilder::new(alloc, info));
-    match answer {
-        Ok(folded) => {
-            let magic = folded.head.magic;
-            let blocks = folded.gatherer.finish();
-            (Ok(Contents { magic, blocks }), source)
         }
         Err(fault) => (Err(fault), source),
     }

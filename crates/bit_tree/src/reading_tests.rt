@@ -1,8 +1,8 @@
 //! Inputs and what the rules answer to them, read in pieces of several sizes, from sources that fail, and under limits.
 
 use crate::copying::blocks_of;
-use crate::tests::{agrees, shown, shown_document};
-use crate::{Document, Info, Item, Marked, read, read_contents, tree_of};
+use crate::tests::{agrees, is_fit, shown, shown_document};
+use crate::{Document, Info, Marked, MarkedItem, read, tree_of, tree_with};
 use bit_fields::{BitWriter, Fault, Limits, ReadSource, SliceSource, Source, VecSink};
 use std::alloc::{AllocError, Global};
 use std::io;
@@ -107,33 +107,12 @@ fn told<S: Source + Drop>(alloc: Global, source: S, limits: Limits) -> Result<St
     told_of_marked(alloc, answer)
 }
 
-/// What `read_contents` answers, as text.
-fn told_of_contents<S: Source + Drop>(
-    alloc: Global,
-    source: S,
-    limits: Limits,
-    info: Info,
-) -> Result<String, AllocError> {
-    let (answer, _) = read_contents(alloc, source, limits, info);
-    match answer {
-        Ok(contents) => shown(alloc, &contents.blocks),
-        Err(fault) => told_of_fault(alloc, fault),
-    }
-}
-
-/// The answers to an input in pieces: the same from `read` and `read_contents`, however it is cut.
+/// The answers to an input in pieces: the same, however it is cut.
 fn is_read(rt: &impl Abort, alloc: Global, text: &str, limits: Limits, wanted: &str) {
     let bytes = bytes_of(alloc, text).expect(rt, "memory");
     for most in [1, 3, 4, 64] {
         let source = in_pieces(&bytes, most, 0);
         agrees(rt, told(alloc, source, limits), wanted, text);
-        let source = in_pieces(&bytes, most, 0);
-        agrees(
-            rt,
-            told_of_contents(alloc, source, limits, Info::Keep),
-            wanted,
-            text,
-        );
     }
 }
 
@@ -469,13 +448,24 @@ static DROPPED: [(&str, &str); 7] = [
     ),
 ];
 
+/// The tree of an input without its BLOCKINFO blocks, as text.
+fn told_dropped(rt: &impl Abort, alloc: Global, bytes: &[u8]) -> Result<String, AllocError> {
+    let (answer, _) = read(alloc, SliceSource::new(bytes), Limits::usual());
+    match answer {
+        Ok(marked) => {
+            assert!(rt; is_fit(rt, alloc, &marked, Info::Drop));
+            let document = tree_with(alloc, &marked, Info::Drop).expect(rt, "memory");
+            shown(alloc, document.blocks())
+        }
+        Err(fault) => told_of_fault(alloc, fault),
+    }
+}
+
 #[test]
 fn blockinfo_is_dropped(rt: HostRuntime) {
     for (text, wanted) in &DROPPED {
         let bytes = bytes_of(rt.alloc(), text).expect(&rt, "memory");
-        let source = SliceSource::new(&bytes);
-        let told = told_of_contents(rt.alloc(), source, Limits::usual(), Info::Drop);
-        agrees(&rt, told, wanted, text);
+        agrees(&rt, told_dropped(&rt, rt.alloc(), &bytes), wanted, text);
     }
 }
 
@@ -648,20 +638,23 @@ fn bomb(rt: &impl Abort, alloc: Global, last: u64) -> Vec<u8> {
 /// A limit for the inputs with many values.
 const MANY: (u64, u32, u64) = (1180, 1, 100_000);
 
-/// Whether these items are 100 records of 1,000 values each.
-fn are_full(items: &[Item]) -> bool {
-    for item in items {
-        if !matches!(item, Item::Record(record) if record.values.0.len() == 1000) {
+/// Whether these items are a definition and 100 records of 1,000 values each.
+fn are_full(items: &[MarkedItem]) -> bool {
+    let Some((MarkedItem::Define(_), records)) = items.split_first() else {
+        return false;
+    };
+    for item in records {
+        if !matches!(item, MarkedItem::Record(record) if record.values.0.len() == 1000) {
             return false;
         }
     }
-    items.len() == 100
+    records.len() == 100
 }
 
-/// Whether the contents of an input in pieces are one block of 100 records of 1,000 values each.
+/// Whether an input in pieces has one block, of a definition and 100 records of 1,000 values each.
 fn has_many(alloc: Global, bytes: &[u8], limits: Limits) -> Result<bool, Fault> {
-    let (answer, _) = read_contents(alloc, in_pieces(bytes, 3, 0), limits, Info::Keep);
-    match answer?.blocks.as_slice() {
+    let (answer, _) = read(alloc, in_pieces(bytes, 3, 0), limits);
+    match answer?.blocks.0.as_slice() {
         [block] => Ok(are_full(&block.items.0)),
         _ => Ok(false),
     }

@@ -316,7 +316,7 @@ fn sample(rt: &impl Abort, alloc: Global) -> Marked {
 }
 
 /// Whether the tree is fit, found by making it a document.
-fn is_fit(rt: &impl Abort, alloc: Global, marked: &Marked, info: Info) -> bool
+pub(crate) fn is_fit(rt: &impl Abort, alloc: Global, marked: &Marked, info: Info) -> bool
     ensures { result ≡ true → Fit (input.tree_of info marked.now) }
 {
     let blocks = blocks_of(alloc, &marked.blocks.0, info).expect(rt, "memory");

@@ -12,12 +12,12 @@ use Rattle.bit_grammar.specs.Blocks.{Limits}
 use Rattle.bit_grammar.specs.Input.{BreaksInput}
 use Rattle.bit_grammar.specs.Normal.{HasTree, normal_form}
 use Rattle.bit_grammar.specs.Size.{size_of}
-use Rattle.bit_grammar.specs.Tally.{Tally}
 use Rattle.bit_grammar.specs.Texts.{report_of, listing_of}
 use Rattle.bit_grammar.specs.declared.info.Info.TheVariants.{Keep}
 use Rattle.bit_events.specs.Reading.{ReadsWhole}
 use Rattle.bit_tree.specs.Reading.{HasFit}
 use Rattle.bit_scan.specs.Analysing.{HasTally}
+use Rattle.bit_scan.specs.Reporting.{ReadsAndReports, Reports, ReportsNothing}
 use Rattle.bit_scan.specs.Showing.{ListsNothing, ReadsAndLists, Shows}
 use Rattle.bit_scan.specs.Written.{HasFailed, WritesText}
 use Rattle.bit_fields.specs.declared.fault.Fault.{Fault}
@@ -143,13 +143,24 @@ module _ {A : Type 0} (Holds : List ℕ → A → Type 0) (task : Task) (limits 
   text_written a text (Err fault.OutputTooLong) stops answers h w = absurd w
   text_written a text (Err fault.Failed) stops answers h w = absurd w
 
-pub reported : (limits : Limits) (i now : Incoming) (old new : Outgoing) (tally : Tally) (answer : Result (Unit {0}) Fault) → ReadsWhole (HasTally limits) limits i (Ok tally) now → WritesText (report_of tally) old answer new
-    → Does (Analyse limits) i now old new (ended limits.bytes answer)
-reported limits i now old new tally answer h w =
-    text_written (HasTally limits) (Analyse limits) limits (λ o. refl) i now old new tally (report_of tally) answer (λ s. s) (tally, refl, if_told i.to_come (λ bytes. HasTally limits bytes tally) (λ tells. (h.1 tells).0)) h w
+-- the input was analysed
+reported : (limits : Limits) (i now : Incoming) (old new : Outgoing) (answer : Result (Unit {0}) Fault) → ReadsAndReports limits i old answer now new → Does (Analyse limits) i now old new (ended limits.bytes answer)
+reported limits i now old new answer h =
+    text_written (HasTally limits) (Analyse limits) limits (λ o. refl) i now old new h.0 (report_of h.0) answer (λ s. s) (h.0, refl, if_told i.to_come (λ bytes. HasTally limits bytes h.0) (λ tells. (h.1.1 tells).0)) h.1 h.2
 
-pub not_reported : (limits : Limits) (i now : Incoming) (old : Outgoing) (why : Fault) → ReadsWhole (HasTally limits) limits i (Err why) now → Does (Analyse limits) i now old old (outcome_of limits.bytes why)
-not_reported limits i now old why h = not_accepted (HasTally limits) (Analyse limits) limits (λ o. refl) i now old old why (λ reason bit breaks. breaks) (stays_same old old refl) h
+-- it was not
+not_reported : (limits : Limits) (i now : Incoming) (old new : Outgoing) (why : Fault) → ReportsNothing limits i old why now new → Does (Analyse limits) i now old new (outcome_of limits.bytes why)
+not_reported limits i now old new why h = not_accepted (HasTally limits) (Analyse limits) limits (λ o. refl) i now old new why (λ reason bit breaks. breaks) (stays_same old new h.1) h.0
+
+pub told_report : (limits : Limits) (i now : Incoming) (old new : Outgoing) (answer : Result (Unit {0}) Fault) → Reports limits i old answer now new → Does (Analyse limits) i now old new (ended limits.bytes answer)
+told_report limits i now old new (Ok _) h = reported limits i now old new (Ok tt) h
+told_report limits i now old new (Err fault.Write) h = reported limits i now old new (Err fault.Write) h
+told_report limits i now old new (Err fault.Memory) (inl h) = not_reported limits i now old new fault.Memory h
+told_report limits i now old new (Err fault.Memory) (inr h) = reported limits i now old new (Err fault.Memory) h
+told_report limits i now old new (Err (fault.Refused reason bit)) h = not_reported limits i now old new (fault.Refused reason bit) h
+told_report limits i now old new (Err fault.Read) h = not_reported limits i now old new fault.Read h
+told_report limits i now old new (Err fault.OutputTooLong) h = absurd h
+told_report limits i now old new (Err fault.Failed) h = absurd h
 
 -- the tree was read
 listed : (limits : Limits) (i now : Incoming) (old new : Outgoing) (answer : Result (Unit {0}) Fault) → ReadsAndLists limits i old answer now new → Does (Show limits) i now old new (ended limits.bytes answer)

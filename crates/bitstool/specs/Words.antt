@@ -69,7 +69,7 @@ comparing = with_rule (dropping (codes "same")) first_rule
 
 -- nothing but what goes for all commands
 abbrev pub above : App
-above = record { top = record (new_app (codes "bitstool")).top { no_binary_name = true; disable_help_subcommand = true; subcommand_required = true }; subs = [] }
+above = record { top = record (new_app (codes "bitstool")).top { has_version = true; no_binary_name = true; disable_help_subcommand = true; subcommand_required = true }; subs = [] }
 
 -- with the commands that judge, write and compare
 abbrev pub three : App

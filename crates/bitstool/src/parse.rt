@@ -14,6 +14,9 @@ use clap::error::ErrorKind;
 use clap::{Arg, ArgAction, ArgMatches, Command, Error};
 use std::alloc::{AllocError, Global};
 
+/// The version of the program.
+const VERSION: &str = "1.0.0";
+
 /// The greatest number of bytes of an input.
 const MOST_BYTES: u64 = 17_179_869_180;
 
@@ -155,6 +158,7 @@ fn command<'a>(alloc: Global) -> Result<Command<'a>, AllocError>
     let analyse = limited(alloc, "analyse", ANALYSE)?;
     let show = limited(alloc, "show", SHOW)?;
     Command::new(alloc, "bitstool")
+        .version(VERSION)
         .about(ABOUT)
         .after_help(AFTER)
         .no_binary_name(true)

@@ -12,7 +12,7 @@ use crate::task::Task;
 use bit_events::check;
 use bit_fields::{Fault, Limits, Sink, Source};
 use bit_norm::{Which, normalise, same_as};
-use bit_scan::{analyse, write_show};
+use bit_scan::{write_report, write_show};
 use bit_tree::Info;
 use std::alloc::Global;
 
@@ -201,14 +201,8 @@ fn perform_analyse<S: Source, K: Sink>(
 ) -> (Outcome, S, K)
     ensures { Does (TaskValue.Analyse limits) (S.incoming source) (S.incoming result.1) (K.outgoing sink) (K.outgoing result.2) result.0 }
 {
-    let (answer, source) = analyse(alloc, source, limits);
-    match answer {
-        Ok(analysis) => {
-            let (written, sink) = analysis.write(sink);
-            (ended(limits.bytes(), written), source, sink)
-        }
-        Err(fault) => (outcome_of(limits.bytes(), fault), source, sink),
-    }
+    let (answer, source, sink) = write_report(alloc, source, sink, limits);
+    (ended(limits.bytes(), answer), source, sink)
 }
 
 /// Writes the listing of the input.

@@ -4,7 +4,7 @@ use Rattle.bit_grammar.specs.Forest.{Tree}
 use Rattle.bit_grammar.specs.Size.{size_of}
 use Rattle.bit_fields.specs.Opening.{head_told, magic_number}
 use Rattle.bit_tree.specs.Reading.{HasFit}
-use Rattle.bit_tree.specs.TreeFrames.{told_at_level}
+use Rattle.bit_norm.specs.Told.{told_at_level}
 use Rattle.bit_norm.proofs.Forms.{Found, found, form_bytes, wrote_form, read_tree, unread}
 use Rattle.bit_norm.proofs.Readings.{not_read}
 use Rattle.bit_norm.proofs.normalising.normalise.Goals as goal

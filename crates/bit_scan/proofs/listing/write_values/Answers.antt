@@ -1,6 +1,7 @@
 use Rattle.std.proofs.Common.{◌+◌, get_or, drop}
 use Rattle.std.proofs.lemmas.Result.{err_from_is_err_and}
-use Rattle.bit_scan.proofs.Lists.{value_text, values_text, next_value, last_value}
+use Rattle.bit_grammar.specs.Texts.{values_text}
+use Rattle.bit_scan.proofs.Parted.{value_text, next_part, last_part}
 use Rattle.bit_scan.proofs.Prints.{goes_starts, goes_on, goes_wrong}
 use Rattle.bit_scan.proofs.listing.write_values.Goals as goal
 
@@ -13,13 +14,13 @@ returns-in_err-value g c =
     let i = c.loop-value.value-index in
     let p = err_from_is_err_and c.from_residual.result c.from_residual.ensures.1 in
     rw (p.1, p.2)
-    (goes_wrong (values_text vs) c.args.printer.now (value_text (get_or vs i 0)) (values_text (drop (i + 1) vs)) c.loop-value.printer c.value.new.self c.in_err-value.field-0.0 (next_value (values_text vs) c.args.printer.now c.loop-value.printer vs i c.loop-value-test.true c.loop-value.invariant) c.in_err-value.ensures)
+    (goes_wrong (values_text vs) c.args.printer.now (value_text (get_or vs i 0)) (values_text (drop (i + 1) vs)) c.loop-value.printer c.value.new.self c.in_err-value.field-0.0 (next_part value_text (values_text vs) c.args.printer.now c.loop-value.printer vs i 0 c.loop-value-test.true c.loop-value.invariant) c.in_err-value.ensures)
 
 pub loop-value-preserved : goal.loop-value-preserved
 loop-value-preserved g c =
     let vs = c.args.values.now in
     let i = c.loop-value.value-index in
-    goes_on (values_text vs) c.args.printer.now (value_text (get_or vs i 0)) (values_text (drop (i + 1) vs)) c.loop-value.printer c.value.new.self (next_value (values_text vs) c.args.printer.now c.loop-value.printer vs i c.loop-value-test.true c.loop-value.invariant) c.in_ok-value.ensures
+    goes_on (values_text vs) c.args.printer.now (value_text (get_or vs i 0)) (values_text (drop (i + 1) vs)) c.loop-value.printer c.value.new.self (next_part value_text (values_text vs) c.args.printer.now c.loop-value.printer vs i 0 c.loop-value-test.true c.loop-value.invariant) c.in_ok-value.ensures
 
 pub returns : goal.returns
-returns g c = last_value (values_text c.args.values.now) c.args.printer.now c.loop-value.printer c.args.values.now c.loop-value.value-index c.loop-value-test.false c.loop-value.invariant
+returns g c = last_part value_text (values_text c.args.values.now) c.args.printer.now c.loop-value.printer c.args.values.now c.loop-value.value-index c.loop-value-test.false c.loop-value.invariant

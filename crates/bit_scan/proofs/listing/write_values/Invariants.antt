@@ -1,5 +1,5 @@
 use Rattle.std.proofs.Common.{drop}
-use Rattle.bit_scan.proofs.Lists.{values_text}
+use Rattle.bit_grammar.specs.Texts.{values_text}
 use Rattle.bit_scan.proofs.Prints.{Goes}
 use Rattle.bit_scan.proofs.listing.write_values.Given as goal
 

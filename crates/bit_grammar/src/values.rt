@@ -1,0 +1,7 @@
+/// Whether the values of records are shown.
+#[derive(Clone, Copy, Debug, PartialEq, Eq)]
+pub enum Values {
+    Shown,
+    /// Only how many there are.
+    LeftOut,
+}
