@@ -176,9 +176,10 @@ impl BitText {
         self.add_window(rest)
     }
 
-    /// Writes all bits, whole words, behind what a writer wrote.
+    /// Writes all bits behind what a writer wrote, which are whole bytes.
     pub fn write<K: Sink>(self, writer: &mut BitWriter<K>) -> Result<(), Fault>
         requires live { writer.old.live ≡ true }
+        requires whole { writer.old.position % 8 ≡ 0 }
         requires room { writer.old.position + length self < 2 ^ 62 }
         ensures { Writes self writer.old result writer.new }
     {
