@@ -11,6 +11,8 @@ PROGRAM := crates/bitstool/out/bitstool
 LIBRARIES := $(filter-out bit_c,$(patsubst crates/%/src/lib.rt,%,$(wildcard crates/*/src/lib.rt)))
 sources = $(shell find crates/$(1) -path '*/out' -prune -o \( -name '*.rt' -o -name '*.antt' \) -print)
 below = $(filter $(LIBRARIES),$(shell sed -n 's/^$(1)[^:]*://p' crates.txt))
+# The version of the C library: of its calls, structures and numbers.
+C_VERSION := $(shell sed -n 's/^\#define BS_VERSION //p' capi/bitstream.h)
 HEAP := $(dir $(shell rt doc))c/liblibc_c.a
 
 .PHONY: all libraries lib run install bench test ask-program
@@ -47,9 +49,9 @@ capi/out/libbitstream.a: crates/bit_c/out/built
 	@cd capi/out && ar x $(HEAP) heap.pic.o && ar rs libbitstream.a heap.pic.o
 	@echo "built $@" >&2
 
-capi/out/libbitstream.so: capi/out/libbitstream.a capi/bitstream.map
-	@$(CC) -shared -Wl,--whole-archive $< -Wl,--no-whole-archive -Wl,-soname,libbitstream.so.1 -Wl,--version-script,capi/bitstream.map -Wl,-z,defs -o $@
-	@ln -sf libbitstream.so $@.1
+capi/out/libbitstream.so: capi/out/libbitstream.a capi/bitstream.map capi/bitstream.h
+	@$(CC) -shared -Wl,--whole-archive $< -Wl,--no-whole-archive -Wl,-soname,libbitstream.so.$(C_VERSION) -Wl,--version-script,capi/bitstream.map -Wl,-z,defs -o $@
+	@ln -sf libbitstream.so $@.$(C_VERSION)
 	@echo "built $@" >&2
 
 run: $(PROGRAM)
@@ -59,10 +61,10 @@ install: $(PROGRAM) lib
 	install -D $(PROGRAM) $(DESTDIR)$(PREFIX)/bin/bitstool
 	install -D -m 644 capi/bitstream.h $(DESTDIR)$(PREFIX)/include/bitstream.h
 	install -D -m 644 capi/out/libbitstream.a $(DESTDIR)$(PREFIX)/lib/libbitstream.a
-	install -D capi/out/libbitstream.so $(DESTDIR)$(PREFIX)/lib/libbitstream.so.1
-	ln -sf libbitstream.so.1 $(DESTDIR)$(PREFIX)/lib/libbitstream.so
+	install -D capi/out/libbitstream.so $(DESTDIR)$(PREFIX)/lib/libbitstream.so.$(C_VERSION)
+	ln -sf libbitstream.so.$(C_VERSION) $(DESTDIR)$(PREFIX)/lib/libbitstream.so
 	mkdir -p $(DESTDIR)$(PREFIX)/lib/pkgconfig
-	sed 's|@PREFIX@|$(PREFIX)|' capi/bitstream.pc.in > $(DESTDIR)$(PREFIX)/lib/pkgconfig/bitstream.pc
+	sed 's|@PREFIX@|$(PREFIX)|; s|@VERSION@|$(C_VERSION)|' capi/bitstream.pc.in > $(DESTDIR)$(PREFIX)/lib/pkgconfig/bitstream.pc
 
 bench: $(PROGRAM)
 	bench/tool

@@ -76,7 +76,9 @@ struct bs_bytes {
 };
 #define BS_NO_BYTES {(const uint8_t *)"", 0}
 
-/* The version of these calls, structures and numbers: 1. */
+/* The version of these calls, structures and numbers, and that of a library. They are the same where a program was built for the
+   library that it runs with. */
+#define BS_VERSION 1
 uint32_t bs_version(void);
 
 /* Sets limits to those that serve most inputs: 1073741824 bytes, depth 64, 134217728 values, and shapes not judged at their use. */

@@ -1,4 +1,4 @@
-"""Reports and listings, as the program's `analyse` and `show` write them, and what one says of the other."""
+"""Reports, listings and events, as the program's `analyse`, `show` and `events` write them, and what one says of the other."""
 import re
 from dataclasses import dataclass, field
 
@@ -88,3 +88,37 @@ def agrees(report, listing, given):
         and list(rows) == list(listed)
         and all(row.listed() == listed[number].listed() and row.adds_up() for number, row in rows.items())
     )
+
+
+EVENT = re.compile(r"(\d+) ((?:  )*)(magic [0-9a-f]{8}|block \d+|record \d+|define|end)(.*)")
+RECORD = re.compile(r" by \d+ count (\d+)((?: \d+)*)")
+
+
+def listing_of(events):
+    """The listing of the tree that events tell, up to where they end; None where a line is not one of an event."""
+    lines = events.split("\n")
+    listing = ""
+    for line in lines[:-1]:
+        event = EVENT.fullmatch(line)
+        if not event:
+            return None
+        _, indent, what, rest = event.groups()
+        record = RECORD.fullmatch(rest) if what.startswith("record") else None
+        if record:
+            values = record[2].split()
+            if len(values) != int(record[1]):
+                return None
+            what += record[2]
+        if what not in ("define", "end"):
+            listing += f"{indent}{what}\n"
+    return listing if lines[-1] == "" else None
+
+
+def without_values(events):
+    """The same events without the values of records."""
+    return re.sub(r"(record \d+ by \d+ count \d+)[ \d]*", r"\1", events)
+
+
+def bits_of(events):
+    """The bits that events tell, in order."""
+    return [int(line.split()[0]) for line in events.splitlines()]

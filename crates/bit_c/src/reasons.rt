@@ -5,7 +5,7 @@ ghost use Rattle.bit_c.specs.Naming.{IsReason, Names};
 
 use bit_fields::Reason;
 
-/// The version of these calls and of their numbers.
+/// The version of these calls, structures and numbers: `BS_VERSION` of `capi/bitstream.h`.
 #[unsafe(no_mangle)]
 pub extern "C" fn bs_version() -> u32
     ensures { result ≡ 1 }

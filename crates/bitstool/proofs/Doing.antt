@@ -13,13 +13,18 @@ use Rattle.bit_grammar.specs.Input.{BreaksInput}
 use Rattle.bit_grammar.specs.Normal.{HasTree, normal_form}
 use Rattle.bit_grammar.specs.Size.{size_of}
 use Rattle.bit_grammar.specs.Texts.{report_of, listing_of}
+use Rattle.bit_grammar.specs.EventTexts.{outlook_end, outlook_text}
+use Rattle.bit_grammar.specs.Machine.{Ending, accepted, broke}
+use Rattle.bit_grammar.specs.Outlook.{Outlook, outlook}
+use Rattle.bit_grammar.specs.declared.values.Values.{Values}
 use Rattle.bit_grammar.specs.declared.info.Info.TheVariants.{Keep}
 use Rattle.bit_events.specs.Reading.{ReadsWhole}
 use Rattle.bit_tree.specs.Reading.{HasFit}
 use Rattle.bit_scan.specs.Analysing.{HasTally}
 use Rattle.bit_scan.specs.Reporting.{ReadsAndReports, Reports, ReportsNothing}
 use Rattle.bit_scan.specs.Showing.{ListsNothing, ReadsAndLists, Shows}
-use Rattle.bit_scan.specs.Written.{HasFailed, WritesText}
+use Rattle.bit_scan.specs.Telling.{IsTold, TellsInput}
+use Rattle.bit_scan.specs.Written.{HasFailed, TookFront, WritesText}
 use Rattle.bit_fields.specs.declared.fault.Fault.{Fault}
 use Rattle.bit_fields.specs.declared.fault.Fault.TheVariants as fault
 use Rattle.bit_fields.specs.Devices.{Incoming, Outgoing}
@@ -28,11 +33,11 @@ use Rattle.bit_norm.specs.Whole.{Normalises, ReadsTree}
 use Rattle.bitstool.specs.declared.outcome.Outcome.{Outcome}
 use Rattle.bitstool.specs.declared.outcome.Outcome.TheVariants.{Done, Different, Refused, RefusedOf, TooLong, Usage, Read, Write, Memory}
 use Rattle.bitstool.specs.declared.task.Task.{Task}
-use Rattle.bitstool.specs.declared.task.Task.TheVariants.{Check, Normal, Same, Analyse, Show}
+use Rattle.bitstool.specs.declared.task.Task.TheVariants.{Check, Normal, Same, Analyse, Show, Events}
 use Rattle.bitstool.specs.Performing.{Finds, Judges, Settles, TellsLine, ended, outcome_of}
-use Rattle.bitstool.specs.Runs.{Told, Accepts, Answers, Refuses, StopsShort, LacksMemory, Stays, Takes, Leaves, Does, most_taken}
+use Rattle.bitstool.specs.Runs.{Told, Accepts, Answers, Refuses, StopsShort, LacksMemory, LeavesRefused, LeavesUnread, Stays, Takes, Leaves, Does, most_taken}
 use Rattle.bitstool.proofs.Known.{gained, gained_front, gains_front, gains_text, gains_part, gains_kept, front_kept, if_told}
-use Rattle.bitstool.proofs.Taking.{spends_more, takes_done, takes_fault, takes_long, takes_memory, takes_write}
+use Rattle.bitstool.proofs.Taking.{drained, spends_more, takes_done, takes_fault, takes_long, takes_memory, takes_write}
 
 -- an output that is as it was
 pub stays_same : (old new : Outgoing) → new ≡ old → Stays old new
@@ -47,6 +52,7 @@ memory_kept (Normal limits info) input old new k = k
 memory_kept (Same first limits info) input old new k = k
 memory_kept (Analyse limits) input old new k = inl k
 memory_kept (Show limits) input old new k = inl k
+memory_kept (Events limits values) input old new k = inl k
 
 -- it is a kind of stopping short
 memory_stops : (task : Task) (input old new : Told) → LacksMemory task input old new → StopsShort task input old new
@@ -55,6 +61,7 @@ memory_stops (Normal limits info) input old new k = inl k
 memory_stops (Same first limits info) input old new k = inl k
 memory_stops (Analyse limits) input old new h = h
 memory_stops (Show limits) input old new h = h
+memory_stops (Events limits values) input old new h = h
 
 -- an output that stays as it is then
 stopped_then : (task : Task) (input old new last : Told) → StopsShort task input old new → Keeps new last → StopsShort task input old last
@@ -67,6 +74,55 @@ memory_then (Normal limits info) input old new last k keeps = Keeps-trans old ne
 memory_then (Same first limits info) input old new last k keeps = Keeps-trans old new last k keeps
 memory_then (Analyse limits) input old new last h keeps = stopped_then (Analyse limits) input old new last h keeps
 memory_then (Show limits) input old new last h keeps = stopped_then (Show limits) input old new last h keeps
+memory_then (Events limits values) input old new last h keeps = stopped_then (Events limits values) input old new last h keeps
+
+-- ---- inputs that were not accepted
+
+-- an output that is as it was, where the input could not be read
+unread_kept : (task : Task) (input : Told) (old new : Outgoing) → Stays old new → LeavesUnread task input old new
+unread_kept (Check limits) input old new stays = stays
+unread_kept (Normal limits info) input old new stays = stays
+unread_kept (Same first limits info) input old new stays = stays
+unread_kept (Analyse limits) input old new stays = stays
+unread_kept (Show limits) input old new stays = stays
+unread_kept (Events limits values) input old new stays = (inl stays.0, stays.1)
+
+-- it is a kind of stopping short
+unread_stops : (task : Task) (input : Told) (old new : Outgoing) → LeavesUnread task input old new → StopsShort task input old.bytes new.bytes × (new.failures ≡ old.failures)
+unread_stops (Check limits) input old new stays = (inl stays.0, stays.1)
+unread_stops (Normal limits info) input old new stays = (inl stays.0, stays.1)
+unread_stops (Same first limits info) input old new stays = (inl stays.0, stays.1)
+unread_stops (Analyse limits) input old new stays = (inl stays.0, stays.1)
+unread_stops (Show limits) input old new stays = (inl stays.0, stays.1)
+unread_stops (Events limits values) input old new h = h
+
+refused_stops : (task : Task) (input : Told) (reason : Reason) (bit : ℕ) (old new : Outgoing) → LeavesRefused task input reason bit old new → StopsShort task input old.bytes new.bytes × (new.failures ≡ old.failures)
+refused_stops (Check limits) input reason bit old new h = (inl h.1.0, h.1.1)
+refused_stops (Normal limits info) input reason bit old new h = (inl h.1.0, h.1.1)
+refused_stops (Same first limits info) input reason bit old new h = (inl h.1.0, h.1.1)
+refused_stops (Analyse limits) input reason bit old new h = (inl h.1.0, h.1.1)
+refused_stops (Show limits) input reason bit old new h = (inl h.1.0, h.1.1)
+refused_stops (Events limits values) input reason bit old new h = (inr (h.0, Refused reason bit, h.1, gains_front h.0 old.bytes new.bytes h.2), h.3)
+
+-- an output that stays as it is then
+stays_then : (old new last : Outgoing) → Stays old new → Stays new last → Stays old last
+stays_then old new last h k = (Keeps-trans old.bytes new.bytes last.bytes h.0 k.0, k.1 ∙ h.1)
+
+unread_then : (task : Task) (input : Told) (old new last : Outgoing) → LeavesUnread task input old new → Stays new last → LeavesUnread task input old last
+unread_then (Check limits) input old new last h stays = stays_then old new last h stays
+unread_then (Normal limits info) input old new last h stays = stays_then old new last h stays
+unread_then (Same first limits info) input old new last h stays = stays_then old new last h stays
+unread_then (Analyse limits) input old new last h stays = stays_then old new last h stays
+unread_then (Show limits) input old new last h stays = stays_then old new last h stays
+unread_then (Events limits values) input old new last h stays = (stopped_then (Events limits values) input old.bytes new.bytes last.bytes h.0 stays.0, stays.1 ∙ h.1)
+
+refused_then : (task : Task) (input : Told) (reason : Reason) (bit : ℕ) (old new last : Outgoing) → LeavesRefused task input reason bit old new → Stays new last → LeavesRefused task input reason bit old last
+refused_then (Check limits) input reason bit old new last h stays = (h.0, stays_then old new last h.1 stays)
+refused_then (Normal limits info) input reason bit old new last h stays = (h.0, stays_then old new last h.1 stays)
+refused_then (Same first limits info) input reason bit old new last h stays = (h.0, stays_then old new last h.1 stays)
+refused_then (Analyse limits) input reason bit old new last h stays = (h.0, stays_then old new last h.1 stays)
+refused_then (Show limits) input reason bit old new last h stays = (h.0, stays_then old new last h.1 stays)
+refused_then (Events limits values) input reason bit old new last h stays = (h.0, h.1, gains_kept h.0 old.bytes new.bytes last.bytes h.2 stays.0, stays.1 ∙ h.3)
 
 -- ---- checking
 
@@ -120,11 +176,11 @@ form_not_done info limits i now old new fault.Failed h = absurd h
 
 -- an input that was not read
 module _ {A : Type 0} (Holds : List ℕ → A → Type 0) (task : Task) (limits : Limits) (most : (o : Outcome) → most_taken task o ≡ limits.bytes + 1) (i now : Incoming) (old new : Outgoing) where
-  not_accepted : (why : Fault) → ((reason : Reason) (bit : ℕ) → IfSome i.to_come (λ bytes. BreaksInput limits bytes (at reason bit)) → Refuses task i.to_come (Refused reason bit))
+  not_accepted : (why : Fault) → ((reason : Reason) (bit : ℕ) → IfSome i.to_come (λ bytes. BreaksInput limits bytes (at reason bit)) → LeavesRefused task i.to_come reason bit old new)
       → Stays old new → ReadsWhole Holds limits i (Err why) now → Does task i now old new (outcome_of limits.bytes why)
   not_accepted (fault.Refused reason bit) refuses stays h =
-      (takes_fault Holds task limits most i now (fault.Refused reason bit) h, (refuses reason bit (if_told i.to_come (λ bytes. BreaksInput limits bytes (at reason bit)) h.1), stays))
-  not_accepted fault.Read refuses stays h = (takes_fault Holds task limits most i now fault.Read h, stays)
+      (takes_fault Holds task limits most i now (fault.Refused reason bit) h, refuses reason bit (if_told i.to_come (λ bytes. BreaksInput limits bytes (at reason bit)) h.1))
+  not_accepted fault.Read refuses stays h = (takes_fault Holds task limits most i now fault.Read h, unread_kept task i.to_come old new stays)
   not_accepted fault.Memory refuses stays h = (takes_fault Holds task limits most i now fault.Memory h, (memory_kept task i.to_come old.bytes new.bytes stays.0, stays.1))
   not_accepted fault.Write refuses stays h = absurd h
   not_accepted fault.OutputTooLong refuses stays h = absurd h
@@ -150,7 +206,7 @@ reported limits i now old new answer h =
 
 -- it was not
 not_reported : (limits : Limits) (i now : Incoming) (old new : Outgoing) (why : Fault) → ReportsNothing limits i old why now new → Does (Analyse limits) i now old new (outcome_of limits.bytes why)
-not_reported limits i now old new why h = not_accepted (HasTally limits) (Analyse limits) limits (λ o. refl) i now old new why (λ reason bit breaks. breaks) (stays_same old new h.1) h.0
+not_reported limits i now old new why h = not_accepted (HasTally limits) (Analyse limits) limits (λ o. refl) i now old new why (λ reason bit breaks. (breaks, stays_same old new h.1)) (stays_same old new h.1) h.0
 
 pub told_report : (limits : Limits) (i now : Incoming) (old new : Outgoing) (answer : Result (Unit {0}) Fault) → Reports limits i old answer now new → Does (Analyse limits) i now old new (ended limits.bytes answer)
 told_report limits i now old new (Ok _) h = reported limits i now old new (Ok tt) h
@@ -169,7 +225,7 @@ listed limits i now old new answer h =
 
 -- it was not
 not_listed : (limits : Limits) (i now : Incoming) (old new : Outgoing) (why : Fault) → ListsNothing limits i old why now new → Does (Show limits) i now old new (outcome_of limits.bytes why)
-not_listed limits i now old new why h = not_accepted (HasFit Keep limits) (Show limits) limits (λ o. refl) i now old new why (λ reason bit breaks. breaks) (stays_same old new h.1) h.0
+not_listed limits i now old new why h = not_accepted (HasFit Keep limits) (Show limits) limits (λ o. refl) i now old new why (λ reason bit breaks. (breaks, stays_same old new h.1)) (stays_same old new h.1) h.0
 
 pub showed : (limits : Limits) (i now : Incoming) (old new : Outgoing) (answer : Result (Unit {0}) Fault) → Shows limits i old answer now new → Does (Show limits) i now old new (ended limits.bytes answer)
 showed limits i now old new (Ok _) h = listed limits i now old new (Ok tt) h
@@ -180,6 +236,42 @@ showed limits i now old new (Err (fault.Refused reason bit)) h = not_listed limi
 showed limits i now old new (Err fault.Read) h = not_listed limits i now old new fault.Read h
 showed limits i now old new (Err fault.OutputTooLong) h = absurd h
 showed limits i now old new (Err fault.Failed) h = absurd h
+
+-- ---- events
+
+-- what is told of an input answers for it
+told_answers : (limits : Limits) (values : Values) (i : Incoming) (told : Outlook) → IsTold limits i told → (answer : Outcome) × Answers (Events limits values) i.to_come answer (bits_of_bytes (outlook_text values told))
+told_answers limits values i told is_told = go (outlook_end told) refl
+  where
+    known : IfSome i.to_come (λ bytes. outlook limits bytes ≡ told)
+    known = if_told i.to_come (λ bytes. outlook limits bytes ≡ told) is_told
+
+    go : (end : Ending) → outlook_end told ≡ end → (answer : Outcome) × Answers (Events limits values) i.to_come answer (bits_of_bytes (outlook_text values told))
+    go (accepted bit) is = (Done, (bit, (told, is, refl, known)))
+    go (broke fault) is = (Refused fault.reason fault.bit, (told, is, refl, known))
+
+-- a front of their lines
+events_stop : (limits : Limits) (values : Values) (i : Incoming) (old new : Outgoing) (told : Outlook) → IsTold limits i told → TookFront (outlook_text values told) old new → StopsShort (Events limits values) i.to_come old.bytes new.bytes
+events_stop limits values i old new told is_told w =
+    let answers = told_answers limits values i told is_told in
+    inr (bits_of_bytes (outlook_text values told), answers.0, answers.1, gains_part old.bytes new.bytes (outlook_text values told) w.front w.rest w.split w.bytes)
+
+pub told_events : (limits : Limits) (values : Values) (i now : Incoming) (old new : Outgoing) (answer : Result (Unit {0}) Fault) → TellsInput values limits i old answer now new → Does (Events limits values) i now old new (ended limits.bytes answer)
+told_events limits values i now old new (Ok _) h =
+    let known = if_told i.to_come (λ bytes. outlook limits bytes ≡ h.1) h.2 in
+    let text = outlook_text values h.1 in (
+      (h.0, drained i now h.0.tells h.3.2),
+      (bits_of_bytes text, (h.3.1.0, (h.1, h.3.1.1, refl, known)), gains_text old.bytes new.bytes text h.3.0.bytes, h.3.0.failures),
+    )
+told_events limits values i now old new (Err (fault.Refused reason bit)) h =
+    let known = if_told i.to_come (λ bytes. outlook limits bytes ≡ h.1) h.2 in
+    let text = outlook_text values h.1 in
+    ((h.0, tt), (bits_of_bytes text, (h.1, h.3.1, refl, known), gains_text old.bytes new.bytes text h.3.0.bytes, h.3.0.failures))
+told_events limits values i now old new (Err fault.Read) h = ((h.0, h.3.2), (events_stop limits values i old new h.1 h.2 h.3.0, h.3.1))
+told_events limits values i now old new (Err fault.Write) h = ((h.0, tt), (events_stop limits values i old new h.1 h.2 h.3.0, h.3.1))
+told_events limits values i now old new (Err fault.Memory) h = ((h.0, tt), (events_stop limits values i old new h.1 h.2 h.3.0, h.3.1))
+told_events limits values i now old new (Err fault.OutputTooLong) h = absurd h.3
+told_events limits values i now old new (Err fault.Failed) h = absurd h.3
 
 -- ---- lines
 
@@ -197,17 +289,18 @@ different_told task i now old new line after most takes answers (inr h) =
     rw (h.0) ((rw most takes.0, tt), (inr (bits_of_bytes line, Different, answers, gains_part old.bytes new.bytes line h.1.front h.1.rest h.1.split h.1.bytes), h.2))
 
 -- an outcome that is no answer writes no line
-pub no_line : (task : Task) (i now : Incoming) (old new : Outgoing) (outcome : Outcome) → (outcome ≡ Done → ⊥) → (outcome ≡ Different → ⊥) → Stays old new → Judges task i now outcome → Does task i now old new outcome
-no_line task i now old new outcome not_done not_different stays judged = (judged.0, go outcome not_done not_different judged.1)
+pub no_line : (task : Task) (i now : Incoming) (old new : Outgoing) (outcome : Outcome) → (outcome ≡ Done → ⊥) → (outcome ≡ Different → ⊥) → Stays old new
+    → ((reason : Reason) (bit : ℕ) → Refuses task i.to_come (Refused reason bit) → LeavesRefused task i.to_come reason bit old new) → Judges task i now outcome → Does task i now old new outcome
+no_line task i now old new outcome not_done not_different stays refuses judged = (judged.0, go outcome not_done not_different judged.1)
   where
     go : (o : Outcome) → (o ≡ Done → ⊥) → (o ≡ Different → ⊥) → Finds task i.to_come o → Leaves task i.to_come old new o
     go Done not_done not_different found = absurd (not_done refl)
     go Different not_done not_different found = absurd (not_different refl)
-    go (Refused reason bit) not_done not_different found = (found, stays)
+    go (Refused reason bit) not_done not_different found = refuses reason bit found
     go (RefusedOf which reason bit) not_done not_different found = (found, stays)
     go (TooLong limit) not_done not_different found = (found, stays)
     go Usage not_done not_different found = found
-    go Read not_done not_different found = stays
+    go Read not_done not_different found = unread_kept task i.to_come old new stays
     go Write not_done not_different found = absurd found
     go Memory not_done not_different found = (memory_kept task i.to_come old.bytes new.bytes stays.0, stays.1)
 
@@ -223,6 +316,7 @@ most_write (Check limits) o = omega arith
 most_write (Normal limits info) o = omega arith
 most_write (Analyse limits) o = omega arith
 most_write (Show limits) o = omega arith
+most_write (Events limits values) o = omega arith
 most_write (Same first limits info) (RefusedOf First reason bit) = omega arith
 most_write (Same first limits info) (RefusedOf Second reason bit) = omega arith
 most_write (Same first limits info) Done = omega arith
@@ -243,9 +337,6 @@ failed_still : (old new last : Outgoing) → HasFailed old new → new.failures 
 failed_still old new last (inl rose) more = inl (omega (arith, rose, more))
 failed_still old new last (inr spent) more = inr spent
 
-stays_then : (old new last : Outgoing) → Stays old new → Stays new last → Stays old last
-stays_then old new last h k = (Keeps-trans old.bytes new.bytes last.bytes h.0 k.0, k.1 ∙ h.1)
-
 -- what was done stays done where the output keeps it, or the output failed
 pub settled : (task : Task) (i now : Incoming) (old new last : Outgoing) (outcome after : Outcome) → Does task i now old new outcome → Settles outcome new after last → Does task i now old last after
 settled task i now old new last outcome after does (inl same) = rw (same.0) (does.0, kept outcome does.1)
@@ -256,11 +347,11 @@ settled task i now old new last outcome after does (inl same) = rw (same.0) (doe
     kept : (o : Outcome) → Leaves task i.to_come old new o → Leaves task i.to_come old last o
     kept Done d = (d.0, d.1, gains_kept d.0 old.bytes new.bytes last.bytes d.2 stays.0, stays.1 ∙ d.3)
     kept Different d = (d.0, d.1, gains_kept d.0 old.bytes new.bytes last.bytes d.2 stays.0, stays.1 ∙ d.3)
-    kept (Refused reason bit) d = (d.0, stays_then old new last d.1 stays)
+    kept (Refused reason bit) d = refused_then task i.to_come reason bit old new last d stays
     kept (RefusedOf which reason bit) d = (d.0, stays_then old new last d.1 stays)
     kept (TooLong limit) d = (d.0, stays_then old new last d.1 stays)
     kept Usage d = d
-    kept Read d = stays_then old new last d stays
+    kept Read d = unread_then task i.to_come old new last d stays
     kept Memory d = (memory_then task i.to_come old.bytes new.bytes last.bytes d.0 stays.0, stays.1 ∙ d.1)
     kept Write d = (stopped_then task i.to_come old.bytes new.bytes last.bytes d.0 stays.0, failed_still old new last d.1 (omega (arith, stays.1)))
 settled task i now old new last outcome after does (inr failed) =
@@ -269,13 +360,16 @@ settled task i now old new last outcome after does (inr failed) =
     keeps : Keeps new.bytes last.bytes
     keeps = failed.1
 
+    short : StopsShort task i.to_come old.bytes new.bytes × (new.failures ≡ old.failures) → Leaves task i.to_come old last Write
+    short h = (stopped_then task i.to_come old.bytes new.bytes last.bytes h.0 keeps, failed_then old new last h.1 failed.3)
+
     lost : (o : Outcome) → Leaves task i.to_come old new o → Leaves task i.to_come old last Write
     lost Done d = (inr (d.0, Done, d.1, gains_front d.0 old.bytes last.bytes (gains_kept d.0 old.bytes new.bytes last.bytes d.2 keeps)), failed_then old new last d.3 failed.3)
     lost Different d = (inr (d.0, Different, d.1, gains_front d.0 old.bytes last.bytes (gains_kept d.0 old.bytes new.bytes last.bytes d.2 keeps)), failed_then old new last d.3 failed.3)
-    lost (Refused reason bit) d = (inl (Keeps-trans old.bytes new.bytes last.bytes d.1.0 keeps), failed_then old new last d.1.1 failed.3)
+    lost (Refused reason bit) d = short (refused_stops task i.to_come reason bit old new d)
     lost (RefusedOf which reason bit) d = (inl (Keeps-trans old.bytes new.bytes last.bytes d.1.0 keeps), failed_then old new last d.1.1 failed.3)
     lost (TooLong limit) d = (inl (Keeps-trans old.bytes new.bytes last.bytes d.1.0 keeps), failed_then old new last d.1.1 failed.3)
     lost Usage d = absurd d
-    lost Read d = (inl (Keeps-trans old.bytes new.bytes last.bytes d.0 keeps), failed_then old new last d.1 failed.3)
+    lost Read d = short (unread_stops task i.to_come old new d)
     lost Memory d = (stopped_then task i.to_come old.bytes new.bytes last.bytes (memory_stops task i.to_come old.bytes new.bytes d.0) keeps, failed_then old new last d.1 failed.3)
     lost Write d = (stopped_then task i.to_come old.bytes new.bytes last.bytes d.0 keeps, failed_still old new last d.1 failed.2)

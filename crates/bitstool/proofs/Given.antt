@@ -19,7 +19,7 @@ use Rattle.clap.specs.declared.error.kind.ErrorKind.{ErrorKind}
 use Rattle.clap.specs.declared.parser.matches.ValueSource.{ValueSource}
 use Rattle.clap.specs.declared.parser.matches.ValueSource.TheVariants.{DefaultValue}
 use Rattle.clap.proofs.ValueTestLemmas.{accepts-Accepts}
-use Rattle.bitstool.specs.Words.{HasAllLimits, HasWithin, IsComplete, checks, normalises, compares, analyses, lists, FindsAll, bitstool, limited, dropping, comparing, faults_of, named_by, bytes_rule, depth_rule, values_rule, first_rule}
+use Rattle.bitstool.specs.Words.{HasAllLimits, HasWithin, IsComplete, checks, normalises, compares, analyses, lists, tells, FindsAll, bitstool, limited, dropping, comparing, telling, faults_of, named_by, bytes_rule, depth_rule, values_rule, first_rule}
 use Rattle.bitstool.proofs.Walked.{GoodRow, GoodRows, IsNumeric, IsOnly, defaults_good, first_none, settle_good, then_none, walk_good}
 
 -- ---- rows
@@ -181,26 +181,41 @@ values_numeric = record { action = refl; least = refl; parser = refl }
 first_numeric : IsNumeric 17179869180 (filled first_rule)
 first_numeric = record { action = refl; least = refl; parser = refl }
 
+-- no other rule has this id
+others : (id : Text) (a : Rule) (rules : List Rule) → list_any (λ x. bytes_eq x.id id) rules ≡ false → IsOnly id a rules
+others id a [] none = tt
+others id a (x ∷ xs) none = go (bytes_eq x.id id) refl none (others id a xs)
+  where
+    go : (b : Bool) → bytes_eq x.id id ≡ b → (b || list_any (λ y. bytes_eq y.id id) xs) ≡ false → (list_any (λ y. bytes_eq y.id id) xs ≡ false → IsOnly id a xs) → IsOnly id a (x ∷ xs)
+    go true is none rest = absurd (true≢false none)
+    go false is none rest = ((λ yes. never (sym is ∙ yes)), rest none)
+
+-- a command that begins with the limits that are numbers, and has other options behind them
+abbrev Others : List Rule → Type 0
+Others tail = (list_any (λ x. bytes_eq x.id (codes "bytes")) tail ≡ false) × (list_any (λ x. bytes_eq x.id (codes "depth")) tail ≡ false) × (list_any (λ x. bytes_eq x.id (codes "values")) tail ≡ false)
+
+numbers_within : (s : Shape) (tail : List Rule) → s.rules ≡ filled bytes_rule ∷ filled depth_rule ∷ filled values_rule ∷ tail → Others tail
+    → (words : List Text) → level_fault s [] nothing_held words false [] ≡ [] → HasAllLimits (AfterWords s words)
+numbers_within s tail is apart words passes =
+    let bytes_only : IsOnly (codes "bytes") (filled bytes_rule) s.rules = subst (IsOnly (codes "bytes") (filled bytes_rule)) (sym is) ((λ _. refl), (never, (never, others (codes "bytes") (filled bytes_rule) tail apart.0))) in
+    let depth_only : IsOnly (codes "depth") (filled depth_rule) s.rules = subst (IsOnly (codes "depth") (filled depth_rule)) (sym is) (never, ((λ _. refl), (never, others (codes "depth") (filled depth_rule) tail apart.1))) in
+    let values_only : IsOnly (codes "values") (filled values_rule) s.rules = subst (IsOnly (codes "values") (filled values_rule)) (sym is) (never, (never, ((λ _. refl), others (codes "values") (filled values_rule) tail apart.2))) in (
+      with_default_within s words passes 17179869180 (filled bytes_rule) (codes "1073741824") bytes_numeric bytes_only (subst (IsIn (filled bytes_rule)) (sym is) (inl refl)) refl,
+      with_default_within s words passes 255 (filled depth_rule) (codes "64") depth_numeric depth_only (subst (IsIn (filled depth_rule)) (sym is) (inr (inl refl))) refl,
+      with_default_within s words passes 4294967295 (filled values_rule) (codes "134217728") values_numeric values_only (subst (IsIn (filled values_rule)) (sym is) (inr (inr (inl refl)))) refl,
+    )
+
 limited_within : (name : Text) (words : List Text) → level_fault (leaf (limited name)) [] nothing_held words false [] ≡ [] → HasAllLimits (AfterWords (leaf (limited name)) words)
-limited_within name words passes = (
-  with_default_within (leaf (limited name)) words passes 17179869180 (filled bytes_rule) (codes "1073741824") bytes_numeric ((λ _. refl), (never, (never, (never, (never, tt))))) (inl refl) refl,
-  with_default_within (leaf (limited name)) words passes 255 (filled depth_rule) (codes "64") depth_numeric (never, ((λ _. refl), (never, (never, (never, tt))))) (inr (inl refl)) refl,
-  with_default_within (leaf (limited name)) words passes 4294967295 (filled values_rule) (codes "134217728") values_numeric (never, (never, ((λ _. refl), (never, (never, tt))))) (inr (inr (inl refl))) refl,
-)
+limited_within name words passes = numbers_within (leaf (limited name)) _ refl (refl, refl, refl) words passes
 
 dropping_within : (name : Text) (words : List Text) → level_fault (leaf (dropping name)) [] nothing_held words false [] ≡ [] → HasAllLimits (AfterWords (leaf (dropping name)) words)
-dropping_within name words passes = (
-  with_default_within (leaf (dropping name)) words passes 17179869180 (filled bytes_rule) (codes "1073741824") bytes_numeric ((λ _. refl), (never, (never, (never, (never, (never, tt)))))) (inl refl) refl,
-  with_default_within (leaf (dropping name)) words passes 255 (filled depth_rule) (codes "64") depth_numeric (never, ((λ _. refl), (never, (never, (never, (never, tt)))))) (inr (inl refl)) refl,
-  with_default_within (leaf (dropping name)) words passes 4294967295 (filled values_rule) (codes "134217728") values_numeric (never, (never, ((λ _. refl), (never, (never, (never, tt)))))) (inr (inr (inl refl))) refl,
-)
+dropping_within name words passes = numbers_within (leaf (dropping name)) _ refl (refl, refl, refl) words passes
 
 comparing_within : (words : List Text) → level_fault (leaf comparing) [] nothing_held words false [] ≡ [] → HasAllLimits (AfterWords (leaf comparing) words)
-comparing_within words passes = (
-  with_default_within (leaf comparing) words passes 17179869180 (filled bytes_rule) (codes "1073741824") bytes_numeric ((λ _. refl), (never, (never, (never, (never, (never, (never, tt))))))) (inl refl) refl,
-  with_default_within (leaf comparing) words passes 255 (filled depth_rule) (codes "64") depth_numeric (never, ((λ _. refl), (never, (never, (never, (never, (never, tt))))))) (inr (inl refl)) refl,
-  with_default_within (leaf comparing) words passes 4294967295 (filled values_rule) (codes "134217728") values_numeric (never, (never, ((λ _. refl), (never, (never, (never, (never, tt))))))) (inr (inr (inl refl))) refl,
-)
+comparing_within words passes = numbers_within (leaf comparing) _ refl (refl, refl, refl) words passes
+
+telling_within : (words : List Text) → level_fault (leaf telling) [] nothing_held words false [] ≡ [] → HasAllLimits (AfterWords (leaf telling) words)
+telling_within words passes = numbers_within (leaf telling) _ refl (refl, refl, refl) words passes
 
 first_within : (words : List Text) → level_fault (leaf comparing) [] nothing_held words false [] ≡ [] → HasWithin (codes "first") 17179869180 (AfterWords (leaf comparing) words)
 first_within words passes = required_within (leaf comparing) words passes 17179869180 (filled first_rule) first_numeric (never, (never, (never, (never, (never, ((λ _. refl), (never, tt))))))) (inr (inr (inr (inr (inr (inl refl)))))) refl refl
@@ -220,7 +235,7 @@ commands = (
       λ words passes. compares (comparing_within words passes) (first_within words passes),
       (
         λ words passes. analyses (limited_within (codes "analyse") words passes),
-        (λ words passes. lists (limited_within (codes "show") words passes), tt),
+        (λ words passes. lists (limited_within (codes "show") words passes), (λ words passes. tells (telling_within words passes), tt)),
       ),
     ),
   ),

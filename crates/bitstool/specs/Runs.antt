@@ -2,6 +2,8 @@
 use Rattle.std.specs.Prelude.{◌≡◌, ◌≢◌, ◌⊎◌, ⊤, ℕ, ◌+◌, ◌<◌, ◌≤◌, min, Bool, List, [], ◌++◌, take, drop, codes, Option, Some, IfSome, string_bytes}
 use Rattle.std.specs.Io.KnownBytes.{Keeps}
 use Rattle.bit_grammar.specs.declared.info.Info.TheVariants.{Keep}
+use Rattle.bit_grammar.specs.declared.reason.Reason.{Reason}
+use Rattle.bit_grammar.specs.declared.values.Values.{Values}
 use Rattle.bit_grammar.specs.Bits.{bits_of_bytes}
 use Rattle.bit_grammar.specs.Grammar.{at}
 use Rattle.bit_grammar.specs.Forest.{Tree}
@@ -11,6 +13,9 @@ use Rattle.bit_grammar.specs.Normal.{HasTree, normal_form}
 use Rattle.bit_grammar.specs.Size.{size_of}
 use Rattle.bit_grammar.specs.Tally.{Tally}
 use Rattle.bit_grammar.specs.Texts.{report_of, listing_of}
+use Rattle.bit_grammar.specs.EventTexts.{outlook_text, outlook_end}
+use Rattle.bit_grammar.specs.Machine.{Ending, accepted, broke}
+use Rattle.bit_grammar.specs.Outlook.{Outlook, outlook}
 use Rattle.bit_fields.specs.Devices.{Incoming, Outgoing, Spends}
 use Rattle.bit_fields.specs.Reader.{SourceFails}
 use Rattle.bit_scan.specs.Analysing.{HasTally}
@@ -19,7 +24,7 @@ use Rattle.bit_norm.specs.declared.comparing.Which.TheVariants.{First, Second}
 use Rattle.bitstool.specs.declared.outcome.Outcome.{Outcome}
 use Rattle.bitstool.specs.declared.outcome.Outcome.TheVariants.{Done, Different, Refused, RefusedOf, TooLong, Usage, Read, Write, Memory}
 use Rattle.bitstool.specs.declared.task.Task.{Task}
-use Rattle.bitstool.specs.declared.task.Task.TheVariants.{Check, Normal, Same, Analyse, Show}
+use Rattle.bitstool.specs.declared.task.Task.TheVariants.{Check, Normal, Same, Analyse, Show, Events}
 use Rattle.bitstool.specs.declared.task.Parsed.{Parsed}
 use Rattle.bitstool.specs.declared.task.Parsed.TheVariants as parsed
 use Rattle.bitstool.specs.Outcome.{status_of, line_of}
@@ -38,8 +43,13 @@ Accepts limits bytes = (m : Marked) × SpellsInput limits bytes m
 abbrev pub IsText : List ℕ → List Bool → Type 0
 IsText text bits = bits ≡ bits_of_bytes text
 
+-- What is told of an input ends so, and these are the lines of the magic and the events that are told.
+abbrev pub TellsEvents : Limits → Values → Told → Ending → List Bool → Type 0
+TellsEvents limits values input end bits = (told : Outlook) × (outlook_end told ≡ end) × IsText (outlook_text values told) bits × IfSome input (λ bytes. outlook limits bytes ≡ told)
+
 -- A command that is done with this outcome says so of its input, and has these bits for the output: a line, the normal form
--- of the input's tree under the setting, the report of its analysis, or the listing of its whole tree.
+-- of the input's tree under the setting, the report of its analysis, the listing of its whole tree, or the lines of its events.
+-- `events` has lines for an input that it refuses too, of the events before the fault.
 abbrev pub Answers : Task → Told → Outcome → List Bool → Type 0
 Answers (Check limits) input Done bits = IsText (codes "accepted\n") bits × IfSome input (Accepts limits)
 Answers (Normal limits info) input Done bits = (tree : Tree) × (bits ≡ normal_form tree) × (size_of tree ≤ limits.bytes) × IfSome input (λ bytes. HasTree info limits bytes tree)
@@ -47,6 +57,8 @@ Answers (Same first limits info) input Done bits = IsText (codes "same\n") bits 
 Answers (Same first limits info) input Different bits = IsText (codes "different\n") bits × IfSome input (λ bytes. (a : Tree) × (b : Tree) × HasTree info limits (take first bytes) a × HasTree info limits (drop first bytes) b × (a ≢ b))
 Answers (Analyse limits) input Done bits = (tally : Tally) × IsText (report_of tally) bits × IfSome input (λ bytes. HasTally limits bytes tally)
 Answers (Show limits) input Done bits = (tree : Tree) × IsText (listing_of tree) bits × IfSome input (λ bytes. HasTree Keep limits bytes tree)
+Answers (Events limits values) input Done bits = (bit : ℕ) × TellsEvents limits values input (accepted bit) bits
+Answers (Events limits values) input (Refused reason bit) bits = TellsEvents limits values input (broke (at reason bit)) bits
 Answers task input outcome bits = ⊥
 
 -- A command that refuses its input with this outcome says so of it.
@@ -71,6 +83,7 @@ most_taken (Same first limits info) (RefusedOf First reason bit) = min first (li
 most_taken (Same first limits info) outcome = min first (limits.bytes + 1) + (limits.bytes + 1)
 most_taken (Analyse limits) outcome = limits.bytes + 1
 most_taken (Show limits) outcome = limits.bytes + 1
+most_taken (Events limits values) outcome = limits.bytes + 1
 
 -- nothing is left of an input that tells its bytes
 abbrev pub IsDrained : Incoming → Incoming → Type 0
@@ -101,11 +114,12 @@ GainsFront bits old new = IfSome old (λ held. (text : List ℕ) × (rest : List
 abbrev pub StopsShort : Task → Told → Told → Told → Type 0
 StopsShort task input old new = Keeps old new ⊎ ((bits : List Bool) × (answer : Outcome) × Answers task input answer bits × GainsFront bits old new)
 
--- Where memory is wanting the output is as it was; but of a report and of a listing, whose lines are made while they are
--- written, it may have a front.
+-- Where memory is wanting the output is as it was; but of a report, of a listing and of events, whose lines are made while they
+-- are written, it may have a front.
 abbrev pub LacksMemory : Task → Told → Told → Told → Type 0
 LacksMemory (Analyse limits) input old new = StopsShort (Analyse limits) input old new
 LacksMemory (Show limits) input old new = StopsShort (Show limits) input old new
+LacksMemory (Events limits values) input old new = StopsShort (Events limits values) input old new
 LacksMemory task input old new = Keeps old new
 
 -- no byte came or went, and the output did not fail
@@ -116,16 +130,26 @@ Stays old new = Keeps old.bytes new.bytes × (new.failures ≡ old.failures)
 abbrev pub WritesAnswer : Task → Told → Outcome → Outgoing → Outgoing → Type 0
 WritesAnswer task input outcome old new = (bits : List Bool) × Answers task input outcome bits × Gains bits old.bytes new.bytes × (new.failures ≡ old.failures)
 
--- What it leaves, by its outcome: an answer is written whole; a refusal, and what fails before there is an answer, writes nothing;
--- and where the output fails, and only there, it has nothing, or a front of an answer.
+-- where the input is refused the output is as it was; but it has the lines of the events before the fault
+abbrev pub LeavesRefused : Task → Told → Reason → ℕ → Outgoing → Outgoing → Type 0
+LeavesRefused (Events limits values) input reason bit old new = WritesAnswer (Events limits values) input (Refused reason bit) old new
+LeavesRefused task input reason bit old new = Refuses task input (Refused reason bit) × Stays old new
+
+-- where the input could not be read the output is as it was; but of events it may have a front
+abbrev pub LeavesUnread : Task → Told → Outgoing → Outgoing → Type 0
+LeavesUnread (Events limits values) input old new = StopsShort (Events limits values) input old.bytes new.bytes × (new.failures ≡ old.failures)
+LeavesUnread task input old new = Stays old new
+
+-- What it leaves, by its outcome: an answer is written whole; a refusal, and what fails before there is an answer, writes nothing,
+-- but for the events that came before it; and where the output fails, and only there, it has nothing, or a front of an answer.
 abbrev pub Leaves : Task → Told → Outgoing → Outgoing → Outcome → Type 0
 Leaves task input old new Done = WritesAnswer task input Done old new
 Leaves task input old new Different = WritesAnswer task input Different old new
-Leaves task input old new (Refused reason bit) = Refuses task input (Refused reason bit) × Stays old new
+Leaves task input old new (Refused reason bit) = LeavesRefused task input reason bit old new
 Leaves task input old new (RefusedOf which reason bit) = Refuses task input (RefusedOf which reason bit) × Stays old new
 Leaves task input old new (TooLong limit) = Refuses task input (TooLong limit) × Stays old new
 Leaves task input old new Usage = ⊥
-Leaves task input old new Read = Stays old new
+Leaves task input old new Read = LeavesUnread task input old new
 Leaves task input old new Write = StopsShort task input old.bytes new.bytes × HasFailed old new
 Leaves task input old new Memory = LacksMemory task input old.bytes new.bytes × (new.failures ≡ old.failures)
 

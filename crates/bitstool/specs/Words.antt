@@ -1,7 +1,7 @@
 -- What the words of a command line ask for: the options that the program tells `clap` of, and how a task is read from what
 -- `clap` finds. The words `App`, `Rule`, `Shape`, `subcommand_of` and `fault_of` are clap's own: what a command is, and what a
 -- parse of words finds or why it fails.
-use Rattle.std.specs.Prelude.{◌≡◌, ◌≢◌, ◌⊎◌, ⊤, ℕ, ◌≤◌, List, [], ◌∷◌, true, Option, Some, None, codes}
+use Rattle.std.specs.Prelude.{◌≡◌, ◌⊎◌, ⊤, ℕ, ◌≤◌, List, [], ◌∷◌, true, Option, Some, None, codes}
 use Rattle.std.specs.Str.Parse.{IsNumeral, digits_value, without_leading_plus}
 use Rattle.clap.specs.Words.{App, Row, Rule, Text, new_app, new_rule, one_of, subcommand_of, with_rule, with_subcommand}
 use Rattle.clap.specs.Kinds.{Kinds, IsAmong}
@@ -14,9 +14,11 @@ use Rattle.bit_grammar.specs.declared.shapes.Shapes.{Shapes}
 use Rattle.bit_grammar.specs.declared.shapes.Shapes.TheVariants.{AtDefinition, AtUse}
 use Rattle.bit_grammar.specs.declared.info.Info.{Info}
 use Rattle.bit_grammar.specs.declared.info.Info.TheVariants.{Keep, Drop}
+use Rattle.bit_grammar.specs.declared.values.Values.{Values}
+use Rattle.bit_grammar.specs.declared.values.Values.TheVariants.{Shown, LeftOut}
 use Rattle.bit_grammar.specs.Blocks.{Limits}
 use Rattle.bitstool.specs.declared.task.Task.{Task}
-use Rattle.bitstool.specs.declared.task.Task.TheVariants.{Check, Normal, Same, Analyse, Show}
+use Rattle.bitstool.specs.declared.task.Task.TheVariants.{Check, Normal, Same, Analyse, Show, Events}
 use Rattle.bitstool.specs.declared.task.Parsed.{Parsed}
 use Rattle.bitstool.specs.declared.task.Parsed.TheVariants as parsed
 
@@ -39,12 +41,9 @@ depth_rule = limit_rule (codes "depth") (codes "64") 255
 abbrev pub values_rule : Rule
 values_rule = limit_rule (codes "values") (codes "134217728") 4294967295
 
--- flags
-abbrev pub shapes_rule : Rule
-shapes_rule = record (new_rule (codes "shapes-at-use")) { long = Some (codes "shapes-at-use"); action = Some SetTrue }
-
-abbrev pub drop_rule : Rule
-drop_rule = record (new_rule (codes "drop-info")) { long = Some (codes "drop-info"); action = Some SetTrue }
+-- a flag
+abbrev pub flag_rule : (name : Text) → Rule
+flag_rule name = record (new_rule name) { long = Some name; action = Some SetTrue }
 
 -- an option with a number that has to be given
 abbrev pub first_rule : Rule
@@ -58,14 +57,18 @@ numbered name = with_rule (with_rule (with_rule (new_app name) bytes_rule) depth
 
 -- a command with the limits as its options
 abbrev pub limited : Text → App
-limited name = with_rule (numbered name) shapes_rule
+limited name = with_rule (numbered name) (flag_rule (codes "shapes-at-use"))
 
 -- a command that may drop BLOCKINFO blocks too
 abbrev pub dropping : Text → App
-dropping name = with_rule (limited name) drop_rule
+dropping name = with_rule (limited name) (flag_rule (codes "drop-info"))
 
 abbrev pub comparing : App
 comparing = with_rule (dropping (codes "same")) first_rule
+
+-- a command that may leave values out
+abbrev pub telling : App
+telling = with_rule (limited (codes "events")) (flag_rule (codes "no-values"))
 
 -- nothing but what goes for all commands
 abbrev pub above : App
@@ -77,7 +80,7 @@ three = with_subcommand (with_subcommand (with_subcommand above (limited (codes 
 
 -- the whole command line, with those that tell what an input holds
 abbrev pub bitstool : App
-bitstool = with_subcommand (with_subcommand three (limited (codes "analyse")).top) (limited (codes "show")).top
+bitstool = with_subcommand (with_subcommand (with_subcommand three (limited (codes "analyse")).top) (limited (codes "show")).top) telling.top
 
 -- ---- what was found
 
@@ -85,18 +88,27 @@ bitstool = with_subcommand (with_subcommand three (limited (codes "analyse")).to
 abbrev pub HasNumber : Text → List Row → ℕ → Type 0
 HasNumber id rows n = (text : Text) × (one_of id rows ≡ Some text) × IsNumeral 10 (without_leading_plus text) × (digits_value 10 (without_leading_plus text) ≡ n)
 
+-- the flag was given
+abbrev pub IsGiven : Text → List Row → Type 0
+IsGiven id rows = one_of id rows ≡ Some (codes "true")
+
 -- shapes are judged at their use exactly where the flag was given
 abbrev pub HasShapes : List Row → Shapes → Type 0
-HasShapes rows AtDefinition = one_of (codes "shapes-at-use") rows ≢ Some (codes "true")
-HasShapes rows AtUse = one_of (codes "shapes-at-use") rows ≡ Some (codes "true")
+HasShapes rows AtDefinition = ¬ (IsGiven (codes "shapes-at-use") rows)
+HasShapes rows AtUse = IsGiven (codes "shapes-at-use") rows
 
 abbrev pub HasLimits : List Row → Limits → Type 0
 HasLimits rows limits = HasNumber (codes "bytes") rows limits.bytes × HasNumber (codes "depth") rows limits.depth × HasNumber (codes "values") rows limits.values × HasShapes rows limits.shapes
 
 -- BLOCKINFO blocks are dropped exactly where the flag was given
 abbrev pub HasSetting : List Row → Info → Type 0
-HasSetting rows Keep = one_of (codes "drop-info") rows ≢ Some (codes "true")
-HasSetting rows Drop = one_of (codes "drop-info") rows ≡ Some (codes "true")
+HasSetting rows Keep = ¬ (IsGiven (codes "drop-info") rows)
+HasSetting rows Drop = IsGiven (codes "drop-info") rows
+
+-- values are left out exactly where the flag was given
+abbrev pub HasValues : List Row → Values → Type 0
+HasValues rows Shown = ¬ (IsGiven (codes "no-values") rows)
+HasValues rows LeftOut = IsGiven (codes "no-values") rows
 
 -- a command with what was found for its options asks for this
 abbrev pub Asks : Text → List Row → Task → Type 0
@@ -105,6 +117,7 @@ Asks name rows (Normal limits info) = (name ≡ codes "normal") × HasLimits row
 Asks name rows (Same first limits info) = (name ≡ codes "same") × HasNumber (codes "first") rows first × HasLimits rows limits × HasSetting rows info
 Asks name rows (Analyse limits) = (name ≡ codes "analyse") × HasLimits rows limits
 Asks name rows (Show limits) = (name ≡ codes "show") × HasLimits rows limits
+Asks name rows (Events limits values) = (name ≡ codes "events") × HasLimits rows limits × HasValues rows values
 
 abbrev pub Means : Option (Text × List Row) → Task → Type 0
 Means None task = ⊥
@@ -125,6 +138,7 @@ pub data IsComplete (rows : List Row) : Text → Type 0 where
   compares : HasAllLimits rows → HasWithin (codes "first") 17179869180 rows → IsComplete rows (codes "same")
   analyses : HasAllLimits rows → IsComplete rows (codes "analyse")
   lists : HasAllLimits rows → IsComplete rows (codes "show")
+  tells : HasAllLimits rows → IsComplete rows (codes "events")
 
 abbrev pub FindsAll : Option (Text × List Row) → Type 0
 FindsAll None = ⊥

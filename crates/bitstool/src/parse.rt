@@ -1,13 +1,14 @@
 //! What the words say, by `clap`.
 
-ghost use Rattle.std.specs.Prelude.{◌≡◌, ◌<◌, ◌^◌, ℕ, false, map, string_bytes, IfOk, IfErr, IfSome, IsSome, Some};
+ghost use Rattle.std.specs.Prelude.{◌≡◌, ◌<◌, ◌^◌, ◌↔◌, ℕ, false, map, string_bytes, IfOk, IfErr, IfSome, IsSome, IsTrue, Some};
 ghost use Rattle.bitstool.specs.declared.task.Parsed.{Parsed as ParsedValue};
 ghost use Rattle.clap.specs.Words.{app_of, found_of, kind_of, rows_of, rule_of, subcommand_rows_of};
-ghost use Rattle.bitstool.specs.Words.{numbered, FindsAll, HasAllLimits, HasLimits, HasNumber, HasSetting, HasShapes, Means, Says, Fails, Shows};
-ghost use Rattle.bitstool.specs.Words.{bitstool, limit_rule, limited, number_rule, dropping, comparing};
+ghost use Rattle.bitstool.specs.Words.{numbered, FindsAll, HasAllLimits, HasLimits, HasNumber, HasSetting, HasShapes, HasValues, IsGiven, Means, Says, Fails, Shows};
+ghost use Rattle.bitstool.specs.Words.{bitstool, flag_rule, limit_rule, limited, number_rule, dropping, comparing, telling};
 
 use crate::task::{Parsed, Task};
 use bit_fields::{Limits, Shapes};
+use bit_scan::Values;
 use bit_tree::Info;
 use clap::builder::ValueParser;
 use clap::error::ErrorKind;
@@ -30,6 +31,7 @@ refused with one line on standard error, which names the rule and the bit, and n
 Examples:
   bitstool analyse < FILE        which blocks and records it has, and where its bits go
   bitstool show < FILE | less    all of them, in order
+  bitstool events < FILE | tail  the last that could be read of a damaged file
   bitstool normal --drop-info < FILE > NORMAL
   cat FILE OTHER | bitstool same --first $(stat -c %s FILE)";
 
@@ -57,6 +59,10 @@ const SHOW: &str =
     "Prints the tree of the input: a line for each block, with its id, and for each record, with its code and values, \
 indented by the blocks around it";
 
+const EVENTS: &str =
+    "Prints the events of the input as they are read, one a line: the bit, and the block, definition, record or end that \
+stands there; of an input that is refused, all before the break";
+
 const SHAPES: &str =
     "Judge the order of a definition's operands where a record uses it, as LLVM's reader does, and not where it stands; \
 precompiled headers and module files of Clang 19 and later want this";
@@ -79,6 +85,17 @@ fn limit<'a>(alloc: Global, name: &'a str, usual: &'a str, most: u64, help: &'a 
 {
     number_option(alloc, name, most)
         .default_value(usual)
+        .help(help)
+}
+
+/// A flag.
+fn flag<'a>(alloc: Global, name: &'a str, help: &'a str) -> Arg<'a>
+    ensures rule { rule_of result ≡ flag_rule name.entry.now }
+    ensures local { result.global ≡ false }
+{
+    Arg::new(alloc, name)
+        .long(name)
+        .action(ArgAction::SetTrue)
         .help(help)
 }
 
@@ -118,10 +135,7 @@ fn numbered<'a>(alloc: Global, name: &'a str, about: &'a str) -> Result<Command<
 fn limited<'a>(alloc: Global, name: &'a str, about: &'a str) -> Result<Command<'a>, AllocError>
     ensures { IfOk result (λ command. app_of command ≡ (limited name.entry.now)) }
 {
-    let shapes = Arg::new(alloc, "shapes-at-use")
-        .long("shapes-at-use")
-        .action(ArgAction::SetTrue)
-        .help(SHAPES);
+    let shapes = flag(alloc, "shapes-at-use", SHAPES);
     numbered(alloc, name, about)?.arg(shapes)
 }
 
@@ -129,12 +143,11 @@ fn limited<'a>(alloc: Global, name: &'a str, about: &'a str) -> Result<Command<'
 fn dropping<'a>(alloc: Global, name: &'a str, about: &'a str) -> Result<Command<'a>, AllocError>
     ensures { IfOk result (λ command. app_of command ≡ (dropping name.entry.now)) }
 {
-    let setting = Arg::new(alloc, "drop-info")
-        .long("drop-info")
-        .action(ArgAction::SetTrue)
-        .help(
-            "Leave out all BLOCKINFO blocks, which hold definitions for other blocks and no content",
-        );
+    let setting = flag(
+        alloc,
+        "drop-info",
+        "Leave out all BLOCKINFO blocks, which hold definitions for other blocks and no content",
+    );
     limited(alloc, name, about)?.arg(setting)
 }
 
@@ -148,6 +161,14 @@ fn comparing<'a>(alloc: Global) -> Result<Command<'a>, AllocError>
     dropping(alloc, "same", SAME)?.arg(first)
 }
 
+/// The command that lists events.
+fn telling<'a>(alloc: Global) -> Result<Command<'a>, AllocError>
+    ensures { IfOk result (λ command. app_of command ≡ telling) }
+{
+    let values = flag(alloc, "no-values", "Leave out the values of records");
+    limited(alloc, "events", EVENTS)?.arg(values)
+}
+
 /// The whole command line.
 fn command<'a>(alloc: Global) -> Result<Command<'a>, AllocError>
     ensures { IfOk result (λ command. app_of command ≡ bitstool) }
@@ -157,6 +178,7 @@ fn command<'a>(alloc: Global) -> Result<Command<'a>, AllocError>
     let same = comparing(alloc)?;
     let analyse = limited(alloc, "analyse", ANALYSE)?;
     let show = limited(alloc, "show", SHOW)?;
+    let events = telling(alloc)?;
     Command::new(alloc, "bitstool")
         .version(VERSION)
         .about(ABOUT)
@@ -168,7 +190,8 @@ fn command<'a>(alloc: Global) -> Result<Command<'a>, AllocError>
         .subcommand(normal)?
         .subcommand(same)?
         .subcommand(analyse)?
-        .subcommand(show)
+        .subcommand(show)?
+        .subcommand(events)
 }
 
 /// The number that an option was given.
@@ -179,14 +202,25 @@ fn number(matches: &ArgMatches<'_>, name: &str) -> Option<u64>
     matches.get_one(name)
 }
 
+/// Whether a flag was given.
+fn is_given(matches: &ArgMatches<'_>, name: &str) -> bool
+    ensures { IsTrue result ↔ IsGiven name.now (rows_of (found_of matches.now)) }
+{
+    match matches.get_one::<bool>(name) {
+        Some(true) => true,
+        Some(false) => false,
+        None => false,
+    }
+}
+
 /// Where a command was told to judge the shapes of definitions.
 fn shapes_of(matches: &ArgMatches<'_>) -> Shapes
     ensures { HasShapes (rows_of (found_of matches.now)) result }
 {
-    match matches.get_one::<bool>("shapes-at-use") {
-        Some(true) => Shapes::AtUse,
-        Some(false) => Shapes::AtDefinition,
-        None => Shapes::AtDefinition,
+    if is_given(matches, "shapes-at-use") {
+        Shapes::AtUse
+    } else {
+        Shapes::AtDefinition
     }
 }
 
@@ -209,10 +243,21 @@ fn limits_of(matches: &ArgMatches<'_>) -> Option<Limits>
 fn setting_of(matches: &ArgMatches<'_>) -> Info
     ensures { HasSetting (rows_of (found_of matches.now)) result }
 {
-    match matches.get_one::<bool>("drop-info") {
-        Some(true) => Info::Drop,
-        Some(false) => Info::Keep,
-        None => Info::Keep,
+    if is_given(matches, "drop-info") {
+        Info::Drop
+    } else {
+        Info::Keep
+    }
+}
+
+/// Whether a command was told to leave values out.
+fn values_of(matches: &ArgMatches<'_>) -> Values
+    ensures { HasValues (rows_of (found_of matches.now)) result }
+{
+    if is_given(matches, "no-values") {
+        Values::LeftOut
+    } else {
+        Values::Shown
     }
 }
 
@@ -236,6 +281,10 @@ fn task_of(matches: &ArgMatches<'_>) -> Option<Task>
         }),
         "analyse" => Some(Task::Analyse { limits }),
         "show" => Some(Task::Show { limits }),
+        "events" => Some(Task::Events {
+            limits,
+            values: values_of(inner),
+        }),
         _ => None,
     }
 }

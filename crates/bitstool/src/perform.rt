@@ -12,7 +12,7 @@ use crate::task::Task;
 use bit_events::check;
 use bit_fields::{Fault, Limits, Sink, Source};
 use bit_norm::{Which, normalise, same_as};
-use bit_scan::{write_report, write_show};
+use bit_scan::{Values, write_events, write_report, write_show};
 use bit_tree::Info;
 use std::alloc::Global;
 
@@ -218,6 +218,20 @@ fn perform_show<S: Source, K: Sink>(
     (ended(limits.bytes(), answer), source, sink)
 }
 
+/// Writes the events of the input as they are read.
+fn perform_events<S: Source, K: Sink>(
+    alloc: Global,
+    limits: Limits,
+    values: Values,
+    source: S,
+    sink: K,
+) -> (Outcome, S, K)
+    ensures { Does (TaskValue.Events limits values) (S.incoming source) (S.incoming result.1) (K.outgoing sink) (K.outgoing result.2) result.0 }
+{
+    let (answer, source, sink) = write_events(alloc, source, sink, limits, values);
+    (ended(limits.bytes(), answer), source, sink)
+}
+
 /// Carries out a command, up to the flush.
 fn carry_out<S: Source, K: Sink>(alloc: Global, task: Task, source: S, sink: K) -> (Outcome, S, K)
     ensures { Does task (S.incoming source) (S.incoming result.1) (K.outgoing sink) (K.outgoing result.2) result.0 }
@@ -232,6 +246,7 @@ fn carry_out<S: Source, K: Sink>(alloc: Global, task: Task, source: S, sink: K) 
         } => perform_same(alloc, first, limits, info, source, sink),
         Task::Analyse { limits } => perform_analyse(alloc, limits, source, sink),
         Task::Show { limits } => perform_show(alloc, limits, source, sink),
+        Task::Events { limits, values } => perform_events(alloc, limits, values, source, sink),
     }
 }
 

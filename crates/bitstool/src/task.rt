@@ -1,6 +1,7 @@
 //! What the words ask for.
 
 use bit_fields::Limits;
+use bit_scan::Values;
 use bit_tree::Info;
 
 /// A command, with what it was given.
@@ -28,6 +29,11 @@ pub enum Task {
     /// List the blocks and records of the input.
     Show {
         limits: Limits,
+    },
+    /// List the events of the input as they are read.
+    Events {
+        limits: Limits,
+        values: Values,
     },
 }
 

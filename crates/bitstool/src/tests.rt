@@ -403,7 +403,18 @@ fn reports(rt: HostRuntime) -> Result<(), Fail> {
     Ok(())
 }
 
-static SHORT_TEXTS: [Row; 9] = [
+/// The events of `INFO`, by lines.
+const EVENTS: &[u8] = b"0 magic 4243c0de
+32 block 0 width 2 body 96
+96   record 1 by 3 count 1 8
+116   define literal 1, fixed 7
+160 end
+160 block 8 width 3 body 224
+224   record 1 by 4 count 1 100
+256 end
+";
+
+static SHORT_TEXTS: [Row; 11] = [
     (
         "analyse",
         (&MAGIC, &[]),
@@ -429,6 +440,16 @@ static SHORT_TEXTS: [Row; 9] = [
         "show",
         (&VALUE_WITHOUT_BITS, &[]),
         (0, b"magic 4243c0de\nblock 8\n  record 1 0 9\n", ""),
+    ),
+    ("events", (&INFO, &[]), (0, EVENTS, "")),
+    (
+        "events --no-values",
+        (&SHORT, &[]),
+        (
+            0,
+            b"0 magic 4243c0de\n32 block 8 width 2 body 96\n96   record 1 by 3 count 1\n128 end\n",
+            "",
+        ),
     ),
     ("check", (&ZEROS, &[]), (0, b"accepted\n", "")),
     (
@@ -495,6 +516,8 @@ fn all_tell(
 }
 
 static NO_COMMANDS: &str = "analyse --drop-info
+events --drop-info
+show --no-values
 show --drop-info
 show --first 4
 show analyse
@@ -514,7 +537,7 @@ check --values 0x10
 check --values 1 --values 2
 check normal
 help
---version
+check --version
 --
 ";
 
@@ -525,12 +548,29 @@ normal -h
 same --help
 analyse --help
 show -h
+events --help
 ";
+
+/// Events before a fault stand on the output, with the line of the refusal on errors; a version is told.
+#[test]
+fn events_before_a_fault_and_the_version(rt: HostRuntime) -> Result<(), Fail> {
+    let front = b"0 magic 4243c0de\n32 block 8 width 2 body 96\n".as_slice();
+    let cut = (1, front, "refused: Truncated at bit 96\n");
+    ends_with(&rt, rt.alloc(), "events", &SHORT[..12], cut)?;
+    ends_with(
+        &rt,
+        rt.alloc(),
+        "--version",
+        MAGIC.as_slice(),
+        (0, b"bitstool 1.0.0\n", ""),
+    )?;
+    Ok(())
+}
 
 #[test]
 fn words_that_are_no_command_and_help(rt: HostRuntime) -> Result<(), Fail> {
-    all_tell(&rt, rt.alloc(), NO_COMMANDS, 22, (2, false, true))?;
-    all_tell(&rt, rt.alloc(), HELP, 7, (0, true, false))?;
+    all_tell(&rt, rt.alloc(), NO_COMMANDS, 24, (2, false, true))?;
+    all_tell(&rt, rt.alloc(), HELP, 8, (0, true, false))?;
     Ok(())
 }
 

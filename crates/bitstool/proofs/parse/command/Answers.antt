@@ -12,6 +12,7 @@ returns c =
     let same = c.in_ok-same.ensures in
     let analyse = c.in_ok-analyse.ensures in
     let show = c.in_ok-show.ensures in
+    let events = c.in_ok-events.ensures in
     let base : app_of c.subcommand_required.result ≡ above = search rules in
     let first = c.in_ok-subcommand.ensures.shape (third_denied _ _ _ _ (ap (λ (a : App). a.top.is_plain) check))
     ∙ ap₂ with_subcommand base (ap (λ (a : App). a.top) check) in
@@ -21,5 +22,7 @@ returns c =
     ∙ ap₂ with_subcommand second (ap (λ (a : App). a.top) same) in
     let fourth = c.in_ok-subcommand-4.ensures.shape (third_denied _ _ _ _ (ap (λ (a : App). a.top.is_plain) analyse))
     ∙ ap₂ with_subcommand third (ap (λ (a : App). a.top) analyse) in
-    IfOk-weaker c.subcommand-5.result _ _ (λ r h. h.shape (third_denied _ _ _ _ (ap (λ (a : App). a.top.is_plain) show))
-    ∙ ap₂ with_subcommand fourth (ap (λ (a : App). a.top) show)) c.subcommand-5.ensures
+    let fifth = c.in_ok-subcommand-5.ensures.shape (third_denied _ _ _ _ (ap (λ (a : App). a.top.is_plain) show))
+    ∙ ap₂ with_subcommand fourth (ap (λ (a : App). a.top) show) in
+    IfOk-weaker c.subcommand-6.result _ _ (λ r h. h.shape (third_denied _ _ _ _ (ap (λ (a : App). a.top.is_plain) events))
+    ∙ ap₂ with_subcommand fifth (ap (λ (a : App). a.top) events)) c.subcommand-6.ensures

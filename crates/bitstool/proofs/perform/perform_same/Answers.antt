@@ -18,5 +18,5 @@ returns g c =
           let judged = rw w.in-Different.is at c.compare-outcome.ensures in
           rw (w.sink-is, w.outcome-is) (different_told task i now old (g.K.Sink.outgoing w.tell-outcome-in-Different.new.sink) (codes "different\n") w.tell-outcome-in-Different.result refl judged.0 (refl, judged.1.1.1) w.tell-outcome-in-Different.ensures)
       | in_default w ↦
-          rw (w.sink-is, w.outcome-is) (no_line task i now old old c.compare-outcome.result.0 w.in_default.not-Done w.in_default.not-Different (stays_same old old refl) c.compare-outcome.ensures)
+          rw (w.sink-is, w.outcome-is) (no_line task i now old old c.compare-outcome.result.0 w.in_default.not-Done w.in_default.not-Different (stays_same old old refl) (λ reason bit refuses. (refuses, stays_same old old refl)) c.compare-outcome.ensures)
     ]
