@@ -1,9 +1,9 @@
 -- What is answered of two inputs.
-use Rattle.std.proofs.Common.{◌≡◌, ℕ, ◌+◌, ◌⊎◌, inl, inr, arith, Bool, true, false, IsTrue, List, [], ◌++◌, Option, Some, None, Result, Ok, Err, refl, sym, ap, ◌∙◌, subst, append-nil}
+use Rattle.std.proofs.Common.{◌≡◌, ℕ, ◌+◌, ◌⊎◌, inl, inr, arith, Bool, true, false, IsTrue, List, [], ◌∷◌, ◌++◌, Option, Some, None, Result, Ok, Err, refl, sym, ap, ◌∙◌, subst, append-nil}
 use Rattle.std.specs.Prelude.{◌↔◌, IsSome}
 use Rattle.bit_grammar.specs.declared.info.Info.{Info}
 use Rattle.bit_grammar.specs.Forest.{Forest, empty, Tree}
-use Rattle.bit_grammar.specs.Marks.{forest_of}
+use Rattle.bit_grammar.specs.Marks.{no_marks, forest_of}
 use Rattle.bit_grammar.specs.Blocks.{Limits}
 use Rattle.bit_grammar.specs.Input.{Head, Marked, SpellsInput, tree_of}
 use Rattle.bit_grammar.specs.Machine.{Event, flat, Ending, accepted, Told}
@@ -18,13 +18,31 @@ use Rattle.bit_grammar.proofs.Settings.{fit_of_setting}
 use Rattle.bit_grammar.proofs.Telling.{told_if_spelled}
 use Rattle.bit_fields.specs.Devices.{Incoming, known_bytes}
 use Rattle.bit_events.specs.Coming.{Coming, Tells}
-use Rattle.bit_norm.specs.Signs.{signs}
-use Rattle.bit_norm.specs.Whole.{ReadsTree, Misreads, Compares, source_of, ComparesBytes}
-use Rattle.bit_norm.specs.InStep.{Tallied, Finishes, ReadBeside, NotRead, ComparesWith}
+use Rattle.bit_norm.specs.declared.differences.Difference.{Difference}
+use Rattle.bit_norm.specs.declared.differences.Standing as bit
+use Rattle.bit_norm.specs.declared.differences.ValueDifference.{ValueDifference}
+use Rattle.bit_norm.specs.declared.differences.Place.TheVariants as place
+use Rattle.bit_norm.specs.declared.in_step.Found.{Found}
+use Rattle.bit_norm.specs.Entries.{Sign, Entry, over, signs_in, entries, FirstApart, Seen, Standing, at_magic, standing_shown, difference_shown, magic_standing, behind_magic, all_entries, magics_apart, apart, FirstDifference, in_magic, behind, Differs}
+use Rattle.bit_norm.specs.Whole.{ReadsTree, ReadsMarked, Misreads, Compares, source_of, ComparesBytes, FindsDifference, FindsInBytes, SaysNone}
+use Rattle.bit_norm.specs.InStep.{Stand, Said, told_entries, entry_of, Compared, here, left, right, second_end, seen_of, TakesSign, Agrees, Departs, Alike, ApartAt, Tallied, Answers, Finishes, Concludes, other_magic, same_magic, ReadBeside, NotRead, ComparesWith}
 use Rattle.bit_norm.specs.declared.comparing.Which.{Which}
 use Rattle.bit_norm.specs.declared.comparing.Which.TheVariants.{First, Second}
 use Rattle.bit_norm.specs.declared.comparing.SameFault.{SameFault}
-use Rattle.bit_norm.proofs.Signs.{same_signs}
+use Rattle.bit_norm.proofs.Signs.{signs_in-append, same_signs, tree_is}
+use Rattle.bit_norm.proofs.EventEntries.{entries_told}
+use Rattle.bit_norm.proofs.InStep.{departs_there}
+use Rattle.bit_norm.proofs.Apart.{never_same}
+
+-- ---- the magics
+
+pub magics_seen : (a b : Head) (s t : bit.Standing) → standing_shown s ≡ magic_standing a → standing_shown t ≡ magic_standing b
+    → (let d : Difference = record { place = place.Magic; first = s; second = t; value = None } in (difference_shown d ≡ magics_apart a b))
+magics_seen a b s t e f =
+    let make : Standing → Standing → Seen = λ x y. record { place = at_magic; first = x; second = y; value = None } in
+    ap (λ (x : Standing). make x (standing_shown t)) e ∙ ap (make (magic_standing a)) f
+
+-- ---- what is told of the first
 
 -- what is told of bytes is the head and the events of the marked tree that they spell
 told_parts : (h k : Head) (x y : Told) → ◌≡◌ {A = Result (Head × Told) grammar.Fault} (Ok (h, x)) (Ok (k, y)) → (h ≡ k) × (x.0 ≡ y.0)
@@ -35,38 +53,78 @@ told_parts h k x y same =
 told_is : (limits : Limits) (bytes : List ℕ) (c : Coming) (m : Marked) → outlook limits bytes ≡ Ok (c.head, c.told) → SpellsInput limits bytes m → (c.head ≡ m.head) × (c.told.0 ≡ flat m.blocks [])
 told_is limits bytes c m told spelled = told_parts c.head m.head c.told (flat m.blocks [], accepted m.after) (sym told ∙ (told_if_spelled limits bytes m).0 spelled)
 
--- where all signs of the second input came
-signs_told : (info : Info) (c first : Coming) (m other : Marked) (passed : ℕ) (differs same : Bool) → Tells c → c.told.0 ≡ flat other.blocks [] → Tallied info c (flat m.blocks []) info first passed differs → Finishes info first differs (Ok same)
-    → IsTrue same ↔ (forest_of info other.blocks ≡ forest_of info m.blocks)
-signs_told info c first m other passed true same tells told tally finish = (
-  λ yes. let bad : true ≡ false = ((finish (tally.tells tells)).0 yes).0 in absurd cc,
-  λ e. absurd (tally.differs tells refl [] (ap (signs info 0) (append-nil (flat m.blocks [])) ∙ (same_signs info m.blocks other.blocks).1 (sym e) ∙ ap (signs info 0) (sym told))),
-)
-signs_told info c first m other passed false same tells told tally finish =
-    let agrees = tally.agrees tells refl [] in (
-      λ yes. sym ((same_signs info m.blocks other.blocks).0 (ap (signs info 0) (sym (append-nil (flat m.blocks []))) ∙ agrees.1 (sym ((finish (tally.tells tells)).0 yes).1) ∙ ap (signs info 0) told)),
-      λ e. (finish (tally.tells tells)).1 (refl, sym (agrees.0 (ap (signs info 0) (append-nil (flat m.blocks [])) ∙ (same_signs info m.blocks other.blocks).1 (sym e) ∙ ap (signs info 0) (sym told)))),
-    )
+-- ---- the answer by the entries
 
-tree_is : (info : Info) (a b : Marked) → a.head.magic ≡ b.head.magic → forest_of info a.blocks ≡ forest_of info b.blocks → tree_of info a ≡ tree_of info b
-tree_is info a b magic blocks =
-    let make : ℕ → Forest → Tree = λ n f. record { magic = n; blocks = f } in
-    ap (λ (n : ℕ). make n (forest_of info a.blocks)) magic ∙ ap (make b.head.magic) blocks
+-- this answers of two lists of entries
+abbrev pub AnswersLists : List Entry → List Entry → Option Difference → Type 0
+AnswersLists a b None = signs_in a ≡ signs_in b
+AnswersLists a b (Some d) = ApartAt a b (difference_shown d)
 
--- the answer, where the magics are the same
-pub same_told : (info : Info) (limits : Limits) (bytes : List ℕ) (c first : Coming) (m : Marked) (set : Info) (passed : ℕ) (differs same : Bool) → outlook limits bytes ≡ Ok (c.head, c.told) → Tells c → Tallied info c (flat m.blocks []) set first passed differs
-    → Finishes set first differs (Ok same) → m.head.magic ≡ c.head.magic → (other : Marked) → SpellsInput limits bytes other → IsTrue same ↔ (tree_of info other ≡ tree_of info m)
-same_told info limits bytes c first m set passed differs same told tells tally finish magic other spelled =
-    let parts = told_is limits bytes c other told spelled in
-    let heads : other.head.magic ≡ m.head.magic = ap (λ (h : Head). h.magic) (sym parts.0) ∙ sym magic in
-    let is = signs_told info c first m other passed differs same tells parts.1 (subst (λ (i : Info). Tallied info c (flat m.blocks []) i first passed differs) tally.setting tally) (subst (λ (i : Info). Finishes i first differs (Ok same)) tally.setting finish) in
-    (λ yes. tree_is info other m heads (is.0 yes), λ e. is.1 (ap (λ (t : Tree). t.blocks) e))
+differs : (info : Info) (a b : Marked) (answer : Option Difference) → a.head.magic ≡ b.head.magic → AnswersLists (all_entries info a) (all_entries info b) answer → Differs info a b answer
+differs info a b None magic is = tree_is info a b magic ((same_signs info (behind_magic a.head) (behind_magic b.head) a.blocks b.blocks).0 is)
+differs info a b (Some d) magic is = behind magic is.0 is.1 is.2 is.3
 
--- where they are not
-pub other_told : (info : Info) (limits : Limits) (bytes : List ℕ) (c : Coming) (m : Marked) (same : Bool) → outlook limits bytes ≡ Ok (c.head, c.told) → (IsTrue same → m.head.magic ≡ c.head.magic) → (m.head.magic ≡ c.head.magic → ⊥) → (other : Marked) → SpellsInput limits bytes other → IsTrue same ↔ (tree_of info other ≡ tree_of info m)
-other_told info limits bytes c m same told only magic other spelled =
-    let parts = told_is limits bytes c other told spelled in
-    (λ yes. absurd (magic (only yes)), λ e. absurd (magic (sym (ap (λ (t : Tree). t.magic) e) ∙ ap (λ (h : Head). h.magic) (sym parts.0))))
+-- both lists end there
+ended_alike : (a b l m : List Entry) (x y : Entry) → Alike a b l m → l ≡ x ∷ [] → m ≡ y ∷ [] → x.sign ≡ y.sign → signs_in a ≡ signs_in b
+ended_alike a b l m x y was e f same =
+    ap signs_in was.first ∙ signs_in-append was.front l ∙ ap (λ (s : List Sign). s ++ signs_in l) was.same ∙ ap (λ (s : List Entry). signs_in was.other_front ++ signs_in s) e
+    ∙ ap (λ (s : Sign). signs_in was.other_front ++ s ∷ []) same
+    ∙ sym (ap signs_in was.second ∙ signs_in-append was.other_front m ∙ ap (λ (s : List Entry). signs_in was.other_front ++ signs_in s) f)
+
+abbrev over_said : ℕ → Said
+over_said bit = record { sign = over; bit = bit; ended = bit }
+
+-- no difference was found before, and none or one at the end
+at_end : (a b : List Entry) (p : ℕ) (last end : Compared) (o : Option Found) (answer : Option Difference) → Tells last.first → last.found ≡ None → end.found ≡ o → Alike a b (left last) (right p last [])
+    → TakesSign last over (second_end p last) (second_end p last) end → Answers end answer → AnswersLists a b answer
+at_end a b p last end None None tells none is was takes answers =
+    let one = (takes.same none is).takes tells in
+    ended_alike a b _ _ (entry_of (here last last.first_ended) one.0) (entry_of (here last (second_end p last)) (over_said (second_end p last))) was one.2 refl one.1
+at_end a b p last end None (Some d) tells none is was takes answers = let no = answers.1 in absurd cc
+at_end a b p last end (Some g) None tells none is was takes answers = absurd cc
+at_end a b p last end (Some g) (Some d) tells none is was takes answers =
+    let departs = takes.other none answers.0 answers.1 in
+    subst (ApartAt a b) (sym answers.2) (departs_there a b (left last) (right p last []) last end (over_said (second_end p last)) (second_end p last) answers.0 [] was refl departs (departs.takes tells))
+
+found_before : (a b : List Entry) (last end : Compared) (f : Found) (answer : Option Difference) → last.found ≡ Some f → end ≡ last → ((g : Found) → last.found ≡ Some g → ApartAt a b (seen_of last g)) → Answers end answer → AnswersLists a b answer
+found_before a b last end f None some is apart answers = let none = ap (λ (c : Compared). c.found) (sym is) ∙ answers in absurd cc
+found_before a b last end f (Some d) some is apart answers =
+    subst (ApartAt a b) (sym (answers.2 ∙ ap (λ (c : Compared). seen_of c answers.0) is)) (apart answers.0 (ap (λ (c : Compared). c.found) (sym is) ∙ answers.1))
+
+by_found : (a b : List Entry) (p : ℕ) (last end : Compared) (o : Option Found) (answer : Option Difference) → last.found ≡ o → Tells last.first → (last.found ≡ None → Alike a b (left last) (right p last [])) → ((g : Found) → last.found ≡ Some g → ApartAt a b (seen_of last g))
+    → TakesSign last over (second_end p last) (second_end p last) end → Answers end answer → AnswersLists a b answer
+by_found a b p last end None answer is tells alike apart takes answers = at_end a b p last end end.found answer tells is refl (alike is) takes answers
+by_found a b p last end (Some f) answer is tells alike apart takes answers = found_before a b last end f answer is (takes.stays f is) apart answers
+
+-- what the comparison begins with
+pub record Begins (info : Info) (head : Head) (c : Compared) : Type 0 where
+  pub setting : c.info ≡ info
+  pub within : c.within ≡ []
+  pub items : c.items ≡ 0
+  pub passed : c.passed ≡ 0
+  pub ended : c.first_ended ≡ behind_magic head
+
+left_is : (info : Info) (head : Head) (c : Compared) (m : Marked) → Begins info head c → head ≡ m.head → c.first.told.0 ≡ flat m.blocks [] → left c ≡ all_entries info m
+left_is info head c m is same told = rw (is.setting, is.within, is.items, is.ended, same, told) (entries_told info m.blocks (behind_magic m.head))
+
+right_is : (info : Info) (head : Head) (c : Compared) (m : Marked) → Begins info head c → right (behind_magic m.head) c (flat m.blocks []) ≡ all_entries info m
+right_is info head c m is = rw (is.setting, is.within, is.items, is.passed) (entries_told info m.blocks (behind_magic m.head))
+
+pub concluded : (info : Info) (limits : Limits) (bytes : List ℕ) (begun last : Compared) (m : Marked) (second : Head) (answer : Option Difference) → outlook limits bytes ≡ Ok (begun.first.head, begun.first.told) → Tells begun.first → Begins info begun.first.head begun
+    → m.head ≡ second → Tallied begun (flat m.blocks []) last → Concludes begun.first.head second last answer → (other : Marked) → SpellsInput limits bytes other → Differs info other m answer
+concluded info limits bytes begun last m second answer told tells begins is was (other_magic unlike d some seen) other spelled =
+    let head = (told_is limits bytes begun.first other told spelled).0 in
+    let apart_heads : difference_shown d ≡ magics_apart other.head m.head = seen ∙ ap (λ (h : Head). magics_apart h second) head ∙ ap (magics_apart other.head) (sym is) in
+    subst (Differs info other m) (sym some) (in_magic (λ e. unlike (ap (λ (h : Head). h.magic) head ∙ e ∙ ap (λ (h : Head). h.magic) is)) apart_heads)
+concluded info limits bytes begun last m second answer told tells begins is was (same_magic same finishes) other spelled =
+    let parts = told_is limits bytes begun.first other told spelled in
+    let p = behind_magic m.head in
+    let finish = subst (λ (h : Head). Finishes (behind_magic h) last answer) (sym is) finishes in
+    let first = left_is info begun.first.head begun other begins parts.0 parts.1 in
+    let all : right p begun (flat m.blocks [] ++ []) ≡ all_entries info m = ap (right p begun) (append-nil (flat m.blocks [])) ∙ right_is info begun.first.head begun m begins in
+    let lists : AnswersLists (left begun) (right p begun (flat m.blocks [] ++ [])) answer =
+    by_found (left begun) (right p begun (flat m.blocks [] ++ [])) p last finish.0 last.found answer refl (was.tells tells) (λ none. was.alike tells none p []) (λ g some. was.apart tells g some p []) finish.1 finish.2 in
+    differs info other m answer (ap (λ (h : Head). h.magic) (sym parts.0) ∙ same ∙ ap (λ (h : Head). h.magic) (sym is)) (subst (λ (l : List Entry). AnswersLists l (all_entries info m) answer) first (subst (λ (l : List Entry). AnswersLists (left begun) l answer) all lists))
 
 -- ---- both inputs
 
@@ -100,49 +158,45 @@ first_read info limits i now bytes capped kept =
       | inr none ↦ (any_tree, untold info limits i now any_tree kept.0 none)
     ]
 
-swapped : (answer : Bool) (a b : Tree) → IsTrue answer ↔ (a ≡ b) → IsTrue answer ↔ (b ≡ a)
-swapped answer a b is = (λ yes. sym (is.0 yes), λ e. is.1 (sym e))
+any_marked : Marked
+any_marked = record { head = record { magic = 0; wrapper = None }; blocks = no_marks; after = 0 }
 
-both_read : (info : Info) (limits : Limits) (i now j later : Incoming) (bytes : List ℕ) (same : Bool) → Capped limits → Kept limits i now bytes → ReadBeside info limits bytes j same later → Compares info limits i j (Ok same) now later
-both_read info limits i now j later bytes same capped kept read =
+-- the first was read as some marked tree
+marked_first : (limits : Limits) (i now : Incoming) (bytes : List ℕ) → Kept limits i now bytes → (m : Marked) × ReadsMarked limits i m now × (IsSome i.to_come → SpellsInput limits bytes m)
+marked_first limits i now bytes kept =
+    elim (tells_or_not i.to_come) [
+      | inl tells ↦ let found = kept.1 tells in (found.0.1.0, (kept.0, λ told. (found.0.1.1, found.1)), λ told. subst (λ (bs : List ℕ). SpellsInput limits bs found.0.1.0) (sym found.0.0) found.0.1.1)
+      | inr none ↦ (any_marked, (kept.0, λ told. absurd (none told)), λ told. absurd (none told))
+    ]
+
+-- and the second
+marked_second : (info : Info) (limits : Limits) (j later : Incoming) (bytes : List ℕ) (answer : Option Difference) → ReadBeside info limits bytes j answer later
+    → (m : Marked) × ReadsMarked limits j m later × (IsSome j.to_come → (other : Marked) → SpellsInput limits bytes other → Differs info other m answer)
+marked_second info limits j later bytes answer read =
     elim (tells_or_not j.to_come) [
-      | inr none ↦
-          let first = first_read info limits i now bytes capped kept in
-          let other = beside same first.0 in
-          (first.0, other.0, first.1, untold info limits j later other.0 read.0 none, swapped same other.0 first.0 other.1)
-      | inl tells ↦
-          let found = read.1 tells in
-          let second : ReadsTree info limits j (Ok (tree_of info found.0)) later = (read.0, λ told. (has_fit info limits (known_bytes j.to_come) found.0 capped found.1, found.2)) in
-          elim (tells_or_not i.to_come) [
-            | inr none ↦ let other = beside same (tree_of info found.0) in (other.0, tree_of info found.0, untold info limits i now other.0 kept.0 none, second, other.1)
-            | inl known ↦
-                let first = kept.1 known in
-                let m = first.0.1.0 in (
-                  tree_of info m,
-                  tree_of info found.0,
-                  (kept.0, λ told. (has_fit info limits (known_bytes i.to_come) m capped first.0.1.1, first.1)),
-                  second,
-                  found.3 m (subst (λ (bs : List ℕ). SpellsInput limits bs m) (sym first.0.0) first.0.1.1),
-                )
-          ]
+      | inl tells ↦ let found = read.1 tells in (found.0, (read.0, λ told. (found.1, found.2)), λ told. found.3)
+      | inr none ↦ (any_marked, (read.0, λ told. absurd (none told)), λ told. absurd (none told))
     ]
 
 misread : (info : Info) (limits : Limits) (i now j later : Incoming) (bytes : List ℕ) (which : Which) (fault : Fault) → Capped limits → Kept limits i now bytes → NotRead info limits which fault j later → Misreads info limits which fault i j now later
 misread info limits i now j later bytes First fault capped kept none = (subst (λ (f : Fault). ReadsTree info limits i (Err f) now) (sym none.0) kept.0, none.1)
 misread info limits i now j later bytes Second fault capped kept none = let first = first_read info limits i now bytes capped kept in (first.0, first.1, none)
 
-pub compares : (info : Info) (limits : Limits) (i now j later : Incoming) (bytes : List ℕ) (answer : Result Bool SameFault) → Capped limits → Kept limits i now bytes → ComparesWith info limits bytes j answer later → Compares info limits i j answer now later
-compares info limits i now j later bytes (Ok same) capped kept read = both_read info limits i now j later bytes same capped kept read
-compares info limits i now j later bytes (Err e) capped kept none = misread info limits i now j later bytes e.which e.fault capped kept none
+pub finds : (info : Info) (limits : Limits) (i now j later : Incoming) (bytes : List ℕ) (answer : Result (Option Difference) SameFault) → Capped limits → Kept limits i now bytes → ComparesWith info limits bytes j answer later → FindsDifference info limits i j answer now later
+finds info limits i now j later bytes (Ok answer) capped kept read =
+    let a = marked_first limits i now bytes kept in
+    let b = marked_second info limits j later bytes answer read in
+    (a.0, b.0, a.1, b.1, λ first second. b.2 second a.0 (a.2 first))
+finds info limits i now j later bytes (Err e) capped kept none = misread info limits i now j later bytes e.which e.fault capped kept none
 
 -- the first was in memory
-pub compares_bytes : (info : Info) (limits : Limits) (bytes : List ℕ) (i now j later : Incoming) (checked : Unit {0}) (answer : Result Bool SameFault) → Capped limits → i ≡ source_of bytes → now.failures ≡ 0
-    → ReadsWhole (λ (all : List ℕ) (_ : Unit {0}). (m : Marked) × SpellsInput limits all m) limits i (Ok checked) now → ComparesWith info limits bytes j answer later → ComparesBytes info limits bytes j answer later
-compares_bytes info limits bytes i now j later checked answer capped is never read compared =
+pub finds_in_bytes : (info : Info) (limits : Limits) (bytes : List ℕ) (i now j later : Incoming) (checked : Unit {0}) (answer : Result (Option Difference) SameFault) → Capped limits → i ≡ source_of bytes → now.failures ≡ 0
+    → ReadsWhole (λ (all : List ℕ) (_ : Unit {0}). (m : Marked) × SpellsInput limits all m) limits i (Ok checked) now → ComparesWith info limits bytes j answer later → FindsInBytes info limits bytes j answer later
+finds_in_bytes info limits bytes i now j later checked answer capped is never read compared =
     let whole = subst (λ (s : Incoming). ReadsWhole (λ (all : List ℕ) (_ : Unit {0}). (m : Marked) × SpellsInput limits all m) limits s (Ok checked) now) is read in
-    (now, never, compares info limits (source_of bytes) now j later bytes answer capped (whole.0, λ tells. let found = whole.1 tells in ((refl, found.0), found.1)) compared)
+    (now, never, finds info limits (source_of bytes) now j later bytes answer capped (whole.0, λ tells. let found = whole.1 tells in ((refl, found.0), found.1)) compared)
 
-misread_first : (info : Info) (limits : Limits) (i now j : Incoming) (fault : Fault) → ReadsWhole (λ (all : List ℕ) (_ : Unit {0}). (m : Marked) × SpellsInput limits all m) limits i (Err fault) now → Compares info limits i j (Err (record { which = First; fault = fault })) now j
+misread_first : (info : Info) (limits : Limits) (i now j : Incoming) (fault : Fault) → ReadsWhole (λ (all : List ℕ) (_ : Unit {0}). (m : Marked) × SpellsInput limits all m) limits i (Err fault) now → FindsDifference info limits i j (Err (record { which = First; fault = fault })) now j
 misread_first info limits i now j (Refused reason bit) read = (read, refl)
 misread_first info limits i now j Read read = (read, refl)
 misread_first info limits i now j Memory read = (read, refl)
@@ -152,6 +206,36 @@ misread_first info limits i now j Failed read = absurd read
 
 -- it was not accepted
 pub bytes_misread : (info : Info) (limits : Limits) (bytes : List ℕ) (i now j : Incoming) (fault : Fault) → i ≡ source_of bytes → now.failures ≡ 0 → ReadsWhole (λ (all : List ℕ) (_ : Unit {0}). (m : Marked) × SpellsInput limits all m) limits i (Err fault) now
-    → ComparesBytes info limits bytes j (Err (record { which = First; fault = fault })) j
+    → FindsInBytes info limits bytes j (Err (record { which = First; fault = fault })) j
 bytes_misread info limits bytes i now j fault is never read =
     (now, never, misread_first info limits (source_of bytes) now j fault (subst (λ (s : Incoming). ReadsWhole (λ (all : List ℕ) (_ : Unit {0}). (m : Marked) × SpellsInput limits all m) limits s (Err fault) now) is read))
+
+-- ---- whether there is no difference
+
+-- the tree of what was read
+tree_read : (info : Info) (limits : Limits) (i now : Incoming) (m : Marked) → Capped limits → ReadsMarked limits i m now → ReadsTree info limits i (Ok (tree_of info m)) now
+tree_read info limits i now m capped read = (read.0, λ tells. let found = read.1 tells in (has_fit info limits (known_bytes i.to_come) m capped found.0, found.1))
+
+swapped : (answer : Bool) (a b : Tree) → IsTrue answer ↔ (a ≡ b) → IsTrue answer ↔ (b ≡ a)
+swapped answer a b is = (λ yes. sym (is.0 yes), λ e. is.1 (sym e))
+
+both_read : (info : Info) (limits : Limits) (i now j later : Incoming) (a b : Marked) (same : Bool) → Capped limits → ReadsMarked limits i a now → ReadsMarked limits j b later
+    → (IsSome i.to_come → IsSome j.to_come → IsTrue same ↔ (tree_of info a ≡ tree_of info b)) → Compares info limits i j (Ok same) now later
+both_read info limits i now j later a b same capped first second is =
+    elim (tells_or_not i.to_come) [
+      | inr none ↦ let other = beside same (tree_of info b) in (other.0, tree_of info b, untold info limits i now other.0 first.0 none, tree_read info limits j later b capped second, other.1)
+      | inl known ↦
+          elim (tells_or_not j.to_come) [
+            | inr none ↦ let other = beside same (tree_of info a) in (tree_of info a, other.0, tree_read info limits i now a capped first, untold info limits j later other.0 second.0 none, swapped same other.0 (tree_of info a) other.1)
+            | inl told ↦ (tree_of info a, tree_of info b, tree_read info limits i now a capped first, tree_read info limits j later b capped second, is known told)
+          ]
+    ]
+
+pub compares : (info : Info) (limits : Limits) (i now j later : Incoming) (found : Result (Option Difference) SameFault) (answer : Result Bool SameFault) → Capped limits → FindsDifference info limits i j found now later → SaysNone found answer → Compares info limits i j answer now later
+compares info limits i now j later (Ok None) answer capped finds says =
+    subst (λ (r : Result Bool SameFault). Compares info limits i j r now later) (sym says)
+    (both_read info limits i now j later finds.0 finds.1 true capped finds.2 finds.3 (λ first second. (λ yes. finds.4 first second, λ e. refl)))
+compares info limits i now j later (Ok (Some d)) answer capped finds says =
+    subst (λ (r : Result Bool SameFault). Compares info limits i j r now later) (sym says)
+    (both_read info limits i now j later finds.0 finds.1 false capped finds.2 finds.3 (λ first second. (λ no. absurd cc, λ e. absurd (never_same info finds.0 finds.1 (difference_shown d) (finds.4 first second) e))))
+compares info limits i now j later (Err e) answer capped finds says = subst (λ (r : Result Bool SameFault). Compares info limits i j r now later) (sym says) finds

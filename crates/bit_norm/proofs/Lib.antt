@@ -1,10 +1,13 @@
+pub mod Apart
 pub mod ChunkCounting
 pub mod Comparisons
 pub mod Ends
+pub mod EventEntries
 pub mod Falls
 pub mod Gains
 pub mod Going
 pub mod InStep
+pub mod OneDifference
 pub mod Readings
 pub mod Signs
 pub mod Texts

@@ -135,9 +135,12 @@ value_apart over sign = None
 abbrev pub apart : Entry → Entry → Seen
 apart x y = record { place = at_item x.within x.items; first = standing x; second = standing y; value = value_apart x.sign y.sign }
 
+abbrev pub magic_standing : Head → Standing
+magic_standing head = record { bit = magic_bit head; what = the_magic head.magic }
+
 -- these magics do
 abbrev pub magics_apart : Head → Head → Seen
-magics_apart a b = record { place = at_magic; first = record { bit = magic_bit a; what = the_magic a.magic }; second = record { bit = magic_bit b; what = the_magic b.magic }; value = None }
+magics_apart a b = record { place = at_magic; first = magic_standing a; second = magic_standing b; value = None }
 
 -- where the trees of two inputs first differ under a setting: in the magics, or else in what stands behind them
 pub data FirstDifference (info : Info) (a b : Marked) (seen : Seen) : Type 0 where

@@ -1,6 +1,5 @@
 pub mod InStep
 pub mod Saturated
-pub mod Signs
 pub mod Whole
 pub mod Building
 pub mod Entries

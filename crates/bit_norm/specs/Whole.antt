@@ -1,5 +1,5 @@
 -- What the calls on whole inputs do.
-use Rattle.std.specs.Prelude.{◌≡◌, ◌↔◌, ℕ, Bool, IsTrue, List, [], Some, Result, Ok, Err}
+use Rattle.std.specs.Prelude.{◌≡◌, ◌↔◌, ℕ, Bool, true, false, IsTrue, IsSome, List, [], Option, Some, None, Result, Ok, Err}
 use Rattle.bit_grammar.specs.declared.info.Info.{Info}
 use Rattle.bit_grammar.specs.Forest.{Tree}
 use Rattle.bit_grammar.specs.Blocks.{Limits}
@@ -7,7 +7,10 @@ use Rattle.bit_fields.specs.declared.fault.Fault.{Fault}
 use Rattle.bit_fields.specs.declared.fault.Fault.TheVariants.{Refused, Read, Write, Memory, OutputTooLong, Failed}
 use Rattle.bit_fields.specs.Devices.{Incoming, Outgoing}
 use Rattle.bit_events.specs.Reading.{ReadsWhole}
+use Rattle.bit_grammar.specs.Input.{Marked, SpellsInput}
 use Rattle.bit_tree.specs.Reading.{HasFit}
+use Rattle.bit_norm.specs.Entries.{Differs}
+use Rattle.bit_norm.specs.declared.differences.Difference.{Difference}
 use Rattle.bit_norm.specs.Writing.{WritesForm}
 use Rattle.bit_norm.specs.declared.comparing.Which.{Which}
 use Rattle.bit_norm.specs.declared.comparing.Which.TheVariants.{First, Second}
@@ -51,9 +54,28 @@ abbrev pub Compares : Info → Limits → (i j : Incoming) → Result Bool SameF
 Compares info limits i j (Ok answer) now later = (a : Tree) × (b : Tree) × ReadsTree info limits i (Ok a) now × ReadsTree info limits j (Ok b) later × (IsTrue answer ↔ (a ≡ b))
 Compares info limits i j (Err e) now later = Misreads info limits e.which e.fault i j now later
 
+-- an input was read as its marked tree
+abbrev pub ReadsMarked : Limits → Incoming → Marked → Incoming → Type 0
+ReadsMarked limits i m now = ReadsWhole (λ (bytes : List ℕ) (m : Marked). SpellsInput limits bytes m) limits i (Ok m) now
+
+-- Both inputs were read, and the answer says where their trees first differ, if they do and are known; or one was not.
+abbrev pub FindsDifference : Info → Limits → (i j : Incoming) → Result (Option Difference) SameFault → (now later : Incoming) → Type 0
+FindsDifference info limits i j (Ok answer) now later = (a b : Marked) × ReadsMarked limits i a now × ReadsMarked limits j b later × (IsSome i.to_come → IsSome j.to_come → Differs info a b answer)
+FindsDifference info limits i j (Err e) now later = Misreads info limits e.which e.fault i j now later
+
+-- the answer to whether there is no difference, or the same fault
+abbrev pub SaysNone : Result (Option Difference) SameFault → Result Bool SameFault → Type 0
+SaysNone (Ok None) answer = answer ≡ Ok true
+SaysNone (Ok (Some difference)) answer = answer ≡ Ok false
+SaysNone (Err e) answer = answer ≡ Err e
+
 -- a source of bytes that was asked for nothing yet
 abbrev pub source_of : List ℕ → Incoming
 source_of bytes = record { to_come = Some bytes; pulls = 0; failures = 0; accounts = [] }
+
+-- the same of such a source, which never failed, and another one
+abbrev pub FindsInBytes : Info → Limits → (bytes : List ℕ) → (j : Incoming) → Result (Option Difference) SameFault → (later : Incoming) → Type 0
+FindsInBytes info limits bytes j answer later = (now : Incoming) × (now.failures ≡ 0) × FindsDifference info limits (source_of bytes) j answer now later
 
 -- such a source, which never failed, and another one were compared
 abbrev pub ComparesBytes : Info → Limits → (bytes : List ℕ) → (j : Incoming) → Result Bool SameFault → (later : Incoming) → Type 0

@@ -3,4 +3,5 @@ use Rattle.bit_norm.proofs.comparing.same.Goals as goal
 
 pub returns : goal.returns
 returns g c =
-    compares c.args.info c.args.limits (g.A.Source.incoming c.args.a) (g.A.Source.incoming c.check_keeping-first.result.1) (g.B.Source.incoming c.args.b) (g.B.Source.incoming c.compare_with-answer.result.1) c.in-Ok.first.items c.compare_with-answer.result.0 c.bytes-bytes.ensures.capped (rw c.in-Ok.is at c.check_keeping-first.ensures) (rw c.deref.ensures.value at c.compare_with-answer.ensures)
+    compares c.args.info c.args.limits (g.A.Source.incoming c.args.a) (g.A.Source.incoming c.first_difference-answer.result.1) (g.B.Source.incoming c.args.b) (g.B.Source.incoming c.first_difference-answer.result.2) c.first_difference-answer.result.0 c.is_none.result
+    c.bytes-bytes.ensures.capped c.first_difference-answer.ensures c.is_none.ensures

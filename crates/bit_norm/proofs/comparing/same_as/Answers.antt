@@ -1,10 +1,12 @@
-use Rattle.std.proofs.Common.{refl}
-use Rattle.bit_norm.proofs.Comparisons.{compares_bytes, bytes_misread}
+use Rattle.bit_norm.specs.Whole.{source_of}
+use Rattle.bit_norm.proofs.Comparisons.{compares}
 use Rattle.bit_norm.proofs.comparing.same_as.Goals as goal
 
-pub returns-in-Ok : goal.returns-in-Ok
-returns-in-Ok g c =
-    compares_bytes c.args.info c.args.limits c.args.first.now _ _ (g.B.Source.incoming c.args.b) (g.B.Source.incoming c.compare_with.result.1) c.in-Ok.field-0 c.compare_with.result.0 c.bytes-bytes.ensures.capped c.new.ensures refl (rw c.in-Ok.is at c.check-checked.ensures) c.compare_with.ensures
-
-pub returns-in-Err : goal.returns-in-Err
-returns-in-Err g c = rw c.faulty.ensures (bytes_misread c.args.info c.args.limits c.args.first.now _ _ (g.B.Source.incoming c.args.b) c.in-Err.fault c.new.ensures refl (rw c.in-Err.is at c.check-checked.ensures))
+pub returns : goal.returns
+returns g c =
+    let found = c.first_difference_from-answer.ensures in (
+      found.0,
+      found.1,
+      compares c.args.info c.args.limits (source_of c.args.first.now) found.0 (g.B.Source.incoming c.args.b) (g.B.Source.incoming c.first_difference_from-answer.result.1) c.first_difference_from-answer.result.0 c.is_none.result
+          c.bytes-bytes.ensures.capped found.2 c.is_none.ensures,
+    )

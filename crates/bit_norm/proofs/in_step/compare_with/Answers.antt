@@ -1,28 +1,32 @@
-use Rattle.std.proofs.Common.{refl, sym, ap, ◌∙◌, subst}
-use Rattle.std.proofs.lemmas.Bool.{eqb-true}
+use Rattle.std.proofs.Common.{ℕ, ◌+◌, refl, sym, ap, ◌∙◌, subst}
 use Rattle.bit_grammar.specs.Input.{Head}
 use Rattle.bit_fields.specs.Devices.{Incoming}
+use Rattle.bit_fields.specs.Opening.{head_told}
 use Rattle.bit_events.specs.Events.{Begun}
-use Rattle.bit_norm.proofs.Comparisons.{same_told, other_told}
+use Rattle.bit_norm.specs.Entries.{magic_bit}
+use Rattle.bit_norm.specs.InStep.{Concludes}
+use Rattle.bit_norm.proofs.InStep.{tally_begun}
+use Rattle.bit_norm.proofs.Comparisons.{concluded}
 use Rattle.bit_norm.proofs.in_step.compare_with.Goals as goal
-use Rattle.bit_norm.proofs.in_step.compare_with.Goals.{then-same_magic, else-same_magic}
 
-pub returns-after-same_magic : goal.returns-after-same_magic
-returns-after-same_magic g c =
+pub fold-read-requires : goal.fold-read-requires
+fold-read-requires g c = tally_begun _ c.new-2.ensures.«open» refl refl
+
+pub returns-in-Ok-conclude : goal.returns-in-Ok-conclude
+returns-in-Ok-conclude g c =
     let read = rw c.in-Ok-read.is at c.fold-read.ensures.whole in
     let begun = subst (λ (i : Incoming). Begun c.args.limits i c.in-Ok.events) c.new.ensures c.in-Ok.ensures.begun in
-    let comparer = c.in-Ok-read.folded.gatherer in
-    let first = c.number_of_magic-magic.ensures.magic ∙ ap (λ (h : Head). h.magic) c.head.ensures in (
+    let last = c.in-Ok-read.folded.gatherer in
+    let second = head_told c.in-Ok-read.folded.head in
+    let answer = c.in-Ok-conclude.answer in (
       read.0,
       λ tells.
-          let found = (read.1 tells).0 in
-          let second = ap (λ (h : Head). h.magic) found.is_head ∙ sym c.number_of_magic.ensures.magic in (
+          let found = (read.1 tells).0 in (
             found.marked,
             found.spelled,
             (read.1 tells).1,
-            λ other spelled. elim c.if-same_magic.branch [
-              | then-same_magic w ↦ rw w.result-is (same_told c.args.info c.args.limits c.args.first.now c.in-Ok.events comparer.first found.marked comparer.info comparer.passed comparer.differs c.in-Ok-finish.same (begun.told refl) (begun.pays.tells refl) found.gathers c.in-Ok-finish.ensures (second ∙ w.if-same_magic.true ∙ first) other spelled)
-              | else-same_magic w ↦ other_told c.args.info c.args.limits c.args.first.now c.in-Ok.events found.marked c.if-same_magic.result (begun.told refl) (λ yes. absurd (w.if-same_magic.false (eqb-true _ _ (sym w.result-is ∙ yes)))) (λ e. w.if-same_magic.false (sym second ∙ e ∙ sym first)) other spelled
-            ],
+            concluded c.args.info c.args.limits c.args.first.now _ last found.marked second answer (begun.told refl) (begun.pays.tells refl)
+                (record { setting = refl; within = c.new-2.ensures.«open»; items = c.new-2.ensures.items; passed = refl; ended = ap (λ (n : ℕ). n + 32) (c.magic_bit.ensures.bit ∙ ap magic_bit c.head.ensures) })
+                found.is_head found.gathers (subst (λ (h : Head). Concludes h second last answer) c.head.ensures c.in-Ok-conclude.ensures),
           ),
     )

@@ -1,0 +1,66 @@
+//! Where two trees stand that are gone through while nothing differs.
+
+ghost use Rattle.std.specs.Prelude.{◌≡◌, ◌+◌, ℕ, [], IfOk, OnOk};
+ghost use Rattle.bit_norm.specs.InStep.{ended_from, moved, sign_shown, stand_of};
+
+use crate::differences::OpenBlock;
+use crate::sign::Sign;
+use std::alloc::{AllocError, Global};
+
+/// The blocks that are open in both trees, and how many items stand before the place in the innermost of them, or at the top.
+#[derive(Drop)]
+pub(crate) struct Walk {
+    pub(crate) open: Vec<OpenBlock>,
+    pub(crate) items: u64,
+}
+
+/// One item more. Each has bits of its own, so that their number never gets to the greatest of 64 bits.
+pub(crate) fn one_more(items: u64) -> Result<u64, AllocError>
+    ensures { IfOk result (λ more. more ≡ items + 1) }
+{
+    items.checked_add(1).ok_or(AllocError)
+}
+
+impl Walk {
+    /// The place behind the magic.
+    pub(crate) fn new(alloc: Global) -> Walk
+        ensures open { result.open.items ≡ [] }
+        ensures items { result.items ≡ 0 }
+    {
+        Walk {
+            open: Vec::new(alloc),
+            items: 0,
+        }
+    }
+
+    /// Where what stands before the place ended: that is the magic where nothing does, and else it ended at this bit.
+    pub(crate) fn ended_from(&self, behind_magic: u64, ended: u64) -> u64
+        ensures { result ≡ ended_from behind_magic self.now.open.items self.now.items ended }
+    {
+        if self.items == 0 && self.open.is_empty() {
+            return behind_magic;
+        }
+        ended
+    }
+
+    /// Goes on behind a sign.
+    pub(crate) fn pass(&mut self, sign: Sign<'_>) -> Result<(), AllocError>
+        ensures { OnOk result ((before ended : ℕ) → stand_of self.new ended ≡ moved (stand_of self.old before) (sign_shown sign.entry) ended) }
+    {
+        match sign {
+            Sign::Begins(id) => {
+                let items = self.items;
+                self.open.push(OpenBlock { id, items })?;
+                self.items = 0;
+            }
+            Sign::Record(..) => self.items = one_more(self.items)?,
+            Sign::Ends => {
+                if let Some(block) = self.open.pop() {
+                    self.items = one_more(block.items)?;
+                }
+            }
+            Sign::Over => {}
+        }
+        Ok(())
+    }
+}
