@@ -169,7 +169,39 @@ fn glance_characters<V: ValueTaker>(ahead: &mut Ahead<'_>, count: u64, values: &
     more_characters(ahead, count - 1, values)
 }
 
-/// Reads so many fields of an operand, which is the element of an array.
+/// Reads so many fields of any operand that may be the element of an array. It is kept out of the callers, and has what is ahead
+/// for itself, so that neither has to write it back after each field.
+#[inline(never)]
+fn far_elements<'a, V: ValueTaker>(
+    ahead: Ahead<'a>,
+    count: u64,
+    element: Op,
+    values: &mut V,
+) -> Option<Ahead<'a>>
+    requires { HasLawfulValue element }
+    ensures glimpsed { IfSome result (λ after. Gains V.took values.old values.new (AddsAll (scalar element) count (reader_at ahead.entry) (Ok tt) (reader_at after))) }
+    ensures keeps { Keeps V.took values.old values.new }
+{
+    let mut ahead = ahead;
+    match element {
+        Op::Fixed(0) | Op::Vbr(0) => None,
+        Op::Fixed(width) => {
+            glance_fixed(&mut ahead, count, u32::from(width), values)?;
+            Some(ahead)
+        }
+        Op::Vbr(width) => {
+            glance_vbrs(&mut ahead, count, u32::from(width), values)?;
+            Some(ahead)
+        }
+        Op::Char6 => {
+            glance_characters(&mut ahead, count, values)?;
+            Some(ahead)
+        }
+        Op::Literal(_) | Op::Array | Op::Blob => None,
+    }
+}
+
+/// Reads so many fields of an operand, which is the element of an array: most often VBR 6.
 #[inline(always)]
 fn glance_elements<V: ValueTaker>(
     ahead: &mut Ahead<'_>,
@@ -181,19 +213,16 @@ fn glance_elements<V: ValueTaker>(
     ensures glimpsed { OnSome result (Gains V.took values.old values.new (AddsAll (scalar element) count (reader_at ahead.old) (Ok tt) (reader_at ahead.new))) }
     ensures keeps { Keeps V.took values.old values.new }
 {
-    match element {
-        Op::Fixed(0) | Op::Vbr(0) => None,
-        Op::Fixed(width) => glance_fixed(ahead, count, u32::from(width), values),
-        Op::Vbr(6) => glance_vbrs(ahead, count, 6, values),
-        Op::Vbr(width) => glance_vbrs(ahead, count, u32::from(width), values),
-        Op::Char6 => glance_characters(ahead, count, values),
-        Op::Literal(_) | Op::Array | Op::Blob => None,
+    if let Op::Vbr(6) = element {
+        return glance_vbrs(ahead, count, 6, values);
     }
+    *ahead = far_elements(ahead.copy(), count, element, values)?;
+    Some(())
 }
 
 /// Reads an array of fields of an operand, with room for so many values.
 #[inline(always)]
-fn glance_array<V: ValueTaker>(
+fn glance_array<U, V: ValueTaker>(
     ahead: &mut Ahead<'_>,
     room: u64,
     element: Op,
@@ -223,7 +252,7 @@ fn glance_scalar(ahead: &mut Ahead<'_>, op: Op) -> Option<u64>
     }
 }
 
-/// Does so where nobody looks at the value. Into the calls for the usual widths the width is written.
+/// Does so where nobody looks at the value.
 #[inline(always)]
 #[tactic(auto, unfolding(bit_grammar::specs::Record::scalar))]
 fn pass_scalar(ahead: &mut Ahead<'_>, op: Op) -> Option<u64>
@@ -234,8 +263,6 @@ fn pass_scalar(ahead: &mut Ahead<'_>, op: Op) -> Option<u64>
         Op::Literal(value) => Some(value),
         Op::Fixed(0) | Op::Vbr(0) | Op::Array | Op::Blob => None,
         Op::Fixed(width) => ahead.fixed(u32::from(width)),
-        Op::Vbr(6) => ahead.pass_vbr(6),
-        Op::Vbr(8) => ahead.pass_vbr(8),
         Op::Vbr(width) => ahead.pass_vbr(u32::from(width)),
         Op::Char6 => ahead.char6(),
     }
@@ -273,7 +300,7 @@ fn more_scalars<V: ValueTaker>(ahead: &mut Ahead<'_>, ops: &[Op], values: &mut V
 
 /// Reads the values of operands that stand for one value each.
 #[inline(always)]
-fn glance_scalars<V: ValueTaker>(ahead: &mut Ahead<'_>, ops: &[Op], values: &mut V) -> Option<()>
+fn glance_scalars<U, V: ValueTaker>(ahead: &mut Ahead<'_>, ops: &[Op], values: &mut V) -> Option<()>
     requires { AllByRecursion HasLawfulValue ops.now }
     ensures glimpsed { OnSome result (Gains V.took values.old values.new (AddsEach ops.now (reader_at ahead.old) (reader_at ahead.new))) }
     ensures keeps { Keeps V.took values.old values.new }
@@ -330,7 +357,7 @@ fn count_singles(ops: &[Op]) -> Option<usize>
 
 /// Reads the values of operands, with room for so many.
 #[inline(always)]
-fn glance_values<V: ValueTaker>(
+fn glance_values<U, V: ValueTaker>(
     ahead: &mut Ahead<'_>,
     room: u64,
     ops: &[Op],
@@ -344,17 +371,20 @@ fn glance_values<V: ValueTaker>(
     ensures keeps { Keeps V.took values.old values.new }
 {
     let count = count_singles(ops)?;
-    glance_scalars(ahead, &ops[..count], values)?;
+    glance_scalars::<U, V>(ahead, &ops[..count], values)?;
     if count == ops.len() {
         return Some(());
     }
-    glance_array(ahead, room - count as u64, ops[count + 1], values)
+    glance_array::<U, V>(ahead, room - count as u64, ops[count + 1], values)
 }
 
 /// Reads a record by its operands, after its abbreviation id: hands its values on and answers its code. Where it answers
 /// `None`, some of its values may stand behind the others.
+///
+/// `U` is whom it is compiled for. Each user has a copy of its own, which the compiler writes into the user's loop, where what
+/// is ahead then stays in registers.
 #[inline(always)]
-pub fn glance_record<V: ValueTaker>(
+pub fn glance_record<U, V: ValueTaker>(
     ahead: &mut Ahead<'_>,
     ops: &[Op],
     room: u64,
@@ -371,7 +401,7 @@ pub fn glance_record<V: ValueTaker>(
         return None;
     }
     let code = glance_scalar(ahead, *first)?;
-    glance_values(ahead, room, others, values)?;
+    glance_values::<U, V>(ahead, room, others, values)?;
     Some(code)
 }
 

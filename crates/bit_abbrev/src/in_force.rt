@@ -81,6 +81,36 @@ impl Model for InForce {
     ghost view = { λ inside. option_map_or (λ shared. list_at shared.0.value shared.1) inside.shared [] ++ inside.own.items };
 }
 
+/// The definitions in force in a block, as the two lists that they stand in.
+#[derive(Drop)]
+pub struct Definitions<'a> {
+    shared: &'a [Abbrev],
+    own: &'a [Abbrev],
+}
+
+impl<'a> Model for Definitions<'a> {
+    ghost use Rattle.std.specs.Prelude.{List, ◌++◌};
+    ghost use Rattle.bit_grammar.specs.declared.op.Op.{Op};
+
+    ghost Value = { List (List Op) };
+
+    ghost view = { λ all. all.shared.now ++ all.own.now };
+}
+
+impl<'a> Definitions<'a> {
+    /// The definition at an index, if there is one.
+    #[inline(always)]
+    pub fn get(&self, index: usize) -> Option<&'a Abbrev>
+        ensures { option_copied result ≡ slice_get self.now index }
+    {
+        if index < self.shared.len() {
+            self.shared.get(index)
+        } else {
+            self.own.get(index - self.shared.len())
+        }
+    }
+}
+
 impl InForce {
     /// None. It takes no memory.
     pub fn new(alloc: Global) -> InForce
@@ -101,19 +131,26 @@ impl InForce {
         Ok(())
     }
 
-    /// The definition at an index, if there is one.
-    pub fn get(&self, index: usize) -> Option<&Abbrev>
-        ensures { option_copied result ≡ slice_get self.now index }
+    /// All of them, to look up many.
+    #[inline]
+    pub fn all(&self) -> Definitions<'_>
+        ensures { result ≡ self.now }
     {
         let shared = match &self.shared {
             Some((table, place)) => table.list_at(*place),
             None => &[],
         };
-        if index < shared.len() {
-            shared.get(index)
-        } else {
-            self.own.get(index - shared.len())
+        Definitions {
+            shared,
+            own: self.own.as_slice(),
         }
+    }
+
+    /// The definition at an index, if there is one.
+    pub fn get(&self, index: usize) -> Option<&Abbrev>
+        ensures { option_copied result ≡ slice_get self.now index }
+    {
+        self.all().get(index)
     }
 
     /// The definition that the block added last, or the last one of the table.

@@ -21,7 +21,7 @@ pub use abbrev::{Abbrev, BadAbbrev, Ops};
 pub use bit_grammar::Op;
 pub use definition::read_define;
 pub use glance::{glance_record, plain_ops};
-pub use in_force::{InForce, SharedInfo};
+pub use in_force::{Definitions, InForce, SharedInfo};
 pub use info::InfoTable;
 pub use laws::lawful_unbroken;
 pub use record::read_abbreviated;

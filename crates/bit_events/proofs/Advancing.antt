@@ -14,13 +14,13 @@ use Rattle.bit_grammar.proofs.Machines.{Step, comes}
 use Rattle.bit_fields.specs.declared.fault.Fault.{Fault}
 use Rattle.bit_fields.specs.declared.fault.Fault.TheVariants.{Refused, Read, Write, Memory, OutputTooLong, Failed}
 use Rattle.bit_fields.specs.declared.head.Head.{Head}
-use Rattle.bit_fields.specs.Devices.{Incoming, known_bytes}
+use Rattle.bit_fields.specs.Devices.{Incoming, Fails, known_bytes}
 use Rattle.bit_fields.specs.Reader as fields
-use Rattle.bit_fields.specs.Reader.{Reader, Extent, TellsBytes, GoesOn, Took, Why, SourceFails, within}
+use Rattle.bit_fields.specs.Reader.{Reader, Extent, TellsBytes, GoesOn, Took, Why, within}
 use Rattle.bit_fields.specs.Opening as opening
 use Rattle.bit_fields.specs.Opening.{head_told, Opened, fresh, beginning, Beginning, wrapper_of, end_of}
 use Rattle.bit_fields.specs.Ending.{Stays}
-use Rattle.bit_fields.proofs.InflowLaws.{Spends-trans}
+use Rattle.bit_fields.proofs.InflowLaws.{Spends-trans, fails_later}
 use Rattle.bit_events.specs.declared.frame.Frame.{Frame}
 use Rattle.bit_events.specs.declared.machine.Found.{Found}
 use Rattle.bit_events.specs.declared.machine.Machine.{Machine}
@@ -30,7 +30,7 @@ use Rattle.bit_events.specs.declared.machine.Aside.TheVariants.{Enter, Define, L
 use Rattle.bit_events.specs.Coming.{held_after}
 use Rattle.bit_events.specs.MachineView.{machine_shown, definition_of, found_shown, found_lent, after_found, HoldsDefinition, Leaves}
 use Rattle.bit_events.specs.Coming.{over as over_stage}
-use Rattle.bit_events.specs.Coming.{failed, Goes, Gives, Ends, Breaks, Stops, before, end_at, end_by, told_of}
+use Rattle.bit_events.specs.Coming.{failed, Goes, Gives, Ends, Breaks, Stops, Loses, before, end_at, end_by, told_of}
 use Rattle.bit_events.specs.Folding.{left_to_tell}
 use Rattle.bit_events.specs.Events.{stage_of, coming_of, IsEvents, Over, Shuts, Begun, Declines}
 use Rattle.bit_events.proofs.Beginnings.{outlook_begun, outlook_declined}
@@ -95,10 +95,9 @@ told_end limits e m p left none empty = rw (none, empty) refl
 pub pays_both : (a b c : Reader) → GoesOn a b → GoesOn b c → GoesOn a c
 pays_both a b c p q = Spends-trans a.incoming a.budget b.incoming b.budget c.incoming c.budget p q
 
--- a source that failed later failed
-pub fails_later : (a b c : Reader) → GoesOn a b → SourceFails b.incoming c.incoming → SourceFails a.incoming c.incoming
-fails_later a b c p (inl more) = inl (omega (arith, p.failures, more))
-fails_later a b c p (inr worn) = inr worn
+-- a source that failed later
+pub loses_both : (a b c : Reader) → GoesOn a b → Fails b.incoming b.budget c.incoming c.budget → Fails a.incoming a.budget c.incoming c.budget
+loses_both a b c p q = fails_later a.incoming a.budget b.incoming b.budget c.incoming c.budget p q
 
 -- ---- the answers
 
@@ -130,13 +129,16 @@ pub shut_told : (limits : Limits) (m : Machine) (a : Reader) (ending : Ending) �
 shut_told limits m a ending none empty is =
     told_end limits a.extent (machine_shown m) a.position a.left (shown_none m.frames.items (sym m.frames.ok.0 ∙ none)) empty ∙ ap (λ (e : Ending). ([], e)) is
 
-stops : (limits : Limits) (head : Head) (m new : Machine) (vs ws : List ℕ) (found next_found : Option Found) (a b c : Reader) → Stays a b → fields.Stops b c → Stops (coming_of false limits head m vs found a) (coming_of false limits head new ws next_found c)
-stops limits head m new vs ws found next_found a b c h s = record { went = rw h.was_live refl; stopped = rw s.failed refl; pays = pays_both a b c h.goes_on s.goes_on }
+stops : (limits : Limits) (head : Head) (m new : Machine) (vs ws : List ℕ) (found next_found : Option Found) (a b c : Reader) → Stays a b → fields.Stops b c → Stops (coming_of false limits head m vs found a.position a) (coming_of false limits head new ws next_found a.position c)
+stops limits head m new vs ws found next_found a b c h s = record { went = rw h.was_live refl; stopped = rw s.failed refl; head = refl; position = refl; pays = pays_both a b c h.goes_on s.goes_on }
+
+loses : (limits : Limits) (head : Head) (m new : Machine) (vs ws : List ℕ) (found next_found : Option Found) (a b c : Reader) → Stays a b → fields.Loses b c → Loses (coming_of false limits head m vs found a.position a) (coming_of false limits head new ws next_found a.position c)
+loses limits head m new vs ws found next_found a b c h s = record { went = rw h.was_live refl; stopped = rw s.failed refl; head = refl; position = refl; fails = loses_both a b c h.goes_on s.fails }
 
 -- an event came
 gives : (limits : Limits) (head : Head) (m new : Machine) (vs ws : List ℕ) (found : Option Found) (next_found : Found) (a b c : Reader) → Ready m a b
     → Took (step limits (machine_shown m)) b (after_found new ws next_found) c → Leaves limits.depth m b (found_shown new ws next_found) new c → ws ≡ held_after (found_shown new ws next_found) vs → b.position < c.position → c.position < 2 ^ 64
-    → Gives (coming_of false limits head m vs found a) (found_shown new ws next_found) (coming_of false limits head new ws (Some next_found) c)
+    → Gives (coming_of false limits head m vs found a.position a) (found_shown new ws next_found) (coming_of false limits head new ws (Some next_found) c.position c)
 gives limits head m new vs ws found next_found a b c h took leaves held forward below = record {
   went = rw h.0.was_live refl;
   goes = rw took.live refl;
@@ -153,9 +155,9 @@ gives limits head m new vs ws found next_found a b c h took leaves held forward 
 
 -- no event came
 misses : (limits : Limits) (head : Head) (m new : Machine) (vs ws : List ℕ) (found next_found : Option Found) (a b c : Reader) (fault : Fault) → Ready m a b
-    → Why (step limits (machine_shown m)) b fault c → Breaks (coming_of false limits head m vs found a) fault (coming_of false limits head new ws next_found c)
+    → Why (step limits (machine_shown m)) b fault c → Breaks (coming_of false limits head m vs found a.position a) fault (coming_of false limits head new ws next_found a.position c)
 misses limits head m new vs ws found next_found a b c (Refused reason bit) h why = (stops limits head m new vs ws found next_found a b c h.0 why.0, λ tells. break_told limits m reason bit a b h why.1 tells)
-misses limits head m new vs ws found next_found a b c Read h why = (stops limits head m new vs ws found next_found a b c h.0 why.0, fails_later a b c h.0.goes_on why.1)
+misses limits head m new vs ws found next_found a b c Read h why = loses limits head m new vs ws found next_found a b c h.0 why
 misses limits head m new vs ws found next_found a b c Memory h why = stops limits head m new vs ws found next_found a b c h.0 why
 misses limits head m new vs ws found next_found a b c Failed h why = absurd (dead b.live h.0.live why.0)
 misses limits head m new vs ws found next_found a b c Write h why = absurd why
@@ -171,7 +173,7 @@ begun false e = cc
 
 -- the input ends
 ends : (limits : Limits) (head : Head) (m : Machine) (vs : List ℕ) (found : Option Found) (a c : Reader) → vec_len m.frames ≡ 0 → a.live ≡ true → Over a c
-    → Ends (coming_of false limits head m vs found a) (coming_of true limits head m vs None c)
+    → Ends (coming_of false limits head m vs found a.position a) (coming_of true limits head m vs None a.position c)
 ends limits head m vs found a c none live over = record {
   held_on = λ e. still a.live live e;
   ends = refl;
@@ -184,17 +186,17 @@ ends limits head m vs found a c none live over = record {
   none = λ _ tells. over.none tells;
 }
   where
-    told : TellsBytes a → left_to_tell limits m a ≡ ([], accepted c.position)
-    told tells = (let o = over.told tells in shut_told limits m a (accepted c.position) none o.0 (o.1 ∙ ap accepted (sym over.position)))
+    told : TellsBytes a → left_to_tell limits m a ≡ ([], accepted a.position)
+    told tells = (let o = over.told tells in shut_told limits m a (accepted a.position) none o.0 o.1)
 
 -- outside of all blocks no event came
 refuses : (limits : Limits) (head : Head) (m : Machine) (vs : List ℕ) (found : Option Found) (a c : Reader) (fault : Fault) → vec_len m.frames ≡ 0 → Shuts true a (Err fault) c
-    → Breaks (coming_of false limits head m vs found a) fault (coming_of false limits head m vs found c)
+    → Breaks (coming_of false limits head m vs found a.position a) fault (coming_of false limits head m vs found a.position c)
 refuses limits head m vs found a c (Refused reason bit) none (_, s, told) = (
-  record { went = rw s.was_live refl; stopped = rw s.failed refl; pays = s.goes_on },
+  record { went = rw s.was_live refl; stopped = rw s.failed refl; head = refl; position = refl; pays = s.goes_on },
   λ tells. shut_told limits m a (broke (at reason bit)) none (told tells).0 (told tells).1,
 )
-refuses limits head m vs found a c Read none (_, s, failed_so) = (record { went = rw s.was_live refl; stopped = rw s.failed refl; pays = s.goes_on }, failed_so)
+refuses limits head m vs found a c Read none (_, s) = record { went = rw s.was_live refl; stopped = rw s.failed refl; head = refl; position = refl; fails = s.fails }
 refuses limits head m vs found a c Memory none h = absurd h
 refuses limits head m vs found a c Failed none h = absurd h
 refuses limits head m vs found a c Write none h = absurd h
@@ -204,7 +206,7 @@ refuses limits head m vs found a c OutputTooLong none h = absurd h
 
 -- an input was begun
 pub began : (limits : Limits) (i : Incoming) (head : Head) (m : Machine) (values : List ℕ) (r : Reader) → Capped limits → machine_shown m ≡ at_start → values ≡ [] → vec_len m.frames ≡ 0
-    → Opened (fresh i limits.bytes) head r → Begun limits i (coming_of false limits head m values None r)
+    → Opened (fresh i limits.bytes) head r → Begun limits i (coming_of false limits head m values None r.position r)
 began limits i head m values r capped shown held none o = record {
   capped = capped;
   goes = rw o.live refl;
@@ -250,25 +252,25 @@ lends m values (found.Record id code first after) h = refl
 pub kept_goes : (is_over : Bool) (limits : Limits) (head : Head) (m new : Machine) (vs ws : List ℕ) (found : Option Found) (next_found : Found) (a b c : Reader) (outside : Bool) → is_over ≡ false
     → (vec_len m.frames ≡ 0 → outside ≡ true) → Shuts outside a (Ok false) b → Took (step limits (machine_shown m)) b (after_found new ws next_found) c → Leaves limits.depth m b (found_shown new ws next_found) new c → ws ≡ held_after (found_shown new ws next_found) vs
     → b.position < c.position → c.position < 2 ^ 64
-    → Goes (coming_of is_over limits head m vs found a) (Ok (found_lent new ws next_found)) (coming_of is_over limits head new ws (Some next_found) c)
+    → Goes (coming_of is_over limits head m vs found a.position a) (Ok (found_lent new ws next_found)) (coming_of is_over limits head new ws (Some next_found) c.position c)
 kept_goes is_over limits head m new vs ws found next_found a b c outside e out shut took leaves held forward below =
-    subst (λ (o : Option Event). Goes (coming_of is_over limits head m vs found a) (Ok o) (coming_of is_over limits head new ws (Some next_found) c)) (sym (lends new ws next_found leaves.holds))
-    (subst (λ (x : Bool). Gives (coming_of x limits head m vs found a) (found_shown new ws next_found) (coming_of x limits head new ws (Some next_found) c)) (sym e)
+    subst (λ (o : Option Event). Goes (coming_of is_over limits head m vs found a.position a) (Ok o) (coming_of is_over limits head new ws (Some next_found) c.position c)) (sym (lends new ws next_found leaves.holds))
+    (subst (λ (x : Bool). Gives (coming_of x limits head m vs found a.position a) (found_shown new ws next_found) (coming_of x limits head new ws (Some next_found) c.position c)) (sym e)
     (gives limits head m new vs ws found next_found a b c (shut.0, λ none. shut.1 (out none)) took leaves held forward below))
 
 -- no event came
 pub kept_misses : (is_over : Bool) (limits : Limits) (head : Head) (m new : Machine) (vs ws : List ℕ) (found : Option Found) (a b c : Reader) (outside : Bool) (fault : Fault) → is_over ≡ false
     → (vec_len m.frames ≡ 0 → outside ≡ true) → Shuts outside a (Ok false) b → Why (step limits (machine_shown m)) b fault c
-    → Breaks (coming_of is_over limits head m vs found a) fault (coming_of is_over limits head new ws found c)
+    → Breaks (coming_of is_over limits head m vs found a.position a) fault (coming_of is_over limits head new ws found a.position c)
 kept_misses is_over limits head m new vs ws found a b c outside fault e out shut why =
-    subst (λ (x : Bool). Breaks (coming_of x limits head m vs found a) fault (coming_of x limits head new ws found c)) (sym e)
+    subst (λ (x : Bool). Breaks (coming_of x limits head m vs found a.position a) fault (coming_of x limits head new ws found a.position c)) (sym e)
     (misses limits head m new vs ws found found a b c fault (shut.0, λ none. shut.1 (out none)) why)
 
 -- the input ends
 pub kept_ends : (is_over : Bool) (limits : Limits) (head : Head) (m : Machine) (vs : List ℕ) (found : Option Found) (a c : Reader) (outside : Bool) → is_over ≡ false → (outside ≡ true → vec_len m.frames ≡ 0)
-    → Shuts outside a (Ok true) c → Ends (coming_of is_over limits head m vs found a) (coming_of true limits head m vs None c)
+    → Shuts outside a (Ok true) c → Ends (coming_of is_over limits head m vs found a.position a) (coming_of true limits head m vs None a.position c)
 kept_ends is_over limits head m vs found a c outside e out shut =
-    subst (λ (x : Bool). Ends (coming_of x limits head m vs found a) (coming_of true limits head m vs None c)) (sym e)
+    subst (λ (x : Bool). Ends (coming_of x limits head m vs found a.position a) (coming_of true limits head m vs None a.position c)) (sym e)
     (ends limits head m vs found a c (out shut.0) shut.1.stops.was_live shut.1)
 
 was_outside : (outside : Bool) (a : Reader) (fault : Fault) (c : Reader) → Shuts outside a (Err fault) c → outside ≡ true
@@ -279,17 +281,27 @@ was_outside outside a Failed c h = absurd h
 was_outside outside a Write c h = absurd h
 was_outside outside a OutputTooLong c h = absurd h
 
+-- the reader had not failed before
+pub shut_live : (outside : Bool) (a : Reader) (fault : Fault) (c : Reader) → Shuts outside a (Err fault) c → a.live ≡ true
+shut_live outside a (Refused reason bit) c h = h.1.was_live
+shut_live outside a Read c h = h.1.was_live
+shut_live outside a Memory c h = absurd h
+shut_live outside a Failed c h = absurd h
+shut_live outside a Write c h = absurd h
+shut_live outside a OutputTooLong c h = absurd h
+
 -- outside of all blocks no event came
 pub kept_refuses : (is_over : Bool) (limits : Limits) (head : Head) (m : Machine) (vs : List ℕ) (found : Option Found) (a c : Reader) (outside : Bool) (fault : Fault) → is_over ≡ false → (outside ≡ true → vec_len m.frames ≡ 0)
-    → Shuts outside a (Err fault) c → Breaks (coming_of is_over limits head m vs found a) fault (coming_of is_over limits head m vs found c)
+    → Shuts outside a (Err fault) c → Breaks (coming_of is_over limits head m vs found a.position a) fault (coming_of is_over limits head m vs found a.position c)
 kept_refuses is_over limits head m vs found a c outside fault e out shut =
     let outside_so = was_outside outside a fault c shut in
-    subst (λ (x : Bool). Breaks (coming_of x limits head m vs found a) fault (coming_of x limits head m vs found c)) (sym e)
+    subst (λ (x : Bool). Breaks (coming_of x limits head m vs found a.position a) fault (coming_of x limits head m vs found a.position c)) (sym e)
     (refuses limits head m vs found a c fault (out outside_so) (subst (λ (o : Bool). Shuts o a (Err fault) c) outside_so shut))
 
 -- what holds where the input has ended
-pub closed : (m : Machine) (a c : Reader) (outside : Bool) → (outside ≡ true → vec_len m.frames ≡ 0) → Shuts outside a (Ok true) c → IsEvents true m None c
-closed m a c outside out shut = record {
+pub closed : (m : Machine) (a c : Reader) (outside : Bool) (place : ℕ) → (outside ≡ true → vec_len m.frames ≡ 0) → Shuts outside a (Ok true) c → IsEvents true m None place c
+closed m a c outside place out shut = record {
+  stands = λ live. absurd (dead c.live live shut.1.stops.failed);
   aligned = λ live. absurd (dead c.live live shut.1.stops.failed);
   closed = λ _. record { frames = out shut.0; last = refl };
 }

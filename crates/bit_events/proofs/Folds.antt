@@ -14,11 +14,11 @@ use Rattle.bit_fields.specs.declared.fault.Fault.{Fault}
 use Rattle.bit_fields.specs.declared.fault.Fault.TheVariants.{Refused, Read, Write, Memory, OutputTooLong, Failed}
 use Rattle.bit_fields.specs.declared.head.Head.{Head}
 use Rattle.bit_fields.specs.Devices.{Incoming, known_bytes}
-use Rattle.bit_fields.specs.Reader.{Reader, TellsBytes, GoesOn, SourceFails, Took, Why, Takes, Stops, stopped}
+use Rattle.bit_fields.specs.Reader.{Reader, TellsBytes, GoesOn, Took, Why, Takes, Stops, stopped}
 use Rattle.bit_fields.specs.Ending.{Stays}
 use Rattle.bit_fields.specs.Opening.{head_told}
 use Rattle.bit_fields.proofs.Composing.{stops_here}
-use Rattle.bit_fields.proofs.InflowLaws.{Spends-refl, Spends-trans, Spends-none}
+use Rattle.bit_fields.proofs.InflowLaws.{Spends-refl, Spends-trans, Spends-none, Fails-none, fails_later}
 use Rattle.bit_events.specs.declared.head.BlockHead.{BlockHead}
 use Rattle.bit_events.specs.declared.machine.Machine.{Machine}
 use Rattle.bit_grammar.proofs.Telling.{told_if_broken}
@@ -29,7 +29,7 @@ use Rattle.bit_events.specs.Gathering.{open_behind, left_open, Gathers}
 use Rattle.bit_events.specs.HeadView.{head_shown}
 use Rattle.bit_events.specs.MachineView.{handed_shown, machine_shown, innermost_head, record_rule, Leaves}
 use Rattle.bit_events.specs.Reading.{Spent, ReadsWhole}
-use Rattle.bit_events.proofs.Advancing.{Ready, event_told, break_told, shut_told, pays_both, fails_later, dead}
+use Rattle.bit_events.proofs.Advancing.{Ready, event_told, break_told, shut_told, pays_both, loses_both, dead}
 use Rattle.bit_events.proofs.Stepping.{Innermost, innermost_of, length-frames, frames-none, in_missed, in_then, after_record, other_than}
 use Rattle.bit_events.proofs.WholeInputs.{accepted_input}
 
@@ -150,7 +150,7 @@ some_then gathered limits m a g n b h o c k one two = record {
 -- no event came
 pub step_missed : (limits : Limits) (m : Machine) (a b : Reader) (fault : Fault) (c : Reader) → Ready m a b → Why (step limits (machine_shown m)) b fault c → Misses limits m a fault c
 step_missed limits m a b (Refused reason bit) c ready why = (pays_both a b c ready.0.goes_on why.0.goes_on, λ tells. ap (λ (told : Told). told.1) (break_told limits m reason bit a b ready why.1 tells))
-step_missed limits m a b Read c ready why = (pays_both a b c ready.0.goes_on why.0.goes_on, fails_later a b c ready.0.goes_on why.1)
+step_missed limits m a b Read c ready why = loses_both a b c ready.0.goes_on why.fails
 step_missed limits m a b Memory c ready why = pays_both a b c ready.0.goes_on why.goes_on
 step_missed limits m a b Failed c ready why = absurd (dead b.live ready.0.live why.0)
 step_missed limits m a b Write c ready why = why
@@ -159,7 +159,7 @@ step_missed limits m a b OutputTooLong c ready why = why
 -- none came after some
 pub some_missed : {G : Type 0} (gathered : G → List Event → G → Type 0) (limits : Limits) (m : Machine) (a : Reader) (g : G) (n : Machine) (b : Reader) (h : G) (fault : Fault) (c : Reader) → GathersSome gathered limits m a g n b h → Misses limits n b fault c → Misses limits m a fault c
 some_missed gathered limits m a g n b h (Refused reason bit) c some miss = (pays_both a b c some.pays miss.0, λ tells. ap (λ (told : Told). told.1) (some.told tells) ∙ miss.1 (some.pays.tells tells))
-some_missed gathered limits m a g n b h Read c some miss = (pays_both a b c some.pays miss.0, fails_later a b c some.pays miss.1)
+some_missed gathered limits m a g n b h Read c some miss = loses_both a b c some.pays miss
 some_missed gathered limits m a g n b h Memory c some miss = pays_both a b c some.pays miss
 some_missed gathered limits m a g n b h Failed c some miss = miss
 some_missed gathered limits m a g n b h Write c some miss = miss
@@ -223,7 +223,7 @@ aside_taken gathered limits m a g n head b h id c first (Err fault) o d k some i
 -- the input is not accepted at the end of its stream
 pub shut_missed : (limits : Limits) (m : Machine) (a : Reader) (fault : Fault) (c : Reader) → vec_len m.frames ≡ 0 → Shuts true a (Err fault) c → Misses limits m a fault c
 shut_missed limits m a (Refused reason bit) c none (_, stops, told) = (stops.goes_on, λ tells. ap (λ (told : Told). told.1) (shut_told limits m a (broke (at reason bit)) none (told tells).0 (told tells).1))
-shut_missed limits m a Read c none (_, stops, fails) = (stops.goes_on, fails)
+shut_missed limits m a Read c none (_, loses) = loses.fails
 shut_missed limits m a Memory c none h = absurd h
 shut_missed limits m a Failed c none h = h
 shut_missed limits m a Write c none h = h
@@ -252,28 +252,24 @@ no_top limits m a b fault c none shut why = step_missed limits m a b fault c (sh
 
 -- ---- a whole input
 
-pub spent : (limits : Limits) (i : Incoming) (head : Head) (m : Machine) (a b : Reader) → Begun limits i (coming_of false limits head m [] None a) → GoesOn a b → Spent limits i b.incoming
+pub spent : (limits : Limits) (i : Incoming) (head : Head) (m : Machine) (a b : Reader) → Begun limits i (coming_of false limits head m [] None a.position a) → GoesOn a b → Spent limits i b.incoming
 spent limits i head m a b begun pays = Spends-none i (limits.bytes + 1) b.incoming b.budget (Spends-trans i (limits.bytes + 1) a.incoming a.budget b.incoming b.budget begun.pays pays)
 
 abbrev failure : {A : Type 0} → Fault → Result A Fault
 failure fault = Err fault
 
-pub not_read : {A : Type 0} (Holds : List ℕ → A → Type 0) (limits : Limits) (i now : Incoming) (head : Head) (m : Machine) (a b : Reader) (fault : Fault) → Begun limits i (coming_of false limits head m [] None a) → now ≡ b.incoming → Misses limits m a fault b → ReadsWhole Holds limits i (Err fault) now
+pub not_read : {A : Type 0} (Holds : List ℕ → A → Type 0) (limits : Limits) (i now : Incoming) (head : Head) (m : Machine) (a b : Reader) (fault : Fault) → Begun limits i (coming_of false limits head m [] None a.position a) → now ≡ b.incoming → Misses limits m a fault b → ReadsWhole Holds limits i (Err fault) now
 not_read {A = A} Holds limits i now head m a b fault begun is_now miss = subst (λ (x : Incoming). ReadsWhole Holds limits i (failure {A = A} fault) x) (sym is_now) (go fault miss)
   where
-    fails : SourceFails a.incoming b.incoming → SourceFails i b.incoming
-    fails (inl more) = inl (omega (arith, begun.pays.failures, more))
-    fails (inr worn) = inr worn
-
     go : (fault : Fault) → Misses limits m a fault b → ReadsWhole Holds limits i (failure {A = A} fault) b.incoming
     go (Refused reason bit) h = (spent limits i head m a b begun h.0, λ tells. (told_if_broken limits (known_bytes i.to_come) (at reason bit)).1 (inr ((head_told head, left_to_tell limits m a), begun.told tells, h.1 (begun.pays.tells tells))))
-    go Read h = (spent limits i head m a b begun h.0, fails h.1)
+    go Read h = Fails-none i (limits.bytes + 1) b.incoming b.budget (fails_later i (limits.bytes + 1) a.incoming a.budget b.incoming b.budget begun.pays h)
     go Memory h = spent limits i head m a b begun h
     go Failed h = h
     go Write h = h
     go OutputTooLong h = h
 
-pub whole_gathered : {G : Type 0} (gathered : G → List Event → G → Type 0) (limits : Limits) (i : Incoming) (head : Head) (m : Machine) (a : Reader) (g : G) (b : Reader) (h : G) (after : ℕ) → Begun limits i (coming_of false limits head m [] None a) → gathered g [] g → after ≡ b.position → GathersAll gathered limits m a g b h → IsSome i.to_come
+pub whole_gathered : {G : Type 0} (gathered : G → List Event → G → Type 0) (limits : Limits) (i : Incoming) (head : Head) (m : Machine) (a : Reader) (g : G) (b : Reader) (h : G) (after : ℕ) → Begun limits i (coming_of false limits head m [] None a.position a) → gathered g [] g → after ≡ b.position → GathersAll gathered limits m a g b h → IsSome i.to_come
     → Gathered gathered limits (known_bytes i.to_come) g (head_told head) h after
 whole_gathered gathered limits i head m a g b h after begun none is_after all tells =
     let it = accepted_input limits (known_bytes i.to_come) (head_told head) all.events b.position (begun.told tells ∙ ap (λ (told : Told). Ok (head_told head, told)) (all.told (begun.pays.tells tells))) in

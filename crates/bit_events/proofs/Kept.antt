@@ -6,7 +6,7 @@ use Rattle.bit_grammar.specs.Input.{Marked, SpellsInput}
 use Rattle.bit_fields.specs.declared.fault.Fault.{Fault}
 use Rattle.bit_fields.specs.declared.fault.Fault.TheVariants.{Refused, Read, Write, Memory, OutputTooLong, Failed}
 use Rattle.bit_fields.specs.Devices.{Incoming, Spends, known_bytes, keeps_of}
-use Rattle.bit_fields.proofs.Keeping.{spends_within, all_kept}
+use Rattle.bit_fields.proofs.Keeping.{spends_within, fails_within, all_kept}
 use Rattle.bit_events.specs.Reading.{Spent, ReadsWhole}
 
 -- how the source stands in the end
@@ -22,7 +22,7 @@ stands items (Err e) q now h = record { is = false; bytes = h.0; same = h.1 }
 misread : {A B : Type 0} (Holds : List ℕ → A → Type 0) (Others : List ℕ → B → Type 0) (limits : Limits) (is : Bool) (bytes : List ℕ) (i now : Incoming) (fault : Fault)
     → ReadsWhole Holds limits (keeps_of true [] i) (Err fault) (keeps_of is bytes now) → ReadsWhole Others limits i (Err fault) now
 misread Holds Others limits is bytes i now (Refused reason bit) read = (spends_within true is [] bytes i now _ _ read.0, read.1)
-misread Holds Others limits is bytes i now Read read = (spends_within true is [] bytes i now _ _ read.0, read.1)
+misread Holds Others limits is bytes i now Read read = fails_within true is [] bytes i now _ _ read
 misread Holds Others limits is bytes i now Memory read = spends_within true is [] bytes i now _ _ read
 misread Holds Others limits is bytes i now Write read = absurd read
 misread Holds Others limits is bytes i now OutputTooLong read = absurd read

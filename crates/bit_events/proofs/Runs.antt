@@ -12,10 +12,9 @@ use Rattle.bit_grammar.specs.Machine as machine
 use Rattle.bit_grammar.specs.Machine.{Event, Told, scope_of, step, step_of}
 use Rattle.bit_fields.specs.Ahead.{InSight, Glimpsed, Sees, advanced, reader_at}
 use Rattle.bit_fields.specs.declared.fault.Fault.{Fault}
-use Rattle.bit_fields.specs.declared.fault.Fault.TheVariants.{Refused, Read, Write, Memory, OutputTooLong, Failed}
-use Rattle.bit_fields.specs.Reader.{Reader, TellsBytes, GoesOn, Took, Why, Takes, stopped}
+use Rattle.bit_fields.specs.Reader.{Reader, TellsBytes, Took, Takes}
 use Rattle.bit_fields.specs.Short.{TookNothing}
-use Rattle.bit_fields.proofs.Composing.{same_reading, stops_here, took_then}
+use Rattle.bit_fields.proofs.Composing.{same_reading, took_then}
 use Rattle.bit_fields.proofs.Gap.{gap_whole}
 use Rattle.bit_fields.proofs.BitLaws.{drop_more}
 use Rattle.bit_fields.proofs.Glimpses.{glimpsed_forward, glimpsed_passed, took_glimpsed, seen_took, not_caught_up}
@@ -25,11 +24,10 @@ use Rattle.bit_abbrev.proofs.Glancing.{took_at, plain_took}
 use Rattle.bit_events.specs.declared.frame.Frame.{Frame}
 use Rattle.bit_events.specs.declared.machine.Machine.{Machine}
 use Rattle.bit_events.specs.FrameView.{frame_shown, frames_shown}
-use Rattle.bit_events.specs.Folding.{left_to_tell, GathersSome, Misses, TakesRun}
+use Rattle.bit_events.specs.Folding.{left_to_tell, GathersSome, TakesRun}
 use Rattle.bit_events.specs.Gathering.{Gathers}
 use Rattle.bit_events.specs.MachineView.{machine_shown, record_of, Leaves}
 use Rattle.bit_events.specs.Runs.{IsFor, after_record, Passed, GathersTo, GathersRun}
-use Rattle.bit_events.proofs.Advancing.{pays_both}
 use Rattle.bit_events.proofs.Folds.{in_block, none_yet, one_event, some_then, step_missed}
 use Rattle.bit_events.proofs.Framing.{none_described, plain_entry, short_entry}
 use Rattle.bit_events.proofs.Framing as framing
@@ -195,19 +193,6 @@ run_taken gathered limits m r g n h a b c some p sees all t = record {
     here : TellsBytes r → (there.position ≡ c.position) × (there.left ≡ c.left)
     here k = same_answer (tt, there.position, there.left) (tt, c.position, c.left) (reading (any_bits (b.position - a.position)) r.position r.left) ((seen_took (any_bits (b.position - a.position)) r a tt b sees (any_seen a b p)).0.reads k) (t.reads k)
 
--- what is no fault of the rules is none of any rule
-nothing_missed : {A : Type 0} (rule : Grammar A) (a : Reader) (fault : Fault) (b : Reader) → Why (gives (tt {0})) a fault b → Why rule a fault b
-nothing_missed rule a (Refused reason bit) b why = (why.0, λ k. absurd (why.1 k))
-nothing_missed rule a Read b why = why
-nothing_missed rule a Memory b why = why
-nothing_missed rule a Failed b why = why
-nothing_missed rule a Write b why = why
-nothing_missed rule a OutputTooLong b why = why
-
--- nothing is in sight, since the source failed
-pub no_sight : (limits : Limits) (m : Machine) (a : Reader) (fault : Fault) (b : Reader) → 0 < vec_len m.frames → a.live ≡ true → Why (gives (tt {0})) a fault b → Misses limits m a fault b
-no_sight limits m a fault b some live why = step_missed limits m a a fault b (in_block m a live some) (nothing_missed (step limits (machine_shown m)) a fault b why)
-
 -- a reader that took nothing before
 after_nothing : {A : Type 0} (rule : Grammar A) (a b : Reader) (result : Result A Fault) (c : Reader) → TookNothing a b → Takes rule b result c → Takes rule a result c
 after_nothing rule a b result c nothing t = same_reading (gives (tt {0}) >>= λ v. rule) rule a result c (λ p r. refl) (took_then (gives (tt {0})) (λ v. rule) a (tt {0}) b result c nothing t)
@@ -223,7 +208,3 @@ run_gathered gathered limits f m outer a g b sight used after h result c split n
     go : (result : Result (Unit {0}) Fault) → Takes (any_bits (run.0.position - sight.position)) a result c → TakesRun gathered limits m a g result (record m { used = used }) c h
     go (Ok x) t = run_taken gathered limits m a g (record m { used = used }) h sight run.0 c some run.2.passed sees (run.2.gathers m outer a split refl sees).0 t
     go (Err fault) t = step_missed limits m a a fault c (in_block m a nothing.was_live some) (not_caught_up (any_bits (run.0.position - sight.position)) a sight tt run.0 fault c (step limits (machine_shown m)) sees (any_seen sight run.0 run.2.passed) t)
-
--- no memory for a run
-pub run_lost : (limits : Limits) (m : Machine) (a b c : Reader) → TookNothing a b → c ≡ stopped b → Misses limits m a Memory c
-run_lost limits m a b c nothing is = subst (λ (r : Reader). GoesOn a r) (sym is) (pays_both a b (stopped b) nothing.goes_on (stops_here b nothing.live).goes_on)

@@ -9,8 +9,8 @@ use Rattle.bit_grammar.specs.Machine.{Event, enters, defines, notes, leaves, Mac
 use Rattle.bit_grammar.specs.Steps.{MayStand, open_after}
 use Rattle.bit_fields.specs.declared.fault.Fault.{Fault}
 use Rattle.bit_fields.specs.declared.fault.Fault.TheVariants.{Refused, Read, Write, Memory, OutputTooLong, Failed}
-use Rattle.bit_fields.specs.Devices.{Incoming, Spends, known_bytes}
-use Rattle.bit_fields.specs.Reader.{Extent, is_cut, within, SourceFails}
+use Rattle.bit_fields.specs.Devices.{Incoming, Spends, Fails, known_bytes}
+use Rattle.bit_fields.specs.Reader.{Extent, is_cut, within}
 use Rattle.bit_fields.specs.Ending.{verdict}
 
 -- ---- how a stream ends, by how far it goes
@@ -52,7 +52,7 @@ pub record Coming : Type 0 where
   pub held : List ℕ
   -- the event that was given last
   pub last : Option Event
-  -- in bits from the first bit of the input
+  -- the bit behind the event that was given last, or behind the head, from the first bit of the input
   pub position : ℕ
   pub incoming : Incoming
   -- how many pulls it may still make, and bytes take
@@ -62,7 +62,7 @@ pub record Coming : Type 0 where
 abbrev pub Tells : Coming → Type 0
 Tells c = IsSome c.incoming.to_come
 
--- each pull and each byte was paid for
+-- each pull and each byte was paid for, and the source did not fail
 abbrev pub Pays : Coming → Coming → Type 0
 Pays old new = Spends old.incoming old.budget new.incoming new.budget
 
@@ -103,17 +103,27 @@ pub record Ends (old new : Coming) : Type 0 where
   pub told : Tells old → (old.told ≡ ([], accepted new.position)) × (new.told ≡ ([], accepted new.position))
   pub none : old.stage ≡ going → Tells old → known_bytes new.incoming.to_come ≡ []
 
--- a call failed
+-- a call failed, and not for its source
 pub record Stops (old new : Coming) : Type 0 where
   pub went : old.stage ≡ going
   pub stopped : new.stage ≡ failed
+  pub head : new.head ≡ old.head
+  pub position : new.position ≡ old.position
   pub pays : Pays old new
+
+-- a call failed for its source
+pub record Loses (old new : Coming) : Type 0 where
+  pub went : old.stage ≡ going
+  pub stopped : new.stage ≡ failed
+  pub head : new.head ≡ old.head
+  pub position : new.position ≡ old.position
+  pub fails : Fails old.incoming old.budget new.incoming new.budget
 
 -- Why no event came: the events end with this fault; the source failed; no memory; or a call before had failed, and nothing
 -- changed.
 abbrev pub Breaks : Coming → Fault → Coming → Type 0
 Breaks old (Refused reason bit) new = Stops old new × (Tells old → old.told ≡ ([], broke (at reason bit)))
-Breaks old Read new = Stops old new × SourceFails old.incoming new.incoming
+Breaks old Read new = Loses old new
 Breaks old Memory new = Stops old new
 Breaks old Failed new = (old.stage ≡ failed) × (new ≡ old)
 Breaks old Write new = ⊥

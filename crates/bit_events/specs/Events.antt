@@ -9,8 +9,8 @@ use Rattle.bit_grammar.specs.Outlook.{outlook}
 use Rattle.bit_fields.specs.declared.fault.Fault.{Fault}
 use Rattle.bit_fields.specs.declared.fault.Fault.TheVariants.{Refused, Read, Write, Memory, OutputTooLong, Failed}
 use Rattle.bit_fields.specs.declared.head.Head.{Head}
-use Rattle.bit_fields.specs.Devices.{Incoming, Spends, known_bytes}
-use Rattle.bit_fields.specs.Reader.{Reader, TellsBytes, Stops, SourceFails}
+use Rattle.bit_fields.specs.Devices.{Incoming, Spends, Fails, known_bytes}
+use Rattle.bit_fields.specs.Reader.{Reader, TellsBytes, Stops, Loses}
 use Rattle.bit_fields.specs.Ending.{Stays}
 use Rattle.bit_fields.specs.Opening.{head_told}
 use Rattle.bit_events.specs.declared.event.Event.{Event}
@@ -27,24 +27,24 @@ stage_of true is_live = over
 stage_of false true = going
 stage_of false false = failed
 
-abbrev pub told_from : (is_over : Bool) → Limits → Machine → Reader → Told
-told_from true limits m r = ([], accepted r.position)
-told_from false limits m r = told_of limits r.extent (machine_shown m) r.position r.left
+abbrev pub told_from : (is_over : Bool) → Limits → Machine → (place : ℕ) → Reader → Told
+told_from true limits m place r = ([], accepted place)
+told_from false limits m place r = told_of limits r.extent (machine_shown m) r.position r.left
 
 abbrev pub last_of : Machine → List ℕ → Option Found → Option machine.Event
 last_of m values None = None
 last_of m values (Some found) = found_lent m values found
 
-abbrev pub coming_of : (is_over : Bool) → Limits → Head → Machine → (values : List ℕ) → Option Found → Reader → Coming
-coming_of is_over limits head m values found r = record {
+abbrev pub coming_of : (is_over : Bool) → Limits → Head → Machine → (values : List ℕ) → Option Found → (place : ℕ) → Reader → Coming
+coming_of is_over limits head m values found place r = record {
   stage = stage_of is_over r.live;
   head = head_told head;
-  told = told_from is_over limits m r;
+  told = told_from is_over limits m place r;
   depth = vec_len m.frames;
   deepest = limits.depth;
   held = values;
   last = last_of m values found;
-  position = r.position;
+  position = place;
   incoming = r.incoming;
   budget = r.budget;
 }
@@ -54,8 +54,9 @@ pub record IsClosed (m : Machine) (found : Option Found) : Type 0 where
   pub frames : vec_len m.frames ≡ 0
   pub last : found ≡ None
 
--- what holds between calls: outside of all blocks the reader stands at a byte
-pub record IsEvents (is_over : Bool) (m : Machine) (found : Option Found) (r : Reader) : Type 0 where
+-- what holds between calls: the reader stands behind the last event, and outside of all blocks at a byte
+pub record IsEvents (is_over : Bool) (m : Machine) (found : Option Found) (place : ℕ) (r : Reader) : Type 0 where
+  pub stands : r.live ≡ true → place ≡ r.position
   pub aligned : r.live ≡ true → vec_len m.frames ≡ 0 → r.position % 8 ≡ 0
   pub closed : is_over ≡ true → IsClosed m found
 
@@ -92,7 +93,7 @@ abbrev pub Shuts : (outside : Bool) → Reader → Result Bool Fault → Reader 
 Shuts outside old (Ok true) new = (outside ≡ true) × Over old new
 Shuts outside old (Ok false) new = Stays old new × (outside ≡ true → TellsBytes old → 0 < length old.left)
 Shuts outside old (Err (Refused reason bit)) new = (outside ≡ true) × Stops old new × (TellsBytes old → (old.left ≡ []) × (end_at old.extent old.position ≡ broke (at reason bit)))
-Shuts outside old (Err Read) new = (outside ≡ true) × Stops old new × SourceFails old.incoming new.incoming
+Shuts outside old (Err Read) new = (outside ≡ true) × Loses old new
 Shuts outside old (Err Memory) new = ⊥
 Shuts outside old (Err Failed) new = ⊥
 Shuts outside old (Err Write) new = ⊥
@@ -113,7 +114,7 @@ pub record Begun (limits : Limits) (i : Incoming) (c : Coming) : Type 0 where
 -- why an input was not begun: it breaks so before its first block, or the source failed
 abbrev pub Declines : Limits → Incoming → Fault → Incoming → Type 0
 Declines limits i (Refused reason bit) now = Spends i (limits.bytes + 1) now 0 × (IsSome i.to_come → outlook limits (known_bytes i.to_come) ≡ Err (at reason bit))
-Declines limits i Read now = Spends i (limits.bytes + 1) now 0 × SourceFails i now
+Declines limits i Read now = Fails i (limits.bytes + 1) now 0
 Declines limits i Memory now = ⊥
 Declines limits i Failed now = ⊥
 Declines limits i Write now = ⊥

@@ -8,8 +8,8 @@ use Rattle.bit_grammar.specs.Machine as machine
 use Rattle.bit_grammar.specs.Machine.{Event, flat, accepted, broke, Told}
 use Rattle.bit_fields.specs.declared.fault.Fault.{Fault}
 use Rattle.bit_fields.specs.declared.fault.Fault.TheVariants.{Refused, Read, Write, Memory, OutputTooLong, Failed}
-use Rattle.bit_fields.specs.Devices.{known_bytes}
-use Rattle.bit_fields.specs.Reader.{Reader, TellsBytes, GoesOn, Took, Why, SourceFails}
+use Rattle.bit_fields.specs.Devices.{Fails, known_bytes}
+use Rattle.bit_fields.specs.Reader.{Reader, TellsBytes, GoesOn, Took, Why}
 use Rattle.bit_events.specs.declared.machine.Machine.{Machine}
 use Rattle.bit_events.specs.Coming.{told_of}
 use Rattle.bit_events.specs.Gathering.{left_open, Gathers}
@@ -56,7 +56,7 @@ pub record GathersAll {G : Type 0} (gathered : G → List Event → G → Type 0
 -- Why events are left that were not gathered: the events end with this fault; the source failed; or no memory.
 abbrev pub Misses : Limits → Machine → Reader → Fault → Reader → Type 0
 Misses limits m a (Refused reason bit) b = GoesOn a b × (TellsBytes a → (left_to_tell limits m a).1 ≡ broke (at reason bit))
-Misses limits m a Read b = GoesOn a b × SourceFails a.incoming b.incoming
+Misses limits m a Read b = Fails a.incoming a.budget b.incoming b.budget
 Misses limits m a Memory b = GoesOn a b
 Misses limits m a Failed b = ⊥
 Misses limits m a Write b = ⊥

@@ -79,6 +79,10 @@ HoldsDefinition m (enters opened) = Unit {0}
 HoldsDefinition m (notes mark) = Unit {0}
 HoldsDefinition m (leaves after) = Unit {0}
 
+-- what holds of the innermost block, and of those round it, where one is open
+abbrev pub InBlock : Machine → (Frame → List Frame → Type 0) → Type 0
+InBlock m Holds = (f : Frame) (outer : List Frame) → frames_shown m.frames.items ≡ f ∷ outer → Holds f outer
+
 -- the head of the innermost block, which stands first
 abbrev pub innermost_head : List machine.Frame → Option BlockHead
 innermost_head [] = None

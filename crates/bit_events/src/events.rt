@@ -28,6 +28,8 @@ pub struct Events<S: Source> {
     values: Vec<u64>,
     /// The event that was given last.
     found: Option<Found>,
+    /// The bit behind that event, or behind the head where none was given yet.
+    reached: u64,
     /// The whole input is accepted.
     over: bool,
 }
@@ -38,9 +40,9 @@ impl<S: Source> Model for Events<S> {
 
     ghost Value = { Coming };
 
-    ghost view = { λ e. coming_of e.over e.limits e.head e.machine e.values.items e.found e.reader };
+    ghost view = { λ e. coming_of e.over e.limits e.head e.machine e.values.items e.found e.reached e.reader };
 
-    ghost invariant = { λ e. IsEvents e.over e.machine e.found e.reader };
+    ghost invariant = { λ e. IsEvents e.over e.machine e.found e.reached e.reader };
 }
 
 /// Outside of all blocks: whether the stream has no byte left, and then whether its whole input is accepted.
@@ -71,6 +73,7 @@ impl<S: Source> Events<S> {
         // Its cap is below 2^64 - 1, where no wrapper ends a stream.
         let _bytes = limits.bytes();
         let (reader, head) = BitReader::start(source, limits)?;
+        let reached = reader.position();
         Ok(Events {
             alloc,
             limits,
@@ -79,6 +82,7 @@ impl<S: Source> Events<S> {
             machine: Machine::new(alloc),
             values: Vec::new(alloc),
             found: None,
+            reached,
             over: false,
         })
     }
@@ -97,11 +101,12 @@ impl<S: Source> Events<S> {
         self.reader.into_source()
     }
 
-    /// The bit behind what was read so far, counted from the first bit of the input.
+    /// The bit behind the event that was given last, or behind the head, counted from the first bit of the input. A call that
+    /// fails leaves it.
     pub fn position(&self) -> u64
         ensures { result ≡ self.now.position }
     {
-        self.reader.position()
+        self.reached
     }
 
     /// The values of the record that was given last; none where no record was given yet.
@@ -134,7 +139,7 @@ impl<S: Source> Events<S> {
             &mut self.values,
         )?;
         // Positions are below 2^64 and rise, so that the events end.
-        let _position = self.reader.position();
+        self.reached = self.reader.position();
         self.found = Some(found);
         Ok(())
     }

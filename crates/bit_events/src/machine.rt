@@ -1,7 +1,6 @@
-ghost use Rattle.std.specs.Prelude.{◌≡◌, ◌<◌, ◌≤◌, ◌+◌, true, [], ◌∷◌, ℕ, List, OnOk, IfOk, vec_len, is_none, IfSome, IfNone, IsTrue, ◌↔◌};
+ghost use Rattle.std.specs.Prelude.{◌≡◌, ◌<◌, ◌≤◌, ◌+◌, true, [], ℕ, List, OnOk, IfOk, vec_len, is_none, IfSome, IfNone, IsTrue, ◌↔◌};
 ghost use Rattle.std.specs.Option.{option_copied, option_map};
 ghost use Rattle.bit_grammar.specs.Blocks.{enter, leave, info_for};
-ghost use Rattle.bit_grammar.specs.Machine as machine;
 ghost use Rattle.bit_grammar.specs.Machine.{at_start, open_block, open_nested, step_after, step_in, step_top, step, scope_of, inside};
 ghost use Rattle.bit_fields.specs.Reader.{Takes, told_by};
 ghost use Rattle.bit_abbrev.specs.Values.{Has};
@@ -9,7 +8,7 @@ ghost use Rattle.bit_events.specs.Coming.{held_after};
 ghost use Rattle.bit_events.specs.EventView.{shown_if_any};
 ghost use Rattle.bit_events.specs.HeadView.{head_shown};
 ghost use Rattle.bit_events.specs.FrameView.{info_shown, frames_shown};
-ghost use Rattle.bit_events.specs.MachineView.{handed_shown, machine_shown, newest, aside_shown, aside_lent, found_shown, found_lent, after_aside, after_found, record_of, innermost_head, Leaves, TookSome, end_rule, define_rule, record_rule};
+ghost use Rattle.bit_events.specs.MachineView.{handed_shown, machine_shown, newest, aside_shown, aside_lent, found_shown, found_lent, after_aside, after_found, record_of, innermost_head, Leaves, TookSome, InBlock, end_rule, define_rule, record_rule};
 
 use crate::event::Event;
 use crate::frame::{Describing, Frame, define, record_after};
@@ -87,7 +86,8 @@ impl Machine {
 
     /// Opens a block.
     fn enter(&mut self, alloc: Global, head: BlockHead) -> Result<(), AllocError>
-        ensures made { OnOk result (machine_shown self.new ≡ inside (head_shown head) (frames_shown self.old.frames.items) (enter head.id (handed_shown self.old))) }
+        ensures made { OnOk result (machine_shown self.new
+            ≡ inside (head_shown head) (frames_shown self.old.frames.items) (enter head.id (handed_shown self.old))) }
         ensures more { OnOk result (vec_len self.new.frames ≡ vec_len self.old.frames + 1) }
     {
         let definitions = self.table.enter(alloc, head.id)?;
@@ -111,7 +111,8 @@ impl Machine {
         first: u64,
     ) -> Result<Aside, Fault>
         requires { reader.old.live ≡ true }
-        ensures takes { Takes (open_block limits.now (frames_shown self.old.frames.items) first (handed_shown self.old)) reader.old (told_by (after_aside self.new) result) reader.new }
+        ensures takes { Takes (open_block limits.now (frames_shown self.old.frames.items) first (handed_shown self.old))
+            reader.old (told_by (after_aside self.new) result) reader.new }
         ensures leaves { IfOk result (λ aside. Leaves limits.now.depth self.old reader.old (aside_shown self.new aside) self.new reader.new) }
     {
         let fits = self.frames.len() < limits.depth() as usize;
@@ -136,7 +137,8 @@ impl Machine {
     ) -> Result<Aside, Fault>
         requires live { reader.old.live ≡ true }
         requires some { 0 < vec_len self.old.frames }
-        ensures takes { (f : machine.Frame) (outer : List machine.Frame) → frames_shown self.old.frames.items ≡ f ∷ outer → Takes (open_nested limits.now f.head outer first (scope_of f (handed_shown self.old))) reader.old (told_by (after_aside self.new) result) reader.new }
+        ensures takes { InBlock self.old (λ f outer. Takes (open_nested limits.now f.head outer first (scope_of f (handed_shown self.old)))
+            reader.old (told_by (after_aside self.new) result) reader.new) }
         ensures leaves { IfOk result (λ aside. Leaves limits.now.depth self.old reader.old (aside_shown self.new aside) self.new reader.new) }
     {
         let plain = self.is_plain();
@@ -147,7 +149,7 @@ impl Machine {
     /// Whether the innermost block is no BLOCKINFO block.
     fn is_plain(&self) -> bool
         requires { 0 < vec_len self.now.frames }
-        ensures { (f : machine.Frame) (outer : List machine.Frame) → frames_shown self.now.frames.items ≡ f ∷ outer → result ≡ is_none f.info }
+        ensures { InBlock self.now (λ f outer. result ≡ is_none f.info) }
     {
         match self.frames.last() {
             Some(frame) => frame.info.is_none(),
@@ -163,7 +165,8 @@ impl Machine {
     ) -> Result<Aside, Fault>
         requires live { reader.old.live ≡ true }
         requires some { 0 < vec_len self.old.frames }
-        ensures takes { (f : machine.Frame) (outer : List machine.Frame) → frames_shown self.old.frames.items ≡ f ∷ outer → Takes (end_rule f outer (handed_shown self.old)) reader.old (told_by (after_aside self.new) result) reader.new }
+        ensures takes { InBlock self.old (λ f outer. Takes (end_rule f outer (handed_shown self.old))
+            reader.old (told_by (after_aside self.new) result) reader.new) }
         ensures leaves { (deepest : ℕ) → IfOk result (λ aside. Leaves deepest self.old reader.old (aside_shown self.new aside) self.new reader.new) }
     {
         let Some(frame) = self.frames.pop() else {
@@ -176,7 +179,8 @@ impl Machine {
 
     /// Takes the table that a BLOCKINFO block made.
     fn leave(&mut self, alloc: Global, info: Option<Describing>) -> Result<(), AllocError>
-        ensures made { OnOk result (machine_shown self.new ≡ record { frames = frames_shown self.old.frames.items; handed = leave (info_shown info) (handed_shown self.old) }) }
+        ensures made { OnOk result (machine_shown self.new
+            ≡ record { frames = frames_shown self.old.frames.items; handed = leave (info_shown info) (handed_shown self.old) }) }
         ensures frames { self.new.frames ≡ self.old.frames }
     {
         match info {
@@ -198,7 +202,8 @@ impl Machine {
     ) -> Result<Aside, Fault>
         requires live { reader.old.live ≡ true }
         requires some { 0 < vec_len self.old.frames }
-        ensures takes { (f : machine.Frame) (outer : List machine.Frame) → frames_shown self.old.frames.items ≡ f ∷ outer → Takes (define_rule limits.now.shapes f outer first (handed_shown self.old)) reader.old (told_by (after_aside self.new) result) reader.new }
+        ensures takes { InBlock self.old (λ f outer. Takes (define_rule limits.now.shapes f outer first (handed_shown self.old))
+            reader.old (told_by (after_aside self.new) result) reader.new) }
         ensures leaves { (deepest : ℕ) → IfOk result (λ aside. Leaves deepest self.old reader.old (aside_shown self.new aside) self.new reader.new) }
     {
         let Some(frame) = self.frames.last_mut() else {
@@ -221,8 +226,11 @@ impl Machine {
         requires some { 0 < vec_len self.old.frames }
         requires id { 3 ≤ id }
         requires took { TookSome V.took values.old }
-        ensures takes { Has V.took values.new (λ list. (f : machine.Frame) (outer : List machine.Frame) → frames_shown self.old.frames.items ≡ f ∷ outer → Takes (record_rule limits.now.values f outer first id (handed_shown self.old)) reader.old (told_by (λ read. (record_of id list first read, machine_shown self.new)) result) reader.new) }
-        ensures leaves { (deepest : ℕ) (list : List ℕ) → IfOk result (λ read. Leaves deepest self.old reader.old (record_of id list first read) self.new reader.new) }
+        ensures takes { Has V.took values.new (λ list. InBlock self.old (λ f outer.
+            Takes (record_rule limits.now.values f outer first id (handed_shown self.old))
+            reader.old (told_by (λ read. (record_of id list first read, machine_shown self.new)) result) reader.new)) }
+        ensures leaves { (deepest : ℕ) (list : List ℕ)
+            → IfOk result (λ read. Leaves deepest self.old reader.old (record_of id list first read) self.new reader.new) }
         ensures head { OnOk result (innermost_head (frames_shown self.new.frames.items) ≡ innermost_head (frames_shown self.old.frames.items)) }
     {
         let room = limits.values().saturating_sub(self.used);
@@ -251,7 +259,8 @@ impl Machine {
         requires live { reader.old.live ≡ true }
         requires some { 0 < vec_len self.old.frames }
         requires id { id < 3 }
-        ensures takes { (f : machine.Frame) (outer : List machine.Frame) → frames_shown self.old.frames.items ≡ f ∷ outer → Takes (step_after limits.now f.head outer first (scope_of f (handed_shown self.old)) id) reader.old (told_by (after_aside self.new) result) reader.new }
+        ensures takes { InBlock self.old (λ f outer. Takes (step_after limits.now f.head outer first (scope_of f (handed_shown self.old)) id)
+            reader.old (told_by (after_aside self.new) result) reader.new) }
         ensures leaves { IfOk result (λ aside. Leaves limits.now.depth self.old reader.old (aside_shown self.new aside) self.new reader.new) }
     {
         if id == 0 {
@@ -273,7 +282,9 @@ impl Machine {
         values: &mut Vec<u64>,
     ) -> Result<Found, Fault>
         requires { 0 < vec_len self.old.frames }
-        ensures takes { (f : machine.Frame) (outer : List machine.Frame) → frames_shown self.old.frames.items ≡ f ∷ outer → f.head ≡ head_shown head → Takes (step_in limits.now f.head outer (scope_of f (handed_shown self.old))) reader.old (told_by (after_found self.new values.new.items) result) reader.new }
+        ensures takes { InBlock self.old (λ f outer. f.head ≡ head_shown head
+            → Takes (step_in limits.now f.head outer (scope_of f (handed_shown self.old)))
+            reader.old (told_by (after_found self.new values.new.items) result) reader.new) }
         ensures leaves { IfOk result (λ found. Leaves limits.now.depth self.old reader.old (found_shown self.new values.new.items found) self.new reader.new) }
         ensures holds { IfOk result (λ found. values.new.items ≡ held_after (found_shown self.new values.new.items found) values.old.items) }
         ensures moves { OnOk result (reader.old.position < reader.new.position) }

@@ -15,14 +15,14 @@ ghost use Rattle.bit_events.specs.Runs.{GathersRun, IsFor, after_record};
 
 use crate::frame::Frame;
 use crate::gatherer::Gatherer;
-use bit_abbrev::{InForce, Op, glance_record, plain_ops};
+use bit_abbrev::{Definitions, Op, glance_record, plain_ops};
 use bit_fields::{Ahead, Limits, ValueTaker};
 use std::alloc::AllocError;
 
 /// The operands of a record with this id, where it is not abbreviated or has a definition; `plain` are those of records that
 /// are not abbreviated.
 #[inline(always)]
-fn ops_for<'a>(definitions: &'a InForce, plain: &'a [Op], id: u32) -> Option<&'a [Op]>
+fn ops_for<'a>(definitions: &Definitions<'a>, plain: &'a [Op], id: u32) -> Option<&'a [Op]>
     requires id { 3 ≤ id }
     requires plain { plain.now ≡ plain_ops }
     ensures lawful { IfSome result (λ ops. Lawful ops.now) }
@@ -45,18 +45,20 @@ fn ops_for<'a>(definitions: &'a InForce, plain: &'a [Op], id: u32) -> Option<&'a
 /// Reads a record and its id, where the block is no BLOCKINFO block: the id and the code. The values are those of the record
 /// alone.
 #[inline(always)]
-fn glance_item<V: ValueTaker>(
+fn glance_item<G: Gatherer>(
     ahead: &mut Ahead<'_>,
     frame: &Frame,
+    definitions: &Definitions<'_>,
     plain: &[Op],
     room: u64,
-    values: &mut V,
+    values: &mut G::Values,
 ) -> Option<(u32, u64)>
     requires ops { plain.now ≡ plain_ops }
-    requires took { TookSome V.took values.old }
+    requires took { TookSome G.Values.took values.old }
     requires plain { frame.now.info ≡ None }
-    ensures glimpsed { IfSome result (λ read. Has V.took values.new (λ list. (length list ≤ room) × ((limits : blocks.Limits) (outer : List machine.Frame) (handed : Handed) → limits.values - handed.used ≡ room → Glimpsed (step_of limits (frame_shown frame.now ∷ outer) handed) ahead.old (record_of read.0 list ahead.old.position (read.1, ahead.new.position), after_record (frame_shown frame.now) outer handed list) ahead.new))) }
-    ensures took { TookSome V.took values.new }
+    requires same { definitions.now ≡ frame.now.definitions }
+    ensures glimpsed { IfSome result (λ read. Has G.Values.took values.new (λ list. (length list ≤ room) × ((limits : blocks.Limits) (outer : List machine.Frame) (handed : Handed) → limits.values - handed.used ≡ room → Glimpsed (step_of limits (frame_shown frame.now ∷ outer) handed) ahead.old (record_of read.0 list ahead.old.position (read.1, ahead.new.position), after_record (frame_shown frame.now) outer handed list) ahead.new))) }
+    ensures took { TookSome G.Values.took values.new }
     ensures moves { OnSome result (ahead.old.position < ahead.new.position) }
 {
     let id = ahead.fixed(u32::from(frame.head.width))?;
@@ -64,14 +66,14 @@ fn glance_item<V: ValueTaker>(
         return None;
     }
     values.truncate(0);
-    let ops = ops_for(&frame.definitions, plain, id as u32)?;
-    let code = glance_record(ahead, ops, room, values)?;
+    let ops = ops_for(definitions, plain, id as u32)?;
+    let code = glance_record::<G, G::Values>(ahead, ops, room, values)?;
     Some((id as u32, code))
 }
 
 /// Gathers records of a block, as long as they are whole in sight, and answers the bit behind the last one. The block is no
-/// BLOCKINFO block.
-#[inline(always)]
+/// BLOCKINFO block. Readers of all sources share it.
+#[inline(never)]
 pub(crate) fn gather_records<G: Gatherer>(
     ahead: Ahead<'_>,
     frame: &Frame,
@@ -88,10 +90,18 @@ pub(crate) fn gather_records<G: Gatherer>(
     let mut ahead = ahead;
     let mut first = ahead.position();
     let mut spent = *used;
+    let definitions = frame.definitions.all();
     let plain = plain_ops();
     loop {
         let room = limits.values().saturating_sub(spent);
-        let Some((id, code)) = glance_item(&mut ahead, frame, &plain, room, values) else {
+        let Some((id, code)) = glance_item::<G>(
+            &mut ahead,
+            frame,
+            &definitions,
+            &plain,
+            room,
+            values,
+        ) else {
             *used = spent;
             return Ok(first);
         };

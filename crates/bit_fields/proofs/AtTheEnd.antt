@@ -145,7 +145,7 @@ closed_lost was p f h g missing.End now view live h_is other d = absurd d
 closed_lost was p f h g missing.Limit now view live h_is other d = absurd (other refl)
 closed_lost was p f h g missing.Read now view live h_is other lost =
     let d : DrainLost (record f { window = [] }) g = subst (λ (x : Flow). DrainLost x g) h_is lost in
-    rw (← view, live) (record { was_live = refl; failed = refl; goes_on = d.spends }, d.failed)
+    rw (← view, live) (record { was_live = refl; failed = refl; fails = d.fails })
 
 drains_on : (h g : Flow) (result : Result (Unit {0}) Missing) → Drains h g result → (g.window ≡ h.window) × (h.loaded ≤ g.loaded)
 drains_on h g (Ok x) d = (d.window, d.loaded)

@@ -1,7 +1,8 @@
 -- Laws of bits and the numbers that they spell.
-use Rattle.std.proofs.Common.{◌≡◌, ℕ, zero, suc, ◌+◌, ◌*◌, ◌-◌, ◌/◌, ◌%◌, ◌^◌, ◌<◌, ◌≤◌, Bool, true, false, eqb, List, [], ◌∷◌, ◌++◌, length, take, drop, refl, sym, ap, ◌∙◌, arith, append_assoc, add-one, bit_and}
+use Rattle.std.proofs.Common.{◌≡◌, ℕ, zero, suc, ◌+◌, ◌*◌, ◌-◌, ◌/◌, ◌%◌, ◌^◌, ◌<◌, ◌≤◌, ◌==◌, Bool, true, false, eqb, List, [], ◌∷◌, ◌++◌, length, take, drop, refl, sym, ap, ◌∙◌, arith, append_assoc, add-one, bit_and}
 use Rattle.std.proofs.lemmas.Nat.{mod-pow-add, shr-shr, pow-add, and_mask, one_shl, shr_below, shl_whole, mul-add-lt, mod_below, pow_pos, shr_high}
-use Rattle.std.proofs.lemmas.List.{take_at, length-append, take-append-drop, length-take-le, drop_at}
+use Rattle.std.proofs.lemmas.List.{take_at, length-drop, length-append, take-append-drop, length-take-le, drop_at}
+use Rattle.std.proofs.lemmas.Bool.{eqb-true}
 use Rattle.std.proofs.Math.Nat.{pow-suc}
 use Rattle.std.specs.Int.{w32, w64, to_le_bytes}
 use Rattle.bit_grammar.specs.Bits.{bit, bits_of, number, bits_of_bytes}
@@ -192,3 +193,11 @@ pub low_bits : (word count : ℕ) (bytes : List ℕ) → to_le_bytes w64 word �
 low_bits word count bytes is eight few some =
     rw (low_mask (8 * count) (omega arith) (omega arith), and_mask word (8 * count))
     (bits_of-mod (8 * count) word ∙ sym (take-bits_of (8 * count) 64 word (omega arith)) ∙ ap (take (8 * count)) (sym (le_bytes_bits word) ∙ ap bits_of_bytes is) ∙ sym (bits_of_bytes-take count bytes (omega arith)))
+
+-- a slice from a place on
+pub left_after : (k : ℕ) (xs : List ℕ) → drop k xs ≡ take (length xs - k) (drop k xs)
+left_after k xs = sym (take_whole (length xs - k) (drop k xs) (omega (arith, length-drop k xs)))
+
+pub nothing_left : (xs : List ℕ) → true ≡ (length xs == 0) → xs ≡ []
+nothing_left [] is = refl
+nothing_left (x ∷ xs) is = absurd (omega (arith, eqb-true (length (x ∷ xs)) 0 (sym is)))

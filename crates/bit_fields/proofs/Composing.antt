@@ -7,14 +7,17 @@ use Rattle.bit_grammar.specs.Grammar.{Grammar, at, gives, position, test, choose
 use Rattle.bit_grammar.proofs.Deciding.{reads, is_spelled, one_value}
 use Rattle.bit_fields.specs.declared.fault.Fault.{Fault}
 use Rattle.bit_fields.specs.declared.fault.Fault.TheVariants.{Refused, Read, Write, Memory, OutputTooLong, Failed}
-use Rattle.bit_fields.specs.Reader.{Reader, Extent, within, Breaks, GoesOn, Took, Stops, Why, Takes, IsOnly, stopped}
-use Rattle.bit_fields.proofs.InflowLaws.{Spends-refl, Spends-trans, Spends-none}
+use Rattle.bit_fields.specs.Reader.{Reader, Extent, within, Breaks, GoesOn, Took, Stops, Loses, Why, Takes, IsOnly, stopped}
+use Rattle.bit_fields.proofs.InflowLaws.{Spends-refl, Spends-trans, Spends-none, fails_later}
 
 pub goes_on_both : (a b c : Reader) → GoesOn a b → GoesOn b c → GoesOn a c
 goes_on_both a b c p q = Spends-trans a.incoming a.budget b.incoming b.budget c.incoming c.budget p q
 
 pub stops_later : (a b c : Reader) → a.live ≡ true → GoesOn a b → Stops b c → Stops a c
 stops_later a b c was p q = record { was_live = was; failed = q.failed; goes_on = goes_on_both a b c p q.goes_on }
+
+pub loses_later : (a b c : Reader) → a.live ≡ true → GoesOn a b → Loses b c → Loses a c
+loses_later a b c was p q = record { was_live = was; failed = q.failed; fails = fails_later a.incoming a.budget b.incoming b.budget c.incoming c.budget p q.fails }
 
 -- a live reader that is made to fail
 pub stops_here : (a : Reader) → a.live ≡ true → Stops a (stopped a)
@@ -49,8 +52,7 @@ took_then rule after a value b (Err (Refused reason bit)) c t u = (
   stops_later a b c t.was_live t.goes_on u.0,
   λ k. rw (t.reads k) (subst (λ (e : Extent). Breaks e (reading (after value) b.position b.left) reason bit) (t.extent k) (u.1 (t.goes_on.tells k))),
 )
-took_then rule after a value b (Err Read) c t u =
-    (stops_later a b c t.was_live t.goes_on u.0, elim u.1 [ inl more ↦ inl (omega (arith, t.goes_on.failures, more)) | inr worn ↦ inr worn ])
+took_then rule after a value b (Err Read) c t u = loses_later a b c t.was_live t.goes_on u
 took_then rule after a value b (Err Memory) c t u = stops_later a b c t.was_live t.goes_on u
 took_then rule after a value b (Err Failed) c t u = absurd (false≢true (sym u.0 ∙ t.live))
 took_then rule after a value b (Err Write) c t u = absurd u

@@ -8,7 +8,7 @@ use Rattle.bit_fields.specs.Inflow.{Flow, IsKnown, stop_of, left_of, budget_of, 
 use Rattle.bit_fields.specs.declared.inflow.Missing.{Missing}
 use Rattle.bit_fields.specs.declared.inflow.Missing.TheVariants.{End, Limit, Read}
 use Rattle.bit_fields.proofs.BitLaws.{length-bits_of_bytes}
-use Rattle.bit_fields.proofs.InflowLaws.{Spends-refl, Spends-trans, Spends-none, gave_spends, at_end, ends_so, came, front_came, source_failed}
+use Rattle.bit_fields.proofs.InflowLaws.{Spends-refl, Spends-trans, Spends-none, fails_later, gave_spends, at_end, ends_so, came, front_came, source_failed}
 
 -- ---- bytes of the stream
 
@@ -145,7 +145,7 @@ overran f past = record {
 pub drain_lost : (f : Flow) (i : Incoming) → f.ended ≡ false → f.loaded ≤ f.limit → GaveNone f.incoming i → DrainLost f (record f { incoming = i })
 drain_lost f i going le none =
     let lost = source_failed f i going le none in
-    record { window = refl; end = refl; loaded = omega arith; spends = lost.spends; failed = lost.failed }
+    record { window = refl; end = refl; loaded = omega arith; fails = lost.fails }
 
 -- some bytes, and then a fault
 pub drain_fails : (a b c : Flow) (missing : Missing) → Draining a b → DrainFails b c missing → DrainFails a c missing
@@ -162,6 +162,5 @@ drain_fails a b c Read p q = record {
   window = q.window ∙ p.window;
   end = q.end ∙ p.end;
   loaded = omega (arith, p.loaded, q.loaded);
-  spends = Spends-trans a.incoming (budget_of a) b.incoming (budget_of b) c.incoming 0 p.spends q.spends;
-  failed = elim q.failed [ inl more ↦ inl (omega (arith, p.spends.failures, more)) | inr worn ↦ inr worn ];
+  fails = fails_later a.incoming (budget_of a) b.incoming (budget_of b) c.incoming 0 p.spends q.fails;
 }

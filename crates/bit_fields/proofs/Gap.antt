@@ -70,7 +70,7 @@ skipped_is_reader was p count q f g is live skips q_is = record {
 -- where a reader stands that has failed does not matter to why it did
 stopped_elsewhere : (rule : Grammar (Unit {0})) (a : Reader) (fault : Fault) (r : Reader) (s t : ℕ) → a.live ≡ true → Why rule a fault (stopped_at r s) → Why rule a fault (stopped_at r t)
 stopped_elsewhere rule a (Refused reason bit) r s t live why = (record { was_live = why.0.was_live; failed = why.0.failed; goes_on = why.0.goes_on }, why.1)
-stopped_elsewhere rule a Read r s t live why = (record { was_live = why.0.was_live; failed = why.0.failed; goes_on = why.0.goes_on }, why.1)
+stopped_elsewhere rule a Read r s t live why = record { was_live = why.was_live; failed = why.failed; fails = why.fails }
 stopped_elsewhere rule a Memory r s t live why = record { was_live = why.was_live; failed = why.failed; goes_on = why.goes_on }
 stopped_elsewhere rule a Failed r s t live why = absurd (false≢true (sym why.0 ∙ live))
 stopped_elsewhere rule a Write r s t live why = why

@@ -7,7 +7,7 @@ use Rattle.std.proofs.lemmas.List.{append-nil, length-append, length-take-le}
 use Rattle.std.proofs.Math.Seq.{take-append-add}
 use Rattle.bit_grammar.specs.Bits.{bits_of, bits_of_bytes}
 use Rattle.bit_grammar.proofs.Numbers.{length-bits_of}
-use Rattle.bit_fields.specs.Devices.{Incoming, Gave, GaveNone, GaveWord, Spends, known_bytes}
+use Rattle.bit_fields.specs.Devices.{Incoming, Gave, GaveNone, GaveWord, Spends, Fails, known_bytes}
 use Rattle.bit_fields.specs.Inflow.{Flow, IsKnown, stop_of, left_of, total_of, is_cut, budget_of, IsFlow, SamePlace, Keeps, NoMore, Lost, RunsOut, Misses, Fills}
 use Rattle.bit_fields.specs.declared.inflow.Missing.{Missing}
 use Rattle.bit_fields.specs.declared.inflow.Missing.TheVariants.{End, Limit, Read}
@@ -16,12 +16,12 @@ use Rattle.bit_fields.proofs.BitLaws.{bits_of_bytes-append, length-bits_of_bytes
 -- ---- what is paid
 
 pub Spends-refl : (i : Incoming) (n : ℕ) → Spends i n i n
-Spends-refl i n = record { pulls = omega arith; failures = omega arith; tells = λ k. k; bytes = λ k. omega arith; accounts = λ n all says. says }
+Spends-refl i n = record { pulls = omega arith; failures = refl; tells = λ k. k; bytes = λ k. omega arith; accounts = λ n all says. says }
 
 pub Spends-trans : (a : Incoming) (n : ℕ) (b : Incoming) (m : ℕ) (c : Incoming) (k : ℕ) → Spends a n b m → Spends b m c k → Spends a n c k
 Spends-trans a n b m c k p q = record {
   pulls = omega (arith, p.pulls, q.pulls);
-  failures = omega (arith, p.failures, q.failures);
+  failures = q.failures ∙ p.failures;
   tells = λ t. q.tells (p.tells t);
   bytes = λ t. omega (arith, p.bytes t, q.bytes (p.tells t));
   accounts = λ at all says. q.accounts at all (p.accounts at all says);
@@ -30,6 +30,19 @@ Spends-trans a n b m c k p q = record {
 -- no more is asked for
 pub Spends-none : (a : Incoming) (n : ℕ) (b : Incoming) (m : ℕ) → Spends a n b m → Spends a n b 0
 Spends-none a n b m p = record { pulls = omega (arith, p.pulls); failures = p.failures; tells = p.tells; bytes = λ t. omega (arith, p.bytes t); accounts = p.accounts }
+
+pub Fails-none : (a : Incoming) (n : ℕ) (b : Incoming) (m : ℕ) → Fails a n b m → Fails a n b 0
+Fails-none a n b m p = record { pulls = omega (arith, p.pulls); failed = p.failed; tells = p.tells; bytes = λ t. omega (arith, p.bytes t); accounts = p.accounts }
+
+-- pulls that succeeded, and one that failed
+pub fails_later : (a : Incoming) (n : ℕ) (b : Incoming) (m : ℕ) (c : Incoming) (k : ℕ) → Spends a n b m → Fails b m c k → Fails a n c k
+fails_later a n b m c k p q = record {
+  pulls = omega (arith, p.pulls, q.pulls);
+  failed = rw (← p.failures) q.failed;
+  tells = λ t. q.tells (p.tells t);
+  bytes = λ t. omega (arith, p.bytes t, q.bytes (p.tells t));
+  accounts = λ at all says. q.accounts at all (p.accounts at all says);
+}
 
 -- ---- what a pull gives
 
@@ -53,22 +66,22 @@ gave_spends i j count into before after gave paid one =
     let taken : length (take count into) ≡ count = length-take-le count into gave.fits in
     record {
       pulls = omega (arith, gave.pulls);
-      failures = omega (arith, gave.failures);
+      failures = gave.failures;
       tells = λ k. (consumed i.to_come j.to_come (take count into) gave.bytes k).0;
       bytes = λ k. omega (arith, ap length (consumed i.to_come j.to_come (take count into) gave.bytes k).1, length-append (take count into) (known_bytes j.to_come), taken);
       accounts = gave.accounts;
     }
 
-failed_spends : (i j : Incoming) (before : ℕ) → GaveNone i j → 1 ≤ before → Spends i before j 0
-failed_spends i j before none some =
+pull_fails : (i j : Incoming) (before : ℕ) → GaveNone i j → 1 ≤ before → Fails i before j 0
+pull_fails i j before none some =
     let same : IsSome i.to_come → length (known_bytes i.to_come) ≡ length (known_bytes j.to_come) = λ k. ap length (kept i.to_come j.to_come none.bytes k).1 in
     elim (cases_lt (max i.pulls i.failures) (2 ^ 64 - 1)) [
       | inl fresh ↦
           let counted = none.counted fresh in
-          record { pulls = omega (arith, counted.0); failures = omega (arith, counted.1); tells = λ k. (kept i.to_come j.to_come none.bytes k).0; bytes = λ k. omega (arith, same k); accounts = none.accounts }
+          record { pulls = omega (arith, counted.0); failed = inl counted.1; tells = λ k. (kept i.to_come j.to_come none.bytes k).0; bytes = λ k. omega (arith, same k); accounts = none.accounts }
       | inr worn ↦
           let is : j ≡ i = none.worn worn in
-          record { pulls = rw is (omega arith); failures = rw is (omega arith); tells = λ k. (kept i.to_come j.to_come none.bytes k).0; bytes = λ k. omega (arith, same k); accounts = none.accounts }
+          record { pulls = rw is (omega arith); failed = rw is (inr (refl, worn)); tells = λ k. (kept i.to_come j.to_come none.bytes k).0; bytes = λ k. omega (arith, same k); accounts = none.accounts }
     ]
 
 -- ---- once
@@ -248,11 +261,7 @@ flow_after f i room word count window was going le fits free taken is =
 pub source_failed : (f : Flow) (i : Incoming) → f.ended ≡ false → f.loaded ≤ f.limit → GaveNone f.incoming i → Lost f (record f { incoming = i })
 source_failed f i going le none = record {
   place = record { loaded = omega arith; exact = refl };
-  spends = rw going (failed_spends f.incoming i (f.limit + 1 - f.loaded) none (omega arith));
-  failed = elim (cases_lt (max f.incoming.pulls f.incoming.failures) (2 ^ 64 - 1)) [
-    | inl fresh ↦ inl (omega (arith, (none.counted fresh).1))
-    | inr worn ↦ let same : i ≡ f.incoming = none.worn worn in inr (rw same worn)
-  ];
+  fails = rw going (pull_fails f.incoming i (f.limit + 1 - f.loaded) none (omega arith));
 }
 
 -- ---- several times
@@ -273,8 +282,7 @@ runs_out n a b c by_limit kept none few = record {
 pub lost_after : (a b c : Flow) → Keeps a b → Lost b c → Lost a c
 lost_after a b c kept lost = record {
   place = SamePlace-trans a b c kept.place lost.place;
-  spends = Spends-trans a.incoming (budget_of a) b.incoming (budget_of b) c.incoming 0 kept.spends lost.spends;
-  failed = elim lost.failed [ inl more ↦ inl (omega (arith, kept.spends.failures, more)) | inr worn ↦ inr worn ];
+  fails = fails_later a.incoming (budget_of a) b.incoming (budget_of b) c.incoming 0 kept.spends lost.fails;
 }
 
 pub not_filled : (n : ℕ) (a b c : Flow) (missing : Missing) → Keeps a b → length b.window < n → Misses b c missing → Fills n a c (Err missing)

@@ -6,7 +6,7 @@ use Rattle.std.proofs.KnownBytes.{Keeps-trans}
 use Rattle.std.specs.Io.KnownBytes.{Consumes, Keeps, prepend_known}
 use Rattle.bit_fields.specs.declared.kept.Kept.{Kept}
 use Rattle.bit_fields.specs.declared.source.SourceFailed.{SourceFailed}
-use Rattle.bit_fields.specs.Devices.{Account, SaysOf, Incoming, IsFresh, IsWorn, Begins, Gave, GaveNone, GaveWord, GaveBehind, Looked, Looks, Spends, known_bytes, keeps_of}
+use Rattle.bit_fields.specs.Devices.{Account, SaysOf, Incoming, IsFresh, IsWorn, Begins, Gave, GaveNone, GaveWord, GaveBehind, Looked, Looks, Spends, Fails, known_bytes, keeps_of}
 use Rattle.bit_fields.specs.Kept.{GrewBy, KeptAhead}
 
 -- ---- a pull
@@ -186,6 +186,15 @@ pub spends_within : (was is : Bool) (xs ys : List ℕ) (i j : Incoming) (before 
 spends_within was is xs ys i j before after p = record {
   pulls = p.pulls;
   failures = p.failures;
+  tells = p.tells;
+  bytes = p.bytes;
+  accounts = spared (record { kept = was; whole = prepend_known xs i.to_come }) (record { kept = is; whole = prepend_known ys j.to_come }) i.accounts j.accounts p.accounts;
+}
+
+pub fails_within : (was is : Bool) (xs ys : List ℕ) (i j : Incoming) (before after : ℕ) → Fails (keeps_of was xs i) before (keeps_of is ys j) after → Fails i before j after
+fails_within was is xs ys i j before after p = record {
+  pulls = p.pulls;
+  failed = p.failed;
   tells = p.tells;
   bytes = p.bytes;
   accounts = spared (record { kept = was; whole = prepend_known xs i.to_come }) (record { kept = is; whole = prepend_known ys j.to_come }) i.accounts j.accounts p.accounts;

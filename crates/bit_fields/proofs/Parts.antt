@@ -52,7 +52,7 @@ window_missed rule n start p f g Limit short out = (
   record { was_live = refl; failed = refl; goes_on = Spends-none f.incoming (budget_of f) g.incoming (budget_of g) out.keeps.spends },
   λ k. rw (short (bits_of_bytes (take (stop_of f - f.loaded) (known_bytes f.incoming.to_come))) (out.left k)) (rw (out.cut k, out.keeps.limit) refl),
 )
-window_missed rule n start p f g Read short lost = (record { was_live = refl; failed = refl; goes_on = lost.spends }, lost.failed)
+window_missed rule n start p f g Read short lost = record { was_live = refl; failed = refl; fails = lost.fails }
 
 -- ---- as the code has them
 

@@ -1,5 +1,5 @@
 -- Numbers in few chunks, taken at once: what a word shows of them is what the rule reads.
-use Rattle.std.proofs.Common.{◌≡◌, ℕ, zero, suc, ◌+◌, ◌*◌, ◌-◌, ◌/◌, ◌%◌, ◌^◌, ◌<◌, ◌≤◌, Bool, true, false, ltb, leb, List, ◌++◌, length, take, drop, Result, Ok, Err, refl, sym, ap, ◌∙◌, subst, arith, bit_and, bit_or, ◌⊎◌, ◌≢◌, inl, inr, min, max}
+use Rattle.std.proofs.Common.{◌≡◌, ℕ, zero, suc, ◌+◌, ◌*◌, ◌-◌, ◌/◌, ◌%◌, ◌^◌, ◌<◌, ◌≤◌, Bool, true, false, ltb, leb, List, ◌++◌, length, get_or, take, drop, Result, Ok, Err, refl, sym, ap, ◌∙◌, subst, arith, bit_and, bit_or, ◌⊎◌, ◌≢◌, inl, inr, min, max}
 use Rattle.std.specs.Int.{w64, bit_at, bit_not, trailing_zeros}
 use Rattle.std.proofs.lemmas.Nat.Bits.{bit_at_and, bit_at_or, bit_at_not, bit_at-lt, bit_at-pow_same, bit_at-pow_other, bit_at-trailing_zeros}
 use Rattle.std.proofs.lemmas.Bool.{cases_lt, lt-ltb, le-leb, lt-leb}
@@ -14,6 +14,7 @@ use Rattle.bit_grammar.specs.Fields.{chunks, chunk_limit, vbr}
 use Rattle.bit_grammar.proofs.Numbers.{length-bits_of, number_below}
 use Rattle.bit_fields.specs.Short.{Ends, EndsAt, gathered, TookNothing}
 use Rattle.bit_fields.specs.Inflow.{Flow, Keeps, Fills}
+use Rattle.bit_fields.specs.declared.window.TheConstants.{FOUR_TOPS}
 use Rattle.bit_fields.specs.declared.fault.Fault.{Fault}
 use Rattle.bit_fields.specs.declared.inflow.Missing.{Missing}
 use Rattle.bit_fields.specs.Inside.{reader_of, stopped_at, fault_of}
@@ -369,16 +370,32 @@ after_filling n a b result c filled t = same_reading (gives (tt {0}) >>= λ v. v
 
 -- ---- as the code has it
 
-pub bits_seen : (n held word : ℕ) (s : List Bool) → 2 ≤ n → n ≤ 14 → held ≤ 64 → bits_of held word ≡ s → word < 2 ^ held
-    → (bit_and (bit_or (bit_or (bit_or (1 * 2 ^ (n - 1) % 2 ^ 64) (1 * 2 ^ (2 * n - 1) % 2 ^ 64)) (1 * 2 ^ (3 * n - 1) % 2 ^ 64)) (1 * 2 ^ (4 * n - 1) % 2 ^ 64)) (bit_not w64 word) ≡ 0 → ⊥)
-    → EndsAt n (trailing_zeros w64 (bit_and (bit_or (bit_or (bit_or (1 * 2 ^ (n - 1) % 2 ^ 64) (1 * 2 ^ (2 * n - 1) % 2 ^ 64)) (1 * 2 ^ (3 * n - 1) % 2 ^ 64)) (1 * 2 ^ (4 * n - 1) % 2 ^ 64)) (bit_not w64 word)) + 1) (number s)
-bits_seen n held word s two narrow most is below some =
-    let raw : bit_or (bit_or (bit_or (1 * 2 ^ (n - 1) % 2 ^ 64) (1 * 2 ^ (2 * n - 1) % 2 ^ 64)) (1 * 2 ^ (3 * n - 1) % 2 ^ 64)) (1 * 2 ^ (4 * n - 1) % 2 ^ 64) ≡ tops_of (n - 1) (2 * n - 1) (3 * n - 1) (4 * n - 1) =
-    rw (one_shl (n - 1) 64 (omega (arith, narrow)), one_shl (2 * n - 1) 64 (omega (arith, narrow)), one_shl (3 * n - 1) 64 (omega (arith, narrow)), one_shl (4 * n - 1) 64 (omega (arith, narrow))) refl in
+-- the mask for each width
+pub tops_listed : (n : ℕ) → 2 ≤ n → n ≤ 14 → get_or FOUR_TOPS n 0 ≡ tops_of (n - 1) (2 * n - 1) (3 * n - 1) (4 * n - 1)
+tops_listed zero two narrow = absurd (omega (arith, two))
+tops_listed (suc zero) two narrow = absurd (omega (arith, two))
+tops_listed (suc (suc zero)) two narrow = refl
+tops_listed (suc (suc (suc zero))) two narrow = refl
+tops_listed (suc (suc (suc (suc zero)))) two narrow = refl
+tops_listed (suc (suc (suc (suc (suc zero))))) two narrow = refl
+tops_listed (suc (suc (suc (suc (suc (suc zero)))))) two narrow = refl
+tops_listed (suc (suc (suc (suc (suc (suc (suc zero))))))) two narrow = refl
+tops_listed (suc (suc (suc (suc (suc (suc (suc (suc zero)))))))) two narrow = refl
+tops_listed (suc (suc (suc (suc (suc (suc (suc (suc (suc zero))))))))) two narrow = refl
+tops_listed (suc (suc (suc (suc (suc (suc (suc (suc (suc (suc zero)))))))))) two narrow = refl
+tops_listed (suc (suc (suc (suc (suc (suc (suc (suc (suc (suc (suc zero))))))))))) two narrow = refl
+tops_listed (suc (suc (suc (suc (suc (suc (suc (suc (suc (suc (suc (suc zero)))))))))))) two narrow = refl
+tops_listed (suc (suc (suc (suc (suc (suc (suc (suc (suc (suc (suc (suc (suc zero))))))))))))) two narrow = refl
+tops_listed (suc (suc (suc (suc (suc (suc (suc (suc (suc (suc (suc (suc (suc (suc zero)))))))))))))) two narrow = refl
+tops_listed (suc (suc (suc (suc (suc (suc (suc (suc (suc (suc (suc (suc (suc (suc (suc n))))))))))))))) two narrow = absurd (omega (arith, narrow))
+
+pub bits_seen : (n held word tops : ℕ) (s : List Bool) → 2 ≤ n → n ≤ 14 → held ≤ 64 → bits_of held word ≡ s → word < 2 ^ held → tops ≡ tops_of (n - 1) (2 * n - 1) (3 * n - 1) (4 * n - 1) → (bit_and tops (bit_not w64 word) ≡ 0 → ⊥)
+    → EndsAt n (trailing_zeros w64 (bit_and tops (bit_not w64 word)) + 1) (number s)
+bits_seen n held word tops s two narrow most is below tops_is some =
     let fits : tops_of (n - 1) (2 * n - 1) (3 * n - 1) (4 * n - 1) < 2 ^ 64 =
     or_lt 64 (bit_or (bit_or (2 ^ (n - 1)) (2 ^ (2 * n - 1))) (2 ^ (3 * n - 1))) (2 ^ (4 * n - 1)) (or_lt 64 (bit_or (2 ^ (n - 1)) (2 ^ (2 * n - 1))) (2 ^ (3 * n - 1)) (or_lt 64 (2 ^ (n - 1)) (2 ^ (2 * n - 1)) (power (n - 1) (omega (arith, narrow))) (power (2 * n - 1) (omega (arith, narrow)))) (power (3 * n - 1) (omega (arith, narrow)))) (power (4 * n - 1) (omega (arith, narrow))) in
-    let some_last : 0 < bit_and (tops_of (n - 1) (2 * n - 1) (3 * n - 1) (4 * n - 1)) (bit_not w64 word) = positive (bit_and (tops_of (n - 1) (2 * n - 1) (3 * n - 1) (4 * n - 1)) (bit_not w64 word)) (subst (λ (tops : ℕ). bit_and tops (bit_not w64 word) ≡ 0 → ⊥) raw some) in
-    subst (λ (tops : ℕ). EndsAt n (trailing_zeros w64 (bit_and tops (bit_not w64 word)) + 1) (number s)) (sym raw)
+    let some_last : 0 < bit_and (tops_of (n - 1) (2 * n - 1) (3 * n - 1) (4 * n - 1)) (bit_not w64 word) = positive (bit_and (tops_of (n - 1) (2 * n - 1) (3 * n - 1) (4 * n - 1)) (bit_not w64 word)) (subst (λ (tops : ℕ). bit_and tops (bit_not w64 word) ≡ 0 → ⊥) tops_is some) in
+    subst (λ (tops : ℕ). EndsAt n (trailing_zeros w64 (bit_and tops (bit_not w64 word)) + 1) (number s)) (sym tops_is)
     (bits_end n held word (trailing_zeros w64 (bit_and (tops_of (n - 1) (2 * n - 1) (3 * n - 1) (4 * n - 1)) (bit_not w64 word))) s two narrow most is below some_last refl fits)
   where
     power : (i : ℕ) → i < 64 → 2 ^ i < 2 ^ 64

@@ -16,14 +16,14 @@ use Rattle.bit_grammar.specs.Input.{version, offset, wrapper, any_bits, wrapper_
 use Rattle.bit_fields.specs.declared.fault.Fault.{Fault}
 use Rattle.bit_fields.specs.declared.fault.Fault.TheVariants.{Refused, Read, Write, Memory, OutputTooLong, Failed}
 use Rattle.bit_fields.specs.declared.head.Wrapper.{Wrapper}
-use Rattle.bit_fields.specs.Devices.{Incoming, known_bytes}
+use Rattle.bit_fields.specs.Devices.{Incoming, Fails, known_bytes}
 use Rattle.bit_fields.specs.Inflow.{Flow, left_of, stop_of, shortened}
-use Rattle.bit_fields.specs.Reader.{Reader, Extent, TellsBytes, is_cut, Breaks, GoesOn, Took, Why, Takes, NeedsNoMemory}
+use Rattle.bit_fields.specs.Reader.{Reader, Extent, TellsBytes, is_cut, Breaks, GoesOn, Loses, Took, Why, Takes, NeedsNoMemory}
 use Rattle.bit_fields.specs.Inside.{reader_of, IsReader}
 use Rattle.bit_fields.specs.Opening.{Beginning, with_magic, in_wrapper, beginning, wrapper_read, wrapper_of, wrapper_told, magic_number, end_of, fresh, Opened, Leaves, Declines}
 use Rattle.bit_fields.specs.Ending.{reach_of}
 use Rattle.bit_fields.proofs.BitLaws.{le_bytes_bits_32, number-bits_mod}
-use Rattle.bit_fields.proofs.InflowLaws.{Spends-none}
+use Rattle.bit_fields.proofs.InflowLaws.{Spends-none, Fails-none, fails_later}
 use Rattle.bit_fields.proofs.Shortening.{left_shortened}
 use Rattle.bit_fields.proofs.Composing.{took_then, fault_then, took_nothing, from_here, goes_on_both}
 use Rattle.bit_fields.proofs.Padding.{is_eqb}
@@ -148,6 +148,9 @@ magic_is n bytes below is = ap number (ap bits_of_bytes is ∙ le_bytes_bits_32 
 leaves : (a b : Reader) → GoesOn a b → Leaves a b.incoming
 leaves a b g = Spends-none a.incoming a.budget b.incoming b.budget g
 
+fails_from : (a b c : Reader) → GoesOn a b → Loses b c → Fails a.incoming a.budget c.incoming 0
+fails_from a b c p q = Fails-none a.incoming a.budget c.incoming c.budget (fails_later a.incoming a.budget b.incoming b.budget c.incoming c.budget p q.fails)
+
 read_first : (a : Reader) (first : ℕ) (b : Reader) → a.position ≡ 0 → Took (fixed 32) a first b → TellsBytes a → reading (fixed 32) 0 a.left ≡ Ok (first, b.position, b.left)
 read_first a first b at t k = subst (λ (p : ℕ). reading (fixed 32) p a.left ≡ Ok (first, b.position, b.left)) at (t.reads k)
 
@@ -168,7 +171,7 @@ first_broke e (Err x) f g reason bit high b = subst (λ (n : ℕ). Breaks {A = i
 pub magic_missed : (a : Reader) (fault : Fault) (b : Reader) → a.position ≡ 0 → a.live ≡ true → a.extent.end ≡ 2 ^ 64 - 1 → Why (fixed 32) a fault b → NeedsNoMemory {A = ℕ} (Err fault) → Declines a fault b.incoming
 unfolding beginning wrapper_of outer_wrapper
 magic_missed a (Refused reason bit) b at live high why m = (leaves a b why.0.goes_on, λ k. first_broke a.extent (reading (fixed 32) 0 a.left) _ _ reason bit high (subst (λ (p : ℕ). Breaks a.extent (reading (fixed 32) p a.left) reason bit) at (why.1 k)))
-magic_missed a Read b at live high why m = (leaves a b why.0.goes_on, why.1)
+magic_missed a Read b at live high why m = Fails-none a.incoming a.budget b.incoming b.budget why.fails
 magic_missed a Memory b at live high why m = absurd m
 magic_missed a Failed b at live high why m = absurd (false≢true (sym why.0 ∙ live))
 magic_missed a Write b at live high why m = why
@@ -191,7 +194,7 @@ wrapper_broke a first b reason bit at high t is k breaks =
 
 pub wrapper_missed : (a : Reader) (first : ℕ) (b : Reader) (fault : Fault) (c : Reader) → a.position ≡ 0 → a.extent.end ≡ 2 ^ 64 - 1 → Took (fixed 32) a first b → first ≡ 0x0B17C0DE → Why wrapper b fault c → NeedsNoMemory {A = Wrapper} (Err fault) → Declines a fault c.incoming
 wrapper_missed a first b (Refused reason bit) c at high t is why m = (leaves a c (goes_on_both a b c t.goes_on why.0.goes_on), λ k. wrapper_broke a first b reason bit at high t is k (why.1 (t.goes_on.tells k)))
-wrapper_missed a first b Read c at high t is why m = (leaves a c (goes_on_both a b c t.goes_on why.0.goes_on), elim why.1 [ inl more ↦ inl (omega (arith, t.goes_on.failures, more)) | inr worn ↦ inr worn ])
+wrapper_missed a first b Read c at high t is why m = fails_from a b c t.goes_on why
 wrapper_missed a first b Memory c at high t is why m = absurd m
 wrapper_missed a first b Failed c at high t is why m = absurd (false≢true (sym why.0 ∙ t.live))
 wrapper_missed a first b Write c at high t is why m = why
@@ -248,7 +251,7 @@ gap_missed a w c place (Refused reason bit) d high t at fits place_is reach why 
       let len : 160 + length c.left ≡ reach_of a.extent = subst (λ (e : Extent). 160 + length c.left ≡ reach_of e) (t.extent k) (subst (λ (n : ℕ). n + length c.left ≡ reach_of c.extent) (place_is ∙ at) (reach t.live)) in
       rw (t.reads k, t.wrapped k) (gap_broke a.extent w (w.offset + w.size) c.position c.left reason bit high len fits (omega arith) (subst (λ (e : Extent). Breaks e (reading (any_bits (8 * (w.offset - 20))) c.position c.left) reason bit) (t.extent k) (why.1 (t.goes_on.tells k)))),
 )
-gap_missed a w c place Read d high t at fits place_is reach why m = (leaves a d (goes_on_both a c d t.goes_on why.0.goes_on), elim why.1 [ inl more ↦ inl (omega (arith, t.goes_on.failures, more)) | inr worn ↦ inr worn ])
+gap_missed a w c place Read d high t at fits place_is reach why m = fails_from a c d t.goes_on why
 gap_missed a w c place Memory d high t at fits place_is reach why m = absurd m
 gap_missed a w c place Failed d high t at fits place_is reach why m = absurd (false≢true (sym why.0 ∙ t.live))
 gap_missed a w c place Write d high t at fits place_is reach why m = why
@@ -282,7 +285,7 @@ inner_declines a w e (Refused reason bit) f t why m = (
   leaves a f (goes_on_both a e f t.goes_on why.0.goes_on),
   λ k. rw (t.reads k, t.wrapped k) (magic_broke (record a.extent { end = w.offset + w.size }) (Some w) (reading inner_magic e.position e.left) reason bit (subst (λ (x : Extent). Breaks x (reading inner_magic e.position e.left) reason bit) (t.extent k) (why.1 (t.goes_on.tells k)))),
 )
-inner_declines a w e Read f t why m = (leaves a f (goes_on_both a e f t.goes_on why.0.goes_on), elim why.1 [ inl more ↦ inl (omega (arith, t.goes_on.failures, more)) | inr worn ↦ inr worn ])
+inner_declines a w e Read f t why m = fails_from a e f t.goes_on why
 inner_declines a w e Memory f t why m = absurd m
 inner_declines a w e Failed f t why m = absurd (false≢true (sym why.0 ∙ t.live))
 inner_declines a w e Write f t why m = why

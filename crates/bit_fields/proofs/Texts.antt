@@ -1,12 +1,14 @@
 -- Bits that are held in memory, in words.
-use Rattle.std.proofs.Common.{◌≡◌, ℕ, zero, suc, ◌+◌, ◌*◌, ◌-◌, ◌^◌, ◌<◌, ◌≤◌, ◌==◌, Bool, true, false, inl, inr, List, [], ◌∷◌, ◌++◌, length, take, drop, get_or, Result, Ok, Err, refl, sym, ap, subst, ◌∙◌, arith, append_assoc, drop-cons, length-append, add-one}
+use Rattle.std.proofs.Common.{◌≡◌, ℕ, zero, suc, ◌+◌, ◌*◌, ◌-◌, ◌%◌, ◌^◌, ◌<◌, ◌≤◌, ◌==◌, Bool, true, false, inl, inr, List, [], ◌∷◌, ◌++◌, length, take, drop, get_or, Result, Ok, Err, refl, sym, ap, subst, ◌∙◌, arith, append_assoc, drop-cons, length-append, add-one}
 use Rattle.std.proofs.Math.ListN.{set}
 use Rattle.std.proofs.Math.Seq.{drop-append_seam, take-append_seam, get_or-append_seam, drop-append-add, take-length}
-use Rattle.std.proofs.lemmas.List.{append-nil, drop_all, take-append-drop, set_split, set_at, set-append_left, set-append_right, length-take-le}
+use Rattle.std.proofs.lemmas.List.{append-nil, take_more, drop_all, take-append-drop, set_split, set_at, set-append_left, set-append_right, length-take-le}
 use Rattle.std.proofs.lemmas.Bool.{cases_lt}
 use Rattle.std.proofs.lemmas.Grind.{flat_map-append}
 use Rattle.std.specs.Global.{Vec}
 use Rattle.bit_grammar.specs.Bits.{bits_of, number}
+use Rattle.bit_grammar.specs.FormatFields.{shortest}
+use Rattle.bit_grammar.specs.Normal.{values_text}
 use Rattle.bit_grammar.proofs.Numbers.{length-bits_of, number_below}
 use Rattle.bit_fields.specs.Texts.{joined, AreFull, bits_of_words, with_word}
 use Rattle.bit_fields.specs.Writer.{Writer, Wrote, Writes}
@@ -89,6 +91,9 @@ words-push ws w rest = ap (λ (s : List Bool). s ++ rest) (words-append ws (w �
 pub words-next : (ws : List ℕ) (i : ℕ) → i < length ws → bits_of_words (drop i ws) ≡ bits_of 32 (get_or ws i 0) ++ bits_of_words (drop (i + 1) ws)
 words-next ws i lt = rw add-one (ap bits_of_words (drop-cons ws i 0 lt))
 
+pub words-more : (ws : List ℕ) (i : ℕ) → i < length ws → bits_of_words (take (i + 1) ws) ≡ bits_of_words (take i ws) ++ bits_of 32 (get_or ws i 0)
+words-more ws i lt = ap bits_of_words (take_more ws i 0 lt) ∙ words-append (take i ws) (get_or ws i 0 ∷ []) ∙ ap (λ (s : List Bool). bits_of_words (take i ws) ++ s) (append-nil (bits_of 32 (get_or ws i 0)))
+
 -- the word there was added
 pub added_so_far : (ws : List ℕ) (i : ℕ) (now next : List Bool) (w : ℕ) → i < length ws → w ≡ get_or ws i 0 → next ≡ now ++ bits_of 32 w → next ++ bits_of_words (drop (i + 1) ws) ≡ now ++ bits_of_words (drop i ws)
 added_so_far ws i now next w lt w_is next_is =
@@ -139,21 +144,23 @@ words-set ws n word rest lt =
 
 -- ---- writing a text in parts
 
--- of a whole a part was written, and this is left
+-- of a whole a part was written, whole bytes up to here, and this is left
 pub record Going (whole : List Bool) (old now : Writer) (rest : List Bool) : Type 0 where
   pub live : now.live ≡ true
+  pub bytes : now.position % 8 ≡ 0
   pub room : now.position + length rest < 2 ^ 63
   pub completes : (r : Result (Unit {0}) Fault) (new : Writer) → Writes rest now r new → Writes whole old r new
 
-pub going_starts : (whole : List Bool) (old : Writer) → old.live ≡ true → old.position + length whole < 2 ^ 63 → Going whole old old whole
-going_starts whole old live room = record { live = live; room = room; completes = λ r new writes. writes }
+pub going_starts : (whole : List Bool) (old : Writer) → old.live ≡ true → old.position % 8 ≡ 0 → old.position + length whole < 2 ^ 63 → Going whole old old whole
+going_starts whole old live bytes room = record { live = live; bytes = bytes; room = room; completes = λ r new writes. writes }
 
 pub going_as : (whole : List Bool) (old now : Writer) (rest rest' : List Bool) → rest ≡ rest' → Going whole old now rest → Going whole old now rest'
 going_as whole old now rest rest' is g = subst (λ (s : List Bool). Going whole old now s) is g
 
-pub going_on : (whole : List Bool) (old now next : Writer) (s t : List Bool) → Going whole old now (s ++ t) → Wrote now s next → Going whole old next t
-going_on whole old now next s t g wrote = record {
+pub going_on : (whole : List Bool) (old now next : Writer) (s t : List Bool) → Going whole old now (s ++ t) → length s % 8 ≡ 0 → Wrote now s next → Going whole old next t
+going_on whole old now next s t g even wrote = record {
   live = wrote.live;
+  bytes = omega (arith, g.bytes, even, wrote.position);
   room = omega (arith, g.room, wrote.position, length-append s t);
   completes = λ r new writes. g.completes r new (wrote_then now next new s t r wrote writes);
 }
@@ -195,3 +202,9 @@ moved_so_far chunks chunk now next some is next_is =
 
 pub chunk_fits : (chunks : List (Vec ℕ)) (chunk : Vec ℕ) → 0 < length chunks → chunk ≡ get_or chunks 0 chunk → length chunk.items ≤ length (joined chunks)
 chunk_fits chunks chunk some is = omega (arith, ap length (first_chunk chunks chunk some is), length-append chunk.items (joined (drop 1 chunks)))
+
+-- ---- numbers
+
+-- the number at a place comes next
+pub value-next : (vs : List ℕ) (i : ℕ) → i < length vs → values_text (drop i vs) ≡ shortest 6 (get_or vs i 0) ++ values_text (drop (i + 1) vs)
+value-next vs i lt = rw add-one (ap values_text (drop-cons vs i 0 lt))

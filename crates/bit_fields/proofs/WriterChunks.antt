@@ -1,9 +1,9 @@
 -- The chunks of a VBR, written one after the other.
-use Rattle.std.proofs.Common.{◌≡◌, ℕ, zero, suc, ◌+◌, ◌*◌, ◌-◌, ◌/◌, ◌%◌, ◌^◌, ◌<◌, ◌≤◌, Bool, true, false, ltb, List, [], ◌∷◌, ◌++◌, length, bit_and, Result, Err, refl, sym, ap, ◌∙◌, subst, arith, append_assoc}
+use Rattle.std.proofs.Common.{◌≡◌, ℕ, zero, suc, inl, inr, ◌+◌, ◌*◌, ◌-◌, ◌/◌, ◌%◌, ◌^◌, ◌<◌, ◌≤◌, Bool, true, false, ltb, List, [], ◌∷◌, ◌++◌, length, bit_and, Result, Err, refl, sym, ap, ◌∙◌, subst, arith, append_assoc}
 use Rattle.std.proofs.Math.Nat.{div-add-mod, div-le_of_le-mul, div-lt_self}
 use Rattle.std.proofs.Math.Pow.{pow_mono, shr_lt}
 use Rattle.std.proofs.lemmas.Nat.{and_mask, one_shl, mod_below, pow_pos}
-use Rattle.std.proofs.lemmas.Bool.{lt-ltb, le-ltb}
+use Rattle.std.proofs.lemmas.Bool.{lt-ltb, le-ltb, cases_lt}
 use Rattle.bit_grammar.specs.Bits.{bits_of}
 use Rattle.bit_grammar.specs.Fields.{chunk_limit}
 use Rattle.bit_grammar.specs.FormatFields.{chunked, shortest_payloads, shortest}
@@ -20,7 +20,7 @@ use Rattle.bit_fields.proofs.WriterLaws.{wrote_nothing, wrote_then_wrote, wrote_
 abbrev pub chunk : (n rest : ℕ) → ℕ
 chunk n rest = bit_and rest (1 * 2 ^ (n - 1) % 2 ^ 64 - 1) + 1 * 2 ^ (n - 1) % 2 ^ 64
 
-chunk_is : (n rest : ℕ) → n ≤ 32 → chunk n rest ≡ rest % 2 ^ (n - 1) + 1 * 2 ^ (n - 1)
+pub chunk_is : (n rest : ℕ) → n ≤ 32 → chunk n rest ≡ rest % 2 ^ (n - 1) + 1 * 2 ^ (n - 1)
 chunk_is n rest few = rw (one_shl (n - 1) 64 (omega arith), and_mask rest (n - 1)) (omega arith)
 
 width_is : (n : ℕ) → 2 ≤ n → n ≡ n - 1 + 1
@@ -264,3 +264,43 @@ spelling_goes_on n value start now next rest some few le c next_is =
 pub spelling_ends : (n value : ℕ) (start now : List Bool) (rest : ℕ) → 2 ≤ n → rest < 2 ^ (n - 1) → Spelling n value start now rest → now ++ bits_of n rest ≡ start ++ shortest n value
 spelling_ends n value start now rest some lt c =
     sym (c.whole ∙ ap (λ (s : List Bool). now ++ s) (tail_last (n - 1) c.permitted rest lt ∙ sym (last_bits n rest some lt)))
+
+-- ---- numbers of one chunk of six bits, or two
+
+one_chunk : (value more word : ℕ) → value < 32 → more ≡ (value + 992) / 1024 → word ≡ value % 32 + 32 * more + 64 * (value / 32) → (more ≡ 0) × (word ≡ value)
+one_chunk value more word lt more_is word_is = (omega (arith, lt, more_is), omega (arith, lt, more_is, word_is))
+
+two_chunks : (value more word : ℕ) → value < 1024 → 32 ≤ value → more ≡ (value + 992) / 1024 → word ≡ value % 32 + 32 * more + 64 * (value / 32) → (more ≡ 1) × (word ≡ value % 32 + 32 + (value / 32) * 64)
+two_chunks value more word few le more_is word_is = (omega (arith, few, le, more_is), omega (arith, few, le, more_is, word_is))
+
+pub short_below : (value more word : ℕ) → value < 1024 → more ≡ (value + 992) / 1024 → word ≡ value % 32 + 32 * more + 64 * (value / 32) → word < 2 ^ (6 + 6 * more)
+short_below value more word few more_is word_is = elim (cases_lt value 32) [ inl lt ↦ one lt | inr le ↦ two le ]
+  where
+    one : value < 32 → word < 2 ^ (6 + 6 * more)
+    one lt = let e = one_chunk value more word lt more_is word_is in subst (λ (k : ℕ). word < 2 ^ (6 + 6 * k)) (sym e.0) (omega (arith, e.1, lt))
+
+    two : 32 ≤ value → word < 2 ^ (6 + 6 * more)
+    two le = let e = two_chunks value more word few le more_is word_is in subst (λ (k : ℕ). word < 2 ^ (6 + 6 * k)) (sym e.0) (omega (arith, e.1, few))
+
+pub short_spelled : (value more word : ℕ) → value < 1024 → more ≡ (value + 992) / 1024 → word ≡ value % 32 + 32 * more + 64 * (value / 32) → bits_of (6 + 6 * more) word ≡ shortest 6 value
+short_spelled value more word few more_is word_is = elim (cases_lt value 32) [ inl lt ↦ one lt | inr le ↦ two le ]
+  where
+    starts : Spelling 6 value [] [] value
+    starts = spelling_starts 6 value [] (omega arith) (omega arith) (omega (arith, few)) (omega arith)
+
+    one : value < 32 → bits_of (6 + 6 * more) word ≡ shortest 6 value
+    one lt =
+        let e = one_chunk value more word lt more_is word_is in
+        ap (λ (k : ℕ). bits_of (6 + 6 * k) word) e.0 ∙ ap (bits_of 6) e.1 ∙ spelling_ends 6 value [] [] value (omega arith) lt starts
+
+    two : 32 ≤ value → bits_of (6 + 6 * more) word ≡ shortest 6 value
+    two le =
+        let e = two_chunks value more word few le more_is word_is in
+        let low : value % 32 + 32 < 64 = omega arith in
+        let first : chunk 6 value ≡ value % 32 + 32 = chunk_is 6 value (omega arith) ∙ omega arith in
+        let goes : Spelling 6 value [] (bits_of 6 (chunk 6 value)) (value / 32) = spelling_goes_on 6 value [] [] (bits_of 6 (chunk 6 value)) value (omega arith) (omega arith) le starts refl in
+        ap (λ (k : ℕ). bits_of (6 + 6 * k) word) e.0
+        ∙ ap (bits_of 12) e.1
+        ∙ bits_of-above 6 6 (value % 32 + 32) (value / 32) low
+        ∙ ap (λ (k : ℕ). bits_of 6 k ++ bits_of 6 (value / 32)) (sym first)
+        ∙ spelling_ends 6 value [] (bits_of 6 (chunk 6 value)) (value / 32) (omega arith) (omega (arith, few)) goes

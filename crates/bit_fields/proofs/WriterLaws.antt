@@ -59,6 +59,10 @@ took_no_byte w o count from live put none some =
     lost_nothing w o live (inl (omega (arith, put.failed none some)))
     (λ k. let a = appended w.outgoing.bytes o.bytes (take count from) put.bytes k in (a.0, a.1 ∙ ap (λ (b : List ℕ). known_bytes w.outgoing.bytes ++ b) nothing ∙ append-nil (known_bytes w.outgoing.bytes)))
 
+-- what is held does not matter once something was lost
+pub lost_held : (a b : Writer) (s held : List Bool) → Lost a s b → Lost a s (record b { held = held })
+lost_held a b s held p = record { was_live = p.was_live; failed = p.failed; why = p.why; tells = p.tells; kept = p.kept; front = p.front }
+
 why_declined : (old new : Outgoing) → Declined old new → (old.failures < new.failures) ⊎ IsSpent old
 why_declined old new declined = elim (cases_lt old.failures (2 ^ 64 - 1)) [ inl fresh ↦ inl (omega (arith, declined.counted fresh)) | inr worn ↦ inr worn ]
 

@@ -1,5 +1,5 @@
 -- What is known of a source and of a sink, and what a call of them does.
-use Rattle.std.specs.Prelude.{◌≡◌, ℕ, zero, suc, ◌+◌, ◌*◌, ◌-◌, ◌^◌, ◌<◌, ◌≤◌, max, Bool, true, false, List, [], ◌∷◌, length, take, drop, Option, Some, None, IsSome, Result, Ok, Err}
+use Rattle.std.specs.Prelude.{◌≡◌, ℕ, zero, suc, ◌+◌, ◌*◌, ◌-◌, ◌^◌, ◌<◌, ◌≤◌, ◌⊎◌, max, Bool, true, false, List, [], ◌∷◌, length, take, drop, Option, Some, None, IsSome, Result, Ok, Err}
 use Rattle.std.specs.Io.KnownBytes.{Consumes, Appends, Keeps, IsAtEnd, prepend_known}
 use Rattle.std.specs.Io.{StartsWith}
 use Rattle.bit_grammar.specs.Bits.{bits_of, bits_of_bytes}
@@ -129,10 +129,18 @@ Looks old (Ok some) new = Looked old new
 Looks old (Err e) new = GaveNone old new
 
 -- What may be asked of a source, as a number of pulls and of bytes, went from one number to another: each pull and each
--- byte was paid for, no failure was forgotten, and the source tells its bytes and accounts for what it keeps as before.
+-- byte was paid for, no failure was counted, and the source tells its bytes and accounts for what it keeps as before.
 pub record Spends (old : Incoming) (before : ℕ) (new : Incoming) (after : ℕ) : Type 0 where
   pub pulls : new.pulls + after ≤ old.pulls + before
-  pub failures : old.failures ≤ new.failures
+  pub failures : new.failures ≡ old.failures
+  pub tells : IsSome old.to_come → IsSome new.to_come
+  pub bytes : IsSome old.to_come → length (known_bytes old.to_come) + after ≤ length (known_bytes new.to_come) + before
+  pub accounts : (n : ℕ) (all : List ℕ) → SaysOf old.accounts n all → SaysOf new.accounts n all
+
+-- the same, but that the source failed: one failure was counted, or it was worn, and counts no more
+pub record Fails (old : Incoming) (before : ℕ) (new : Incoming) (after : ℕ) : Type 0 where
+  pub pulls : new.pulls + after ≤ old.pulls + before
+  pub failed : (new.failures ≡ old.failures + 1) ⊎ ((new.failures ≡ old.failures) × IsWorn new)
   pub tells : IsSome old.to_come → IsSome new.to_come
   pub bytes : IsSome old.to_come → length (known_bytes old.to_come) + after ≤ length (known_bytes new.to_come) + before
   pub accounts : (n : ℕ) (all : List ℕ) → SaysOf old.accounts n all → SaysOf new.accounts n all

@@ -6,7 +6,7 @@ use Rattle.bit_grammar.specs.Grammar.{at}
 use Rattle.bit_fields.specs.declared.fault.Fault.{Fault}
 use Rattle.bit_fields.specs.declared.fault.Fault.TheVariants.{Refused, Read, Write, Memory, OutputTooLong, Failed}
 use Rattle.bit_fields.specs.Devices.{known_bytes}
-use Rattle.bit_fields.specs.Reader.{Reader, Extent, TellsBytes, GoesOn, Stops, SourceFails}
+use Rattle.bit_fields.specs.Reader.{Reader, Extent, TellsBytes, GoesOn, Stops, Loses}
 
 -- the bit behind the last one of a stream
 abbrev pub stream_end : Extent → ℕ
@@ -36,7 +36,7 @@ abbrev pub Looks : Reader → Result Bool Fault → Reader → Type 0
 Looks old (Ok true) new = Stays old new × (TellsBytes old → (old.position ≡ stream_end old.extent) × (old.left ≡ []))
 Looks old (Ok false) new = Stays old new × (TellsBytes old → (old.position < stream_end old.extent) × (0 < length old.left))
 Looks old (Err (Refused reason bit)) new = Stops old new × ((reason ≡ TooLong) × (bit ≡ 8 * old.extent.limit)) × (TellsBytes old → (old.position ≡ 8 * old.extent.limit) × (8 * old.extent.limit < stream_end old.extent))
-Looks old (Err Read) new = Stops old new × SourceFails old.incoming new.incoming
+Looks old (Err Read) new = Loses old new
 Looks old (Err Failed) new = (old.live ≡ false) × (new ≡ old)
 Looks old (Err Memory) new = ⊥
 Looks old (Err Write) new = ⊥
@@ -62,7 +62,7 @@ pub record Closed (old new : Reader) : Type 0 where
 abbrev pub Closes : Reader → Result (Unit {0}) Fault → Reader → Type 0
 Closes old (Ok _) new = Closed old new
 Closes old (Err (Refused reason bit)) new = Stops old new × (TellsBytes old → verdict old.extent ≡ Err (at reason bit))
-Closes old (Err Read) new = Stops old new × SourceFails old.incoming new.incoming
+Closes old (Err Read) new = Loses old new
 Closes old (Err Failed) new = (old.live ≡ false) × (new ≡ old)
 Closes old (Err Memory) new = ⊥
 Closes old (Err Write) new = ⊥

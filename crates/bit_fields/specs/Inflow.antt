@@ -1,8 +1,8 @@
 -- The bits of a stream that a source still gives, and what taking them in leaves.
-use Rattle.std.specs.Prelude.{◌≡◌, ℕ, ◌+◌, ◌-◌, ◌*◌, ◌^◌, ◌<◌, ◌≤◌, min, Bool, true, false, if◌then◌else◌, List, [], ◌++◌, length, take, drop, IsSome, Result, Ok, Err, nat_lt, ◌&&◌, ◌⊎◌}
+use Rattle.std.specs.Prelude.{◌≡◌, ℕ, ◌+◌, ◌-◌, ◌*◌, ◌^◌, ◌<◌, ◌≤◌, min, Bool, true, false, if◌then◌else◌, List, [], ◌++◌, length, take, drop, IsSome, Result, Ok, Err, nat_lt, ◌&&◌}
 use Rattle.std.specs.Io.KnownBytes.{IsAtEnd}
 use Rattle.bit_grammar.specs.Bits.{bits_of_bytes}
-use Rattle.bit_fields.specs.Devices.{Incoming, IsWorn, Looked, Spends, known_bytes}
+use Rattle.bit_fields.specs.Devices.{Incoming, Looked, Spends, Fails, known_bytes}
 use Rattle.bit_fields.specs.declared.source.SourceFailed.{SourceFailed}
 use Rattle.bit_fields.specs.declared.inflow.Missing.{Missing}
 use Rattle.bit_fields.specs.declared.inflow.Missing.TheVariants.{End, Limit, Read}
@@ -78,8 +78,7 @@ pub record NoMore (old new : Flow) (by_limit : Bool) : Type 0 where
 -- the source failed
 pub record Lost (old new : Flow) : Type 0 where
   pub place : SamePlace old new
-  pub spends : Spends old.incoming (budget_of old) new.incoming 0
-  pub failed : (old.incoming.failures < new.incoming.failures) ⊎ IsWorn new.incoming
+  pub fails : Fails old.incoming (budget_of old) new.incoming 0
 
 -- why no more bits came
 abbrev pub Misses : Flow → Flow → Missing → Type 0
@@ -202,8 +201,7 @@ pub record DrainLost (old new : Flow) : Type 0 where
   pub window : new.window ≡ old.window
   pub end : new.end ≡ old.end
   pub loaded : old.loaded ≤ new.loaded
-  pub spends : Spends old.incoming (budget_of old) new.incoming 0
-  pub failed : (old.incoming.failures < new.incoming.failures) ⊎ IsWorn new.incoming
+  pub fails : Fails old.incoming (budget_of old) new.incoming 0
 
 -- why it did not come to the end
 abbrev pub DrainFails : Flow → Flow → Missing → Type 0

@@ -11,8 +11,8 @@ use Rattle.bit_fields.specs.declared.fault.Fault.{Fault}
 use Rattle.bit_fields.specs.declared.fault.Fault.TheVariants.{Refused, Read, Write, Memory, OutputTooLong, Failed}
 use Rattle.bit_fields.specs.declared.head.Wrapper.{Wrapper}
 use Rattle.bit_fields.specs.declared.head.Head.{Head}
-use Rattle.bit_fields.specs.Devices.{Incoming, Spends, known_bytes}
-use Rattle.bit_fields.specs.Reader.{Reader, TellsBytes, Breaks, GoesOn, SourceFails}
+use Rattle.bit_fields.specs.Devices.{Incoming, Spends, Fails, known_bytes}
+use Rattle.bit_fields.specs.Reader.{Reader, TellsBytes, Breaks, GoesOn}
 
 -- a limit is past its cap
 abbrev pub PassCaps : Limits → Type 0
@@ -91,7 +91,7 @@ Leaves old now = Spends old.incoming old.budget now 0
 -- why an input was not begun: its beginning breaks so, or the source failed
 abbrev pub Declines : Reader → Fault → Incoming → Type 0
 Declines old (Refused reason bit) now = Leaves old now × (TellsBytes old → Breaks (record old.extent { end = end_of (wrapper_of old.left) }) (beginning old.left) reason bit)
-Declines old Read now = Leaves old now × SourceFails old.incoming now
+Declines old Read now = Fails old.incoming old.budget now 0
 Declines old Memory now = ⊥
 Declines old Failed now = ⊥
 Declines old Write now = ⊥

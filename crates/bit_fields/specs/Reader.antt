@@ -1,12 +1,12 @@
 -- What a reader of bits stands for, and what a call of it takes. A call that reads is told by a rule of the grammar.
-use Rattle.std.specs.Prelude.{◌≡◌, ℕ, ◌+◌, ◌*◌, ◌<◌, ◌≤◌, ◌⊎◌, Bool, true, false, ◌&&◌, if◌then◌else◌, List, [], ◌++◌, length, IsSome, Result, Ok, Err, nat_lt}
+use Rattle.std.specs.Prelude.{◌≡◌, ℕ, ◌+◌, ◌*◌, ◌≤◌, Bool, true, false, ◌&&◌, if◌then◌else◌, List, [], ◌++◌, length, IsSome, Result, Ok, Err, nat_lt}
 use Rattle.bit_grammar.specs.declared.reason.Reason.{Reason}
 use Rattle.bit_grammar.specs.declared.reason.Reason.TheVariants.{Truncated, TooLong}
 use Rattle.bit_grammar.specs.Grammar as grammar
 use Rattle.bit_grammar.specs.Grammar.{Grammar, at, Spells, reading}
 use Rattle.bit_fields.specs.declared.fault.Fault.{Fault}
 use Rattle.bit_fields.specs.declared.fault.Fault.TheVariants.{Refused, Read, Write, Memory, OutputTooLong, Failed}
-use Rattle.bit_fields.specs.Devices.{Incoming, IsWorn, Spends}
+use Rattle.bit_fields.specs.Devices.{Incoming, Spends, Fails}
 
 -- how far a stream goes
 pub record Extent : Type 0 where
@@ -46,7 +46,7 @@ abbrev pub Breaks : {A : Type 0} → Extent → Result (A × ℕ × List Bool) g
 Breaks e (Ok x) reason bit = ⊥
 Breaks e (Err fault) reason bit = within e fault.reason fault.bit ≡ at reason bit
 
--- what every call leaves: it paid for its pulls and bytes, and the source tells its bytes as before
+-- what a call leaves: it paid for its pulls and bytes, the source did not fail, and tells its bytes as before
 abbrev pub GoesOn : Reader → Reader → Type 0
 GoesOn old new = Spends old.incoming old.budget new.incoming new.budget
 
@@ -61,21 +61,23 @@ pub record Took {A : Type 0} (rule : Grammar A) (old : Reader) (value : A) (new 
   pub extent : TellsBytes old → new.extent ≡ old.extent
   pub reads : TellsBytes old → reading rule old.position old.left ≡ Ok (value, new.position, new.left)
 
--- a call after which the reader has failed, or is closed
+-- a call after which the reader has failed, or is closed, and in which the source did not fail
 pub record Stops (old new : Reader) : Type 0 where
   pub was_live : old.live ≡ true
   pub failed : new.live ≡ false
   pub goes_on : GoesOn old new
 
--- the source failed in the call, or is worn
-abbrev pub SourceFails : Incoming → Incoming → Type 0
-SourceFails old new = (old.failures < new.failures) ⊎ IsWorn new
+-- a call in which the source failed, once, or was worn
+pub record Loses (old new : Reader) : Type 0 where
+  pub was_live : old.live ≡ true
+  pub failed : new.live ≡ false
+  pub fails : Fails old.incoming old.budget new.incoming new.budget
 
 -- Why a call did not succeed: the rule breaks so; the source failed; no memory; or the reader had failed before, and
 -- nothing changed.
 abbrev pub Why : {A : Type 0} → Grammar A → Reader → Fault → Reader → Type 0
 Why rule old (Refused reason bit) new = Stops old new × (TellsBytes old → Breaks old.extent (reading rule old.position old.left) reason bit)
-Why rule old Read new = Stops old new × SourceFails old.incoming new.incoming
+Why rule old Read new = Loses old new
 Why rule old Memory new = Stops old new
 Why rule old Failed new = (old.live ≡ false) × (new ≡ old)
 Why rule old Write new = ⊥

@@ -59,6 +59,10 @@ pub record Lost (old : Writer) (spelling : List Bool) (new : Writer) : Type 0 wh
   pub kept : TellsBytes old → Grows old new
   pub front : TellsBytes old → (rest : List Bool) × (taken new ++ rest ≡ written old ++ spelling)
 
+-- a writer that holds the bits of these bytes
+abbrev pub holding : Writer → List ℕ → Writer
+holding w bytes = record w { held = bits_of_bytes bytes }
+
 -- one call, or several in turn, that write these bits; after a failure nothing more is written
 abbrev pub Writes : List Bool → Writer → Result (Unit {0}) Fault → Writer → Type 0
 Writes spelling old (Ok _) new = Wrote old spelling new

@@ -291,7 +291,7 @@ impl<'a> Ahead<'a> {
 
     /// The same once more.
     #[inline(always)]
-    fn copy(&self) -> Ahead<'a>
+    pub fn copy(&self) -> Ahead<'a>
         ensures { result ≡ self.now }
     {
         Ahead {

@@ -376,7 +376,7 @@ impl<S: Source> Inflow<S> {
                 self.loaded += count as u64;
                 Ok(())
             }
-            Err(SourceFailed) => Err(Missing::Read),
+            Err(SourceFailed) => Err(Missing::Read), // nothing is asked after a failure
         }
     }
 

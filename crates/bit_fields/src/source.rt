@@ -1,4 +1,4 @@
-ghost use Rattle.std.specs.Prelude.{◌≡◌, Some, []};
+ghost use Rattle.std.specs.Prelude.{◌≡◌, ◌<◌, Some, [], OnErr};
 ghost use Rattle.std.specs.Borrow.{sem};
 ghost use Rattle.std.specs.Io.BufRead.{Rests};
 ghost use Rattle.bit_fields.specs.Devices.{Begins, IsFresh, Looked};
@@ -136,10 +136,15 @@ impl<'a> SliceSource<'a> {
 }
 
 impl<'a> Source for SliceSource<'a> {
+    ghost use Rattle.bit_fields.specs.Devices.{Pulls, PullsUnseen, Looks, IsWorn};
+
     ghost incoming = { λ s. record { to_come = Some s.rest.now; pulls = s.pulls; failures = 0; accounts = [] } };
 
     #[inline]
-    fn pull(&mut self, into: &mut [u8]) -> Result<usize, SourceFailed> {
+    fn pull(&mut self, into: &mut [u8]) -> Result<usize, SourceFailed>
+        ensures pulls { Pulls (⟦<SliceSource<'a> as Source>⟧.incoming self.old) (⟦<SliceSource<'a> as Source>⟧.incoming self.new) result into.new }
+        ensures worn { OnErr result (IsWorn (⟦<SliceSource<'a> as Source>⟧.incoming self.old)) }
+    {
         if self.pulls == u64::MAX {
             return Err(SourceFailed);
         }
@@ -180,7 +185,11 @@ impl<'a> Source for SliceSource<'a> {
     }
 
     #[inline(always)]
-    fn pass(&mut self, most: usize) -> Result<usize, SourceFailed> {
+    fn pass(&mut self, most: usize) -> Result<usize, SourceFailed>
+        requires { 0 < most }
+        ensures passes { PullsUnseen most (⟦<SliceSource<'a> as Source>⟧.incoming self.old) (⟦<SliceSource<'a> as Source>⟧.incoming self.new) result }
+        ensures worn { OnErr result (IsWorn (⟦<SliceSource<'a> as Source>⟧.incoming self.old)) }
+    {
         if self.pulls == u64::MAX {
             return Err(SourceFailed);
         }

@@ -1,9 +1,9 @@
 //! Bits in memory.
 
-ghost use Rattle.std.specs.Prelude.{◌≡◌, ◌+◌, ◌*◌, ◌%◌, ◌^◌, ◌<◌, ◌≤◌, ◌++◌, [], length, true, OnOk};
+ghost use Rattle.std.specs.Prelude.{◌≡◌, ◌+◌, ◌*◌, ◌%◌, ◌^◌, ◌<◌, ◌≤◌, ◌++◌, [], length, true, OnOk, OnErr};
 ghost use Rattle.bit_grammar.specs.Bits.{bits_of};
 ghost use Rattle.bit_grammar.specs.FormatFields.{shortest};
-ghost use Rattle.bit_grammar.specs.Normal.{padding};
+ghost use Rattle.bit_grammar.specs.Normal.{padding, values_text};
 ghost use Rattle.bit_fields.specs.Texts.{bits_of_words, with_word};
 ghost use Rattle.bit_fields.specs.Writer.{Writes};
 
@@ -22,18 +22,17 @@ use std::mem;
 pub struct BitText {
     words: Words,
     window: Window,
-    len: u64,
 }
 
 impl Model for BitText {
-    ghost use Rattle.std.specs.Prelude.{◌≡◌, List, Bool, ◌++◌, length};
+    ghost use Rattle.std.specs.Prelude.{List, Bool, ◌++◌, ◌<◌, ◌^◌, length};
     ghost use Rattle.bit_fields.specs.Texts.{bits_of_words};
 
     ghost Value = { List Bool };
 
     ghost view = { λ t. bits_of_words t.words ++ t.window };
 
-    ghost invariant = { λ t. t.len ≡ length (bits_of_words t.words ++ t.window) };
+    ghost invariant = { λ t. length (bits_of_words t.words ++ t.window) < 2 ^ 64 };
 }
 
 impl BitText {
@@ -44,7 +43,6 @@ impl BitText {
         BitText {
             words: Words::new(alloc),
             window: Window::new(),
-            len: 0,
         }
     }
 
@@ -53,7 +51,7 @@ impl BitText {
     pub fn len(&self) -> u64
         ensures { result ≡ length self.now }
     {
-        self.len
+        32 * self.words.len() as u64 + u64::from(self.window.len())
     }
 
     /// Drops all bits.
@@ -63,7 +61,6 @@ impl BitText {
     {
         self.words.clear();
         self.window = Window::new();
-        self.len = 0;
     }
 
     /// Adds a number of n bits, n from 0 to 32, the lowest bit first.
@@ -74,10 +71,7 @@ impl BitText {
         requires room { length self.old < 2 ^ 63 }
         ensures { OnOk result (self.new ≡ self.old ++ bits_of n value) }
     {
-        make_room(&mut self.words, &mut self.window, n)?;
-        self.window.push(value, n);
-        self.len += u64::from(n);
-        Ok(())
+        add_field(&mut self.words, &mut self.window, n, value)
     }
 
     /// Adds a number in chunks of n bits, n from 2 to 32, as few as it takes.
@@ -97,12 +91,26 @@ impl BitText {
         self.fixed(n, rest)
     }
 
+    /// Adds numbers in chunks of six bits, each in as few as it takes.
+    #[inline]
+    pub fn numbers(&mut self, values: &[u64]) -> Result<(), AllocError>
+        requires { length self.old + length (values_text values.now) < 2 ^ 62 }
+        ensures { OnOk result (self.new ≡ self.old ++ values_text values.now) }
+    {
+        if let Err(AllocError) = add_numbers(&mut self.words, &mut self.window, values) {
+            self.words.clear();
+            self.window = Window::new();
+            return Err(AllocError);
+        }
+        Ok(())
+    }
+
     /// Adds zeros up to the next position that is a multiple of 32, possibly none.
     pub fn pad(&mut self) -> Result<(), AllocError>
         requires { length self.old < 2 ^ 63 }
         ensures { OnOk result (self.new ≡ self.old ++ padding (length self.old)) }
     {
-        let count = ((32 - self.len % 32) % 32) as u32;
+        let count = ((32 - self.len() % 32) % 32) as u32;
         self.fixed(count, 0)
     }
 
@@ -164,22 +172,18 @@ impl BitText {
         let moved = other.words.move_behind(self);
         let rest = mem::replace(&mut other.window, Window::new());
         other.words.clear();
-        other.len = 0;
         moved?;
         self.add_window(rest)
     }
 
-    /// Writes all bits, whole words, behind what a writer wrote.
+    /// Writes all bits behind what a writer wrote, which are whole bytes.
     pub fn write<K: Sink>(self, writer: &mut BitWriter<K>) -> Result<(), Fault>
         requires live { writer.old.live ≡ true }
+        requires whole { writer.old.position % 8 ≡ 0 }
         requires room { writer.old.position + length self < 2 ^ 62 }
         ensures { Writes self writer.old result writer.new }
     {
-        let BitText {
-            words,
-            window,
-            len: _,
-        } = self;
+        let BitText { words, window } = self;
         words.write(writer)?;
         write_window(window, writer)
     }
@@ -198,21 +202,19 @@ fn move_word(words: &mut Words, window: &mut Window) -> Result<(), AllocError>
     Ok(())
 }
 
-/// Moves whole words behind words to the words where n more bits would fill the window.
+/// Moves a word behind words to the words, where there is one, so that 32 bits more have room.
 #[inline(always)]
-fn make_room(words: &mut Words, window: &mut Window, n: u32) -> Result<(), AllocError>
-    requires { n ≤ 32 }
+fn make_room(words: &mut Words, window: &mut Window) -> Result<(), AllocError>
     ensures same { bits_of_words words.new ++ window.new ≡ bits_of_words words.old ++ window.old }
-    ensures few { OnOk result (length window.new + n < 64) }
+    ensures few { OnOk result (length window.new ≤ 32) }
 {
-    if window.len() + n >= 64 {
-        return settle(words, window);
+    if window.len() >= 32 {
+        return move_word(words, window);
     }
     Ok(())
 }
 
-/// Moves all whole words behind words to the words. It is kept out of the callers, which seldom need it.
-#[inline(never)]
+/// Moves all whole words behind words to the words.
 fn settle(words: &mut Words, window: &mut Window) -> Result<(), AllocError>
     ensures same { bits_of_words words.new ++ window.new ≡ bits_of_words words.old ++ window.old }
     ensures few { OnOk result (length window.new < 32) }
@@ -220,6 +222,66 @@ fn settle(words: &mut Words, window: &mut Window) -> Result<(), AllocError>
     while window.len() >= 32 {
         move_word(words, window)?;
     }
+    Ok(())
+}
+
+/// Adds a number of n bits behind words and a window.
+#[inline(always)]
+fn add_field(words: &mut Words, window: &mut Window, n: u32, value: u64) -> Result<(), AllocError>
+    requires few { n ≤ 32 }
+    requires fits { value < 2 ^ n }
+    ensures ok { OnOk result (bits_of_words words.new ++ window.new ≡ (bits_of_words words.old ++ window.old) ++ bits_of n value) }
+    ensures err { OnErr result (bits_of_words words.new ++ window.new ≡ bits_of_words words.old ++ window.old) }
+{
+    make_room(words, window)?;
+    window.push(value, n);
+    Ok(())
+}
+
+/// The chunks of six bits of a number of ten bits: one, or two.
+#[inline(always)]
+fn short_chunks(value: u64) -> Window
+    requires { value < 1024 }
+    ensures spelled { result ≡ shortest 6 value }
+    ensures some { 0 < length result }
+    ensures few { length result ≤ 12 }
+{
+    let more = (value + 992) / 1024;
+    let word = value % 32 + 32 * more + 64 * (value / 32);
+    Window::of(word, 6 + 6 * more as u32)
+}
+
+/// Adds a number in chunks of six bits behind words and a window.
+#[inline(always)]
+fn add_number(words: &mut Words, window: &mut Window, value: u64) -> Result<(), AllocError>
+    requires { length (bits_of_words words.old ++ window.old) < 2 ^ 62 }
+    ensures { OnOk result (bits_of_words words.new ++ window.new ≡ (bits_of_words words.old ++ window.old) ++ shortest 6 value) }
+{
+    if value < 1024 {
+        make_room(words, window)?;
+        window.append(short_chunks(value));
+        return Ok(());
+    }
+    let mut rest = value;
+    while rest >= 32 {
+        add_field(words, window, 6, (rest & 31) + 32)?;
+        rest >>= 5;
+    }
+    add_field(words, window, 6, rest)
+}
+
+/// Adds numbers in chunks of six bits behind words and a window, which is held in registers meanwhile. Where memory is refused
+/// the bits are any.
+#[inline(always)]
+fn add_numbers(words: &mut Words, window: &mut Window, values: &[u64]) -> Result<(), AllocError>
+    requires { length (bits_of_words words.old ++ window.old) + length (values_text values.now) < 2 ^ 62 }
+    ensures { OnOk result (bits_of_words words.new ++ window.new ≡ (bits_of_words words.old ++ window.old) ++ values_text values.now) }
+{
+    let mut pen = window.copy();
+    for value in values {
+        add_number(words, &mut pen, *value)?;
+    }
+    *window = pen;
     Ok(())
 }
 

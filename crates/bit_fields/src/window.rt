@@ -4,6 +4,32 @@ ghost use Rattle.bit_fields.specs.Short.{EndsAt, gathered};
 
 use std::marker::Model;
 
+/// The top bits of the first four chunks of n bits.
+macro_rules! tops {
+    ($n:literal) => {
+        1 << ($n - 1) | 1 << (2 * $n - 1) | 1 << (3 * $n - 1) | 1 << (4 * $n - 1)
+    };
+}
+
+/// Those for each width of chunks, from 2 to 14 bits.
+static FOUR_TOPS: [u64; 15] = [
+    0,
+    0,
+    tops!(2),
+    tops!(3),
+    tops!(4),
+    tops!(5),
+    tops!(6),
+    tops!(7),
+    tops!(8),
+    tops!(9),
+    tops!(10),
+    tops!(11),
+    tops!(12),
+    tops!(13),
+    tops!(14),
+];
+
 /// Up to 64 bits, the next one lowest.
 #[derive(Drop)]
 pub struct Window {
@@ -94,8 +120,7 @@ impl Window {
         ensures ends { result ≤ 64 → EndsAt n result (number self.now) }
         ensures some { 0 < result }
     {
-        let tops = 1 << (n - 1) | 1 << (2 * n - 1) | 1 << (3 * n - 1) | 1 << (4 * n - 1);
-        let lasts: u64 = tops & !self.word;
+        let lasts = FOUR_TOPS[n as usize] & !self.word;
         if lasts == 0 {
             return 65;
         }

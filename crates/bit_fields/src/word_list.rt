@@ -1,6 +1,8 @@
 //! Words of 32 bits in memory.
 
-ghost use Rattle.std.specs.Prelude.{◌≡◌, ◌+◌, ◌*◌, ◌^◌, ◌<◌, ◌++◌, [], ◌∷◌, length, true, OnOk, OnErr};
+ghost use Rattle.std.specs.Prelude.{◌≡◌, ◌+◌, ◌*◌, ◌%◌, ◌^◌, ◌<◌, ◌≤◌, ◌++◌, [], ◌∷◌, length, take, true, OnOk, OnErr};
+ghost use Rattle.std.specs.Int.{w32, to_le_bytes};
+ghost use Rattle.bit_grammar.specs.Bits.{bits_of_bytes};
 ghost use Rattle.std.proofs.Math.ListN.{set};
 ghost use Rattle.bit_fields.specs.Texts.{bits_of_words, joined, AreFull};
 ghost use Rattle.bit_fields.specs.Writer.{Writes};
@@ -15,6 +17,9 @@ use std::mem;
 
 /// How many words a chunk has.
 const CHUNK: usize = 262144;
+
+/// How many words are written at once.
+const PIECE: usize = 1024;
 
 /// Words of 32 bits, in chunks of 1 MiB, so that growing moves none of those that are there.
 #[derive(Drop)]
@@ -68,6 +73,15 @@ impl Words {
         }
     }
 
+    /// How many words there are.
+    #[inline(always)]
+    pub(crate) fn len(&self) -> usize
+        requires { length self.now < 2 ^ 64 }
+        ensures { result ≡ length self.now }
+    {
+        self.full.len() * CHUNK + self.last.len()
+    }
+
     /// Adds a word.
     #[inline(always)]
     pub(crate) fn push(&mut self, word: u32) -> Result<(), AllocError>
@@ -113,6 +127,7 @@ impl Words {
     /// Writes all words.
     pub(crate) fn write<K: Sink>(&self, writer: &mut BitWriter<K>) -> Result<(), Fault>
         requires live { writer.old.live ≡ true }
+        requires whole { writer.old.position % 8 ≡ 0 }
         requires room { writer.old.position + 32 * length self.now < 2 ^ 63 }
         ensures { Writes (bits_of_words self.now) writer.old result writer.new }
     {
@@ -153,14 +168,53 @@ fn move_each(chunks: &mut Vec<Vec<u32>>, text: &mut BitText) -> Result<(), Alloc
     Ok(())
 }
 
-/// Writes words.
-fn write_words<K: Sink>(words: &[u32], writer: &mut BitWriter<K>) -> Result<(), Fault>
-    requires live { writer.old.live ≡ true }
+/// Puts the four bytes of a word in their places, the lowest first.
+#[inline(always)]
+fn put_word(bytes: &mut [u8], at: usize, word: u32)
+    requires { at + 4 ≤ length bytes.old }
+    ensures { take (at + 4) bytes.new ≡ take at bytes.old ++ to_le_bytes w32 word }
+{
+    let four = word.to_le_bytes();
+    bytes[at] = four[0];
+    bytes[at + 1] = four[1];
+    bytes[at + 2] = four[2];
+    bytes[at + 3] = four[3];
+}
+
+/// Puts the bytes of words in front of what bytes there are.
+fn put_words(bytes: &mut [u8], words: &[u32])
+    requires { 4 * length words.now ≤ length bytes.old }
+    ensures { bits_of_bytes (take (4 * length words.now) bytes.new) ≡ bits_of_words words.now }
+{
+    for (place, word) in words.iter().enumerate() {
+        put_word(bytes, 4 * place, *word);
+    }
+}
+
+/// Writes words, as many as are written at once.
+fn write_piece<K: Sink>(words: &[u32], writer: &mut BitWriter<K>) -> Result<(), Fault>
+    requires few { length words.now ≤ 1024 }
+    requires whole { writer.old.position % 8 ≡ 0 }
     requires room { writer.old.position + 32 * length words.now < 2 ^ 63 }
     ensures { Writes (bits_of_words words.now) writer.old result writer.new }
 {
-    for word in words {
-        writer.fixed(32, u64::from(*word))?;
+    let mut bytes = [0; 4 * PIECE];
+    put_words(&mut bytes, words);
+    writer.bytes(&bytes[..4 * words.len()])
+}
+
+/// Writes words.
+fn write_words<K: Sink>(words: &[u32], writer: &mut BitWriter<K>) -> Result<(), Fault>
+    requires live { writer.old.live ≡ true }
+    requires whole { writer.old.position % 8 ≡ 0 }
+    requires room { writer.old.position + 32 * length words.now < 2 ^ 63 }
+    ensures { Writes (bits_of_words words.now) writer.old result writer.new }
+{
+    let mut rest = words;
+    while !rest.is_empty() {
+        let count = rest.len().min(PIECE);
+        write_piece(&rest[..count], writer)?;
+        rest = &rest[count..];
     }
     Ok(())
 }

@@ -1,8 +1,8 @@
-ghost use Rattle.std.specs.Prelude.{◌≡◌, ◌+◌, ◌-◌, ◌*◌, ◌%◌, ◌<◌, ◌≤◌, ◌^◌, ◌++◌, length, true, false, take, drop, [], OnOk, OnErr, Ok};
-ghost use Rattle.bit_grammar.specs.Bits.{bits_of};
+ghost use Rattle.std.specs.Prelude.{◌≡◌, ◌+◌, ◌-◌, ◌*◌, ◌%◌, ◌<◌, ◌≤◌, ◌^◌, ◌++◌, length, true, false, take, drop, [], IfOk, OnOk, OnErr, Ok};
+ghost use Rattle.bit_grammar.specs.Bits.{bits_of, bits_of_bytes};
 ghost use Rattle.bit_grammar.specs.FormatFields.{shortest};
 ghost use Rattle.bit_grammar.specs.Normal.{padding};
-ghost use Rattle.bit_fields.specs.Writer.{Wrote, Lost, Writes};
+ghost use Rattle.bit_fields.specs.Writer.{Wrote, Lost, Writes, holding};
 
 use crate::fault::Fault;
 use crate::sink::{Sink, SinkFailed};
@@ -293,6 +293,75 @@ impl<K: Sink> BitWriter<K> {
             return Err(Fault::Failed);
         }
         match self.any_vbr(n, value) {
+            Ok(()) => Ok(()),
+            Err(SinkFailed) => Err(Fault::Write),
+        }
+    }
+
+    /// Gives the sink bytes, of which it may take some, and answers how many it took. Nothing is held.
+    fn put_front(&mut self, bytes: &[u8]) -> Result<usize, SinkFailed>
+        requires live { self.old.live ≡ true }
+        requires none { self.old.held ≡ [] }
+        requires some { 0 < length bytes.now }
+        ensures wrote { IfOk result (λ count. Wrote (holding self.old bytes.now) [] (holding self.new (drop count bytes.now))) }
+        ensures lost { OnErr result (Lost (holding self.old bytes.now) [] self.new) }
+        ensures few { IfOk result (λ count. count ≤ length bytes.now) }
+        ensures some { IfOk result (λ count. 0 < count) }
+        ensures none { OnOk result (self.new.held ≡ []) }
+    {
+        match self.sink.put(bytes) {
+            Ok(0) => {
+                self.live = false;
+                Err(SinkFailed)
+            }
+            Ok(count) => Ok(count),
+            Err(SinkFailed) => {
+                self.live = false;
+                Err(SinkFailed)
+            }
+        }
+    }
+
+    /// Gives the sink bytes, all of them. Nothing is held.
+    fn put_bytes(&mut self, bytes: &[u8]) -> Result<(), SinkFailed>
+        requires live { self.old.live ≡ true }
+        requires none { self.old.held ≡ [] }
+        requires whole { self.old.position % 8 ≡ 0 }
+        requires position { self.old.position + 8 * length bytes.now < 2 ^ 64 }
+        ensures wrote { OnOk result (Wrote self.old (bits_of_bytes bytes.now) self.new) }
+        ensures lost { OnErr result (Lost self.old (bits_of_bytes bytes.now) self.new) }
+    {
+        self.position += 8 * bytes.len() as u64;
+        let mut rest = bytes;
+        while !rest.is_empty() {
+            let count = self.put_front(rest)?;
+            rest = &rest[count..];
+        }
+        Ok(())
+    }
+
+    /// Gives the sink all that is held, and bytes behind it.
+    fn put_behind(&mut self, bytes: &[u8]) -> Result<(), SinkFailed>
+        requires live { self.old.live ≡ true }
+        requires whole { self.old.position % 8 ≡ 0 }
+        requires position { self.old.position + 8 * length bytes.now < 2 ^ 64 }
+        ensures wrote { OnOk result (Wrote self.old (bits_of_bytes bytes.now) self.new) }
+        ensures lost { OnErr result (Lost self.old (bits_of_bytes bytes.now) self.new) }
+    {
+        self.put_all()?;
+        self.put_bytes(bytes)
+    }
+
+    /// Writes bytes at a position that is a multiple of 8, and gives them to the sink, as many at once as it takes.
+    pub fn bytes(&mut self, bytes: &[u8]) -> Result<(), Fault>
+        requires whole { self.old.position % 8 ≡ 0 }
+        requires position { self.old.position + 8 * length bytes.now < 2 ^ 64 }
+        ensures { Writes (bits_of_bytes bytes.now) self.old result self.new }
+    {
+        if !self.live {
+            return Err(Fault::Failed);
+        }
+        match self.put_behind(bytes) {
             Ok(()) => Ok(()),
             Err(SinkFailed) => Err(Fault::Write),
         }

@@ -12,52 +12,68 @@ ghost use Rattle.bit_grammar.specs.Happening.{HasEvents};
 
 /// What is to come are the steps that hold, one after the other, with their events, up to the end or to the one that breaks.
 pub fn steps_to_come()
-    ensures { (limits : Limits) (m : Machine) (p : ℕ) (r : List Bool) (events : List Event) (ending : Ending) → AreWide m.frames → (Steps limits m p r events ending ↔ (to_come limits m p r ≡ (events, ending))) }
+    ensures { (limits : Limits) (m : Machine) (p : ℕ) (r : List Bool) (events : List Event) (ending : Ending) → AreWide m.frames
+        → (Steps limits m p r events ending ↔ (to_come limits m p r ≡ (events, ending))) }
 {}
 
 /// The steps of a stream that is accepted are the events of its blocks, and of no other stream; and a stream breaks with a
 /// fault where its steps do.
 pub fn steps_of_blocks()
-    ensures accepted { (limits : Limits) (p : ℕ) (r : List Bool) (events : List Event) (q : ℕ) → (Steps limits at_start p r events (accepted q) ↔ ((v : List Item × ℕ) × SpellsAll (top_blocks limits) p r v × (events ≡ flat (marks_of v.0) []) × (q ≡ v.1))) }
-    ensures broken { (limits : Limits) (p : ℕ) (r : List Bool) (fault : Fault) → (StopsAll (top_blocks limits) p r fault ↔ ((events : List Event) × Steps limits at_start p r events (broke fault))) }
+    ensures accepted { (limits : Limits) (p : ℕ) (r : List Bool) (events : List Event) (q : ℕ)
+        → (Steps limits at_start p r events (accepted q)
+        ↔ ((v : List Item × ℕ) × SpellsAll (top_blocks limits) p r v × (events ≡ flat (marks_of v.0) []) × (q ≡ v.1))) }
+    ensures broken { (limits : Limits) (p : ℕ) (r : List Bool) (fault : Fault)
+        → (StopsAll (top_blocks limits) p r fault ↔ ((events : List Event) × Steps limits at_start p r events (broke fault))) }
 {}
 
 /// A step takes bits, and each block that is open after it has ids of some bits.
 pub fn bits_of_step()
-    ensures { (limits : Limits) (m new : Machine) (p : ℕ) (s : List Bool) (event : Event) → AreWide m.frames → Spells (step limits m) p s (event, new) → (0 < length s) × AreWide new.frames }
+    ensures { (limits : Limits) (m new : Machine) (p : ℕ) (s : List Bool) (event : Event) → AreWide m.frames
+        → Spells (step limits m) p s (event, new) → (0 < length s) × AreWide new.frames }
 {}
 
 /// A frame stands for each open block: one more after a block begins, one less after it ends, and never more than the limit
 /// on depth.
 pub fn frames_of_step()
-    ensures { (limits : Limits) (m new : Machine) (p : ℕ) (s : List Bool) (event : Event) → Spells (step limits m) p s (event, new) → MayStand limits.depth event (length m.frames) × (length new.frames ≡ open_after event (length m.frames)) × (length m.frames ≤ limits.depth → length new.frames ≤ limits.depth) }
+    ensures { (limits : Limits) (m new : Machine) (p : ℕ) (s : List Bool) (event : Event) → Spells (step limits m) p s (event, new)
+        → MayStand limits.depth event (length m.frames) × (length new.frames ≡ open_after event (length m.frames))
+        × (length m.frames ≤ limits.depth → length new.frames ≤ limits.depth) }
 {}
 
 /// A step uses as many values as its record has, within the limit on values.
 pub fn values_of_step()
-    ensures { (limits : Limits) (m new : Machine) (p : ℕ) (s : List Bool) (event : Event) → Spells (step limits m) p s (event, new) → (new.handed.used ≡ m.handed.used + values_told event) × (m.handed.used ≤ limits.values → new.handed.used ≤ limits.values) }
+    ensures { (limits : Limits) (m new : Machine) (p : ℕ) (s : List Bool) (event : Event) → Spells (step limits m) p s (event, new)
+        → (new.handed.used ≡ m.handed.used + values_told event) × (m.handed.used ≤ limits.values → new.handed.used ≤ limits.values) }
 {}
 
 /// Events, and others after them, are those of the steps up to another machine, and of the steps from there.
 pub fn steps_in_parts()
-    ensures { (limits : Limits) (m : Machine) (p : ℕ) (r : List Bool) (events others : List Event) (ending : Ending) → (Steps limits m p r (events ++ others) ending ↔ ((first rest : List Bool) × (new : Machine) × (r ≡ first ++ rest) × Leads limits m p first events new × Steps limits new (p + length first) rest others ending)) }
+    ensures { (limits : Limits) (m : Machine) (p : ℕ) (r : List Bool) (events others : List Event) (ending : Ending)
+        → (Steps limits m p r (events ++ others) ending
+        ↔ ((first rest : List Bool) × (new : Machine) × (r ≡ first ++ rest) × Leads limits m p first events new
+        × Steps limits new (p + length first) rest others ending)) }
 {}
 
 /// After some steps a frame stands for each block that their events leave open, the values used are those of their records,
 /// within the limit, and each open block has ids of some bits.
 pub fn machine_after()
-    ensures kept { (limits : Limits) (m new : Machine) (p : ℕ) (s : List Bool) (events : List Event) → Leads limits m p s events new → IsNested limits.depth (length m.frames) events (length new.frames) × (new.handed.used ≡ m.handed.used + all_values_told events) × (m.handed.used ≤ limits.values → new.handed.used ≤ limits.values) }
-    ensures wide { (limits : Limits) (m new : Machine) (p : ℕ) (s : List Bool) (events : List Event) → AreWide m.frames → Leads limits m p s events new → AreWide new.frames }
+    ensures kept { (limits : Limits) (m new : Machine) (p : ℕ) (s : List Bool) (events : List Event) → Leads limits m p s events new
+        → IsNested limits.depth (length m.frames) events (length new.frames) × (new.handed.used ≡ m.handed.used + all_values_told events)
+        × (m.handed.used ≤ limits.values → new.handed.used ≤ limits.values) }
+    ensures wide { (limits : Limits) (m new : Machine) (p : ℕ) (s : List Bool) (events : List Event) → AreWide m.frames
+        → Leads limits m p s events new → AreWide new.frames }
 {}
 
 /// The events of a stream are well nested, at most as deep as the limit, and where it is accepted no block is left open.
 pub fn nested_events()
-    ensures { (limits : Limits) (p : ℕ) (r : List Bool) (events : List Event) (ending : Ending) → Steps limits at_start p r events ending → EndsNested limits.depth 0 events ending }
+    ensures { (limits : Limits) (p : ℕ) (r : List Bool) (events : List Event) (ending : Ending) → Steps limits at_start p r events ending
+        → EndsNested limits.depth 0 events ending }
 {}
 
 /// The records of a stream, also before a break, have no more values than the limit.
 pub fn values_of_events()
-    ensures { (limits : Limits) (p : ℕ) (r : List Bool) (events : List Event) (ending : Ending) → Steps limits at_start p r events ending → all_values_told events ≤ limits.values }
+    ensures { (limits : Limits) (p : ℕ) (r : List Bool) (events : List Event) (ending : Ending) → Steps limits at_start p r events ending
+        → all_values_told events ≤ limits.values }
 {}
 
 /// Marked items are known by their events.
@@ -68,19 +84,22 @@ pub fn marks_by_events()
 /// An input spells a marked tree where its head, the events of the tree and acceptance are told of it; and it breaks with a
 /// fault where what is told ends with that fault.
 pub fn told_of_input()
-    ensures spelled { (limits : Limits) (bytes : List ℕ) (m : Marked) → (SpellsInput limits bytes m ↔ (outlook limits bytes ≡ Ok (m.head, (flat m.blocks [], accepted m.after)))) }
+    ensures spelled { (limits : Limits) (bytes : List ℕ) (m : Marked)
+        → (SpellsInput limits bytes m ↔ (outlook limits bytes ≡ Ok (m.head, (flat m.blocks [], accepted m.after)))) }
     ensures broken { (limits : Limits) (bytes : List ℕ) (fault : Fault) → (BreaksInput limits bytes fault ↔ EndsBy (outlook limits bytes) fault) }
 {}
 
 /// The events that are told of an input are those of the steps of its stream, behind its head, whatever ends them.
 pub fn events_of_bytes()
-    ensures { (limits : Limits) (bytes : List ℕ) (head : Head) (events : List Event) → (HasEvents limits bytes head events ↔ ((ending : Ending) × (outlook limits bytes ≡ Ok (head, (events, ending))))) }
+    ensures { (limits : Limits) (bytes : List ℕ) (head : Head) (events : List Event)
+        → (HasEvents limits bytes head events ↔ ((ending : Ending) × (outlook limits bytes ≡ Ok (head, (events, ending))))) }
 {}
 
 /// The events of an input are well nested, at most as deep as the limit, and their records have no more values than the
 /// limit; and where it is accepted no block is left open.
 pub fn nested_input()
-    ensures kept { (limits : Limits) (bytes : List ℕ) (head : Head) (events : List Event) → HasEvents limits bytes head events → ((left : ℕ) × (left ≤ limits.depth) × IsNested limits.depth 0 events left) × (all_values_told events ≤ limits.values) }
+    ensures kept { (limits : Limits) (bytes : List ℕ) (head : Head) (events : List Event) → HasEvents limits bytes head events
+        → ((left : ℕ) × (left ≤ limits.depth) × IsNested limits.depth 0 events left) × (all_values_told events ≤ limits.values) }
     ensures accepted { (limits : Limits) (bytes : List ℕ) (m : Marked) → SpellsInput limits bytes m → IsNested limits.depth 0 (flat m.blocks []) 0 }
 {}
 

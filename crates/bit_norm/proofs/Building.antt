@@ -1,5 +1,5 @@
 -- What a normal form becomes that is being built.
-use Rattle.std.proofs.Common.{◌≡◌, ℕ, zero, suc, ◌+◌, ◌*◌, ◌/◌, ◌%◌, ◌<◌, ◌≤◌, Bool, true, false, List, [], ◌∷◌, ◌++◌, length, vec_len, replicate, refl, sym, ap, subst, ◌∙◌, arith, append_assoc, length-append}
+use Rattle.std.proofs.Common.{◌≡◌, ℕ, zero, suc, ◌+◌, ◌*◌, ◌/◌, ◌%◌, ◌^◌, ◌<◌, ◌≤◌, Bool, true, false, List, [], ◌∷◌, ◌++◌, length, vec_len, replicate, refl, sym, ap, subst, ◌∙◌, arith, append_assoc, length-append}
 use Rattle.std.specs.Prelude.{if◌then◌else◌}
 use Rattle.std.proofs.lemmas.List.{append-nil}
 use Rattle.bit_grammar.specs.declared.info.Info.{Info}
@@ -18,10 +18,12 @@ use Rattle.bit_events.specs.Gathering.{left_open}
 use Rattle.bit_events.proofs.Folds.{open_behind-push}
 use Rattle.bit_grammar.specs.Blocks.{Limits}
 use Rattle.bit_fields.specs.Texts.{with_word}
+use Rattle.bit_fields.proofs.BitLaws.{bits_of-above}
 use Rattle.bit_fields.proofs.Texts.{with_word_between}
+use Rattle.bit_fields.proofs.WriterChunks.{short_spelled}
 use Rattle.bit_norm.specs.Told.{told_at_level}
 use Rattle.bit_norm.specs.Building.{written, begins, closed, completed, form_with, left_out, holes_of, AreWords, Builds, PassesLimit, IsFormOf}
-use Rattle.bit_norm.specs.Writing.{record_text, open_text}
+use Rattle.bit_norm.specs.Writing.{record_head, record_text, open_text}
 use Rattle.bit_norm.proofs.ChunkCounting.{short_few}
 use Rattle.bit_norm.specs.declared.form_builder.FormBuilder.{FormBuilder}
 
@@ -469,18 +471,37 @@ passes_whole first last events was long =
 
 -- ---- what is added, in parts
 
-pub record_parts : (text a b d e values : List Bool) (code count : ℕ) (list : List ℕ) → a ≡ text ++ bits_of 2 3 → b ≡ a ++ shortest 6 code → d ≡ b ++ shortest 6 count → e ≡ d ++ values → count ≡ length list → values ≡ values_text list → e ≡ text ++ record_text code list (length text)
-record_parts text a b d e values code count list a_is b_is d_is e_is count_is values_is =
+-- what stands before the values, field by field, or at once
+pub record_head_parts : (text a b d : List Bool) (code count : ℕ) → a ≡ text ++ bits_of 2 3 → b ≡ a ++ shortest 6 code → d ≡ b ++ shortest 6 count → d ≡ text ++ record_head code count
+record_head_parts text a b d code count a_is b_is d_is =
+    let x = bits_of 2 3 in
+    let y = shortest 6 code in
+    let z = shortest 6 count in
+    d_is ∙ ap (λ (s : List Bool). s ++ z) (b_is ∙ ap (λ (s : List Bool). s ++ y) a_is) ∙ append_assoc (text ++ x) y z ∙ append_assoc text x (y ++ z)
+
+six_bits : (value : ℕ) → value < 32 → bits_of 6 value ≡ shortest 6 value
+six_bits value lt = short_spelled value 0 value (omega (arith, lt)) (omega (arith, lt)) (omega (arith, lt))
+
+pub record_head_at_once : (code count word : ℕ) → code < 32 → count < 32 → word ≡ 3 + 4 * code + 256 * count → bits_of 14 word ≡ record_head code count
+record_head_at_once code count word few short word_is =
+    let above : word ≡ 3 + (code + count * 64) * 4 = omega (arith, word_is) in
+    let three : 3 < 2 ^ 2 = omega arith in
+    let six : code < 2 ^ 6 = omega (arith, few) in
+    ap (bits_of 14) above
+    ∙ bits_of-above 2 12 3 (code + count * 64) three
+    ∙ ap (λ (s : List Bool). bits_of 2 3 ++ s) (bits_of-above 6 6 code count six ∙ ap (λ (s : List Bool). s ++ bits_of 6 count) (six_bits code few) ∙ ap (λ (s : List Bool). shortest 6 code ++ s) (six_bits count short))
+
+-- a record, behind what stands before its values
+pub record_joined : (text a e : List Bool) (code count : ℕ) (list : List ℕ) → a ≡ text ++ record_head code count → count ≡ length list → e ≡ a ++ values_text list → e ≡ text ++ record_text code list (length text)
+record_joined text a e code count list a_is count_is e_is =
     let x = bits_of 2 3 in
     let y = shortest 6 code in
     let z = shortest 6 (length list) in
     let v = values_text list in
     e_is
-    ∙ ap (λ (s : List Bool). d ++ s) values_is
-    ∙ ap (λ (s : List Bool). s ++ v) (d_is ∙ ap (λ (n : ℕ). b ++ shortest 6 n) count_is ∙ ap (λ (s : List Bool). s ++ z) (b_is ∙ ap (λ (s : List Bool). s ++ y) a_is))
-    ∙ append_assoc ((text ++ x) ++ y) z v
-    ∙ append_assoc (text ++ x) y (z ++ v)
-    ∙ append_assoc text x (y ++ (z ++ v))
+    ∙ ap (λ (s : List Bool). s ++ v) (a_is ∙ ap (λ (n : ℕ). text ++ record_head code n) count_is)
+    ∙ append_assoc text (x ++ (y ++ z)) v
+    ∙ ap (λ (s : List Bool). text ++ s) (append_assoc x (y ++ z) v ∙ ap (λ (s : List Bool). x ++ s) (append_assoc y z v))
 
 pub head_parts : (text a b d e : List Bool) (id : ℕ) → a ≡ text ++ bits_of 2 1 → b ≡ a ++ shortest 8 id → d ≡ b ++ shortest 4 2 → e ≡ d ++ padding (length d) → e ≡ text ++ open_text id (length text)
 head_parts text a b d e id a_is b_is d_is e_is =

@@ -29,7 +29,7 @@ use Rattle.bit_norm.specs.InStep.{Stand, Said, told_entries, entry_of, Compared,
 use Rattle.bit_norm.specs.declared.comparing.Which.{Which}
 use Rattle.bit_norm.specs.declared.comparing.Which.TheVariants.{First, Second}
 use Rattle.bit_norm.specs.declared.comparing.SameFault.{SameFault}
-use Rattle.bit_norm.proofs.Signs.{signs_in-append, same_signs}
+use Rattle.bit_norm.proofs.Signs.{signs_in-append, same_signs, tree_is}
 use Rattle.bit_norm.proofs.EventEntries.{entries_told}
 use Rattle.bit_norm.proofs.InStep.{departs_there}
 use Rattle.bit_norm.proofs.Apart.{never_same}
@@ -54,11 +54,6 @@ told_is : (limits : Limits) (bytes : List ℕ) (c : Coming) (m : Marked) → out
 told_is limits bytes c m told spelled = told_parts c.head m.head c.told (flat m.blocks [], accepted m.after) (sym told ∙ (told_if_spelled limits bytes m).0 spelled)
 
 -- ---- the answer by the entries
-
-tree_is : (info : Info) (a b : Marked) → a.head.magic ≡ b.head.magic → forest_of info a.blocks ≡ forest_of info b.blocks → tree_of info a ≡ tree_of info b
-tree_is info a b magic blocks =
-    let make : ℕ → Forest → Tree = λ n f. record { magic = n; blocks = f } in
-    ap (λ (n : ℕ). make n (forest_of info a.blocks)) magic ∙ ap (make b.head.magic) blocks
 
 -- this answers of two lists of entries
 abbrev pub AnswersLists : List Entry → List Entry → Option Difference → Type 0

@@ -1,9 +1,9 @@
 -- Positions as they are counted along a tree.
-use Rattle.std.proofs.Common.{◌≡◌, ℕ, ◌+◌, ◌/◌, ◌^◌, ◌<◌, ◌≤◌, List, length, get_or, drop, refl, sym, ap, ◌∙◌, arith, drop-cons, add-one, inl, inr}
+use Rattle.std.proofs.Common.{◌≡◌, ℕ, ◌+◌, ◌/◌, ◌^◌, ◌<◌, ◌≤◌, List, length, get_or, drop, refl, sym, ap, ◌∙◌, arith, inl, inr}
 use Rattle.std.proofs.lemmas.Bool.{cases_lt}
 use Rattle.std.proofs.lemmas.List.{drop_all}
 use Rattle.bit_grammar.specs.Forest.{Forest, empty, a_block, Tree}
-use Rattle.bit_grammar.specs.Size.{shortest_length, values_length, record_length, aligned, body_at, body_length, end_of, size_of}
+use Rattle.bit_grammar.specs.Size.{record_length, aligned, body_at, body_length, end_of, size_of}
 use Rattle.bit_grammar.proofs.Sizes.{end_grows}
 use Rattle.bit_tree.specs.TreeView.{put_item, forest_of_items, forest_of_blocks}
 use Rattle.bit_tree.specs.declared.tree.Block.{Block}
@@ -59,17 +59,6 @@ after_block blocks i at next total b h is e so_far =
     ∙ end_saturated rest (body_at b.id at + body_length b.items)
     ∙ ap saturated (sym (end_of_block b.id b.items rest at) ∙ ap (λ (f : Forest). end_of f at) (sym (block_placed blocks i b h is)))
     ∙ so_far
-
--- one value more
-pub after_value : (vs : List ℕ) (i at next total : ℕ) → i < length vs → next ≡ saturated (at + shortest_length 6 (get_or vs i 0))
-    → saturated (at + values_length (drop i vs)) ≡ total → saturated (next + values_length (drop (i + 1) vs)) ≡ total
-after_value vs i at next total h e so_far =
-    let cut : values_length (drop i vs) ≡ shortest_length 6 (get_or vs i 0) + values_length (drop (i + 1) vs) = rw add-one (ap values_length (drop-cons vs i 0 h)) in
-    omega (arith, e, so_far, cut)
-
--- no value more
-pub no_more_values : (vs : List ℕ) (i at total : ℕ) → length vs ≤ i → at < 2 ^ 64 → saturated (at + values_length (drop i vs)) ≡ saturated total → at ≡ saturated total
-no_more_values vs i at total h fits so_far = omega (arith, so_far, ap values_length (drop_all i vs h))
 
 no_more : (f whole : Forest) (at from : ℕ) → f ≡ empty → at < 2 ^ 64 → saturated (end_of f at) ≡ saturated (end_of whole from) → at ≡ saturated (end_of whole from)
 unfolding end_of

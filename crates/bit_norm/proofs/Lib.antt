@@ -7,6 +7,7 @@ pub mod Falls
 pub mod Gains
 pub mod Going
 pub mod InStep
+pub mod OneDifference
 pub mod Readings
 pub mod Signs
 pub mod Texts

@@ -3,7 +3,8 @@ use Rattle.std.proofs.Common.{◌≡◌, ℕ, zero, suc, Bool, true, false, List
 use Rattle.std.specs.Prelude.{◌↔◌, if◌then◌else◌}
 use Rattle.std.proofs.lemmas.List.{map-append}
 use Rattle.bit_grammar.specs.declared.info.Info.{Info}
-use Rattle.bit_grammar.specs.Forest.{Forest, empty, a_block, a_record}
+use Rattle.bit_grammar.specs.Forest.{Forest, Tree, empty, a_block, a_record}
+use Rattle.bit_grammar.specs.Input.{Marked, tree_of}
 use Rattle.bit_grammar.specs.Marks.{BlockMark, Marks, no_marks, marked_block, marked_record, marked_definition, keeps, forest_of}
 use Rattle.bit_norm.specs.declared.differences.OpenBlock.{OpenBlock}
 use Rattle.bit_norm.specs.Entries.{Sign, begins, has_record, ends, over, Entry, open_block, entries, signs_in}
@@ -97,3 +98,9 @@ same_signs info p q a b = (
   λ e. (signs_are (forest_of info a) (forest_of info b) (over ∷ []) (over ∷ []) tt tt (sym (signs_of_entries info over [] 0 p a) ∙ e ∙ signs_of_entries info over [] 0 q b)).0,
   λ e. signs_of_entries info over [] 0 p a ∙ ap (λ (f : Forest). signs_of f (over ∷ [])) e ∙ sym (signs_of_entries info over [] 0 q b),
 )
+
+-- the magic and the items make the tree
+pub tree_is : (info : Info) (a b : Marked) → a.head.magic ≡ b.head.magic → forest_of info a.blocks ≡ forest_of info b.blocks → tree_of info a ≡ tree_of info b
+tree_is info a b magic blocks =
+    let make : ℕ → Forest → Tree = λ n f. record { magic = n; blocks = f } in
+    ap (λ (n : ℕ). make n (forest_of info a.blocks)) magic ∙ ap (make b.head.magic) blocks

@@ -1,5 +1,5 @@
 -- The text of values that are taken one after the other.
-use Rattle.std.proofs.Common.{◌≡◌, ℕ, ◌*◌, ◌/◌, ◌^◌, ◌<◌, ◌≤◌, Bool, List, [], ◌∷◌, ◌++◌, length, refl, sym, ap, subst, ◌∙◌, arith, append_assoc, length-append}
+use Rattle.std.proofs.Common.{◌≡◌, ℕ, ◌*◌, ◌/◌, ◌^◌, ◌<◌, ◌≤◌, Bool, List, [], ◌∷◌, ◌++◌, length, take, refl, sym, ap, subst, ◌∙◌, arith, append_assoc, length-append}
 use Rattle.std.specs.Prelude.{slice_get}
 use Rattle.std.proofs.lemmas.List.{append-nil}
 use Rattle.bit_norm.specs.Building.{HoldsText, HasTaken}
@@ -9,6 +9,7 @@ use Rattle.bit_norm.specs.declared.form_values.Holding.TheVariants.{All, TooLong
 use Rattle.bit_grammar.specs.FormatFields.{shortest}
 use Rattle.bit_grammar.specs.Normal.{values_text}
 use Rattle.bit_grammar.proofs.Sizes.{short_length, short_range}
+use Rattle.bit_norm.proofs.ChunkCounting.{short_few}
 
 pub values_text-append : (a b : List ℕ) → values_text (a ++ b) ≡ values_text a ++ values_text b
 values_text-append [] b = refl
@@ -34,25 +35,55 @@ holds_more limit text values others All not_all holds = absurd (not_all refl)
 holds_more limit text values others TooLong not_all holds = longer_text values others limit holds
 holds_more limit text values others Unknown not_all holds = tt
 
--- one more value is added
-pub holds_one : (limit : ℕ) (text new : List Bool) (values : List ℕ) (value : ℕ) (holding : Holding) → holding ≡ All → new ≡ text ++ shortest 6 value → HoldsText holding text limit values → HoldsText holding new limit (values ++ value ∷ [])
-holds_one limit text new values value All is new_is holds = new_is ∙ ap (λ (s : List Bool). s ++ shortest 6 value) holds ∙ sym (values_text-push values value)
-holds_one limit text new values value TooLong is new_is holds = absurd (cc)
-holds_one limit text new values value Unknown is new_is holds = absurd (cc)
+-- more values are added
+pub holds_all : (limit : ℕ) (text new : List Bool) (values others : List ℕ) (holding : Holding) → holding ≡ All → new ≡ text ++ values_text others → HoldsText holding text limit values → HoldsText holding new limit (values ++ others)
+holds_all limit text new values others All is new_is holds = new_is ∙ ap (λ (s : List Bool). s ++ values_text others) holds ∙ sym (values_text-append values others)
+holds_all limit text new values others TooLong is new_is holds = absurd (cc)
+holds_all limit text new values others Unknown is new_is holds = absurd (cc)
 
 -- the text is too long now
-pub holds_past : (limit : ℕ) (text : List Bool) (values : List ℕ) (value : ℕ) (holding : Holding) → holding ≡ All → limit < length text / 8 → HoldsText holding text limit values → limit < length (values_text (values ++ value ∷ [])) / 8
-holds_past limit text values value All is long holds = longer_text values (value ∷ []) limit (subst (λ (s : List Bool). limit < length s / 8) holds long)
-holds_past limit text values value TooLong is long holds = absurd (cc)
-holds_past limit text values value Unknown is long holds = absurd (cc)
+pub holds_past : (limit : ℕ) (text : List Bool) (values others : List ℕ) (holding : Holding) → holding ≡ All → limit < length text / 8 → HoldsText holding text limit values → limit < length (values_text (values ++ others)) / 8
+holds_past limit text values others All is long holds = longer_text values others limit (subst (λ (s : List Bool). limit < length s / 8) holds long)
+holds_past limit text values others TooLong is long holds = absurd (cc)
+holds_past limit text values others Unknown is long holds = absurd (cc)
 
 pub first_stays : (values others : List ℕ) → 0 < length values → slice_get values 0 ≡ slice_get (values ++ others) 0
 first_stays [] others some = absurd (omega (arith, some))
 first_stays (v ∷ values) others some = refl
 
--- a text that is held is that of all values, and they are counted
-pub held_text : (t : FormValues) (values : List ℕ) → t.holding ≡ All → HasTaken t values → t.text ≡ values_text values
-held_text t values is took = subst (λ (h : Holding). HoldsText h t.text t.limits.bytes values) is took.holds
+-- so many values have no longer a text
+pub values_few : (vs : List ℕ) → length (values_text vs) ≤ 2048 * length vs
+values_few [] = omega arith
+values_few (v ∷ vs) = omega (arith, values_few vs, length-append (shortest 6 v) (values_text vs), short_length 6 v (omega arith), short_few 6 v (omega arith) (omega arith))
 
-pub held_count : (t : FormValues) (values : List ℕ) → t.holding ≡ All → length t.text < 2 ^ 38 → HasTaken t values → t.count ≡ length values
-held_count t values is few took = omega (arith, few, took.count, ap length (held_text t values is took), values_least values)
+-- ---- what was taken
+
+pub none_left : {A : Type 0} (xs : List A) → length xs ≤ 0 → xs ≡ []
+none_left [] le = refl
+none_left (x ∷ xs) le = absurd (omega arith)
+
+-- no value has become text
+pub all_held : (t : FormValues) (values : List ℕ) → t.before ≡ 0 → HasTaken t values → values ≡ take t.held t.numbers
+all_held t values none took = took.whole ∙ ap (λ (s : List ℕ). s ++ take t.held t.numbers) (none_left took.front (omega (arith, none, took.count)))
+
+-- all values have become text
+pub all_text : (t : FormValues) (values : List ℕ) → t.held ≡ 0 → (took : HasTaken t values) → values ≡ took.front
+all_text t values none took = took.whole ∙ ap (λ (n : ℕ). took.front ++ take n t.numbers) none ∙ append-nil took.front
+
+-- a text that is held is that of all values, and they are counted
+pub held_text : (t : FormValues) (values : List ℕ) → t.holding ≡ All → t.held ≡ 0 → HasTaken t values → t.text ≡ values_text values
+held_text t values is none took = subst (λ (h : Holding). HoldsText h t.text t.limits.bytes took.front) is took.holds ∙ ap values_text (sym (all_text t values none took))
+
+pub held_count : (t : FormValues) (values : List ℕ) → t.holding ≡ All → t.held ≡ 0 → length t.text < 2 ^ 38 → HasTaken t values → t.before ≡ length values
+held_count t values is none few took = omega (arith, few, took.count, ap length (all_text t values none took), ap length (held_text t values is none took), values_least values)
+
+-- the text is longer than a limit, or it was when it was dropped
+pub past_text : (t : FormValues) (values : List ℕ) (limit : ℕ) → t.holding ≡ All → limit < length t.text / 8 → HasTaken t values → limit < length (values_text values) / 8
+past_text t values limit is long took =
+    let held : t.text ≡ values_text took.front = subst (λ (h : Holding). HoldsText h t.text t.limits.bytes took.front) is took.holds in
+    subst (λ (vs : List ℕ). limit < length (values_text vs) / 8) (sym took.whole) (longer_text took.front (take t.held t.numbers) limit (subst (λ (s : List Bool). limit < length s / 8) held long))
+
+pub past_limit : (t : FormValues) (values : List ℕ) (limit : ℕ) → t.holding ≡ TooLong → limit ≤ t.limits.bytes → HasTaken t values → limit < length (values_text values) / 8
+past_limit t values limit is le took =
+    let over : t.limits.bytes < length (values_text took.front) / 8 = subst (λ (h : Holding). HoldsText h t.text t.limits.bytes took.front) is took.holds in
+    subst (λ (vs : List ℕ). limit < length (values_text vs) / 8) (sym took.whole) (longer_text took.front (take t.held t.numbers) limit (omega (arith, over, le)))

@@ -1,5 +1,5 @@
 -- A normal form that is being built, and what it becomes by the events that follow.
-use Rattle.std.specs.Prelude.{◌≡◌, ℕ, zero, suc, ◌+◌, ◌-◌, ◌/◌, ◌%◌, ◌^◌, ◌<◌, Bool, true, false, List, [], ◌∷◌, ◌++◌, length, min, slice_get, vec_len}
+use Rattle.std.specs.Prelude.{◌≡◌, ℕ, zero, suc, ◌+◌, ◌-◌, ◌/◌, ◌%◌, ◌^◌, ◌<◌, ◌≤◌, Bool, true, false, List, [], ◌∷◌, ◌++◌, length, min, take, slice_get, vec_len}
 use Rattle.bit_grammar.specs.declared.info.Info.{Info}
 use Rattle.bit_grammar.specs.Bits.{bits_of}
 use Rattle.bit_grammar.specs.Forest.{Forest}
@@ -21,11 +21,15 @@ HoldsText All text limit values = text ≡ values_text values
 HoldsText TooLong text limit values = limit < length (values_text values) / 8
 HoldsText Unknown text limit values = Unit {0}
 
--- these are the values that were taken
+-- these are the values that were taken: some in front, of whose text this much is held, and those that are held as numbers
 pub record HasTaken (t : FormValues) (values : List ℕ) : Type 0 where
-  pub count : t.count ≡ min (length values) (2 ^ 64 - 1)
-  pub first : t.first ≡ slice_get values 0
-  pub holds : HoldsText t.holding t.text t.limits.bytes values
+  pub front : List ℕ
+  pub wide : length t.numbers ≡ 64
+  pub few : t.held ≤ 64
+  pub whole : values ≡ front ++ take t.held t.numbers
+  pub count : t.before ≡ min (length front) (2 ^ 64 - 1)
+  pub first : 0 < length front → t.first ≡ slice_get front 0
+  pub holds : HoldsText t.holding t.text t.limits.bytes front
 
 -- ---- open blocks
 

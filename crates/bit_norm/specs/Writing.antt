@@ -12,6 +12,10 @@ use Rattle.bit_fields.specs.declared.fault.Fault.TheVariants.{Refused, Read, Wri
 
 -- ---- parts of a normal form
 
+-- what stands in a record before its values
+abbrev pub record_head : (code count : ℕ) → List Bool
+record_head code count = bits_of 2 3 ++ (shortest 6 code ++ shortest 6 count)
+
 -- a record
 abbrev pub record_text : (code : ℕ) → List ℕ → Text
 record_text code values = chain (put (bits_of 2 3)) (put (entry_text code values))

@@ -6,7 +6,8 @@ ghost use Rattle.bit_events.specs.Gathering.{left_open};
 ghost use Rattle.bit_fields.specs.Texts.{with_word};
 ghost use Rattle.bit_norm.specs.Told.{told_at_level};
 ghost use Rattle.bit_norm.specs.Building.{HasTaken, IsFormOf};
-ghost use Rattle.bit_norm.specs.Writing.{record_text, open_text};
+ghost use Rattle.bit_events.specs.MachineView.{TookSome};
+ghost use Rattle.bit_norm.specs.Writing.{record_head, record_text, open_text};
 
 use crate::form_values::{FormValues, is_long};
 use bit_abbrev::Abbrev;
@@ -38,8 +39,42 @@ fn close_block(text: &mut BitText, hole: u64) -> Result<(), AllocError>
     text.set_word(hole, words as u32)
 }
 
-/// Adds a record, whose values have these bits, which it takes.
+/// Adds what stands in a record before its values, field by field.
+fn add_long_head(text: &mut BitText, code: u64, count: u64) -> Result<(), AllocError>
+    requires { length text.old < 2 ^ 38 }
+    ensures ok { OnOk result (text.new ≡ text.old ++ record_head code count) }
+    ensures few { OnOk result (length text.new ≤ length text.old + 4098) }
+{
+    text.fixed(2, 3)?;
+    text.vbr(6, code)?;
+    text.vbr(6, count)
+}
+
+/// Adds what stands in a record before its values, at once where the numbers are small.
 #[inline(always)]
+fn add_record_head(text: &mut BitText, code: u64, count: u64) -> Result<(), AllocError>
+    requires { length text.old < 2 ^ 38 }
+    ensures ok { OnOk result (text.new ≡ text.old ++ record_head code count) }
+    ensures few { OnOk result (length text.new ≤ length text.old + 4098) }
+{
+    if code < 32 && count < 32 {
+        return text.fixed(14, 3 + 4 * code + 256 * count);
+    }
+    add_long_head(text, code, count)
+}
+
+/// Adds a record of few values.
+#[inline(always)]
+fn add_short_record(text: &mut BitText, code: u64, values: &[u64]) -> Result<(), AllocError>
+    requires few { length text.old < 2 ^ 38 }
+    requires short { length values.now ≤ 64 }
+    ensures { OnOk result (text.new ≡ text.old ++ record_text code values.now (length text.old)) }
+{
+    add_record_head(text, code, values.len() as u64)?;
+    text.numbers(values)
+}
+
+/// Adds a record, whose values have these bits, which it takes.
 fn add_record(
     text: &mut BitText,
     code: u64,
@@ -50,9 +85,7 @@ fn add_record(
     requires short { length values.old < 2 ^ 38 }
     ensures { OnOk result ((list : List ℕ) → count ≡ length list → values.old ≡ values_text list → text.new ≡ text.old ++ record_text code list (length text.old)) }
 {
-    text.fixed(2, 3)?;
-    text.vbr(6, code)?;
-    text.vbr(6, count)?;
+    add_record_head(text, code, count)?;
     text.append(values)
 }
 
@@ -200,15 +233,14 @@ impl FormBuilder {
         close_block(&mut self.text, hole)
     }
 
-    /// Adds a record of a block that is kept, and takes its values. Where these are not known it is as if memory were refused.
-    #[inline]
-    fn add(&mut self, code: u64, values: &mut FormValues) -> Result<(), AllocError>
+    /// Adds a record of a block that is kept, some of whose values may be text. These are taken away. Where it is not known what
+    /// they are it is as if memory were refused.
+    #[inline(never)]
+    fn add_long(&mut self, code: u64, values: &mut FormValues) -> Result<(), AllocError>
+        requires { length self.old.text < 2 ^ 38 }
         ensures { OnOk result ((first : FormBuilder) (done : List Event) (mark : RecordMark) → mark.code ≡ code → HasTaken values.old mark.values → IsFormOf first done self.old → self.old.long ≡ false → vec_len self.old.dropped ≡ 0 → 0 < left_open done → IsFormOf first (done ++ notes mark ∷ []) self.new) }
     {
-        if is_long(&self.text, self.limits) {
-            self.stop();
-            return Ok(());
-        }
+        values.settle()?;
         if values.is_past(self.limits) {
             self.stop();
             return Ok(());
@@ -216,7 +248,25 @@ impl FormBuilder {
         if !values.is_held() {
             return Err(AllocError);
         }
-        add_record(&mut self.text, code, values.count, &mut values.text)
+        add_record(&mut self.text, code, values.before, &mut values.text)
+    }
+
+    /// Adds a record of a block that is kept, whose values it may take away.
+    #[inline]
+    fn add(&mut self, code: u64, values: &mut FormValues) -> Result<(), AllocError>
+        ensures adds { OnOk result ((first : FormBuilder) (done : List Event) (mark : RecordMark) → mark.code ≡ code → HasTaken values.old mark.values → IsFormOf first done self.old → self.old.long ≡ false → vec_len self.old.dropped ≡ 0 → 0 < left_open done → IsFormOf first (done ++ notes mark ∷ []) self.new) }
+        ensures took { TookSome HasTaken values.old → TookSome HasTaken values.new }
+    {
+        if is_long(&self.text, self.limits) {
+            self.stop();
+            return Ok(());
+        }
+        if let Some(all) = values.all() {
+            return add_short_record(&mut self.text, code, all);
+        }
+        let added = self.add_long(code, values);
+        values.reset();
+        added
     }
 }
 
@@ -258,9 +308,7 @@ impl Gatherer for FormBuilder {
         if self.is_idle() {
             return Ok(());
         }
-        let added = self.add(code, values);
-        values.clear();
-        added
+        self.add(code, values)
     }
 
     fn leave(&mut self, _after: u64) -> Result<(), AllocError> {

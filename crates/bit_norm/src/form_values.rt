@@ -1,4 +1,4 @@
-ghost use Rattle.std.specs.Prelude.{◌≡◌, ◌+◌, ◌/◌, ◌^◌, ◌<◌, ◌≤◌, ℕ, List, [], ◌∷◌, ◌++◌, length, true, false, OnOk, OnErr};
+ghost use Rattle.std.specs.Prelude.{◌≡◌, ◌+◌, ◌*◌, ◌/◌, ◌^◌, ◌<◌, ◌≤◌, ℕ, List, [], ◌∷◌, ◌++◌, length, min, take, true, false, IfSome, OnOk, OnErr};
 ghost use Rattle.bit_norm.specs.Building.{HoldsText, HasTaken};
 ghost use Rattle.bit_norm.specs.declared.form_values.Holding.TheVariants.{All, Unknown};
 ghost use Rattle.bit_grammar.specs.Normal.{values_text};
@@ -6,7 +6,10 @@ ghost use Rattle.bit_grammar.specs.Normal.{values_text};
 use bit_fields::{BitText, Limits, ValueTaker};
 use std::alloc::{AllocError, Global};
 
-/// What is held of the text of values.
+/// How many values are held as numbers before they become text.
+const ROOM: usize = 64;
+
+/// What is held of a text of values.
 #[derive(Clone, Copy, Debug, PartialEq, Eq)]
 pub(crate) enum Holding {
     /// All of it.
@@ -17,11 +20,16 @@ pub(crate) enum Holding {
     Unknown,
 }
 
-/// What takes the values of a record as the bits that they have in a normal form, up to the limit on bytes.
+/// What takes the values of a record for a normal form, up to the limit on bytes: the last ones as numbers, so that a record of
+/// few values becomes text at once where it is to stand, and those before them as the bits that they have in the form.
 #[derive(Drop)]
 pub(crate) struct FormValues {
+    /// The first of these are values, as many as are held.
+    numbers: [u64; ROOM],
+    held: usize,
     pub(crate) text: BitText,
-    pub(crate) count: u64,
+    /// How many values there are before those that are held, and the first of them.
+    pub(crate) before: u64,
     first: Option<u64>,
     limits: Limits,
     holding: Holding,
@@ -38,15 +46,15 @@ pub(crate) fn is_long(text: &BitText, limits: Limits) -> bool
     text.len() / 8 > limits.bytes()
 }
 
-/// Adds a value to the text of others, where all of that is held.
-#[inline(always)]
-fn add_value(
+/// Adds values to the text of others, where all of that is held.
+fn add_values(
     text: &mut BitText,
     holding: &mut Holding,
     limits: Limits,
-    value: u64,
+    values: &[u64],
 ) -> Result<(), AllocError>
-    ensures ok { OnOk result ((values : List ℕ) → HoldsText holding.old text.old limits.bytes values → HoldsText holding.new text.new limits.bytes (values ++ value ∷ [])) }
+    requires { length values.now ≤ 64 }
+    ensures ok { OnOk result ((others : List ℕ) → HoldsText holding.old text.old limits.bytes others → HoldsText holding.new text.new limits.bytes (others ++ values.now)) }
     ensures err { OnErr result (holding.new ≡ Unknown) }
 {
     if let Holding::All = *holding {
@@ -55,7 +63,7 @@ fn add_value(
             *holding = Holding::TooLong;
             return Ok(());
         }
-        if let Err(AllocError) = text.vbr(6, value) {
+        if let Err(AllocError) = text.numbers(values) {
             *holding = Holding::Unknown;
             return Err(AllocError);
         }
@@ -69,15 +77,65 @@ impl FormValues {
         ensures { HasTaken result [] }
     {
         FormValues {
+            numbers: [0; ROOM],
+            held: 0,
             text: BitText::new(alloc),
-            count: 0,
+            before: 0,
             first: None,
             limits,
             holding: Holding::All,
         }
     }
 
-    /// Whether the text of the values is known to have more bytes than a limit.
+    /// The values that are held as numbers.
+    #[inline(always)]
+    fn recent(&self) -> &[u64]
+        ensures { result.now ≡ take (min self.now.held 64) self.now.numbers }
+    {
+        &self.numbers[..self.held.min(ROOM)]
+    }
+
+    /// The values, where all are held as numbers.
+    #[inline(always)]
+    pub(crate) fn all(&self) -> Option<&[u64]>
+        ensures are { IfSome result (λ all. (values : List ℕ) → HasTaken self.now values → values ≡ all.now) }
+        ensures few { IfSome result (λ all. length all.now ≤ 64) }
+    {
+        if self.before > 0 {
+            return None;
+        }
+        Some(self.recent())
+    }
+
+    /// Makes text of the values that are held as numbers.
+    #[inline(never)]
+    pub(crate) fn settle(&mut self) -> Result<(), AllocError>
+        ensures took { (values : List ℕ) → HasTaken self.old values → HasTaken self.new values }
+        ensures ok { OnOk result (self.new.held ≡ 0) }
+    {
+        let first = self.first_value();
+        let count = self.count();
+        let recent = &self.numbers[..self.held.min(ROOM)];
+        add_values(&mut self.text, &mut self.holding, self.limits, recent)?;
+        self.first = first;
+        self.before = count;
+        self.held = 0;
+        Ok(())
+    }
+
+    /// Makes room for a number.
+    #[inline(always)]
+    fn make_room(&mut self) -> Result<(), AllocError>
+        ensures took { (values : List ℕ) → HasTaken self.old values → HasTaken self.new values }
+        ensures ok { OnOk result (self.new.held < 64) }
+    {
+        if self.held >= ROOM {
+            return self.settle();
+        }
+        Ok(())
+    }
+
+    /// Whether the text of the values is known to have more bytes than a limit. None is held as a number.
     #[inline(always)]
     pub(crate) fn is_past(&self, limits: Limits) -> bool
         ensures yes { result ≡ true → (values : List ℕ) → HasTaken self.now values → limits.bytes < length (values_text values) / 8 }
@@ -101,15 +159,27 @@ impl FormValues {
         }
     }
 
-    /// Drops all values.
-    #[inline(always)]
-    pub(crate) fn clear(&mut self)
+    /// Drops all values, where some became text or might have.
+    #[inline(never)]
+    pub(crate) fn reset(&mut self)
         ensures { HasTaken self.new [] }
     {
+        self.held = 0;
         self.text.clear();
-        self.count = 0;
+        self.before = 0;
         self.first = None;
         self.holding = Holding::All;
+    }
+
+    /// Drops all values.
+    #[inline(always)]
+    fn clear(&mut self)
+        ensures { (values : List ℕ) → HasTaken self.old values → HasTaken self.new [] }
+    {
+        self.held = 0;
+        if self.before > 0 || !self.is_held() {
+            self.reset();
+        }
     }
 }
 
@@ -120,11 +190,9 @@ impl ValueTaker for FormValues {
 
     #[inline(always)]
     fn take(&mut self, value: u64) -> Result<(), AllocError> {
-        add_value(&mut self.text, &mut self.holding, self.limits, value)?;
-        if self.count == 0 {
-            self.first = Some(value);
-        }
-        self.count = self.count.saturating_add(1);
+        self.make_room()?;
+        self.numbers[self.held] = value;
+        self.held += 1;
         Ok(())
     }
 
@@ -134,7 +202,10 @@ impl ValueTaker for FormValues {
         if let Holding::All = self.holding {
             return false;
         }
-        self.count = self.count.saturating_add(count);
+        if self.held > 0 {
+            return false;
+        }
+        self.before = self.before.saturating_add(count);
         true
     }
 
@@ -145,15 +216,23 @@ impl ValueTaker for FormValues {
             self.clear();
             return;
         }
-        self.count = self.count.min(count);
+        let first = self.first_value();
+        let left = self.count().min(count);
+        self.first = first;
+        self.before = left;
+        self.held = 0;
         self.holding = Holding::Unknown;
     }
 
+    #[inline(always)]
     fn count(&self) -> u64 {
-        self.count
+        self.before.saturating_add(self.held as u64)
     }
 
     fn first_value(&self) -> Option<u64> {
-        self.first
+        if self.before > 0 {
+            return self.first;
+        }
+        self.recent().first().copied()
     }
 }

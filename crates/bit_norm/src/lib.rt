@@ -2,6 +2,7 @@
 #![tactic(auto)]
 
 mod comparing;
+mod difference_laws;
 mod differences;
 #[cfg(test)]
 mod fault_tests;
@@ -23,6 +24,7 @@ mod writing;
 pub use bit_grammar::{normal_once, normal_spelled};
 pub use bit_tree::Info;
 pub use comparing::{SameFault, Which, first_difference, first_difference_from, same, same_as};
+pub use difference_laws::one_difference;
 pub use differences::{Difference, OpenBlock, Place, Standing, ValueDifference, What};
 pub use lengths::normal_len;
 pub use normalising::normalise;

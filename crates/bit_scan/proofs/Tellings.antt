@@ -1,6 +1,6 @@
 -- The lines of events, one after the other, and how they end.
 use Rattle.std.proofs.Common.{◌≡◌, ℕ, ◌+◌, ◌≤◌, List, [], ◌∷◌, ◌++◌, refl, sym, ap, subst, ◌∙◌, inl, inr, arith, Option, Some, None, Result, Ok, Err}
-use Rattle.std.specs.Prelude.{IsSome, OnOk}
+use Rattle.std.specs.Prelude.{◌⊎◌, IsSome, OnOk}
 use Rattle.std.specs.Io.KnownBytes.{Appends}
 use Rattle.std.proofs.KnownBytes.{Appends-nil}
 use Rattle.std.proofs.lemmas.List.{append-nil}
@@ -17,14 +17,12 @@ use Rattle.bit_grammar.specs.Texts.{magic_text}
 use Rattle.bit_grammar.proofs.Nesting.{open_within}
 use Rattle.bit_fields.specs.declared.fault.Fault.{Fault}
 use Rattle.bit_fields.specs.declared.fault.Fault.TheVariants.{Refused, Read, Write, Memory, OutputTooLong, Failed}
-use Rattle.bit_fields.specs.Devices.{Incoming, Outgoing, Spends, known_bytes}
-use Rattle.bit_fields.specs.Reader.{SourceFails}
-use Rattle.bit_fields.proofs.InflowLaws.{Spends-refl, Spends-trans, Spends-none}
-use Rattle.bit_events.specs.Coming.{Coming, going, over, failed, Tells, Pays, before, Gives, Ends, Stops, Breaks}
+use Rattle.bit_fields.specs.Devices.{Incoming, Outgoing, Spends, Fails, known_bytes}
+use Rattle.bit_fields.proofs.InflowLaws.{Spends-refl, Spends-trans, Spends-none, Fails-none, fails_later}
+use Rattle.bit_events.specs.Coming.{Coming, going, over, failed, Tells, before, Gives, Ends, Stops, Breaks}
 use Rattle.bit_events.specs.Events.{Begun, Declines}
-use Rattle.bit_events.specs.Reading.{Spent}
 use Rattle.bit_scan.specs.Printing.{Printing, Printed, PrintedFront, Prints}
-use Rattle.bit_scan.specs.Telling.{IsAccepted, WritesToEnd, IsTold, TellsInput, PrintedAll, PrintsToEnd, TellsBy, TellsRest, TellsAll, TellsOne, TellsNext}
+use Rattle.bit_scan.specs.Telling.{IsAccepted, WritesToEnd, PaidBy, IsTold, TellsInput, PrintedAll, PrintsToEnd, TellsBy, TellsRest, TellsAll, TellsOne, TellsNext}
 use Rattle.bit_scan.specs.Written.{TookText, TookFront, HasFailed}
 use Rattle.bit_scan.proofs.Prints.{Goes, goes_starts, goes_as, goes_on, goes_wrong, goes_last, all_written, not_written}
 
@@ -39,10 +37,34 @@ printed_wrong text end i now old new Read p = absurd p
 printed_wrong text end i now old new OutputTooLong p = absurd p
 printed_wrong text end i now old new Failed p = absurd p
 
--- a source that fails later fails
-source_failed : (i mid now : Incoming) → i.failures ≤ mid.failures → SourceFails mid now → SourceFails i now
-source_failed i mid now le (inl more) = inl (omega (arith, le, more))
-source_failed i mid now le (inr worn) = inr worn
+-- what was paid before belongs to it
+paid_later : (answer : Result (Unit {0}) Fault) (i mid now : Incoming) (a b c : ℕ) → Spends i a mid b → PaidBy answer mid b now c → PaidBy answer i a now c
+paid_later (Ok v) i mid now a b c p q = Spends-trans i a mid b now c p q
+paid_later (Err (Refused reason bit)) i mid now a b c p q = Spends-trans i a mid b now c p q
+paid_later (Err Read) i mid now a b c p q = fails_later i a mid b now c p q
+paid_later (Err Write) i mid now a b c p q = elim q [ inl spends ↦ inl (Spends-trans i a mid b now c p spends) | inr fails ↦ inr (fails_later i a mid b now c p fails) ]
+paid_later (Err Memory) i mid now a b c p q = elim q [ inl spends ↦ inl (Spends-trans i a mid b now c p spends) | inr fails ↦ inr (fails_later i a mid b now c p fails) ]
+paid_later (Err OutputTooLong) i mid now a b c p q = q
+paid_later (Err Failed) i mid now a b c p q = q
+
+-- no more is asked for
+paid_all : (answer : Result (Unit {0}) Fault) (i now : Incoming) (a b : ℕ) → PaidBy answer i a now b → PaidBy answer i a now 0
+paid_all (Ok v) i now a b p = Spends-none i a now b p
+paid_all (Err (Refused reason bit)) i now a b p = Spends-none i a now b p
+paid_all (Err Read) i now a b p = Fails-none i a now b p
+paid_all (Err Write) i now a b p = elim p [ inl spends ↦ inl (Spends-none i a now b spends) | inr fails ↦ inr (Fails-none i a now b fails) ]
+paid_all (Err Memory) i now a b p = elim p [ inl spends ↦ inl (Spends-none i a now b spends) | inr fails ↦ inr (Fails-none i a now b fails) ]
+paid_all (Err OutputTooLong) i now a b p = p
+paid_all (Err Failed) i now a b p = p
+
+-- where a text was not printed, whether the source failed or not
+paid_wrong : (text : List ℕ) (p q : Printing) (fault : Fault) (i now : Incoming) (a b : ℕ) → Prints text p (Err fault) q → Spends i a now b ⊎ Fails i a now b → PaidBy (Err fault) i a now b
+paid_wrong text p q Write i now a b prints paid = paid
+paid_wrong text p q Memory i now a b prints paid = paid
+paid_wrong text p q (Refused reason bit) i now a b prints paid = absurd prints
+paid_wrong text p q Read i now a b prints paid = absurd prints
+paid_wrong text p q OutputTooLong i now a b prints paid = absurd prints
+paid_wrong text p q Failed i now a b prints paid = absurd prints
 
 -- behind a part that was printed, the rest goes to its end
 pub printed_to_end : (whole a b : List ℕ) (end : Ending) (i mid now : Incoming) (paid left : ℕ) (old p q : Printing) (answer : Result (Unit {0}) Fault) → whole ≡ a ++ b → Spends i paid mid left → Printed a old p → PrintsToEnd b end mid p answer now q → PrintsToEnd whole end i old answer now q
@@ -54,7 +76,7 @@ printed_to_end whole a b end i mid now paid left old p q answer is pays printed 
     go : (answer : Result (Unit {0}) Fault) → PrintsToEnd b end mid p answer now q → PrintsToEnd whole end i old answer now q
     go (Ok v) r = ((goes_last whole old b p (Ok tt) q goes r.0.0, r.0.1), r.1, λ tells. r.2 (pays.tells tells))
     go (Err (Refused reason bit)) r = ((goes_last whole old b p (Ok tt) q goes r.0.0, r.0.1), r.1)
-    go (Err Read) r = (let f = goes_last whole old b p (Err Memory) q goes (r.0, r.1) in (f.0, f.1, source_failed i mid now pays.failures r.2))
+    go (Err Read) r = goes_last whole old b p (Err Memory) q goes r
     go (Err Write) r = goes_last whole old b p (Err Write) q goes r
     go (Err Memory) r = goes_last whole old b p (Err Memory) q goes r
     go (Err OutputTooLong) r = r
@@ -69,7 +91,7 @@ line_then_rest values around next old new last p q s answer one rest =
     let gives = one.gives in
     let told = rest.1 in
     let whole : event_line values around event ++ event_lines values (open_after event around) told.0 ≡ event_line values around event ++ event_lines values next told.0 = ap (λ (n : ℕ). event_line values around event ++ event_lines values n told.0) (sym one.next_is) in (
-      Spends-trans old.incoming old.budget new.incoming new.budget last.incoming last.budget gives.pays rest.0,
+      paid_later answer old.incoming new.incoming last.incoming old.budget new.budget last.budget gives.pays rest.0,
       before event told,
       λ tells. gives.told tells ∙ ap (before event) (rest.2 (gives.pays.tells tells)),
       printed_to_end _ (event_line values around event) (event_lines values next told.0) told.1 old.incoming new.incoming last.incoming old.budget new.budget p q s answer whole gives.pays one.printed rest.3,
@@ -80,7 +102,7 @@ pub line_wrong : (values : Values) (around : ℕ) (old new : Coming) (p q : Prin
 line_wrong values around old new p q event fault gives prints =
     let line = event_line values around event in
     let others = event_lines values (open_after event around) new.told.0 in (
-      gives.pays,
+      paid_wrong line p q fault old.incoming new.incoming old.budget new.budget prints (inl gives.pays),
       before event new.told,
       gives.told,
       printed_wrong (line ++ others) new.told.1 old.incoming new.incoming p q fault (goes_wrong (line ++ others) p line others p q fault (goes_starts (line ++ others) p) prints),
@@ -91,7 +113,7 @@ pub events_over : (values : Values) (around : ℕ) (old new : Coming) (p q : Pri
 events_over values around old new p q goes ends printed all = (ends.pays, ([], accepted new.position), λ tells. (ends.told tells).0, ((printed, all), (new.position, refl), ends.none goes))
 
 pub over_wrong : (values : Values) (around : ℕ) (old new : Coming) (p q : Printing) (fault : Fault) → Ends old new → Prints [] p (Err fault) q → TellsRest values around old p (Err fault) new q
-over_wrong values around old new p q fault ends prints = (ends.pays, ([], accepted new.position), λ tells. (ends.told tells).0, printed_wrong [] (accepted new.position) old.incoming new.incoming p q fault prints)
+over_wrong values around old new p q fault ends prints = (paid_wrong [] p q fault old.incoming new.incoming old.budget new.budget prints (inl ends.pays), ([], accepted new.position), λ tells. (ends.told tells).0, printed_wrong [] (accepted new.position) old.incoming new.incoming p q fault prints)
 
 -- what was printed is a front of what follows too
 front_of_more : (text : List ℕ) (p q : Printing) → Printed [] p q → Prints text p (Err Memory) q
@@ -100,8 +122,8 @@ front_of_more text p q printed = goes_wrong text p [] text p q Memory (goes_star
 -- a call for the next event failed, and what was held is put
 pub events_broke : (values : Values) (around : ℕ) (old new : Coming) (p q : Printing) (fault : Fault) → old.stage ≡ going → Breaks old fault new → Printed [] p q → q.held ≡ [] → TellsRest values around old p (Err fault) new q
 events_broke values around old new p q (Refused reason bit) goes breaks printed all = (breaks.0.pays, ([], broke (at reason bit)), breaks.1, ((printed, all), refl))
-events_broke values around old new p q Read goes breaks printed all = (let f = front_of_more (event_lines values around old.told.0) p q printed in (breaks.0.pays, old.told, λ tells. refl, (f.0, f.1, breaks.1)))
-events_broke values around old new p q Memory goes breaks printed all = (breaks.pays, old.told, λ tells. refl, front_of_more (event_lines values around old.told.0) p q printed)
+events_broke values around old new p q Read goes breaks printed all = (breaks.fails, old.told, λ tells. refl, front_of_more (event_lines values around old.told.0) p q printed)
+events_broke values around old new p q Memory goes breaks printed all = (inl breaks.pays, old.told, λ tells. refl, front_of_more (event_lines values around old.told.0) p q printed)
 events_broke values around old new p q Failed goes breaks printed all = (let both : going ≡ failed = sym goes ∙ breaks.0 in cc)
 events_broke values around old new p q Write goes breaks printed all = absurd breaks
 events_broke values around old new p q OutputTooLong goes breaks printed all = absurd breaks
@@ -110,12 +132,12 @@ events_broke values around old new p q OutputTooLong goes breaks printed all = a
 pub broke_wrong : (values : Values) (around : ℕ) (old new : Coming) (p q : Printing) (fault wrong : Fault) → old.stage ≡ going → Breaks old fault new → Prints [] p (Err wrong) q → TellsRest values around old p (Err wrong) new q
 broke_wrong values around old new p q fault wrong goes breaks prints =
     let text = event_lines values around old.told.0 in
-    (paid fault breaks, old.told, λ tells. refl, printed_wrong text old.told.1 old.incoming new.incoming p q wrong (goes_wrong text p [] text p q wrong (goes_starts text p) prints))
+    (paid_wrong [] p q wrong old.incoming new.incoming old.budget new.budget prints (paid fault breaks), old.told, λ tells. refl, printed_wrong text old.told.1 old.incoming new.incoming p q wrong (goes_wrong text p [] text p q wrong (goes_starts text p) prints))
   where
-    paid : (fault : Fault) → Breaks old fault new → Pays old new
-    paid (Refused reason bit) b = b.0.pays
-    paid Read b = b.0.pays
-    paid Memory b = b.pays
+    paid : (fault : Fault) → Breaks old fault new → Spends old.incoming old.budget new.incoming new.budget ⊎ Fails old.incoming old.budget new.incoming new.budget
+    paid (Refused reason bit) b = inl b.0.pays
+    paid Read b = inr b.fails
+    paid Memory b = inl b.pays
     paid Failed b = (let both : going ≡ failed = sym goes ∙ b.0 in cc)
     paid Write b = absurd b
     paid OutputTooLong b = absurd b
@@ -150,7 +172,7 @@ pub head_wrong : (values : Values) (now : Coming) (p q : Printing) (fault : Faul
 head_wrong values now p q fault prints =
     let line = head_line now.head in
     let others = event_lines values 0 now.told.0 in (
-      Spends-refl now.incoming now.budget,
+      paid_wrong line p q fault now.incoming now.incoming now.budget now.budget prints (inl (Spends-refl now.incoming now.budget)),
       now.told,
       λ tells. refl,
       printed_wrong (line ++ others) now.told.1 now.incoming now.incoming p q fault (goes_wrong (line ++ others) p line others p q fault (goes_starts (line ++ others) p) prints),
@@ -171,7 +193,7 @@ head_then_rest values now last p q s answer printed rest = (
 to_sink : (text : List ℕ) (end : Ending) (i mid now : Incoming) (paid left : ℕ) (p q : Printing) (answer : Result (Unit {0}) Fault) → p.held ≡ [] → Spends i paid mid left → PrintsToEnd text end mid p answer now q → WritesToEnd text end i p.outgoing answer now q.outgoing
 to_sink text end i mid now paid left p q (Ok v) none pays r = (all_written text p q none r.0.1 r.0.0, r.1, λ tells. r.2 (pays.tells tells))
 to_sink text end i mid now paid left p q (Err (Refused reason bit)) none pays r = (all_written text p q none r.0.1 r.0.0, r.1)
-to_sink text end i mid now paid left p q (Err Read) none pays r = (let f = not_written text p q Memory none (r.0, r.1) in (f.0, f.1, source_failed i mid now pays.failures r.2))
+to_sink text end i mid now paid left p q (Err Read) none pays r = not_written text p q Memory none r
 to_sink text end i mid now paid left p q (Err Write) none pays r = not_written text p q Write none r
 to_sink text end i mid now paid left p q (Err Memory) none pays r = not_written text p q Memory none r
 to_sink text end i mid now paid left p q (Err OutputTooLong) none pays r = r
@@ -180,7 +202,7 @@ to_sink text end i mid now paid left p q (Err Failed) none pays r = r
 -- an input that was begun
 pub input_told : (values : Values) (limits : Limits) (i : Incoming) (old : Outgoing) (c last : Coming) (s : Printing) (answer : Result (Unit {0}) Fault) → Begun limits i c → TellsAll values c (record { outgoing = old; held = [] }) answer last s → TellsInput values limits i old answer last.incoming s.outgoing
 input_told values limits i old c last s answer begun all = (
-  Spends-none i (limits.bytes + 1) last.incoming last.budget (Spends-trans i (limits.bytes + 1) c.incoming c.budget last.incoming last.budget begun.pays all.0),
+  paid_all answer i last.incoming (limits.bytes + 1) last.budget (paid_later answer i c.incoming last.incoming (limits.bytes + 1) c.budget last.budget begun.pays all.0),
   Ok (c.head, all.1),
   λ tells. begun.told tells ∙ ap (λ (t : Told). Ok (c.head, t)) (all.2 (begun.pays.tells tells)),
   to_sink (outlook_text values (Ok (c.head, all.1))) all.1.1 i c.incoming last.incoming (limits.bytes + 1) c.budget (record { outgoing = old; held = [] }) s answer refl begun.pays all.3,
@@ -190,10 +212,10 @@ input_told values limits i old c last s answer begun all = (
 pub input_declined : (values : Values) (limits : Limits) (i now : Incoming) (o : Outgoing) (fault : Fault) → Declines limits i fault now → TellsInput values limits i o (Err fault) now o
 input_declined values limits i now o (Refused reason bit) d = (d.0, Err (at reason bit), d.1, (record { bytes = Appends-nil o.bytes; failures = refl }, refl))
 input_declined values limits i now o Read d = (
-  d.0,
+  d,
   outlook limits (known_bytes i.to_come),
   λ tells. refl,
-  (record { front = []; rest = outlook_text values (outlook limits (known_bytes i.to_come)); split = refl; bytes = Appends-nil o.bytes }, refl, d.1),
+  (record { front = []; rest = outlook_text values (outlook limits (known_bytes i.to_come)); split = refl; bytes = Appends-nil o.bytes }, refl),
 )
 input_declined values limits i now o Memory d = absurd d
 input_declined values limits i now o Failed d = absurd d

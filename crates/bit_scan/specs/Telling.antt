@@ -1,5 +1,5 @@
 -- What writing the events of an input does.
-use Rattle.std.specs.Prelude.{◌≡◌, ℕ, List, [], ◌++◌, Option, Some, None, IsSome, Result, Ok, Err}
+use Rattle.std.specs.Prelude.{◌≡◌, ◌⊎◌, ℕ, ◌+◌, List, [], ◌++◌, Option, Some, None, IsSome, Result, Ok, Err}
 use Rattle.bit_grammar.specs.declared.values.Values.{Values}
 use Rattle.bit_grammar.specs.Grammar.{at}
 use Rattle.bit_grammar.specs.Blocks.{Limits}
@@ -10,10 +10,8 @@ use Rattle.bit_grammar.specs.Outlook.{Outlook, outlook}
 use Rattle.bit_grammar.specs.Steps.{open_after}
 use Rattle.bit_fields.specs.declared.fault.Fault.{Fault}
 use Rattle.bit_fields.specs.declared.fault.Fault.TheVariants.{Refused, Read, Write, Memory, OutputTooLong, Failed}
-use Rattle.bit_fields.specs.Devices.{Incoming, Outgoing, known_bytes}
-use Rattle.bit_fields.specs.Reader.{SourceFails}
-use Rattle.bit_events.specs.Coming.{Coming, Tells, Pays, Gives}
-use Rattle.bit_events.specs.Reading.{Spent}
+use Rattle.bit_fields.specs.Devices.{Incoming, Outgoing, Spends, Fails, known_bytes}
+use Rattle.bit_events.specs.Coming.{Coming, Tells, Gives}
 use Rattle.bit_scan.specs.Printing.{Printing, Printed, PrintedFront}
 use Rattle.bit_scan.specs.Written.{TookText, TookFront, HasFailed}
 
@@ -29,11 +27,22 @@ IsAccepted end = (bit : ℕ) × (end ≡ accepted bit)
 abbrev pub WritesToEnd : List ℕ → Ending → Incoming → Outgoing → Result (Unit {0}) Fault → Incoming → Outgoing → Type 0
 WritesToEnd text end i old (Ok _) now new = TookText text old new × IsAccepted end × (IsSome i.to_come → known_bytes now.to_come ≡ [])
 WritesToEnd text end i old (Err (Refused reason bit)) now new = TookText text old new × (end ≡ broke (at reason bit))
-WritesToEnd text end i old (Err Read) now new = TookFront text old new × (new.failures ≡ old.failures) × SourceFails i now
+WritesToEnd text end i old (Err Read) now new = TookFront text old new × (new.failures ≡ old.failures)
 WritesToEnd text end i old (Err Write) now new = TookFront text old new × HasFailed old new
 WritesToEnd text end i old (Err Memory) now new = TookFront text old new × (new.failures ≡ old.failures)
 WritesToEnd text end i old (Err OutputTooLong) now new = ⊥
 WritesToEnd text end i old (Err Failed) now new = ⊥
+
+-- What was paid for, by the answer: the source did not fail, or once, where that is answered; or, where the sink failed or memory
+-- was refused, whether it failed before that or not.
+abbrev pub PaidBy : Result (Unit {0}) Fault → Incoming → (before : ℕ) → Incoming → (after : ℕ) → Type 0
+PaidBy (Ok _) i before now after = Spends i before now after
+PaidBy (Err (Refused reason bit)) i before now after = Spends i before now after
+PaidBy (Err Read) i before now after = Fails i before now after
+PaidBy (Err Write) i before now after = Spends i before now after ⊎ Fails i before now after
+PaidBy (Err Memory) i before now after = Spends i before now after ⊎ Fails i before now after
+PaidBy (Err OutputTooLong) i before now after = ⊥
+PaidBy (Err Failed) i before now after = ⊥
 
 -- this is told of an input, where its source tells its bytes
 abbrev pub IsTold : Limits → Incoming → Outlook → Type 0
@@ -42,7 +51,7 @@ IsTold limits i told = IsSome i.to_come → outlook limits (known_bytes i.to_com
 -- the text of what is told of an input was written, to the end that is answered
 abbrev pub TellsInput : Values → Limits → Incoming → Outgoing → Result (Unit {0}) Fault → Incoming → Outgoing → Type 0
 TellsInput values limits i old answer now new =
-    Spent limits i now
+    PaidBy answer i (limits.bytes + 1) now 0
     × (told : Outlook)
     × IsTold limits i told
     × WritesToEnd (outlook_text values told) (outlook_end told) i old answer now new
@@ -57,7 +66,7 @@ PrintedAll text old new = Printed text old new × (new.held ≡ [])
 abbrev pub PrintsToEnd : List ℕ → Ending → Incoming → Printing → Result (Unit {0}) Fault → Incoming → Printing → Type 0
 PrintsToEnd text end i old (Ok _) now new = PrintedAll text old new × IsAccepted end × (IsSome i.to_come → known_bytes now.to_come ≡ [])
 PrintsToEnd text end i old (Err (Refused reason bit)) now new = PrintedAll text old new × (end ≡ broke (at reason bit))
-PrintsToEnd text end i old (Err Read) now new = PrintedFront text old new × (new.outgoing.failures ≡ old.outgoing.failures) × SourceFails i now
+PrintsToEnd text end i old (Err Read) now new = PrintedFront text old new × (new.outgoing.failures ≡ old.outgoing.failures)
 PrintsToEnd text end i old (Err Write) now new = PrintedFront text old new × HasFailed old.outgoing new.outgoing
 PrintsToEnd text end i old (Err Memory) now new = PrintedFront text old new × (new.outgoing.failures ≡ old.outgoing.failures)
 PrintsToEnd text end i old (Err OutputTooLong) now new = ⊥
@@ -66,7 +75,7 @@ PrintsToEnd text end i old (Err Failed) now new = ⊥
 -- a text of the events to come was printed, to the end that is answered
 abbrev pub TellsBy : (Told → List ℕ) → Coming → Printing → Result (Unit {0}) Fault → Coming → Printing → Type 0
 TellsBy text old before answer new after =
-    Pays old new
+    PaidBy answer old.incoming old.budget new.incoming new.budget
     × (told : Told)
     × (Tells old → old.told ≡ told)
     × PrintsToEnd (text told) told.1 old.incoming before answer new.incoming after

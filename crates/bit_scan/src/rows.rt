@@ -4,9 +4,9 @@ ghost use Rattle.bit_scan.specs.Indexed.{IsAbsent, AreDistinct, IsIndexed};
 ghost use Rattle.bit_grammar.specs.Tally.{CodeTally, BlockTally};
 ghost use Rattle.bit_grammar.specs.Counting.{fresh_row, with_row};
 ghost use Rattle.bit_scan.specs.Additions.{with_added};
-ghost use Rattle.bit_scan.specs.CodesView.{code_tallies, with_use};
+ghost use Rattle.bit_scan.specs.CodesView.{code_tallies, with_use, CountsUse};
 ghost use Rattle.bit_scan.specs.Cut.{cut_code, cut_row, cut_rows};
-ghost use Rattle.bit_scan.specs.Rows.{block_tally, block_tallies};
+ghost use Rattle.bit_scan.specs.Rows.{block_tally, block_tallies, AddsToRow};
 
 use std::alloc::{AllocError, Global};
 use std::collections::BTreeMap;
@@ -64,7 +64,8 @@ fn is_code_at(rows: &[(u64, CodeRow)], place: usize, code: u64) -> bool
 fn count_at(rows: &mut [(u64, CodeRow)], place: usize, bits: u64)
     requires { place < length rows.old }
     ensures keys { keys_of rows.new ≡ keys_of rows.old }
-    ensures counts { (code : ℕ) (tallies : List CodeTally) → AreDistinct (keys_of rows.old) → slice_get (keys_of rows.old) place ≡ Some code → code_tallies rows.old ≡ map cut_code tallies → code_tallies rows.new ≡ map cut_code (with_use code bits tallies) }
+    ensures counts { (code : ℕ) (tallies : List CodeTally) → AreDistinct (keys_of rows.old) → slice_get (keys_of rows.old) place ≡ Some code
+        → code_tallies rows.old ≡ map cut_code tallies → code_tallies rows.new ≡ map cut_code (with_use code bits tallies) }
 {
     let (_, row) = &mut rows[place];
     row.count = row.count.saturating_add(1);
@@ -81,7 +82,7 @@ fn begin_code(
     requires indexed { IsIndexed (keys_of rows.old.items) index.old.entries }
     requires absent { IsAbsent code (keys_of rows.old.items) }
     ensures indexed { IsIndexed (keys_of rows.new.items) index.new.entries }
-    ensures counts { (tallies : List CodeTally) → code_tallies rows.old.items ≡ map cut_code tallies → OnOk result (code_tallies rows.new.items ≡ map cut_code (with_use code bits tallies)) }
+    ensures counts { CountsUse code bits rows.old.items result rows.new.items }
 {
     let place = rows.len();
     rows.push((code, CodeRow { count: 1, bits }))?;
@@ -103,7 +104,7 @@ fn count_by_code(
 ) -> Result<usize, AllocError>
     requires { IsIndexed (keys_of rows.old.items) index.old.entries }
     ensures indexed { IsIndexed (keys_of rows.new.items) index.new.entries }
-    ensures counts { (tallies : List CodeTally) → code_tallies rows.old.items ≡ map cut_code tallies → OnOk result (code_tallies rows.new.items ≡ map cut_code (with_use code bits tallies)) }
+    ensures counts { CountsUse code bits rows.old.items result rows.new.items }
 {
     match index.get(&code) {
         Some(place) => {
@@ -137,7 +138,7 @@ impl Codes {
     #[cold]
     #[inline(never)]
     fn add_by_code(&mut self, code: u64, bits: u64) -> Result<(), AllocError>
-        ensures { (tallies : List CodeTally) → code_tallies self.old ≡ map cut_code tallies → OnOk result (code_tallies self.new ≡ map cut_code (with_use code bits tallies)) }
+        ensures { CountsUse code bits self.old result self.new }
     {
         let place = count_by_code(&mut self.rows, &mut self.index, code, bits)?;
         self.places[(code % 64) as usize] = u8::try_from(place).unwrap_or(0);
@@ -147,7 +148,7 @@ impl Codes {
     /// Counts one more record.
     #[inline(always)]
     fn add(&mut self, code: u64, bits: u64) -> Result<(), AllocError>
-        ensures { (tallies : List CodeTally) → code_tallies self.old ≡ map cut_code tallies → OnOk result (code_tallies self.new ≡ map cut_code (with_use code bits tallies)) }
+        ensures { CountsUse code bits self.old result self.new }
     {
         let place = usize::from(self.places[(code % 64) as usize]);
         if !is_code_at(&self.rows, place, code) {
@@ -215,7 +216,8 @@ impl BlockRow {
     /// Counts what an event adds. A sum that would pass the greatest number stays there.
     #[inline(always)]
     fn add(&mut self, addition: Addition) -> Result<(), AllocError>
-        ensures { (id : ℕ) (tally : BlockTally) → block_tally (id, self.old) ≡ cut_row tally → OnOk result (block_tally (id, self.new) ≡ cut_row (with_added addition tally)) }
+        ensures { (id : ℕ) (tally : BlockTally) → block_tally (id, self.old) ≡ cut_row tally
+            → OnOk result (block_tally (id, self.new) ≡ cut_row (with_added addition tally)) }
     {
         match addition {
             Addition::Block => {
@@ -259,7 +261,8 @@ fn is_id_at(rows: &[(u32, BlockRow)], place: usize, id: u32) -> bool
 fn add_at(rows: &mut [(u32, BlockRow)], place: usize, addition: Addition) -> Result<(), AllocError>
     requires { place < length rows.old }
     ensures keys { keys_of rows.new ≡ keys_of rows.old }
-    ensures adds { (id : ℕ) (tallies : List BlockTally) → AreDistinct (keys_of rows.old) → slice_get (keys_of rows.old) place ≡ Some id → block_tallies rows.old ≡ cut_rows tallies → OnOk result (block_tallies rows.new ≡ cut_rows (with_row (with_added addition) id tallies)) }
+    ensures adds { (id : ℕ) (tallies : List BlockTally) → AreDistinct (keys_of rows.old) → slice_get (keys_of rows.old) place ≡ Some id
+        → block_tallies rows.old ≡ cut_rows tallies → OnOk result (block_tallies rows.new ≡ cut_rows (with_row (with_added addition) id tallies)) }
 {
     let (_, row) = &mut rows[place];
     row.add(addition)
@@ -278,7 +281,7 @@ fn begin_row(
     requires indexed { IsIndexed (keys_of rows.old.items) index.old.entries }
     requires absent { IsAbsent id (keys_of rows.old.items) }
     ensures indexed { IsIndexed (keys_of rows.new.items) index.new.entries }
-    ensures adds { (tallies : List BlockTally) → block_tallies rows.old.items ≡ cut_rows tallies → OnOk result (block_tallies rows.new.items ≡ cut_rows (with_row (with_added addition) id tallies)) }
+    ensures adds { AddsToRow addition id rows.old.items result rows.new.items }
 {
     let place = rows.len();
     let mut row = BlockRow::new(alloc);
@@ -330,7 +333,7 @@ impl BlockRows {
     /// Counts what an event adds to the row of an id, which is a new one at the end if there is none, and answers the row's
     /// place.
     pub(crate) fn add_by_id(&mut self, id: u32, addition: Addition) -> Result<usize, AllocError>
-        ensures { (tallies : List BlockTally) → block_tallies self.old ≡ cut_rows tallies → OnOk result (block_tallies self.new ≡ cut_rows (with_row (with_added addition) id tallies)) }
+        ensures { AddsToRow addition id self.old result self.new }
     {
         match self.index.get(&id) {
             Some(place) => {
@@ -350,7 +353,7 @@ impl BlockRows {
         place: usize,
         addition: Addition,
     ) -> Result<(), AllocError>
-        ensures { (tallies : List BlockTally) → block_tallies self.old ≡ cut_rows tallies → OnOk result (block_tallies self.new ≡ cut_rows (with_row (with_added addition) id tallies)) }
+        ensures { AddsToRow addition id self.old result self.new }
     {
         if is_id_at(&self.rows, place, id) {
             return add_at(&mut self.rows, place, addition);

@@ -1,6 +1,6 @@
 -- Comparing the first bytes of an input with the rest.
 use Rattle.std.proofs.Common.{◌≡◌, ◌∙◌, ℕ, ◌+◌, ◌<◌, ◌≤◌, min, List, [], ◌++◌, length, take, drop, Option, Some, None, Ok, Err, refl, sym, ap, subst, inl, inr, arith, codes, length-append, length-take}
-use Rattle.std.specs.Prelude.{IsSome, IfSome, ◌^◌}
+use Rattle.std.specs.Prelude.{IsSome, IfSome, ◌^◌, ◌⊎◌}
 use Rattle.std.specs.Io.KnownBytes.{Consumes, IsAtEnd}
 use Rattle.std.proofs.lemmas.List.{append-nil, take_all, take_at, drop_at, take-take}
 use Rattle.std.proofs.Math.ListN.{drop_of_length-le}
@@ -13,9 +13,8 @@ use Rattle.bit_grammar.specs.Input.{BreaksInput, Cut, Marked, SpellsInput, front
 use Rattle.bit_grammar.specs.Normal.{HasTree}
 use Rattle.bit_fields.specs.declared.fault.Fault as code
 use Rattle.bit_fields.specs.declared.fault.Fault.TheVariants as fault
-use Rattle.bit_fields.specs.Devices.{Incoming, Spends, known_bytes}
-use Rattle.bit_fields.specs.Reader.{SourceFails}
-use Rattle.bit_events.specs.Reading.{Spent}
+use Rattle.bit_fields.specs.Devices.{Incoming, Spends, Fails, known_bytes}
+use Rattle.bit_events.specs.Reading.{Spent, Lost}
 use Rattle.bit_norm.specs.declared.comparing.Which.{Which}
 use Rattle.bit_norm.specs.declared.comparing.Which.TheVariants.{First, Second}
 use Rattle.bit_norm.specs.declared.differences.Difference.{Difference}
@@ -26,7 +25,7 @@ use Rattle.bitstool.specs.declared.outcome.Outcome.TheVariants.{Done, Different,
 use Rattle.bitstool.specs.declared.task.Task.TheVariants.{Same, Where}
 use Rattle.bitstool.specs.Performing.{ComparesWhere, ComparesWith, Finds, FindsWhere, Found, IsNoAnswer, Judges, TakesFirst, TakesRest, outcome_found, outcome_in, outcome_of}
 use Rattle.bitstool.specs.Runs.{IsDrained, Takes, Told}
-use Rattle.bitstool.proofs.Taking.{drained, fails_later, spends_more, spends_none, spends_then}
+use Rattle.bitstool.proofs.Taking.{drained, fails_more, fails_then, spends_more, spends_none, spends_then}
 use Rattle.bitstool.proofs.Known.{if_told}
 
 -- ---- what a comparison found
@@ -58,9 +57,11 @@ found_fault info limits first i j now later Second fault.Failed is h = absurd h.
 abbrev pub IsSlice : Incoming → Type 0
 IsSlice i = i.failures ≡ 0
 
-never_fails : (limits : Limits) (i now : Incoming) → limits.bytes < 2 ^ 60 → i.pulls ≡ 0 → IsSlice now → Spent limits i now → SourceFails i now → ⊥
-never_fails limits i now capped fresh slice spent (inl rose) = absurd (omega (arith, slice, rose))
-never_fails limits i now capped fresh slice spent (inr worn) = absurd (omega (arith, slice, worn, spent.pulls, fresh, capped))
+never_fails : (limits : Limits) (i now : Incoming) → limits.bytes < 2 ^ 60 → i.pulls ≡ 0 → IsSlice now → Lost limits i now → ⊥
+never_fails limits i now capped fresh slice lost = elim lost.failed [
+  | inl rose ↦ omega (arith, slice, rose)
+  | inr worn ↦ omega (arith, slice, worn.1, lost.pulls, fresh, capped)
+]
 
 -- none, where the first was not read
 none_spent : (limits : Limits) (j later : Incoming) → later ≡ j → Spent limits j later
@@ -70,10 +71,10 @@ pub rest_misread : (info : Info) (limits : Limits) (i j now later : Incoming) (w
     → Misreads info limits which why i j now later → TakesRest limits j later (outcome_in which limits.bytes why)
 rest_misread info limits i j now later First (fault.Refused reason bit) capped fresh slice h = h.1
 rest_misread info limits i j now later Second (fault.Refused reason bit) capped fresh slice h = (h.2.0, tt)
-rest_misread info limits i j now later First fault.Read capped fresh slice h = absurd (never_fails limits i now capped fresh slice h.0.0 h.0.1)
-rest_misread info limits i j now later Second fault.Read capped fresh slice h = h.2
-rest_misread info limits i j now later First fault.Memory capped fresh slice h = (none_spent limits j later h.1, tt)
-rest_misread info limits i j now later Second fault.Memory capped fresh slice h = (h.2, tt)
+rest_misread info limits i j now later First fault.Read capped fresh slice h = absurd (never_fails limits i now capped fresh slice h.0)
+rest_misread info limits i j now later Second fault.Read capped fresh slice h = (h.2, tt)
+rest_misread info limits i j now later First fault.Memory capped fresh slice h = (inl (none_spent limits j later h.1), tt)
+rest_misread info limits i j now later Second fault.Memory capped fresh slice h = (inl h.2, tt)
 rest_misread info limits i j now later First fault.Write capped fresh slice h = absurd h.0
 rest_misread info limits i j now later Second fault.Write capped fresh slice h = absurd h.2
 rest_misread info limits i j now later First fault.OutputTooLong capped fresh slice h = absurd h.0
@@ -98,15 +99,21 @@ both_taken info limits first count i mid later outcome counted h rest = go outco
     both : Spent limits mid later → Spends i (min first (limits.bytes + 1) + (limits.bytes + 1)) later 0
     both k = subst (λ (n : ℕ). Spends i (n + (limits.bytes + 1)) later 0) counted (spends_then i mid later count (limits.bytes + 1) h k)
 
+    lost : Lost limits mid later → Fails i (min first (limits.bytes + 1) + (limits.bytes + 1)) later 0
+    lost k = subst (λ (n : ℕ). Fails i (n + (limits.bytes + 1)) later 0) counted (fails_then i mid later count (limits.bytes + 1) h k)
+
+    either : Spent limits mid later ⊎ Lost limits mid later → Spends i (min first (limits.bytes + 1) + (limits.bytes + 1)) later 0 ⊎ Fails i (min first (limits.bytes + 1) + (limits.bytes + 1)) later 0
+    either p = elim p [ inl spends ↦ inl (both spends) | inr fails ↦ inr (lost fails) ]
+
     go : (o : Outcome) → TakesRest limits mid later o → Takes (Same first limits info) i later o
     go (RefusedOf First reason bit) r = (subst (λ (n : Incoming). Spends i (min first (limits.bytes + 1)) n 0) (sym r) (subst (λ (n : ℕ). Spends i n mid 0) counted h), tt)
     go (RefusedOf Second reason bit) r = (both r.0, tt)
     go Done r = (both r.0, drained_then i mid later count h r.1)
     go Different r = (both r.0, drained_then i mid later count h r.1)
     go (TooLong limit) r = (both r.0, drained_then i mid later count h r.1)
-    go Read r = (both r.0, fails_later i mid later h.failures r.1)
-    go Memory r = (both r.0, tt)
-    go Write r = (both r.0, tt)
+    go Read r = (lost r.0, tt)
+    go Memory r = (either r.0, tt)
+    go Write r = (either r.0, tt)
     go Usage r = (both r.0, tt)
     go (Refused reason bit) r = (both r.0, tt)
 
@@ -203,8 +210,8 @@ compared info limits first count (Some input) (Some rest) bytes outcome counted 
 
 -- they were not taken
 pub not_taken : (info : Info) (limits : Limits) (first count : ℕ) (i now : Incoming) (why : code.Fault) → count ≡ min first (limits.bytes + 1) → TakesFirst count i (Err why) now → Judges (Same first limits info) i now (outcome_of limits.bytes why)
-not_taken info limits first count i now fault.Read counted h = ((spends_more i now count _ (omega (arith, counted)) h.0, h.1), tt)
-not_taken info limits first count i now fault.Memory counted h = ((spends_more i now count _ (omega (arith, counted)) h, tt), tt)
+not_taken info limits first count i now fault.Read counted h = ((fails_more i now count _ (omega (arith, counted)) h, tt), tt)
+not_taken info limits first count i now fault.Memory counted h = ((inl (spends_more i now count _ (omega (arith, counted)) h), tt), tt)
 not_taken info limits first count i now fault.Write counted h = absurd h
 not_taken info limits first count i now fault.OutputTooLong counted h = absurd h
 not_taken info limits first count i now fault.Failed counted h = absurd h

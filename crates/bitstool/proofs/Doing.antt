@@ -27,7 +27,7 @@ use Rattle.bit_scan.specs.Telling.{IsTold, TellsInput}
 use Rattle.bit_scan.specs.Written.{HasFailed, TookFront, WritesText}
 use Rattle.bit_fields.specs.declared.fault.Fault.{Fault}
 use Rattle.bit_fields.specs.declared.fault.Fault.TheVariants as fault
-use Rattle.bit_fields.specs.Devices.{Incoming, Outgoing}
+use Rattle.bit_fields.specs.Devices.{Incoming, Outgoing, Spends, Fails}
 use Rattle.bit_norm.specs.Entries.{difference_shown}
 use Rattle.bit_norm.specs.declared.comparing.Which.TheVariants.{First, Second}
 use Rattle.bit_norm.specs.Whole.{Normalises, ReadsTree}
@@ -37,9 +37,9 @@ use Rattle.bitstool.specs.declared.task.Task.{Task}
 use Rattle.bitstool.specs.declared.task.Task.TheVariants.{Check, Normal, Same, Where, Analyse, Show, Events}
 use Rattle.bitstool.specs.Performing.{Finds, FindsWhere, Found, Judges, Settles, TellsDifference, TellsFound, TellsLine, ended, outcome_found, outcome_of}
 use Rattle.bitstool.specs.Differences.{difference_text}
-use Rattle.bitstool.specs.Runs.{Told, Accepts, Answers, Refuses, StopsShort, LacksMemory, LeavesRefused, LeavesUnread, Stays, Takes, Leaves, Does, most_taken}
+use Rattle.bitstool.specs.Runs.{Told, Accepts, Answers, Refuses, StopsShort, LacksMemory, LeavesRefused, LeavesUnread, Stays, Takes, Leaves, Does, most_taken, Pays}
 use Rattle.bitstool.proofs.Known.{gained, gained_front, gains_front, gains_text, gains_part, gains_kept, front_kept, if_told}
-use Rattle.bitstool.proofs.Taking.{drained, spends_more, takes_done, takes_fault, takes_long, takes_memory, takes_write}
+use Rattle.bitstool.proofs.Taking.{drained, fails_more, spends_more, takes_done, takes_fault, takes_long, takes_memory, takes_write}
 
 -- an output that is as it was
 pub stays_same : (old new : Outgoing) → new ≡ old → Stays old new
@@ -277,7 +277,7 @@ told_events limits values i now old new (Err (fault.Refused reason bit)) h =
     let known = if_told i.to_come (λ bytes. outlook limits bytes ≡ h.1) h.2 in
     let text = outlook_text values h.1 in
     ((h.0, tt), (bits_of_bytes text, (h.1, h.3.1, refl, known), gains_text old.bytes new.bytes text h.3.0.bytes, h.3.0.failures))
-told_events limits values i now old new (Err fault.Read) h = ((h.0, h.3.2), (events_stop limits values i old new h.1 h.2 h.3.0, h.3.1))
+told_events limits values i now old new (Err fault.Read) h = ((h.0, tt), (events_stop limits values i old new h.1 h.2 h.3.0, h.3.1))
 told_events limits values i now old new (Err fault.Write) h = ((h.0, tt), (events_stop limits values i old new h.1 h.2 h.3.0, h.3.1))
 told_events limits values i now old new (Err fault.Memory) h = ((h.0, tt), (events_stop limits values i old new h.1 h.2 h.3.0, h.3.1))
 told_events limits values i now old new (Err fault.OutputTooLong) h = absurd h.3
@@ -290,13 +290,13 @@ pub done_told : (task : Task) (i now : Incoming) (old new : Outgoing) (line : Li
     → Answers task i.to_come Done (bits_of_bytes line) → TellsLine Done line old after new → Does task i now old new after
 done_told task i now old new line after most takes answers (inl h) = rw (h.0) (takes, (bits_of_bytes line, answers, gains_text old.bytes new.bytes line h.1.bytes, h.1.failures))
 done_told task i now old new line after most takes answers (inr h) =
-    rw (h.0) ((rw most takes.0, tt), (inr (bits_of_bytes line, Done, answers, gains_part old.bytes new.bytes line h.1.front h.1.rest h.1.split h.1.bytes), h.2))
+    rw (h.0) ((inl (rw most takes.0), tt), (inr (bits_of_bytes line, Done, answers, gains_part old.bytes new.bytes line h.1.front h.1.rest h.1.split h.1.bytes), h.2))
 
 pub different_told : (task : Task) (i now : Incoming) (old new : Outgoing) (line : List ℕ) (after : Outcome) → most_taken task Write ≡ most_taken task Different → Takes task i now Different
     → Answers task i.to_come Different (bits_of_bytes line) → TellsLine Different line old after new → Does task i now old new after
 different_told task i now old new line after most takes answers (inl h) = rw (h.0) (takes, (bits_of_bytes line, answers, gains_text old.bytes new.bytes line h.1.bytes, h.1.failures))
 different_told task i now old new line after most takes answers (inr h) =
-    rw (h.0) ((rw most takes.0, tt), (inr (bits_of_bytes line, Different, answers, gains_part old.bytes new.bytes line h.1.front h.1.rest h.1.split h.1.bytes), h.2))
+    rw (h.0) ((inl (rw most takes.0), tt), (inr (bits_of_bytes line, Different, answers, gains_part old.bytes new.bytes line h.1.front h.1.rest h.1.split h.1.bytes), h.2))
 
 -- an outcome that is no answer writes no line
 pub no_line : (task : Task) (i now : Incoming) (old new : Outgoing) (outcome : Outcome) → (outcome ≡ Done → ⊥) → (outcome ≡ Different → ⊥) → Stays old new
@@ -318,7 +318,7 @@ no_line task i now old new outcome not_done not_different stays refuses judged =
 difference_told : (info : Info) (limits : Limits) (first : ℕ) (i now : Incoming) (old new : Outgoing) (lines : List ℕ) (after : Outcome) → Takes (Where first limits info) i now Different
     → Answers (Where first limits info) i.to_come Different (bits_of_bytes lines) → TellsDifference lines old after new → Does (Where first limits info) i now old new after
 difference_told info limits first i now old new lines after takes answers (inl told) = different_told (Where first limits info) i now old new lines after refl takes answers told
-difference_told info limits first i now old new lines after takes answers (inr none) = rw (none.0) ((takes.0, tt), stays_same old new none.1)
+difference_told info limits first i now old new lines after takes answers (inr none) = rw (none.0) ((inl takes.0, tt), stays_same old new none.1)
 
 -- what two inputs were found to be was told
 pub told_where : (info : Info) (limits : Limits) (first : ℕ) (i now : Incoming) (old new : Outgoing) (found : Found) (after : Outcome) → Takes (Where first limits info) i now (outcome_found found)
@@ -389,8 +389,25 @@ settled task i now old new last outcome after does (inl same) = rw (same.0) (doe
     kept Memory d = (memory_then task i.to_come old.bytes new.bytes last.bytes d.0 stays.0, stays.1 ∙ d.1)
     kept Write d = (stopped_then task i.to_come old.bytes new.bytes last.bytes d.0 stays.0, failed_still old new last d.1 (omega (arith, stays.1)))
 settled task i now old new last outcome after does (inr failed) =
-    rw (failed.0) ((spends_more i now (most_taken task outcome) (most_taken task Write) (most_write task outcome) does.0.0, tt), lost outcome does.1)
+    rw (failed.0) ((paid outcome does.0.0, tt), lost outcome does.1)
   where
+    more : (o : Outcome) → Spends i (most_taken task o) now 0 → Pays Write i (most_taken task Write) now
+    more o p = inl (spends_more i now (most_taken task o) (most_taken task Write) (most_write task o) p)
+
+    lost_more : (o : Outcome) → Fails i (most_taken task o) now 0 → Pays Write i (most_taken task Write) now
+    lost_more o p = inr (fails_more i now (most_taken task o) (most_taken task Write) (most_write task o) p)
+
+    paid : (o : Outcome) → Pays o i (most_taken task o) now → Pays Write i (most_taken task Write) now
+    paid Done p = more Done p
+    paid Different p = more Different p
+    paid (Refused reason bit) p = more (Refused reason bit) p
+    paid (RefusedOf which reason bit) p = more (RefusedOf which reason bit) p
+    paid (TooLong limit) p = more (TooLong limit) p
+    paid Usage p = more Usage p
+    paid Read p = lost_more Read p
+    paid Write p = p
+    paid Memory p = elim p [ inl spends ↦ more Memory spends | inr fails ↦ lost_more Memory fails ]
+
     keeps : Keeps new.bytes last.bytes
     keeps = failed.1
 

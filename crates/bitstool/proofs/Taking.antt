@@ -6,8 +6,7 @@ use Rattle.std.proofs.lemmas.Bool.{cases_lt}
 use Rattle.bit_grammar.specs.Blocks.{Limits}
 use Rattle.bit_fields.specs.declared.fault.Fault.{Fault}
 use Rattle.bit_fields.specs.declared.fault.Fault.TheVariants as fault
-use Rattle.bit_fields.specs.Devices.{Gave, GaveNone, Incoming, IsWorn, Spends, known_bytes}
-use Rattle.bit_fields.specs.Reader.{SourceFails}
+use Rattle.bit_fields.specs.Devices.{Gave, GaveNone, Incoming, Spends, Fails, known_bytes}
 use Rattle.bit_events.specs.Reading.{ReadsWhole}
 use Rattle.bitstool.specs.declared.outcome.Outcome.{Outcome}
 use Rattle.bitstool.specs.declared.outcome.Outcome.TheVariants.{Done, TooLong, Write, Memory}
@@ -19,15 +18,18 @@ use Rattle.bitstool.proofs.Known.{if_told}
 -- ---- what is paid for
 
 pub spends_none : (i : Incoming) (most : ℕ) → Spends i most i 0
-spends_none i most = record { pulls = omega arith; failures = omega arith; tells = λ t. t; bytes = λ t. omega arith; accounts = λ n all says. says }
+spends_none i most = record { pulls = omega arith; failures = refl; tells = λ t. t; bytes = λ t. omega arith; accounts = λ n all says. says }
 
 pub spends_more : (i now : Incoming) (a b : ℕ) → a ≤ b → Spends i a now 0 → Spends i b now 0
 spends_more i now a b le h = record { pulls = omega (arith, h.pulls); failures = h.failures; tells = h.tells; bytes = λ t. let few = h.bytes t in omega (arith, few); accounts = h.accounts }
 
+pub fails_more : (i now : Incoming) (a b : ℕ) → a ≤ b → Fails i a now 0 → Fails i b now 0
+fails_more i now a b le h = record { pulls = omega (arith, h.pulls); failed = h.failed; tells = h.tells; bytes = λ t. let few = h.bytes t in omega (arith, few); accounts = h.accounts }
+
 pub spends_then : (i mid now : Incoming) (a b : ℕ) → Spends i a mid 0 → Spends mid b now 0 → Spends i (a + b) now 0
 spends_then i mid now a b h k = record {
   pulls = omega (arith, h.pulls, k.pulls);
-  failures = omega (arith, h.failures, k.failures);
+  failures = k.failures ∙ h.failures;
   tells = λ t. k.tells (h.tells t);
   bytes = λ t.
       let first = h.bytes t in
@@ -36,9 +38,18 @@ spends_then i mid now a b h k = record {
   accounts = λ n all says. k.accounts n all (h.accounts n all says);
 }
 
-pub fails_later : (i mid now : Incoming) → i.failures ≤ mid.failures → SourceFails mid now → SourceFails i now
-fails_later i mid now before (inl rose) = inl (omega (arith, before, rose))
-fails_later i mid now before (inr worn) = inr worn
+-- pulls that succeeded, and then one that failed
+pub fails_then : (i mid now : Incoming) (a b : ℕ) → Spends i a mid 0 → Fails mid b now 0 → Fails i (a + b) now 0
+fails_then i mid now a b h k = record {
+  pulls = omega (arith, h.pulls, k.pulls);
+  failed = rw (← h.failures) k.failed;
+  tells = λ t. k.tells (h.tells t);
+  bytes = λ t.
+      let first = h.bytes t in
+      let second = k.bytes (h.tells t) in
+      omega (arith, first, second);
+  accounts = λ n all says. k.accounts n all (h.accounts n all says);
+}
 
 -- ---- pulls
 
@@ -58,7 +69,7 @@ gave_spends old new count into g some =
     let long : length (take count into) ≤ count = omega (arith, length-take count into) in
     record {
       pulls = omega (arith, g.pulls);
-      failures = omega (arith, g.failures);
+      failures = g.failures;
       tells = λ t. (known_after old.to_come new.to_come (take count into) g.bytes t).0;
       bytes = λ t. let more = (known_after old.to_come new.to_come (take count into) g.bytes t).1 in omega (arith, more, long);
       accounts = g.accounts;
@@ -70,29 +81,27 @@ gave_none old new count into g none =
     let long : length (take count into) ≤ count = omega (arith, length-take count into) in
     record {
       pulls = omega (arith, g.pulls);
-      failures = omega (arith, g.failures);
+      failures = g.failures;
       tells = λ t. (known_after old.to_come new.to_come (take count into) g.bytes t).0;
       bytes = λ t. let more = (known_after old.to_come new.to_come (take count into) g.bytes t).1 in omega (arith, more, long);
       accounts = g.accounts;
     }
 
 -- a pull that failed
-pub failed_spends : (old new : Incoming) → GaveNone old new → Spends old 1 new 0 × SourceFails old new
-failed_spends old new g = elim (cases_lt (max old.pulls old.failures) (2 ^ 64 - 1)) [
+pub pull_fails : (old new : Incoming) → GaveNone old new → Fails old 1 new 0
+pull_fails old new g = elim (cases_lt (max old.pulls old.failures) (2 ^ 64 - 1)) [
   | inl fresh ↦
-      let counted = g.counted fresh in (
-        record {
-          pulls = omega (arith, counted.0);
-          failures = omega (arith, counted.1);
-          tells = λ t. (known_kept old.to_come new.to_come g.bytes t).0;
-          bytes = λ t. let same = (known_kept old.to_come new.to_come g.bytes t).1 in omega (arith, same);
-          accounts = g.accounts;
-        },
-        inl (omega (arith, counted.1)),
-      )
+      let counted = g.counted fresh in
+      record {
+        pulls = omega (arith, counted.0);
+        failed = inl counted.1;
+        tells = λ t. (known_kept old.to_come new.to_come g.bytes t).0;
+        bytes = λ t. let same = (known_kept old.to_come new.to_come g.bytes t).1 in omega (arith, same);
+        accounts = g.accounts;
+      }
   | inr worn ↦
       let same = g.worn worn in
-      (subst (λ (n : Incoming). Spends old 1 n 0) (sym same) (spends_none old 1), inr (subst IsWorn (sym same) worn))
+      subst (λ (n : Incoming). Fails old 1 n 0) (sym same) (record { pulls = omega arith; failed = inr (refl, worn); tells = λ t. t; bytes = λ t. omega arith; accounts = λ n all says. says })
 ]
 
 -- ---- what is left
@@ -120,15 +129,15 @@ module _ {A : Type 0} (Holds : List ℕ → A → Type 0) (task : Task) (limits 
   takes_long a limit h = (spent (TooLong limit) h.0, all_read a h)
 
   pub takes_write : (a : A) → ReadsWhole Holds limits i (Ok a) now → Takes task i now Write
-  takes_write a h = (spent Write h.0, tt)
+  takes_write a h = (inl (spent Write h.0), tt)
 
   pub takes_memory : (a : A) → ReadsWhole Holds limits i (Ok a) now → Takes task i now Memory
-  takes_memory a h = (spent Memory h.0, tt)
+  takes_memory a h = (inl (spent Memory h.0), tt)
 
   pub takes_fault : (why : Fault) → ReadsWhole Holds limits i (Err why) now → Takes task i now (outcome_of limits.bytes why)
   takes_fault (fault.Refused reason bit) h = (spent _ h.0, tt)
-  takes_fault fault.Read h = (spent _ h.0, h.1)
-  takes_fault fault.Memory h = (spent _ h, tt)
+  takes_fault fault.Read h = (subst (λ (n : ℕ). Fails i n now 0) (sym (most _)) h, tt)
+  takes_fault fault.Memory h = (inl (spent Memory h), tt)
   takes_fault fault.Write h = absurd h
   takes_fault fault.OutputTooLong h = absurd h
   takes_fault fault.Failed h = absurd h

@@ -1,5 +1,5 @@
 -- The steps of carrying out a command.
-use Rattle.std.specs.Prelude.{◌≡◌, ◌≢◌, ◌⊎◌, ⊤, ℕ, ◌<◌, ◌≤◌, Bool, List, length, Option, Some, None, Result, Ok, Err, IfSome, codes}
+use Rattle.std.specs.Prelude.{◌≡◌, ◌≢◌, ◌⊎◌, ⊤, ℕ, ◌<◌, ◌≤◌, Bool, List, length, Option, Some, None, Result, Ok, Err, IfSome, codes, ◌+◌}
 use Rattle.std.specs.Io.KnownBytes.{Consumes, IsAtEnd, Keeps}
 use Rattle.bit_grammar.specs.declared.info.Info.{Info}
 use Rattle.bit_grammar.specs.Grammar.{at}
@@ -11,9 +11,7 @@ use Rattle.bit_grammar.specs.Normal.{HasTree}
 use Rattle.bit_fields.specs.declared.fault.Fault.{Fault}
 use Rattle.bit_fields.specs.declared.fault.Fault.TheVariants as fault
 use Rattle.bit_fields.specs.declared.sink.SinkFailed.{SinkFailed}
-use Rattle.bit_fields.specs.Devices.{Incoming, Outgoing, Spends}
-use Rattle.bit_fields.specs.Reader.{SourceFails}
-use Rattle.bit_events.specs.Reading.{Spent}
+use Rattle.bit_fields.specs.Devices.{Incoming, Outgoing, Spends, Fails}
 use Rattle.bit_scan.specs.Written.{TookText, TookFront, HasFailed}
 use Rattle.bit_norm.specs.Entries.{FirstDifference, difference_shown}
 use Rattle.bit_norm.specs.declared.differences.Difference.{Difference}
@@ -23,7 +21,7 @@ use Rattle.bitstool.specs.declared.outcome.Outcome.{Outcome}
 use Rattle.bitstool.specs.declared.outcome.Outcome.TheVariants.{Done, Different, Refused, RefusedOf, TooLong, Usage, Read, Write, Memory}
 use Rattle.bitstool.specs.declared.task.Task.{Task}
 use Rattle.bitstool.specs.Differences.{difference_text}
-use Rattle.bitstool.specs.Runs.{Told, Accepts, Answers, Refuses, EndsAs, Takes, Stays}
+use Rattle.bitstool.specs.Runs.{Told, Accepts, Answers, Refuses, EndsAs, Takes, Stays, Pays}
 
 -- a sink took all of a text; or a front of it, since it failed
 abbrev pub PutsAll : List ℕ → Outgoing → Result (Unit {0}) SinkFailed → Outgoing → Type 0
@@ -34,7 +32,7 @@ PutsAll text old (Err e) new = TookFront text old new × HasFailed old new
 abbrev pub TakesFirst : ℕ → Incoming → Result (List ℕ) Fault → Incoming → Type 0
 TakesFirst count i (Ok bytes) now =
     Spends i count now 0 × Consumes i.to_come now.to_come bytes × (length bytes ≤ count) × (length bytes < count → IsAtEnd now.to_come)
-TakesFirst count i (Err fault.Read) now = Spends i count now 0 × SourceFails i now
+TakesFirst count i (Err fault.Read) now = Fails i count now 0
 TakesFirst count i (Err fault.Memory) now = Spends i count now 0
 TakesFirst count i (Err fault) now = ⊥
 
@@ -91,7 +89,7 @@ ComparesWith info limits first rest outcome = ⊥
 -- what was taken of the second for that: nothing where the first is refused
 abbrev pub TakesRest : Limits → Incoming → Incoming → Outcome → Type 0
 TakesRest limits j later (RefusedOf First reason bit) = later ≡ j
-TakesRest limits j later outcome = Spent limits j later × EndsAs outcome j later
+TakesRest limits j later outcome = Pays outcome j (limits.bytes + 1) later × EndsAs outcome j later
 
 -- what two inputs were found to be: this first difference, or none; or another outcome
 abbrev pub Found : Type 0

@@ -17,8 +17,7 @@ use Rattle.bit_grammar.specs.Texts.{report_of, listing_of}
 use Rattle.bit_grammar.specs.EventTexts.{outlook_text, outlook_end}
 use Rattle.bit_grammar.specs.Machine.{Ending, accepted, broke}
 use Rattle.bit_grammar.specs.Outlook.{Outlook, outlook}
-use Rattle.bit_fields.specs.Devices.{Incoming, Outgoing, Spends}
-use Rattle.bit_fields.specs.Reader.{SourceFails}
+use Rattle.bit_fields.specs.Devices.{Incoming, Outgoing, Spends, Fails}
 use Rattle.bit_scan.specs.Analysing.{HasTally}
 use Rattle.bit_norm.specs.Entries.{FirstDifference, Seen}
 use Rattle.bit_scan.specs.Written.{TookText, TookFront, HasFailed}
@@ -102,16 +101,23 @@ most_taken (Events limits values) outcome = limits.bytes + 1
 abbrev pub IsDrained : Incoming → Incoming → Type 0
 IsDrained i now = IfSome i.to_come (λ bytes. now.to_come ≡ Some [])
 
--- an input that was accepted is drained, and one that could not be read failed
+-- So much was paid for. The source did not fail, or once, where the input could not be read; where the output failed or memory
+-- was refused, it may have failed before that.
+abbrev pub Pays : Outcome → Incoming → (most : ℕ) → Incoming → Type 0
+Pays Read i most now = Fails i most now 0
+Pays Write i most now = Spends i most now 0 ⊎ Fails i most now 0
+Pays Memory i most now = Spends i most now 0 ⊎ Fails i most now 0
+Pays outcome i most now = Spends i most now 0
+
+-- an input that was accepted is drained
 abbrev pub EndsAs : Outcome → Incoming → Incoming → Type 0
 EndsAs Done i now = IsDrained i now
 EndsAs Different i now = IsDrained i now
 EndsAs (TooLong limit) i now = IsDrained i now
-EndsAs Read i now = SourceFails i now
 EndsAs outcome i now = ⊤
 
 abbrev pub Takes : Task → Incoming → Incoming → Outcome → Type 0
-Takes task i now outcome = Spends i (most_taken task outcome) now 0 × EndsAs outcome i now
+Takes task i now outcome = Pays outcome i (most_taken task outcome) now × EndsAs outcome i now
 
 -- ---- what it leaves on the output
 

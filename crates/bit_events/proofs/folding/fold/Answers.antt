@@ -20,7 +20,7 @@ returns-in-Ok-done-clause-whole g c =
     let i = g.S.Source.incoming c.args.source in
     let b = c.gather-done.new.self.reader in
     let head = c.in-Ok.begun.1 in
-    let begun : Begun c.args.limits i (coming_of false c.args.limits head c.new.result [] None c.in-Ok.begun.0) = began c.args.limits i head c.new.result [] c.in-Ok.begun.0 c.bytes-bytes.ensures.capped c.new.ensures.machine refl c.new.ensures.none c.in-Ok.ensures.begun in
+    let begun : Begun c.args.limits i (coming_of false c.args.limits head c.new.result [] None c.in-Ok.begun.0.position c.in-Ok.begun.0) = began c.args.limits i head c.new.result [] c.in-Ok.begun.0 c.bytes-bytes.ensures.capped c.new.ensures.machine refl c.new.ensures.none c.in-Ok.ensures.begun in
     let all = c.in-Ok-done.ensures in
     subst (λ (now : Incoming). Spent c.args.limits i now × (IsSome i.to_come → Gathered g.G.Gatherer.gathered c.args.limits (known_bytes i.to_come) c.args.gatherer (head_told head) c.gather-done.new.self.gatherer c.position-after.result × (known_bytes now.to_come ≡ []))) (sym c.into_source-source.ensures) (
       spent c.args.limits i head c.new.result c.in-Ok.begun.0 b begun all.pays,
@@ -31,5 +31,5 @@ pub returns-clause-whole : goal.returns-clause-whole
 returns-clause-whole g c =
     let i = g.S.Source.incoming c.args.source in
     let head = c.in-Ok.begun.1 in
-    let begun : Begun c.args.limits i (coming_of false c.args.limits head c.new.result [] None c.in-Ok.begun.0) = began c.args.limits i head c.new.result [] c.in-Ok.begun.0 c.bytes-bytes.ensures.capped c.new.ensures.machine refl c.new.ensures.none c.in-Ok.ensures.begun in
+    let begun : Begun c.args.limits i (coming_of false c.args.limits head c.new.result [] None c.in-Ok.begun.0.position c.in-Ok.begun.0) = began c.args.limits i head c.new.result [] c.in-Ok.begun.0 c.bytes-bytes.ensures.capped c.new.ensures.machine refl c.new.ensures.none c.in-Ok.ensures.begun in
     not_read {A = Unit {0}} (λ bytes done. Unit {0}) c.args.limits i (g.S.Source.incoming c.into_source-source.result) head c.new.result c.in-Ok.begun.0 c.gather-done.new.self.reader c.in-Err-done.fault begun c.into_source-source.ensures c.in-Err-done.ensures

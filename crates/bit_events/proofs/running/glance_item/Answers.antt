@@ -1,4 +1,4 @@
-use Rattle.std.proofs.Common.{◌≡◌, ℕ, List, [], refl, ap, subst, arith}
+use Rattle.std.proofs.Common.{◌≡◌, ℕ, List, [], refl, sym, ap, subst, arith}
 use Rattle.bit_grammar.specs.Fields.{fixed}
 use Rattle.bit_grammar.specs.Machine.{scope_of}
 use Rattle.bit_fields.specs.Ahead.{Glimpsed, reader_at}
@@ -16,7 +16,7 @@ returns-clause-glimpsed g c =
         omega (arith, (h.2 0).1),
         λ limits outer handed is.
             record_seen limits (frame_shown c.args.frame.now) outer handed c.in_ok-id.id c.in_ok-code.code h.0 c.args.ahead.now c.fixed.new.self c.glance_record.new.ahead (ap info_shown c.requires.plain) (omega (arith, c.if-id-lt3.false)) seen
-            (entry_seen c.args.frame.now.definitions c.in_ok-ops.ops.now limits.values c.args.ahead.now.position c.in_ok-id.id c.args.room (scope_of (frame_shown c.args.frame.now) handed) c.fixed.new.self c.glance_record.new.ahead c.in_ok-code.code h.0 c.in_ok-ops.ensures.found refl is (h.2 c.args.ahead.now.position)),
+            (entry_seen c.args.definitions.now c.in_ok-ops.ops.now limits.values c.args.ahead.now.position c.in_ok-id.id c.args.room (scope_of (frame_shown c.args.frame.now) handed) c.fixed.new.self c.glance_record.new.ahead c.in_ok-code.code h.0 c.in_ok-ops.ensures.found (sym c.requires.same) is (h.2 c.args.ahead.now.position)),
       ),
     )
 

@@ -9,7 +9,7 @@ returns-in_err-reader-clause-declined g c =
     rw (p.1, p.2) (declined c.args.limits (g.S.Source.incoming c.args.source) c.in_err-reader.field-0.0.0 (g.S.Source.incoming c.in_err-reader.field-0.0.1) (omega (arith, c.bytes-bytes.ensures.capped.bytes)) c.in_err-reader.ensures.refused)
 
 pub invariant_of-result : goal.invariant_of-result
-invariant_of-result g c = record { aligned = λ _ _. omega (arith, c.in_ok-reader.ensures.place); closed = λ e. absurd cc }
+invariant_of-result g c = record { stands = λ _. c.position-reached.ensures.position; aligned = λ _ _. omega (arith, c.in_ok-reader.ensures.place); closed = λ e. absurd cc }
 
 pub returns-clause-begun : goal.returns-clause-begun
-returns-clause-begun g c = began c.args.limits (g.S.Source.incoming c.args.source) c.in_ok-reader.head c.new.result c.new-2.result.items c.in_ok-reader.reader c.bytes-bytes.ensures.capped c.new.ensures.machine c.new-2.ensures.items c.new.ensures.none c.in_ok-reader.ensures.begun
+returns-clause-begun g c = rw c.position-reached.ensures.position (began c.args.limits (g.S.Source.incoming c.args.source) c.in_ok-reader.head c.new.result c.new-2.result.items c.in_ok-reader.reader c.bytes-bytes.ensures.capped c.new.ensures.machine c.new-2.ensures.items c.new.ensures.none c.in_ok-reader.ensures.begun)

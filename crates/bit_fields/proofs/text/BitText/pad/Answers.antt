@@ -1,4 +1,4 @@
-use Rattle.std.proofs.Common.{◌≡◌, Bool, false, List, ◌++◌, length, replicate, ap, ◌∙◌, subst}
+use Rattle.std.proofs.Common.{◌≡◌, Bool, false, List, ◌++◌, replicate, ap, ◌∙◌, subst}
 use Rattle.std.specs.Prelude.{OnOk}
 use Rattle.std.proofs.Common.{ℕ}
 use Rattle.bit_grammar.specs.Fields.{padding_length}
@@ -7,5 +7,5 @@ use Rattle.bit_fields.proofs.text.BitText.pad.Goals as goal
 
 pub returns : goal.returns
 returns c =
-    let len = c.self.invariant ∙ ap length c.self.view_is in
+    let len = c.len.ensures in
     subst (λ (s : List Bool). OnOk c.fixed.result (c.fixed.new.self ≡ c.args.self.now ++ s)) (zeros-replicate _ ∙ ap (λ (n : ℕ). replicate (padding_length n) false) len) c.fixed.ensures

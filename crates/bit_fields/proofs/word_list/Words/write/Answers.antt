@@ -9,10 +9,13 @@ use Rattle.bit_fields.proofs.word_list.Words.write.Goals as goal
 pub loop-chunk-init : goal.loop-chunk-init
 loop-chunk-init g c =
     let ws = c.args.self.now in
-    going_as (bits_of_words ws) c.args.writer.now c.args.writer.now (bits_of_words ws) _ (ap bits_of_words (sym c.self.view_is ∙ ap (λ (vs : List (Vec ℕ)). joined vs ++ c.self.inside.last.items) (sym c.deref-chunk-items.ensures.value))) (going_starts (bits_of_words ws) c.args.writer.now c.requires.live (omega (arith, c.requires.room, words-length ws)))
+    going_as (bits_of_words ws) c.args.writer.now c.args.writer.now (bits_of_words ws) _ (ap bits_of_words (sym c.self.view_is ∙ ap (λ (vs : List (Vec ℕ)). joined vs ++ c.self.inside.last.items) (sym c.deref-chunk-items.ensures.value))) (going_starts (bits_of_words ws) c.args.writer.now c.requires.live c.requires.whole (omega (arith, c.requires.room, words-length ws)))
 
 pub write_words-requires-clause-live : goal.write_words-requires-clause-live
 write_words-requires-clause-live g c = c.loop-chunk.invariant.live
+
+pub write_words-requires-clause-whole : goal.write_words-requires-clause-whole
+write_words-requires-clause-whole g c = c.loop-chunk.invariant.bytes
 
 pub write_words-requires-clause-room : goal.write_words-requires-clause-room
 write_words-requires-clause-room g c =
@@ -43,11 +46,14 @@ loop-chunk-preserved g c =
     let i = c.loop-chunk.chunk-index in
     let chunks = c.deref-chunk-items.result.now in
     let left = going_as (bits_of_words c.args.self.now) c.args.writer.now c.loop-chunk.writer _ _ (chunks-next chunks last i chunk c.loop-chunk-test.true c.chunk-item.is) c.loop-chunk.invariant in
-    going_on (bits_of_words c.args.self.now) c.args.writer.now c.loop-chunk.writer c.write_words.new.writer (bits_of_words chunk.items) (bits_of_words (joined (drop (i + 1) chunks) ++ last)) left
+    going_on (bits_of_words c.args.self.now) c.args.writer.now c.loop-chunk.writer c.write_words.new.writer (bits_of_words chunk.items) (bits_of_words (joined (drop (i + 1) chunks) ++ last)) left (omega (arith, words-length chunk.items))
     (subst (λ (ws : List ℕ). Wrote c.loop-chunk.writer (bits_of_words ws) c.write_words.new.writer) c.deref.ensures.value c.in_ok-write_words.ensures)
 
 pub write_words-requires-2-clause-live : goal.write_words-requires-2-clause-live
 write_words-requires-2-clause-live g c = c.loop-chunk.invariant.live
+
+pub write_words-requires-2-clause-whole : goal.write_words-requires-2-clause-whole
+write_words-requires-2-clause-whole g c = c.loop-chunk.invariant.bytes
 
 pub write_words-requires-2-clause-room : goal.write_words-requires-2-clause-room
 write_words-requires-2-clause-room g c =

@@ -11,8 +11,8 @@ returns-then-is_idle-clause-gathers c = λ list took first done deepest was stan
 
 pub returns-clause-gathers : goal.returns-clause-gathers
 returns-clause-gathers c =
-    on_ok_weaker c.add-added.result
+    on_ok_weaker c.add.result
     (λ adds list took first done deepest was stands.
     let mark : RecordMark = record { abbreviation = c.args._id; code = c.args.code; values = list; first = c.args._first; after = c.args._after } in
     adds first done mark refl took was (c.is_idle.ensures.short c.if-is_idle.false) (c.is_idle.ensures.inside c.if-is_idle.false) stands)
-    c.add-added.ensures
+    c.add.ensures.adds
