@@ -317,6 +317,47 @@ fn checks_normal_forms_and_comparisons(rt: HostRuntime) -> Result<(), Fail> {
     Ok(())
 }
 
+static PLACES: [Row; 4] = [
+    (
+        "same --where --first 16",
+        (&SHORT, &LONG),
+        (0, b"same\n", ""),
+    ),
+    (
+        "same --where --first 16",
+        (&SHORT, &OTHER_LONG),
+        (
+            1,
+            b"different\nat magic\nfirst bit 0: magic 4243c0de\nsecond bit 0: magic 44494147\n",
+            "",
+        ),
+    ),
+    (
+        "same --first 16 --where",
+        (&SHORT, &MAGIC),
+        (
+            1,
+            b"different\nat item 0\nfirst bit 32: block 8\nsecond bit 32: end\n",
+            "",
+        ),
+    ),
+    (
+        "same --where --first 32 --drop-info",
+        (&INFO, &SHORT),
+        (
+            1,
+            b"different\nat block 8 item 0, item 0\nfirst bit 224: record 1 count 1, value 0 is 100\nsecond bit 96: record 1 count 1, value 0 is 30\n",
+            "",
+        ),
+    ),
+];
+
+#[test]
+fn where_inputs_first_differ(rt: HostRuntime) -> Result<(), Fail> {
+    all_end(&rt, rt.alloc(), &PLACES)?;
+    Ok(())
+}
+
 /// The magic of LLVM's bitcode, alone.
 const MAGIC: [u8; 4] = [0x42, 0x43, 0xc0, 0xde];
 
