@@ -8,6 +8,8 @@
 PREFIX ?= /usr/local
 JOBS ?= $(shell nproc)
 PROGRAM := crates/bitstool/out/bitstool
+# Asks calls of the libraries for tests/refused_memory.
+ASKING := crates/refused_calls/out/refused_calls
 LIBRARIES := $(filter-out bit_c,$(patsubst crates/%/src/lib.rt,%,$(wildcard crates/*/src/lib.rt)))
 sources = $(shell find crates/$(1) -path '*/out' -prune -o \( -name '*.rt' -o -name '*.antt' \) -print)
 below = $(filter $(LIBRARIES),$(shell sed -n 's/^$(1)[^:]*://p' crates.txt))
@@ -27,6 +29,12 @@ $(PROGRAM): crates.txt $(foreach name,$(LIBRARIES) bitstool,$(call sources,$(nam
 	@cd crates/bitstool && rt run --jobs $(JOBS) < stdin 2> out/make.log | cmp - stdout || { cat out/make.log; exit 1; }
 	@touch $(PROGRAM)
 	@echo "built $(PROGRAM)" >&2
+
+$(ASKING): $(PROGRAM) $(call sources,refused_calls)
+	@echo "proving refused_calls" >&2
+	@mkdir -p crates/refused_calls/out
+	@cd crates/refused_calls && rt run --jobs $(JOBS) < stdin 2> out/make.log | cmp - stdout || { cat out/make.log; exit 1; }
+	@touch $@
 
 # Libraries that do not need each other are proved side by side.
 libraries: $(LIBRARIES:%=crates/%/out/built)
@@ -77,5 +85,5 @@ bench: $(PROGRAM)
 test:
 	@tests/run --gate
 
-ask-program: $(PROGRAM) lib
+ask-program: $(PROGRAM) $(ASKING) lib
 	@tests/run

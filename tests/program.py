@@ -49,14 +49,14 @@ SAME = done(b"same\n")
 DIFFERENT = Answer(1, b"different\n", "")
 
 
-def run(words, given=b"", **how):
+def run(words, given=b"", program=PROGRAM, **how):
     """Runs the program on these words and this input; `how` goes to the process in place of pipes."""
     if "stdin" not in how:
         how["input"] = given
     how.setdefault("stdout", subprocess.PIPE)
     how.setdefault("stderr", subprocess.PIPE)
     try:
-        ran = subprocess.run([PROGRAM, *words], timeout=LONGEST, **how)
+        ran = subprocess.run([program, *words], timeout=LONGEST, **how)
     except subprocess.TimeoutExpired:
         return Answer("none, for it hangs", b"", "")
     return Answer(ran.returncode, ran.stdout or b"", (ran.stderr or b"").decode(errors="replace"))

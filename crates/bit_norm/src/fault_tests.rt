@@ -240,23 +240,26 @@ fn a_source_fails(rt: HostRuntime) {
     is_form(&rt, rt.alloc(), source, Limits::usual(), &input);
 }
 
-/// A sink that takes so many bytes a put, and fails after so many puts, has this many of the first bytes of the form.
-fn keeps_front(rt: &impl Abort, alloc: Global, form: &[u8], most: usize, puts: u64, count: usize) {
+/// A sink that takes at most so many bytes a put, and fails after so many puts, has a front of the form, and is asked no more.
+/// Answers how many bytes that are.
+fn kept_front(rt: &impl Abort, alloc: Global, form: &[u8], most: usize, puts: u64) -> usize {
     let sink = Pieces::new(alloc, most, puts);
     let source = SliceSource::new(form);
     let (answer, _, sink) = normalise(alloc, source, sink, Limits::usual(), Info::Keep);
     assert!(rt;
-        answer == Err(Fault::Write) && sink.bytes.len() == count,
-        "{puts}"
+        answer == Err(Fault::Write) && sink.failures == 1 && form.starts_with(&sink.bytes),
+        "{puts} puts"
     );
-    assert!(rt; form.starts_with(&sink.bytes), "{puts}");
+    sink.bytes.len()
 }
 
 #[test]
 fn a_sink_fails(rt: HostRuntime) {
     let form = bytes_of(rt.alloc(), "M T").expect(&rt, "memory");
     for puts in 0..16usize {
-        keeps_front(&rt, rt.alloc(), &form, 1, puts as u64, puts);
+        let count = kept_front(&rt, rt.alloc(), &form, 1, puts as u64);
+        assert!(rt; count == puts, "{puts} puts of a byte");
     }
-    keeps_front(&rt, rt.alloc(), &form, 5, 1, 5);
+    let count = kept_front(&rt, rt.alloc(), &form, 5, 1);
+    assert!(rt; count > 0 && count <= 5, "a put of five bytes or fewer");
 }

@@ -3,6 +3,8 @@
 
 mod comparing;
 mod difference_laws;
+#[cfg(test)]
+mod difference_tests;
 mod differences;
 #[cfg(test)]
 mod fault_tests;

@@ -21,6 +21,7 @@ pub use analysing::analyse;
 pub use analysis::Analysis;
 pub use bit_grammar::Values;
 pub use laws::numbers_fit;
+pub use lines::push_magic;
 pub use reporting::write_report;
 pub use rows::{BlockRow, CodeRow, Codes};
 pub use showing::write_show;

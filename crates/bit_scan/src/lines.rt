@@ -27,8 +27,9 @@ fn push_bytes(text: &mut String, bytes: &[u8]) -> Result<(), AllocError>
     Ok(())
 }
 
-/// Appends the word magic and eight digits.
-fn push_magic(text: &mut String, magic: [u8; 4]) -> Result<(), AllocError>
+/// Appends the word magic and the eight hexadecimal digits of a magic, its first byte first. Where memory is refused the text
+/// may have a part of it.
+pub fn push_magic(text: &mut String, magic: [u8; 4]) -> Result<(), AllocError>
     ensures { OnOk result (string_bytes text.new ≡ string_bytes text.old ++ magic_text (magic_number magic)) }
 {
     text.push_str("magic ")?;

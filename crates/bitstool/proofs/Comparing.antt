@@ -1,6 +1,6 @@
 -- Comparing the first bytes of an input with the rest.
-use Rattle.std.proofs.Common.{◌≡◌, ◌∙◌, ℕ, ◌+◌, ◌<◌, ◌≤◌, min, List, [], ◌++◌, length, take, drop, Some, None, Err, refl, sym, ap, subst, inl, inr, arith, codes, length-append, length-take}
-use Rattle.std.specs.Prelude.{◌⊎◌, IsSome, IfSome, ◌^◌}
+use Rattle.std.proofs.Common.{◌≡◌, ◌∙◌, ℕ, ◌+◌, ◌<◌, ◌≤◌, min, List, [], ◌++◌, length, take, drop, Option, Some, None, Ok, Err, refl, sym, ap, subst, inl, inr, arith, codes, length-append, length-take}
+use Rattle.std.specs.Prelude.{IsSome, IfSome, ◌^◌, ◌⊎◌}
 use Rattle.std.specs.Io.KnownBytes.{Consumes, IsAtEnd}
 use Rattle.std.proofs.lemmas.List.{append-nil, take_all, take_at, drop_at, take-take}
 use Rattle.std.proofs.Math.ListN.{drop_of_length-le}
@@ -9,7 +9,7 @@ use Rattle.bit_grammar.specs.declared.info.Info.{Info}
 use Rattle.bit_grammar.specs.Bits.{bits_of_bytes}
 use Rattle.bit_grammar.specs.Grammar.{Fault, at}
 use Rattle.bit_grammar.specs.Blocks.{Limits}
-use Rattle.bit_grammar.specs.Input.{BreaksInput, Cut, front_broken, front_spelled}
+use Rattle.bit_grammar.specs.Input.{BreaksInput, Cut, Marked, SpellsInput, front_broken, front_spelled, tree_of}
 use Rattle.bit_grammar.specs.Normal.{HasTree}
 use Rattle.bit_fields.specs.declared.fault.Fault as code
 use Rattle.bit_fields.specs.declared.fault.Fault.TheVariants as fault
@@ -17,11 +17,13 @@ use Rattle.bit_fields.specs.Devices.{Incoming, Spends, Fails, known_bytes}
 use Rattle.bit_events.specs.Reading.{Spent, Lost}
 use Rattle.bit_norm.specs.declared.comparing.Which.{Which}
 use Rattle.bit_norm.specs.declared.comparing.Which.TheVariants.{First, Second}
-use Rattle.bit_norm.specs.Whole.{Misreads}
+use Rattle.bit_norm.specs.declared.differences.Difference.{Difference}
+use Rattle.bit_norm.specs.Entries.{FirstDifference, difference_shown}
+use Rattle.bit_norm.specs.Whole.{FindsDifference, Misreads}
 use Rattle.bitstool.specs.declared.outcome.Outcome.{Outcome}
 use Rattle.bitstool.specs.declared.outcome.Outcome.TheVariants.{Done, Different, Refused, RefusedOf, TooLong, Usage, Read, Write, Memory}
-use Rattle.bitstool.specs.declared.task.Task.TheVariants.{Same}
-use Rattle.bitstool.specs.Performing.{ComparesWith, Finds, Judges, TakesFirst, TakesRest, outcome_in, outcome_of}
+use Rattle.bitstool.specs.declared.task.Task.TheVariants.{Same, Where}
+use Rattle.bitstool.specs.Performing.{ComparesWhere, ComparesWith, Finds, FindsWhere, Found, IsNoAnswer, Judges, TakesFirst, TakesRest, outcome_found, outcome_in, outcome_of}
 use Rattle.bitstool.specs.Runs.{IsDrained, Takes, Told}
 use Rattle.bitstool.proofs.Taking.{drained, fails_more, fails_then, spends_more, spends_none, spends_then}
 use Rattle.bitstool.proofs.Known.{if_told}
@@ -214,3 +216,81 @@ not_taken info limits first count i now fault.Write counted h = absurd h
 not_taken info limits first count i now fault.OutputTooLong counted h = absurd h
 not_taken info limits first count i now fault.Failed counted h = absurd h
 not_taken info limits first count i now (fault.Refused reason bit) counted h = absurd h
+
+-- ---- where they first differ
+
+-- what was found of bytes and an input
+pub found_where : (info : Info) (limits : Limits) (first : List ℕ) (i j now later : Incoming) (found : Option Difference) → i.to_come ≡ Some first → FindsDifference info limits i j (Ok found) now later → ComparesWhere info limits first j.to_come (Ok found)
+found_where info limits first i j now later None is h =
+    let spells : SpellsInput limits first h.0 = known_first i first (λ bytes. SpellsInput limits bytes h.0) is (λ tells. (h.2.1 tells).0) in
+    let some : IsSome i.to_come = subst (λ (o : Told). IsSome o) (sym is) refl in
+    (tree_of info h.0, (h.0, spells, refl), if_told j.to_come (λ bytes. HasTree info limits bytes (tree_of info h.0)) (λ tells. (h.1, (h.3.1 tells).0, sym (h.4 some tells))))
+found_where info limits first i j now later (Some difference) is h =
+    let spells : SpellsInput limits first h.0 = known_first i first (λ bytes. SpellsInput limits bytes h.0) is (λ tells. (h.2.1 tells).0) in
+    let some : IsSome i.to_come = subst (λ (o : Told). IsSome o) (sym is) refl in
+    (h.0, spells, if_told j.to_come (λ bytes. (b : Marked) × SpellsInput limits bytes b × FirstDifference info h.0 b (difference_shown difference)) (λ tells. (h.1, (h.3.1 tells).0, h.4 some tells)))
+
+-- and what was taken of the input for that
+pub where_taken : (info : Info) (limits : Limits) (i j now later : Incoming) (found : Option Difference) → FindsDifference info limits i j (Ok found) now later → TakesRest limits j later (outcome_found (Ok found))
+where_taken info limits i j now later None h = (h.3.0, drained j later h.3.0.tells (λ t. (h.3.1 t).1))
+where_taken info limits i j now later (Some difference) h = (h.3.0, drained j later h.3.0.tells (λ t. (h.3.1 t).1))
+
+-- a fault is no answer
+pub no_answer : (limit : ℕ) (why : code.Fault) → IsNoAnswer (outcome_of limit why)
+no_answer limit (fault.Refused reason bit) = (λ e. absurd (cc), λ e. absurd (cc))
+no_answer limit fault.Read = (λ e. absurd (cc), λ e. absurd (cc))
+no_answer limit fault.Write = (λ e. absurd (cc), λ e. absurd (cc))
+no_answer limit fault.Memory = (λ e. absurd (cc), λ e. absurd (cc))
+no_answer limit fault.OutputTooLong = (λ e. absurd (cc), λ e. absurd (cc))
+no_answer limit fault.Failed = (λ e. absurd (cc), λ e. absurd (cc))
+
+pub no_answer_in : (which : Which) (limit : ℕ) (why : code.Fault) → IsNoAnswer (outcome_in which limit why)
+no_answer_in which limit (fault.Refused reason bit) = (λ e. absurd (cc), λ e. absurd (cc))
+no_answer_in which limit fault.Read = (λ e. absurd (cc), λ e. absurd (cc))
+no_answer_in which limit fault.Write = (λ e. absurd (cc), λ e. absurd (cc))
+no_answer_in which limit fault.Memory = (λ e. absurd (cc), λ e. absurd (cc))
+no_answer_in which limit fault.OutputTooLong = (λ e. absurd (cc), λ e. absurd (cc))
+no_answer_in which limit fault.Failed = (λ e. absurd (cc), λ e. absurd (cc))
+
+-- as much is taken as for the word alone
+pub takes_where : (info : Info) (limits : Limits) (first : ℕ) (i now : Incoming) (outcome : Outcome) → Takes (Same first limits info) i now outcome → Takes (Where first limits info) i now outcome
+takes_where info limits first i now Done h = h
+takes_where info limits first i now Different h = h
+takes_where info limits first i now (Refused reason bit) h = h
+takes_where info limits first i now (RefusedOf First reason bit) h = h
+takes_where info limits first i now (RefusedOf Second reason bit) h = h
+takes_where info limits first i now (TooLong limit) h = h
+takes_where info limits first i now Usage h = h
+takes_where info limits first i now Read h = h
+takes_where info limits first i now Write h = h
+takes_where info limits first i now Memory h = h
+
+-- and the same found, but where they differ
+pub finds_where : (info : Info) (limits : Limits) (first : ℕ) (input : Told) (outcome : Outcome) → IsNoAnswer outcome → Finds (Same first limits info) input outcome → Finds (Where first limits info) input outcome
+finds_where info limits first input Done none h = absurd (none.0 refl)
+finds_where info limits first input Different none h = absurd (none.1 refl)
+finds_where info limits first input (Refused reason bit) none h = h
+finds_where info limits first input (RefusedOf First reason bit) none h = h
+finds_where info limits first input (RefusedOf Second reason bit) none h = h
+finds_where info limits first input (TooLong limit) none h = h
+finds_where info limits first input Usage none h = h
+finds_where info limits first input Read none h = h
+finds_where info limits first input Write none h = h
+finds_where info limits first input Memory none h = h
+
+-- where the first bytes and the others first differ
+differ_told : (info : Info) (limits : Limits) (first count : ℕ) (told left : Told) (bytes : List ℕ) (difference : Difference) → count ≡ min first (limits.bytes + 1)
+    → Consumes told left bytes → length bytes ≤ count → (length bytes < count → IsAtEnd left) → ComparesWhere info limits bytes left (Ok (Some difference)) → FindsWhere (Where first limits info) told (Ok (Some difference))
+differ_told info limits first count None left bytes difference counted takes few ended h = (difference_shown difference, refl, tt)
+differ_told info limits first count (Some input) None bytes difference counted takes few ended h = absurd takes
+differ_told info limits first count (Some input) (Some rest) bytes difference counted takes few ended h = go (taken limits first count input bytes rest counted takes few ended)
+  where
+    go : Taken limits first input bytes rest → FindsWhere (Where first limits info) (Some input) (Ok (Some difference))
+    go (whole is rest_is) = (difference_shown difference, refl, (h.0, h.2.0, rw (← is) h.1, rw (← rest_is) h.2.1, h.2.2))
+    go (past long also same) = absurd (omega (arith, h.1.fits))
+
+pub compared_where : (info : Info) (limits : Limits) (first count : ℕ) (told left : Told) (bytes : List ℕ) (found : Found) → count ≡ min first (limits.bytes + 1)
+    → Consumes told left bytes → length bytes ≤ count → (length bytes < count → IsAtEnd left) → ComparesWhere info limits bytes left found → FindsWhere (Where first limits info) told found
+compared_where info limits first count told left bytes (Ok None) counted takes few ended h = compared info limits first count told left bytes Done counted takes few ended h
+compared_where info limits first count told left bytes (Ok (Some difference)) counted takes few ended h = differ_told info limits first count told left bytes difference counted takes few ended h
+compared_where info limits first count told left bytes (Err outcome) counted takes few ended h = (finds_where info limits first told outcome h.1 (compared info limits first count told left bytes outcome counted takes few ended h.0), h.1)

@@ -1,5 +1,5 @@
 -- What commands do, by their steps.
-use Rattle.std.proofs.Common.{◌≡◌, ◌∙◌, ℕ, ◌+◌, List, Result, Ok, Err, ◌<◌, ◌≤◌, codes, refl, sym, subst, inl, inr, arith}
+use Rattle.std.proofs.Common.{◌≡◌, ◌∙◌, ℕ, ◌+◌, List, Some, None, Result, Ok, Err, ◌<◌, ◌≤◌, codes, refl, sym, subst, inl, inr, arith}
 use Rattle.std.specs.Prelude.{IfSome}
 use Rattle.std.specs.Io.KnownBytes.{Keeps}
 use Rattle.std.proofs.KnownBytes.{Keeps-refl, Keeps-trans}
@@ -28,14 +28,16 @@ use Rattle.bit_scan.specs.Written.{HasFailed, TookFront, WritesText}
 use Rattle.bit_fields.specs.declared.fault.Fault.{Fault}
 use Rattle.bit_fields.specs.declared.fault.Fault.TheVariants as fault
 use Rattle.bit_fields.specs.Devices.{Incoming, Outgoing, Spends, Fails}
+use Rattle.bit_norm.specs.Entries.{difference_shown}
 use Rattle.bit_norm.specs.declared.comparing.Which.TheVariants.{First, Second}
 use Rattle.bit_norm.specs.Whole.{Normalises, ReadsTree}
 use Rattle.bitstool.specs.declared.outcome.Outcome.{Outcome}
 use Rattle.bitstool.specs.declared.outcome.Outcome.TheVariants.{Done, Different, Refused, RefusedOf, TooLong, Usage, Read, Write, Memory}
 use Rattle.bitstool.specs.declared.task.Task.{Task}
-use Rattle.bitstool.specs.declared.task.Task.TheVariants.{Check, Normal, Same, Analyse, Show, Events}
-use Rattle.bitstool.specs.Performing.{Finds, Judges, Settles, TellsLine, ended, outcome_of}
-use Rattle.bitstool.specs.Runs.{Told, Accepts, Answers, Refuses, StopsShort, LacksMemory, LeavesRefused, LeavesUnread, Stays, Pays, Takes, Leaves, Does, most_taken}
+use Rattle.bitstool.specs.declared.task.Task.TheVariants.{Check, Normal, Same, Where, Analyse, Show, Events}
+use Rattle.bitstool.specs.Performing.{Finds, FindsWhere, Found, Judges, Settles, TellsDifference, TellsFound, TellsLine, ended, outcome_found, outcome_of}
+use Rattle.bitstool.specs.Differences.{difference_text}
+use Rattle.bitstool.specs.Runs.{Told, Accepts, Answers, Refuses, StopsShort, LacksMemory, LeavesRefused, LeavesUnread, Stays, Takes, Leaves, Does, most_taken, Pays}
 use Rattle.bitstool.proofs.Known.{gained, gained_front, gains_front, gains_text, gains_part, gains_kept, front_kept, if_told}
 use Rattle.bitstool.proofs.Taking.{drained, fails_more, spends_more, takes_done, takes_fault, takes_long, takes_memory, takes_write}
 
@@ -50,6 +52,7 @@ memory_kept : (task : Task) (input old new : Told) → Keeps old new → LacksMe
 memory_kept (Check limits) input old new k = k
 memory_kept (Normal limits info) input old new k = k
 memory_kept (Same first limits info) input old new k = k
+memory_kept (Where first limits info) input old new k = k
 memory_kept (Analyse limits) input old new k = inl k
 memory_kept (Show limits) input old new k = inl k
 memory_kept (Events limits values) input old new k = inl k
@@ -59,6 +62,7 @@ memory_stops : (task : Task) (input old new : Told) → LacksMemory task input o
 memory_stops (Check limits) input old new k = inl k
 memory_stops (Normal limits info) input old new k = inl k
 memory_stops (Same first limits info) input old new k = inl k
+memory_stops (Where first limits info) input old new k = inl k
 memory_stops (Analyse limits) input old new h = h
 memory_stops (Show limits) input old new h = h
 memory_stops (Events limits values) input old new h = h
@@ -72,6 +76,7 @@ memory_then : (task : Task) (input old new last : Told) → LacksMemory task inp
 memory_then (Check limits) input old new last k keeps = Keeps-trans old new last k keeps
 memory_then (Normal limits info) input old new last k keeps = Keeps-trans old new last k keeps
 memory_then (Same first limits info) input old new last k keeps = Keeps-trans old new last k keeps
+memory_then (Where first limits info) input old new last k keeps = Keeps-trans old new last k keeps
 memory_then (Analyse limits) input old new last h keeps = stopped_then (Analyse limits) input old new last h keeps
 memory_then (Show limits) input old new last h keeps = stopped_then (Show limits) input old new last h keeps
 memory_then (Events limits values) input old new last h keeps = stopped_then (Events limits values) input old new last h keeps
@@ -83,6 +88,7 @@ unread_kept : (task : Task) (input : Told) (old new : Outgoing) → Stays old ne
 unread_kept (Check limits) input old new stays = stays
 unread_kept (Normal limits info) input old new stays = stays
 unread_kept (Same first limits info) input old new stays = stays
+unread_kept (Where first limits info) input old new stays = stays
 unread_kept (Analyse limits) input old new stays = stays
 unread_kept (Show limits) input old new stays = stays
 unread_kept (Events limits values) input old new stays = (inl stays.0, stays.1)
@@ -92,6 +98,7 @@ unread_stops : (task : Task) (input : Told) (old new : Outgoing) → LeavesUnrea
 unread_stops (Check limits) input old new stays = (inl stays.0, stays.1)
 unread_stops (Normal limits info) input old new stays = (inl stays.0, stays.1)
 unread_stops (Same first limits info) input old new stays = (inl stays.0, stays.1)
+unread_stops (Where first limits info) input old new stays = (inl stays.0, stays.1)
 unread_stops (Analyse limits) input old new stays = (inl stays.0, stays.1)
 unread_stops (Show limits) input old new stays = (inl stays.0, stays.1)
 unread_stops (Events limits values) input old new h = h
@@ -100,6 +107,7 @@ refused_stops : (task : Task) (input : Told) (reason : Reason) (bit : ℕ) (old 
 refused_stops (Check limits) input reason bit old new h = (inl h.1.0, h.1.1)
 refused_stops (Normal limits info) input reason bit old new h = (inl h.1.0, h.1.1)
 refused_stops (Same first limits info) input reason bit old new h = (inl h.1.0, h.1.1)
+refused_stops (Where first limits info) input reason bit old new h = (inl h.1.0, h.1.1)
 refused_stops (Analyse limits) input reason bit old new h = (inl h.1.0, h.1.1)
 refused_stops (Show limits) input reason bit old new h = (inl h.1.0, h.1.1)
 refused_stops (Events limits values) input reason bit old new h = (inr (h.0, Refused reason bit, h.1, gains_front h.0 old.bytes new.bytes h.2), h.3)
@@ -112,6 +120,7 @@ unread_then : (task : Task) (input : Told) (old new last : Outgoing) → LeavesU
 unread_then (Check limits) input old new last h stays = stays_then old new last h stays
 unread_then (Normal limits info) input old new last h stays = stays_then old new last h stays
 unread_then (Same first limits info) input old new last h stays = stays_then old new last h stays
+unread_then (Where first limits info) input old new last h stays = stays_then old new last h stays
 unread_then (Analyse limits) input old new last h stays = stays_then old new last h stays
 unread_then (Show limits) input old new last h stays = stays_then old new last h stays
 unread_then (Events limits values) input old new last h stays = (stopped_then (Events limits values) input old.bytes new.bytes last.bytes h.0 stays.0, stays.1 ∙ h.1)
@@ -120,6 +129,7 @@ refused_then : (task : Task) (input : Told) (reason : Reason) (bit : ℕ) (old n
 refused_then (Check limits) input reason bit old new last h stays = (h.0, stays_then old new last h.1 stays)
 refused_then (Normal limits info) input reason bit old new last h stays = (h.0, stays_then old new last h.1 stays)
 refused_then (Same first limits info) input reason bit old new last h stays = (h.0, stays_then old new last h.1 stays)
+refused_then (Where first limits info) input reason bit old new last h stays = (h.0, stays_then old new last h.1 stays)
 refused_then (Analyse limits) input reason bit old new last h stays = (h.0, stays_then old new last h.1 stays)
 refused_then (Show limits) input reason bit old new last h stays = (h.0, stays_then old new last h.1 stays)
 refused_then (Events limits values) input reason bit old new last h stays = (h.0, h.1, gains_kept h.0 old.bytes new.bytes last.bytes h.2 stays.0, stays.1 ∙ h.3)
@@ -304,6 +314,20 @@ no_line task i now old new outcome not_done not_different stays refuses judged =
     go Write not_done not_different found = absurd found
     go Memory not_done not_different found = (memory_kept task i.to_come old.bytes new.bytes stays.0, stays.1)
 
+-- the lines of a difference were told
+difference_told : (info : Info) (limits : Limits) (first : ℕ) (i now : Incoming) (old new : Outgoing) (lines : List ℕ) (after : Outcome) → Takes (Where first limits info) i now Different
+    → Answers (Where first limits info) i.to_come Different (bits_of_bytes lines) → TellsDifference lines old after new → Does (Where first limits info) i now old new after
+difference_told info limits first i now old new lines after takes answers (inl told) = different_told (Where first limits info) i now old new lines after refl takes answers told
+difference_told info limits first i now old new lines after takes answers (inr none) = rw (none.0) ((inl takes.0, tt), stays_same old new none.1)
+
+-- what two inputs were found to be was told
+pub told_where : (info : Info) (limits : Limits) (first : ℕ) (i now : Incoming) (old new : Outgoing) (found : Found) (after : Outcome) → Takes (Where first limits info) i now (outcome_found found)
+    → FindsWhere (Where first limits info) i.to_come found → TellsFound found old after new → Does (Where first limits info) i now old new after
+told_where info limits first i now old new (Ok None) after takes finds tells = done_told (Where first limits info) i now old new (codes "same\n") after refl takes (refl, finds.1.1) tells
+told_where info limits first i now old new (Ok (Some difference)) after takes finds tells = difference_told info limits first i now old new (difference_text (difference_shown difference)) after takes finds tells
+told_where info limits first i now old new (Err outcome) after takes finds tells =
+    rw (tells.0) (no_line (Where first limits info) i now old new outcome finds.1.0 finds.1.1 (stays_same old new tells.1) (λ reason bit refuses. (refuses, stays_same old new tells.1)) (takes, finds.0))
+
 -- a check never finds two inputs different
 pub never_different : (limits : Limits) (i now : Incoming) (outcome : Outcome) → Judges (Check limits) i now outcome → outcome ≡ Different → ⊥
 never_different limits i now outcome judged is = let it : Finds (Check limits) i.to_come Different = subst (λ (o : Outcome). Finds (Check limits) i.to_come o) is judged.1 in absurd it.1
@@ -327,6 +351,16 @@ most_write (Same first limits info) Usage = omega arith
 most_write (Same first limits info) Read = omega arith
 most_write (Same first limits info) Write = omega arith
 most_write (Same first limits info) Memory = omega arith
+most_write (Where first limits info) (RefusedOf First reason bit) = omega arith
+most_write (Where first limits info) (RefusedOf Second reason bit) = omega arith
+most_write (Where first limits info) Done = omega arith
+most_write (Where first limits info) Different = omega arith
+most_write (Where first limits info) (Refused reason bit) = omega arith
+most_write (Where first limits info) (TooLong limit) = omega arith
+most_write (Where first limits info) Usage = omega arith
+most_write (Where first limits info) Read = omega arith
+most_write (Where first limits info) Write = omega arith
+most_write (Where first limits info) Memory = omega arith
 
 -- an output that failed before or after
 failed_then : (old new last : Outgoing) → new.failures ≡ old.failures → HasFailed new last → HasFailed old last

@@ -218,7 +218,7 @@ telling_within : (words : List Text) → level_fault (leaf telling) [] nothing_h
 telling_within words passes = numbers_within (leaf telling) _ refl (refl, refl, refl) words passes
 
 first_within : (words : List Text) → level_fault (leaf comparing) [] nothing_held words false [] ≡ [] → HasWithin (codes "first") 17179869180 (AfterWords (leaf comparing) words)
-first_within words passes = required_within (leaf comparing) words passes 17179869180 (filled first_rule) first_numeric (never, (never, (never, (never, (never, ((λ _. refl), (never, tt))))))) (inr (inr (inr (inr (inr (inl refl)))))) refl refl
+first_within words passes = required_within (leaf comparing) words passes 17179869180 (filled first_rule) first_numeric (never, (never, (never, (never, (never, ((λ _. refl), (never, (never, tt)))))))) (inr (inr (inr (inr (inr (inl refl)))))) refl refl
 
 -- ---- the whole command line
 

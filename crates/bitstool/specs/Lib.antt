@@ -1,4 +1,5 @@
 pub mod Words
+pub mod Differences
 pub mod Outcome
 pub mod Runs
 pub mod Performing

@@ -1,23 +1,27 @@
 -- The steps of carrying out a command.
-use Rattle.std.specs.Prelude.{◌≡◌, ◌≢◌, ◌⊎◌, ⊤, ℕ, ◌+◌, ◌<◌, ◌≤◌, Bool, List, length, Result, Ok, Err, IfSome}
+use Rattle.std.specs.Prelude.{◌≡◌, ◌≢◌, ◌⊎◌, ⊤, ℕ, ◌<◌, ◌≤◌, Bool, List, length, Option, Some, None, Result, Ok, Err, IfSome, codes, ◌+◌}
 use Rattle.std.specs.Io.KnownBytes.{Consumes, IsAtEnd, Keeps}
 use Rattle.bit_grammar.specs.declared.info.Info.{Info}
 use Rattle.bit_grammar.specs.Grammar.{at}
 use Rattle.bit_grammar.specs.Forest.{Tree}
 use Rattle.bit_grammar.specs.Blocks.{Limits}
-use Rattle.bit_grammar.specs.Input.{BreaksInput}
+use Rattle.bit_grammar.specs.Bits.{bits_of_bytes}
+use Rattle.bit_grammar.specs.Input.{BreaksInput, Marked, SpellsInput}
 use Rattle.bit_grammar.specs.Normal.{HasTree}
 use Rattle.bit_fields.specs.declared.fault.Fault.{Fault}
 use Rattle.bit_fields.specs.declared.fault.Fault.TheVariants as fault
 use Rattle.bit_fields.specs.declared.sink.SinkFailed.{SinkFailed}
 use Rattle.bit_fields.specs.Devices.{Incoming, Outgoing, Spends, Fails}
 use Rattle.bit_scan.specs.Written.{TookText, TookFront, HasFailed}
+use Rattle.bit_norm.specs.Entries.{FirstDifference, difference_shown}
+use Rattle.bit_norm.specs.declared.differences.Difference.{Difference}
 use Rattle.bit_norm.specs.declared.comparing.Which.{Which}
 use Rattle.bit_norm.specs.declared.comparing.Which.TheVariants.{First, Second}
 use Rattle.bitstool.specs.declared.outcome.Outcome.{Outcome}
 use Rattle.bitstool.specs.declared.outcome.Outcome.TheVariants.{Done, Different, Refused, RefusedOf, TooLong, Usage, Read, Write, Memory}
 use Rattle.bitstool.specs.declared.task.Task.{Task}
-use Rattle.bitstool.specs.Runs.{Told, Accepts, Answers, Refuses, Pays, EndsAs, Takes, Stays}
+use Rattle.bitstool.specs.Differences.{difference_text}
+use Rattle.bitstool.specs.Runs.{Told, Accepts, Answers, Refuses, EndsAs, Takes, Stays, Pays}
 
 -- a sink took all of a text; or a front of it, since it failed
 abbrev pub PutsAll : List ℕ → Outgoing → Result (Unit {0}) SinkFailed → Outgoing → Type 0
@@ -87,9 +91,45 @@ abbrev pub TakesRest : Limits → Incoming → Incoming → Outcome → Type 0
 TakesRest limits j later (RefusedOf First reason bit) = later ≡ j
 TakesRest limits j later outcome = Pays outcome j (limits.bytes + 1) later × EndsAs outcome j later
 
+-- what two inputs were found to be: this first difference, or none; or another outcome
+abbrev pub Found : Type 0
+Found = Result (Option Difference) Outcome
+
+-- as an outcome
+abbrev pub outcome_found : Found → Outcome
+outcome_found (Ok None) = Done
+outcome_found (Ok (Some difference)) = Different
+outcome_found (Err outcome) = outcome
+
+-- neither of the outcomes of two inputs that were read
+abbrev pub IsNoAnswer : Outcome → Type 0
+IsNoAnswer outcome = (outcome ≢ Done) × (outcome ≢ Different)
+
+-- two inputs, of which the first is known, were compared: this is where they first differ, or nowhere; or as above
+abbrev pub ComparesWhere : Info → Limits → List ℕ → Told → Found → Type 0
+ComparesWhere info limits first rest (Ok None) = ComparesWith info limits first rest Done
+ComparesWhere info limits first rest (Ok (Some difference)) = (a : Marked) × SpellsInput limits first a × IfSome rest (λ bytes. (b : Marked) × SpellsInput limits bytes b × FirstDifference info a b (difference_shown difference))
+ComparesWhere info limits first rest (Err outcome) = ComparesWith info limits first rest outcome × IsNoAnswer outcome
+
+-- the same of the first bytes of an input, and the others
+abbrev pub FindsWhere : Task → Told → Found → Type 0
+FindsWhere task input (Ok None) = (bits : List Bool) × Answers task input Done bits
+FindsWhere task input (Ok (Some difference)) = Answers task input Different (bits_of_bytes (difference_text (difference_shown difference)))
+FindsWhere task input (Err outcome) = Finds task input outcome × IsNoAnswer outcome
+
 -- an answer was written as this line; or the output failed, and took a front of it
 abbrev pub TellsLine : Outcome → List ℕ → Outgoing → Outcome → Outgoing → Type 0
 TellsLine answer line old after new = ((after ≡ answer) × TookText line old new) ⊎ ((after ≡ Write) × TookFront line old new × HasFailed old new)
+
+-- the lines of a difference were written; or the output failed; or there was no memory for them, and the output is as it was
+abbrev pub TellsDifference : List ℕ → Outgoing → Outcome → Outgoing → Type 0
+TellsDifference lines old after new = TellsLine Different lines old after new ⊎ ((after ≡ Memory) × (new ≡ old))
+
+-- what two inputs were found to be was told
+abbrev pub TellsFound : Found → Outgoing → Outcome → Outgoing → Type 0
+TellsFound (Ok None) old after new = TellsLine Done (codes "same\n") old after new
+TellsFound (Ok (Some difference)) old after new = TellsDifference (difference_text (difference_shown difference)) old after new
+TellsFound (Err outcome) old after new = (after ≡ outcome) × (new ≡ old)
 
 -- the outcome after a flush: as it was, or the output failed; no byte came or went
 abbrev pub Settles : Outcome → Outgoing → Outcome → Outgoing → Type 0

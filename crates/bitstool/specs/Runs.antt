@@ -1,6 +1,7 @@
 -- What a command does with its input and its output, and what a run of the program does, over any devices.
 use Rattle.std.specs.Prelude.{◌≡◌, ◌≢◌, ◌⊎◌, ⊤, ℕ, ◌+◌, ◌<◌, ◌≤◌, min, Bool, List, [], ◌++◌, take, drop, codes, Option, Some, IfSome, string_bytes}
 use Rattle.std.specs.Io.KnownBytes.{Keeps}
+use Rattle.bit_grammar.specs.declared.info.Info.{Info}
 use Rattle.bit_grammar.specs.declared.info.Info.TheVariants.{Keep}
 use Rattle.bit_grammar.specs.declared.reason.Reason.{Reason}
 use Rattle.bit_grammar.specs.declared.values.Values.{Values}
@@ -18,14 +19,16 @@ use Rattle.bit_grammar.specs.Machine.{Ending, accepted, broke}
 use Rattle.bit_grammar.specs.Outlook.{Outlook, outlook}
 use Rattle.bit_fields.specs.Devices.{Incoming, Outgoing, Spends, Fails}
 use Rattle.bit_scan.specs.Analysing.{HasTally}
+use Rattle.bit_norm.specs.Entries.{FirstDifference, Seen}
 use Rattle.bit_scan.specs.Written.{TookText, TookFront, HasFailed}
 use Rattle.bit_norm.specs.declared.comparing.Which.TheVariants.{First, Second}
 use Rattle.bitstool.specs.declared.outcome.Outcome.{Outcome}
 use Rattle.bitstool.specs.declared.outcome.Outcome.TheVariants.{Done, Different, Refused, RefusedOf, TooLong, Usage, Read, Write, Memory}
 use Rattle.bitstool.specs.declared.task.Task.{Task}
-use Rattle.bitstool.specs.declared.task.Task.TheVariants.{Check, Normal, Same, Analyse, Show, Events}
+use Rattle.bitstool.specs.declared.task.Task.TheVariants.{Check, Normal, Same, Where, Analyse, Show, Events}
 use Rattle.bitstool.specs.declared.task.Parsed.{Parsed}
 use Rattle.bitstool.specs.declared.task.Parsed.TheVariants as parsed
+use Rattle.bitstool.specs.Differences.{difference_text}
 use Rattle.bitstool.specs.Outcome.{status_of, line_of}
 
 -- ---- what a command says of its input
@@ -42,6 +45,10 @@ Accepts limits bytes = (m : Marked) × SpellsInput limits bytes m
 abbrev pub IsText : List ℕ → List Bool → Type 0
 IsText text bits = bits ≡ bits_of_bytes text
 
+-- two inputs spell marked trees whose trees first differ so
+abbrev pub DifferFirst : Info → Limits → (first second : List ℕ) → Seen → Type 0
+DifferFirst info limits first second seen = (a : Marked) × (b : Marked) × SpellsInput limits first a × SpellsInput limits second b × FirstDifference info a b seen
+
 -- What is told of an input ends so, and these are the lines of the magic and the events that are told.
 abbrev pub TellsEvents : Limits → Values → Told → Ending → List Bool → Type 0
 TellsEvents limits values input end bits = (told : Outlook) × (outlook_end told ≡ end) × IsText (outlook_text values told) bits × IfSome input (λ bytes. outlook limits bytes ≡ told)
@@ -54,6 +61,8 @@ Answers (Check limits) input Done bits = IsText (codes "accepted\n") bits × IfS
 Answers (Normal limits info) input Done bits = (tree : Tree) × (bits ≡ normal_form tree) × (size_of tree ≤ limits.bytes) × IfSome input (λ bytes. HasTree info limits bytes tree)
 Answers (Same first limits info) input Done bits = IsText (codes "same\n") bits × IfSome input (λ bytes. (tree : Tree) × HasTree info limits (take first bytes) tree × HasTree info limits (drop first bytes) tree)
 Answers (Same first limits info) input Different bits = IsText (codes "different\n") bits × IfSome input (λ bytes. (a : Tree) × (b : Tree) × HasTree info limits (take first bytes) a × HasTree info limits (drop first bytes) b × (a ≢ b))
+Answers (Where first limits info) input Done bits = IsText (codes "same\n") bits × IfSome input (λ bytes. (tree : Tree) × HasTree info limits (take first bytes) tree × HasTree info limits (drop first bytes) tree)
+Answers (Where first limits info) input Different bits = (seen : Seen) × IsText (difference_text seen) bits × IfSome input (λ bytes. DifferFirst info limits (take first bytes) (drop first bytes) seen)
 Answers (Analyse limits) input Done bits = (tally : Tally) × IsText (report_of tally) bits × IfSome input (λ bytes. HasTally limits bytes tally)
 Answers (Show limits) input Done bits = (tree : Tree) × IsText (listing_of tree) bits × IfSome input (λ bytes. HasTree Keep limits bytes tree)
 Answers (Events limits values) input Done bits = (bit : ℕ) × TellsEvents limits values input (accepted bit) bits
@@ -67,6 +76,8 @@ Refuses (Normal limits info) input (Refused reason bit) = IfSome input (λ bytes
 Refuses (Normal limits info) input (TooLong limit) = (limit ≡ limits.bytes) × IfSome input (λ bytes. (tree : Tree) × HasTree info limits bytes tree × (limits.bytes < size_of tree))
 Refuses (Same first limits info) input (RefusedOf First reason bit) = IfSome input (λ bytes. BreaksInput limits (take first bytes) (at reason bit))
 Refuses (Same first limits info) input (RefusedOf Second reason bit) = IfSome input (λ bytes. Accepts limits (take first bytes) × BreaksInput limits (drop first bytes) (at reason bit))
+Refuses (Where first limits info) input (RefusedOf First reason bit) = IfSome input (λ bytes. BreaksInput limits (take first bytes) (at reason bit))
+Refuses (Where first limits info) input (RefusedOf Second reason bit) = IfSome input (λ bytes. Accepts limits (take first bytes) × BreaksInput limits (drop first bytes) (at reason bit))
 Refuses (Analyse limits) input (Refused reason bit) = IfSome input (λ bytes. BreaksInput limits bytes (at reason bit))
 Refuses (Show limits) input (Refused reason bit) = IfSome input (λ bytes. BreaksInput limits bytes (at reason bit))
 Refuses task input outcome = ⊥
@@ -80,6 +91,8 @@ most_taken (Check limits) outcome = limits.bytes + 1
 most_taken (Normal limits info) outcome = limits.bytes + 1
 most_taken (Same first limits info) (RefusedOf First reason bit) = min first (limits.bytes + 1)
 most_taken (Same first limits info) outcome = min first (limits.bytes + 1) + (limits.bytes + 1)
+most_taken (Where first limits info) (RefusedOf First reason bit) = min first (limits.bytes + 1)
+most_taken (Where first limits info) outcome = min first (limits.bytes + 1) + (limits.bytes + 1)
 most_taken (Analyse limits) outcome = limits.bytes + 1
 most_taken (Show limits) outcome = limits.bytes + 1
 most_taken (Events limits values) outcome = limits.bytes + 1

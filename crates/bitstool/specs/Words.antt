@@ -18,7 +18,7 @@ use Rattle.bit_grammar.specs.declared.values.Values.{Values}
 use Rattle.bit_grammar.specs.declared.values.Values.TheVariants.{Shown, LeftOut}
 use Rattle.bit_grammar.specs.Blocks.{Limits}
 use Rattle.bitstool.specs.declared.task.Task.{Task}
-use Rattle.bitstool.specs.declared.task.Task.TheVariants.{Check, Normal, Same, Analyse, Show, Events}
+use Rattle.bitstool.specs.declared.task.Task.TheVariants.{Check, Normal, Same, Where, Analyse, Show, Events}
 use Rattle.bitstool.specs.declared.task.Parsed.{Parsed}
 use Rattle.bitstool.specs.declared.task.Parsed.TheVariants as parsed
 
@@ -64,7 +64,7 @@ abbrev pub dropping : Text → App
 dropping name = with_rule (limited name) (flag_rule (codes "drop-info"))
 
 abbrev pub comparing : App
-comparing = with_rule (dropping (codes "same")) first_rule
+comparing = with_rule (with_rule (dropping (codes "same")) first_rule) (flag_rule (codes "where"))
 
 -- a command that may leave values out
 abbrev pub telling : App
@@ -114,10 +114,15 @@ HasValues rows LeftOut = IsGiven (codes "no-values") rows
 abbrev pub Asks : Text → List Row → Task → Type 0
 Asks name rows (Check limits) = (name ≡ codes "check") × HasLimits rows limits
 Asks name rows (Normal limits info) = (name ≡ codes "normal") × HasLimits rows limits × HasSetting rows info
-Asks name rows (Same first limits info) = (name ≡ codes "same") × HasNumber (codes "first") rows first × HasLimits rows limits × HasSetting rows info
+Asks name rows (Same first limits info) = (name ≡ codes "same") × HasNumber (codes "first") rows first × HasLimits rows limits × HasSetting rows info × ¬ (IsGiven (codes "where") rows)
+Asks name rows (Where first limits info) = (name ≡ codes "same") × HasNumber (codes "first") rows first × HasLimits rows limits × HasSetting rows info × IsGiven (codes "where") rows
 Asks name rows (Analyse limits) = (name ≡ codes "analyse") × HasLimits rows limits
 Asks name rows (Show limits) = (name ≡ codes "show") × HasLimits rows limits
 Asks name rows (Events limits values) = (name ≡ codes "events") × HasLimits rows limits × HasValues rows values
+
+-- a comparison of so many first bytes with the others, under these limits
+abbrev pub AsksToCompare : ℕ → Limits → List Row → Task → Type 0
+AsksToCompare first limits rows task = (name : Text) → name ≡ codes "same" → HasNumber (codes "first") rows first → HasLimits rows limits → Asks name rows task
 
 abbrev pub Means : Option (Text × List Row) → Task → Type 0
 Means None task = ⊥

@@ -3,7 +3,7 @@
 ghost use Rattle.std.specs.Prelude.{◌≡◌, ◌<◌, ◌^◌, ◌↔◌, ℕ, false, map, string_bytes, IfOk, IfErr, IfSome, IsSome, IsTrue, Some};
 ghost use Rattle.bitstool.specs.declared.task.Parsed.{Parsed as ParsedValue};
 ghost use Rattle.clap.specs.Words.{app_of, found_of, kind_of, rows_of, rule_of, subcommand_rows_of};
-ghost use Rattle.bitstool.specs.Words.{numbered, FindsAll, HasAllLimits, HasLimits, HasNumber, HasSetting, HasShapes, HasValues, IsGiven, Means, Says, Fails, Shows};
+ghost use Rattle.bitstool.specs.Words.{numbered, FindsAll, HasAllLimits, HasLimits, AsksToCompare, HasNumber, HasSetting, HasShapes, HasValues, IsGiven, Means, Says, Fails, Shows};
 ghost use Rattle.bitstool.specs.Words.{bitstool, flag_rule, limit_rule, limited, number_rule, dropping, comparing, telling};
 
 use crate::task::{Parsed, Task};
@@ -158,7 +158,8 @@ fn comparing<'a>(alloc: Global) -> Result<Command<'a>, AllocError>
     let first = number_option(alloc, "first", MOST_BYTES)
         .required(true)
         .help("How many bytes the first input has; the second is the rest; at most 17179869180");
-    dropping(alloc, "same", SAME)?.arg(first)
+    let place = flag(alloc, "where", "Say also where they first differ");
+    dropping(alloc, "same", SAME)?.arg(first)?.arg(place)
 }
 
 /// The command that lists events.
@@ -261,6 +262,26 @@ fn values_of(matches: &ArgMatches<'_>) -> Values
     }
 }
 
+/// The comparison that was asked for.
+fn comparison_of(first: u64, limits: Limits, matches: &ArgMatches<'_>) -> Task
+    ensures { AsksToCompare first limits (rows_of (found_of matches.now)) result }
+{
+    let info = setting_of(matches);
+    if is_given(matches, "where") {
+        Task::Where {
+            first,
+            limits,
+            info,
+        }
+    } else {
+        Task::Same {
+            first,
+            limits,
+            info,
+        }
+    }
+}
+
 /// The command that was given.
 fn task_of(matches: &ArgMatches<'_>) -> Option<Task>
     ensures task { IfSome result (λ task. Means (subcommand_rows_of matches.now) task) }
@@ -274,11 +295,7 @@ fn task_of(matches: &ArgMatches<'_>) -> Option<Task>
             limits,
             info: setting_of(inner),
         }),
-        "same" => Some(Task::Same {
-            first: number(inner, "first")?,
-            limits,
-            info: setting_of(inner),
-        }),
+        "same" => Some(comparison_of(number(inner, "first")?, limits, inner)),
         "analyse" => Some(Task::Analyse { limits }),
         "show" => Some(Task::Show { limits }),
         "events" => Some(Task::Events {

@@ -3,18 +3,21 @@
 ghost use Rattle.std.specs.Prelude.{◌≡◌, ◌<◌, ◌^◌, vec_items};
 ghost use Rattle.bit_fields.specs.Reader.{told_by};
 ghost use Rattle.bitstool.specs.declared.task.Task.{Task as TaskValue};
-ghost use Rattle.bitstool.specs.Performing.{ComparesWith, Judges, Settles, TakesFirst, TakesRest, TellsLine, ended, outcome_in, outcome_of};
-ghost use Rattle.bitstool.specs.Runs.{Does};
+ghost use Rattle.bitstool.specs.Performing.{ComparesWhere, ComparesWith, FindsWhere, Judges, TellsDifference, TellsFound, outcome_found, Settles, TakesFirst, TakesRest, TellsLine, ended, outcome_in, outcome_of};
+ghost use Rattle.bit_norm.specs.Entries.{difference_shown};
+ghost use Rattle.bitstool.specs.Differences.{difference_text};
+ghost use Rattle.bitstool.specs.Runs.{Does, Takes};
 
 use crate::devices::{Flush, put_all};
+use crate::differences::text_of;
 use crate::outcome::Outcome;
 use crate::task::Task;
 use bit_events::check;
 use bit_fields::{Fault, Limits, Sink, Source};
-use bit_norm::{Which, normalise, same_as};
+use bit_norm::{Difference, Which, first_difference_from, normalise, same_as};
 use bit_scan::{Values, write_events, write_report, write_show};
 use bit_tree::Info;
-use std::alloc::Global;
+use std::alloc::{AllocError, Global};
 
 /// How many bytes of a first input are taken at once.
 const PIECE: usize = 4096;
@@ -116,6 +119,45 @@ fn compare<S: Source>(
     }
 }
 
+/// Compares two inputs, of which the first is in memory, to say where they first differ.
+fn compare_where_with<S: Source>(
+    alloc: Global,
+    first: &[u8],
+    rest: S,
+    limits: Limits,
+    info: Info,
+) -> (Result<Option<Difference>, Outcome>, S)
+    ensures found { ComparesWhere info limits first.now (S.incoming rest).to_come result.0 }
+    ensures taken { TakesRest limits (S.incoming rest) (S.incoming result.1) (outcome_found result.0) }
+{
+    let (answer, rest) = first_difference_from(alloc, first, rest, limits, info);
+    match answer {
+        Ok(found) => (Ok(found), rest),
+        Err(misread) => {
+            let outcome = outcome_in(misread.which, limits.bytes(), misread.fault);
+            (Err(outcome), rest)
+        }
+    }
+}
+
+/// Compares the first bytes of a source, so many, with the rest, to say where they first differ.
+fn compare_where<S: Source>(
+    alloc: Global,
+    first: u64,
+    mut source: S,
+    limits: Limits,
+    info: Info,
+) -> (Result<Option<Difference>, Outcome>, S)
+    ensures taken { Takes (TaskValue.Where first limits info) (S.incoming source) (S.incoming result.1) (outcome_found result.0) }
+    ensures found { FindsWhere (TaskValue.Where first limits info) (S.incoming source).to_come result.0 }
+{
+    let most = first.min(limits.bytes() + 1);
+    match take_first(alloc, &mut source, most) {
+        Ok(bytes) => compare_where_with(alloc, &bytes, source, limits, info),
+        Err(fault) => (Err(outcome_of(limits.bytes(), fault)), source),
+    }
+}
+
 /// Judges a source.
 fn judge<S: Source>(alloc: Global, source: S, limits: Limits) -> (Outcome, S)
     ensures { Judges (TaskValue.Check limits) (S.incoming source) (S.incoming result.1) result.0 }
@@ -192,6 +234,47 @@ fn perform_same<S: Source, K: Sink>(
     (outcome, source, sink)
 }
 
+/// Says that two inputs differ, and where.
+fn tell_difference<K: Sink>(alloc: Global, difference: &Difference, sink: &mut K) -> Outcome
+    ensures { TellsDifference (difference_text (difference_shown difference.now)) (K.outgoing sink.old) result (K.outgoing sink.new) }
+{
+    match text_of(alloc, difference) {
+        Ok(text) => tell(Outcome::Different, text.as_bytes(), sink),
+        Err(AllocError) => Outcome::Memory,
+    }
+}
+
+/// Says what two inputs were found to be.
+fn tell_found<K: Sink>(
+    alloc: Global,
+    found: Result<Option<Difference>, Outcome>,
+    sink: &mut K,
+) -> Outcome
+    ensures { TellsFound found (K.outgoing sink.old) result (K.outgoing sink.new) }
+{
+    match found {
+        Ok(None) => tell(Outcome::Done, b"same\n", sink),
+        Ok(Some(difference)) => tell_difference(alloc, &difference, sink),
+        Err(outcome) => outcome,
+    }
+}
+
+/// Compares the first bytes of the input, so many, with the rest, and says where they first differ.
+fn perform_where<S: Source, K: Sink>(
+    alloc: Global,
+    first: u64,
+    limits: Limits,
+    info: Info,
+    source: S,
+    mut sink: K,
+) -> (Outcome, S, K)
+    ensures { Does (TaskValue.Where first limits info) (S.incoming source) (S.incoming result.1) (K.outgoing sink) (K.outgoing result.2) result.0 }
+{
+    let (found, source) = compare_where(alloc, first, source, limits, info);
+    let outcome = tell_found(alloc, found, &mut sink);
+    (outcome, source, sink)
+}
+
 /// Writes the report of the input's analysis.
 fn perform_analyse<S: Source, K: Sink>(
     alloc: Global,
@@ -244,6 +327,11 @@ fn carry_out<S: Source, K: Sink>(alloc: Global, task: Task, source: S, sink: K) 
             limits,
             info,
         } => perform_same(alloc, first, limits, info, source, sink),
+        Task::Where {
+            first,
+            limits,
+            info,
+        } => perform_where(alloc, first, limits, info, source, sink),
         Task::Analyse { limits } => perform_analyse(alloc, limits, source, sink),
         Task::Show { limits } => perform_show(alloc, limits, source, sink),
         Task::Events { limits, values } => perform_events(alloc, limits, values, source, sink),

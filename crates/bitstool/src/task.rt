@@ -22,6 +22,12 @@ pub enum Task {
         limits: Limits,
         info: Info,
     },
+    /// The same, and say where they first differ.
+    Where {
+        first: u64,
+        limits: Limits,
+        info: Info,
+    },
     /// Report what the input adds up to.
     Analyse {
         limits: Limits,

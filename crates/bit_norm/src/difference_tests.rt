@@ -1,0 +1,158 @@
+//! Where two inputs first differ.
+
+use crate::fault_tests::agrees;
+use crate::input_tests::bytes_of;
+use crate::{Difference, Info, Place, Standing, ValueDifference, first_difference};
+use bit_fields::{Limits, SliceSource};
+use std::alloc::{AllocError, Global};
+use std::process::Abort;
+
+/// The text of a difference: its place, what stands there in each input behind the bit where that begins, and the first value
+/// that differs.
+fn text_of(
+    alloc: Global,
+    place: &Place,
+    first: Standing,
+    second: Standing,
+    value: Option<ValueDifference>,
+) -> Result<String, AllocError> {
+    format!(in alloc;
+        "{place:?}: {} {:?}; {} {:?}; {value:?}",
+        first.bit, first.what, second.bit, second.what
+    )
+}
+
+/// The text of what is answered.
+fn text_there(alloc: Global, answer: &Option<Difference>) -> Result<String, AllocError> {
+    match answer {
+        Some(told) => text_of(alloc, &told.place, told.first, told.second, told.value),
+        None => "none".to_string(alloc),
+    }
+}
+
+/// The text of what is to be answered of the same inputs the other way round.
+fn text_back(alloc: Global, answer: &Option<Difference>) -> Result<String, AllocError> {
+    match answer {
+        Some(told) => {
+            let value = exchanged(told.value);
+            text_of(alloc, &told.place, told.second, told.first, value)
+        }
+        None => "none".to_string(alloc),
+    }
+}
+
+/// The same value, where the inputs are the other way round.
+fn exchanged(value: Option<ValueDifference>) -> Option<ValueDifference> {
+    let told = value?;
+    Some(ValueDifference {
+        index: told.index,
+        first: told.second,
+        second: told.first,
+    })
+}
+
+/// Where two inputs first differ.
+fn difference_of(
+    rt: &impl Abort,
+    alloc: Global,
+    a: &[u8],
+    b: &[u8],
+    info: Info,
+) -> Option<Difference> {
+    let (a, b) = (SliceSource::new(a), SliceSource::new(b));
+    let (answer, _, _) = first_difference(alloc, a, b, Limits::usual(), info);
+    answer.expect(rt, "inputs that are accepted")
+}
+
+/// This is told of two inputs, and the same the other way round.
+fn is_told(rt: &impl Abort, alloc: Global, a: &[u8], b: &[u8], info: Info, wanted: &str) {
+    let there = difference_of(rt, alloc, a, b, info);
+    agrees(rt, text_there(alloc, &there), wanted, "there");
+    let back = difference_of(rt, alloc, b, a, info);
+    agrees(rt, text_back(alloc, &back), wanted, "back");
+}
+
+/// The same of two inputs that are spelled.
+fn is_text_told(rt: &impl Abort, alloc: Global, a: &str, b: &str, info: Info, wanted: &str) {
+    let a = bytes_of(alloc, a).expect(rt, "memory");
+    let b = bytes_of(alloc, b).expect(rt, "memory");
+    is_told(rt, alloc, &a, &b, info, wanted);
+}
+
+/// The same of a line with two inputs and what is told of them, with a '=' between each. Answers whether it has them.
+fn is_line_told(rt: &impl Abort, alloc: Global, line: &str, info: Info) -> bool {
+    let Some((a, rest)) = line.split_once('=') else {
+        return false;
+    };
+    let Some((b, wanted)) = rest.split_once('=') else {
+        return false;
+    };
+    is_text_told(rt, alloc, a, b, info, wanted);
+    true
+}
+
+/// The same of each line. There are so many.
+fn are_told(rt: &impl Abort, alloc: Global, lines: &str, info: Info, wanted: usize) {
+    let mut count: usize = 0;
+    for line in lines.lines() {
+        if is_line_told(rt, alloc, line, info) {
+            count = count.saturating_add(1);
+        }
+    }
+    assert!(rt; count == wanted);
+}
+
+/// Pairs of inputs, and what is told of them where all is kept.
+static KEPT: &str = "\
+    M E T = M E T =none\n\
+    M = 44 49 41 47 =Magic: 0 Magic([66, 67, 192, 222]); 0 Magic([68, 73, 65, 71]); None\n\
+    M E = DE C0 17 0B 00 00 00 00 14 00 00 00 04 00 00 00 00 00 00 00 44 49 41 47 \
+        =Magic: 0 Magic([66, 67, 192, 222]); 160 Magic([68, 73, 65, 71]); None\n\
+    M E = M =Item { open: [], items: 0 }: 32 Block(8); 32 End; None\n\
+    M E = DE C0 17 0B 00 00 00 00 14 00 00 00 04 00 00 00 00 00 00 00 M \
+        =Item { open: [], items: 0 }: 32 Block(8); 192 End; None\n\
+    M T E = M T =Item { open: [], items: 1 }: 128 Block(8); 128 End; None\n\
+    M 25 08 00 00 01 00 00 00 00 00 00 00 = M E =Item { open: [], items: 0 }: 32 Block(9); 32 Block(8); None\n\
+    M E T = M E H \
+        =Item { open: [OpenBlock { id: 8, items: 1 }], items: 0 }: \
+        192 Record { code: 1, count: 1 }; 192 Record { code: 1, count: 1 }; Some(ValueDifference { index: 0, first: 30, second: 100 })\n\
+    M T = M 21 08 00 00 01 00 00 00 0B 81 07 00 \
+        =Item { open: [OpenBlock { id: 8, items: 0 }], items: 0 }: \
+        96 Record { code: 1, count: 1 }; 96 Record { code: 2, count: 1 }; None\n\
+    M T = M 21 08 00 00 01 00 00 00 07 00 00 00 \
+        =Item { open: [OpenBlock { id: 8, items: 0 }], items: 0 }: \
+        96 Record { code: 1, count: 1 }; 96 Record { code: 1, count: 0 }; None\n\
+    M T = M E =Item { open: [OpenBlock { id: 8, items: 0 }], items: 0 }: 96 Record { code: 1, count: 1 }; 96 End; None\n\
+    M 21 08 00 00 02 00 00 00 07 81 77 10 78 00 00 00 = M T \
+        =Item { open: [OpenBlock { id: 8, items: 0 }], items: 1 }: 116 Record { code: 1, count: 1 }; 116 End; None\n\
+    M T \
+        = DE C0 17 0B 00 00 00 00 14 00 00 00 1C 00 00 00 00 00 00 00 M 21 08 00 00 04 00 00 00 25 08 00 00 01 00 00 00 00 00 00 00 00 00 00 00 \
+        =Item { open: [OpenBlock { id: 8, items: 0 }], items: 0 }: \
+        96 Record { code: 1, count: 1 }; 256 Block(9); None\n\
+    M 21 08 00 00 07 00 00 00 25 08 00 00 04 00 00 00 29 08 00 00 01 00 00 00 07 81 07 00 00 00 00 00 00 00 00 00 \
+        = M 21 08 00 00 07 00 00 00 25 08 00 00 04 00 00 00 29 08 00 00 01 00 00 00 07 01 39 00 00 00 00 00 00 00 00 00 \
+        =Item { open: [OpenBlock { id: 8, items: 0 }, OpenBlock { id: 9, items: 0 }, OpenBlock { id: 10, items: 0 }], items: 0 }: \
+        224 Record { code: 1, count: 1 }; 224 Record { code: 1, count: 1 }; Some(ValueDifference { index: 0, first: 30, second: 100 })\n\
+    M 21 08 00 00 07 00 00 00 25 08 00 00 04 00 00 00 29 08 00 00 01 00 00 00 07 81 07 00 00 00 00 00 00 00 00 00 \
+        = M 21 08 00 00 07 00 00 00 25 08 00 00 04 00 00 00 29 08 00 00 01 00 00 00 00 00 00 00 00 00 00 00 00 00 00 00 \
+        =Item { open: [OpenBlock { id: 8, items: 0 }, OpenBlock { id: 9, items: 0 }, OpenBlock { id: 10, items: 0 }], items: 0 }: \
+        224 Record { code: 1, count: 1 }; 224 End; None";
+
+#[test]
+fn differences_are_found(rt: HostRuntime) {
+    are_told(&rt, rt.alloc(), KEPT, Info::Keep, 15);
+}
+
+/// The same where BLOCKINFO blocks are left out.
+static WITHOUT_INFO: &str = "\
+    M E D = M E H =none\n\
+    M D = M =Item { open: [], items: 0 }: 160 Block(8); 32 End; None\n\
+    M D T = M D E \
+        =Item { open: [OpenBlock { id: 8, items: 1 }], items: 0 }: 320 Record { code: 1, count: 1 }; 320 End; None\n\
+    M E 01 08 00 00 02 00 00 00 07 01 A2 18 20 07 00 00 = M E E \
+        =Item { open: [], items: 1 }: 128 End; 128 Block(8); None";
+
+#[test]
+fn what_is_left_out_counts_nowhere(rt: HostRuntime) {
+    are_told(&rt, rt.alloc(), WITHOUT_INFO, Info::Drop, 4);
+}

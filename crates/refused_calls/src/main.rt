@@ -1,0 +1,49 @@
+//! Asks calls of the libraries that take memory, each named by a letter on standard input, and writes how each of them ended.
+//! `tests/refused_memory` refuses it each request for memory.
+#![tactic(auto)]
+
+mod definitions;
+mod ending;
+mod inputs;
+mod streams;
+mod trees;
+
+use crate::ending::Ending;
+use std::io::Read;
+use std::process::ExitCode;
+
+/// Asks the call with this letter; none has another letter.
+fn ask(rt: &HostRuntime, letter: u8) -> Ending {
+    match letter {
+        b'c' | b'd' | b'a' => streams::ask(rt.alloc(), letter),
+        b'i' => definitions::define(rt.alloc()),
+        b'e' => streams::next(rt),
+        b'r' => trees::read(rt),
+        b't' => trees::tree_of(rt),
+        b'w' => trees::tree_with(rt),
+        b'n' => trees::document(rt.alloc()),
+        _ => Ending::Wrong,
+    }
+}
+
+/// Asks the calls that are named, each by a letter, and writes how each ended; answers the status of the worst.
+fn ask_all(rt: &HostRuntime, letters: &[u8]) -> u8 {
+    let mut worst = 0;
+    for letter in letters {
+        if *letter != b'\n' {
+            let ending = ask(rt, *letter);
+            let written = println!(rt; "{}", ending.told()).is_ok();
+            worst = worst.max(if written { ending.status() } else { 4 });
+        }
+    }
+    worst
+}
+
+/// The status is 0 where all calls answered, 3 where memory was refused and all is as promised, and else 4.
+fn main(rt: HostRuntime) -> ExitCode {
+    let mut letters = [0; 64];
+    match rt.stdin().read(&mut letters) {
+        Ok(count) => ExitCode::from(ask_all(&rt, &letters[..count])),
+        Err(_) => ExitCode::from(4),
+    }
+}
