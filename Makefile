@@ -1,10 +1,10 @@
 # make              builds the program to one file, which needs nothing of the toolchain: crates/bitstool/out/bitstool
 # make run < FILE   writes the normal form of a file; make run WORDS="check" < FILE gives the program these words
 # make lib          proves the C library and builds it: capi/out/libbitstream.a and libbitstream.so
-# make install      puts the program, the C library, its header and its pkg-config file below PREFIX
+# make install      puts the program, its man page and completions, the C library, its header and its pkg-config file below PREFIX
 # make bench        the program beside other tools; bench/tool says on which files
 # make test         the gate: every proof from nothing, the edits that must be refused, and the tests; then make ask-program
-# make ask-program  the scripts of tests/ alone, which ask the built program; README.md tells what they do
+# make ask-program  the scripts of tests/ alone, which ask the built program and the C library
 PREFIX ?= /usr/local
 JOBS ?= $(shell nproc)
 PROGRAM := crates/bitstool/out/bitstool
@@ -67,6 +67,10 @@ run: $(PROGRAM)
 
 install: $(PROGRAM) lib
 	install -D $(PROGRAM) $(DESTDIR)$(PREFIX)/bin/bitstool
+	install -D -m 644 man/bitstool.1 $(DESTDIR)$(PREFIX)/share/man/man1/bitstool.1
+	install -D -m 644 completions/bitstool.bash $(DESTDIR)$(PREFIX)/share/bash-completion/completions/bitstool
+	install -D -m 644 completions/_bitstool $(DESTDIR)$(PREFIX)/share/zsh/site-functions/_bitstool
+	install -D -m 644 completions/bitstool.fish $(DESTDIR)$(PREFIX)/share/fish/vendor_completions.d/bitstool.fish
 	install -D -m 644 capi/bitstream.h $(DESTDIR)$(PREFIX)/include/bitstream.h
 	install -D -m 644 capi/out/libbitstream.a $(DESTDIR)$(PREFIX)/lib/libbitstream.a
 	install -D capi/out/libbitstream.so $(DESTDIR)$(PREFIX)/lib/libbitstream.so.$(C_VERSION)

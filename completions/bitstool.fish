@@ -1,0 +1,20 @@
+# Completion of bitstool's words for fish.
+set -l commands check normal same analyse show events
+set -l some "__fish_seen_subcommand_from"
+complete -c bitstool -f
+complete -c bitstool -n "not $some $commands" -a check -d "Whether the input spells a tree of blocks and records"
+complete -c bitstool -n "not $some $commands" -a normal -d "The normal form of the input"
+complete -c bitstool -n "not $some $commands" -a same -d "Compare two inputs that stand one behind the other"
+complete -c bitstool -n "not $some $commands" -a analyse -d "What the input adds up to"
+complete -c bitstool -n "not $some $commands" -a show -d "The tree of the input"
+complete -c bitstool -n "not $some $commands" -a events -d "What the input says as it is read"
+complete -c bitstool -n "not $some $commands" -l version -d "Print the version"
+complete -c bitstool -s h -l help -d "Print help"
+complete -c bitstool -n "$some $commands" -l bytes -x -d "The most bytes of an input, and of a normal form"
+complete -c bitstool -n "$some $commands" -l depth -x -d "How deep blocks may stand in one another"
+complete -c bitstool -n "$some $commands" -l values -x -d "The most values of all records"
+complete -c bitstool -n "$some $commands" -l shapes-at-use -d "Judge the shape of a definition where a record uses it"
+complete -c bitstool -n "$some normal same" -l drop-info -d "Leave out the BLOCKINFO blocks"
+complete -c bitstool -n "$some same" -l first -x -d "How many bytes the first input has"
+complete -c bitstool -n "$some same" -l where -d "Tell where they first differ"
+complete -c bitstool -n "$some events" -l no-values -d "Leave out the values of records"
