@@ -1,6 +1,6 @@
 ghost use Rattle.std.specs.Prelude.{Some};
 
-use crate::{Analysis, analyse, write_show};
+use crate::{Analysis, analyse, push_magic, write_show};
 use bit_fields::{Fault, Limits, Reason, Sink, SinkFailed, SliceSource, VecSink};
 use std::alloc::{AllocError, Global};
 use std::process::Abort;
@@ -306,4 +306,18 @@ fn into_vectors(rt: HostRuntime) -> Result<(), Fail> {
             Ok(())
         }
     }
+}
+
+/// The text of a magic behind what was there.
+fn magic_behind(alloc: Global, front: &str) -> Result<String, AllocError> {
+    let mut text = String::from_str(alloc, front)?;
+    push_magic(&mut text, [0, 0xff, 9, 0x10])?;
+    Ok(text)
+}
+
+#[test]
+fn texts_of_magics(rt: HostRuntime) -> Result<(), Fail> {
+    let text = magic_behind(rt.alloc(), "at ")?;
+    assert!(rt; text.as_str() == "at magic 00ff0910");
+    Ok(())
 }
