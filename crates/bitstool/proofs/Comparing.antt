@@ -5,7 +5,7 @@ use Rattle.std.specs.Io.KnownBytes.{Consumes, IsAtEnd}
 use Rattle.std.proofs.lemmas.List.{append-nil, take_all, take_at, drop_at, take-take}
 use Rattle.std.proofs.Math.ListN.{drop_of_length-le}
 use Rattle.std.proofs.lemmas.Bool.{cases_lt}
-use Rattle.bit_grammar.specs.declared.info.Info.{Info}
+use Rattle.bit_grammar.specs.Setting.{Setting}
 use Rattle.bit_grammar.specs.Bits.{bits_of_bytes}
 use Rattle.bit_grammar.specs.Grammar.{Fault, at}
 use Rattle.bit_grammar.specs.Blocks.{Limits}
@@ -23,6 +23,8 @@ use Rattle.bitstool.specs.declared.outcome.Outcome.{Outcome}
 use Rattle.bitstool.specs.declared.outcome.Outcome.TheVariants.{Done, Different, Refused, RefusedOf, TooLong, Usage, Read, Write, Memory}
 use Rattle.bitstool.specs.declared.task.Task.TheVariants.{Same}
 use Rattle.bitstool.specs.Performing.{ComparesWith, Finds, Judges, TakesFirst, TakesRest, outcome_in, outcome_of}
+use Rattle.bitstool.specs.declared.task.LeftOut.{LeftOut}
+use Rattle.bitstool.specs.LeftOut.{setting_for}
 use Rattle.bitstool.specs.Runs.{IsDrained, Takes, Told}
 use Rattle.bitstool.proofs.Taking.{drained, fails_later, spends_more, spends_none, spends_then}
 use Rattle.bitstool.proofs.Known.{if_told}
@@ -34,21 +36,21 @@ known_first : (i : Incoming) (first : List ℕ) (P : List ℕ → Type 0) → i.
 known_first i first P is h = subst (λ (o : Told). (IsSome o → P (known_bytes o)) → P first) (sym is) (λ of_first. of_first refl) h
 
 -- one was not read
-pub found_fault : (info : Info) (limits : Limits) (first : List ℕ) (i j now later : Incoming) (which : Which) (why : code.Fault) → i.to_come ≡ Some first → Misreads info limits which why i j now later → ComparesWith info limits first j.to_come (outcome_in which limits.bytes why)
-found_fault info limits first i j now later First (fault.Refused reason bit) is h = known_first i first (λ bytes. BreaksInput limits bytes (at reason bit)) is h.0.1
-found_fault info limits first i j now later Second (fault.Refused reason bit) is h =
-    let has : HasTree info limits first h.0 = known_first i first (λ bytes. HasTree info limits bytes h.0) is (λ tells. (h.1.1 tells).0.0) in
+pub found_fault : (setting : Setting) (limits : Limits) (first : List ℕ) (i j now later : Incoming) (which : Which) (why : code.Fault) → i.to_come ≡ Some first → Misreads setting limits which why i j now later → ComparesWith setting limits first j.to_come (outcome_in which limits.bytes why)
+found_fault setting limits first i j now later First (fault.Refused reason bit) is h = known_first i first (λ bytes. BreaksInput limits bytes (at reason bit)) is h.0.1
+found_fault setting limits first i j now later Second (fault.Refused reason bit) is h =
+    let has : HasTree setting limits first h.0 = known_first i first (λ bytes. HasTree setting limits bytes h.0) is (λ tells. (h.1.1 tells).0.0) in
     ((has.0, has.1), if_told j.to_come (λ bytes. BreaksInput limits bytes (at reason bit)) h.2.1)
-found_fault info limits first i j now later First fault.Read is h = tt
-found_fault info limits first i j now later Second fault.Read is h = tt
-found_fault info limits first i j now later First fault.Memory is h = tt
-found_fault info limits first i j now later Second fault.Memory is h = tt
-found_fault info limits first i j now later First fault.Write is h = absurd h.0
-found_fault info limits first i j now later Second fault.Write is h = absurd h.2
-found_fault info limits first i j now later First fault.OutputTooLong is h = absurd h.0
-found_fault info limits first i j now later Second fault.OutputTooLong is h = absurd h.2
-found_fault info limits first i j now later First fault.Failed is h = absurd h.0
-found_fault info limits first i j now later Second fault.Failed is h = absurd h.2
+found_fault setting limits first i j now later First fault.Read is h = tt
+found_fault setting limits first i j now later Second fault.Read is h = tt
+found_fault setting limits first i j now later First fault.Memory is h = tt
+found_fault setting limits first i j now later Second fault.Memory is h = tt
+found_fault setting limits first i j now later First fault.Write is h = absurd h.0
+found_fault setting limits first i j now later Second fault.Write is h = absurd h.2
+found_fault setting limits first i j now later First fault.OutputTooLong is h = absurd h.0
+found_fault setting limits first i j now later Second fault.OutputTooLong is h = absurd h.2
+found_fault setting limits first i j now later First fault.Failed is h = absurd h.0
+found_fault setting limits first i j now later Second fault.Failed is h = absurd h.2
 
 -- ---- what was taken of the second input
 
@@ -64,20 +66,20 @@ never_fails limits i now capped fresh slice spent (inr worn) = absurd (omega (ar
 none_spent : (limits : Limits) (j later : Incoming) → later ≡ j → Spent limits j later
 none_spent limits j later same = subst (λ (n : Incoming). Spent limits j n) (sym same) (spends_none j (limits.bytes + 1))
 
-pub rest_misread : (info : Info) (limits : Limits) (i j now later : Incoming) (which : Which) (why : code.Fault) → limits.bytes < 2 ^ 60 → i.pulls ≡ 0 → IsSlice now
-    → Misreads info limits which why i j now later → TakesRest limits j later (outcome_in which limits.bytes why)
-rest_misread info limits i j now later First (fault.Refused reason bit) capped fresh slice h = h.1
-rest_misread info limits i j now later Second (fault.Refused reason bit) capped fresh slice h = (h.2.0, tt)
-rest_misread info limits i j now later First fault.Read capped fresh slice h = absurd (never_fails limits i now capped fresh slice h.0.0 h.0.1)
-rest_misread info limits i j now later Second fault.Read capped fresh slice h = h.2
-rest_misread info limits i j now later First fault.Memory capped fresh slice h = (none_spent limits j later h.1, tt)
-rest_misread info limits i j now later Second fault.Memory capped fresh slice h = (h.2, tt)
-rest_misread info limits i j now later First fault.Write capped fresh slice h = absurd h.0
-rest_misread info limits i j now later Second fault.Write capped fresh slice h = absurd h.2
-rest_misread info limits i j now later First fault.OutputTooLong capped fresh slice h = absurd h.0
-rest_misread info limits i j now later Second fault.OutputTooLong capped fresh slice h = absurd h.2
-rest_misread info limits i j now later First fault.Failed capped fresh slice h = absurd h.0
-rest_misread info limits i j now later Second fault.Failed capped fresh slice h = absurd h.2
+pub rest_misread : (setting : Setting) (limits : Limits) (i j now later : Incoming) (which : Which) (why : code.Fault) → limits.bytes < 2 ^ 60 → i.pulls ≡ 0 → IsSlice now
+    → Misreads setting limits which why i j now later → TakesRest limits j later (outcome_in which limits.bytes why)
+rest_misread setting limits i j now later First (fault.Refused reason bit) capped fresh slice h = h.1
+rest_misread setting limits i j now later Second (fault.Refused reason bit) capped fresh slice h = (h.2.0, tt)
+rest_misread setting limits i j now later First fault.Read capped fresh slice h = absurd (never_fails limits i now capped fresh slice h.0.0 h.0.1)
+rest_misread setting limits i j now later Second fault.Read capped fresh slice h = h.2
+rest_misread setting limits i j now later First fault.Memory capped fresh slice h = (none_spent limits j later h.1, tt)
+rest_misread setting limits i j now later Second fault.Memory capped fresh slice h = (h.2, tt)
+rest_misread setting limits i j now later First fault.Write capped fresh slice h = absurd h.0
+rest_misread setting limits i j now later Second fault.Write capped fresh slice h = absurd h.2
+rest_misread setting limits i j now later First fault.OutputTooLong capped fresh slice h = absurd h.0
+rest_misread setting limits i j now later Second fault.OutputTooLong capped fresh slice h = absurd h.2
+rest_misread setting limits i j now later First fault.Failed capped fresh slice h = absurd h.0
+rest_misread setting limits i j now later Second fault.Failed capped fresh slice h = absurd h.2
 
 drained_then : (i mid later : Incoming) (most : ℕ) → Spends i most mid 0 → IsDrained mid later → IsDrained i later
 drained_then i mid later most h all = drained i later (λ t. (left (h.tells t)).0) (λ t. (left (h.tells t)).1)
@@ -90,13 +92,13 @@ drained_then i mid later most h all = drained i later (λ t. (left (h.tells t)).
         go (Some bytes) told all = rw all (refl, refl)
 
 -- what was taken of both
-pub both_taken : (info : Info) (limits : Limits) (first count : ℕ) (i mid later : Incoming) (outcome : Outcome) → count ≡ min first (limits.bytes + 1) → Spends i count mid 0 → TakesRest limits mid later outcome → Takes (Same first limits info) i later outcome
-both_taken info limits first count i mid later outcome counted h rest = go outcome rest
+pub both_taken : (left : LeftOut) (limits : Limits) (first count : ℕ) (i mid later : Incoming) (outcome : Outcome) → count ≡ min first (limits.bytes + 1) → Spends i count mid 0 → TakesRest limits mid later outcome → Takes (Same first limits left) i later outcome
+both_taken left limits first count i mid later outcome counted h rest = go outcome rest
   where
     both : Spent limits mid later → Spends i (min first (limits.bytes + 1) + (limits.bytes + 1)) later 0
     both k = subst (λ (n : ℕ). Spends i (n + (limits.bytes + 1)) later 0) counted (spends_then i mid later count (limits.bytes + 1) h k)
 
-    go : (o : Outcome) → TakesRest limits mid later o → Takes (Same first limits info) i later o
+    go : (o : Outcome) → TakesRest limits mid later o → Takes (Same first limits left) i later o
     go (RefusedOf First reason bit) r = (subst (λ (n : Incoming). Spends i (min first (limits.bytes + 1)) n 0) (sym r) (subst (λ (n : ℕ). Spends i n mid 0) counted h), tt)
     go (RefusedOf Second reason bit) r = (both r.0, tt)
     go Done r = (both r.0, drained_then i mid later count h r.1)
@@ -150,60 +152,60 @@ taken limits first count input bytes rest counted is few ended =
     ]
 
 -- what was found of the bytes that were taken and of the rest is so of the first bytes and the others
-of_whole : (info : Info) (limits : Limits) (first : ℕ) (input bytes rest : List ℕ) (outcome : Outcome) → bytes ≡ take first input → rest ≡ drop first input → ComparesWith info limits bytes (Some rest) outcome → Finds (Same first limits info) (Some input) outcome
-of_whole info limits first input bytes rest Done is left h = (bits_of_bytes (codes "same\n"), (refl, (h.0, rw (← is) h.1, rw (← left) h.2)))
-of_whole info limits first input bytes rest Different is left h = (bits_of_bytes (codes "different\n"), (refl, (h.0, h.1, rw (← is) h.2, rw (← left) h.3, h.4)))
-of_whole info limits first input bytes rest (RefusedOf First reason bit) is left h = rw (← is) h
-of_whole info limits first input bytes rest (RefusedOf Second reason bit) is left h = (rw (← is) h.0, rw (← left) h.1)
-of_whole info limits first input bytes rest Read is left h = tt
-of_whole info limits first input bytes rest Memory is left h = tt
-of_whole info limits first input bytes rest (Refused reason bit) is left h = absurd h
-of_whole info limits first input bytes rest (TooLong limit) is left h = absurd h
-of_whole info limits first input bytes rest Usage is left h = absurd h
-of_whole info limits first input bytes rest Write is left h = absurd h
+of_whole : (left : LeftOut) (limits : Limits) (first : ℕ) (input bytes rest : List ℕ) (outcome : Outcome) → bytes ≡ take first input → rest ≡ drop first input → ComparesWith (setting_for left) limits bytes (Some rest) outcome → Finds (Same first limits left) (Some input) outcome
+of_whole left limits first input bytes rest Done is left h = (bits_of_bytes (codes "same\n"), (refl, (h.0, rw (← is) h.1, rw (← left) h.2)))
+of_whole left limits first input bytes rest Different is left h = (bits_of_bytes (codes "different\n"), (refl, (h.0, h.1, rw (← is) h.2, rw (← left) h.3, h.4)))
+of_whole left limits first input bytes rest (RefusedOf First reason bit) is left h = rw (← is) h
+of_whole left limits first input bytes rest (RefusedOf Second reason bit) is left h = (rw (← is) h.0, rw (← left) h.1)
+of_whole left limits first input bytes rest Read is left h = tt
+of_whole left limits first input bytes rest Memory is left h = tt
+of_whole left limits first input bytes rest (Refused reason bit) is left h = absurd h
+of_whole left limits first input bytes rest (TooLong limit) is left h = absurd h
+of_whole left limits first input bytes rest Usage is left h = absurd h
+of_whole left limits first input bytes rest Write is left h = absurd h
 
-of_past : (info : Info) (limits : Limits) (first : ℕ) (input bytes rest : List ℕ) (outcome : Outcome) → limits.bytes < length bytes → limits.bytes < length (take first input) → take limits.bytes bytes ≡ take limits.bytes (take first input)
-    → ComparesWith info limits bytes (Some rest) outcome → Finds (Same first limits info) (Some input) outcome
-of_past info limits first input bytes rest Done long also same h = absurd (omega (arith, h.1.1.fits))
-of_past info limits first input bytes rest Different long also same h = absurd (omega (arith, h.2.1.fits))
-of_past info limits first input bytes rest (RefusedOf First reason bit) long also same h = breaks_alike limits bytes (take first input) (at reason bit) long also same h
-of_past info limits first input bytes rest (RefusedOf Second reason bit) long also same h = absurd (omega (arith, h.0.1.fits))
-of_past info limits first input bytes rest Read long also same h = tt
-of_past info limits first input bytes rest Memory long also same h = tt
-of_past info limits first input bytes rest (Refused reason bit) long also same h = absurd h
-of_past info limits first input bytes rest (TooLong limit) long also same h = absurd h
-of_past info limits first input bytes rest Usage long also same h = absurd h
-of_past info limits first input bytes rest Write long also same h = absurd h
+of_past : (left : LeftOut) (limits : Limits) (first : ℕ) (input bytes rest : List ℕ) (outcome : Outcome) → limits.bytes < length bytes → limits.bytes < length (take first input) → take limits.bytes bytes ≡ take limits.bytes (take first input)
+    → ComparesWith (setting_for left) limits bytes (Some rest) outcome → Finds (Same first limits left) (Some input) outcome
+of_past left limits first input bytes rest Done long also same h = absurd (omega (arith, h.1.1.fits))
+of_past left limits first input bytes rest Different long also same h = absurd (omega (arith, h.2.1.fits))
+of_past left limits first input bytes rest (RefusedOf First reason bit) long also same h = breaks_alike limits bytes (take first input) (at reason bit) long also same h
+of_past left limits first input bytes rest (RefusedOf Second reason bit) long also same h = absurd (omega (arith, h.0.1.fits))
+of_past left limits first input bytes rest Read long also same h = tt
+of_past left limits first input bytes rest Memory long also same h = tt
+of_past left limits first input bytes rest (Refused reason bit) long also same h = absurd h
+of_past left limits first input bytes rest (TooLong limit) long also same h = absurd h
+of_past left limits first input bytes rest Usage long also same h = absurd h
+of_past left limits first input bytes rest Write long also same h = absurd h
 
 -- nothing is said of an input that does not tell its bytes
-of_none : (info : Info) (limits : Limits) (first : ℕ) (bytes : List ℕ) (rest : Told) (outcome : Outcome) → ComparesWith info limits bytes rest outcome → Finds (Same first limits info) None outcome
-of_none info limits first bytes rest Done h = (bits_of_bytes (codes "same\n"), (refl, tt))
-of_none info limits first bytes rest Different h = (bits_of_bytes (codes "different\n"), (refl, tt))
-of_none info limits first bytes rest (RefusedOf First reason bit) h = tt
-of_none info limits first bytes rest (RefusedOf Second reason bit) h = tt
-of_none info limits first bytes rest Read h = tt
-of_none info limits first bytes rest Memory h = tt
-of_none info limits first bytes rest (Refused reason bit) h = absurd h
-of_none info limits first bytes rest (TooLong limit) h = absurd h
-of_none info limits first bytes rest Usage h = absurd h
-of_none info limits first bytes rest Write h = absurd h
+of_none : (left : LeftOut) (limits : Limits) (first : ℕ) (bytes : List ℕ) (rest : Told) (outcome : Outcome) → ComparesWith (setting_for left) limits bytes rest outcome → Finds (Same first limits left) None outcome
+of_none left limits first bytes rest Done h = (bits_of_bytes (codes "same\n"), (refl, tt))
+of_none left limits first bytes rest Different h = (bits_of_bytes (codes "different\n"), (refl, tt))
+of_none left limits first bytes rest (RefusedOf First reason bit) h = tt
+of_none left limits first bytes rest (RefusedOf Second reason bit) h = tt
+of_none left limits first bytes rest Read h = tt
+of_none left limits first bytes rest Memory h = tt
+of_none left limits first bytes rest (Refused reason bit) h = absurd h
+of_none left limits first bytes rest (TooLong limit) h = absurd h
+of_none left limits first bytes rest Usage h = absurd h
+of_none left limits first bytes rest Write h = absurd h
 
 -- the comparison of what was taken is that of the first bytes and the others
-pub compared : (info : Info) (limits : Limits) (first count : ℕ) (told left : Told) (bytes : List ℕ) (outcome : Outcome) → count ≡ min first (limits.bytes + 1)
-    → Consumes told left bytes → length bytes ≤ count → (length bytes < count → IsAtEnd left) → ComparesWith info limits bytes left outcome → Finds (Same first limits info) told outcome
-compared info limits first count None left bytes outcome counted takes few ended h = of_none info limits first bytes left outcome h
-compared info limits first count (Some input) None bytes outcome counted takes few ended h = absurd takes
-compared info limits first count (Some input) (Some rest) bytes outcome counted takes few ended h = go (taken limits first count input bytes rest counted takes few ended)
+pub compared : (left : LeftOut) (limits : Limits) (first count : ℕ) (told left : Told) (bytes : List ℕ) (outcome : Outcome) → count ≡ min first (limits.bytes + 1)
+    → Consumes told left bytes → length bytes ≤ count → (length bytes < count → IsAtEnd left) → ComparesWith (setting_for left) limits bytes left outcome → Finds (Same first limits left) told outcome
+compared left limits first count None left bytes outcome counted takes few ended h = of_none left limits first bytes left outcome h
+compared left limits first count (Some input) None bytes outcome counted takes few ended h = absurd takes
+compared left limits first count (Some input) (Some rest) bytes outcome counted takes few ended h = go (taken limits first count input bytes rest counted takes few ended)
   where
-    go : Taken limits first input bytes rest → Finds (Same first limits info) (Some input) outcome
-    go (whole is rest_is) = of_whole info limits first input bytes rest outcome is rest_is h
-    go (past long also same) = of_past info limits first input bytes rest outcome long also same h
+    go : Taken limits first input bytes rest → Finds (Same first limits left) (Some input) outcome
+    go (whole is rest_is) = of_whole left limits first input bytes rest outcome is rest_is h
+    go (past long also same) = of_past left limits first input bytes rest outcome long also same h
 
 -- they were not taken
-pub not_taken : (info : Info) (limits : Limits) (first count : ℕ) (i now : Incoming) (why : code.Fault) → count ≡ min first (limits.bytes + 1) → TakesFirst count i (Err why) now → Judges (Same first limits info) i now (outcome_of limits.bytes why)
-not_taken info limits first count i now fault.Read counted h = ((spends_more i now count _ (omega (arith, counted)) h.0, h.1), tt)
-not_taken info limits first count i now fault.Memory counted h = ((spends_more i now count _ (omega (arith, counted)) h, tt), tt)
-not_taken info limits first count i now fault.Write counted h = absurd h
-not_taken info limits first count i now fault.OutputTooLong counted h = absurd h
-not_taken info limits first count i now fault.Failed counted h = absurd h
-not_taken info limits first count i now (fault.Refused reason bit) counted h = absurd h
+pub not_taken : (left : LeftOut) (limits : Limits) (first count : ℕ) (i now : Incoming) (why : code.Fault) → count ≡ min first (limits.bytes + 1) → TakesFirst count i (Err why) now → Judges (Same first limits left) i now (outcome_of limits.bytes why)
+not_taken left limits first count i now fault.Read counted h = ((spends_more i now count _ (omega (arith, counted)) h.0, h.1), tt)
+not_taken left limits first count i now fault.Memory counted h = ((spends_more i now count _ (omega (arith, counted)) h, tt), tt)
+not_taken left limits first count i now fault.Write counted h = absurd h
+not_taken left limits first count i now fault.OutputTooLong counted h = absurd h
+not_taken left limits first count i now fault.Failed counted h = absurd h
+not_taken left limits first count i now (fault.Refused reason bit) counted h = absurd h

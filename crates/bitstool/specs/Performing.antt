@@ -1,7 +1,7 @@
 -- The steps of carrying out a command.
 use Rattle.std.specs.Prelude.{◌≡◌, ◌≢◌, ◌⊎◌, ⊤, ℕ, ◌<◌, ◌≤◌, Bool, List, length, Result, Ok, Err, IfSome}
 use Rattle.std.specs.Io.KnownBytes.{Consumes, IsAtEnd, Keeps}
-use Rattle.bit_grammar.specs.declared.info.Info.{Info}
+use Rattle.bit_grammar.specs.Setting.{Setting}
 use Rattle.bit_grammar.specs.Grammar.{at}
 use Rattle.bit_grammar.specs.Forest.{Tree}
 use Rattle.bit_grammar.specs.Blocks.{Limits}
@@ -75,14 +75,14 @@ Judges task i now outcome = Takes task i now outcome × Finds task i.to_come out
 
 -- Two inputs were compared, of which the first is known: both have this tree; or they have these two; or one breaks so, the
 -- second after the first was accepted; or the source failed, or no memory.
-abbrev pub ComparesWith : Info → Limits → List ℕ → Told → Outcome → Type 0
-ComparesWith info limits first rest Done = (tree : Tree) × HasTree info limits first tree × IfSome rest (λ bytes. HasTree info limits bytes tree)
-ComparesWith info limits first rest Different = (a : Tree) × (b : Tree) × HasTree info limits first a × IfSome rest (λ bytes. HasTree info limits bytes b) × (a ≢ b)
-ComparesWith info limits first rest (RefusedOf First reason bit) = BreaksInput limits first (at reason bit)
-ComparesWith info limits first rest (RefusedOf Second reason bit) = Accepts limits first × IfSome rest (λ bytes. BreaksInput limits bytes (at reason bit))
-ComparesWith info limits first rest Read = ⊤
-ComparesWith info limits first rest Memory = ⊤
-ComparesWith info limits first rest outcome = ⊥
+abbrev pub ComparesWith : Setting → Limits → List ℕ → Told → Outcome → Type 0
+ComparesWith setting limits first rest Done = (tree : Tree) × HasTree setting limits first tree × IfSome rest (λ bytes. HasTree setting limits bytes tree)
+ComparesWith setting limits first rest Different = (a : Tree) × (b : Tree) × HasTree setting limits first a × IfSome rest (λ bytes. HasTree setting limits bytes b) × (a ≢ b)
+ComparesWith setting limits first rest (RefusedOf First reason bit) = BreaksInput limits first (at reason bit)
+ComparesWith setting limits first rest (RefusedOf Second reason bit) = Accepts limits first × IfSome rest (λ bytes. BreaksInput limits bytes (at reason bit))
+ComparesWith setting limits first rest Read = ⊤
+ComparesWith setting limits first rest Memory = ⊤
+ComparesWith setting limits first rest outcome = ⊥
 
 -- what was taken of the second for that: nothing where the first is refused
 abbrev pub TakesRest : Limits → Incoming → Incoming → Outcome → Type 0

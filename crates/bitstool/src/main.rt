@@ -2,6 +2,7 @@
 #![tactic(auto)]
 
 mod devices;
+mod names;
 mod outcome;
 mod parse;
 mod perform;

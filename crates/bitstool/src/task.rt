@@ -2,10 +2,44 @@
 
 use bit_fields::Limits;
 use bit_scan::Values;
-use bit_tree::Info;
+use bit_tree::{Info, RecordName};
+use std::alloc::Global;
+
+/// What of a tree is left out: the blocks with these ids, and the records with these names.
+#[derive(Debug, PartialEq, Eq, Drop)]
+pub struct LeftOut {
+    pub blocks: Vec<u32>,
+    pub records: Vec<RecordName>,
+}
+
+impl LeftOut {
+    ghost use Rattle.std.specs.Prelude.{◌≡◌};
+    ghost use Rattle.bit_grammar.specs.Setting.{keep, setting_of};
+    ghost use Rattle.bitstool.specs.LeftOut.{setting_for};
+
+    /// Nothing.
+    pub fn nothing(alloc: Global) -> LeftOut
+        ensures { setting_for result ≡ keep }
+    {
+        LeftOut {
+            blocks: Vec::new(alloc),
+            records: Vec::new(alloc),
+        }
+    }
+
+    /// The setting that leaves this out.
+    pub fn info(&self) -> Info<'_>
+        ensures { setting_of result ≡ setting_for self.now }
+    {
+        Info::Without {
+            blocks: &self.blocks,
+            records: &self.records,
+        }
+    }
+}
 
 /// A command, with what it was given.
-#[derive(Clone, Copy, Debug, PartialEq, Eq)]
+#[derive(Debug, PartialEq, Eq, Drop)]
 pub enum Task {
     /// Say whether the input is accepted.
     Check {
@@ -14,13 +48,13 @@ pub enum Task {
     /// Write the normal form of the input.
     Normal {
         limits: Limits,
-        info: Info,
+        left: LeftOut,
     },
     /// Compare the first bytes of the input, so many, with the rest.
     Same {
         first: u64,
         limits: Limits,
-        info: Info,
+        left: LeftOut,
     },
     /// Report what the input adds up to.
     Analyse {
@@ -29,6 +63,7 @@ pub enum Task {
     /// List the blocks and records of the input.
     Show {
         limits: Limits,
+        left: LeftOut,
     },
     /// List the events of the input as they are read.
     Events {
