@@ -2,6 +2,7 @@
 use Rattle.std.proofs.Common.{◌≡◌, ℕ, List, Result, Err, Some, refl, sym, subst}
 use Rattle.std.specs.Prelude.{Option}
 use Rattle.bit_grammar.specs.declared.info.Info.{Info}
+use Rattle.bit_grammar.specs.Setting.{keep, setting_of}
 use Rattle.bit_grammar.specs.Grammar.{at}
 use Rattle.bit_grammar.specs.Blocks as blocks
 use Rattle.bit_grammar.specs.Input.{BreaksInput}
@@ -20,9 +21,9 @@ use Rattle.bit_c.specs.Handing.{Makes}
 use Rattle.bit_c.proofs.Inputs.{known}
 
 by_fault : (info : Info) (limits : blocks.Limits) (i now : Incoming) (bytes : List ℕ) (old new : Outgoing) (why : Fault) (text : Option (List ℕ)) → i.to_come ≡ Some bytes
-    → Normalises info limits i old (Err why) now new → Makes (IsText (Form info) limits bytes) (FailsText (Form info) limits bytes) (ended_by 0 why) text
+    → Normalises (setting_of info) limits i old (Err why) now new → Makes (IsText (Form info) limits bytes) (FailsText (Form info) limits bytes) (ended_by 0 why) text
 by_fault info limits i now bytes old new (fault.Refused reason bit) text is h = (refl, known i.to_come bytes (λ b. BreaksInput limits b (at reason bit)) is h.0.1)
-by_fault info limits i now bytes old new fault.OutputTooLong text is h = (h.0, known i.to_come bytes (λ b. HasTree info limits b h.0) is (λ tells. (h.1.1 tells).0.0), h.2.0)
+by_fault info limits i now bytes old new fault.OutputTooLong text is h = (h.0, known i.to_come bytes (λ b. HasTree (setting_of info) limits b h.0) is (λ tells. (h.1.1 tells).0.0), h.2.0)
 by_fault info limits i now bytes old new fault.Write text is h = tt
 by_fault info limits i now bytes old new fault.Read text is h = tt
 by_fault info limits i now bytes old new fault.Memory text is h = tt
@@ -30,10 +31,10 @@ by_fault info limits i now bytes old new fault.Failed text is h = absurd h
 
 -- no form was made
 pub not_made : (info : Info) (limits : blocks.Limits) (i now : Incoming) (bytes : List ℕ) (old new : Outgoing) (answer : Result ℕ Fault) (why : Fault) (outcome : Outcome) (text : Option (List ℕ))
-    → i.to_come ≡ Some bytes → answer ≡ Err why → outcome ≡ ended_by 0 why → Normalises info limits i old answer now new → Makes (IsText (Form info) limits bytes) (FailsText (Form info) limits bytes) outcome text
+    → i.to_come ≡ Some bytes → answer ≡ Err why → outcome ≡ ended_by 0 why → Normalises (setting_of info) limits i old answer now new → Makes (IsText (Form info) limits bytes) (FailsText (Form info) limits bytes) outcome text
 not_made info limits i now bytes old new answer why outcome text is is_err ended h =
     subst (λ (o : Outcome). Makes (IsText (Form info) limits bytes) (FailsText (Form info) limits bytes) o text) (sym ended)
-    (by_fault info limits i now bytes old new why text is (subst (λ (a : Result ℕ Fault). Normalises info limits i old a now new) is_err h))
+    (by_fault info limits i now bytes old new why text is (subst (λ (a : Result ℕ Fault). Normalises (setting_of info) limits i old a now new) is_err h))
 
 -- ---- reports and listings
 
@@ -53,7 +54,7 @@ not_reported limits i now bytes old new answer why outcome text is is_err ended 
     (unreported limits i now bytes old new why text is (subst (λ (a : Result (Unit {0}) Fault). Reports limits i old a now new) is_err h))
 
 unlisted : (limits : blocks.Limits) (i now : Incoming) (bytes : List ℕ) (old new : Outgoing) (why : Fault) (text : Option (List ℕ)) → i.to_come ≡ Some bytes
-    → Shows limits i old (Err why) now new → Makes (IsText Listing limits bytes) (FailsText Listing limits bytes) (ended_by 0 why) text
+    → Shows keep limits i old (Err why) now new → Makes (IsText Listing limits bytes) (FailsText Listing limits bytes) (ended_by 0 why) text
 unlisted limits i now bytes old new (fault.Refused reason bit) text is h = (refl, known i.to_come bytes (λ b. BreaksInput limits b (at reason bit)) is h.0.1)
 unlisted limits i now bytes old new fault.Write text is h = tt
 unlisted limits i now bytes old new fault.Read text is h = tt
@@ -62,7 +63,7 @@ unlisted limits i now bytes old new fault.OutputTooLong text is h = absurd h
 unlisted limits i now bytes old new fault.Failed text is h = absurd h
 
 pub not_listed : (limits : blocks.Limits) (i now : Incoming) (bytes : List ℕ) (old new : Outgoing) (answer : Result (Unit {0}) Fault) (why : Fault) (outcome : Outcome) (text : Option (List ℕ))
-    → i.to_come ≡ Some bytes → answer ≡ Err why → outcome ≡ ended_by 0 why → Shows limits i old answer now new → Makes (IsText Listing limits bytes) (FailsText Listing limits bytes) outcome text
+    → i.to_come ≡ Some bytes → answer ≡ Err why → outcome ≡ ended_by 0 why → Shows keep limits i old answer now new → Makes (IsText Listing limits bytes) (FailsText Listing limits bytes) outcome text
 not_listed limits i now bytes old new answer why outcome text is is_err ended h =
     subst (λ (o : Outcome). Makes (IsText Listing limits bytes) (FailsText Listing limits bytes) o text) (sym ended)
-    (unlisted limits i now bytes old new why text is (subst (λ (a : Result (Unit {0}) Fault). Shows limits i old a now new) is_err h))
+    (unlisted limits i now bytes old new why text is (subst (λ (a : Result (Unit {0}) Fault). Shows keep limits i old a now new) is_err h))

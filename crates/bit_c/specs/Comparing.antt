@@ -1,6 +1,6 @@
 -- Whether two inputs hold the same.
 use Rattle.std.specs.Prelude.{◌≡◌, ◌≢◌, ◌⊎◌, ⊤, ℕ, List}
-use Rattle.bit_grammar.specs.declared.info.Info.{Info}
+use Rattle.bit_grammar.specs.Setting.{Setting}
 use Rattle.bit_grammar.specs.Grammar.{at}
 use Rattle.bit_grammar.specs.Forest.{Tree}
 use Rattle.bit_grammar.specs.Blocks as blocks
@@ -18,9 +18,9 @@ input_of First = 0
 input_of Second = 1
 
 -- Both spell one tree; or two that differ; or the first breaks so; or the second does, and the first is accepted; or no memory.
-abbrev pub Sames : Info → blocks.Limits → List ℕ → List ℕ → Outcome → Type 0
-Sames info limits first second Done = (tree : Tree) × HasTree info limits first tree × HasTree info limits second tree
-Sames info limits first second Different = (a : Tree) × (b : Tree) × HasTree info limits first a × HasTree info limits second b × (a ≢ b)
-Sames info limits first second (Refused input reason bit) = ((input ≡ 0) × BreaksInput limits first (at reason bit)) ⊎ ((input ≡ 1) × Accepts limits first × BreaksInput limits second (at reason bit))
-Sames info limits first second Memory = ⊤
-Sames info limits first second outcome = ⊥
+abbrev pub Sames : Setting → blocks.Limits → List ℕ → List ℕ → Outcome → Type 0
+Sames setting limits first second Done = (tree : Tree) × HasTree setting limits first tree × HasTree setting limits second tree
+Sames setting limits first second Different = (a : Tree) × (b : Tree) × HasTree setting limits first a × HasTree setting limits second b × (a ≢ b)
+Sames setting limits first second (Refused input reason bit) = ((input ≡ 0) × BreaksInput limits first (at reason bit)) ⊎ ((input ≡ 1) × Accepts limits first × BreaksInput limits second (at reason bit))
+Sames setting limits first second Memory = ⊤
+Sames setting limits first second outcome = ⊥

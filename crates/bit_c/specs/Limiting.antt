@@ -20,8 +20,8 @@ abbrev pub limits_told : BsLimits → blocks.Limits
 limits_told l = record { bytes = l.bytes; depth = l.depth; values = l.values; shapes = shapes_told l }
 
 -- the setting
-abbrev pub setting_of : BsLeftOut → Info
-setting_of out = if out.info then Drop else Keep
+abbrev pub info_of : BsLeftOut → Info
+info_of out = if out.info then Drop else Keep
 
 -- A limit is past its cap, and the call said so and left all as it was; or none is, and this holds of how it ended.
 abbrev pub Within : blocks.Limits → (Leaves : Type 0) → (Outcome → Type 0) → Outcome → Type 0

@@ -3,7 +3,8 @@
 ghost use Rattle.std.specs.Prelude.{◌≡◌, ⊤};
 ghost use Rattle.bit_c.specs.Comparing.{Sames, input_of};
 ghost use Rattle.bit_c.specs.Ending.{Ends};
-ghost use Rattle.bit_c.specs.Limiting.{Within, limits_told, setting_of};
+ghost use Rattle.bit_c.specs.Limiting.{Within, limits_told, info_of};
+ghost use Rattle.bit_grammar.specs.Setting.{setting_of};
 
 use crate::left_out::BsLeftOut;
 use crate::limits::BsLimits;
@@ -23,8 +24,8 @@ fn input_of(which: Which) -> u32
 }
 
 /// Compares two inputs.
-fn compare(alloc: Global, first: &[u8], second: &[u8], limits: Limits, info: Info) -> Outcome
-    ensures { Sames info limits first.now second.now result }
+fn compare(alloc: Global, first: &[u8], second: &[u8], limits: Limits, info: Info<'_>) -> Outcome
+    ensures { Sames (setting_of info.entry) limits first.now second.now result }
 {
     let a = SliceSource::new(first);
     let b = SliceSource::new(second);
@@ -44,7 +45,7 @@ fn compare_within(
     limits: &BsLimits,
     left_out: &BsLeftOut,
 ) -> Outcome
-    ensures { let l = limits_told limits.now in Within l ⊤ (Sames (setting_of left_out.now) l first.now second.now) result }
+    ensures { let l = limits_told limits.now in Within l ⊤ (Sames (setting_of (info_of left_out.now)) l first.now second.now) result }
 {
     match limits.told() {
         Some(limits) => compare(alloc, first, second, limits, left_out.setting()),
@@ -62,7 +63,7 @@ pub extern "C" fn bs_same(
     left_out: &BsLeftOut,
     fault: &mut BsFault,
 ) -> u32
-    ensures { let l = limits_told limits.now in Ends result fault.new (Within l ⊤ (Sames (setting_of left_out.now) l first.now second.now)) }
+    ensures { let l = limits_told limits.now in Ends result fault.new (Within l ⊤ (Sames (setting_of (info_of left_out.now)) l first.now second.now)) }
 {
     compare_within(alloc, first, second, limits, left_out).tell(fault)
 }

@@ -3,7 +3,7 @@
 ghost use Rattle.std.specs.Prelude.{◌≡◌, None, Some};
 ghost use Rattle.bit_c.specs.Ending.{Ends};
 ghost use Rattle.bit_c.specs.Holding.{Holds, PutsBehind, TellsText};
-ghost use Rattle.bit_c.specs.Limiting.{Within, limits_told, setting_of};
+ghost use Rattle.bit_c.specs.Limiting.{Within, limits_told, info_of};
 ghost use Rattle.bit_c.specs.Opened.{text_of};
 ghost use Rattle.bit_c.specs.declared.texts.Text.{Text as TextTold};
 
@@ -32,9 +32,9 @@ fn put_behind(alloc: Global, made: VecSink, handle: &mut BsHandle) -> Outcome
 }
 
 /// Makes a text of what bytes hold, and puts it behind a handle that is closed.
-fn hold(alloc: Global, bytes: &[u8], limits: Limits, text: Text, handle: &mut BsHandle) -> Outcome
+fn hold(alloc: Global, bytes: &[u8], limits: Limits, text: Text<'_>, handle: &mut BsHandle) -> Outcome
     requires { handle.old.inner.home ≡ None }
-    ensures { Holds text limits bytes.now handle.new.inner.home result }
+    ensures { Holds text.entry limits bytes.now handle.new.inner.home result }
 {
     let (outcome, made) = make(alloc, bytes, limits, text);
     match outcome {
@@ -48,10 +48,10 @@ fn hold_within(
     alloc: Global,
     bytes: &[u8],
     limits: &BsLimits,
-    text: Text,
+    text: Text<'_>,
     handle: &mut BsHandle,
 ) -> Outcome
-    ensures { let l = limits_told limits.now in let new = handle.new.inner.home in Within l (new ≡ None) (Holds text l bytes.now new) result }
+    ensures { let l = limits_told limits.now in let new = handle.new.inner.home in Within l (new ≡ None) (Holds text.entry l bytes.now new) result }
 {
     let _ = take_out(alloc, handle);
     match limits.told() {
@@ -71,7 +71,7 @@ pub extern "C" fn bs_hold_normal(
     handle: &mut BsHandle,
     fault: &mut BsFault,
 ) -> u32
-    ensures { let l = limits_told limits.now in let new = handle.new.inner.home in let text = TextTold.Form (setting_of left_out.now) in Ends result fault.new (Within l (new ≡ None) (Holds text l bytes.now new)) }
+    ensures { let l = limits_told limits.now in let new = handle.new.inner.home in let text = TextTold.Form (info_of left_out.now) in Ends result fault.new (Within l (new ≡ None) (Holds text l bytes.now new)) }
 {
     let text = Text::Form(left_out.setting());
     hold_within(alloc, bytes, limits, text, handle).tell(fault)

@@ -1,7 +1,7 @@
 //! What of an input is left out.
 
 ghost use Rattle.std.specs.Prelude.{◌≡◌};
-ghost use Rattle.bit_c.specs.Limiting.{setting_of};
+ghost use Rattle.bit_c.specs.Limiting.{info_of};
 
 use bit_norm::Info;
 
@@ -14,8 +14,8 @@ pub struct BsLeftOut {
 }
 
 impl BsLeftOut {
-    pub(crate) fn setting(&self) -> Info
-        ensures { result ≡ setting_of self.now }
+    pub(crate) fn setting(&self) -> Info<'static>
+        ensures { result ≡ info_of self.now }
     {
         if self.info { Info::Drop } else { Info::Keep }
     }

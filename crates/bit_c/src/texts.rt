@@ -2,7 +2,7 @@
 
 ghost use Rattle.bit_c.specs.Ending.{Ends};
 ghost use Rattle.bit_c.specs.Handing.{Leaves, Makes};
-ghost use Rattle.bit_c.specs.Limiting.{Within, limits_told, setting_of};
+ghost use Rattle.bit_c.specs.Limiting.{Within, limits_told, info_of};
 ghost use Rattle.bit_c.specs.Texts.{FailsText, GivesText, IsText};
 ghost use Rattle.bit_c.specs.declared.texts.Text.{Text as TextTold};
 
@@ -17,16 +17,16 @@ use std::alloc::Global;
 
 /// A text of an input.
 #[derive(Clone, Copy)]
-pub(crate) enum Text {
+pub(crate) enum Text<'a> {
     /// The normal form, under a setting.
-    Form(Info),
+    Form(Info<'a>),
     Report,
     Listing,
 }
 
 /// Makes the normal form of what bytes hold.
-fn form_of(alloc: Global, bytes: &[u8], limits: Limits, info: Info) -> (Outcome, VecSink)
-    ensures { let text = TextTold.Form info in Makes (IsText text limits bytes.now) (FailsText text limits bytes.now) result.0 (⟦<VecSink as Sink>⟧.outgoing result.1).bytes }
+fn form_of(alloc: Global, bytes: &[u8], limits: Limits, info: Info<'_>) -> (Outcome, VecSink)
+    ensures { let text = TextTold.Form info.entry in Makes (IsText text limits bytes.now) (FailsText text limits bytes.now) result.0 (⟦<VecSink as Sink>⟧.outgoing result.1).bytes }
 {
     let sink = VecSink::new(alloc);
     let (answer, _, sink) = normalise(alloc, SliceSource::new(bytes), sink, limits, info);
@@ -53,7 +53,7 @@ fn listing_of(alloc: Global, bytes: &[u8], limits: Limits) -> (Outcome, VecSink)
     ensures { let text = TextTold.Listing in Makes (IsText text limits bytes.now) (FailsText text limits bytes.now) result.0 (⟦<VecSink as Sink>⟧.outgoing result.1).bytes }
 {
     let sink = VecSink::new(alloc);
-    let (answer, _, sink) = write_show(alloc, SliceSource::new(bytes), sink, limits);
+    let (answer, _, sink) = write_show(alloc, SliceSource::new(bytes), sink, limits, Info::Keep);
     match answer {
         Ok(()) => (Outcome::Done, sink),
         Err(fault) => (Outcome::of(0, fault), sink),
@@ -61,8 +61,8 @@ fn listing_of(alloc: Global, bytes: &[u8], limits: Limits) -> (Outcome, VecSink)
 }
 
 /// Makes a text of what bytes hold.
-pub(crate) fn make(alloc: Global, bytes: &[u8], limits: Limits, text: Text) -> (Outcome, VecSink)
-    ensures { Makes (IsText text limits bytes.now) (FailsText text limits bytes.now) result.0 (⟦<VecSink as Sink>⟧.outgoing result.1).bytes }
+pub(crate) fn make(alloc: Global, bytes: &[u8], limits: Limits, text: Text<'_>) -> (Outcome, VecSink)
+    ensures { Makes (IsText text.entry limits bytes.now) (FailsText text.entry limits bytes.now) result.0 (⟦<VecSink as Sink>⟧.outgoing result.1).bytes }
 {
     match text {
         Text::Form(info) => form_of(alloc, bytes, limits, info),
@@ -76,11 +76,11 @@ fn give(
     alloc: Global,
     bytes: &[u8],
     limits: Limits,
-    text: Text,
+    text: Text<'_>,
     room: &mut [u8],
     needed: &mut usize,
 ) -> Outcome
-    ensures { GivesText text limits bytes.now room.old needed.new room.new result }
+    ensures { GivesText text.entry limits bytes.now room.old needed.new room.new result }
 {
     let (outcome, made) = make(alloc, bytes, limits, text);
     hand(outcome, &made, room, needed)
@@ -91,11 +91,11 @@ fn give_within(
     alloc: Global,
     bytes: &[u8],
     limits: &BsLimits,
-    text: Text,
+    text: Text<'_>,
     room: &mut [u8],
     needed: &mut usize,
 ) -> Outcome
-    ensures { let l = limits_told limits.now in Within l (Leaves room.old needed.new room.new) (GivesText text l bytes.now room.old needed.new room.new) result }
+    ensures { let l = limits_told limits.now in Within l (Leaves room.old needed.new room.new) (GivesText text.entry l bytes.now room.old needed.new room.new) result }
 {
     match limits.told() {
         Some(limits) => give(alloc, bytes, limits, text, room, needed),
@@ -118,7 +118,7 @@ pub extern "C" fn bs_normal(
     needed: &mut usize,
     fault: &mut BsFault,
 ) -> u32
-    ensures { let l = limits_told limits.now in let text = TextTold.Form (setting_of left_out.now) in Ends result fault.new (Within l (Leaves room.old needed.new room.new) (GivesText text l bytes.now room.old needed.new room.new)) }
+    ensures { let l = limits_told limits.now in let text = TextTold.Form (info_of left_out.now) in Ends result fault.new (Within l (Leaves room.old needed.new room.new) (GivesText text l bytes.now room.old needed.new room.new)) }
 {
     let text = Text::Form(left_out.setting());
     give_within(alloc, bytes, limits, text, room, needed).tell(fault)

@@ -9,3 +9,4 @@ pub mod WholeInputs
 pub mod Folds
 pub mod Runs
 pub mod Kept
+pub mod Standings

@@ -8,3 +8,4 @@ pub mod Reading
 pub mod Gathering
 pub mod Folding
 pub mod Runs
+pub mod Standing

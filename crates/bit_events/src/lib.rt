@@ -14,6 +14,7 @@ mod gatherer;
 mod head;
 mod heads;
 mod machine;
+mod open_blocks;
 mod running;
 
 pub use checking::{check, check_keeping};
@@ -21,3 +22,4 @@ pub use event::Event;
 pub use events::Events;
 pub use folding::{Folded, fold};
 pub use gatherer::Gatherer;
+pub use open_blocks::OpenBlocks;

@@ -6,7 +6,6 @@ use Rattle.std.proofs.lemmas.Bool.{ltb-true, eqb-false, not-true}
 use Rattle.bit_grammar.specs.declared.shapes.Shapes.{Shapes}
 use Rattle.bit_grammar.specs.declared.op.Op.{Op}
 use Rattle.bit_grammar.specs.declared.op.Op.TheVariants.{Literal, Fixed, Vbr, Array, Char6, Blob}
-use Rattle.bit_grammar.specs.declared.info.Info.TheVariants.{Keep}
 use Rattle.bit_grammar.specs.Bits.{number, bits_of_bytes}
 use Rattle.bit_grammar.specs.Grammar.{Grammar, Round, one_more, last, repeat, Rounds, Spells}
 use Rattle.bit_grammar.specs.Fields.{fixed, vbr, character, byte}
@@ -160,11 +159,11 @@ BodyFit info f = FitForest f × InfoFit info f
 
 -- put before fit items, the item makes fit items
 abbrev Adds : Option BlockInfo → Item → Option BlockInfo → Type 0
-Adds info x info' = (ms : Marks) → BodyFit info' (forest_of Keep ms) → BodyFit info (forest_of Keep (item_then x ms))
+Adds info x info' = (ms : Marks) → BodyFit info' (forest_of ms) → BodyFit info (forest_of (item_then x ms))
 
 -- a block, put before others
 abbrev Holds : Item → Type 0
-Holds x = (ms : Marks) → (FitForest (forest_of Keep ms) → FitForest (forest_of Keep (item_then x ms))) × (AreBlocks (forest_of Keep ms) → AreBlocks (forest_of Keep (item_then x ms)))
+Holds x = (ms : Marks) → (FitForest (forest_of ms) → FitForest (forest_of (item_then x ms))) × (AreBlocks (forest_of ms) → AreBlocks (forest_of (item_then x ms)))
 
 abbrev RoundFit : Scope → Round Scope Item (ℕ × Handed) → Type 0
 RoundFit scope (one_more x t) = LawfulScope t × Adds scope.info x t.info
@@ -212,7 +211,7 @@ nested_adds (Some info) x ok holds ms fit = absurd cc
 
 defined_adds : (info : Option BlockInfo) (ops : List Op) (scope : Scope) → scope.info ≡ info → (mark : DefinitionMark) → Adds scope.info (definition_item mark) (defined info ops scope).info
 defined_adds None ops scope e mark ms fit = fit
-defined_adds (Some info) ops scope e mark ms fit = subst (λ (i : Option BlockInfo). BodyFit i (forest_of Keep ms)) (sym e) fit
+defined_adds (Some info) ops scope e mark ms fit = subst (λ (i : Option BlockInfo). BodyFit i (forest_of ms)) (sym e) fit
 
 abbrev BlockFit : Shapes → (limit depth : ℕ) → Type 0
 BlockFit shapes limit depth = (first : ℕ) (handed : Handed) (p : ℕ) (s : List Bool) (v : Item × Handed) → IsLawfulTable handed.table → Spells (block shapes depth limit first handed) p s v → IsLawfulTable v.1.table × Holds v.0
@@ -239,12 +238,12 @@ after_fit shapes limit depth inner h first scope id p s x ok (inr (other, inr (o
     let small = entry_64 limit first id scope _ m.0 m.2 ok m.4 in
     let f = describe_fit scope.info first m.2 _ d.0 d.2 d.4 in
     let is = r.5.1 ∙ ap (λ (y : RecordMark × Scope). one_more (record_item y.0) y.1) d.5.1 in
-    subst (RoundFit scope) (sym is) (record { definitions = ok.definitions; info = f.lawful ok.info; table = ok.table }, λ ms fit. f.adds (forest_of Keep ms) small fit)
+    subst (RoundFit scope) (sym is) (record { definitions = ok.definitions; info = f.lawful ok.info; table = ok.table }, λ ms fit. f.adds (forest_of ms) small fit)
 
 -- ---- bodies and blocks
 
 body_fit : (shapes : Shapes) (limit depth : ℕ) → BlockFit shapes limit depth → (h : BlockHead) (xs : List Item) (scope : Scope) (p : ℕ) (s : List Bool) (e : ℕ × Handed) → LawfulScope scope
-    → Rounds (λ scope p s x. Spells (item shapes (block shapes depth limit) h limit scope) p s x) xs scope p s e → IsLawfulTable e.1.table × BodyFit scope.info (forest_of Keep (marks_of xs))
+    → Rounds (λ scope p s x. Spells (item shapes (block shapes depth limit) h limit scope) p s x) xs scope p s e → IsLawfulTable e.1.table × BodyFit scope.info (forest_of (marks_of xs))
 unfolding item
 body_fit shapes limit depth inner h [] scope p s e ok k = (after_fit shapes limit depth inner h k.2 scope k.5.2 _ k.5.1 (last e) ok k.5.5, (tt, nothing_fit scope.info))
 body_fit shapes limit depth inner h (x ∷ xs) scope p s e ok k =
@@ -267,7 +266,7 @@ block_fit shapes limit zero first handed p s v ok k = absurd k
 block_fit shapes limit (suc depth) first handed p s v ok k =
     let m = k.5 in
     let g = body_fit shapes limit depth (block_fit shapes limit depth) k.2 m.2.0 (enter k.2.id handed) _ m.0 m.2.1 (record { definitions = ok k.2.id; info = info_lawful k.2.id; table = ok }) m.4 in
-    let inner = forest_of Keep (marks_of m.2.0) in
+    let inner = forest_of (marks_of m.2.0) in
     let below = head_below _ k.0 k.2 k.4 in
     subst (λ (w : Item × Handed). IsLawfulTable w.1.table × Holds w.0) (sym m.5.1)
     (g.0, λ ms. (λ fit. (below, (λ e. subst (λ (n : ℕ). InfoFit (info_for n) inner) e g.1.1), g.1.0, fit), λ blocks. blocks))
@@ -275,7 +274,7 @@ block_fit shapes limit (suc depth) first handed p s v ok k =
 -- ---- the input
 
 things_fit : (limits : Limits) (xs : List Item) (handed : Handed) (p : ℕ) (r : List Bool) (after : ℕ) → IsLawfulTable handed.table → Things (λ handed p s x. Spells (top_block limits handed) p s x) xs handed p r after
-    → FitForest (forest_of Keep (marks_of xs)) × AreBlocks (forest_of Keep (marks_of xs))
+    → FitForest (forest_of (marks_of xs)) × AreBlocks (forest_of (marks_of xs))
 unfolding top_block
 things_fit limits [] handed p r after ok k = (tt, tt)
 things_fit limits (x ∷ xs) handed p r after ok k =
@@ -286,21 +285,21 @@ things_fit limits (x ∷ xs) handed p r after ok k =
     (holds.0 g.0, holds.1 g.1)
 
 -- the depth and the number of values of the tree are those of the marks
-pub depth_kept : (m : Marks) → forest_depth (forest_of Keep m) ≡ depth_in m
+pub depth_kept : (m : Marks) → forest_depth (forest_of m) ≡ depth_in m
 depth_kept no_marks = refl
 depth_kept (marked_block mark inner rest) = rw (depth_kept inner, depth_kept rest) refl
 depth_kept (marked_record mark rest) = depth_kept rest
 depth_kept (marked_definition mark rest) = depth_kept rest
 
-pub values_kept : (m : Marks) → forest_values (forest_of Keep m) ≡ values_in m
+pub values_kept : (m : Marks) → forest_values (forest_of m) ≡ values_in m
 values_kept no_marks = refl
 values_kept (marked_block mark inner rest) = rw (values_kept inner, values_kept rest) refl
 values_kept (marked_record mark rest) = ap (λ (n : ℕ). length mark.values + n) (values_kept rest)
 values_kept (marked_definition mark rest) = values_kept rest
 
 record StreamFit (m : Marked) : Type 0 where
-  blocks : AreBlocks (forest_of Keep m.blocks)
-  fit : FitForest (forest_of Keep m.blocks)
+  blocks : AreBlocks (forest_of m.blocks)
+  fit : FitForest (forest_of m.blocks)
 
 stream_fit : (limits : Limits) (head : Head) (p : ℕ) (r : List Bool) (m : Marked) → SpellsAll (stream limits head) p r m → StreamFit m × (m.head ≡ head)
 unfolding stream top_blocks
@@ -337,7 +336,7 @@ input_fit limits p r m (front, others, magic, parts, spelled, inr k) =
     let same = ap (λ (h : Head). h.magic) f.1 in
     record { magic = subst (λ (n : ℕ). n < 2 ^ 32) (sym same) (fixed_below 32 p front magic spelled); bare = subst (λ (n : ℕ). n ≢ wrapper_magic) (sym same) (is_bare magic k.0); stream = f.0 }
 
-pub fit_of_spelled : (limits : Limits) (bytes : List ℕ) (m : Marked) → Capped limits → SpellsInput limits bytes m → Fit (tree_of Keep m)
+pub fit_of_spelled : (limits : Limits) (bytes : List ℕ) (m : Marked) → Capped limits → SpellsInput limits bytes m → Fit (tree_of m)
 fit_of_spelled limits bytes m capped h =
     let f = input_fit limits 0 (bits_of_bytes bytes) m h.spelled in
     let within = (limits_judged limits limits bytes m h).0 h in

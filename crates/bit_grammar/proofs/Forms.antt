@@ -2,8 +2,8 @@
 use Rattle.std.proofs.Common.{◌≡◌, ℕ, ◌+◌, ◌*◌, ◌<◌, ◌≤◌, List, [], ◌∷◌, length, sym, ap, ◌∙◌, arith}
 use Rattle.std.specs.List.{All}
 use Rattle.bit_grammar.specs.declared.shapes.Shapes.TheVariants.{AtDefinition}
-use Rattle.bit_grammar.specs.declared.info.Info.{Info}
-use Rattle.bit_grammar.specs.declared.info.Info.TheVariants.{Keep}
+use Rattle.bit_grammar.specs.Setting.{Setting}
+use Rattle.bit_grammar.specs.Under.{under}
 use Rattle.bit_grammar.specs.Bits.{bits_of_bytes}
 use Rattle.bit_grammar.specs.Forest.{Forest, empty, a_block, a_record, Tree, forest_values, Fit}
 use Rattle.bit_grammar.specs.Blocks.{Limits}
@@ -12,7 +12,7 @@ use Rattle.bit_grammar.specs.Normal.{normal_form, Capped, HasTree}
 use Rattle.bit_grammar.specs.Size.{shortest_length, values_length, record_length, body_at, body_length, end_of, size_of}
 use Rattle.bit_grammar.proofs.Bytes.{bytes_length}
 use Rattle.bit_grammar.proofs.Inputs.{one_tree}
-use Rattle.bit_grammar.proofs.Normals.{form_spelled}
+use Rattle.bit_grammar.proofs.Normals.{IsSpelled, form_spelled}
 use Rattle.bit_grammar.proofs.Sizes.{form_end, form_bytes}
 use Rattle.bit_grammar.proofs.Settings.{fit_of_setting, normal_is_spelled}
 
@@ -38,7 +38,7 @@ items_take (a_record code values rest) p = omega (arith, values_take values, ite
 abbrev widest : Limits
 widest = record { bytes = 17179869180; depth = 255; values = 8 * 17179869180; shapes = AtDefinition }
 
-form_has : (tree : Tree) (bytes : List ℕ) → Fit tree → bits_of_bytes bytes ≡ normal_form tree → length bytes ≤ 17179869180 → HasTree Keep widest bytes tree
+form_has : (tree : Tree) (bytes : List ℕ) → Fit tree → bits_of_bytes bytes ≡ normal_form tree → length bytes ≤ 17179869180 → IsSpelled widest bytes tree
 form_has tree bytes fit is fits =
     form_spelled widest tree bytes (omega arith) (omega arith) fit is fits fit.depth (omega (arith, items_take tree.blocks 32, form_end tree, ap length is, bytes_length bytes, fits))
 
@@ -48,12 +48,12 @@ one_tree_of_form a b fit fit' fits same =
     let within : length f.0 ≤ 17179869180 = omega (arith, f.3, fits) in
     let x = form_has a f.0 fit f.2 within in
     let y = form_has b f.0 fit' (f.2 ∙ same) within in
-    sym x.2 ∙ ap (tree_of Keep) (one_tree widest f.0 x.0 y.0 x.1 y.1) ∙ y.2
+    sym x.2 ∙ ap tree_of (one_tree widest f.0 x.0 y.0 x.1 y.1) ∙ y.2
 
 -- ---- the normal form of an input
 
-pub form_of_input : (info : Info) (limits : Limits) (bytes : List ℕ) (m : Marked) → Capped limits → SpellsInput limits bytes m → size_of (tree_of info m) ≤ limits.bytes
-    → (out : List ℕ) × All (λ b. b < 256) out × (bits_of_bytes out ≡ normal_form (tree_of info m)) × HasTree info limits out (tree_of info m)
-form_of_input info limits bytes m capped h fits =
-    let f = form_bytes (tree_of info m) (fit_of_setting info limits bytes m capped h).blocks in
-    (f.0, f.1, f.2, normal_is_spelled info limits bytes f.0 m capped h f.2 (omega (arith, f.3, fits)))
+pub form_of_input : (s : Setting) (limits : Limits) (bytes : List ℕ) (m : Marked) → Capped limits → SpellsInput limits bytes m → size_of (under s (tree_of m)) ≤ limits.bytes
+    → (out : List ℕ) × All (λ b. b < 256) out × (bits_of_bytes out ≡ normal_form (under s (tree_of m))) × HasTree s limits out (under s (tree_of m))
+form_of_input s limits bytes m capped h fits =
+    let f = form_bytes (under s (tree_of m)) (fit_of_setting s limits bytes m capped h).blocks in
+    (f.0, f.1, f.2, normal_is_spelled s limits bytes f.0 m capped h f.2 (omega (arith, f.3, fits)))

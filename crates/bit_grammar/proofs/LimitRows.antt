@@ -1,7 +1,7 @@
 -- Worked inputs at the limits on bytes, depth and values.
 use Rattle.std.proofs.Common.{ℕ, ◌*◌, ◌≡◌, List, [], ◌∷◌, ◌++◌, length, take, Ok, Err, refl}
 use Rattle.bit_grammar.specs.declared.reason.Reason.TheVariants.{TooDeep, TooLong, TooManyValues, TopLevel, Truncated}
-use Rattle.bit_grammar.specs.declared.info.Info.TheVariants.{Keep}
+use Rattle.bit_grammar.specs.Setting.{keep}
 use Rattle.bit_grammar.specs.Grammar.{at}
 use Rattle.bit_grammar.specs.Fields.{fixed, vbr, char6, align32, byte}
 use Rattle.bit_grammar.specs.Definition.{kind, valued, operand, operands, definition}
@@ -61,8 +61,8 @@ record BytesAndDepth : Type 0 where
   -- an input is read under a limit that its normal form passes
   form_too_long : Accepted (with_bytes 24) literals (a_block 8 (seven_values (seven_values empty)) empty) (hex "4243C0DE 21080000 04000000 0747200C 44611C07 47200C44 611C0000")
   -- in bits: 28 bytes, and 16
-  length_of_form : made_by length (rewritten Keep usual literals) ≡ Ok (8 * 28)
-  length_of_one_value : made_by length (rewritten Keep usual one_value) ≡ Ok (8 * 16)
+  length_of_form : made_by length (rewritten keep usual literals) ≡ Ok (8 * 28)
+  length_of_one_value : made_by length (rewritten keep usual one_value) ≡ Ok (8 * 16)
   bytes_16 : blocks (with_bytes 16) empty_block ≡ Ok (a_block 8 empty empty)
   bytes_15 : blocks (with_bytes 15) empty_block ≡ Err (at TooLong 120)
   bytes_before_newlines : blocks (with_bytes 16) (empty_block ++ hex "0A0A0A0A") ≡ Err (at TooLong 128)

@@ -4,7 +4,6 @@ use Rattle.std.specs.Prelude.{if◌then◌else◌, is_some}
 use Rattle.std.proofs.lemmas.Bool.Decides.{nat_tests}
 use Rattle.std.proofs.lemmas.List.{length-append}
 use Rattle.bit_grammar.specs.declared.shapes.Shapes.{Shapes}
-use Rattle.bit_grammar.specs.declared.info.Info.TheVariants.{Keep}
 use Rattle.bit_grammar.specs.declared.reason.Reason.TheVariants.{Truncated}
 use Rattle.bit_grammar.specs.Bits.{bits_of, bits_of_bytes}
 use Rattle.bit_grammar.specs.Grammar.{at, rounds, Round, one_more, last, Rounds, Spells}
@@ -13,9 +12,11 @@ use Rattle.bit_grammar.specs.Forest.{Forest, empty, a_block, a_record, Tree, for
 use Rattle.bit_grammar.specs.Marks.{BlockMark, Marks, Item, block_item, record_item, item_then, marks_of, forest_of}
 use Rattle.bit_grammar.specs.Blocks.{Limits, no_definitions, BlockInfo, Handed, Scope, enter, leave, BlockHead, describe, nested, item_after, item, block, top_block}
 use Rattle.bit_grammar.specs.Whole.{Things}
-use Rattle.bit_grammar.specs.Input.{is_wrapped, Marked, tree_of, top_blocks, stream, input}
+use Rattle.bit_grammar.specs.Setting.{keep}
+use Rattle.bit_grammar.specs.Input.{is_wrapped, Marked, tree_of, top_blocks, stream, input, SpellsInput}
 use Rattle.bit_grammar.specs.Normal.{Text, chain, put, padding, entry_text, head_text, block_text, end_text, normal, normal_form, Capped, HasTree}
 use Rattle.bit_grammar.proofs.Numbers.{length-bits_of}
+use Rattle.bit_grammar.proofs.Under.{tree_kept}
 use Rattle.bit_grammar.proofs.Items.{item_takes, top_takes}
 use Rattle.bit_grammar.proofs.Inputs.{one_tree}
 use Rattle.bit_grammar.proofs.Bytes.{bytes_length}
@@ -49,7 +50,7 @@ record Made (shapes : Shapes) (limit depth : ℕ) (h : BlockHead) (before : Scop
   items : List Item
   after : Scope
   left : leave after.info after.handed ≡ handed_of total
-  tree : forest_of Keep (marks_of items) ≡ forest
+  tree : forest_of (marks_of items) ≡ forest
   spelled : (e : ℕ × Handed) (tail : List Bool) → ItemSpells shapes limit depth h after (p + length (normal forest p)) tail (last e) → Body shapes limit depth h items before p (normal forest p ++ tail) e
 
 -- no items
@@ -66,7 +67,7 @@ none_made shapes limit depth h scope total p left = record {
 -- an item, and those after it
 step_made : (shapes : Shapes) (limit depth : ℕ) (h : BlockHead) (before between : Scope) (total : ℕ) (x : Item) (front : Text) (whole rest : Forest) (p : ℕ) → 1 ≤ h.width
     → normal whole p ≡ chain front (normal rest) p
-    → ((ms : Marks) → forest_of Keep ms ≡ rest → forest_of Keep (item_then x ms) ≡ whole)
+    → ((ms : Marks) → forest_of ms ≡ rest → forest_of (item_then x ms) ≡ whole)
     → Spelled (item shapes (block shapes depth limit) h limit before) p (front p) (one_more x between)
     → Made shapes limit depth h between total rest (p + length (front p)) → Made shapes limit depth h before total whole p
 step_made shapes limit depth h before between total x front whole rest p wide is tree spelled made = record {
@@ -142,7 +143,7 @@ record BlockMade (shapes : Shapes) (limit depth first used id : ℕ) (inner : Fo
   mark : BlockMark
   marks : Marks
   same : mark.id ≡ id
-  tree : forest_of Keep marks ≡ inner
+  tree : forest_of marks ≡ inner
   spelled : Spelled (block shapes depth limit first (handed_of used)) q (block_text id (body_of inner) q) (block_item mark marks, handed_of (used + forest_values inner))
 
 block_made : (shapes : Shapes) (limit depth first used id : ℕ) (inner : Forest) (q : ℕ) → id < 2 ^ 32 → length (block_text id (body_of inner) q) < 2 ^ 37
@@ -208,7 +209,7 @@ nested_spelled shapes limit depth h used id inner p wide made =
     (other_chosen _ refl (first_chosen _ refl
     (then_last _ (judge_spelled _ _ _ refl (then_last _ made.spelled given)) given))))
 
-same_block : (mark : BlockMark) (marks ms : Marks) (id : ℕ) (inner rest : Forest) → mark.id ≡ id → forest_of Keep marks ≡ inner → forest_of Keep ms ≡ rest → forest_of Keep (item_then (block_item mark marks) ms) ≡ a_block id inner rest
+same_block : (mark : BlockMark) (marks ms : Marks) (id : ℕ) (inner rest : Forest) → mark.id ≡ id → forest_of marks ≡ inner → forest_of ms ≡ rest → forest_of (item_then (block_item mark marks) ms) ≡ a_block id inner rest
 same_block mark marks ms id inner rest a b c = rw (a, b, c) refl
 
 plain_described : (code : ℕ) (values : List ℕ) (first q : ℕ) → Spelled (describe None first (record { code = code; values = values })) q [] None
@@ -251,7 +252,7 @@ top_spelled limits used id inner p made = here_spelled _ (then_spelled _ (fixed_
 
 record TopMade (limits : Limits) (used : ℕ) (forest : Forest) (p after : ℕ) : Type 0 where
   items : List Item
-  tree : forest_of Keep (marks_of items) ≡ forest
+  tree : forest_of (marks_of items) ≡ forest
   spelled : Things (λ handed p s x. Spells (top_block limits handed) p s x) items (handed_of used) p (normal forest p) after
 
 top_made : (limits : Limits) (forest : Forest) (used p after : ℕ) → AreBlocks forest → FitForest forest → forest_depth forest ≤ limits.depth → used + forest_values forest ≤ limits.values → limits.values < 2 ^ 64 → length (normal forest p) < 2 ^ 37
@@ -278,9 +279,13 @@ top_made limits (a_block id inner rest) used p after blocks fits deep room cappe
 not_wrapped : (magic : ℕ) → magic ≢ wrapper_magic → is_wrapped magic ≡ false
 not_wrapped magic h = grind (arith, nat_tests)
 
+-- these bytes spell a marked tree with this tree
+abbrev pub IsSpelled : Limits → List ℕ → Tree → Type 0
+IsSpelled limits bytes tree = (m : Marked) × SpellsInput limits bytes m × (tree_of m ≡ tree)
+
 -- limits within which no length is too great for its field
 pub form_spelled : (limits : Limits) (tree : Tree) (bytes : List ℕ) → limits.bytes ≤ 17179869180 → limits.values < 2 ^ 64 → Fit tree → bits_of_bytes bytes ≡ normal_form tree → length bytes ≤ limits.bytes → forest_depth tree.blocks ≤ limits.depth → forest_values tree.blocks ≤ limits.values
-    → HasTree Keep limits bytes tree
+    → IsSpelled limits bytes tree
 unfolding normal_form input stream top_blocks
 form_spelled limits tree bytes cap cap' fit is fits deep room =
     let magic = bits_of 32 tree.magic in
@@ -298,13 +303,17 @@ form_spelled limits tree bytes cap cap' fit is fits deep room =
       ap (λ (f : Forest). record { magic = tree.magic; blocks = f }) made.tree,
     )
 
+pub whole_spelled : (limits : Limits) (tree : Tree) (bytes : List ℕ) → Capped limits → Fit tree → bits_of_bytes bytes ≡ normal_form tree → length bytes ≤ limits.bytes → forest_depth tree.blocks ≤ limits.depth → forest_values tree.blocks ≤ limits.values
+    → IsSpelled limits bytes tree
+whole_spelled limits tree bytes capped fit is fits deep room = form_spelled limits tree bytes capped.bytes (omega (arith, capped.values)) fit is fits deep room
+
 pub normal_spelled : (limits : Limits) (tree : Tree) (bytes : List ℕ) → Capped limits → Fit tree → bits_of_bytes bytes ≡ normal_form tree → length bytes ≤ limits.bytes → forest_depth tree.blocks ≤ limits.depth → forest_values tree.blocks ≤ limits.values
-    → HasTree Keep limits bytes tree
-normal_spelled limits tree bytes capped fit is fits deep room = form_spelled limits tree bytes capped.bytes (omega (arith, capped.values)) fit is fits deep room
+    → HasTree keep limits bytes tree
+normal_spelled limits tree bytes capped fit is fits deep room = (let x = whole_spelled limits tree bytes capped fit is fits deep room in (x.0, x.1, tree_kept (tree_of x.0) ∙ x.2))
 
 pub one_tree_of_normal : (limits : Limits) (a b : Tree) (bytes : List ℕ) → Capped limits → Fit a → Fit b → bits_of_bytes bytes ≡ normal_form a → bits_of_bytes bytes ≡ normal_form b → length bytes ≤ limits.bytes
     → forest_depth a.blocks ≤ limits.depth → forest_values a.blocks ≤ limits.values → forest_depth b.blocks ≤ limits.depth → forest_values b.blocks ≤ limits.values → a ≡ b
 one_tree_of_normal limits a b bytes capped fit fit' is is' fits deep room deep' room' =
-    let x = normal_spelled limits a bytes capped fit is fits deep room in
-    let y = normal_spelled limits b bytes capped fit' is' fits deep' room' in
-    sym x.2 ∙ ap (tree_of Keep) (one_tree limits bytes x.0 y.0 x.1 y.1) ∙ y.2
+    let x = whole_spelled limits a bytes capped fit is fits deep room in
+    let y = whole_spelled limits b bytes capped fit' is' fits deep' room' in
+    sym x.2 ∙ ap tree_of (one_tree limits bytes x.0 y.0 x.1 y.1) ∙ y.2

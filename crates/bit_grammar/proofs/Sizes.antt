@@ -5,13 +5,12 @@ use Rattle.std.specs.List.{All}
 use Rattle.std.proofs.Math.Nat.{mul-le-mul_left, div-add-mod'}
 use Rattle.std.proofs.lemmas.List.{length-append}
 use Rattle.std.proofs.lemmas.List.Elements.{All-from_recursion}
-use Rattle.bit_grammar.specs.declared.info.Info.{Info}
-use Rattle.bit_grammar.specs.declared.info.Info.TheVariants.{Keep, Drop}
+use Rattle.bit_grammar.specs.Setting.{Setting, keeps, keeps_record}
 use Rattle.bit_grammar.specs.Bits.{bits_of, bits_of_bytes}
 use Rattle.bit_grammar.specs.Fields.{chunk_limit, padding_length}
 use Rattle.bit_grammar.specs.FormatFields.{shortest_payloads, shortest}
 use Rattle.bit_grammar.specs.Forest.{Forest, empty, a_block, a_record, Tree, AreBlocks}
-use Rattle.bit_grammar.specs.Dropped.{dropped, under}
+use Rattle.bit_grammar.specs.Under.{items_under, under}
 use Rattle.bit_grammar.specs.Normal.{chain, put, padding, values_text, entry_text, head_text, block_text, end_text, normal, normal_form}
 use Rattle.bit_grammar.specs.Size.{chunk_count, shortest_length, values_length, record_length, aligned, body_at, end_of, body_length, size_of}
 use Rattle.bit_grammar.proofs.Numbers.{length-bits_of}
@@ -228,19 +227,30 @@ end_more (a_record code values rest) p q le = end_more rest (p + record_length c
 pub end_grows : (f : Forest) (p : ℕ) → p ≤ end_of f p
 end_grows f p = omega (arith, items_end f p)
 
--- without its BLOCKINFO blocks a tree is no larger
-dropped_end : (f : Forest) (p : ℕ) → end_of (dropped f) p ≤ end_of f p
+-- what is left is no larger
+items_end_under : (s : Setting) (around : ℕ) (f : Forest) (p : ℕ) → end_of (items_under s around f) p ≤ end_of f p
 unfolding end_of
-dropped_end empty p = omega arith
-dropped_end (a_block id inner rest) p = go (eqb id 0) (dropped_end inner 0) (λ q. dropped_end rest q)
+items_end_under s around empty p = omega arith
+items_end_under s around (a_block id inner rest) p = go (keeps s id) (items_end_under s id inner 0) (λ q. items_end_under s around rest q)
   where
-    go : (b : Bool) → end_of (dropped inner) 0 ≤ end_of inner 0 → ((q : ℕ) → end_of (dropped rest) q ≤ end_of rest q)
-        → end_of (if b then dropped rest else a_block id (dropped inner) (dropped rest)) p ≤ end_of rest (body_at id p + body_length inner)
-    go true x y = omega (arith, y p, end_more rest p (body_at id p + body_length inner) (omega arith))
-    go false x y = omega (arith, y (body_at id p + body_length (dropped inner)), end_more rest (body_at id p + body_length (dropped inner)) (body_at id p + body_length inner) (omega (arith, aligned_more (end_of (dropped inner) 0 + 2) (end_of inner 0 + 2) (omega (arith, x)))))
-dropped_end (a_record code values rest) p = dropped_end rest (p + record_length code values)
+    inside : Forest
+    inside = items_under s id inner
 
-pub size_under : (info : Info) (tree : Tree) → size_of (under info tree) ≤ size_of tree
+    others : Forest
+    others = items_under s around rest
+
+    go : (b : Bool) → end_of inside 0 ≤ end_of inner 0 → ((q : ℕ) → end_of others q ≤ end_of rest q) → end_of (if b then a_block id inside others else others) p ≤ end_of rest (body_at id p + body_length inner)
+    go true x y = omega (arith, y (body_at id p + body_length inside), end_more rest (body_at id p + body_length inside) (body_at id p + body_length inner) (omega (arith, aligned_more (end_of inside 0 + 2) (end_of inner 0 + 2) (omega (arith, x)))))
+    go false x y = omega (arith, y p, end_more rest p (body_at id p + body_length inner) (omega arith))
+items_end_under s around (a_record code values rest) p = go (keeps_record s around code) (λ q. items_end_under s around rest q)
+  where
+    others : Forest
+    others = items_under s around rest
+
+    go : (b : Bool) → ((q : ℕ) → end_of others q ≤ end_of rest q) → end_of (if b then a_record code values others else others) p ≤ end_of rest (p + record_length code values)
+    go true y = y (p + record_length code values)
+    go false y = omega (arith, y p, end_more rest p (p + record_length code values) (omega arith))
+
+pub size_under : (s : Setting) (tree : Tree) → size_of (under s tree) ≤ size_of tree
 unfolding size_of
-size_under Keep tree = omega arith
-size_under Drop tree = omega (arith, dropped_end tree.blocks 32)
+size_under s tree = omega (arith, items_end_under s 0 tree.blocks 32)

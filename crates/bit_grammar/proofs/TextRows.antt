@@ -3,7 +3,6 @@ use Rattle.std.proofs.Common.{◌≡◌, ℕ, List, [], ◌∷◌, ◌++◌, Res
 use Rattle.std.specs.Prelude.{codes}
 use Rattle.std.specs.Fmt.{digits}
 use Rattle.bit_grammar.specs.declared.reason.Reason.TheVariants.{BlockLength}
-use Rattle.bit_grammar.specs.declared.info.Info.TheVariants.{Keep}
 use Rattle.bit_grammar.specs.Grammar.{Fault, at}
 use Rattle.bit_grammar.specs.Fields.{fixed, vbr, char6, align32, byte}
 use Rattle.bit_grammar.specs.Definition.{kind, valued, operand, operands, definition}
@@ -22,7 +21,7 @@ reported (Err fault) = Err fault
 
 -- the listing of what is read, or the fault
 abbrev listed : Result Marked Fault → Result (List ℕ) Fault
-listed (Ok m) = Ok (listing_of (tree_of Keep m))
+listed (Ok m) = Ok (listing_of (tree_of m))
 listed (Err fault) = Err fault
 
 record Reports : Type 0 where

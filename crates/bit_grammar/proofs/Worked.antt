@@ -1,8 +1,8 @@
 -- What worked inputs are read as, and what they are written as again.
 use Rattle.std.proofs.Common.{◌≡◌, ℕ, Bool, List, Result, Ok}
 use Rattle.bit_grammar.specs.declared.shapes.Shapes.TheVariants.{AtDefinition, AtUse}
-use Rattle.bit_grammar.specs.declared.info.Info.{Info}
-use Rattle.bit_grammar.specs.declared.info.Info.TheVariants.{Keep, Drop}
+use Rattle.bit_grammar.specs.Setting.{Setting, keep}
+use Rattle.bit_grammar.specs.Under.{items_under, under}
 use Rattle.bit_grammar.specs.Bits.{bits_of_bytes}
 use Rattle.bit_grammar.specs.Grammar.{Fault}
 use Rattle.bit_grammar.specs.Forest.{Forest, Tree}
@@ -35,23 +35,23 @@ marks limits bytes = made_by (λ m. m.blocks) (reading_input limits bytes)
 
 -- the blocks, without places and definitions
 abbrev pub blocks : Limits → List ℕ → Result Forest Fault
-blocks limits bytes = made_by (λ m. forest_of Keep m.blocks) (reading_input limits bytes)
+blocks limits bytes = made_by (λ m. forest_of m.blocks) (reading_input limits bytes)
 
--- the same without the BLOCKINFO blocks
-abbrev pub dropped : Limits → List ℕ → Result Forest Fault
-dropped limits bytes = made_by (λ m. forest_of Drop m.blocks) (reading_input limits bytes)
+-- what is left of them
+abbrev pub left : Setting → Limits → List ℕ → Result Forest Fault
+left setting limits bytes = made_by (λ m. items_under setting 0 (forest_of m.blocks)) (reading_input limits bytes)
 
--- the magic and the blocks
-abbrev pub tree : Info → Limits → List ℕ → Result Tree Fault
-tree info limits bytes = made_by (tree_of info) (reading_input limits bytes)
+-- the magic and what is left of the blocks
+abbrev pub tree : Setting → Limits → List ℕ → Result Tree Fault
+tree setting limits bytes = made_by (λ m. under setting (tree_of m)) (reading_input limits bytes)
 
--- the normal form of what bytes are read as, in bits
-abbrev pub rewritten : Info → Limits → List ℕ → Result (List Bool) Fault
-rewritten info limits bytes = made_by (λ m. normal_form (tree_of info m)) (reading_input limits bytes)
+-- the normal form of what is left of what bytes are read as, in bits
+abbrev pub rewritten : Setting → Limits → List ℕ → Result (List Bool) Fault
+rewritten setting limits bytes = made_by (λ m. normal_form (under setting (tree_of m))) (reading_input limits bytes)
 
 -- these bytes are accepted with these blocks, and their normal form is those bytes
 abbrev pub Accepted : Limits → (bytes : List ℕ) → Forest → (normal : List ℕ) → Type 0
-Accepted limits bytes forest normal = (blocks limits bytes ≡ Ok forest) × (rewritten Keep limits bytes ≡ Ok (bits_of_bytes normal))
+Accepted limits bytes forest normal = (blocks limits bytes ≡ Ok forest) × (rewritten keep limits bytes ≡ Ok (bits_of_bytes normal))
 
 -- these bytes are accepted with these blocks, and are their normal form
 abbrev pub IsNormal : Limits → (bytes : List ℕ) → Forest → Type 0

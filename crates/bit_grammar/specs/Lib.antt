@@ -9,7 +9,8 @@ pub mod Record
 pub mod FormatRecord
 pub mod Forest
 pub mod Marks
-pub mod Dropped
+pub mod Setting
+pub mod Under
 pub mod Blocks
 pub mod FormatBlocks
 pub mod Whole

@@ -5,7 +5,8 @@ use Rattle.bit_grammar.specs.Bits.{bits_of}
 use Rattle.bit_grammar.specs.Fields.{padding_length}
 use Rattle.bit_grammar.specs.FormatFields.{shortest}
 use Rattle.bit_grammar.specs.Forest.{Forest, empty, a_block, a_record, Tree}
-use Rattle.bit_grammar.specs.declared.info.Info.{Info}
+use Rattle.bit_grammar.specs.Setting.{Setting}
+use Rattle.bit_grammar.specs.Under.{under}
 use Rattle.bit_grammar.specs.Blocks.{Limits}
 use Rattle.bit_grammar.specs.Input.{Marked, tree_of, SpellsInput}
 
@@ -61,5 +62,5 @@ pub record Capped (limits : Limits) : Type 0 where
   pub values : limits.values ≤ 4294967295
 
 -- these bytes spell a marked tree with this tree under a setting
-abbrev pub HasTree : Info → Limits → List ℕ → Tree → Type 0
-HasTree info limits bytes tree = (m : Marked) × SpellsInput limits bytes m × (tree_of info m ≡ tree)
+abbrev pub HasTree : Setting → Limits → List ℕ → Tree → Type 0
+HasTree setting limits bytes tree = (m : Marked) × SpellsInput limits bytes m × (under setting (tree_of m) ≡ tree)

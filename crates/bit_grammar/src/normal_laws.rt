@@ -5,11 +5,10 @@ ghost use Rattle.bit_grammar.specs.Normal.{normal_form, Capped, HasTree, chain, 
 ghost use Rattle.bit_grammar.specs.Fields.{vbr, chunk_limit};
 ghost use Rattle.bit_grammar.specs.FormatFields.{shortest};
 ghost use Rattle.bit_grammar.specs.Blocks.{Limits, block};
-ghost use Rattle.bit_grammar.specs.declared.info.Info.{Info};
-ghost use Rattle.bit_grammar.specs.declared.info.Info.TheVariants.{Keep};
+ghost use Rattle.bit_grammar.specs.Setting.{Setting, keep};
 ghost use Rattle.bit_grammar.specs.Input.{tree_of, Marked, SpellsInput};
 ghost use Rattle.std.specs.List.{All};
-ghost use Rattle.bit_grammar.specs.Dropped.{under};
+ghost use Rattle.bit_grammar.specs.Under.{under};
 ghost use Rattle.bit_grammar.specs.Size.{shortest_length, end_of, body_length, size_of};
 
 /// The normal form of a fit tree is spelled by a marked tree with that tree, under all limits within their caps that the
@@ -18,7 +17,7 @@ pub fn normal_spelled()
     ensures { (limits : Limits) (tree : Tree) (bytes : List ℕ) → Capped limits → Fit tree
         → bits_of_bytes bytes ≡ normal_form tree → length bytes ≤ limits.bytes
         → forest_depth tree.blocks ≤ limits.depth → forest_values tree.blocks ≤ limits.values
-        → HasTree Keep limits bytes tree }
+        → HasTree keep limits bytes tree }
 {}
 
 /// Fit trees with the same normal form are the same, where the form and the trees keep to common limits within their caps.
@@ -40,29 +39,29 @@ pub fn one_tree_of_form()
 /// it is spelled under the same limits, by the same tree alone, of which it is the normal form again; and inputs whose
 /// normal forms are the same bytes have the same tree.
 pub fn normal_once()
-    ensures spelled { (info : Info) (limits : Limits) (bytes out : List ℕ) (m : Marked) → Capped limits
-        → SpellsInput limits bytes m → bits_of_bytes out ≡ normal_form (tree_of info m)
-        → length out ≤ limits.bytes → HasTree info limits out (tree_of info m) }
-    ensures once { (info : Info) (limits : Limits) (bytes out : List ℕ) (m n : Marked) → Capped limits
-        → SpellsInput limits bytes m → bits_of_bytes out ≡ normal_form (tree_of info m)
-        → length out ≤ limits.bytes → SpellsInput limits out n → tree_of info n ≡ tree_of info m }
-    ensures again { (info : Info) (limits : Limits) (bytes out : List ℕ) (m n : Marked) → Capped limits
-        → SpellsInput limits bytes m → bits_of_bytes out ≡ normal_form (tree_of info m)
+    ensures spelled { (setting : Setting) (limits : Limits) (bytes out : List ℕ) (m : Marked) → Capped limits
+        → SpellsInput limits bytes m → bits_of_bytes out ≡ normal_form (under setting (tree_of m))
+        → length out ≤ limits.bytes → HasTree setting limits out (under setting (tree_of m)) }
+    ensures once { (setting : Setting) (limits : Limits) (bytes out : List ℕ) (m n : Marked) → Capped limits
+        → SpellsInput limits bytes m → bits_of_bytes out ≡ normal_form (under setting (tree_of m))
+        → length out ≤ limits.bytes → SpellsInput limits out n → under setting (tree_of n) ≡ under setting (tree_of m) }
+    ensures again { (setting : Setting) (limits : Limits) (bytes out : List ℕ) (m n : Marked) → Capped limits
+        → SpellsInput limits bytes m → bits_of_bytes out ≡ normal_form (under setting (tree_of m))
         → length out ≤ limits.bytes → SpellsInput limits out n
-        → bits_of_bytes out ≡ normal_form (tree_of info n) }
-    ensures same { (info : Info) (limits : Limits) (bytes bytes' out : List ℕ) (m n : Marked) → Capped limits
+        → bits_of_bytes out ≡ normal_form (under setting (tree_of n)) }
+    ensures same { (setting : Setting) (limits : Limits) (bytes bytes' out : List ℕ) (m n : Marked) → Capped limits
         → SpellsInput limits bytes m → SpellsInput limits bytes' n
-        → bits_of_bytes out ≡ normal_form (tree_of info m) → bits_of_bytes out ≡ normal_form (tree_of info n)
-        → length out ≤ limits.bytes → tree_of info m ≡ tree_of info n }
+        → bits_of_bytes out ≡ normal_form (under setting (tree_of m)) → bits_of_bytes out ≡ normal_form (under setting (tree_of n))
+        → length out ≤ limits.bytes → under setting (tree_of m) ≡ under setting (tree_of n) }
 {}
 
 /// Under each setting and limits within their caps, what an input spells has a normal form where the limit on bytes has room
 /// for it: bytes that spell the tree.
 pub fn form_of_input()
-    ensures { (info : Info) (limits : Limits) (bytes : List ℕ) (m : Marked) → Capped limits
-        → SpellsInput limits bytes m → size_of (tree_of info m) ≤ limits.bytes
-        → (out : List ℕ) × All (λ b. b < 256) out × (bits_of_bytes out ≡ normal_form (tree_of info m))
-        × HasTree info limits out (tree_of info m) }
+    ensures { (setting : Setting) (limits : Limits) (bytes : List ℕ) (m : Marked) → Capped limits
+        → SpellsInput limits bytes m → size_of (under setting (tree_of m)) ≤ limits.bytes
+        → (out : List ℕ) × All (λ b. b < 256) out × (bits_of_bytes out ≡ normal_form (under setting (tree_of m)))
+        × HasTree setting limits out (under setting (tree_of m)) }
 {}
 
 /// The lengths in bits of the shortest VBR, of items, of a block's body and of a whole normal form; of blocks, in bytes.
@@ -88,7 +87,7 @@ pub fn normal_at()
 pub fn size_order()
     ensures grows { (f : Forest) (p : ℕ) → p ≤ end_of f p }
     ensures later { (f : Forest) (p q : ℕ) → p ≤ q → end_of f p ≤ end_of f q }
-    ensures under { (info : Info) (tree : Tree) → size_of (under info tree) ≤ size_of tree }
+    ensures under { (setting : Setting) (tree : Tree) → size_of (under setting tree) ≤ size_of tree }
 {}
 
 /// The normal form of blocks is bytes, as many as its size, which is a multiple of four.

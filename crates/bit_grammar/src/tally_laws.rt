@@ -1,5 +1,6 @@
 ghost use Rattle.std.specs.Prelude.{◌≡◌, ℕ, ◌+◌, List, []};
-ghost use Rattle.bit_grammar.specs.declared.info.Info.TheVariants.{Keep};
+ghost use Rattle.bit_grammar.specs.Setting.{Setting};
+ghost use Rattle.bit_grammar.specs.Under.{items_under, events_under};
 ghost use Rattle.bit_grammar.specs.Marks.{Marks, forest_of};
 ghost use Rattle.bit_grammar.specs.Blocks.{Limits};
 ghost use Rattle.bit_grammar.specs.Input.{Marked, SpellsInput};
@@ -20,5 +21,6 @@ pub fn rows_by_events()
 
 /// The lines of the events of a tree, one after the other, are the lines of its listing.
 pub fn lines_by_events()
-    ensures { (marks : Marks) → events_text 0 (flat marks []) ≡ lines_of 0 (forest_of Keep marks) }
+    ensures { (setting : Setting) (marks : Marks)
+        → events_text 0 (events_under setting [] (flat marks [])) ≡ lines_of 0 (items_under setting 0 (forest_of marks)) }
 {}

@@ -1,8 +1,9 @@
 -- Where two trees first differ: nowhere where they are the same, and else at one place.
-use Rattle.std.proofs.Common.{◌≡◌, ℕ, List, [], ◌∷◌, ◌++◌, refl, sym, ap, ◌∙◌}
-use Rattle.bit_grammar.specs.declared.info.Info.{Info}
+use Rattle.std.proofs.Common.{◌≡◌, List, [], ◌∷◌, ◌++◌, sym, ap, ◌∙◌}
+use Rattle.bit_grammar.specs.Setting.{Setting}
+use Rattle.bit_grammar.specs.Under.{under}
 use Rattle.bit_grammar.specs.Forest.{Tree}
-use Rattle.bit_grammar.specs.Input.{Head, Marked, tree_of}
+use Rattle.bit_grammar.specs.Input.{Marked, tree_of}
 use Rattle.bit_norm.specs.Entries.{Sign, Entry, signs_in, FirstApart, Seen, behind_magic, all_entries, FirstDifference, in_magic, behind}
 use Rattle.bit_norm.proofs.Signs.{signs_in-append, same_signs}
 
@@ -21,7 +22,7 @@ signs_apart a b x y is e =
     is.unlike cc
 
 -- trees that differ somewhere are not the same
-pub never_same : (info : Info) (a b : Marked) (seen : Seen) → FirstDifference info a b seen → tree_of info a ≡ tree_of info b → ⊥
-never_same info a b seen (in_magic unlike is) e = unlike (ap (λ (t : Tree). t.magic) e)
-never_same info a b seen (behind same x y apart is) e =
-    signs_apart (all_entries info a) (all_entries info b) x y apart ((same_signs info (behind_magic a.head) (behind_magic b.head) a.blocks b.blocks).1 (ap (λ (t : Tree). t.blocks) e))
+pub never_same : (s : Setting) (a b : Marked) (seen : Seen) → FirstDifference s a b seen → under s (tree_of a) ≡ under s (tree_of b) → ⊥
+never_same s a b seen (in_magic unlike is) e = unlike (ap (λ (t : Tree). t.magic) e)
+never_same s a b seen (behind same x y apart is) e =
+    signs_apart (all_entries s a) (all_entries s b) x y apart ((same_signs s (behind_magic a.head) (behind_magic b.head) a.blocks b.blocks).1 (ap (λ (t : Tree). t.blocks) e))

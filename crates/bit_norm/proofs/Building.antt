@@ -1,13 +1,16 @@
 -- What a normal form becomes that is being built.
-use Rattle.std.proofs.Common.{◌≡◌, ℕ, zero, suc, ◌+◌, ◌*◌, ◌/◌, ◌%◌, ◌^◌, ◌<◌, ◌≤◌, Bool, true, false, List, [], ◌∷◌, ◌++◌, length, vec_len, replicate, refl, sym, ap, subst, ◌∙◌, arith, append_assoc, length-append}
-use Rattle.std.specs.Prelude.{if◌then◌else◌}
+use Rattle.std.proofs.Common.{◌≡◌, ℕ, suc, ◌+◌, ◌*◌, ◌/◌, ◌%◌, ◌^◌, ◌<◌, ◌≤◌, Bool, true, false, List, [], ◌∷◌, ◌++◌, length, vec_len, replicate, refl, sym, ap, subst, ◌∙◌, arith, append_assoc, length-append}
+use Rattle.std.specs.Prelude.{◌&&◌, Result, Ok, Err, OnOk}
+use Rattle.std.specs.List.{list_all}
 use Rattle.std.proofs.lemmas.List.{append-nil}
-use Rattle.bit_grammar.specs.declared.info.Info.{Info}
+use Rattle.bit_grammar.specs.Setting.{keeps, keeps_record}
+use Rattle.bit_grammar.specs.Under.{ids_after, ids_behind, innermost, is_left}
+use Rattle.bit_grammar.proofs.Under.{ids_behind-push}
 use Rattle.bit_grammar.specs.Bits.{bits_of}
 use Rattle.bit_grammar.specs.FormatFields.{shortest}
 use Rattle.bit_grammar.specs.Forest.{Forest, empty, a_block, a_record}
 use Rattle.bit_grammar.specs.Machine.{Event, Opened, enters, defines, notes, leaves}
-use Rattle.bit_grammar.specs.Marks.{RecordMark, DefinitionMark, keeps}
+use Rattle.bit_grammar.specs.Marks.{RecordMark, DefinitionMark}
 use Rattle.bit_grammar.specs.Normal.{chain, padding, values_text, head_text, block_text, end_text, normal}
 use Rattle.bit_grammar.specs.Size.{end_of}
 use Rattle.bit_grammar.specs.Steps.{open_after}
@@ -15,6 +18,8 @@ use Rattle.bit_grammar.proofs.Numbers.{length-bits_of}
 use Rattle.bit_grammar.proofs.Sizes.{items_end, padding_again, short_length}
 use Rattle.bit_grammar.proofs.Texts.{pad_length}
 use Rattle.bit_events.specs.Gathering.{left_open}
+use Rattle.bit_events.specs.Standing.{Standing}
+use Rattle.bit_events.proofs.Standings.{left_as_many, left_closed, left_push}
 use Rattle.bit_events.proofs.Folds.{open_behind-push}
 use Rattle.bit_grammar.specs.Blocks.{Limits}
 use Rattle.bit_fields.specs.Texts.{with_word}
@@ -22,7 +27,7 @@ use Rattle.bit_fields.proofs.BitLaws.{bits_of-above}
 use Rattle.bit_fields.proofs.Texts.{with_word_between}
 use Rattle.bit_fields.proofs.WriterChunks.{short_spelled}
 use Rattle.bit_norm.specs.Told.{told_at_level}
-use Rattle.bit_norm.specs.Building.{written, begins, closed, completed, form_with, left_out, holes_of, AreWords, Builds, PassesLimit, IsFormOf}
+use Rattle.bit_norm.specs.Building.{written, begins, closed, completed, form_with, holes_of, AreWords, Builds, PassesLimit, Forms, HasForm, record_left, left, IsFormOf}
 use Rattle.bit_norm.specs.Writing.{record_head, record_text, open_text}
 use Rattle.bit_norm.proofs.ChunkCounting.{short_few}
 use Rattle.bit_norm.specs.declared.form_builder.FormBuilder.{FormBuilder}
@@ -143,78 +148,57 @@ zero_more p = omega arith
 
 -- ---- events
 
-module _ (info : Info) (events : List Event) (old new : FormBuilder) (was : Builds info events old) where
+module _ (events : List Event) (text : List Bool) (holes : List ℕ) (was : Builds events text holes) where
   -- an event, before those that follow
-  pub next_whole : (event : Event) (following : List Event) → normal (told_at_level info ((events ++ event ∷ []) ++ following) 0) 32 ≡ form_with was.outer was.inner (left_out (vec_len old.dropped) (told_at_level info (event ∷ following)))
-  next_whole event following = ap (λ (es : List Event). normal (told_at_level info es 0) 32) (append_assoc events (event ∷ []) following) ∙ was.whole (event ∷ following)
-
-  -- where no block is left out
-  pub kept_whole : (event : Event) (following : List Event) → vec_len old.dropped ≡ 0 → normal (told_at_level info ((events ++ event ∷ []) ++ following) 0) 32 ≡ form_with was.outer was.inner (told_at_level info (event ∷ following))
-  kept_whole event following none = next_whole event following ∙ ap (λ (n : ℕ). form_with was.outer was.inner (left_out n (told_at_level info (event ∷ following)))) none
+  pub next_whole : (event : Event) (following : List Event) → normal (told_at_level ((events ++ event ∷ []) ++ following) 0) 32 ≡ form_with was.outer was.inner (told_at_level (event ∷ following))
+  next_whole event following = ap (λ (es : List Event). normal (told_at_level es 0) 32) (append_assoc events (event ∷ []) following) ∙ was.whole (event ∷ following)
 
   -- how many blocks are open
-  pub next_depth : (event : Event) → open_after event (length was.outer + vec_len old.dropped) ≡ left_open (events ++ event ∷ [])
+  next_depth : (event : Event) → open_after event (length was.outer) ≡ left_open (events ++ event ∷ [])
   next_depth event = ap (open_after event) was.depth ∙ sym (open_behind-push events event 0)
 
-  -- an event changes nothing that is held but the blocks that are left out
-  pub same_text : (event : Event) → new.text ≡ old.text → new.holes.items ≡ old.holes.items → length was.outer + vec_len new.dropped ≡ open_after event (length was.outer + vec_len old.dropped)
-      → ((following : List Event) → form_with was.outer was.inner (left_out (vec_len old.dropped) (told_at_level info (event ∷ following))) ≡ form_with was.outer was.inner (left_out (vec_len new.dropped) (told_at_level info following)))
-      → Builds info (events ++ event ∷ []) new
-  same_text event text holes depth same = record {
-    outer = was.outer;
-    inner = was.inner;
-    text = text ∙ was.text;
-    holes = holes ∙ was.holes;
-    words = was.words;
-    top = was.top;
-    whole = λ following. next_whole event following ∙ same following;
-    depth = depth ∙ next_depth event;
-  }
-
   -- the text has so many bits
-  text_length : length old.text ≡ length (written was.outer) + length was.inner
-  text_length = ap length was.text ∙ length-append (written was.outer) was.inner
+  text_length : length text ≡ length (written was.outer) + length was.inner
+  text_length = ap length was.is ∙ length-append (written was.outer) was.inner
 
-  here_is : begins was.outer + length was.inner ≡ 32 + length old.text
+  here_is : begins was.outer + length was.inner ≡ 32 + length text
   here_is = omega (arith, text_length)
 
-  pub builds_record : (mark : RecordMark) → vec_len old.dropped ≡ 0 → vec_len new.dropped ≡ 0 → 0 < left_open events → new.text ≡ old.text ++ record_text mark.code mark.values 0 → new.holes.items ≡ old.holes.items → Builds info (events ++ notes mark ∷ []) new
-  builds_record mark none still some text holes =
+  -- a definition
+  pub builds_definition : (mark : DefinitionMark) → Builds (events ++ defines mark ∷ []) text holes
+  builds_definition mark = record { outer = was.outer; inner = was.inner; is = was.is; places = was.places; words = was.words; top = was.top; whole = next_whole (defines mark); depth = next_depth (defines mark) }
+
+  pub builds_record : (mark : RecordMark) (new : List Bool) → 0 < left_open events → new ≡ text ++ record_text mark.code mark.values 0 → Builds (events ++ notes mark ∷ []) new holes
+  builds_record mark new some adds =
       let t = record_text mark.code mark.values 0 in
       record {
         outer = was.outer;
         inner = was.inner ++ t;
-        text = text ∙ ap (λ (s : List Bool). s ++ t) was.text ∙ append_assoc (written was.outer) was.inner t;
-        holes = holes ∙ was.holes;
+        is = adds ∙ ap (λ (s : List Bool). s ++ t) was.is ∙ append_assoc (written was.outer) was.inner t;
+        places = was.places;
         words = was.words;
-        top = λ outside. absurd (omega (arith, outside, none, some, was.depth));
-        whole = λ following.
-            kept_whole (notes mark) following none
-            ∙ form_record was.outer was.inner mark.code mark.values (told_at_level info following 0) (λ level. told_at_level info following (suc level))
-            ∙ ap (λ (n : ℕ). form_with was.outer (was.inner ++ t) (left_out n (told_at_level info following))) (sym still);
-        depth = omega (arith, next_depth (notes mark), none, still);
+        top = λ outside. absurd (omega (arith, outside, some, was.depth));
+        whole = λ following. next_whole (notes mark) following ∙ form_record was.outer was.inner mark.code mark.values (told_at_level following 0) (λ level. told_at_level following (suc level));
+        depth = next_depth (notes mark);
       }
 
-  pub builds_block : (opened : Opened) → keeps info opened.id ≡ true → vec_len old.dropped ≡ 0 → vec_len new.dropped ≡ 0 → new.text ≡ (old.text ++ open_text opened.id (length old.text)) ++ bits_of 32 0
-      → new.holes.items ≡ old.holes.items ++ (length (old.text ++ open_text opened.id (length old.text)) / 32) ∷ [] → Builds info (events ++ enters opened ∷ []) new
-  builds_block opened kept none still text holes =
-      let head = open_text opened.id (length old.text) in
-      let there : head ≡ open_text opened.id (begins was.outer + length was.inner) = sym (open_again opened.id (length old.text)) ∙ ap (open_text opened.id) (sym here_is) in
-      let before : old.text ++ head ≡ written was.outer ++ (was.inner ++ head) = ap (λ (s : List Bool). s ++ head) was.text ∙ append_assoc (written was.outer) was.inner head in
+  pub builds_block : (opened : Opened) (new : List Bool) (more : List ℕ) → new ≡ (text ++ open_text opened.id (length text)) ++ bits_of 32 0 → more ≡ holes ++ (length (text ++ open_text opened.id (length text)) / 32) ∷ [] → Builds (events ++ enters opened ∷ []) new more
+  builds_block opened new more adds pushes =
+      let head = open_text opened.id (length text) in
+      let there : head ≡ open_text opened.id (begins was.outer + length was.inner) = sym (open_again opened.id (length text)) ∙ ap (open_text opened.id) (sym here_is) in
+      let before : text ++ head ≡ written was.outer ++ (was.inner ++ head) = ap (λ (s : List Bool). s ++ head) was.is ∙ append_assoc (written was.outer) was.inner head in
       record {
         outer = (was.inner ++ head) ∷ was.outer;
         inner = [];
-        text = text ∙ ap (λ (s : List Bool). s ++ bits_of 32 0) before ∙ sym (append-nil ((written was.outer ++ (was.inner ++ head)) ++ bits_of 32 0));
-        holes = holes ∙ ap (λ (ns : List ℕ). ns ++ (length (old.text ++ head) / 32) ∷ []) was.holes ∙ ap (λ (s : List Bool). holes_of was.outer ++ (length s / 32) ∷ []) before;
-        words = (omega (arith, open_ends opened.id (length old.text), ap length before, length-append old.text head), was.words);
+        is = adds ∙ ap (λ (s : List Bool). s ++ bits_of 32 0) before ∙ sym (append-nil ((written was.outer ++ (was.inner ++ head)) ++ bits_of 32 0));
+        places = pushes ∙ ap (λ (ns : List ℕ). ns ++ (length (text ++ head) / 32) ∷ []) was.places ∙ ap (λ (s : List Bool). holes_of was.outer ++ (length s / 32) ∷ []) before;
+        words = (omega (arith, open_ends opened.id (length text), ap length before, length-append text head), was.words);
         top = λ outside. absurd (omega (arith, outside));
         whole = λ following.
-            kept_whole (enters opened) following none
-            ∙ ap (λ (b : Bool). completed was.outer (was.inner ++ normal (if b then a_block opened.id (told_at_level info following 0) (told_at_level info following 1) else told_at_level info following 1) (begins was.outer + length was.inner)) (λ level. told_at_level info following (suc (suc level)))) kept
-            ∙ form_enters was.outer was.inner opened.id (told_at_level info following 0) (told_at_level info following 1) (λ level. told_at_level info following (suc (suc level))) head there
-            ∙ ap (λ (k : ℕ). completed ((was.inner ++ head) ∷ was.outer) (normal (told_at_level info following 0) k) (λ level. told_at_level info following (suc level))) (zero_more (begins ((was.inner ++ head) ∷ was.outer)))
-            ∙ ap (λ (n : ℕ). form_with ((was.inner ++ head) ∷ was.outer) [] (left_out n (told_at_level info following))) (sym still);
-        depth = omega (arith, next_depth (enters opened), none, still);
+            next_whole (enters opened) following
+            ∙ form_enters was.outer was.inner opened.id (told_at_level following 0) (told_at_level following 1) (λ level. told_at_level following (suc (suc level))) head there
+            ∙ ap (λ (k : ℕ). completed ((was.inner ++ head) ∷ was.outer) (normal (told_at_level following 0) k) (λ level. told_at_level following (suc level))) (zero_more (begins ((was.inner ++ head) ∷ was.outer)));
+        depth = next_depth (enters opened);
       }
 
 -- where the innermost block ends, its length is put in its place
@@ -254,166 +238,99 @@ pub record Ending (text : List Bool) (hole : ℕ) : Type 0 where
   pub there : 32 * hole + 32 ≤ length text
   pub counted : 32 * (hole + 1 + words) ≡ length text + length (end_text (length text))
 
-module _ (info : Info) (events : List Event) (old new : FormBuilder) (after hole : ℕ) (none : vec_len old.dropped ≡ 0) (still : vec_len new.dropped ≡ 0) (some : 0 < left_open events) (popped : old.holes.items ≡ new.holes.items ++ hole ∷ []) where
-  ending_in : (outers : List (List Bool)) (inner : List Bool) → old.text ≡ written outers ++ inner → old.holes.items ≡ holes_of outers → AreWords outers → length outers + vec_len old.dropped ≡ left_open events → Ending old.text hole
-  ending_in [] inner text holes words depth = absurd (omega (arith, depth, none, some))
-  ending_in (s ∷ outer) inner text holes words depth =
+module _ (events : List Event) (text : List Bool) (holes others : List ℕ) (after hole : ℕ) (some : 0 < left_open events) (popped : holes ≡ others ++ hole ∷ []) where
+  ending_in : (outers : List (List Bool)) (inner : List Bool) → text ≡ written outers ++ inner → holes ≡ holes_of outers → AreWords outers → length outers ≡ left_open events → Ending text hole
+  ending_in [] inner is places words depth = absurd (omega (arith, depth, some))
+  ending_in (s ∷ outer) inner is places words depth =
       let front = written outer ++ s in
       let body = inner ++ end_text (begins (s ∷ outer) + length inner) in
-      let place : hole ≡ length front / 32 = (push_same new.holes.items (holes_of outer) hole (length front / 32) (sym popped ∙ holes)).1 in
-      let lengths : length old.text ≡ length front + 32 + length inner = omega (arith, ap length text, length-append (front ++ bits_of 32 0) inner, length-append front (bits_of 32 0), length-bits_of 32 0) in
-      let end : length (end_text (length old.text)) ≡ length (end_text (begins (s ∷ outer) + length inner)) =
-      ap length (sym (end_again (length old.text))) ∙ ap (λ (n : ℕ). length (end_text n)) (omega (arith, lengths, length-append front (bits_of 32 0), length-bits_of 32 0)) in
+      let place : hole ≡ length front / 32 = (push_same others (holes_of outer) hole (length front / 32) (sym popped ∙ places)).1 in
+      let lengths : length text ≡ length front + 32 + length inner = omega (arith, ap length is, length-append (front ++ bits_of 32 0) inner, length-append front (bits_of 32 0), length-bits_of 32 0) in
+      let end : length (end_text (length text)) ≡ length (end_text (begins (s ∷ outer) + length inner)) =
+      ap length (sym (end_again (length text))) ∙ ap (λ (n : ℕ). length (end_text n)) (omega (arith, lengths, length-append front (bits_of 32 0), length-bits_of 32 0)) in
       record {
         words = length body / 32;
         there = omega (arith, place, words.0, lengths);
-        counted = omega (arith, place, words.0, lengths, end_ends (length old.text), end, length-append inner (end_text (begins (s ∷ outer) + length inner)));
+        counted = omega (arith, place, words.0, lengths, end_ends (length text), end, length-append inner (end_text (begins (s ∷ outer) + length inner)));
       }
 
-  pub ending : Builds info events old → Ending old.text hole
-  ending was = ending_in was.outer was.inner was.text was.holes was.words was.depth
+  pub ending : Builds events text holes → Ending text hole
+  ending was = ending_in was.outer was.inner was.is was.places was.words was.depth
 
-  ends_in : (outers : List (List Bool)) (inner : List Bool) → old.text ≡ written outers ++ inner → old.holes.items ≡ holes_of outers → AreWords outers → length outers + vec_len old.dropped ≡ left_open events
-      → ((following : List Event) → normal (told_at_level info ((events ++ leaves after ∷ []) ++ following) 0) 32 ≡ form_with outers inner (told_at_level info (leaves after ∷ following)))
-      → ((words : ℕ) → 32 * (hole + 1 + words) ≡ length old.text + length (end_text (length old.text)) → new.text ≡ with_word hole words (old.text ++ end_text (length old.text)))
-      → Builds info (events ++ leaves after ∷ []) new
-  ends_in [] inner text holes words depth whole put_in = absurd (omega (arith, depth, none, some))
-  ends_in (s ∷ outer) inner text holes words depth whole put_in =
+  ends_in : (outers : List (List Bool)) (inner new : List Bool) → text ≡ written outers ++ inner → holes ≡ holes_of outers → AreWords outers → length outers ≡ left_open events
+      → ((following : List Event) → normal (told_at_level ((events ++ leaves after ∷ []) ++ following) 0) 32 ≡ form_with outers inner (told_at_level (leaves after ∷ following)))
+      → ((words : ℕ) → 32 * (hole + 1 + words) ≡ length text + length (end_text (length text)) → new ≡ with_word hole words (text ++ end_text (length text)))
+      → Builds (events ++ leaves after ∷ []) new others
+  ends_in [] inner new is places words depth whole put_in = absurd (omega (arith, depth, some))
+  ends_in (s ∷ outer) inner new is places words depth whole put_in =
       let front = written outer ++ s in
       let p = begins (s ∷ outer) in
       let body = inner ++ end_text (p + length inner) in
       let n = length body / 32 in
-      let here = push_same new.holes.items (holes_of outer) hole (length front / 32) (sym popped ∙ holes) in
-      let e = ending_in (s ∷ outer) inner text holes words depth in
-      let lengths : length old.text ≡ length front + 32 + length inner = omega (arith, ap length text, length-append (front ++ bits_of 32 0) inner, length-append front (bits_of 32 0), length-bits_of 32 0) in
-      let same : length (end_text (length old.text)) ≡ length (end_text (p + length inner)) =
-      ap length (sym (end_again (length old.text))) ∙ ap (λ (k : ℕ). length (end_text k)) (omega (arith, lengths, length-append front (bits_of 32 0), length-bits_of 32 0)) in
+      let here = push_same others (holes_of outer) hole (length front / 32) (sym popped ∙ places) in
+      let e = ending_in (s ∷ outer) inner is places words depth in
+      let lengths : length text ≡ length front + 32 + length inner = omega (arith, ap length is, length-append (front ++ bits_of 32 0) inner, length-append front (bits_of 32 0), length-bits_of 32 0) in
+      let same : length (end_text (length text)) ≡ length (end_text (p + length inner)) =
+      ap length (sym (end_again (length text))) ∙ ap (λ (k : ℕ). length (end_text k)) (omega (arith, lengths, length-append front (bits_of 32 0), length-bits_of 32 0)) in
       let len : length body ≡ length inner + length (end_text (p + length inner)) = length-append inner (end_text (p + length inner)) in
       record {
         outer = outer;
         inner = s ++ closed p inner;
-        text = put_in n (omega (arith, here.1, words.0, lengths, end_ends (length old.text), same, len)) ∙ with_length outer s inner old.text hole n text (omega (arith, here.1, words.0)) refl;
-        holes = here.0;
+        is = put_in n (omega (arith, here.1, words.0, lengths, end_ends (length text), same, len)) ∙ with_length outer s inner text hole n is (omega (arith, here.1, words.0)) refl;
+        places = here.0;
         words = words.1;
-        top = λ outside. omega (arith, outside_only outer s outside, words.0, lengths, end_ends (length old.text), same, len, length-append s (closed p inner), length-append (bits_of 32 n) body, length-bits_of 32 n);
-        whole = λ following.
-            whole following
-            ∙ ap (λ (t : List Bool). completed (s ∷ outer) t (λ level. told_at_level info following level)) (ap (λ (t : List Bool). inner ++ t) (nothing (p + length inner)) ∙ append-nil inner)
-            ∙ ap (λ (k : ℕ). form_with outer (s ++ closed p inner) (left_out k (told_at_level info following))) (sym still);
-        depth = omega (arith, depth, none, still, open_behind-push events (leaves after) 0);
+        top = λ outside. omega (arith, outside_only outer s outside, words.0, lengths, end_ends (length text), same, len, length-append s (closed p inner), length-append (bits_of 32 n) body, length-bits_of 32 n);
+        whole = λ following. whole following ∙ ap (λ (t : List Bool). completed (s ∷ outer) t (λ level. told_at_level following level)) (ap (λ (t : List Bool). inner ++ t) (nothing (p + length inner)) ∙ append-nil inner);
+        depth = omega (arith, depth, open_behind-push events (leaves after) 0);
       }
 
-  pub builds_end : Builds info events old → ((words : ℕ) → 32 * (hole + 1 + words) ≡ length old.text + length (end_text (length old.text)) → new.text ≡ with_word hole words (old.text ++ end_text (length old.text))) → Builds info (events ++ leaves after ∷ []) new
-  builds_end was put_in = ends_in was.outer was.inner was.text was.holes was.words was.depth (λ following. kept_whole info events old new was (leaves after) following none) put_in
+  pub builds_end : (new : List Bool) → Builds events text holes → ((words : ℕ) → 32 * (hole + 1 + words) ≡ length text + length (end_text (length text)) → new ≡ with_word hole words (text ++ end_text (length text))) → Builds (events ++ leaves after ∷ []) new others
+  builds_end new was put_in = ends_in was.outer was.inner new was.is was.places was.words was.depth (next_whole events text holes was (leaves after)) put_in
 
 -- ---- a form that passes the limit
 
-pub passes_by : (info : Info) (limit : ℕ) (events : List Event) (outer : List (List Bool)) (inner : List Bool) (coming : List Event → ℕ → Forest)
-    → ((following : List Event) → normal (told_at_level info (events ++ following) 0) 32 ≡ form_with outer inner (coming following)) → limit < length (written outer ++ inner) / 8 → PassesLimit info limit events
-passes_by info limit events outer inner coming whole long following =
-    let f = told_at_level info (events ++ following) 0 in
-    let rest = normal (coming following 0) (begins outer + length inner) in
+pub passes_by : (limit : ℕ) (events : List Event) (outer : List (List Bool)) (inner : List Bool) → ((following : List Event) → normal (told_at_level (events ++ following) 0) 32 ≡ form_with outer inner (told_at_level following)) → limit < length (written outer ++ inner) / 8 → PassesLimit limit events
+passes_by limit events outer inner whole long following =
+    let f = told_at_level (events ++ following) 0 in
+    let rest = normal (told_at_level following 0) (begins outer + length inner) in
     omega (
       arith,
       long,
       items_end f 32,
       ap length (whole following),
-      longer outer (inner ++ rest) (λ level. coming following (suc level)),
+      longer outer (inner ++ rest) (λ level. told_at_level following (suc level)),
       length-append inner rest,
       length-append (written outer) inner,
     )
 
-pub passes_more : (info : Info) (limit : ℕ) (events : List Event) (event : Event) → PassesLimit info limit events → PassesLimit info limit (events ++ event ∷ [])
-passes_more info limit events event passes following =
-    subst (λ (es : List Event). limit < end_of (told_at_level info es 0) 32 / 8) (sym (append_assoc events (event ∷ []) following)) (passes (event ∷ following))
+pub passes_more : (limit : ℕ) (events : List Event) (event : Event) → PassesLimit limit events → PassesLimit limit (events ++ event ∷ [])
+passes_more limit events event passes following =
+    subst (λ (es : List Event). limit < end_of (told_at_level es 0) 32 / 8) (sym (append_assoc events (event ∷ []) following)) (passes (event ∷ following))
 
 -- what is built passes it
-pub passes_now : (info : Info) (limit : ℕ) (events : List Event) (b : FormBuilder) → Builds info events b → limit < length b.text / 8 → PassesLimit info limit events
-passes_now info limit events b was long =
-    passes_by info limit events was.outer was.inner (λ following. left_out (vec_len b.dropped) (told_at_level info following)) was.whole (subst (λ (t : List Bool). limit < length t / 8) was.text long)
+passes_now : (limit : ℕ) (events : List Event) (text : List Bool) (holes : List ℕ) → Builds events text holes → limit < length text / 8 → PassesLimit limit events
+passes_now limit events text holes was long = passes_by limit events was.outer was.inner was.whole (subst (λ (t : List Bool). limit < length t / 8) was.is long)
 
--- ---- the builder after an event
+-- ---- the form after an event that is left
 
-pub formed : (first old new : FormBuilder) (done events : List Event) → IsFormOf first done old → new.info ≡ old.info → new.limits ≡ old.limits → new.long ≡ false → Builds first.info events new → IsFormOf first events new
-formed first old new done events was info limits short builds = record { info = info ∙ was.info; limits = limits ∙ was.limits; builds = λ _. builds; passes = λ long. absurd (both new.long short long) }
-  where
-    both : (b : Bool) → b ≡ false → b ≡ true → ⊥
-    both b x y = absurd cc
+both : (b : Bool) → b ≡ false → b ≡ true → ⊥
+both b x y = absurd cc
 
-pub passed : (first old new : FormBuilder) (done events : List Event) → IsFormOf first done old → new.info ≡ old.info → new.limits ≡ old.limits → new.long ≡ true → PassesLimit first.info first.limits.bytes events → IsFormOf first events new
-passed first old new done events was info limits long passes = record { info = info ∙ was.info; limits = limits ∙ was.limits; builds = λ short. absurd (both new.long short long); passes = λ _. passes }
-  where
-    both : (b : Bool) → b ≡ false → b ≡ true → ⊥
-    both b x y = absurd cc
+pub formed : (limit : ℕ) (events : List Event) (text : List Bool) (holes : List ℕ) (long : Bool) → long ≡ false → Builds events text holes → Forms limit events text holes long
+formed limit events text holes long short builds = record { builds = λ _. builds; passes = λ it_is. absurd (both long short it_is) }
 
--- what passed the limit stays so
-pub still_passed : (first old : FormBuilder) (done : List Event) (event : Event) → IsFormOf first done old → old.long ≡ true → IsFormOf first (done ++ event ∷ []) old
-still_passed first old done event was long = passed first old old done (done ++ event ∷ []) was refl refl long (passes_more first.info first.limits.bytes done event (was.passes long))
+pub passed : (limit : ℕ) (events : List Event) (text : List Bool) (holes : List ℕ) (long : Bool) → long ≡ true → PassesLimit limit events → Forms limit events text holes long
+passed limit events text holes long it_is passes = record { builds = λ short. absurd (both long short it_is); passes = λ _. passes }
 
--- it passes it now
-pub now_passed : (first old new : FormBuilder) (done : List Event) (event : Event) → IsFormOf first done old → old.long ≡ false → old.limits.bytes < length old.text / 8 → new.info ≡ old.info → new.limits ≡ old.limits → new.long ≡ true → IsFormOf first (done ++ event ∷ []) new
-now_passed first old new done event was short over info limits long =
-    passed first old new done (done ++ event ∷ []) was info limits long
-    (passes_more first.info first.limits.bytes done event (passes_now first.info first.limits.bytes done old (was.builds short) (subst (λ (l : Limits). l.bytes < length old.text / 8) was.limits over)))
-
--- a definition
-pub builds_definition : (first old : FormBuilder) (done : List Event) (mark : DefinitionMark) → IsFormOf first done old → IsFormOf first (done ++ defines mark ∷ []) old
-builds_definition first old done mark was = record {
-  info = was.info;
-  limits = was.limits;
-  builds = λ short. same_text first.info done old old (was.builds short) (defines mark) refl refl refl (λ following. refl);
-  passes = λ long. passes_more first.info first.limits.bytes done (defines mark) (was.passes long);
-}
-
--- ---- blocks that are left out
-
-pub enters_out : (first old new : FormBuilder) (done : List Event) (opened : Opened) → IsFormOf first done old → old.long ≡ false → new.info ≡ old.info → new.limits ≡ old.limits → new.long ≡ false → (vec_len old.dropped ≡ 0 → keeps old.info opened.id ≡ false)
-    → new.text ≡ old.text → new.holes.items ≡ old.holes.items → vec_len new.dropped ≡ vec_len old.dropped + 1 → IsFormOf first (done ++ enters opened ∷ []) new
-enters_out first old new done opened was short info limits still drops text holes more =
-    let builds = was.builds short in
-    formed first old new done (done ++ enters opened ∷ []) was info limits still
-    (same_text first.info done old new builds (enters opened) text holes (omega (arith, more)) (λ following. go (vec_len old.dropped) (vec_len new.dropped) more drops builds.outer builds.inner following))
-  where
-    go : (n m : ℕ) → m ≡ n + 1 → (n ≡ 0 → keeps old.info opened.id ≡ false) → (outer : List (List Bool)) (inner : List Bool) (following : List Event)
-        → form_with outer inner (left_out n (told_at_level first.info (enters opened ∷ following))) ≡ form_with outer inner (left_out m (told_at_level first.info following))
-    go zero m is none outer inner following =
-        let out : keeps first.info opened.id ≡ false = ap (λ (i : Info). keeps i opened.id) (sym was.info) ∙ none refl in
-        ap (λ (b : Bool). completed outer (inner ++ normal (if b then a_block opened.id (told_at_level first.info following 0) (told_at_level first.info following 1) else told_at_level first.info following 1) (begins outer + length inner)) (λ level. told_at_level first.info following (suc (suc level)))) out
-        ∙ ap (λ (k : ℕ). form_with outer inner (left_out k (told_at_level first.info following))) (sym is)
-    go (suc n) m is none outer inner following =
-        let place : suc (suc n) ≡ m = omega (arith, is) in
-        ap (λ (k : ℕ). form_with outer inner (left_out k (told_at_level first.info following))) place
-
-pub leaves_out : (first old new : FormBuilder) (done : List Event) (after : ℕ) → IsFormOf first done old → old.long ≡ false → new.info ≡ old.info → new.limits ≡ old.limits → new.long ≡ false → new.text ≡ old.text → new.holes.items ≡ old.holes.items → vec_len old.dropped ≡ vec_len new.dropped + 1
-    → IsFormOf first (done ++ leaves after ∷ []) new
-leaves_out first old new done after was short info limits still text holes more =
-    let builds = was.builds short in
-    formed first old new done (done ++ leaves after ∷ []) was info limits still
-    (same_text first.info done old new builds (leaves after) text holes (omega (arith, more)) (λ following. go (vec_len old.dropped) (vec_len new.dropped) more builds.outer builds.inner following))
-  where
-    go : (n m : ℕ) → n ≡ m + 1 → (outer : List (List Bool)) (inner : List Bool) (following : List Event)
-        → form_with outer inner (left_out n (told_at_level first.info (leaves after ∷ following))) ≡ form_with outer inner (left_out m (told_at_level first.info following))
-    go zero m is outer inner following = absurd (omega (arith, is))
-    go (suc n) m is outer inner following =
-        let place : n ≡ m = omega (arith, is) in
-        ap (λ (k : ℕ). form_with outer inner (left_out k (told_at_level first.info following))) place
-
-pub record_out : (first old : FormBuilder) (done : List Event) (mark : RecordMark) → IsFormOf first done old → old.long ≡ false → 0 < vec_len old.dropped → IsFormOf first (done ++ notes mark ∷ []) old
-record_out first old done mark was short some =
-    let builds = was.builds short in
-    formed first old old done (done ++ notes mark ∷ []) was refl refl short (same_text first.info done old old builds (notes mark) refl refl refl (λ following. go (vec_len old.dropped) some builds.outer builds.inner following))
-  where
-    go : (n : ℕ) → 0 < n → (outer : List (List Bool)) (inner : List Bool) (following : List Event)
-        → form_with outer inner (left_out n (told_at_level first.info (notes mark ∷ following))) ≡ form_with outer inner (left_out n (told_at_level first.info following))
-    go zero some outer inner following = absurd (omega (arith, some))
-    go (suc n) some outer inner following = refl
-
--- ---- events in what is kept
+-- it passes the limit now
+pub now_passed : (old new : FormBuilder) (done : List Event) (event : Event) → HasForm done old → old.long ≡ false → old.limits.bytes < length old.text / 8 → new.limits ≡ old.limits → new.long ≡ true → HasForm (done ++ event ∷ []) new
+now_passed old new done event was short over limits long =
+    passed new.limits.bytes (done ++ event ∷ []) new.text new.holes.items new.long long
+    (passes_more new.limits.bytes done event (passes_now new.limits.bytes done old.text old.holes.items (was.builds short) (subst (λ (l : Limits). l.bytes < length old.text / 8) (sym limits) over)))
 
 -- a record whose values alone pass the limit
-pub record_passes : (first old new : FormBuilder) (done : List Event) (mark : RecordMark) → IsFormOf first done old → old.long ≡ false → vec_len old.dropped ≡ 0 → 0 < left_open done → old.limits.bytes < length (values_text mark.values) / 8
-    → new.info ≡ old.info → new.limits ≡ old.limits → new.long ≡ true → IsFormOf first (done ++ notes mark ∷ []) new
-record_passes first old new done mark was short none some over info limits long =
+pub record_passes : (old new : FormBuilder) (done : List Event) (mark : RecordMark) → HasForm done old → old.long ≡ false → old.limits.bytes < length (values_text mark.values) / 8 → new.limits ≡ old.limits → new.long ≡ true → HasForm (done ++ notes mark ∷ []) new
+record_passes old new done mark was short over limits long =
     let b = was.builds short in
     let t = record_text mark.code mark.values 0 in
     let values = values_text mark.values in
@@ -421,53 +338,98 @@ record_passes first old new done mark was short none some over info limits long 
     let y = shortest 6 (length mark.values) in
     let lengths : length values ≤ length (written b.outer ++ (b.inner ++ t)) =
     omega (arith, length-append (written b.outer) (b.inner ++ t), length-append b.inner t, length-append (bits_of 2 3) (x ++ (y ++ values)), length-append x (y ++ values), length-append y values) in
-    let bytes : old.limits.bytes ≡ first.limits.bytes = ap (λ (l : Limits). l.bytes) was.limits in
-    passed first old new done (done ++ notes mark ∷ []) was info limits long
-    (passes_by first.info first.limits.bytes (done ++ notes mark ∷ []) b.outer (b.inner ++ t) (λ following. told_at_level first.info following)
-    (λ following. kept_whole first.info done old old b (notes mark) following none ∙ form_record b.outer b.inner mark.code mark.values (told_at_level first.info following 0) (λ level. told_at_level first.info following (suc level)))
+    let bytes : new.limits.bytes ≡ old.limits.bytes = ap (λ (l : Limits). l.bytes) limits in
+    passed new.limits.bytes (done ++ notes mark ∷ []) new.text new.holes.items new.long long
+    (passes_by new.limits.bytes (done ++ notes mark ∷ []) b.outer (b.inner ++ t)
+    (λ following. next_whole done old.text old.holes.items b (notes mark) following ∙ form_record b.outer b.inner mark.code mark.values (told_at_level following 0) (λ level. told_at_level following (suc level)))
     (omega (arith, over, bytes, lengths)))
 
--- no event yet
-pub starts : (b : FormBuilder) → b.text ≡ [] → b.holes.items ≡ [] → vec_len b.dropped ≡ 0 → b.long ≡ false → IsFormOf b [] b
-starts b text holes none short = record {
-  info = refl;
-  limits = refl;
-  builds = λ _. record {
-    outer = [];
-    inner = [];
-    text = text;
-    holes = holes;
-    words = tt;
-    top = λ _. refl;
-    whole = λ following. ap (λ (n : ℕ). form_with [] [] (left_out n (told_at_level b.info following))) (sym none);
-    depth = omega (arith, none);
-  };
-  passes = λ long. absurd (both b.long short long);
+-- ---- the builder after an event
+
+module _ (first old new : FormBuilder) (done : List Event) (event : Event) (was : IsFormOf first done old) (short : old.long ≡ false) where
+  here : old.standing ≡ record { setting = first.standing.setting; ids = ids_behind done [] }
+  here = was.stands short
+
+  stands_on : new.standing ≡ record old.standing { ids = ids_after event old.standing.ids } → new.standing ≡ record { setting = first.standing.setting; ids = ids_behind (done ++ event ∷ []) [] }
+  stands_on moved =
+      moved ∙ ap (λ (st : Standing). record st { ids = ids_after event st.ids }) here
+      ∙ ap (λ (ids : List ℕ). record { setting = first.standing.setting; ids = ids }) (sym (ids_behind-push done event []))
+
+  judged : (b : Bool) → is_left old.standing.setting old.standing.ids event ≡ b → is_left first.standing.setting (ids_behind done []) event ≡ b
+  judged b is = ap (λ (st : Standing). is_left st.setting st.ids event) (sym here) ∙ is
+
+  -- one that is left
+  pub event_taken : is_left old.standing.setting old.standing.ids event ≡ true → (new.long ≡ false → new.standing ≡ record old.standing { ids = ids_after event old.standing.ids }) → new.limits ≡ old.limits → HasForm (left first done ++ event ∷ []) new → IsFormOf first (done ++ event ∷ []) new
+  event_taken is moved limits form = record {
+    limits = limits ∙ was.limits;
+    stands = λ still. stands_on (moved still);
+    form = subst (λ (es : List Event). HasForm es new) (sym (left_push first.standing.setting done event [] true (judged true is))) form;
+  }
+
+  -- one that is not
+  pub event_left_out : is_left old.standing.setting old.standing.ids event ≡ false → new.standing ≡ record old.standing { ids = ids_after event old.standing.ids } → new.limits ≡ old.limits → HasForm (left first done) new → IsFormOf first (done ++ event ∷ []) new
+  event_left_out is moved limits form = record {
+    limits = limits ∙ was.limits;
+    stands = λ still. stands_on moved;
+    form = subst (λ (es : List Event). HasForm es new) (sym (left_push first.standing.setting done event [] false (judged false is) ∙ append-nil (left first done))) form;
+  }
+
+  -- as many blocks are open by the events that are left
+  pub some_left : list_all (keeps old.standing.setting) old.standing.ids ≡ true → 0 < left_open done → 0 < left_open (left first done)
+  some_left all some =
+      let same : list_all (keeps first.standing.setting) (ids_behind done []) ≡ true = ap (λ (st : Standing). list_all (keeps st.setting) st.ids) (sym here) ∙ all in
+      omega (arith, left_as_many first.standing.setting done same, some)
+
+-- what passed the limit stays so
+pub still_passed : (first old : FormBuilder) (done : List Event) (event : Event) → IsFormOf first done old → old.long ≡ true → IsFormOf first (done ++ event ∷ []) old
+still_passed first old done event was long = record {
+  limits = was.limits;
+  stands = λ short. absurd (both old.long short long);
+  form = passed old.limits.bytes (left first (done ++ event ∷ [])) old.text old.holes.items old.long long (go (is_left first.standing.setting (ids_behind done []) event) refl);
 }
   where
-    both : (x : Bool) → x ≡ false → x ≡ true → ⊥
-    both x e f = absurd cc
+    go : (b : Bool) → is_left first.standing.setting (ids_behind done []) event ≡ b → PassesLimit old.limits.bytes (left first (done ++ event ∷ []))
+    go true is = subst (PassesLimit old.limits.bytes) (sym (left_push first.standing.setting done event [] true is)) (passes_more old.limits.bytes (left first done) event (was.form.passes long))
+    go false is = subst (PassesLimit old.limits.bytes) (sym (left_push first.standing.setting done event [] false is ∙ append-nil (left first done))) (was.form.passes long)
+
+-- a definition
+pub defines_more : (first old : FormBuilder) (done : List Event) (mark : DefinitionMark) → IsFormOf first done old → IsFormOf first (done ++ defines mark ∷ []) old
+defines_more first old done mark was = go old.long refl (list_all (keeps old.standing.setting) old.standing.ids) refl
+  where
+    go : (long : Bool) → old.long ≡ long → (b : Bool) → list_all (keeps old.standing.setting) old.standing.ids ≡ b → IsFormOf first (done ++ defines mark ∷ []) old
+    go true long b is = still_passed first old done (defines mark) was long
+    go false short true is =
+        event_taken first old old done (defines mark) was short is (λ _. refl) refl
+        (formed old.limits.bytes (left first done ++ defines mark ∷ []) old.text old.holes.items old.long short (builds_definition (left first done) old.text old.holes.items (was.form.builds short) mark))
+    go false short false is = event_left_out first old old done (defines mark) was short is refl refl was.form
+
+-- no event yet
+pub starts : (b : FormBuilder) → b.text ≡ [] → b.holes.items ≡ [] → b.standing.ids ≡ [] → b.long ≡ false → IsFormOf b [] b
+starts b text holes none short = record {
+  limits = refl;
+  stands = λ _. ap (λ (ids : List ℕ). record { setting = b.standing.setting; ids = ids }) none;
+  form = formed b.limits.bytes [] b.text b.holes.items b.long short (record { outer = []; inner = []; is = text; places = holes; words = tt; top = λ _. refl; whole = λ following. refl; depth = refl });
+}
 
 -- all blocks are closed, and nothing follows
-pub whole_text : (first last : FormBuilder) (events : List Event) → IsFormOf first events last → left_open events ≡ 0 → last.long ≡ false → (last.text ≡ normal (told_at_level first.info events 0) 32) × (length last.text % 32 ≡ 0)
+pub whole_text : (first last : FormBuilder) (events : List Event) → IsFormOf first events last → left_open events ≡ 0 → last.long ≡ false → (last.text ≡ normal (told_at_level (left first events) 0) 32) × (length last.text % 32 ≡ 0)
 whole_text first last events was closed_all short =
-    let b = was.builds short in
-    go b.outer b.inner b.text b.top (omega (arith, b.depth, closed_all)) (omega (arith, b.depth, closed_all)) b.whole
+    let b = was.form.builds short in
+    go b.outer b.inner b.is b.top (b.depth ∙ left_closed first.standing.setting events closed_all) b.whole
   where
-    go : (outer : List (List Bool)) (inner : List Bool) → last.text ≡ written outer ++ inner → (length outer ≡ 0 → length inner % 32 ≡ 0) → length outer ≡ 0 → vec_len last.dropped ≡ 0
-        → ((following : List Event) → normal (told_at_level first.info (events ++ following) 0) 32 ≡ form_with outer inner (left_out (vec_len last.dropped) (told_at_level first.info following)))
-        → (last.text ≡ normal (told_at_level first.info events 0) 32) × (length last.text % 32 ≡ 0)
-    go [] inner text top outside none whole =
-        let form : normal (told_at_level first.info events 0) 32 ≡ inner =
-        ap (λ (es : List Event). normal (told_at_level first.info es 0) 32) (sym (append-nil events)) ∙ whole [] ∙ ap (λ (n : ℕ). form_with [] inner (left_out n (told_at_level first.info []))) none ∙ ap (λ (s : List Bool). inner ++ s) (nothing (32 + length inner)) ∙ append-nil inner in
+    go : (outer : List (List Bool)) (inner : List Bool) → last.text ≡ written outer ++ inner → (length outer ≡ 0 → length inner % 32 ≡ 0) → length outer ≡ 0
+        → ((following : List Event) → normal (told_at_level (left first events ++ following) 0) 32 ≡ form_with outer inner (told_at_level following)) → (last.text ≡ normal (told_at_level (left first events) 0) 32) × (length last.text % 32 ≡ 0)
+    go [] inner text top outside whole =
+        let form : normal (told_at_level (left first events) 0) 32 ≡ inner =
+        ap (λ (es : List Event). normal (told_at_level es 0) 32) (sym (append-nil (left first events))) ∙ whole [] ∙ ap (λ (s : List Bool). inner ++ s) (nothing (32 + length inner)) ∙ append-nil inner in
         (text ∙ sym form, ap (λ (s : List Bool). length s % 32) text ∙ top outside)
-    go (s ∷ outer) inner text top outside none whole = absurd (omega (arith, outside))
+    go (s ∷ outer) inner text top outside whole = absurd (omega (arith, outside))
 
-pub passes_whole : (first last : FormBuilder) (events : List Event) → IsFormOf first events last → last.long ≡ true → first.limits.bytes < 4 + length (normal (told_at_level first.info events 0) 32) / 8
+pub passes_whole : (first last : FormBuilder) (events : List Event) → IsFormOf first events last → last.long ≡ true → first.limits.bytes < 4 + length (normal (told_at_level (left first events) 0) 32) / 8
 passes_whole first last events was long =
-    let f = told_at_level first.info events 0 in
-    let over : first.limits.bytes < end_of f 32 / 8 = subst (λ (es : List Event). first.limits.bytes < end_of (told_at_level first.info es 0) 32 / 8) (append-nil events) (was.passes long []) in
-    omega (arith, over, items_end f 32)
+    let f = told_at_level (left first events) 0 in
+    let over : last.limits.bytes < end_of f 32 / 8 = subst (λ (es : List Event). last.limits.bytes < end_of (told_at_level es 0) 32 / 8) (append-nil (left first events)) (was.form.passes long []) in
+    omega (arith, over, items_end f 32, ap (λ (l : Limits). l.bytes) was.limits)
 
 -- ---- what is added, in parts
 
@@ -533,13 +495,28 @@ length-holes [] = refl
 length-holes (s ∷ outer) = omega (arith, length-append (holes_of outer) ((length (written outer ++ s) / 32) ∷ []), length-holes outer)
 
 -- a block that is open has a place for its length
-pub some_hole : (info : Info) (events : List Event) (b : FormBuilder) → Builds info events b → vec_len b.dropped ≡ 0 → 0 < left_open events → 0 < vec_len b.holes
-some_hole info events b was none some = omega (arith, b.holes.ok.0, ap length was.holes, length-holes was.outer, was.depth, none, some)
+pub some_hole : (events : List Event) (b : FormBuilder) → Builds events b.text b.holes.items → 0 < left_open events → 0 < vec_len b.holes
+some_hole events b was some = omega (arith, b.holes.ok.0, ap length was.places, length-holes was.outer, was.depth, some)
 
--- a record where the form is too long or a block round it is left out
-pub record_idle : (first old : FormBuilder) (done : List Event) (mark : RecordMark) → IsFormOf first done old → (old.long ≡ false → 0 < vec_len old.dropped) → IsFormOf first (done ++ notes mark ∷ []) old
-record_idle first old done mark was some = go old.long refl
+-- a record where the form is too long, or that is left out
+pub record_idle : (first old : FormBuilder) (done : List Event) (mark : RecordMark) → IsFormOf first done old → (old.long ≡ false → record_left old.standing mark.code ≡ false) → IsFormOf first (done ++ notes mark ∷ []) old
+record_idle first old done mark was out = go old.long refl
   where
     go : (b : Bool) → old.long ≡ b → IsFormOf first (done ++ notes mark ∷ []) old
     go true long = still_passed first old done (notes mark) was long
-    go false short = record_out first old done mark was short (some short)
+    go false short = event_left_out first old old done (notes mark) was short (out short) refl refl was.form
+
+first_of_two : (a b : Bool) → (a && b) ≡ true → a ≡ true
+first_of_two true b e = refl
+first_of_two false b e = e
+
+-- a record that is left
+pub record_taken : (first old new : FormBuilder) (done : List Event) (mark : RecordMark) → IsFormOf first done old → old.long ≡ false → record_left old.standing mark.code ≡ true → 0 < left_open done → (new.standing ≡ old.standing) × (new.limits ≡ old.limits)
+    → (HasForm (left first done) old → old.long ≡ false → 0 < left_open (left first done) → HasForm (left first done ++ notes mark ∷ []) new) → IsFormOf first (done ++ notes mark ∷ []) new
+record_taken first old new done mark was short is some stays adds =
+    event_taken first old new done (notes mark) was short is (λ _. stays.0) stays.1
+    (adds was.form short (some_left first old new done (notes mark) was short (first_of_two (list_all (keeps old.standing.setting) old.standing.ids) (keeps_record old.standing.setting (innermost old.standing.ids) mark.code) is) some))
+
+pub both_ok : (P Q : Type 0) {A E : Type 0} (r : Result A E) → OnOk r P → OnOk r Q → OnOk r (P × Q)
+both_ok P Q (Ok x) p q = (p, q)
+both_ok P Q (Err e) p q = tt

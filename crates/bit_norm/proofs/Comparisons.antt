@@ -1,12 +1,14 @@
 -- What is answered of two inputs.
 use Rattle.std.proofs.Common.{◌≡◌, ℕ, ◌+◌, ◌⊎◌, inl, inr, arith, Bool, true, false, IsTrue, List, [], ◌∷◌, ◌++◌, Option, Some, None, Result, Ok, Err, refl, sym, ap, ◌∙◌, subst, append-nil}
 use Rattle.std.specs.Prelude.{◌↔◌, IsSome}
-use Rattle.bit_grammar.specs.declared.info.Info.{Info}
-use Rattle.bit_grammar.specs.Forest.{Forest, empty, Tree}
-use Rattle.bit_grammar.specs.Marks.{no_marks, forest_of}
+use Rattle.bit_grammar.specs.Setting.{Setting}
+use Rattle.bit_grammar.specs.Under.{under}
+use Rattle.bit_events.specs.Standing as blocks
+use Rattle.bit_grammar.specs.Forest.{empty, Tree}
+use Rattle.bit_grammar.specs.Marks.{no_marks}
 use Rattle.bit_grammar.specs.Blocks.{Limits}
 use Rattle.bit_grammar.specs.Input.{Head, Marked, SpellsInput, tree_of}
-use Rattle.bit_grammar.specs.Machine.{Event, flat, Ending, accepted, Told}
+use Rattle.bit_grammar.specs.Machine.{flat, accepted, Told}
 use Rattle.bit_grammar.specs.Grammar as grammar
 use Rattle.bit_grammar.specs.Normal.{Capped}
 use Rattle.bit_grammar.specs.Outlook.{outlook}
@@ -20,12 +22,11 @@ use Rattle.bit_fields.specs.Devices.{Incoming, known_bytes}
 use Rattle.bit_events.specs.Coming.{Coming, Tells}
 use Rattle.bit_norm.specs.declared.differences.Difference.{Difference}
 use Rattle.bit_norm.specs.declared.differences.Standing as bit
-use Rattle.bit_norm.specs.declared.differences.ValueDifference.{ValueDifference}
 use Rattle.bit_norm.specs.declared.differences.Place.TheVariants as place
 use Rattle.bit_norm.specs.declared.in_step.Found.{Found}
-use Rattle.bit_norm.specs.Entries.{Sign, Entry, over, signs_in, entries, FirstApart, Seen, Standing, at_magic, standing_shown, difference_shown, magic_standing, behind_magic, all_entries, magics_apart, apart, FirstDifference, in_magic, behind, Differs}
-use Rattle.bit_norm.specs.Whole.{ReadsTree, ReadsMarked, Misreads, Compares, source_of, ComparesBytes, FindsDifference, FindsInBytes, SaysNone}
-use Rattle.bit_norm.specs.InStep.{Stand, Said, told_entries, entry_of, Compared, here, left, right, second_end, seen_of, TakesSign, Agrees, Departs, Alike, ApartAt, Tallied, Answers, Finishes, Concludes, other_magic, same_magic, ReadBeside, NotRead, ComparesWith}
+use Rattle.bit_norm.specs.Entries.{Sign, Entry, over, signs_in, Seen, Standing, at_magic, standing_shown, difference_shown, magic_standing, behind_magic, all_entries, magics_apart, apart, in_magic, behind, Differs}
+use Rattle.bit_norm.specs.Whole.{ReadsTree, ReadsMarked, Misreads, Compares, source_of, FindsDifference, FindsInBytes, SaysNone}
+use Rattle.bit_norm.specs.InStep.{Said, entry_of, Compared, here, left, right, second_end, seen_of, TakesSign, Alike, ApartAt, Tallied, Answers, Finishes, Concludes, other_magic, same_magic, ReadBeside, NotRead, ComparesWith}
 use Rattle.bit_norm.specs.declared.comparing.Which.{Which}
 use Rattle.bit_norm.specs.declared.comparing.Which.TheVariants.{First, Second}
 use Rattle.bit_norm.specs.declared.comparing.SameFault.{SameFault}
@@ -60,9 +61,9 @@ abbrev pub AnswersLists : List Entry → List Entry → Option Difference → Ty
 AnswersLists a b None = signs_in a ≡ signs_in b
 AnswersLists a b (Some d) = ApartAt a b (difference_shown d)
 
-differs : (info : Info) (a b : Marked) (answer : Option Difference) → a.head.magic ≡ b.head.magic → AnswersLists (all_entries info a) (all_entries info b) answer → Differs info a b answer
-differs info a b None magic is = tree_is info a b magic ((same_signs info (behind_magic a.head) (behind_magic b.head) a.blocks b.blocks).0 is)
-differs info a b (Some d) magic is = behind magic is.0 is.1 is.2 is.3
+differs : (setting : Setting) (a b : Marked) (answer : Option Difference) → a.head.magic ≡ b.head.magic → AnswersLists (all_entries setting a) (all_entries setting b) answer → Differs setting a b answer
+differs setting a b None magic is = tree_is setting a b magic ((same_signs setting (behind_magic a.head) (behind_magic b.head) a.blocks b.blocks).0 is)
+differs setting a b (Some d) magic is = behind magic is.0 is.1 is.2 is.3
 
 -- both lists end there
 ended_alike : (a b l m : List Entry) (x y : Entry) → Alike a b l m → l ≡ x ∷ [] → m ≡ y ∷ [] → x.sign ≡ y.sign → signs_in a ≡ signs_in b
@@ -96,35 +97,39 @@ by_found : (a b : List Entry) (p : ℕ) (last end : Compared) (o : Option Found)
 by_found a b p last end None answer is tells alike apart takes answers = at_end a b p last end end.found answer tells is refl (alike is) takes answers
 by_found a b p last end (Some f) answer is tells alike apart takes answers = found_before a b last end f answer is (takes.stays f is) apart answers
 
+-- a setting before any block is open
+abbrev pub outside : Setting → blocks.Standing
+outside setting = record { setting = setting; ids = [] }
+
 -- what the comparison begins with
-pub record Begins (info : Info) (head : Head) (c : Compared) : Type 0 where
-  pub setting : c.info ≡ info
+pub record Begins (setting : Setting) (head : Head) (c : Compared) : Type 0 where
+  pub first : c.first_blocks ≡ outside setting
+  pub second : c.second_blocks ≡ outside setting
   pub within : c.within ≡ []
   pub items : c.items ≡ 0
-  pub passed : c.passed ≡ 0
   pub ended : c.first_ended ≡ behind_magic head
 
-left_is : (info : Info) (head : Head) (c : Compared) (m : Marked) → Begins info head c → head ≡ m.head → c.first.told.0 ≡ flat m.blocks [] → left c ≡ all_entries info m
-left_is info head c m is same told = rw (is.setting, is.within, is.items, is.ended, same, told) (entries_told info m.blocks (behind_magic m.head))
+left_is : (setting : Setting) (head : Head) (c : Compared) (m : Marked) → Begins setting head c → head ≡ m.head → c.first.told.0 ≡ flat m.blocks [] → left c ≡ all_entries setting m
+left_is setting head c m is same told = rw (is.first, is.within, is.items, is.ended, same, told) (entries_told setting m.blocks (behind_magic m.head))
 
-right_is : (info : Info) (head : Head) (c : Compared) (m : Marked) → Begins info head c → right (behind_magic m.head) c (flat m.blocks []) ≡ all_entries info m
-right_is info head c m is = rw (is.setting, is.within, is.items, is.passed) (entries_told info m.blocks (behind_magic m.head))
+right_is : (setting : Setting) (head : Head) (c : Compared) (m : Marked) → Begins setting head c → right (behind_magic m.head) c (flat m.blocks []) ≡ all_entries setting m
+right_is setting head c m is = rw (is.second, is.within, is.items) (entries_told setting m.blocks (behind_magic m.head))
 
-pub concluded : (info : Info) (limits : Limits) (bytes : List ℕ) (begun last : Compared) (m : Marked) (second : Head) (answer : Option Difference) → outlook limits bytes ≡ Ok (begun.first.head, begun.first.told) → Tells begun.first → Begins info begun.first.head begun
-    → m.head ≡ second → Tallied begun (flat m.blocks []) last → Concludes begun.first.head second last answer → (other : Marked) → SpellsInput limits bytes other → Differs info other m answer
-concluded info limits bytes begun last m second answer told tells begins is was (other_magic unlike d some seen) other spelled =
+pub concluded : (setting : Setting) (limits : Limits) (bytes : List ℕ) (begun last : Compared) (m : Marked) (second : Head) (answer : Option Difference) → outlook limits bytes ≡ Ok (begun.first.head, begun.first.told) → Tells begun.first → Begins setting begun.first.head begun
+    → m.head ≡ second → Tallied begun (flat m.blocks []) last → Concludes begun.first.head second last answer → (other : Marked) → SpellsInput limits bytes other → Differs setting other m answer
+concluded setting limits bytes begun last m second answer told tells begins is was (other_magic unlike d some seen) other spelled =
     let head = (told_is limits bytes begun.first other told spelled).0 in
     let apart_heads : difference_shown d ≡ magics_apart other.head m.head = seen ∙ ap (λ (h : Head). magics_apart h second) head ∙ ap (magics_apart other.head) (sym is) in
-    subst (Differs info other m) (sym some) (in_magic (λ e. unlike (ap (λ (h : Head). h.magic) head ∙ e ∙ ap (λ (h : Head). h.magic) is)) apart_heads)
-concluded info limits bytes begun last m second answer told tells begins is was (same_magic same finishes) other spelled =
+    subst (Differs setting other m) (sym some) (in_magic (λ e. unlike (ap (λ (h : Head). h.magic) head ∙ e ∙ ap (λ (h : Head). h.magic) is)) apart_heads)
+concluded setting limits bytes begun last m second answer told tells begins is was (same_magic same finishes) other spelled =
     let parts = told_is limits bytes begun.first other told spelled in
     let p = behind_magic m.head in
     let finish = subst (λ (h : Head). Finishes (behind_magic h) last answer) (sym is) finishes in
-    let first = left_is info begun.first.head begun other begins parts.0 parts.1 in
-    let all : right p begun (flat m.blocks [] ++ []) ≡ all_entries info m = ap (right p begun) (append-nil (flat m.blocks [])) ∙ right_is info begun.first.head begun m begins in
+    let first = left_is setting begun.first.head begun other begins parts.0 parts.1 in
+    let all : right p begun (flat m.blocks [] ++ []) ≡ all_entries setting m = ap (right p begun) (append-nil (flat m.blocks [])) ∙ right_is setting begun.first.head begun m begins in
     let lists : AnswersLists (left begun) (right p begun (flat m.blocks [] ++ [])) answer =
     by_found (left begun) (right p begun (flat m.blocks [] ++ [])) p last finish.0 last.found answer refl (was.tells tells) (λ none. was.alike tells none p []) (λ g some. was.apart tells g some p []) finish.1 finish.2 in
-    differs info other m answer (ap (λ (h : Head). h.magic) (sym parts.0) ∙ same ∙ ap (λ (h : Head). h.magic) (sym is)) (subst (λ (l : List Entry). AnswersLists l (all_entries info m) answer) first (subst (λ (l : List Entry). AnswersLists (left begun) l answer) all lists))
+    differs setting other m answer (ap (λ (h : Head). h.magic) (sym parts.0) ∙ same ∙ ap (λ (h : Head). h.magic) (sym is)) (subst (λ (l : List Entry). AnswersLists l (all_entries setting m) answer) first (subst (λ (l : List Entry). AnswersLists (left begun) l answer) all lists))
 
 -- ---- both inputs
 
@@ -136,11 +141,11 @@ tells_or_not : (o : Option (List ℕ)) → IsSome o ⊎ (IsSome o → ⊥)
 tells_or_not None = inr (λ tells. absurd cc)
 tells_or_not (Some bytes) = inl refl
 
-untold : (info : Info) (limits : Limits) (i now : Incoming) (t : Tree) → Spent limits i now → (IsSome i.to_come → ⊥) → ReadsTree info limits i (Ok t) now
-untold info limits i now t spent none = (spent, λ tells. absurd (none tells))
+untold : (setting : Setting) (limits : Limits) (i now : Incoming) (t : Tree) → Spent limits i now → (IsSome i.to_come → ⊥) → ReadsTree setting limits i (Ok t) now
+untold setting limits i now t spent none = (spent, λ tells. absurd (none tells))
 
-has_fit : (info : Info) (limits : Limits) (bytes : List ℕ) (m : Marked) → Capped limits → SpellsInput limits bytes m → HasFit info limits bytes (tree_of info m)
-has_fit info limits bytes m capped spelled = ((m, spelled, refl), fit_of_setting info limits bytes m capped spelled)
+has_fit : (setting : Setting) (limits : Limits) (bytes : List ℕ) (m : Marked) → Capped limits → SpellsInput limits bytes m → HasFit setting limits bytes (under setting (tree_of m))
+has_fit setting limits bytes m capped spelled = ((m, spelled, refl), fit_of_setting setting limits bytes m capped spelled)
 
 any_tree : Tree
 any_tree = record { magic = 0; blocks = empty }
@@ -151,11 +156,11 @@ beside true t = (t, (λ yes. refl, λ e. refl))
 beside false t = (record { magic = t.magic + 1; blocks = t.blocks }, (λ no. absurd cc, λ e. absurd (omega (arith, ap (λ (u : Tree). u.magic) e))))
 
 -- the first was read as some tree
-first_read : (info : Info) (limits : Limits) (i now : Incoming) (bytes : List ℕ) → Capped limits → Kept limits i now bytes → (a : Tree) × ReadsTree info limits i (Ok a) now
-first_read info limits i now bytes capped kept =
+first_read : (setting : Setting) (limits : Limits) (i now : Incoming) (bytes : List ℕ) → Capped limits → Kept limits i now bytes → (a : Tree) × ReadsTree setting limits i (Ok a) now
+first_read setting limits i now bytes capped kept =
     elim (tells_or_not i.to_come) [
-      | inl tells ↦ let found = kept.1 tells in (tree_of info found.0.1.0, (kept.0, λ told. (has_fit info limits (known_bytes i.to_come) found.0.1.0 capped found.0.1.1, found.1)))
-      | inr none ↦ (any_tree, untold info limits i now any_tree kept.0 none)
+      | inl tells ↦ let found = kept.1 tells in (under setting (tree_of found.0.1.0), (kept.0, λ told. (has_fit setting limits (known_bytes i.to_come) found.0.1.0 capped found.0.1.1, found.1)))
+      | inr none ↦ (any_tree, untold setting limits i now any_tree kept.0 none)
     ]
 
 any_marked : Marked
@@ -170,72 +175,72 @@ marked_first limits i now bytes kept =
     ]
 
 -- and the second
-marked_second : (info : Info) (limits : Limits) (j later : Incoming) (bytes : List ℕ) (answer : Option Difference) → ReadBeside info limits bytes j answer later
-    → (m : Marked) × ReadsMarked limits j m later × (IsSome j.to_come → (other : Marked) → SpellsInput limits bytes other → Differs info other m answer)
-marked_second info limits j later bytes answer read =
+marked_second : (setting : Setting) (limits : Limits) (j later : Incoming) (bytes : List ℕ) (answer : Option Difference) → ReadBeside setting limits bytes j answer later
+    → (m : Marked) × ReadsMarked limits j m later × (IsSome j.to_come → (other : Marked) → SpellsInput limits bytes other → Differs setting other m answer)
+marked_second setting limits j later bytes answer read =
     elim (tells_or_not j.to_come) [
       | inl tells ↦ let found = read.1 tells in (found.0, (read.0, λ told. (found.1, found.2)), λ told. found.3)
       | inr none ↦ (any_marked, (read.0, λ told. absurd (none told)), λ told. absurd (none told))
     ]
 
-misread : (info : Info) (limits : Limits) (i now j later : Incoming) (bytes : List ℕ) (which : Which) (fault : Fault) → Capped limits → Kept limits i now bytes → NotRead info limits which fault j later → Misreads info limits which fault i j now later
-misread info limits i now j later bytes First fault capped kept none = (subst (λ (f : Fault). ReadsTree info limits i (Err f) now) (sym none.0) kept.0, none.1)
-misread info limits i now j later bytes Second fault capped kept none = let first = first_read info limits i now bytes capped kept in (first.0, first.1, none)
+misread : (setting : Setting) (limits : Limits) (i now j later : Incoming) (bytes : List ℕ) (which : Which) (fault : Fault) → Capped limits → Kept limits i now bytes → NotRead setting limits which fault j later → Misreads setting limits which fault i j now later
+misread setting limits i now j later bytes First fault capped kept none = (subst (λ (f : Fault). ReadsTree setting limits i (Err f) now) (sym none.0) kept.0, none.1)
+misread setting limits i now j later bytes Second fault capped kept none = let first = first_read setting limits i now bytes capped kept in (first.0, first.1, none)
 
-pub finds : (info : Info) (limits : Limits) (i now j later : Incoming) (bytes : List ℕ) (answer : Result (Option Difference) SameFault) → Capped limits → Kept limits i now bytes → ComparesWith info limits bytes j answer later → FindsDifference info limits i j answer now later
-finds info limits i now j later bytes (Ok answer) capped kept read =
+pub finds : (setting : Setting) (limits : Limits) (i now j later : Incoming) (bytes : List ℕ) (answer : Result (Option Difference) SameFault) → Capped limits → Kept limits i now bytes → ComparesWith setting limits bytes j answer later → FindsDifference setting limits i j answer now later
+finds setting limits i now j later bytes (Ok answer) capped kept read =
     let a = marked_first limits i now bytes kept in
-    let b = marked_second info limits j later bytes answer read in
+    let b = marked_second setting limits j later bytes answer read in
     (a.0, b.0, a.1, b.1, λ first second. b.2 second a.0 (a.2 first))
-finds info limits i now j later bytes (Err e) capped kept none = misread info limits i now j later bytes e.which e.fault capped kept none
+finds setting limits i now j later bytes (Err e) capped kept none = misread setting limits i now j later bytes e.which e.fault capped kept none
 
 -- the first was in memory
-pub finds_in_bytes : (info : Info) (limits : Limits) (bytes : List ℕ) (i now j later : Incoming) (checked : Unit {0}) (answer : Result (Option Difference) SameFault) → Capped limits → i ≡ source_of bytes → now.failures ≡ 0
-    → ReadsWhole (λ (all : List ℕ) (_ : Unit {0}). (m : Marked) × SpellsInput limits all m) limits i (Ok checked) now → ComparesWith info limits bytes j answer later → FindsInBytes info limits bytes j answer later
-finds_in_bytes info limits bytes i now j later checked answer capped is never read compared =
+pub finds_in_bytes : (setting : Setting) (limits : Limits) (bytes : List ℕ) (i now j later : Incoming) (checked : Unit {0}) (answer : Result (Option Difference) SameFault) → Capped limits → i ≡ source_of bytes → now.failures ≡ 0
+    → ReadsWhole (λ (all : List ℕ) (_ : Unit {0}). (m : Marked) × SpellsInput limits all m) limits i (Ok checked) now → ComparesWith setting limits bytes j answer later → FindsInBytes setting limits bytes j answer later
+finds_in_bytes setting limits bytes i now j later checked answer capped is never read compared =
     let whole = subst (λ (s : Incoming). ReadsWhole (λ (all : List ℕ) (_ : Unit {0}). (m : Marked) × SpellsInput limits all m) limits s (Ok checked) now) is read in
-    (now, never, finds info limits (source_of bytes) now j later bytes answer capped (whole.0, λ tells. let found = whole.1 tells in ((refl, found.0), found.1)) compared)
+    (now, never, finds setting limits (source_of bytes) now j later bytes answer capped (whole.0, λ tells. let found = whole.1 tells in ((refl, found.0), found.1)) compared)
 
-misread_first : (info : Info) (limits : Limits) (i now j : Incoming) (fault : Fault) → ReadsWhole (λ (all : List ℕ) (_ : Unit {0}). (m : Marked) × SpellsInput limits all m) limits i (Err fault) now → FindsDifference info limits i j (Err (record { which = First; fault = fault })) now j
-misread_first info limits i now j (Refused reason bit) read = (read, refl)
-misread_first info limits i now j Read read = (read, refl)
-misread_first info limits i now j Memory read = (read, refl)
-misread_first info limits i now j Write read = absurd read
-misread_first info limits i now j OutputTooLong read = absurd read
-misread_first info limits i now j Failed read = absurd read
+misread_first : (setting : Setting) (limits : Limits) (i now j : Incoming) (fault : Fault) → ReadsWhole (λ (all : List ℕ) (_ : Unit {0}). (m : Marked) × SpellsInput limits all m) limits i (Err fault) now → FindsDifference setting limits i j (Err (record { which = First; fault = fault })) now j
+misread_first setting limits i now j (Refused reason bit) read = (read, refl)
+misread_first setting limits i now j Read read = (read, refl)
+misread_first setting limits i now j Memory read = (read, refl)
+misread_first setting limits i now j Write read = absurd read
+misread_first setting limits i now j OutputTooLong read = absurd read
+misread_first setting limits i now j Failed read = absurd read
 
 -- it was not accepted
-pub bytes_misread : (info : Info) (limits : Limits) (bytes : List ℕ) (i now j : Incoming) (fault : Fault) → i ≡ source_of bytes → now.failures ≡ 0 → ReadsWhole (λ (all : List ℕ) (_ : Unit {0}). (m : Marked) × SpellsInput limits all m) limits i (Err fault) now
-    → FindsInBytes info limits bytes j (Err (record { which = First; fault = fault })) j
-bytes_misread info limits bytes i now j fault is never read =
-    (now, never, misread_first info limits (source_of bytes) now j fault (subst (λ (s : Incoming). ReadsWhole (λ (all : List ℕ) (_ : Unit {0}). (m : Marked) × SpellsInput limits all m) limits s (Err fault) now) is read))
+pub bytes_misread : (setting : Setting) (limits : Limits) (bytes : List ℕ) (i now j : Incoming) (fault : Fault) → i ≡ source_of bytes → now.failures ≡ 0 → ReadsWhole (λ (all : List ℕ) (_ : Unit {0}). (m : Marked) × SpellsInput limits all m) limits i (Err fault) now
+    → FindsInBytes setting limits bytes j (Err (record { which = First; fault = fault })) j
+bytes_misread setting limits bytes i now j fault is never read =
+    (now, never, misread_first setting limits (source_of bytes) now j fault (subst (λ (s : Incoming). ReadsWhole (λ (all : List ℕ) (_ : Unit {0}). (m : Marked) × SpellsInput limits all m) limits s (Err fault) now) is read))
 
 -- ---- whether there is no difference
 
 -- the tree of what was read
-tree_read : (info : Info) (limits : Limits) (i now : Incoming) (m : Marked) → Capped limits → ReadsMarked limits i m now → ReadsTree info limits i (Ok (tree_of info m)) now
-tree_read info limits i now m capped read = (read.0, λ tells. let found = read.1 tells in (has_fit info limits (known_bytes i.to_come) m capped found.0, found.1))
+tree_read : (setting : Setting) (limits : Limits) (i now : Incoming) (m : Marked) → Capped limits → ReadsMarked limits i m now → ReadsTree setting limits i (Ok (under setting (tree_of m))) now
+tree_read setting limits i now m capped read = (read.0, λ tells. let found = read.1 tells in (has_fit setting limits (known_bytes i.to_come) m capped found.0, found.1))
 
 swapped : (answer : Bool) (a b : Tree) → IsTrue answer ↔ (a ≡ b) → IsTrue answer ↔ (b ≡ a)
 swapped answer a b is = (λ yes. sym (is.0 yes), λ e. is.1 (sym e))
 
-both_read : (info : Info) (limits : Limits) (i now j later : Incoming) (a b : Marked) (same : Bool) → Capped limits → ReadsMarked limits i a now → ReadsMarked limits j b later
-    → (IsSome i.to_come → IsSome j.to_come → IsTrue same ↔ (tree_of info a ≡ tree_of info b)) → Compares info limits i j (Ok same) now later
-both_read info limits i now j later a b same capped first second is =
+both_read : (setting : Setting) (limits : Limits) (i now j later : Incoming) (a b : Marked) (same : Bool) → Capped limits → ReadsMarked limits i a now → ReadsMarked limits j b later
+    → (IsSome i.to_come → IsSome j.to_come → IsTrue same ↔ (under setting (tree_of a) ≡ under setting (tree_of b))) → Compares setting limits i j (Ok same) now later
+both_read setting limits i now j later a b same capped first second is =
     elim (tells_or_not i.to_come) [
-      | inr none ↦ let other = beside same (tree_of info b) in (other.0, tree_of info b, untold info limits i now other.0 first.0 none, tree_read info limits j later b capped second, other.1)
+      | inr none ↦ let other = beside same (under setting (tree_of b)) in (other.0, under setting (tree_of b), untold setting limits i now other.0 first.0 none, tree_read setting limits j later b capped second, other.1)
       | inl known ↦
           elim (tells_or_not j.to_come) [
-            | inr none ↦ let other = beside same (tree_of info a) in (tree_of info a, other.0, tree_read info limits i now a capped first, untold info limits j later other.0 second.0 none, swapped same other.0 (tree_of info a) other.1)
-            | inl told ↦ (tree_of info a, tree_of info b, tree_read info limits i now a capped first, tree_read info limits j later b capped second, is known told)
+            | inr none ↦ let other = beside same (under setting (tree_of a)) in (under setting (tree_of a), other.0, tree_read setting limits i now a capped first, untold setting limits j later other.0 second.0 none, swapped same other.0 (under setting (tree_of a)) other.1)
+            | inl told ↦ (under setting (tree_of a), under setting (tree_of b), tree_read setting limits i now a capped first, tree_read setting limits j later b capped second, is known told)
           ]
     ]
 
-pub compares : (info : Info) (limits : Limits) (i now j later : Incoming) (found : Result (Option Difference) SameFault) (answer : Result Bool SameFault) → Capped limits → FindsDifference info limits i j found now later → SaysNone found answer → Compares info limits i j answer now later
-compares info limits i now j later (Ok None) answer capped finds says =
-    subst (λ (r : Result Bool SameFault). Compares info limits i j r now later) (sym says)
-    (both_read info limits i now j later finds.0 finds.1 true capped finds.2 finds.3 (λ first second. (λ yes. finds.4 first second, λ e. refl)))
-compares info limits i now j later (Ok (Some d)) answer capped finds says =
-    subst (λ (r : Result Bool SameFault). Compares info limits i j r now later) (sym says)
-    (both_read info limits i now j later finds.0 finds.1 false capped finds.2 finds.3 (λ first second. (λ no. absurd cc, λ e. absurd (never_same info finds.0 finds.1 (difference_shown d) (finds.4 first second) e))))
-compares info limits i now j later (Err e) answer capped finds says = subst (λ (r : Result Bool SameFault). Compares info limits i j r now later) (sym says) finds
+pub compares : (setting : Setting) (limits : Limits) (i now j later : Incoming) (found : Result (Option Difference) SameFault) (answer : Result Bool SameFault) → Capped limits → FindsDifference setting limits i j found now later → SaysNone found answer → Compares setting limits i j answer now later
+compares setting limits i now j later (Ok None) answer capped finds says =
+    subst (λ (r : Result Bool SameFault). Compares setting limits i j r now later) (sym says)
+    (both_read setting limits i now j later finds.0 finds.1 true capped finds.2 finds.3 (λ first second. (λ yes. finds.4 first second, λ e. refl)))
+compares setting limits i now j later (Ok (Some d)) answer capped finds says =
+    subst (λ (r : Result Bool SameFault). Compares setting limits i j r now later) (sym says)
+    (both_read setting limits i now j later finds.0 finds.1 false capped finds.2 finds.3 (λ first second. (λ no. absurd cc, λ e. absurd (never_same setting finds.0 finds.1 (difference_shown d) (finds.4 first second) e))))
+compares setting limits i now j later (Err e) answer capped finds says = subst (λ (r : Result Bool SameFault). Compares setting limits i j r now later) (sym says) finds

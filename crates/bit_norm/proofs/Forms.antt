@@ -7,7 +7,9 @@ use Rattle.bit_grammar.specs.Size.{size_of}
 use Rattle.bit_grammar.proofs.Sizes.{items_end}
 use Rattle.bit_grammar.proofs.Numbers.{length-bits_of}
 use Rattle.std.specs.Prelude.{IsSome}
-use Rattle.bit_grammar.specs.declared.info.Info.{Info}
+use Rattle.bit_grammar.specs.Setting.{Setting}
+use Rattle.bit_grammar.specs.Under.{items_under, under}
+use Rattle.bit_grammar.proofs.Under.{marks_left}
 use Rattle.bit_grammar.specs.Blocks.{Limits}
 use Rattle.bit_grammar.specs.Forest.{Fit}
 use Rattle.bit_grammar.specs.Input.{Head, tree_of}
@@ -24,7 +26,7 @@ use Rattle.bit_tree.specs.Reading.{HasFit}
 use Rattle.bit_norm.specs.Told.{told_at_level}
 use Rattle.bit_tree.proofs.Gathered.{open_behind-flat}
 use Rattle.bit_norm.proofs.Told.{told_flat}
-use Rattle.bit_norm.specs.Building.{IsFormOf}
+use Rattle.bit_norm.specs.Building.{left, IsFormOf}
 use Rattle.bit_norm.specs.Whole.{ReadsTree, Normalises}
 use Rattle.bit_norm.specs.Writing.{WritesForm}
 use Rattle.bit_norm.specs.declared.form_builder.FormBuilder.{FormBuilder}
@@ -44,46 +46,48 @@ form_bytes tree text blocks = omega (arith, ap length blocks, items_end tree.blo
 
 -- What a builder gathered of an input are events that leave no block open, and where the input is known, its tree is that of
 -- these events.
-pub record Found (info : Info) (limits : Limits) (to_come : Option (List ℕ)) (first last : FormBuilder) (magic : ℕ) : Type 0 where
+pub record Found (s : Setting) (limits : Limits) (to_come : Option (List ℕ)) (first last : FormBuilder) (magic : ℕ) : Type 0 where
   pub events : List Event
   pub form : IsFormOf first events last
   pub closed : left_open events ≡ 0
-  pub fit : IsSome to_come → HasFit info limits (known_bytes to_come) (record { magic = magic; blocks = told_at_level first.info events 0 })
+  pub fit : IsSome to_come → HasFit s limits (known_bytes to_come) (record { magic = magic; blocks = told_at_level (left first events) 0 })
 
-pub found : (info : Info) (limits : Limits) (to_come : Option (List ℕ)) (first last : FormBuilder) (head : Head) (after magic : ℕ) → GatheredSome IsFormOf first last → (IsSome to_come → Gathered IsFormOf limits (known_bytes to_come) first head last after)
-    → first.info ≡ info → magic ≡ head.magic → Found info limits to_come first last magic
-found info limits None first last head after magic some all info_is magic_is = record { events = some.0; form = some.1; closed = some.2; fit = λ known. absurd cc }
-found info limits (Some bytes) first last head after magic some all info_is magic_is =
+pub found : (s : Setting) (limits : Limits) (to_come : Option (List ℕ)) (first last : FormBuilder) (head : Head) (after magic : ℕ) → GatheredSome IsFormOf first last → (IsSome to_come → Gathered IsFormOf limits (known_bytes to_come) first head last after)
+    → first.standing.setting ≡ s → magic ≡ head.magic → Found s limits to_come first last magic
+found s limits None first last head after magic some all setting_is magic_is = record { events = some.0; form = some.1; closed = some.2; fit = λ known. absurd cc }
+found s limits (Some bytes) first last head after magic some all setting_is magic_is =
     let it = all refl in
     let m = it.marked in
     let number : m.head.magic ≡ magic = ap (λ (h : Head). h.magic) it.is_head ∙ sym magic_is in
-    let blocks : forest_of info m.blocks ≡ told_at_level first.info (flat m.blocks []) 0 = sym (ap (λ (i : Info). told_at_level i (flat m.blocks []) 0) info_is ∙ told_flat info m.blocks) in
-    let same : tree_of info m ≡ record { magic = magic; blocks = told_at_level first.info (flat m.blocks []) 0 } =
-    ap (λ (n : ℕ). record { magic = n; blocks = forest_of info m.blocks }) number ∙ ap (λ (x : Forest). record { magic = magic; blocks = x }) blocks in
+    let n = marks_left first.standing.setting m.blocks in
+    let blocks : items_under s 0 (forest_of m.blocks) ≡ told_at_level (left first (flat m.blocks [])) 0 =
+    sym (ap (λ (es : List Event). told_at_level es 0) n.1 ∙ told_flat n.0 ∙ n.2 ∙ ap (λ (t : Setting). items_under t 0 (forest_of m.blocks)) setting_is) in
+    let same : under s (tree_of m) ≡ record { magic = magic; blocks = told_at_level (left first (flat m.blocks [])) 0 } =
+    ap (λ (k : ℕ). record { magic = k; blocks = items_under s 0 (forest_of m.blocks) }) number ∙ ap (λ (x : Forest). record { magic = magic; blocks = x }) blocks in
     record {
       events = flat m.blocks [];
       form = it.gathers;
       closed = open_behind-flat m.blocks [] 0;
-      fit = λ known. ((m, it.spelled, same), subst Fit same (fit_of_setting info limits bytes m it.capped it.spelled));
+      fit = λ known. ((m, it.spelled, same), subst Fit same (fit_of_setting s limits bytes m it.capped it.spelled));
     }
 
 abbrev failure : {A : Type 0} → Fault → Result A Fault
 failure fault = Err fault
 
 -- it was read, and its form was written
-pub wrote_form : (info : Info) (limits : Limits) (i : Incoming) (o : Outgoing) (answer : Result ℕ Fault) (now : Incoming) (new : Outgoing) (tree : Tree) → ReadsTree info limits i (Ok tree) now → WritesForm tree limits.bytes o answer new → Normalises info limits i o answer now new
-wrote_form info limits i o (Ok count) now new tree read wrote = (tree, read, wrote)
-wrote_form info limits i o (Err Write) now new tree read wrote = (tree, read, wrote)
-wrote_form info limits i o (Err OutputTooLong) now new tree read wrote = (tree, read, wrote)
-wrote_form info limits i o (Err (Refused reason bit)) now new tree read wrote = absurd wrote
-wrote_form info limits i o (Err Read) now new tree read wrote = absurd wrote
-wrote_form info limits i o (Err Memory) now new tree read wrote = absurd wrote
-wrote_form info limits i o (Err Failed) now new tree read wrote = wrote
+pub wrote_form : (s : Setting) (limits : Limits) (i : Incoming) (o : Outgoing) (answer : Result ℕ Fault) (now : Incoming) (new : Outgoing) (tree : Tree) → ReadsTree s limits i (Ok tree) now → WritesForm tree limits.bytes o answer new → Normalises s limits i o answer now new
+wrote_form s limits i o (Ok count) now new tree read wrote = (tree, read, wrote)
+wrote_form s limits i o (Err Write) now new tree read wrote = (tree, read, wrote)
+wrote_form s limits i o (Err OutputTooLong) now new tree read wrote = (tree, read, wrote)
+wrote_form s limits i o (Err (Refused reason bit)) now new tree read wrote = absurd wrote
+wrote_form s limits i o (Err Read) now new tree read wrote = absurd wrote
+wrote_form s limits i o (Err Memory) now new tree read wrote = absurd wrote
+wrote_form s limits i o (Err Failed) now new tree read wrote = wrote
 
 -- it was read, whatever is known of it
-pub read_tree : (info : Info) (limits : Limits) (i now : Incoming) (first last : FormBuilder) (head : Head) (after magic : ℕ) (f : Found info limits i.to_come first last magic) → Spent limits i now × (IsSome i.to_come → Gathered IsFormOf limits (known_bytes i.to_come) first head last after × (known_bytes now.to_come ≡ []))
-    → ReadsTree info limits i (Ok (record { magic = magic; blocks = told_at_level first.info f.events 0 })) now
-read_tree info limits i now first last head after magic f all = (all.0, λ known. (f.fit known, (all.1 known).1))
+pub read_tree : (s : Setting) (limits : Limits) (i now : Incoming) (first last : FormBuilder) (head : Head) (after magic : ℕ) (f : Found s limits i.to_come first last magic) → Spent limits i now × (IsSome i.to_come → Gathered IsFormOf limits (known_bytes i.to_come) first head last after × (known_bytes now.to_come ≡ []))
+    → ReadsTree s limits i (Ok (record { magic = magic; blocks = told_at_level (left first f.events) 0 })) now
+read_tree s limits i now first last head after magic f all = (all.0, λ known. (f.fit known, (all.1 known).1))
 
 -- what was not read as one thing was not read as another
 pub unread : {A B : Type 0} (H : List ℕ → A → Type 0) (K : List ℕ → B → Type 0) (limits : Limits) (i now : Incoming) (fault : Fault) → ReadsWhole H limits i (failure {A = A} fault) now → ReadsWhole K limits i (failure {A = B} fault) now

@@ -1,33 +1,73 @@
 -- An input that is read in step with another one.
-use Rattle.std.proofs.Common.{◌≡◌, ℕ, zero, suc, ◌+◌, ◌-◌, ◌<◌, ◌≤◌, Bool, true, false, IsTrue, List, [], ◌∷◌, ◌++◌, Option, Some, None, length, refl, sym, ap, ◌∙◌, ◌⊎◌, inl, inr, subst, append_assoc, length-append, arith}
-use Rattle.std.specs.Prelude.{◌↔◌, ◌≢◌, min}
-use Rattle.std.proofs.lemmas.List.{length-drop}
-use Rattle.bit_grammar.specs.declared.info.Info.{Info}
-use Rattle.bit_grammar.specs.Marks.{RecordMark, DefinitionMark, keeps}
+use Rattle.std.proofs.Common.{◌≡◌, ℕ, suc, ◌+◌, ◌-◌, ◌<◌, Bool, true, false, List, [], ◌∷◌, ◌++◌, Option, Some, None, length, refl, sym, ap, ◌∙◌, subst, append_assoc, length-append, arith}
+use Rattle.std.specs.Prelude.{min, if◌then◌else◌}
+use Rattle.std.proofs.lemmas.List.{append-nil}
+use Rattle.std.specs.List.{list_all}
+use Rattle.bit_grammar.specs.Setting.{keeps}
+use Rattle.bit_grammar.specs.Under.{is_left, ids_behind, events_under}
+use Rattle.bit_grammar.proofs.Under.{ids_behind-push}
+use Rattle.bit_grammar.specs.Marks.{RecordMark, DefinitionMark}
 use Rattle.bit_grammar.specs.Machine.{Opened, Event, enters, defines, notes, leaves}
 use Rattle.bit_grammar.specs.Steps.{open_after}
 use Rattle.bit_grammar.specs.Machine.{Told}
 use Rattle.bit_events.specs.Coming.{Coming, Tells, Ends}
 use Rattle.bit_events.specs.Gathering.{left_open}
 use Rattle.bit_events.proofs.Folds.{open_behind-push}
-use Rattle.bit_norm.specs.Entries.{Sign, begins, has_record, ends, over, Entry, signs_in, open_block, FirstApart, Seen, Standing, at_item, standing, standing_shown, apart, first_unlike, value_apart, what_of}
+use Rattle.bit_events.specs.Standing as blocks
+use Rattle.bit_events.proofs.Standings.{left_as_many, left_push}
+use Rattle.bit_norm.specs.Entries.{Sign, begins, has_record, ends, over, Entry, signs_in, open_block, Seen, Standing, at_item, standing, standing_shown, apart, first_unlike, what_of}
 use Rattle.bit_norm.specs.declared.differences.OpenBlock.{OpenBlock}
 use Rattle.bit_norm.specs.declared.differences.ValueDifference.{ValueDifference}
 use Rattle.bit_norm.specs.declared.in_step.Beside.{Beside}
 use Rattle.bit_norm.specs.declared.in_step.Beside.TheVariants.{Other}
 use Rattle.bit_norm.specs.declared.in_step.Found.{Found}
-use Rattle.bit_norm.specs.InStep.{Stand, Said, said, passed_after, closing, moved, entry_of, stand_after, put_entry, told_entries, behind_sign, IsOther, StandsBeside, SaysBeside, Took, Compared, here, left, ended_from, second_end, right, seen_of, Agrees, Departs, TakesSign, Alike, ApartAt, Tallied}
+use Rattle.bit_norm.specs.InStep.{Stand, Said, said, said_left, closing, moved, entry_of, stand_after, put_entry, told_entries, behind_sign, IsOther, StandsBeside, SaysBeside, Took, Compared, here, left, ended_from, second_end, right, seen_of, Departs, TakesSign, Alike, ApartAt, Tallied}
 
 -- ---- one event
 
-pub begin_says : (info : Info) (o : Opened) (ended : ℕ) (sign : Sign) (b : Beside) → keeps info o.id ≡ true → StandsBeside (record { sign = begins o.id; bit = o.first; ended = o.body }) sign b → SaysBeside info 0 ended (enters o) sign b
-begin_says info o ended sign b kept is = record { found = record { sign = begins o.id; bit = o.first; ended = o.body }; is = rw kept refl; after = rw kept refl; beside = is }
+pub begin_says : (o : Opened) (ended : ℕ) (sign : Sign) (b : Beside) → StandsBeside (record { sign = begins o.id; bit = o.first; ended = o.body }) sign b → SaysBeside (said ended (enters o)) sign b
+begin_says o ended sign b is = record { found = record { sign = begins o.id; bit = o.first; ended = o.body }; is = refl; beside = is }
 
-pub record_says : (info : Info) (mark : RecordMark) (ended : ℕ) (sign : Sign) (b : Beside) → StandsBeside (record { sign = has_record mark.code mark.values; bit = mark.first; ended = mark.after }) sign b → SaysBeside info 0 ended (notes mark) sign b
-record_says info mark ended sign b is = record { found = record { sign = has_record mark.code mark.values; bit = mark.first; ended = mark.after }; is = refl; after = refl; beside = is }
+pub record_says : (mark : RecordMark) (ended : ℕ) (sign : Sign) (b : Beside) → StandsBeside (record { sign = has_record mark.code mark.values; bit = mark.first; ended = mark.after }) sign b → SaysBeside (said ended (notes mark)) sign b
+record_says mark ended sign b is = record { found = record { sign = has_record mark.code mark.values; bit = mark.first; ended = mark.after }; is = refl; beside = is }
 
-pub end_says : (info : Info) (after ended : ℕ) (sign : Sign) (b : Beside) → StandsBeside (record { sign = ends; bit = ended; ended = after }) sign b → SaysBeside info 0 ended (leaves after) sign b
-end_says info after ended sign b is = record { found = record { sign = ends; bit = ended; ended = after }; is = refl; after = refl; beside = is }
+pub end_says : (after ended : ℕ) (sign : Sign) (b : Beside) → StandsBeside (record { sign = ends; bit = ended; ended = after }) sign b → SaysBeside (said ended (leaves after)) sign b
+end_says after ended sign b is = record { found = record { sign = ends; bit = ended; ended = after }; is = refl; beside = is }
+
+-- an event that is not left says nothing, and one that is left what it says
+pub left_out_says : (stands : blocks.Standing) (ended : ℕ) (event : Event) → is_left stands.setting stands.ids event ≡ false → said_left stands ended event ≡ None
+left_out_says stands ended event out = ap (λ (b : Bool). if b then said ended event else None) out
+
+pub left_says : (stands : blocks.Standing) (ended : ℕ) (event : Event) → is_left stands.setting stands.ids event ≡ true → said_left stands ended event ≡ said ended event
+left_says stands ended event left = ap (λ (b : Bool). if b then said ended event else None) left
+
+-- what an event says stands before what the others tell
+pub entries_first : (stands : blocks.Standing) (s : Stand) (event : Event) (events : List Event)
+    → told_entries s (blocks.left_of stands (event ∷ events)) ≡ put_entry s (said_left stands s.ended event) (told_entries (stand_after s (said_left stands s.ended event)) (blocks.left_of (blocks.stands_after event stands) events))
+entries_first stands s event events = go (is_left stands.setting stands.ids event)
+  where
+    others : List Event
+    others = blocks.left_of (blocks.stands_after event stands) events
+
+    go : (b : Bool) → told_entries s (if b then event ∷ others else others) ≡ put_entry s (if b then said s.ended event else None) (told_entries (stand_after s (if b then said s.ended event else None)) others)
+    go true = refl
+    go false = refl
+
+-- nothing is said
+pub entries_silent : (stands next : blocks.Standing) (s : Stand) (event : Event) (events : List Event) → said_left stands s.ended event ≡ None → next ≡ blocks.stands_after event stands
+    → told_entries s (blocks.left_of stands (event ∷ events)) ≡ told_entries s (blocks.left_of next events)
+entries_silent stands next s event events none is =
+    entries_first stands s event events
+    ∙ ap (λ (o : Option Said). put_entry s o (told_entries (stand_after s o) (blocks.left_of (blocks.stands_after event stands) events))) none
+    ∙ ap (λ (st : blocks.Standing). told_entries s (blocks.left_of st events)) (sym is)
+
+-- this is said
+pub entries_said : (stands next : blocks.Standing) (s : Stand) (event : Event) (x : Said) (events : List Event) → said_left stands s.ended event ≡ Some x → next ≡ blocks.stands_after event stands
+    → told_entries s (blocks.left_of stands (event ∷ events)) ≡ entry_of s x ∷ told_entries (moved s x.sign x.ended) (blocks.left_of next events)
+entries_said stands next s event x events found is =
+    entries_first stands s event events
+    ∙ ap (λ (o : Option Said). put_entry s o (told_entries (stand_after s o) (blocks.left_of (blocks.stands_after event stands) events))) found
+    ∙ ap (λ (st : blocks.Standing). entry_of s x ∷ told_entries (moved s x.sign x.ended) (blocks.left_of st events)) (sym is)
 
 -- ---- values
 
@@ -82,65 +122,65 @@ alike_more a b more rest x y was same = record {
 alike_along : (a b c l m n o : List Entry) → b ≡ c → l ≡ m → n ≡ o → Alike a b l n → Alike a c m o
 alike_along a b c l m n o e f g was = rw (sym e, sym f, sym g) was
 
+-- ---- the open blocks of the second
+
+abbrev pub with_blocks : Compared → blocks.Standing → Compared
+with_blocks c next = record { first = c.first; first_blocks = c.first_blocks; second_blocks = next; within = c.within; items = c.items; first_ended = c.first_ended; second_ended = c.second_ended; found = c.found }
+
+module _ (begun old : Compared) (done : List Event) (event : Event) (was : Tallied begun done old) where
+  judged : (b : Bool) → is_left old.second_blocks.setting old.second_blocks.ids event ≡ b → is_left begun.second_blocks.setting (ids_behind done []) event ≡ b
+  judged b is = ap (λ (st : blocks.Standing). is_left st.setting st.ids event) (sym was.stands) ∙ is
+
+  -- the events that are left
+  pub left_more : (b : Bool) → is_left old.second_blocks.setting old.second_blocks.ids event ≡ b → events_under begun.second_blocks.setting [] (done ++ event ∷ []) ≡ events_under begun.second_blocks.setting [] done ++ (if b then event ∷ [] else [])
+  left_more b is = left_push begun.second_blocks.setting done event [] b (judged b is)
+
+  pub stands_on : (next : blocks.Standing) → next ≡ blocks.stands_after event old.second_blocks → next ≡ record { setting = begun.second_blocks.setting; ids = ids_behind (done ++ event ∷ []) [] }
+  stands_on next is =
+      is ∙ ap (blocks.stands_after event) was.stands ∙ ap (λ (ids : List ℕ). let st : blocks.Standing = record { setting = begun.second_blocks.setting; ids = ids } in st) (sym (ids_behind-push done event []))
+
+  -- as many blocks are open in what is left, where each is left
+  pub some_left : list_all (keeps old.second_blocks.setting) old.second_blocks.ids ≡ true → 0 < left_open done → 0 < left_open (events_under begun.second_blocks.setting [] done)
+  some_left all some =
+      let same : list_all (keeps begun.second_blocks.setting) (ids_behind done []) ≡ true = ap (λ (st : blocks.Standing). list_all (keeps st.setting) st.ids) (sym was.stands) ∙ all in
+      omega (arith, left_as_many begun.second_blocks.setting done same, some)
+
 -- ---- an event that says nothing
 
-abbrev pub with_passed : Compared → ℕ → Compared
-with_passed c passed = record { info = c.info; first = c.first; within = c.within; items = c.items; first_ended = c.first_ended; second_ended = c.second_ended; passed = passed; found = c.found }
-
-silent : (c : Compared) (p passed : ℕ) (event : Event) (following : List Event) → said c.info c.passed (second_end p c) event ≡ None → passed_after c.info c.passed event ≡ passed → right p c (event ∷ following) ≡ right p (with_passed c passed) following
-silent c p passed event following none is = rw (none, is) refl
-
-pub tally_silent : (begun old : Compared) (done : List Event) (event : Event) (passed : ℕ) → Tallied begun done old → ((ended : ℕ) → said old.info old.passed ended event ≡ None) → passed_after old.info old.passed event ≡ passed
-    → (length old.within + passed ≡ open_after event (length old.within + old.passed)) → Tallied begun (done ++ event ∷ []) (with_passed old passed)
-tally_silent begun old done event passed was none is deep = record {
-  info = was.info;
+pub tally_silent : (begun old : Compared) (done : List Event) (event : Event) (next : blocks.Standing) → Tallied begun done old → next ≡ blocks.stands_after event old.second_blocks → ((ended : ℕ) → said_left old.second_blocks ended event ≡ None)
+    → left_open (events_under begun.second_blocks.setting [] (done ++ event ∷ [])) ≡ left_open (events_under begun.second_blocks.setting [] done) → Tallied begun (done ++ event ∷ []) (with_blocks old next)
+tally_silent begun old done event next was is none deep = record {
+  stands = stands_on begun old done event was next is;
   tells = was.tells;
-  depth = λ found. deep ∙ ap (open_after event) (was.depth found) ∙ sym (open_behind-push done event 0);
+  depth = λ found. was.depth found ∙ sym deep;
   alike = λ tells found p following.
-      alike_along (left begun) _ _ (left old) (left old) _ _ (ap (right p begun) (sym (append_assoc done (event ∷ []) following))) refl (silent old p passed event following (none (second_end p old)) is) (was.alike tells found p (event ∷ following));
+      alike_along (left begun) _ _ (left old) (left old) _ _ (ap (right p begun) (sym (append_assoc done (event ∷ []) following))) refl (entries_silent old.second_blocks next (here old (second_end p old)) event following (none (second_end p old)) is) (was.alike tells found p (event ∷ following));
   apart = λ tells f found p following.
       subst (λ (events : List Event). ApartAt (left begun) (right p begun events) (seen_of old f)) (sym (append_assoc done (event ∷ []) following)) (was.apart tells f found p (event ∷ following));
 }
 
-definition_says : (info : Info) (passed ended : ℕ) (mark : DefinitionMark) → (said info passed ended (defines mark) ≡ None) × (passed_after info passed (defines mark) ≡ passed)
-definition_says info zero ended mark = (refl, refl)
-definition_says info (suc n) ended mark = (refl, refl)
+-- one that is not left
+pub tally_left_out : (begun old : Compared) (done : List Event) (event : Event) (next : blocks.Standing) → Tallied begun done old → next ≡ blocks.stands_after event old.second_blocks → is_left old.second_blocks.setting old.second_blocks.ids event ≡ false → Tallied begun (done ++ event ∷ []) (with_blocks old next)
+tally_left_out begun old done event next was is out =
+    tally_silent begun old done event next was is (λ ended. left_out_says old.second_blocks ended event out)
+    (ap left_open (left_more begun old done event was false out ∙ append-nil (events_under begun.second_blocks.setting [] done)))
 
+-- a definition
 pub tally_definition : (begun old : Compared) (done : List Event) (mark : DefinitionMark) → Tallied begun done old → Tallied begun (done ++ defines mark ∷ []) old
-tally_definition begun old done mark was = tally_silent begun old done (defines mark) old.passed was (λ ended. (definition_says old.info old.passed ended mark).0) (definition_says old.info old.passed 0 mark).1 refl
-
--- within blocks that are left out
-
-enter_passed : (info : Info) (passed ended : ℕ) (o : Opened) → (0 < passed) ⊎ ((passed ≤ 0) × (keeps info o.id ≡ false)) → (said info passed ended (enters o) ≡ None) × (passed_after info passed (enters o) ≡ passed + 1)
-enter_passed info zero ended o (inl some) = absurd (omega arith)
-enter_passed info zero ended o (inr out) = (rw out.1 refl, rw out.1 refl)
-enter_passed info (suc n) ended o w = (refl, omega arith)
-
-pub tally_passed_enter : (begun old : Compared) (done : List Event) (o : Opened) (passed : ℕ) → Tallied begun done old → (0 < old.passed) ⊎ ((old.passed ≤ 0) × (keeps old.info o.id ≡ false)) → passed ≡ old.passed + 1 → Tallied begun (done ++ enters o ∷ []) (with_passed old passed)
-tally_passed_enter begun old done o passed was out one =
-    tally_silent begun old done (enters o) passed was (λ ended. (enter_passed old.info old.passed ended o out).0) ((enter_passed old.info old.passed 0 o out).1 ∙ sym one) (omega (arith, one))
-
-record_passed : (info : Info) (passed ended : ℕ) (mark : RecordMark) → 0 < passed → (said info passed ended (notes mark) ≡ None) × (passed_after info passed (notes mark) ≡ passed)
-record_passed info zero ended mark some = absurd (omega arith)
-record_passed info (suc n) ended mark some = (refl, refl)
-
-pub tally_passed_record : (begun old : Compared) (done : List Event) (mark : RecordMark) → Tallied begun done old → 0 < old.passed → Tallied begun (done ++ notes mark ∷ []) old
-tally_passed_record begun old done mark was some = tally_silent begun old done (notes mark) old.passed was (λ ended. (record_passed old.info old.passed ended mark some).0) (record_passed old.info old.passed 0 mark some).1 refl
-
-end_passed : (info : Info) (passed ended after : ℕ) → 0 < passed → (said info passed ended (leaves after) ≡ None) × (passed_after info passed (leaves after) ≡ passed - 1)
-end_passed info zero ended after some = absurd (omega arith)
-end_passed info (suc n) ended after some = (refl, omega arith)
-
-pub tally_passed_end : (begun old : Compared) (done : List Event) (after passed : ℕ) → Tallied begun done old → 0 < old.passed → passed ≡ old.passed - 1 → Tallied begun (done ++ leaves after ∷ []) (with_passed old passed)
-tally_passed_end begun old done after passed was some one =
-    tally_silent begun old done (leaves after) passed was (λ ended. (end_passed old.info old.passed ended after some).0) ((end_passed old.info old.passed 0 after some).1 ∙ sym one) (omega (arith, one, some))
+tally_definition begun old done mark was = go (is_left old.second_blocks.setting old.second_blocks.ids (defines mark)) refl
+  where
+    go : (b : Bool) → is_left old.second_blocks.setting old.second_blocks.ids (defines mark) ≡ b → Tallied begun (done ++ defines mark ∷ []) old
+    go true is =
+        tally_silent begun old done (defines mark) old.second_blocks was refl (λ ended. left_says old.second_blocks ended (defines mark) is)
+        (ap left_open (left_more begun old done (defines mark) was true is) ∙ open_behind-push (events_under begun.second_blocks.setting [] done) (defines mark) 0)
+    go false is = tally_left_out begun old done (defines mark) old.second_blocks was refl is
 
 -- ---- a sign
 
--- after a difference nothing changes
-tally_stays : (begun old : Compared) (done : List Event) (event : Event) (f : Found) → Tallied begun done old → old.found ≡ Some f → Tallied begun (done ++ event ∷ []) old
+-- after a difference nothing changes but the open blocks
+tally_stays : (begun old : Compared) (done : List Event) (event : Event) (f : Found) → Tallied begun done old → old.found ≡ Some f → Tallied begun (done ++ event ∷ []) (with_blocks old (blocks.stands_after event old.second_blocks))
 tally_stays begun old done event f was found = record {
-  info = was.info;
+  stands = stands_on begun old done event was (blocks.stands_after event old.second_blocks) refl;
   tells = was.tells;
   depth = λ none. absurd cc;
   alike = λ tells none p following. absurd cc;
@@ -148,47 +188,51 @@ tally_stays begun old done event f was found = record {
       subst (λ (events : List Event). ApartAt (left begun) (right p begun events) (seen_of old g)) (sym (append_assoc done (event ∷ []) following)) (was.apart tells g is p (event ∷ following));
 }
 
--- what an event says, where no block is left out, and what this does to the place
+-- what an event says that is left, and what this does to the place
 pub record IsSigned (old : Compared) (event : Event) (x : Said) : Type 0 where
-  pub kept : old.passed ≡ 0
-  pub says : old.found ≡ None → (p : ℕ) → said old.info 0 (second_end p old) event ≡ Some x
-  pub after : passed_after old.info 0 event ≡ 0
+  pub kept : is_left old.second_blocks.setting old.second_blocks.ids event ≡ true
+  pub says : old.found ≡ None → (p : ℕ) → said (second_end p old) event ≡ Some x
   pub item : (entries : List Entry) → behind_sign x.sign entries ≡ entries
   pub ended : old.found ≡ None → (p before : ℕ) → (let s = moved (here old before) x.sign x.ended in (ended_from p s.within s.items s.ended ≡ s.ended))
   pub deep : old.found ≡ None → (before : ℕ) → length (moved (here old before) x.sign x.ended).within ≡ open_after event (length old.within)
 
+-- the comparison when the sign of an event is taken
+abbrev pub at_sign : Compared → Event → Compared
+at_sign old event = with_blocks old (blocks.stands_after event old.second_blocks)
+
 -- what is told of the second from there on
 signed : (old : Compared) (event : Event) (x : Said) (p : ℕ) (following : List Event) → IsSigned old event x → old.found ≡ None
-    → right p old (event ∷ following) ≡ entry_of (here old (second_end p old)) x ∷ told_entries old.info 0 (moved (here old (second_end p old)) x.sign x.ended) following
-signed old event x p following is none = rw (is.kept, is.says none p, is.after) refl
+    → right p old (event ∷ following) ≡ entry_of (here old (second_end p old)) x ∷ told_entries (moved (here old (second_end p old)) x.sign x.ended) (blocks.left_of (blocks.stands_after event old.second_blocks) following)
+signed old event x p following is none =
+    entries_said old.second_blocks (blocks.stands_after event old.second_blocks) (here old (second_end p old)) event x following (left_says old.second_blocks (second_end p old) event is.kept ∙ is.says none p) refl
 
 -- what is told then of the place behind
-behind_place : (old new : Compared) (event : Event) (x : Said) (p : ℕ) (following : List Event) → IsSigned old event x → old.found ≡ None → new.info ≡ old.info → new.passed ≡ old.passed
+behind_place : (old new : Compared) (event : Event) (x : Said) (p : ℕ) (following : List Event) → IsSigned old event x → old.found ≡ None → new.second_blocks ≡ blocks.stands_after event old.second_blocks
     → ((before : ℕ) → here new new.second_ended ≡ moved (here old before) x.sign x.ended)
-    → told_entries old.info 0 (moved (here old (second_end p old)) x.sign x.ended) following ≡ right p new following
-behind_place old new event x p following is none info passed moves =
+    → told_entries (moved (here old (second_end p old)) x.sign x.ended) (blocks.left_of (blocks.stands_after event old.second_blocks) following) ≡ right p new following
+behind_place old new event x p following is none stands moves =
     let place = moves (second_end p old) in
     let end : ended_from p new.within new.items new.second_ended ≡ new.second_ended =
     subst (λ (s : Stand). ended_from p s.within s.items s.ended ≡ s.ended) (sym place) (is.ended none p (second_end p old)) in
-    rw (info, passed, is.kept, end) (ap (λ (s : Stand). told_entries old.info 0 s following) (sym place))
+    let others = blocks.left_of (blocks.stands_after event old.second_blocks) following in
+    ap (λ (s : Stand). told_entries s others) (sym place)
+    ∙ ap (λ (e : ℕ). told_entries (here new e) others) (sym end)
+    ∙ ap (λ (st : blocks.Standing). told_entries (here new (second_end p new)) (blocks.left_of st following)) (sym stands)
 
-tally_agrees : (begun old new : Compared) (done : List Event) (event : Event) (x : Said) → Tallied begun done old → IsSigned old event x → TakesSign old x.sign x.bit x.ended new → old.found ≡ None → new.found ≡ None → Tallied begun (done ++ event ∷ []) new
+tally_agrees : (begun old new : Compared) (done : List Event) (event : Event) (x : Said) → Tallied begun done old → IsSigned old event x → TakesSign (at_sign old event) x.sign x.bit x.ended new → old.found ≡ None → new.found ≡ None → Tallied begun (done ++ event ∷ []) new
 tally_agrees begun old new done event x was is takes none found =
     let agrees = takes.same none found in record {
-      info = takes.info ∙ was.info;
+      stands = stands_on begun old done event was new.second_blocks takes.second_blocks;
       tells = λ tells. takes.tells (was.tells tells);
       depth = λ _.
           let deep : length new.within ≡ open_after event (length old.within) = ap (λ (s : Stand). length s.within) (agrees.moves 0) ∙ is.deep none 0 in
-          let depth = was.depth none in
-          let old_depth : length old.within ≡ left_open done = omega (arith, depth, is.kept) in
-          let now : length new.within + new.passed ≡ length new.within = omega (arith, takes.passed, is.kept) in
-          now ∙ deep ∙ ap (open_after event) old_depth ∙ sym (open_behind-push done event 0);
+          deep ∙ ap (open_after event) (was.depth none) ∙ sym (ap left_open (left_more begun old done event was true is.kept) ∙ open_behind-push (events_under begun.second_blocks.setting [] done) event 0);
       alike = λ tells _ p following.
           let one = agrees.takes (was.tells tells) in
           alike_more (left begun) _ (left new) (right p new following) (entry_of (here old old.first_ended) one.0) (entry_of (here old (second_end p old)) x)
           (alike_along (left begun) _ _ (left old) _ _ _ (ap (right p begun) (sym (append_assoc done (event ∷ []) following)))
           (one.2 ∙ ap (λ (l : List Entry). entry_of (here old old.first_ended) one.0 ∷ l) (is.item (left new)))
-          (signed old event x p following is none ∙ ap (λ (l : List Entry). entry_of (here old (second_end p old)) x ∷ l) (behind_place old new event x p following is none takes.info takes.passed agrees.moves))
+          (signed old event x p following is none ∙ ap (λ (l : List Entry). entry_of (here old (second_end p old)) x ∷ l) (behind_place old new event x p following is none takes.second_blocks agrees.moves))
           (was.alike tells none p (event ∷ following)))
           one.1;
       apart = λ tells f some p following. absurd cc;
@@ -226,40 +270,41 @@ departs_there a b l m old new y ended f others was stands departs one = (
   seen_apart old new one.0 y ended f departs one.3,
 )
 
-tally_departs : (begun old new : Compared) (done : List Event) (event : Event) (x : Said) (g : Found) → Tallied begun done old → IsSigned old event x → TakesSign old x.sign x.bit x.ended new → old.found ≡ None → new.found ≡ Some g → Tallied begun (done ++ event ∷ []) new
+tally_departs : (begun old new : Compared) (done : List Event) (event : Event) (x : Said) (g : Found) → Tallied begun done old → IsSigned old event x → TakesSign (at_sign old event) x.sign x.bit x.ended new → old.found ≡ None → new.found ≡ Some g → Tallied begun (done ++ event ∷ []) new
 tally_departs begun old new done event x g was is takes none found = record {
-  info = takes.info ∙ was.info;
+  stands = stands_on begun old done event was new.second_blocks takes.second_blocks;
   tells = λ tells. takes.tells (was.tells tells);
   depth = λ no. absurd cc;
   alike = λ tells no p following. absurd cc;
   apart = λ tells f some p following.
       let departs = takes.other none f some in
-      departs_there (left begun) _ (left old) _ old new x (second_end p old) f _
+      departs_there (left begun) _ (left old) _ (at_sign old event) new x (second_end p old) f _
       (alike_along (left begun) _ _ (left old) (left old) _ _ (ap (right p begun) (sym (append_assoc done (event ∷ []) following))) refl refl (was.alike tells none p (event ∷ following)))
       (signed old event x p following is none)
       departs
       (departs.takes (was.tells tells));
 }
 
-by_new : (begun old new : Compared) (done : List Event) (event : Event) (x : Said) (o : Option Found) → Tallied begun done old → IsSigned old event x → TakesSign old x.sign x.bit x.ended new → old.found ≡ None → new.found ≡ o → Tallied begun (done ++ event ∷ []) new
+by_new : (begun old new : Compared) (done : List Event) (event : Event) (x : Said) (o : Option Found) → Tallied begun done old → IsSigned old event x → TakesSign (at_sign old event) x.sign x.bit x.ended new → old.found ≡ None → new.found ≡ o → Tallied begun (done ++ event ∷ []) new
 by_new begun old new done event x None was is takes none found = tally_agrees begun old new done event x was is takes none found
 by_new begun old new done event x (Some g) was is takes none found = tally_departs begun old new done event x g was is takes none found
 
-by_old : (begun old new : Compared) (done : List Event) (event : Event) (x : Said) (o : Option Found) → Tallied begun done old → IsSigned old event x → TakesSign old x.sign x.bit x.ended new → old.found ≡ o → Tallied begun (done ++ event ∷ []) new
+by_old : (begun old new : Compared) (done : List Event) (event : Event) (x : Said) (o : Option Found) → Tallied begun done old → IsSigned old event x → TakesSign (at_sign old event) x.sign x.bit x.ended new → old.found ≡ o → Tallied begun (done ++ event ∷ []) new
 by_old begun old new done event x None was is takes found = by_new begun old new done event x new.found was is takes found refl
 by_old begun old new done event x (Some f) was is takes found = subst (λ (c : Compared). Tallied begun (done ++ event ∷ []) c) (sym (takes.stays f found)) (tally_stays begun old done event f was found)
 
 -- an event with a sign was taken
-pub tally_sign : (begun old new : Compared) (done : List Event) (event : Event) (x : Said) → Tallied begun done old → IsSigned old event x → TakesSign old x.sign x.bit x.ended new → Tallied begun (done ++ event ∷ []) new
-tally_sign begun old new done event x was is takes = by_old begun old new done event x old.found was is takes refl
+pub tally_sign : (begun old new : Compared) (next : blocks.Standing) (done : List Event) (event : Event) (x : Said) → Tallied begun done old → next ≡ blocks.stands_after event old.second_blocks → IsSigned old event x → TakesSign (with_blocks old next) x.sign x.bit x.ended new
+    → Tallied begun (done ++ event ∷ []) new
+tally_sign begun old new next done event x was stands is takes = by_old begun old new done event x old.found was is (subst (λ (st : blocks.Standing). TakesSign (with_blocks old st) x.sign x.bit x.ended new) stands takes) refl
 
 -- ---- the comparison begins
 
-pub tally_begun : (c : Compared) → c.within ≡ [] → c.passed ≡ 0 → c.found ≡ None → Tallied c [] c
-tally_begun c top none found = record {
-  info = refl;
+pub tally_begun : (c : Compared) → c.within ≡ [] → c.second_blocks.ids ≡ [] → c.found ≡ None → Tallied c [] c
+tally_begun c top outside found = record {
+  stands = ap (λ (ids : List ℕ). let st : blocks.Standing = record { setting = c.second_blocks.setting; ids = ids } in st) outside;
   tells = λ tells. tells;
-  depth = λ _. omega (arith, ap length top, none);
+  depth = λ _. ap length top;
   alike = λ tells _ p following. record { front = []; other_front = []; first = refl; second = refl; same = refl };
   apart = λ tells f some p following. absurd cc;
 }
@@ -267,24 +312,23 @@ tally_begun c top none found = record {
 -- ---- one sign is taken
 
 -- no event was left
-pub took_end : (info : Info) (s : Stand) (passed : ℕ) (old mid new : Coming) (sign : Sign) (b : Beside) → (Tells old → Tells mid × (told_entries info 0 s old.told.0 ≡ told_entries info passed s mid.told.0)) → Ends mid new
-    → StandsBeside (record { sign = over; bit = s.ended; ended = s.ended }) sign b → Tells old → Took info s old sign b new
-took_end info s passed old mid new sign b so_far stop beside tells =
-    let now = so_far tells in
-    let none : mid.told.0 ≡ [] = ap (λ (t : Told). t.0) (stop.told now.0).0 in
+pub took_end : (stands now : blocks.Standing) (s : Stand) (old mid new : Coming) (sign : Sign) (b : Beside) → (Tells old → Tells mid × (told_entries s (blocks.left_of stands old.told.0) ≡ told_entries s (blocks.left_of now mid.told.0))) → Ends mid new
+    → StandsBeside (record { sign = over; bit = s.ended; ended = s.ended }) sign b → Tells old → Took stands s old sign b now new
+took_end stands now s old mid new sign b so_far stop beside tells =
+    let at = so_far tells in
+    let none : mid.told.0 ≡ [] = ap (λ (t : Told). t.0) (stop.told at.0).0 in
     record {
-      tells = stop.pays.tells now.0;
+      tells = stop.pays.tells at.0;
       found = record { sign = over; bit = s.ended; ended = s.ended };
-      is = now.1 ∙ ap (told_entries info passed s) none;
+      is = at.1 ∙ ap (λ (events : List Event). told_entries s (blocks.left_of now events)) none;
       beside = beside;
     }
 
-pub departed : (old : Compared) (coming : Coming) (sign : Sign) (bit ended : ℕ) (f : Found) → old.found ≡ None → (Tells old.first → Took old.info (here old old.first_ended) old.first sign (Other f.first f.value) coming)
+pub departed : (old : Compared) (coming : Coming) (now : blocks.Standing) (sign : Sign) (bit ended : ℕ) (f : Found) → old.found ≡ None → (Tells old.first → Took old.first_blocks (here old old.first_ended) old.first sign (Other f.first f.value) now coming)
     → (let s : Standing = record { bit = bit; what = what_of sign } in (standing_shown f.second ≡ s))
-    → TakesSign old sign bit ended (record { info = old.info; first = coming; within = old.within; items = old.items; first_ended = old.first_ended; second_ended = old.second_ended; passed = old.passed; found = Some f })
-departed old coming sign bit ended f none took second = record {
-  info = refl;
-  passed = refl;
+    → TakesSign old sign bit ended (record { first = coming; first_blocks = now; second_blocks = old.second_blocks; within = old.within; items = old.items; first_ended = old.first_ended; second_ended = old.second_ended; found = Some f })
+departed old coming now sign bit ended f none took second = record {
+  second_blocks = refl;
   tells = λ tells. (took tells).tells;
   stays = λ g some. absurd cc;
   same = λ _ no. absurd cc;
@@ -294,27 +338,25 @@ departed old coming sign bit ended f none took second = record {
         within = refl;
         items = refl;
         second = ap (λ (h : Found). standing_shown h.second) (sym is) ∙ second;
-        takes = λ tells. let one = took tells in (one.found, behind_sign one.found.sign (told_entries old.info 0 (moved (here old old.first_ended) one.found.sign one.found.ended) coming.told.0), one.is, subst (λ (h : Found). IsOther one.found sign h.first h.value) is one.beside);
+        takes = λ tells. let one = took tells in (one.found, behind_sign one.found.sign (told_entries (moved (here old old.first_ended) one.found.sign one.found.ended) (blocks.left_of now coming.told.0)), one.is, subst (λ (h : Found). IsOther one.found sign h.first h.value) is one.beside);
       };
 }
 
 -- ---- the signs of events
 
-pub begin_signed : (old : Compared) (o : Opened) → old.passed ≡ 0 → keeps old.info o.id ≡ true → IsSigned old (enters o) (record { sign = begins o.id; bit = o.first; ended = o.body })
-begin_signed old o none kept = record {
-  kept = none;
-  says = λ found p. rw kept refl;
-  after = rw kept refl;
+pub begin_signed : (old : Compared) (o : Opened) → is_left old.second_blocks.setting old.second_blocks.ids (enters o) ≡ true → IsSigned old (enters o) (record { sign = begins o.id; bit = o.first; ended = o.body })
+begin_signed old o kept = record {
+  kept = kept;
+  says = λ found p. refl;
   item = λ entries. refl;
   ended = λ found p before. ended_inside p old.within (open_block o.id old.items) 0 o.body;
   deep = λ found before. omega (arith, length-append old.within (open_block o.id old.items ∷ []));
 }
 
-pub record_signed : (old : Compared) (mark : RecordMark) → old.passed ≡ 0 → IsSigned old (notes mark) (record { sign = has_record mark.code mark.values; bit = mark.first; ended = mark.after })
-record_signed old mark none = record {
-  kept = none;
+pub record_signed : (old : Compared) (mark : RecordMark) → is_left old.second_blocks.setting old.second_blocks.ids (notes mark) ≡ true → IsSigned old (notes mark) (record { sign = has_record mark.code mark.values; bit = mark.first; ended = mark.after })
+record_signed old mark kept = record {
+  kept = kept;
   says = λ found p. refl;
-  after = refl;
   item = λ entries. refl;
   ended = λ found p before. ended_behind p old.within old.items mark.after;
   deep = λ found before. refl;
@@ -325,11 +367,10 @@ closed_ends p [] items ended some = absurd (omega arith)
 closed_ends p (b ∷ []) items ended some = (refl, refl)
 closed_ends p (b ∷ c ∷ l) items ended some = let rest = closed_ends p (c ∷ l) items ended (omega arith) in (refl, omega (arith, rest.1))
 
-pub end_signed : (old : Compared) (after : ℕ) → old.passed ≡ 0 → (old.found ≡ None → 0 < length old.within) → IsSigned old (leaves after) (record { sign = ends; bit = old.second_ended; ended = after })
-end_signed old after none some = record {
-  kept = none;
+pub end_signed : (old : Compared) (after : ℕ) → is_left old.second_blocks.setting old.second_blocks.ids (leaves after) ≡ true → (old.found ≡ None → 0 < length old.within) → IsSigned old (leaves after) (record { sign = ends; bit = old.second_ended; ended = after })
+end_signed old after kept some = record {
+  kept = kept;
   says = λ found p. ap (λ (bit : ℕ). Some (let x : Said = record { sign = ends; bit = bit; ended = after } in x)) (ended_open p old.within old.items old.second_ended (some found));
-  after = refl;
   item = λ entries. refl;
   ended = λ found p before. (closed_ends p old.within old.items after (some found)).0;
   deep = λ found before. (closed_ends 0 old.within old.items after (some found)).1;

@@ -1,14 +1,13 @@
 -- Two trees that are not the same first differ at one place.
-use Rattle.std.proofs.Common.{◌≡◌, ℕ, zero, suc, ◌⊎◌, inl, inr, Bool, true, false, List, [], ◌∷◌, ◌++◌, Option, Some, None, refl, sym, ap, ◌∙◌, subst, arith}
-use Rattle.std.specs.Prelude.{◌≢◌, if◌then◌else◌}
-use Rattle.bit_grammar.specs.declared.info.Info.{Info}
-use Rattle.bit_grammar.specs.Forest.{Forest, Tree}
-use Rattle.bit_grammar.specs.Input.{Head, Marked, tree_of}
-use Rattle.bit_grammar.specs.Marks.{keeps, forest_of}
+use Rattle.std.proofs.Common.{◌≡◌, ℕ, zero, suc, ◌⊎◌, inl, inr, List, [], ◌∷◌, ◌++◌, Option, Some, None, refl, sym, ap, ◌∙◌, subst, arith}
+use Rattle.std.specs.Prelude.{◌≢◌}
+use Rattle.bit_grammar.specs.Setting.{Setting}
+use Rattle.bit_grammar.specs.Under.{under, events_under}
+use Rattle.bit_grammar.specs.Input.{Marked, tree_of}
 use Rattle.bit_grammar.specs.Machine.{Event, enters, defines, notes, leaves, flat}
 use Rattle.bit_norm.specs.declared.differences.OpenBlock.{OpenBlock}
 use Rattle.bit_norm.specs.Entries.{Sign, begins, has_record, ends, over, Entry, signs_in, FirstApart, Seen, apart, behind_magic, all_entries, magics_apart, FirstDifference, in_magic, behind}
-use Rattle.bit_norm.specs.InStep.{Stand, Said, said, passed_after, closing, moved, entry_of, stand_after, put_entry, told_entries}
+use Rattle.bit_norm.specs.InStep.{Stand, Said, said, closing, moved, entry_of, stand_after, put_entry, told_entries}
 use Rattle.bit_norm.proofs.Signs.{same_signs, tree_is}
 use Rattle.bit_norm.proofs.EventEntries.{entries_told}
 
@@ -36,11 +35,11 @@ one_place (a ∷ f) (b ∷ g) [] (d ∷ k) r s t u x y v w first second same oth
 one_place (a ∷ f) (b ∷ g) (c ∷ h) [] r s t u x y v w first second same other one two = absurd cc
 
 -- two places where trees first differ are one
-pub one_difference : (info : Info) (a b : Marked) (seen other : Seen) → FirstDifference info a b seen → FirstDifference info a b other → seen ≡ other
-one_difference info a b seen other (in_magic unlike is) (in_magic again so) = is ∙ sym so
-one_difference info a b seen other (in_magic unlike is) (behind same x y apart so) = absurd (unlike same)
-one_difference info a b seen other (behind same x y first is) (in_magic unlike so) = absurd (unlike same)
-one_difference info a b seen other (behind same x y first is) (behind again v w second so) =
+pub one_difference : (s : Setting) (a b : Marked) (seen other : Seen) → FirstDifference s a b seen → FirstDifference s a b other → seen ≡ other
+one_difference s a b seen other (in_magic unlike is) (in_magic again so) = is ∙ sym so
+one_difference s a b seen other (in_magic unlike is) (behind same x y apart so) = absurd (unlike same)
+one_difference s a b seen other (behind same x y first is) (in_magic unlike so) = absurd (unlike same)
+one_difference s a b seen other (behind same x y first is) (behind again v w second so) =
     let place = one_place first.front first.other_front second.front second.other_front first.rest first.other_rest second.rest second.other_rest x y v w (sym first.first ∙ second.first) (sym first.second ∙ second.second) first.same second.same first.unlike second.unlike in
     is ∙ ap (λ (e : Entry). apart e y) place.0 ∙ ap (apart v) place.1 ∙ sym so
 
@@ -113,9 +112,9 @@ put_placed s (Some x) rest placed =
     let t = moved (record { within = s.within; items = s.items; ended = 0 }) x.sign 0 in
     (refl, refl, subst (λ (n : ℕ). Placed t.within n rest) same.1 (subst (λ (w : List OpenBlock). Placed w (moved s x.sign x.ended).items rest) same.0 placed))
 
-told_placed : (info : Info) (passed : ℕ) (s : Stand) (events : List Event) → Placed s.within s.items (told_entries info passed s events)
-told_placed info passed s [] = (refl, refl, tt)
-told_placed info passed s (event ∷ events) = put_placed s (said info passed s.ended event) _ (told_placed info (passed_after info passed event) (stand_after s (said info passed s.ended event)) events)
+told_placed : (s : Stand) (events : List Event) → Placed s.within s.items (told_entries s events)
+told_placed s [] = (refl, refl, tt)
+told_placed s (event ∷ events) = put_placed s (said s.ended event) _ (told_placed (stand_after s (said s.ended event)) events)
 
 -- the end of the stream stands last, and nowhere else
 abbrev EndsOnce : List Entry → Type 0
@@ -127,24 +126,19 @@ more_end : (x : Entry) (rest : List Entry) → x.sign ≢ over → EndsOnce rest
 more_end x [] other once = absurd once
 more_end x (y ∷ rest) other once = (other, once)
 
-never_over : (info : Info) (passed ended : ℕ) (event : Event) (x : Said) → said info passed ended event ≡ Some x → x.sign ≢ over
-never_over info (suc n) ended event x is e = absurd cc
-never_over info zero ended (defines mark) x is e = absurd cc
-never_over info zero ended (notes mark) x is e = let own : ◌≡◌ {A = Said} (record { sign = has_record mark.code mark.values; bit = mark.first; ended = mark.after }) x = cc in let sign = ap (λ (y : Said). y.sign) own ∙ e in absurd cc
-never_over info zero ended (leaves after) x is e = let own : ◌≡◌ {A = Said} (record { sign = ends; bit = ended; ended = after }) x = cc in let sign = ap (λ (y : Said). y.sign) own ∙ e in absurd cc
-never_over info zero ended (enters o) x is e = kept_or_not (keeps info o.id) is
-  where
-    kept_or_not : (kept : Bool) → (if kept then Some (let y : Said = record { sign = begins o.id; bit = o.first; ended = o.body } in y) else None) ≡ Some x → ⊥
-    kept_or_not true found = let own : ◌≡◌ {A = Said} (record { sign = begins o.id; bit = o.first; ended = o.body }) x = cc in let sign = ap (λ (y : Said). y.sign) own ∙ e in absurd cc
-    kept_or_not false found = absurd cc
+never_over : (ended : ℕ) (event : Event) (x : Said) → said ended event ≡ Some x → x.sign ≢ over
+never_over ended (defines mark) x is e = absurd cc
+never_over ended (notes mark) x is e = let own : ◌≡◌ {A = Said} (record { sign = has_record mark.code mark.values; bit = mark.first; ended = mark.after }) x = cc in let sign = ap (λ (y : Said). y.sign) own ∙ e in absurd cc
+never_over ended (leaves after) x is e = let own : ◌≡◌ {A = Said} (record { sign = ends; bit = ended; ended = after }) x = cc in let sign = ap (λ (y : Said). y.sign) own ∙ e in absurd cc
+never_over ended (enters o) x is e = let own : ◌≡◌ {A = Said} (record { sign = begins o.id; bit = o.first; ended = o.body }) x = cc in let sign = ap (λ (y : Said). y.sign) own ∙ e in absurd cc
 
 put_end : (s : Stand) (o : Option Said) (rest : List Entry) → ((x : Said) → o ≡ Some x → x.sign ≢ over) → EndsOnce rest → EndsOnce (put_entry s o rest)
 put_end s None rest other once = once
 put_end s (Some x) rest other once = more_end (entry_of s x) rest (other x refl) once
 
-told_end : (info : Info) (passed : ℕ) (s : Stand) (events : List Event) → EndsOnce (told_entries info passed s events)
-told_end info passed s [] = refl
-told_end info passed s (event ∷ events) = put_end s (said info passed s.ended event) _ (never_over info passed s.ended event) (told_end info (passed_after info passed event) (stand_after s (said info passed s.ended event)) events)
+told_end : (s : Stand) (events : List Event) → EndsOnce (told_entries s events)
+told_end s [] = refl
+told_end s (event ∷ events) = put_end s (said s.ended event) _ (never_over s.ended event) (told_end (stand_after s (said s.ended event)) events)
 
 -- one entry more with the same sign before both
 apart_more : (v w : Entry) (a b : List Entry) (x y : Entry) → v.sign ≡ w.sign → FirstApart a b x y → FirstApart (v ∷ a) (w ∷ b) x y
@@ -186,22 +180,23 @@ compared within items (v ∷ c ∷ a) (w ∷ d ∷ b) p q once again =
           compare_more v w (c ∷ a) (d ∷ b) same (compared s.within s.items (c ∷ a) (d ∷ b) p.2 q' once.1 again.1)
     ]
 
-of_marks : (info : Info) (a b : Marked) → Compare (all_entries info a) (all_entries info b)
-of_marks info a b =
+of_marks : (s : Setting) (a b : Marked) → Compare (all_entries s a) (all_entries s b)
+of_marks s a b =
     let p = behind_magic a.head in
     let q = behind_magic b.head in
     let place : ℕ → Stand = λ n. record { within = []; items = 0; ended = n } in
-    let compare : Compare (told_entries info 0 (place p) (flat a.blocks [])) (told_entries info 0 (place q) (flat b.blocks [])) =
-    compared [] 0 _ _ (told_placed info 0 (place p) (flat a.blocks [])) (told_placed info 0 (place q) (flat b.blocks [])) (told_end info 0 (place p) (flat a.blocks [])) (told_end info 0 (place q) (flat b.blocks [])) in
-    subst (λ (l : List Entry). Compare l (all_entries info b)) (entries_told info a.blocks p) (subst (Compare (told_entries info 0 (place p) (flat a.blocks []))) (entries_told info b.blocks q) compare)
+    let first = events_under s [] (flat a.blocks []) in
+    let second = events_under s [] (flat b.blocks []) in
+    let compare : Compare (told_entries (place p) first) (told_entries (place q) second) = compared [] 0 _ _ (told_placed (place p) first) (told_placed (place q) second) (told_end (place p) first) (told_end (place q) second) in
+    subst (λ (l : List Entry). Compare l (all_entries s b)) (entries_told s a.blocks p) (subst (Compare (told_entries (place p) first)) (entries_told s b.blocks q) compare)
 
 -- trees are the same, or differ somewhere
-pub some_difference : (info : Info) (a b : Marked) → (tree_of info a ≡ tree_of info b) ⊎ ((seen : Seen) × FirstDifference info a b seen)
-some_difference info a b =
+pub some_difference : (s : Setting) (a b : Marked) → (under s (tree_of a) ≡ under s (tree_of b)) ⊎ ((seen : Seen) × FirstDifference s a b seen)
+some_difference s a b =
     elim (number_same a.head.magic b.head.magic) [
       | inr unlike ↦ inr (magics_apart a.head b.head, in_magic unlike refl)
-      | inl same ↦ elim (of_marks info a b) [
-        | inl e ↦ inl (tree_is info a b same ((same_signs info (behind_magic a.head) (behind_magic b.head) a.blocks b.blocks).0 e))
+      | inl same ↦ elim (of_marks s a b) [
+        | inl e ↦ inl (tree_is s a b same ((same_signs s (behind_magic a.head) (behind_magic b.head) a.blocks b.blocks).0 e))
         | inr is ↦ inr (apart is.0 is.1, behind same is.0 is.1 is.2 refl)
       ]
     ]

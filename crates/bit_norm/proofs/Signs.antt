@@ -1,11 +1,12 @@
 -- Trees are known by the signs of their entries.
-use Rattle.std.proofs.Common.{◌≡◌, ℕ, zero, suc, Bool, true, false, List, [], ◌∷◌, ◌++◌, refl, sym, ap, ◌∙◌, subst, map, append_assoc}
-use Rattle.std.specs.Prelude.{◌↔◌, if◌then◌else◌}
-use Rattle.std.proofs.lemmas.List.{map-append}
-use Rattle.bit_grammar.specs.declared.info.Info.{Info}
+use Rattle.std.proofs.Common.{◌≡◌, ℕ, suc, List, [], ◌∷◌, ◌++◌, refl, sym, ap, ◌∙◌, subst}
+use Rattle.std.specs.Prelude.{◌↔◌}
+use Rattle.bit_grammar.specs.Setting.{Setting}
+use Rattle.bit_grammar.specs.Under.{items_under, under, marks_under}
+use Rattle.bit_grammar.proofs.Under.{forest_left}
 use Rattle.bit_grammar.specs.Forest.{Forest, Tree, empty, a_block, a_record}
 use Rattle.bit_grammar.specs.Input.{Marked, tree_of}
-use Rattle.bit_grammar.specs.Marks.{BlockMark, Marks, no_marks, marked_block, marked_record, marked_definition, keeps, forest_of}
+use Rattle.bit_grammar.specs.Marks.{Marks, no_marks, marked_block, marked_record, marked_definition, forest_of}
 use Rattle.bit_norm.specs.declared.differences.OpenBlock.{OpenBlock}
 use Rattle.bit_norm.specs.Entries.{Sign, begins, has_record, ends, over, Entry, open_block, entries, signs_in}
 
@@ -69,38 +70,33 @@ signs_of-append (a_block id inner rest) a b =
     ap (λ (s : List Sign). begins id ∷ s) (ap (λ (s : List Sign). signs_of inner (ends ∷ s)) (signs_of-append rest a b) ∙ signs_of-append inner (ends ∷ signs_of rest a) b)
 signs_of-append (a_record code values rest) a b = ap (λ (s : List Sign). has_record code values ∷ s) (signs_of-append rest a b)
 
-kept_or_not : (info : Info) (kept : Bool) (end : Sign) (within : List OpenBlock) (items ended : ℕ) (mark : BlockMark) (inner rest : Marks) → keeps info mark.id ≡ kept
-    → signs_in (entries info ends (within ++ open_block mark.id items ∷ []) 0 mark.body inner) ≡ signs_of (forest_of info inner) (ends ∷ [])
-    → signs_in (entries info end within (suc items) mark.after rest) ≡ signs_of (forest_of info rest) (end ∷ [])
-    → signs_in (entries info end within items ended rest) ≡ signs_of (forest_of info rest) (end ∷ [])
-    → signs_in (entries info end within items ended (marked_block mark inner rest)) ≡ signs_of (forest_of info (marked_block mark inner rest)) (end ∷ [])
-kept_or_not info true end within items ended mark inner rest is inside after none =
-    rw is (ap (λ (s : List Sign). begins mark.id ∷ s) (signs_in-append (entries info ends (within ++ open_block mark.id items ∷ []) 0 mark.body inner) (entries info end within (suc items) mark.after rest)
-    ∙ ap (λ (s : List Sign). s ++ signs_in (entries info end within (suc items) mark.after rest)) inside
-    ∙ sym (signs_of-append (forest_of info inner) (ends ∷ []) (signs_in (entries info end within (suc items) mark.after rest)))
-    ∙ ap (λ (s : List Sign). signs_of (forest_of info inner) (ends ∷ s)) after))
-kept_or_not info false end within items ended mark inner rest is inside after none = rw is none
+-- the signs of entries are those of the forest
+signs_of_entries : (end : Sign) (within : List OpenBlock) (items ended : ℕ) (m : Marks) → signs_in (entries end within items ended m) ≡ signs_of (forest_of m) (end ∷ [])
+signs_of_entries end within items ended no_marks = refl
+signs_of_entries end within items ended (marked_block mark inner rest) =
+    let inside = entries ends (within ++ open_block mark.id items ∷ []) 0 mark.body inner in
+    let after = entries end within (suc items) mark.after rest in
+    ap (λ (s : List Sign). begins mark.id ∷ s)
+    (signs_in-append inside after
+    ∙ ap (λ (s : List Sign). s ++ signs_in after) (signs_of_entries ends (within ++ open_block mark.id items ∷ []) 0 mark.body inner)
+    ∙ sym (signs_of-append (forest_of inner) (ends ∷ []) (signs_in after))
+    ∙ ap (λ (s : List Sign). signs_of (forest_of inner) (ends ∷ s)) (signs_of_entries end within (suc items) mark.after rest))
+signs_of_entries end within items ended (marked_record mark rest) = ap (λ (s : List Sign). has_record mark.code mark.values ∷ s) (signs_of_entries end within (suc items) mark.after rest)
+signs_of_entries end within items ended (marked_definition mark rest) = signs_of_entries end within items ended rest
 
--- the signs of entries are those of the tree
-signs_of_entries : (info : Info) (end : Sign) (within : List OpenBlock) (items ended : ℕ) (m : Marks) → signs_in (entries info end within items ended m) ≡ signs_of (forest_of info m) (end ∷ [])
-signs_of_entries info end within items ended no_marks = refl
-signs_of_entries info end within items ended (marked_block mark inner rest) =
-    kept_or_not info (keeps info mark.id) end within items ended mark inner rest refl
-    (signs_of_entries info ends (within ++ open_block mark.id items ∷ []) 0 mark.body inner)
-    (signs_of_entries info end within (suc items) mark.after rest)
-    (signs_of_entries info end within items ended rest)
-signs_of_entries info end within items ended (marked_record mark rest) = ap (λ (s : List Sign). has_record mark.code mark.values ∷ s) (signs_of_entries info end within (suc items) mark.after rest)
-signs_of_entries info end within items ended (marked_definition mark rest) = signs_of_entries info end within items ended rest
+-- those of the entries that are left are those of the items that are
+signs_left : (s : Setting) (p : ℕ) (m : Marks) → signs_in (entries over [] 0 p (marks_under s 0 m)) ≡ signs_of (items_under s 0 (forest_of m)) (over ∷ [])
+signs_left s p m = signs_of_entries over [] 0 p (marks_under s 0 m) ∙ ap (λ (f : Forest). signs_of f (over ∷ [])) (forest_left s 0 m)
 
--- marks have the same tree under a setting just if their entries have the same signs
-pub same_signs : (info : Info) (p q : ℕ) (a b : Marks) → (signs_in (entries info over [] 0 p a) ≡ signs_in (entries info over [] 0 q b)) ↔ (forest_of info a ≡ forest_of info b)
-same_signs info p q a b = (
-  λ e. (signs_are (forest_of info a) (forest_of info b) (over ∷ []) (over ∷ []) tt tt (sym (signs_of_entries info over [] 0 p a) ∙ e ∙ signs_of_entries info over [] 0 q b)).0,
-  λ e. signs_of_entries info over [] 0 p a ∙ ap (λ (f : Forest). signs_of f (over ∷ [])) e ∙ sym (signs_of_entries info over [] 0 q b),
+-- the same is left of marks just if their entries that are left have the same signs
+pub same_signs : (s : Setting) (p q : ℕ) (a b : Marks) → (signs_in (entries over [] 0 p (marks_under s 0 a)) ≡ signs_in (entries over [] 0 q (marks_under s 0 b))) ↔ (items_under s 0 (forest_of a) ≡ items_under s 0 (forest_of b))
+same_signs s p q a b = (
+  λ e. (signs_are (items_under s 0 (forest_of a)) (items_under s 0 (forest_of b)) (over ∷ []) (over ∷ []) tt tt (sym (signs_left s p a) ∙ e ∙ signs_left s q b)).0,
+  λ e. signs_left s p a ∙ ap (λ (f : Forest). signs_of f (over ∷ [])) e ∙ sym (signs_left s q b),
 )
 
 -- the magic and the items make the tree
-pub tree_is : (info : Info) (a b : Marked) → a.head.magic ≡ b.head.magic → forest_of info a.blocks ≡ forest_of info b.blocks → tree_of info a ≡ tree_of info b
-tree_is info a b magic blocks =
+pub tree_is : (s : Setting) (a b : Marked) → a.head.magic ≡ b.head.magic → items_under s 0 (forest_of a.blocks) ≡ items_under s 0 (forest_of b.blocks) → under s (tree_of a) ≡ under s (tree_of b)
+tree_is s a b magic blocks =
     let make : ℕ → Forest → Tree = λ n f. record { magic = n; blocks = f } in
-    ap (λ (n : ℕ). make n (forest_of info a.blocks)) magic ∙ ap (make b.head.magic) blocks
+    ap (λ (n : ℕ). make n (items_under s 0 (forest_of a.blocks))) magic ∙ ap (make b.head.magic) blocks

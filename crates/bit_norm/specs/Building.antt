@@ -1,6 +1,8 @@
 -- A normal form that is being built, and what it becomes by the events that follow.
-use Rattle.std.specs.Prelude.{◌≡◌, ℕ, zero, suc, ◌+◌, ◌-◌, ◌/◌, ◌%◌, ◌^◌, ◌<◌, ◌≤◌, Bool, true, false, List, [], ◌∷◌, ◌++◌, length, min, take, slice_get, vec_len}
-use Rattle.bit_grammar.specs.declared.info.Info.{Info}
+use Rattle.std.specs.Prelude.{◌≡◌, ℕ, suc, ◌+◌, ◌-◌, ◌/◌, ◌%◌, ◌^◌, ◌<◌, ◌≤◌, Bool, true, false, List, [], ◌∷◌, ◌++◌, length, min, take, slice_get, ◌&&◌}
+use Rattle.std.specs.List.{list_all}
+use Rattle.bit_grammar.specs.Setting.{keeps, keeps_record}
+use Rattle.bit_grammar.specs.Under.{ids_behind, innermost, events_under}
 use Rattle.bit_grammar.specs.Bits.{bits_of}
 use Rattle.bit_grammar.specs.Forest.{Forest}
 use Rattle.bit_grammar.specs.Machine.{Event}
@@ -8,6 +10,7 @@ use Rattle.bit_grammar.specs.Normal.{values_text, end_text, normal}
 use Rattle.bit_grammar.specs.Size.{end_of}
 use Rattle.bit_events.specs.Gathering.{left_open}
 use Rattle.bit_norm.specs.Told.{told_at_level}
+use Rattle.bit_events.specs.Standing.{Standing}
 use Rattle.bit_norm.specs.declared.form_values.Holding.{Holding}
 use Rattle.bit_norm.specs.declared.form_values.Holding.TheVariants.{All, TooLong, Unknown}
 use Rattle.bit_norm.specs.declared.form_values.FormValues.{FormValues}
@@ -56,11 +59,6 @@ completed (s ∷ outer) full coming = (let now = s ++ closed (begins (s ∷ oute
 abbrev pub form_with : List (List Bool) → List Bool → (ℕ → Forest) → List Bool
 form_with outer inner coming = completed outer (inner ++ normal (coming 0) (begins outer + length inner)) (λ level. coming (suc level))
 
--- so many blocks are open that are left out: what is to come in them doesn't count
-abbrev pub left_out : ℕ → (ℕ → Forest) → ℕ → Forest
-left_out zero coming = coming
-left_out (suc count) coming = left_out count (λ level. coming (suc level))
-
 -- the words where the lengths of the open blocks stand, the outermost first
 abbrev pub holes_of : List (List Bool) → List ℕ
 holes_of [] = []
@@ -74,23 +72,39 @@ AreWords (s ∷ outer) = (length (written outer ++ s) % 32 ≡ 0) × AreWords ou
 -- ---- the builder
 
 -- The text, put before whatever events follow, is the normal form of what all events tell, behind the magic.
-pub record Builds (info : Info) (events : List Event) (b : FormBuilder) : Type 0 where
+pub record Builds (events : List Event) (text : List Bool) (holes : List ℕ) : Type 0 where
   pub outer : List (List Bool)
   pub inner : List Bool
-  pub text : b.text ≡ written outer ++ inner
-  pub holes : b.holes.items ≡ holes_of outer
+  pub is : text ≡ written outer ++ inner
+  pub places : holes ≡ holes_of outer
   pub words : AreWords outer
   pub top : length outer ≡ 0 → length inner % 32 ≡ 0
-  pub whole : (following : List Event) → normal (told_at_level info (events ++ following) 0) 32 ≡ form_with outer inner (left_out (vec_len b.dropped) (told_at_level info following))
-  pub depth : length outer + vec_len b.dropped ≡ left_open events
+  pub whole : (following : List Event) → normal (told_at_level (events ++ following) 0) 32 ≡ form_with outer inner (told_at_level following)
+  pub depth : length outer ≡ left_open events
 
 -- whatever follows, the normal form has more bytes than the limit
-abbrev pub PassesLimit : Info → (limit : ℕ) → List Event → Type 0
-PassesLimit info limit events = (following : List Event) → limit < end_of (told_at_level info (events ++ following) 0) 32 / 8
+abbrev pub PassesLimit : (limit : ℕ) → List Event → Type 0
+PassesLimit limit events = (following : List Event) → limit < end_of (told_at_level (events ++ following) 0) 32 / 8
 
--- the form of these events was built under its setting, as long as it doesn't pass the limit on bytes
+-- the form of these events, as long as it doesn't pass the limit on bytes
+pub record Forms (limit : ℕ) (events : List Event) (text : List Bool) (holes : List ℕ) (long : Bool) : Type 0 where
+  pub builds : long ≡ false → Builds events text holes
+  pub passes : long ≡ true → PassesLimit limit events
+
+-- the builder has it
+abbrev pub HasForm : List Event → FormBuilder → Type 0
+HasForm events b = Forms b.limits.bytes events b.text b.holes.items b.long
+
+-- whether a record with this code is left in the innermost open block
+abbrev pub record_left : Standing → (code : ℕ) → Bool
+record_left standing code = list_all (keeps standing.setting) standing.ids && keeps_record standing.setting (innermost standing.ids) code
+
+-- what is left of events under the setting of a builder
+abbrev pub left : FormBuilder → List Event → List Event
+left b events = events_under b.standing.setting [] events
+
+-- the form of what is left of these events was built
 pub record IsFormOf (first : FormBuilder) (events : List Event) (b : FormBuilder) : Type 0 where
-  pub info : b.info ≡ first.info
   pub limits : b.limits ≡ first.limits
-  pub builds : b.long ≡ false → Builds first.info events b
-  pub passes : b.long ≡ true → PassesLimit first.info first.limits.bytes events
+  pub stands : b.long ≡ false → b.standing ≡ record { setting = first.standing.setting; ids = ids_behind events [] }
+  pub form : HasForm (left first events) b

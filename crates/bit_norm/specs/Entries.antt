@@ -1,9 +1,10 @@
 -- What stands in a tree in order, and where two trees first differ.
 -- This project's own.
 use Rattle.std.specs.Prelude.{◌≡◌, ◌≢◌, ℕ, suc, ◌+◌, ◌*◌, List, [], ◌∷◌, ◌++◌, length, map, Option, Some, None, ◌==◌, if◌then◌else◌}
-use Rattle.bit_grammar.specs.declared.info.Info.{Info}
+use Rattle.bit_grammar.specs.Setting.{Setting}
+use Rattle.bit_grammar.specs.Under.{under, marks_under}
 use Rattle.bit_grammar.specs.Input.{Wrapper, Head, Marked, tree_of}
-use Rattle.bit_grammar.specs.Marks.{Marks, no_marks, marked_block, marked_record, marked_definition, keeps}
+use Rattle.bit_grammar.specs.Marks.{Marks, no_marks, marked_block, marked_record, marked_definition}
 use Rattle.bit_fields.specs.Opening.{magic_number}
 use Rattle.bit_norm.specs.declared.differences.OpenBlock.{OpenBlock}
 use Rattle.bit_norm.specs.declared.differences.Place as declared
@@ -39,16 +40,14 @@ entry within items sign bit = record { within = within; items = items; sign = si
 abbrev pub open_block : (id items : ℕ) → OpenBlock
 open_block id items = record { id = id; items = items }
 
--- The items of the tree within these blocks, with what they hold, and behind them this end. So many items stand before them,
--- and what stands before them ended at this bit. What is left out, and a definition, is no item and ends nothing.
-abbrev pub entries : Info → (end : Sign) → (within : List OpenBlock) → (items ended : ℕ) → Marks → List Entry
-entries info end within items ended no_marks = entry within items end ended ∷ []
-entries info end within items ended (marked_block mark inner rest) =
-    if keeps info mark.id
-    then entry within items (begins mark.id) mark.first ∷ (entries info ends (within ++ open_block mark.id items ∷ []) 0 mark.body inner ++ entries info end within (suc items) mark.after rest)
-    else entries info end within items ended rest
-entries info end within items ended (marked_record mark rest) = entry within items (has_record mark.code mark.values) mark.first ∷ entries info end within (suc items) mark.after rest
-entries info end within items ended (marked_definition mark rest) = entries info end within items ended rest
+-- Items within these blocks, with what they hold, and behind them this end. So many items stand before them, and what stands
+-- before them ended at this bit. A definition is no item and ends nothing.
+abbrev pub entries : (end : Sign) → (within : List OpenBlock) → (items ended : ℕ) → Marks → List Entry
+entries end within items ended no_marks = entry within items end ended ∷ []
+entries end within items ended (marked_block mark inner rest) =
+    entry within items (begins mark.id) mark.first ∷ (entries ends (within ++ open_block mark.id items ∷ []) 0 mark.body inner ++ entries end within (suc items) mark.after rest)
+entries end within items ended (marked_record mark rest) = entry within items (has_record mark.code mark.values) mark.first ∷ entries end within (suc items) mark.after rest
+entries end within items ended (marked_definition mark rest) = entries end within items ended rest
 
 -- the first byte of the stream
 abbrev pub stream_byte : Option Wrapper → ℕ
@@ -62,9 +61,9 @@ magic_bit head = 8 * stream_byte head.wrapper
 abbrev pub behind_magic : Head → ℕ
 behind_magic head = magic_bit head + 32
 
--- all that stands in a tree, behind the magic
-abbrev pub all_entries : Info → Marked → List Entry
-all_entries info m = entries info over [] 0 (behind_magic m.head) m.blocks
+-- all that stands in a tree under a setting, behind the magic: what is left out is no item and ends nothing
+abbrev pub all_entries : Setting → Marked → List Entry
+all_entries setting m = entries over [] 0 (behind_magic m.head) (marks_under setting 0 m.blocks)
 
 -- ---- where two lists of entries first differ
 
@@ -143,9 +142,9 @@ abbrev pub magics_apart : Head → Head → Seen
 magics_apart a b = record { place = at_magic; first = magic_standing a; second = magic_standing b; value = None }
 
 -- where the trees of two inputs first differ under a setting: in the magics, or else in what stands behind them
-pub data FirstDifference (info : Info) (a b : Marked) (seen : Seen) : Type 0 where
-  in_magic : a.head.magic ≢ b.head.magic → seen ≡ magics_apart a.head b.head → FirstDifference info a b seen
-  behind : a.head.magic ≡ b.head.magic → (x y : Entry) → FirstApart (all_entries info a) (all_entries info b) x y → seen ≡ apart x y → FirstDifference info a b seen
+pub data FirstDifference (setting : Setting) (a b : Marked) (seen : Seen) : Type 0 where
+  in_magic : a.head.magic ≢ b.head.magic → seen ≡ magics_apart a.head b.head → FirstDifference setting a b seen
+  behind : a.head.magic ≡ b.head.magic → (x y : Entry) → FirstApart (all_entries setting a) (all_entries setting b) x y → seen ≡ apart x y → FirstDifference setting a b seen
 
 -- ---- what is seen of the program's own types
 
@@ -166,6 +165,6 @@ abbrev pub difference_shown : Difference → Seen
 difference_shown d = record { place = place_shown d.place; first = standing_shown d.first; second = standing_shown d.second; value = d.value }
 
 -- the first difference, or none, and then the trees are the same
-abbrev pub Differs : Info → Marked → Marked → Option Difference → Type 0
-Differs info a b None = tree_of info a ≡ tree_of info b
-Differs info a b (Some difference) = FirstDifference info a b (difference_shown difference)
+abbrev pub Differs : Setting → Marked → Marked → Option Difference → Type 0
+Differs setting a b None = under setting (tree_of a) ≡ under setting (tree_of b)
+Differs setting a b (Some difference) = FirstDifference setting a b (difference_shown difference)

@@ -1,15 +1,16 @@
 -- What reading an input in step with another one does.
-use Rattle.std.specs.Prelude.{◌≡◌, ◌≢◌, ◌↔◌, ⊤, ℕ, zero, suc, ◌+◌, ◌≤◌, Bool, IsTrue, List, [], ◌∷◌, ◌++◌, Option, Some, None, IsSome, Result, Ok, Err, length, if◌then◌else◌}
-use Rattle.bit_grammar.specs.declared.info.Info.{Info}
+use Rattle.std.specs.Prelude.{◌≡◌, ◌≢◌, ⊤, ℕ, zero, suc, List, [], ◌∷◌, ◌++◌, Option, Some, None, IsSome, Result, Ok, Err, length, if◌then◌else◌}
+use Rattle.bit_grammar.specs.Setting.{Setting}
+use Rattle.bit_grammar.specs.Under.{is_left, ids_behind, events_under}
 use Rattle.bit_grammar.specs.Blocks.{Limits}
 use Rattle.bit_grammar.specs.Input.{Head, Marked, SpellsInput}
 use Rattle.bit_grammar.specs.Machine.{Event, enters, defines, notes, leaves}
-use Rattle.bit_grammar.specs.Marks.{keeps}
 use Rattle.bit_fields.specs.declared.fault.Fault.{Fault}
 use Rattle.bit_fields.specs.declared.fault.Fault.TheVariants.{Memory}
 use Rattle.bit_fields.specs.Devices.{Incoming, known_bytes}
 use Rattle.bit_events.specs.Coming.{Coming, Tells}
 use Rattle.bit_events.specs.Gathering.{left_open}
+use Rattle.bit_events.specs.Standing as blocks
 use Rattle.bit_events.specs.Reading.{Spent}
 use Rattle.bit_norm.specs.Entries as tree
 use Rattle.bit_norm.specs.Entries.{begins, has_record, ends, over, Entry, entry, open_block, signs_in, FirstApart, Seen, at_item, what_of, value_apart, apart, standing_shown, difference_shown, behind_magic, magics_apart, Differs}
@@ -44,24 +45,16 @@ pub record Said : Type 0 where
   pub bit : ℕ
   pub ended : ℕ
 
--- of an event, where so many blocks are open from the outermost on that is left out, and what stands before it ended at a bit
-abbrev pub said : Info → (passed ended : ℕ) → Event → Option Said
-said info zero ended (enters o) = if keeps info o.id then Some (record { sign = begins o.id; bit = o.first; ended = o.body }) else None
-said info zero ended (defines mark) = None
-said info zero ended (notes mark) = Some (record { sign = has_record mark.code mark.values; bit = mark.first; ended = mark.after })
-said info zero ended (leaves after) = Some (record { sign = ends; bit = ended; ended = after })
-said info (suc n) ended event = None
+-- of an event, where what stands before it ended at a bit
+abbrev pub said : (ended : ℕ) → Event → Option Said
+said ended (enters o) = Some (record { sign = begins o.id; bit = o.first; ended = o.body })
+said ended (defines mark) = None
+said ended (notes mark) = Some (record { sign = has_record mark.code mark.values; bit = mark.first; ended = mark.after })
+said ended (leaves after) = Some (record { sign = ends; bit = ended; ended = after })
 
--- how many blocks are open then from the outermost on that is left out
-abbrev pub passed_after : Info → (passed : ℕ) → Event → ℕ
-passed_after info zero (enters o) = if keeps info o.id then 0 else 1
-passed_after info zero (defines mark) = 0
-passed_after info zero (notes mark) = 0
-passed_after info zero (leaves after) = 0
-passed_after info (suc n) (enters o) = suc (suc n)
-passed_after info (suc n) (defines mark) = suc n
-passed_after info (suc n) (notes mark) = suc n
-passed_after info (suc n) (leaves after) = n
+-- the same, if it is left where these blocks are open before it
+abbrev pub said_left : blocks.Standing → (ended : ℕ) → Event → Option Said
+said_left stands ended event = if is_left stands.setting stands.ids event then said ended event else None
 
 -- the place behind the innermost open block
 abbrev pub closing : List OpenBlock → (items ended : ℕ) → Stand
@@ -88,9 +81,9 @@ put_entry s None entries = entries
 put_entry s (Some x) entries = entry_of s x ∷ entries
 
 -- the entries of events in order, and behind them the end of the stream
-abbrev pub told_entries : Info → (passed : ℕ) → Stand → List Event → List Entry
-told_entries info passed s [] = entry s.within s.items over s.ended ∷ []
-told_entries info passed s (event ∷ events) = put_entry s (said info passed s.ended event) (told_entries info (passed_after info passed event) (stand_after s (said info passed s.ended event)) events)
+abbrev pub told_entries : Stand → List Event → List Entry
+told_entries s [] = entry s.within s.items over s.ended ∷ []
+told_entries s (event ∷ events) = put_entry s (said s.ended event) (told_entries (stand_after s (said s.ended event)) events)
 
 -- nothing stands behind the end of the stream
 abbrev pub behind_sign : tree.Sign → List Entry → List Entry
@@ -125,41 +118,44 @@ abbrev pub StandsBeside : Said → tree.Sign → Beside → Type 0
 StandsBeside x sign (Same ended) = (x.sign ≡ sign) × (x.ended ≡ ended)
 StandsBeside x sign (Other first value) = IsOther x sign first value
 
--- an event says something, and this is how it is beside a sign
-pub record SaysBeside (info : Info) (passed ended : ℕ) (event : Event) (sign : tree.Sign) (b : Beside) : Type 0 where
+-- something is said, and this is how it is beside a sign
+pub record SaysBeside (o : Option Said) (sign : tree.Sign) (b : Beside) : Type 0 where
   pub found : Said
-  pub is : said info passed ended event ≡ Some found
-  pub after : passed_after info passed event ≡ 0
+  pub is : o ≡ Some found
   pub beside : StandsBeside found sign b
 
--- an event says nothing, or this is how it is beside a sign
-abbrev pub Weighs : Info → (passed ended : ℕ) → Event → tree.Sign → Weighed → Type 0
-Weighs info passed ended event sign (weighed.Passed now) = (said info passed ended event ≡ None) × (passed_after info passed event ≡ now) × (now ≤ passed + 1)
-Weighs info passed ended event sign (weighed.Stands beside) = SaysBeside info passed ended event sign beside
+-- nothing is said, or this is how it is beside a sign
+abbrev pub IsBeside : Option Said → tree.Sign → Weighed → Type 0
+IsBeside o sign weighed.Passed = o ≡ None
+IsBeside o sign (weighed.Stands beside) = SaysBeside o sign beside
 
--- the next entry of the events to come, or the end of the stream, was taken, and this is how it is beside a sign
-pub record Took (info : Info) (s : Stand) (old : Coming) (sign : tree.Sign) (b : Beside) (new : Coming) : Type 0 where
+-- what an event says that is left
+abbrev pub Weighs : blocks.Standing → (ended : ℕ) → Event → tree.Sign → Weighed → Type 0
+Weighs stands ended event sign answer = IsBeside (said_left stands ended event) sign answer
+
+-- The next entry of what is left of the events to come, or the end of the stream, was taken, and this is how it is beside a sign.
+pub record Took (stands : blocks.Standing) (s : Stand) (old : Coming) (sign : tree.Sign) (b : Beside) (now : blocks.Standing) (new : Coming) : Type 0 where
   pub tells : Tells new
   pub found : Said
-  pub is : told_entries info 0 s old.told.0 ≡ entry_of s found ∷ behind_sign found.sign (told_entries info 0 (moved s found.sign found.ended) new.told.0)
+  pub is : told_entries s (blocks.left_of stands old.told.0) ≡ entry_of s found ∷ behind_sign found.sign (told_entries (moved s found.sign found.ended) (blocks.left_of now new.told.0))
   pub beside : StandsBeside found sign b
 
-abbrev pub Meets : Info → Stand → Coming → tree.Sign → Result Beside Fault → Coming → Type 0
-Meets info s old sign (Ok beside) new = Tells old → Took info s old sign beside new
-Meets info s old sign (Err fault) new = ⊤
+abbrev pub Meets : blocks.Standing → Stand → Coming → tree.Sign → Result Beside Fault → blocks.Standing → Coming → Type 0
+Meets stands s old sign (Ok beside) now new = Tells old → Took stands s old sign beside now new
+Meets stands s old sign (Err fault) now new = ⊤
 
 -- ---- the comparison
 
--- How far two inputs were compared: what is to come of the first, where both stand, where what stands there before ended in each,
--- how many blocks are open in the second from the outermost on that is left out, and the difference that was found.
+-- How far two inputs were compared: what is to come of the first, the blocks that are open in each, where both stand, where what
+-- stands there before ended in each, and the difference that was found.
 pub record Compared : Type 0 where
-  pub info : Info
   pub first : Coming
+  pub first_blocks : blocks.Standing
+  pub second_blocks : blocks.Standing
   pub within : List OpenBlock
   pub items : ℕ
   pub first_ended : ℕ
   pub second_ended : ℕ
-  pub passed : ℕ
   pub found : Option Found
 
 abbrev pub here : Compared → (ended : ℕ) → Stand
@@ -167,7 +163,7 @@ here c ended = record { within = c.within; items = c.items; ended = ended }
 
 -- what is left of the first
 abbrev pub left : Compared → List Entry
-left c = told_entries c.info 0 (here c c.first_ended) c.first.told.0
+left c = told_entries (here c c.first_ended) (blocks.left_of c.first_blocks c.first.told.0)
 
 -- where what stands before a place ended: before all items at the top, that is the magic
 abbrev pub ended_from : (behind_magic : ℕ) → List OpenBlock → (items ended : ℕ) → ℕ
@@ -180,7 +176,7 @@ second_end behind_magic c = ended_from behind_magic c.within c.items c.second_en
 
 -- what these events tell of the second, whose magic ends at this bit
 abbrev pub right : (behind_magic : ℕ) → Compared → List Event → List Entry
-right behind_magic c events = told_entries c.info c.passed (here c (second_end behind_magic c)) events
+right behind_magic c events = told_entries (here c (second_end behind_magic c)) (blocks.left_of c.second_blocks events)
 
 abbrev pub seen_of : Compared → Found → Seen
 seen_of c f = record { place = at_item c.within c.items; first = standing_shown f.first; second = standing_shown f.second; value = f.value }
@@ -200,8 +196,7 @@ pub record Departs (old : Compared) (sign : tree.Sign) (bit : ℕ) (f : Found) (
 -- A sign of the second, which begins and ends at these bits, was held against the next entry of the first, unless a difference
 -- was found before.
 pub record TakesSign (old : Compared) (sign : tree.Sign) (bit ended : ℕ) (new : Compared) : Type 0 where
-  pub info : new.info ≡ old.info
-  pub passed : new.passed ≡ old.passed
+  pub second_blocks : new.second_blocks ≡ old.second_blocks
   pub tells : Tells old.first → Tells new.first
   pub stays : (f : Found) → old.found ≡ Some f → new ≡ old
   pub same : old.found ≡ None → new.found ≡ None → Agrees old sign ended new
@@ -222,9 +217,9 @@ ApartAt a b seen = (x y : Entry) × FirstApart a b x y × (seen ≡ apart x y)
 -- Of the second input these events came. Where no difference was found, what all events tell, whatever follows, and what is told
 -- of the first begin with the same signs. Where one was found it is their first.
 pub record Tallied (begun : Compared) (events : List Event) (last : Compared) : Type 0 where
-  pub info : last.info ≡ begun.info
+  pub stands : last.second_blocks ≡ record { setting = begun.second_blocks.setting; ids = ids_behind events [] }
   pub tells : Tells begun.first → Tells last.first
-  pub depth : last.found ≡ None → length last.within + last.passed ≡ left_open events
+  pub depth : last.found ≡ None → length last.within ≡ left_open (events_under begun.second_blocks.setting [] events)
   pub alike : Tells begun.first → last.found ≡ None → (behind_magic : ℕ) (following : List Event) → Alike (left begun) (right behind_magic begun (events ++ following)) (left last) (right behind_magic last following)
   pub apart : Tells begun.first → (f : Found) → last.found ≡ Some f → (behind_magic : ℕ) (following : List Event) → ApartAt (left begun) (right behind_magic begun (events ++ following)) (seen_of last f)
 
@@ -243,16 +238,16 @@ pub data Concludes (first second : Head) (c : Compared) (answer : Option Differe
   same_magic : first.magic ≡ second.magic → Finishes (behind_magic second) c answer → Concludes first second c answer
 
 -- an input was read, and has a marked tree, if it is known, and the answer says where its tree and that of the other bytes differ
-abbrev pub ReadBeside : Info → Limits → (bytes : List ℕ) → Incoming → Option Difference → Incoming → Type 0
-ReadBeside info limits bytes j answer later =
-    Spent limits j later × (IsSome j.to_come → (m : Marked) × SpellsInput limits (known_bytes j.to_come) m × (known_bytes later.to_come ≡ []) × ((other : Marked) → SpellsInput limits bytes other → Differs info other m answer))
+abbrev pub ReadBeside : Setting → Limits → (bytes : List ℕ) → Incoming → Option Difference → Incoming → Type 0
+ReadBeside setting limits bytes j answer later =
+    Spent limits j later × (IsSome j.to_come → (m : Marked) × SpellsInput limits (known_bytes j.to_come) m × (known_bytes later.to_come ≡ []) × ((other : Marked) → SpellsInput limits bytes other → Differs setting other m answer))
 
 -- why it was not: before it was asked for anything memory was refused, or it was not read
-abbrev pub NotRead : Info → Limits → Which → Fault → Incoming → Incoming → Type 0
-NotRead info limits First fault j later = (fault ≡ Memory) × (later ≡ j)
-NotRead info limits Second fault j later = ReadsTree info limits j (Err fault) later
+abbrev pub NotRead : Setting → Limits → Which → Fault → Incoming → Incoming → Type 0
+NotRead setting limits First fault j later = (fault ≡ Memory) × (later ≡ j)
+NotRead setting limits Second fault j later = ReadsTree setting limits j (Err fault) later
 
 -- what reading an input in step with bytes does
-abbrev pub ComparesWith : Info → Limits → (bytes : List ℕ) → Incoming → Result (Option Difference) SameFault → Incoming → Type 0
-ComparesWith info limits bytes j (Ok answer) later = ReadBeside info limits bytes j answer later
-ComparesWith info limits bytes j (Err e) later = NotRead info limits e.which e.fault j later
+abbrev pub ComparesWith : Setting → Limits → (bytes : List ℕ) → Incoming → Result (Option Difference) SameFault → Incoming → Type 0
+ComparesWith setting limits bytes j (Ok answer) later = ReadBeside setting limits bytes j answer later
+ComparesWith setting limits bytes j (Err e) later = NotRead setting limits e.which e.fault j later

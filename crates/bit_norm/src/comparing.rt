@@ -1,4 +1,5 @@
 ghost use Rattle.std.specs.Prelude.{◌≡◌};
+ghost use Rattle.bit_grammar.specs.Setting.{setting_of};
 ghost use Rattle.bit_norm.specs.Whole.{FindsDifference, FindsInBytes, SaysNone, Compares, ComparesBytes};
 
 use crate::differences::Difference;
@@ -41,9 +42,8 @@ pub(crate) fn faulty(which: Which, fault: Fault) -> SameFault
     SameFault { which, fault }
 }
 
-/// Where the trees of two inputs first differ, whole or without their BLOCKINFO blocks: the magics, or else the blocks and
-/// records in their order. Each input goes from the first byte that its source still has to the last; how long the normal forms
-/// are does not matter.
+/// Where what is left of two inputs under a setting first differs: the magics, or else the blocks and records in their order. Each
+/// input goes from the first byte that its source still has to the last; how long the normal forms are does not matter.
 ///
 /// The first is read whole before the second is asked for a byte, and the second to its end also where they differ. Of both no
 /// more is held than the bytes of the first, and the blocks that are open in both. A fault names the input that it belongs to:
@@ -54,9 +54,9 @@ pub fn first_difference<A: Source, B: Source>(
     a: A,
     b: B,
     limits: Limits,
-    info: Info,
+    info: Info<'_>,
 ) -> (Result<Option<Difference>, SameFault>, A, B)
-    ensures { FindsDifference info limits (A.incoming a) (B.incoming b) result.0 (A.incoming result.1) (B.incoming result.2) }
+    ensures { FindsDifference (setting_of info.entry) limits (A.incoming a) (B.incoming b) result.0 (A.incoming result.1) (B.incoming result.2) }
 {
     // Trees are fit since limits are within their caps.
     let _bytes = limits.bytes();
@@ -75,9 +75,9 @@ pub fn first_difference_from<B: Source>(
     first: &[u8],
     b: B,
     limits: Limits,
-    info: Info,
+    info: Info<'_>,
 ) -> (Result<Option<Difference>, SameFault>, B)
-    ensures { FindsInBytes info limits first.now (B.incoming b) result.0 (B.incoming result.1) }
+    ensures { FindsInBytes (setting_of info.entry) limits first.now (B.incoming b) result.0 (B.incoming result.1) }
 {
     // Trees are fit since limits are within their caps.
     let _bytes = limits.bytes();
@@ -95,15 +95,15 @@ fn is_none(answer: Result<Option<Difference>, SameFault>) -> Result<bool, SameFa
     Ok(answer?.is_none())
 }
 
-/// Whether two inputs have the same tree, whole or without their BLOCKINFO blocks: that `first_difference` finds none.
+/// Whether of two inputs the same is left under a setting: that `first_difference` finds none.
 pub fn same<A: Source, B: Source>(
     alloc: Global,
     a: A,
     b: B,
     limits: Limits,
-    info: Info,
+    info: Info<'_>,
 ) -> (Result<bool, SameFault>, A, B)
-    ensures { Compares info limits (A.incoming a) (B.incoming b) result.0 (A.incoming result.1) (B.incoming result.2) }
+    ensures { Compares (setting_of info.entry) limits (A.incoming a) (B.incoming b) result.0 (A.incoming result.1) (B.incoming result.2) }
 {
     // Trees are fit since limits are within their caps.
     let _bytes = limits.bytes();
@@ -117,9 +117,9 @@ pub fn same_as<B: Source>(
     first: &[u8],
     b: B,
     limits: Limits,
-    info: Info,
+    info: Info<'_>,
 ) -> (Result<bool, SameFault>, B)
-    ensures { ComparesBytes info limits first.now (B.incoming b) result.0 (B.incoming result.1) }
+    ensures { ComparesBytes (setting_of info.entry) limits first.now (B.incoming b) result.0 (B.incoming result.1) }
 {
     // Trees are fit since limits are within their caps.
     let _bytes = limits.bytes();

@@ -1,11 +1,12 @@
 ghost use Rattle.std.specs.Prelude.{◌≡◌, ◌⊎◌};
-ghost use Rattle.bit_grammar.specs.declared.info.Info.{Info};
+ghost use Rattle.bit_grammar.specs.Setting.{Setting};
+ghost use Rattle.bit_grammar.specs.Under.{under};
 ghost use Rattle.bit_grammar.specs.Input.{Marked, tree_of};
 ghost use Rattle.bit_norm.specs.Entries.{FirstDifference, Seen};
 
-/// Two trees under a setting are the same or first differ somewhere, never both, and at one place at most.
+/// What is left of two trees under a setting is the same or first differs somewhere, never both, and at one place at most.
 pub fn one_difference()
-    ensures some { (info : Info) (a b : Marked) → (tree_of info a ≡ tree_of info b) ⊎ ((seen : Seen) × FirstDifference info a b seen) }
-    ensures none { (info : Info) (a b : Marked) (seen : Seen) → FirstDifference info a b seen → tree_of info a ≡ tree_of info b → ⊥ }
-    ensures one { (info : Info) (a b : Marked) (seen other : Seen) → FirstDifference info a b seen → FirstDifference info a b other → seen ≡ other }
+    ensures some { (setting : Setting) (a b : Marked) → (under setting (tree_of a) ≡ under setting (tree_of b)) ⊎ ((seen : Seen) × FirstDifference setting a b seen) }
+    ensures none { (setting : Setting) (a b : Marked) (seen : Seen) → FirstDifference setting a b seen → under setting (tree_of a) ≡ under setting (tree_of b) → ⊥ }
+    ensures one { (setting : Setting) (a b : Marked) (seen other : Seen) → FirstDifference setting a b seen → FirstDifference setting a b other → seen ≡ other }
 {}

@@ -1,17 +1,18 @@
-ghost use Rattle.std.specs.Prelude.{◌≡◌, ◌+◌, ◌*◌, ◌/◌, ◌%◌, ◌^◌, ◌<◌, ◌≤◌, ℕ, List, [], ◌∷◌, ◌++◌, length, true, false, vec_len, IfSome, MatchOption, OnOk};
+ghost use Rattle.std.specs.Prelude.{◌≡◌, ◌+◌, ◌*◌, ◌/◌, ◌%◌, ◌^◌, ◌<◌, ◌≤◌, ℕ, List, [], ◌∷◌, ◌++◌, length, true, false, IfSome, MatchOption, OnOk};
 ghost use Rattle.bit_grammar.specs.Machine.{Event, Opened, enters, notes, leaves};
-ghost use Rattle.bit_grammar.specs.Marks.{RecordMark, keeps};
+ghost use Rattle.bit_grammar.specs.Marks.{RecordMark};
+ghost use Rattle.bit_grammar.specs.Setting.{setting_of};
 ghost use Rattle.bit_grammar.specs.Normal.{values_text, end_text, normal};
 ghost use Rattle.bit_events.specs.Gathering.{left_open};
 ghost use Rattle.bit_fields.specs.Texts.{with_word};
 ghost use Rattle.bit_norm.specs.Told.{told_at_level};
-ghost use Rattle.bit_norm.specs.Building.{HasTaken, IsFormOf};
 ghost use Rattle.bit_events.specs.MachineView.{TookSome};
+ghost use Rattle.bit_norm.specs.Building.{HasTaken, HasForm, record_left, left, IsFormOf};
 ghost use Rattle.bit_norm.specs.Writing.{record_head, record_text, open_text};
 
 use crate::form_values::{FormValues, is_long};
 use bit_abbrev::Abbrev;
-use bit_events::Gatherer;
+use bit_events::{Gatherer, OpenBlocks};
 use bit_fields::{BitText, Limits};
 use bit_tree::Info;
 use std::alloc::{AllocError, Global};
@@ -89,45 +90,32 @@ fn add_record(
     text.append(values)
 }
 
-/// Whether blocks with this id are kept.
-#[inline(always)]
-fn keeps(info: Info, id: u32) -> bool
-    ensures { result ≡ keeps info id }
-{
-    match info {
-        Info::Keep => true,
-        Info::Drop => id != 0,
-    }
-}
-
-/// The normal form of the events so far, behind the magic, under a setting. Of each open block it knows the word where its
-/// length is to stand; nothing is kept of a block that is dropped, and nothing any more once the form is longer than the limit
-/// on bytes.
+/// The normal form of what is left of the events so far under a setting, behind the magic. Of each open block that is left it
+/// knows the word where its length is to stand; nothing is kept of the others, and nothing any more once the form is longer than
+/// the limit on bytes.
 #[derive(Drop)]
-pub(crate) struct FormBuilder {
+pub(crate) struct FormBuilder<'a> {
     alloc: Global,
-    info: Info,
+    standing: OpenBlocks<'a>,
     limits: Limits,
     text: BitText,
     holes: Vec<u64>,
-    dropped: Vec<u32>,
     long: bool,
 }
 
-impl FormBuilder {
+impl<'a> FormBuilder<'a> {
     /// Nothing is built.
-    pub(crate) fn new(alloc: Global, info: Info, limits: Limits) -> FormBuilder
+    pub(crate) fn new(alloc: Global, info: Info<'a>, limits: Limits) -> FormBuilder<'a>
         ensures form { IsFormOf result [] result }
-        ensures info { result.info ≡ info }
+        ensures setting { result.standing.setting ≡ setting_of info.entry }
         ensures limits { result.limits ≡ limits }
     {
         FormBuilder {
             alloc,
-            info,
+            standing: OpenBlocks::new(alloc, info),
             limits,
             text: BitText::new(alloc),
             holes: Vec::new(alloc),
-            dropped: Vec::new(alloc),
             long: false,
         }
     }
@@ -136,7 +124,7 @@ impl FormBuilder {
     #[cold]
     fn stop(&mut self)
         ensures long { self.new.long ≡ true }
-        ensures info { self.new.info ≡ self.old.info }
+        ensures standing { self.new.standing ≡ self.old.standing }
         ensures limits { self.new.limits ≡ self.old.limits }
     {
         self.text.clear();
@@ -145,7 +133,7 @@ impl FormBuilder {
 
     /// The text, or `None` where the form is longer than the limit on bytes.
     pub(crate) fn finish(self) -> Option<BitText>
-        ensures form { (first : FormBuilder) (events : List Event) → IsFormOf first events self → left_open events ≡ 0 → MatchOption result (first.limits.bytes < 4 + length (normal (told_at_level first.info events 0) 32) / 8) (λ text. (text ≡ normal (told_at_level first.info events 0) 32) × (length text % 32 ≡ 0) × (4 + length text / 8 ≤ first.limits.bytes)) }
+        ensures form { (first : FormBuilder) (events : List Event) → IsFormOf first events self.entry → left_open events ≡ 0 → MatchOption result (first.limits.bytes < 4 + length (normal (told_at_level (left first events) 0) 32) / 8) (λ text. (text ≡ normal (told_at_level (left first events) 0) 32) × (length text % 32 ≡ 0) × (4 + length text / 8 ≤ first.limits.bytes)) }
         ensures capped { IfSome result (λ text. length text < 2 ^ 38) }
     {
         let FormBuilder {
@@ -153,9 +141,8 @@ impl FormBuilder {
             limits,
             long,
             alloc: _,
-            info: _,
+            standing: _,
             holes: _,
-            dropped: _,
         } = self;
         if long {
             return None;
@@ -166,35 +153,23 @@ impl FormBuilder {
         Some(text)
     }
 
-    /// Whether a block that begins is left out: it is dropped, or a block round it is.
-    fn leaves_out(&self, id: u32) -> bool
-        ensures yes { result ≡ true → vec_len self.now.dropped ≡ 0 → keeps self.now.info id ≡ false }
-        ensures inside { result ≡ false → vec_len self.now.dropped ≡ 0 }
-        ensures kept { result ≡ false → keeps self.now.info id ≡ true }
-    {
-        if self.dropped.is_empty() {
-            return !keeps(self.info, id);
-        }
-        true
-    }
-
-    /// Whether a record is left out, since a block round it is, or the form is too long.
+    /// Whether nothing is done for a record with this code, since it is left out, or the form is too long.
     #[inline(always)]
-    fn is_idle(&self) -> bool
-        ensures yes { result ≡ true → self.now.long ≡ false → 0 < vec_len self.now.dropped }
+    fn is_idle(&self, code: u64) -> bool
+        ensures yes { result ≡ true → self.now.long ≡ false → record_left self.now.standing code ≡ false }
         ensures short { result ≡ false → self.now.long ≡ false }
-        ensures inside { result ≡ false → vec_len self.now.dropped ≡ 0 }
+        ensures inside { result ≡ false → record_left self.now.standing code ≡ true }
     {
         if self.long {
             return true;
         }
-        !self.dropped.is_empty()
+        !self.standing.leaves_record(code)
     }
 
-    /// Opens a block that is kept.
+    /// Opens a block that is left.
     fn open_block(&mut self, id: u32) -> Result<(), AllocError>
-        requires { keeps self.old.info id ≡ true }
-        ensures { OnOk result ((first : FormBuilder) (done : List Event) (opened : Opened) → opened.id ≡ id → IsFormOf first done self.old → self.old.long ≡ false → vec_len self.old.dropped ≡ 0 → IsFormOf first (done ++ enters opened ∷ []) self.new) }
+        ensures stays { OnOk result ((self.new.standing ≡ self.old.standing) × (self.new.limits ≡ self.old.limits)) }
+        ensures form { OnOk result ((done : List Event) (opened : Opened) → opened.id ≡ id → HasForm done self.old → self.old.long ≡ false → HasForm (done ++ enters opened ∷ []) self.new) }
     {
         if is_long(&self.text, self.limits) {
             self.stop();
@@ -205,20 +180,10 @@ impl FormBuilder {
         self.text.fixed(32, 0)
     }
 
-    /// Closes a block that is left out.
-    fn leave_out(&mut self) -> Result<(), AllocError>
-        requires { 0 < vec_len self.old.dropped }
-        ensures { OnOk result ((first : FormBuilder) (done : List Event) (after : ℕ) → IsFormOf first done self.old → self.old.long ≡ false → IsFormOf first (done ++ leaves after ∷ []) self.new) }
-    {
-        let Some(_id) = self.dropped.pop() else {
-            unreachable!();
-        };
-        Ok(())
-    }
-
-    /// Closes a block that is kept.
+    /// Closes a block that is left.
     fn close(&mut self) -> Result<(), AllocError>
-        ensures { OnOk result ((first : FormBuilder) (done : List Event) (after : ℕ) → IsFormOf first done self.old → self.old.long ≡ false → vec_len self.old.dropped ≡ 0 → 0 < left_open done → IsFormOf first (done ++ leaves after ∷ []) self.new) }
+        ensures stays { OnOk result ((self.new.standing ≡ self.old.standing) × (self.new.limits ≡ self.old.limits)) }
+        ensures form { OnOk result ((done : List Event) (after : ℕ) → HasForm done self.old → self.old.long ≡ false → 0 < left_open done → HasForm (done ++ leaves after ∷ []) self.new) }
     {
         let Some(hole) = self.holes.pop() else {
             return Ok(());
@@ -233,12 +198,13 @@ impl FormBuilder {
         close_block(&mut self.text, hole)
     }
 
-    /// Adds a record of a block that is kept, some of whose values may be text. These are taken away. Where it is not known what
-    /// they are it is as if memory were refused.
+    /// Adds a record that is left, some of whose values may be text. These are taken away. Where it is not known what they are it
+    /// is as if memory were refused.
     #[inline(never)]
     fn add_long(&mut self, code: u64, values: &mut FormValues) -> Result<(), AllocError>
         requires { length self.old.text < 2 ^ 38 }
-        ensures { OnOk result ((first : FormBuilder) (done : List Event) (mark : RecordMark) → mark.code ≡ code → HasTaken values.old mark.values → IsFormOf first done self.old → self.old.long ≡ false → vec_len self.old.dropped ≡ 0 → 0 < left_open done → IsFormOf first (done ++ notes mark ∷ []) self.new) }
+        ensures stays { OnOk result ((self.new.standing ≡ self.old.standing) × (self.new.limits ≡ self.old.limits)) }
+        ensures form { OnOk result ((done : List Event) (mark : RecordMark) → mark.code ≡ code → HasTaken values.old mark.values → HasForm done self.old → self.old.long ≡ false → 0 < left_open done → HasForm (done ++ notes mark ∷ []) self.new) }
     {
         values.settle()?;
         if values.is_past(self.limits) {
@@ -251,10 +217,11 @@ impl FormBuilder {
         add_record(&mut self.text, code, values.before, &mut values.text)
     }
 
-    /// Adds a record of a block that is kept, whose values it may take away.
+    /// Adds a record that is left, whose values it may take away.
     #[inline]
     fn add(&mut self, code: u64, values: &mut FormValues) -> Result<(), AllocError>
-        ensures adds { OnOk result ((first : FormBuilder) (done : List Event) (mark : RecordMark) → mark.code ≡ code → HasTaken values.old mark.values → IsFormOf first done self.old → self.old.long ≡ false → vec_len self.old.dropped ≡ 0 → 0 < left_open done → IsFormOf first (done ++ notes mark ∷ []) self.new) }
+        ensures stays { OnOk result ((self.new.standing ≡ self.old.standing) × (self.new.limits ≡ self.old.limits)) }
+        ensures form { OnOk result ((done : List Event) (mark : RecordMark) → mark.code ≡ code → HasTaken values.old mark.values → HasForm done self.old → self.old.long ≡ false → 0 < left_open done → HasForm (done ++ notes mark ∷ []) self.new) }
         ensures took { TookSome HasTaken values.old → TookSome HasTaken values.new }
     {
         if is_long(&self.text, self.limits) {
@@ -270,7 +237,7 @@ impl FormBuilder {
     }
 }
 
-impl Gatherer for FormBuilder {
+impl<'a> Gatherer for FormBuilder<'a> {
     ghost use Rattle.bit_norm.specs.Building.{IsFormOf};
 
     type Values = FormValues;
@@ -285,11 +252,10 @@ impl Gatherer for FormBuilder {
         if self.long {
             return Ok(());
         }
-        if self.leaves_out(id) {
-            self.dropped.push(id)?;
-            return Ok(());
+        if self.standing.enter(id)? {
+            return self.open_block(id);
         }
-        self.open_block(id)
+        Ok(())
     }
 
     fn define(&mut self, _abbrev: &Abbrev, _first: u64, _after: u64) -> Result<(), AllocError> {
@@ -305,7 +271,7 @@ impl Gatherer for FormBuilder {
         _first: u64,
         _after: u64,
     ) -> Result<(), AllocError> {
-        if self.is_idle() {
+        if self.is_idle(code) {
             return Ok(());
         }
         self.add(code, values)
@@ -315,9 +281,9 @@ impl Gatherer for FormBuilder {
         if self.long {
             return Ok(());
         }
-        if !self.dropped.is_empty() {
-            return self.leave_out();
+        if self.standing.leave() {
+            return self.close();
         }
-        self.close()
+        Ok(())
     }
 }

@@ -1,19 +1,20 @@
 //! An input that is read in step with the bytes of another one.
 
-ghost use Rattle.std.specs.Prelude.{◌≡◌, ◌-◌, ◌*◌, ◌<◌, ◌^◌, ℕ, IfOk, OnOk};
+ghost use Rattle.std.specs.Prelude.{◌≡◌, ◌*◌, ◌<◌, ◌^◌, IfOk, OnOk};
+ghost use Rattle.bit_grammar.specs.Setting.{setting_of};
 ghost use Rattle.bit_norm.specs.Entries as tree;
-ghost use Rattle.bit_grammar.specs.Marks as marks;
 ghost use Rattle.bit_events.specs.EventView.{shown};
+ghost use Rattle.bit_events.specs.Standing.{stands_after};
 ghost use Rattle.bit_fields.specs.Opening.{head_told};
-ghost use Rattle.bit_norm.specs.InStep.{sign_shown, stand_of, Weighs, StandsBeside, Meets, Concludes, ComparesWith};
+ghost use Rattle.bit_norm.specs.InStep.{said, sign_shown, stand_of, IsBeside, Weighs, StandsBeside, Meets, Concludes, ComparesWith};
 
 use crate::comparing::{SameFault, Which, faulty};
 use crate::differences::{Difference, Place, Standing, ValueDifference, What};
 use crate::sign::Sign;
-use crate::walk::{Walk, one_more};
+use crate::walk::Walk;
 use crate::writing::number_of_magic;
 use bit_abbrev::Abbrev;
-use bit_events::{Event, Events, Folded, Gatherer, fold};
+use bit_events::{Event, Events, Folded, Gatherer, OpenBlocks, fold};
 use bit_fields::{Fault, Head, Limits, SliceSource, Source, Wrapper};
 use bit_tree::Info;
 use std::alloc::{AllocError, Global};
@@ -29,19 +30,9 @@ pub(crate) enum Beside {
 
 /// What an event of the first input is beside a sign of the second.
 pub(crate) enum Weighed {
-    /// No sign, and so many blocks are open then from the outermost on that is left out.
-    Passed(u64),
+    /// No sign that is left.
+    Passed,
     Stands(Beside),
-}
-
-/// Whether blocks with this id are kept.
-fn keeps(info: Info, id: u32) -> bool
-    ensures { result ≡ marks.keeps info id }
-{
-    match info {
-        Info::Keep => true,
-        Info::Drop => id != 0,
-    }
 }
 
 /// How a sign of the first input, which begins and ends at these bits, is beside one of the second.
@@ -59,9 +50,9 @@ fn held_beside(own: Sign<'_>, bit: u64, ended: u64, sign: Sign<'_>) -> Beside
     Beside::Other(first, own.value_apart(sign))
 }
 
-/// How an event is beside a sign, where no block is left out, and what stands before it ended at this bit.
-fn weigh_kept(event: Event<'_>, sign: Sign<'_>, info: Info, ended: u64) -> Weighed
-    ensures { Weighs info 0 ended (shown event.entry) (sign_shown sign.entry) result }
+/// How an event that is left is beside a sign, where what stands before it ended at this bit.
+fn weigh_left(event: Event<'_>, sign: Sign<'_>, ended: u64) -> Weighed
+    ensures { IsBeside (said ended (shown event.entry)) (sign_shown sign.entry) result }
 {
     match event {
         Event::Enter {
@@ -69,14 +60,8 @@ fn weigh_kept(event: Event<'_>, sign: Sign<'_>, info: Info, ended: u64) -> Weigh
             first,
             body,
             ..
-        } => {
-            if keeps(info, id) {
-                Weighed::Stands(held_beside(Sign::Begins(id), first, body, sign))
-            } else {
-                Weighed::Passed(1)
-            }
-        }
-        Event::Define { .. } => Weighed::Passed(0),
+        } => Weighed::Stands(held_beside(Sign::Begins(id), first, body, sign)),
+        Event::Define { .. } => Weighed::Passed,
         Event::Record {
             code,
             values,
@@ -88,50 +73,40 @@ fn weigh_kept(event: Event<'_>, sign: Sign<'_>, info: Info, ended: u64) -> Weigh
     }
 }
 
-/// How many blocks are open after an event from the outermost on that is left out, where so many are before.
-fn passed_on(event: Event<'_>, passed: u64) -> u64
-    requires some { 0 < passed }
-    requires fits { passed < 2 ^ 64 - 1 }
-    ensures { (info : Info) (ended : ℕ) (other : tree.Sign) → Weighs info passed ended (shown event.entry) other (Weighed.Passed result) }
+/// How an event is beside a sign, if it is left. The open blocks of the first input are then those after it.
+fn weigh(
+    event: Event<'_>,
+    sign: Sign<'_>,
+    blocks: &mut OpenBlocks<'_>,
+    ended: u64,
+) -> Result<Weighed, AllocError>
+    ensures weighs { IfOk result (λ weighed. Weighs blocks.old ended (shown event.entry) (sign_shown sign.entry) weighed) }
+    ensures stands { OnOk result (blocks.new ≡ stands_after (shown event.entry) blocks.old) }
 {
-    match event {
-        Event::Enter { .. } => passed + 1,
-        Event::Define { .. } => passed,
-        Event::Record { .. } => passed,
-        Event::Leave { .. } => passed - 1,
+    if !blocks.take(event)? {
+        return Ok(Weighed::Passed);
     }
+    Ok(weigh_left(event, sign, ended))
 }
 
-/// How an event is beside a sign, where so many blocks are open from the outermost on that is left out.
-fn weigh(event: Event<'_>, sign: Sign<'_>, info: Info, passed: u64, ended: u64) -> Weighed
-    requires { passed < 2 ^ 64 - 1 }
-    ensures { Weighs info passed ended (shown event.entry) (sign_shown sign.entry) result }
-{
-    if passed == 0 {
-        weigh_kept(event, sign, info, ended)
-    } else {
-        Weighed::Passed(passed_on(event, passed))
-    }
-}
-
-/// Takes the next sign of the events to come, or the end of the stream, and answers how it is beside this one. What stands before
-/// it ended at this bit.
+/// Takes the next sign of what is left of the events to come, or the end of the stream, and answers how it is beside this one. What
+/// stands before it ended at this bit.
 fn next_beside<S: Source>(
     events: &mut Events<S>,
-    info: Info,
+    blocks: &mut OpenBlocks<'_>,
     walk: &Walk,
     ended: u64,
     sign: Sign<'_>,
 ) -> Result<Beside, Fault>
-    ensures { Meets info (stand_of walk.now ended) events.old (sign_shown sign.entry) result events.new }
+    ensures { Meets blocks.old (stand_of walk.now ended) events.old (sign_shown sign.entry) result blocks.new events.new }
 {
-    let mut passed: u64 = 0;
     'events: loop {
         match events.next()? {
             None => return Ok(held_beside(Sign::Over, ended, ended, sign)),
-            Some(event) => match weigh(event, sign, info, passed, ended) {
-                Weighed::Passed(now) => passed = now,
-                Weighed::Stands(beside) => return Ok(beside),
+            Some(event) => match weigh(event, sign, blocks, ended) {
+                Ok(Weighed::Passed) => {}
+                Ok(Weighed::Stands(beside)) => return Ok(beside),
+                Err(AllocError) => return Err(Fault::Memory),
             },
         }
     }
@@ -149,16 +124,16 @@ pub(crate) struct Found {
 #[derive(Drop)]
 pub(crate) struct Comparer<'a> {
     alloc: Global,
-    info: Info,
     first: Events<SliceSource<'a>>,
+    /// The open blocks of the first, and of the second.
+    first_blocks: OpenBlocks<'a>,
+    second_blocks: OpenBlocks<'a>,
     /// Where both stand.
     walk: Walk,
     /// Where what stands before that place ended in the first.
     first_ended: u64,
     /// The same in the second, unless nothing stands before it.
     second_ended: u64,
-    /// How many blocks are open in the second from the outermost on that is left out.
-    passed: u64,
     found: Option<Found>,
 }
 
@@ -167,7 +142,7 @@ impl<'a> Model for Comparer<'a> {
 
     ghost Value = { Compared };
 
-    ghost view = { λ c. record { info = c.info; first = c.first; within = c.walk.open.items; items = c.walk.items; first_ended = c.first_ended; second_ended = c.second_ended; passed = c.passed; found = c.found } };
+    ghost view = { λ c. record { first = c.first; first_blocks = c.first_blocks; second_blocks = c.second_blocks; within = c.walk.open.items; items = c.walk.items; first_ended = c.first_ended; second_ended = c.second_ended; found = c.found } };
 }
 
 impl<'a> Comparer<'a> {
@@ -185,7 +160,7 @@ impl<'a> Comparer<'a> {
         }
         match next_beside(
             &mut self.first,
-            self.info,
+            &mut self.first_blocks,
             &self.walk,
             self.first_ended,
             sign,
@@ -218,12 +193,12 @@ impl<'a> Comparer<'a> {
     {
         let Comparer {
             alloc: _,
-            info: _,
             first: _,
+            first_blocks: _,
+            second_blocks: _,
             walk,
             first_ended: _,
             second_ended: _,
-            passed: _,
             found,
         } = self;
         let Walk { open, items } = walk;
@@ -263,12 +238,10 @@ impl<'a> Gatherer for Comparer<'a> {
     }
 
     fn enter(&mut self, id: u32, _width: u8, first: u64, body: u64) -> Result<(), AllocError> {
-        if self.passed > 0 || !keeps(self.info, id) {
-            // Blocks nest at most 255 deep.
-            self.passed = one_more(self.passed)?;
-            return Ok(());
+        if self.second_blocks.enter(id)? {
+            return self.take(Sign::Begins(id), first, body);
         }
-        self.take(Sign::Begins(id), first, body)
+        Ok(())
     }
 
     fn define(&mut self, _abbrev: &Abbrev, _first: u64, _after: u64) -> Result<(), AllocError> {
@@ -284,19 +257,18 @@ impl<'a> Gatherer for Comparer<'a> {
         first: u64,
         after: u64,
     ) -> Result<(), AllocError> {
-        if self.passed > 0 {
-            return Ok(());
+        if self.second_blocks.leaves_record(code) {
+            return self.take(Sign::Record(code, values.as_slice()), first, after);
         }
-        self.take(Sign::Record(code, values.as_slice()), first, after)
+        Ok(())
     }
 
     fn leave(&mut self, after: u64) -> Result<(), AllocError> {
-        if self.passed > 0 {
-            self.passed -= 1;
-            return Ok(());
+        if self.second_blocks.leave() {
+            let bit = self.second_ended;
+            return self.take(Sign::Ends, bit, after);
         }
-        let bit = self.second_ended;
-        self.take(Sign::Ends, bit, after)
+        Ok(())
     }
 }
 
@@ -355,9 +327,9 @@ pub(crate) fn compare_with<S: Source>(
     first: &[u8],
     source: S,
     limits: Limits,
-    info: Info,
+    info: Info<'_>,
 ) -> (Result<Option<Difference>, SameFault>, S)
-    ensures { ComparesWith info limits first.now (S.incoming source) result.0 (S.incoming result.1) }
+    ensures { ComparesWith (setting_of info.entry) limits first.now (S.incoming source) result.0 (S.incoming result.1) }
 {
     let events = match Events::start(alloc, SliceSource::new(first), limits) {
         Ok(events) => events,
@@ -366,12 +338,12 @@ pub(crate) fn compare_with<S: Source>(
     let head = *events.head();
     let comparer = Comparer {
         alloc,
-        info,
         first: events,
+        first_blocks: OpenBlocks::new(alloc, info),
+        second_blocks: OpenBlocks::new(alloc, info),
         walk: Walk::new(alloc),
         first_ended: magic_bit(&head) + 32,
         second_ended: 0,
-        passed: 0,
         found: None,
     };
     let (read, source) = fold(alloc, source, limits, comparer);

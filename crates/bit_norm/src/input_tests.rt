@@ -1,7 +1,7 @@
 //! Inputs and their normal forms.
 
 use crate::tests::{MAGIC, Pieces};
-use crate::{Info, normalise};
+use crate::{Info, RecordName, normalise};
 use bit_fields::{Fault, Limits, ReadSource, SliceSource, Source, VecSink};
 use std::alloc::{AllocError, Global};
 use std::io;
@@ -245,6 +245,35 @@ static DROPPED: &str = "\
 fn described_blocks(rt: HostRuntime) {
     are_normalised(&rt, rt.alloc(), KEPT, Info::Keep, 4);
     are_normalised(&rt, rt.alloc(), DROPPED, Info::Drop, 3);
+}
+
+/// Inputs, and their normal forms without the records with code 1 of blocks 8.
+static UNNAMED: &str = "\
+    M T = M E\n\
+    M D = M 01 08 00 00 01 00 00 00 07 01 02 00 E\n\
+    M N = M 21 08 00 00 07 00 00 00 01 08 00 00 01 00 00 00 07 01 02 00 E 00 00 00 00";
+
+/// The same, and their normal forms without blocks 8.
+static GONE: &str = "\
+    M T = M\n\
+    M D = M 01 08 00 00 01 00 00 00 07 01 02 00\n\
+    M N = M";
+
+#[test]
+fn named_blocks_and_records(rt: HostRuntime) {
+    let records = Info::Without {
+        blocks: &[9],
+        records: &[
+            RecordName { block: 8, code: 1 },
+            RecordName { block: 0, code: 1 },
+        ],
+    };
+    are_normalised(&rt, rt.alloc(), UNNAMED, records, 3);
+    let blocks = Info::Without {
+        blocks: &[8],
+        records: &[],
+    };
+    are_normalised(&rt, rt.alloc(), GONE, blocks, 3);
 }
 
 #[test]

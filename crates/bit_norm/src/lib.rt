@@ -24,7 +24,7 @@ mod walk;
 mod writing;
 
 pub use bit_grammar::{normal_once, normal_spelled};
-pub use bit_tree::Info;
+pub use bit_tree::{Info, RecordName};
 pub use comparing::{SameFault, Which, first_difference, first_difference_from, same, same_as};
 pub use difference_laws::one_difference;
 pub use differences::{Difference, OpenBlock, Place, Standing, ValueDifference, What};

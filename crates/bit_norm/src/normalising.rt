@@ -4,6 +4,7 @@ ghost use Rattle.bit_grammar.specs.Forest.{Tree};
 ghost use Rattle.bit_grammar.specs.Normal.{normal};
 ghost use Rattle.bit_fields.specs.Opening.{magic_number};
 ghost use Rattle.bit_fields.specs.Writer.{Writes};
+ghost use Rattle.bit_grammar.specs.Setting.{setting_of};
 ghost use Rattle.bit_norm.specs.Whole.{Normalises};
 ghost use Rattle.bit_norm.specs.Writing.{WritesForm};
 
@@ -46,8 +47,7 @@ fn give<K: Sink>(magic: [u8; 4], text: BitText, sink: K) -> (Result<u64, Fault>,
     }
 }
 
-/// Gives a sink the normal form of what an input holds, whole or without its BLOCKINFO blocks, and answers how many bytes
-/// that are. The input goes from the first byte that its source still has to the last.
+/// Gives a sink the normal form of what is left under a setting of what an input holds, and answers how many bytes that are. The input goes from the first byte that its source still has to the last.
 ///
 /// Nothing is given to the sink before the whole input is accepted. `Refused` names the one reason and bit at which it breaks
 /// the rules, and `OutputTooLong` comes where its form passes the limit on bytes; both, as `Read` and `Memory`, give the sink
@@ -57,9 +57,9 @@ pub fn normalise<S: Source, K: Sink>(
     source: S,
     sink: K,
     limits: Limits,
-    info: Info,
+    info: Info<'_>,
 ) -> (Result<u64, Fault>, S, K)
-    ensures { Normalises info limits (S.incoming source) (K.outgoing sink) result.0 (S.incoming result.1) (K.outgoing result.2) }
+    ensures { Normalises (setting_of info.entry) limits (S.incoming source) (K.outgoing sink) result.0 (S.incoming result.1) (K.outgoing result.2) }
 {
     let builder = FormBuilder::new(alloc, info, limits);
     let (answer, source) = fold(alloc, source, limits, builder);

@@ -3,7 +3,7 @@
 use crate::fault_tests::{agrees, told_of_fault};
 use crate::input_tests::{Cuts, bytes_of};
 use crate::tests::within;
-use crate::{Info, SameFault, Which, same, same_as};
+use crate::{Info, RecordName, SameFault, Which, same, same_as};
 use bit_fields::{Fault, Limits, Reason, SliceSource, Source};
 use std::alloc::{AllocError, Global};
 use std::process::Abort;
@@ -134,6 +134,26 @@ static WITHOUT_INFO: [(&str, &str, &str); 8] = [
 fn blockinfo_is_dropped(rt: HostRuntime) {
     for (a, b, wanted) in &WITHOUT_INFO {
         are_told(&rt, rt.alloc(), (a, b), Info::Drop, wanted, wanted);
+    }
+}
+
+/// Pairs of inputs, and what is told of them both ways without blocks 0 and 9, and the records with code 1 of blocks 8.
+static WITHOUT_NAMED: [(&str, &str, &str); 5] = [
+    ("M T", "M H", "true"),
+    ("M E", NESTED, "true"),
+    ("M D", "M E", "true"),
+    ("M N", "M 21 08 00 00 04 00 00 00 E 00 00 00 00", "true"),
+    ("M N", "M E", "false"),
+];
+
+#[test]
+fn what_is_named_is_dropped(rt: HostRuntime) {
+    let named = Info::Without {
+        blocks: &[9, 0],
+        records: &[RecordName { block: 8, code: 1 }],
+    };
+    for (a, b, wanted) in &WITHOUT_NAMED {
+        are_told(&rt, rt.alloc(), (a, b), named, wanted, wanted);
     }
 }
 

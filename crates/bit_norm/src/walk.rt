@@ -15,7 +15,7 @@ pub(crate) struct Walk {
 }
 
 /// One item more. Each has bits of its own, so that their number never gets to the greatest of 64 bits.
-pub(crate) fn one_more(items: u64) -> Result<u64, AllocError>
+fn one_more(items: u64) -> Result<u64, AllocError>
     ensures { IfOk result (λ more. more ≡ items + 1) }
 {
     items.checked_add(1).ok_or(AllocError)

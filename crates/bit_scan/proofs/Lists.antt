@@ -1,59 +1,129 @@
 -- The lines of a listing, one after the other.
-use Rattle.std.proofs.Common.{◌≡◌, ℕ, ◌≤◌, List, [], ◌++◌, Result, Err, sym, ap, subst, ◌∙◌, arith}
+use Rattle.std.proofs.Common.{◌≡◌, ℕ, suc, ◌-◌, ◌≤◌, Bool, true, false, List, [], ◌∷◌, ◌++◌, length, Result, Err, refl, sym, ap, subst, ◌∙◌, arith}
+use Rattle.std.specs.Prelude.{if◌then◌else◌}
 use Rattle.std.proofs.lemmas.List.{append-nil}
-use Rattle.bit_grammar.specs.Machine.{Event, Told}
-use Rattle.bit_grammar.specs.Steps.{MayStand, open_after}
+use Rattle.std.specs.List.{list_all}
+use Rattle.bit_grammar.specs.Setting.{Setting, keeps}
+use Rattle.bit_grammar.specs.Under.{ids_after, is_left}
+use Rattle.bit_grammar.specs.Machine.{Event, enters, defines, notes, leaves, Told}
+use Rattle.bit_grammar.specs.Steps.{open_after}
 use Rattle.bit_grammar.specs.Texts.{event_text, events_text}
 use Rattle.bit_grammar.proofs.Nesting.{open_within}
+use Rattle.bit_events.specs.Standing.{Standing, leaves as leaves_event, stands_after, left_of}
+use Rattle.bit_events.proofs.Standings.{kept_count, counted_few}
 use Rattle.bit_events.specs.Coming.{Coming, Tells, Gives, Ends}
 use Rattle.bit_fields.specs.declared.fault.Fault.{Fault}
 use Rattle.bit_scan.specs.Lines.{listing_head}
-use Rattle.bit_scan.specs.Listing.{PrintsOne}
+use Rattle.bit_scan.specs.Listing.{left_text, PrintsOne}
 use Rattle.bit_scan.specs.Printing.{Printing, Printed, Prints}
 use Rattle.bit_scan.proofs.Prints.{Goes, goes_starts, goes_as, goes_on, goes_wrong, goes_last, goes_ends}
 
 -- ---- events
 
--- a line that was not printed, or not all of it
-pub line_stops : (around : ℕ) (old new : Coming) (p q : Printing) (event : Event) (fault : Fault) → Gives old event new → Prints (event_text around event) p (Err fault) q → Tells old → Prints (events_text around old.told.0) p (Err fault) q
-line_stops around old new p q event fault gives prints tells =
-    let rest = events_text (open_after event around) new.told.0 in
-    let whole : events_text around old.told.0 ≡ event_text around event ++ rest = ap (λ (t : Told). events_text around t.0) (gives.told tells) in
-    subst (λ (l : List ℕ). Prints l p (Err fault) q) (sym whole) (goes_wrong (event_text around event ++ rest) p (event_text around event) rest p q fault (goes_starts (event_text around event ++ rest) p) prints)
+-- the line of an event, with so many blocks that are left around it, if it is left; and how many stand around what follows
+abbrev pub line_left : Standing → (around : ℕ) → Event → List ℕ
+line_left stood around event = if leaves_event stood event then event_text around event else []
 
--- of a text, the lines of the events to come are left to print, with so many blocks around the first
-pub record Listing (text : List ℕ) (first : Printing) (around : ℕ) (now : Coming) (p : Printing) : Type 0 where
+abbrev pub around_after : Standing → (around : ℕ) → Event → ℕ
+around_after stood around event = if leaves_event stood event then open_after event around else around
+
+left_first : (stood : Standing) (around : ℕ) (event : Event) (events : List Event) → left_text around stood (event ∷ events) ≡ line_left stood around event ++ left_text (around_after stood around event) (stands_after event stood) events
+left_first stood around event events = go (leaves_event stood event)
+  where
+    others : List Event
+    others = left_of (stands_after event stood) events
+
+    go : (b : Bool) → events_text around (if b then event ∷ others else others) ≡ (if b then event_text around event else []) ++ events_text (if b then open_after event around else around) others
+    go true = refl
+    go false = refl
+
+-- as many blocks that are left stand around what follows as are open
+kept_after : (s : Setting) (ids : List ℕ) (event : Event) → kept_count s (ids_after event ids) ≡ (if is_left s ids event then open_after event (kept_count s ids) else kept_count s ids)
+kept_after s ids (enters o) = refl
+kept_after s ids (defines mark) = go (list_all (keeps s) ids)
+  where
+    go : (b : Bool) → kept_count s ids ≡ (if b then kept_count s ids else kept_count s ids)
+    go true = refl
+    go false = refl
+kept_after s ids (notes mark) = go (is_left s ids (notes mark))
+  where
+    go : (b : Bool) → kept_count s ids ≡ (if b then kept_count s ids else kept_count s ids)
+    go true = refl
+    go false = refl
+kept_after s [] (leaves after) = refl
+kept_after s (id ∷ ids) (leaves after) = go (list_all (keeps s) (id ∷ ids))
+  where
+    go : (b : Bool) → kept_count s ids ≡ (if b then (if b then suc (kept_count s ids) else kept_count s ids) - 1 else (if b then suc (kept_count s ids) else kept_count s ids))
+    go true = omega arith
+    go false = refl
+
+length_after : (ids : List ℕ) (event : Event) → length (ids_after event ids) ≡ open_after event (length ids)
+length_after ids (enters o) = refl
+length_after ids (defines mark) = refl
+length_after ids (notes mark) = refl
+length_after [] (leaves after) = refl
+length_after (id ∷ ids) (leaves after) = omega arith
+
+-- a line that was not printed, or not all of it
+pub line_stops : (around : ℕ) (stood : Standing) (old new : Coming) (p q : Printing) (event : Event) (fault : Fault) → Gives old event new → Prints (line_left stood around event) p (Err fault) q → Tells old → Prints (left_text around stood old.told.0) p (Err fault) q
+line_stops around stood old new p q event fault gives prints tells =
+    let line = line_left stood around event in
+    let rest = left_text (around_after stood around event) (stands_after event stood) new.told.0 in
+    let whole : left_text around stood old.told.0 ≡ line ++ rest = ap (λ (t : Told). left_text around stood t.0) (gives.told tells) ∙ left_first stood around event new.told.0 in
+    subst (λ (l : List ℕ). Prints l p (Err fault) q) (sym whole) (goes_wrong (line ++ rest) p line rest p q fault (goes_starts (line ++ rest) p) prints)
+
+-- of a text, the lines of the events to come that are left are to be printed, with so many blocks around the first
+pub record Listing (text : List ℕ) (first : Printing) (around : ℕ) (stood : Standing) (now : Coming) (p : Printing) : Type 0 where
   pub tells : Tells now
   pub deepest : now.deepest ≤ 255
   pub inside : now.depth ≤ now.deepest
-  pub around_is : around ≡ now.depth
-  pub goes : Goes text first (events_text around now.told.0) p
+  pub ids : length stood.ids ≡ now.depth
+  pub around_is : around ≡ kept_count stood.setting stood.ids
+  pub few : around ≤ 255
+  pub goes : Goes text first (left_text around stood now.told.0) p
 
-pub listing_begins : (start : Coming) (p : Printing) → Tells start → start.depth ≡ 0 → start.deepest ≤ 255 → Listing (events_text 0 start.told.0) p 0 start p
-listing_begins start p tells outside deepest = record { tells = tells; deepest = deepest; inside = omega (arith, outside); around_is = sym outside; goes = goes_starts (events_text 0 start.told.0) p }
+pub listing_begins : (start : Coming) (stood : Standing) (p : Printing) → Tells start → start.depth ≡ 0 → start.deepest ≤ 255 → stood.ids ≡ [] → Listing (left_text 0 stood start.told.0) p 0 stood start p
+listing_begins start stood p tells outside deepest none = record {
+  tells = tells;
+  deepest = deepest;
+  inside = omega (arith, outside);
+  ids = ap length none ∙ sym outside;
+  around_is = ap (kept_count stood.setting) (sym none);
+  few = omega arith;
+  goes = goes_starts (left_text 0 stood start.told.0) p;
+}
 
-pub listing_goes_on : (text : List ℕ) (first : Printing) (around next : ℕ) (old new : Coming) (p q : Printing) → Listing text first around old p → PrintsOne around old p next new q → Listing text first next new q
-listing_goes_on text first around next old new p q l one =
+pub listing_goes_on : (text : List ℕ) (first : Printing) (around next : ℕ) (stood stands : Standing) (old new : Coming) (p q : Printing) → Listing text first around stood old p → PrintsOne around stood old p next stands new q → Listing text first next stands new q
+listing_goes_on text first around next stood stands old new p q l one =
     let event = one.event in
     let gives = one.gives in
-    let may = subst (λ (n : ℕ). MayStand old.deepest event n) (sym l.around_is) gives.stands in
-    let place : next ≡ new.depth = one.next_is ∙ ap (open_after event) l.around_is ∙ sym gives.depth in
-    let whole : events_text around old.told.0 ≡ event_text around event ++ events_text next new.told.0 = ap (λ (t : Told). events_text around t.0) (gives.told l.tells) ∙ ap (λ (n : ℕ). event_text around event ++ events_text n new.told.0) (sym one.next_is) in
+    let after = stands_after event stood in
+    let ids : length stands.ids ≡ new.depth = ap (λ (st : Standing). length st.ids) one.stands_is ∙ length_after stood.ids event ∙ ap (open_after event) l.ids ∙ sym gives.depth in
+    let around_is : next ≡ kept_count stands.setting stands.ids =
+    one.next_is ∙ ap (λ (n : ℕ). around_after stood n event) l.around_is ∙ sym (kept_after stood.setting stood.ids event) ∙ ap (λ (st : Standing). kept_count st.setting st.ids) (sym one.stands_is) in
+    let inside : new.depth ≤ new.deepest = omega (arith, gives.deepest, gives.depth, open_within old.deepest event old.depth gives.stands l.inside) in
+    let deepest : new.deepest ≤ 255 = omega (arith, gives.deepest, l.deepest) in
+    let whole : left_text around stood old.told.0 ≡ line_left stood around event ++ left_text next stands new.told.0 =
+    ap (λ (t : Told). left_text around stood t.0) (gives.told l.tells) ∙ left_first stood around event new.told.0
+    ∙ ap (λ (n : ℕ). line_left stood around event ++ left_text n after new.told.0) (sym one.next_is)
+    ∙ ap (λ (st : Standing). line_left stood around event ++ left_text next st new.told.0) (sym one.stands_is) in
     record {
       tells = gives.pays.tells l.tells;
-      deepest = omega (arith, gives.deepest, l.deepest);
-      inside = omega (arith, gives.deepest, gives.depth, open_within old.deepest event old.depth gives.stands l.inside);
-      around_is = place;
-      goes = goes_on text first (event_text around event) (events_text next new.told.0) p q (goes_as text first (events_text around old.told.0) _ p whole l.goes) one.printed;
+      deepest = deepest;
+      inside = inside;
+      ids = ids;
+      around_is = around_is;
+      few = omega (arith, around_is, counted_few stands.setting stands.ids, ids, inside, deepest);
+      goes = goes_on text first (line_left stood around event) (left_text next stands new.told.0) p q (goes_as text first (left_text around stood old.told.0) _ p whole l.goes) one.printed;
     }
 
-pub listing_is_whole : (text : List ℕ) (first : Printing) (around : ℕ) (old new : Coming) (p q : Printing) → Listing text first around old p → Ends old new × (q ≡ p) → Printed text first q
-listing_is_whole text first around old new p q l ends =
-    let none : events_text around old.told.0 ≡ [] = ap (λ (t : Told). events_text around t.0) (ends.0.told l.tells).0 in
-    rw ends.1 (goes_ends text first p (goes_as text first (events_text around old.told.0) [] p none l.goes))
+pub listing_is_whole : (text : List ℕ) (first : Printing) (around : ℕ) (stood : Standing) (old new : Coming) (p q : Printing) → Listing text first around stood old p → Ends old new × (q ≡ p) → Printed text first q
+listing_is_whole text first around stood old new p q l ends =
+    let none : left_text around stood old.told.0 ≡ [] = ap (λ (t : Told). left_text around stood t.0) (ends.0.told l.tells).0 in
+    rw ends.1 (goes_ends text first p (goes_as text first (left_text around stood old.told.0) [] p none l.goes))
 
-pub listing_stops : (text : List ℕ) (first : Printing) (around : ℕ) (old : Coming) (p q : Printing) (fault : Fault) → Listing text first around old p → (Tells old → Prints (events_text around old.told.0) p (Err fault) q) → Prints text first (Err fault) q
-listing_stops text first around old p q fault l stops = goes_last text first (events_text around old.told.0) p (Err fault) q l.goes (stops l.tells)
+pub listing_stops : (text : List ℕ) (first : Printing) (around : ℕ) (stood : Standing) (old : Coming) (p q : Printing) (fault : Fault) → Listing text first around stood old p → (Tells old → Prints (left_text around stood old.told.0) p (Err fault) q) → Prints text first (Err fault) q
+listing_stops text first around stood old p q fault l stops = goes_last text first (left_text around stood old.told.0) p (Err fault) q l.goes (stops l.tells)
 
 -- ---- the whole
 

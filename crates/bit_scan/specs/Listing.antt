@@ -1,38 +1,52 @@
 -- The listing of an input, event by event.
-use Rattle.std.specs.Prelude.{◌≡◌, ◌⊎◌, ℕ, List, ◌++◌, Option, Some, None, Result, Ok, Err}
+use Rattle.std.specs.Prelude.{◌≡◌, ◌⊎◌, ℕ, List, [], ◌++◌, if◌then◌else◌, Option, Some, None, Result, Ok, Err}
 use Rattle.bit_grammar.specs.Blocks.{Limits}
 use Rattle.bit_grammar.specs.Input.{Head}
 use Rattle.bit_grammar.specs.Machine.{Event, Told}
 use Rattle.bit_grammar.specs.Normal.{Capped}
 use Rattle.bit_grammar.specs.Outlook.{outlook}
+use Rattle.bit_grammar.specs.Setting.{Setting}
+use Rattle.bit_grammar.specs.Under.{events_under}
 use Rattle.bit_grammar.specs.Steps.{open_after}
 use Rattle.bit_grammar.specs.Texts.{event_text, events_text}
 use Rattle.bit_fields.specs.declared.fault.Fault.{Fault}
 use Rattle.bit_fields.specs.declared.fault.Fault.TheVariants.{Memory}
 use Rattle.bit_fields.specs.Devices.{Outgoing}
+use Rattle.bit_events.specs.Standing.{Standing, leaves, stands_after, left_of}
 use Rattle.bit_events.specs.Coming.{Coming, Tells, Gives, Ends}
 use Rattle.bit_scan.specs.Lines.{listing_head}
 use Rattle.bit_scan.specs.Printing.{Printing, Printed, Prints}
 use Rattle.bit_scan.specs.Written.{WritesText}
 
--- the line of a head's magic, and those of the events that are told
-abbrev pub told_text : Head → Told → List ℕ
-told_text head told = listing_head head.magic ++ events_text 0 told.0
+-- the line of a head's magic, and those of what is left of the events that are told
+abbrev pub told_text : Setting → Head → Told → List ℕ
+told_text setting head told = listing_head head.magic ++ events_text 0 (events_under setting [] told.0)
 
--- an event came, and its line was printed; so many blocks stand around what follows
-pub record PrintsOne (around : ℕ) (old : Coming) (before : Printing) (next : ℕ) (new : Coming) (after : Printing) : Type 0 where
+-- the lines of what is left of events, with so many blocks that are left around the first
+abbrev pub left_text : (around : ℕ) → Standing → List Event → List ℕ
+left_text around standing events = events_text around (left_of standing events)
+
+-- an event came, and its line was printed if it is left; so many blocks that are left stand around what follows
+pub record PrintsOne (around : ℕ) (stood : Standing) (old : Coming) (before : Printing) (next : ℕ) (stands : Standing) (new : Coming) (after : Printing) : Type 0 where
   pub event : Event
   pub gives : Gives old event new
-  pub next_is : next ≡ open_after event around
-  pub printed : Printed (event_text around event) before after
+  pub stands_is : stands ≡ stands_after event stood
+  pub next_is : next ≡ (if leaves stood event then open_after event around else around)
+  pub printed : Printed (if leaves stood event then event_text around event else []) before after
 
--- The line of the next event was printed; or no event was left; or the text of the events to come was not printed, or not all
--- of it.
-abbrev pub Continues : (around : ℕ) → Coming → Printing → Result (Option ℕ) Fault → Coming → Printing → Type 0
-Continues around old before (Ok (Some next)) new after = PrintsOne around old before next new after
-Continues around old before (Ok None) new after = Ends old new × (after ≡ before)
-Continues around old before (Err fault) new after = Tells old → Prints (events_text around old.told.0) before (Err fault) after
+-- What is printed of an event, with so many blocks that are left around it: its line, if it is left; and so many stand around
+-- what follows. Or memory was refused, and nothing was printed; or the line was not, or not all of it.
+abbrev pub WritesLeft : (around : ℕ) → Standing → Event → Printing → Result ℕ Fault → Standing → Printing → Type 0
+WritesLeft around stood event before (Ok next) stands after = (stands ≡ stands_after event stood) × (next ≡ (if leaves stood event then open_after event around else around)) × Printed (if leaves stood event then event_text around event else []) before after
+WritesLeft around stood event before (Err fault) stands after = Prints (if leaves stood event then event_text around event else []) before (Err fault) after
 
--- A sink took the text of what is told of bytes, or a front of it; or memory was refused, and it took nothing.
-abbrev pub ListsBytes : Limits → List ℕ → Outgoing → Result (Unit {0}) Fault → Outgoing → Type 0
-ListsBytes limits bytes old answer new = (Capped limits × (x : Head × Told) × (outlook limits bytes ≡ Ok x) × WritesText (told_text x.0 x.1) old answer new) ⊎ ((answer ≡ Err Memory) × (new ≡ old))
+-- The line of the next event was printed, if it has one; or no event was left; or the text of the events to come was not
+-- printed, or not all of it.
+abbrev pub Continues : (around : ℕ) → Standing → Coming → Printing → Result (Option ℕ) Fault → Standing → Coming → Printing → Type 0
+Continues around stood old before (Ok (Some next)) stands new after = PrintsOne around stood old before next stands new after
+Continues around stood old before (Ok None) stands new after = Ends old new × (after ≡ before)
+Continues around stood old before (Err fault) stands new after = Tells old → Prints (left_text around stood old.told.0) before (Err fault) after
+
+-- A sink took the text of what is left of what is told of bytes, or a front of it; or memory was refused, and it took nothing.
+abbrev pub ListsBytes : Setting → Limits → List ℕ → Outgoing → Result (Unit {0}) Fault → Outgoing → Type 0
+ListsBytes setting limits bytes old answer new = (Capped limits × (x : Head × Told) × (outlook limits bytes ≡ Ok x) × WritesText (told_text setting x.0 x.1) old answer new) ⊎ ((answer ≡ Err Memory) × (new ≡ old))

@@ -1,14 +1,17 @@
-ghost use Rattle.std.specs.Prelude.{◌≡◌, ◌≤◌, [], OnOk};
+ghost use Rattle.std.specs.Prelude.{◌≡◌, ◌≤◌, ◌++◌, [], OnOk};
 ghost use Rattle.bit_grammar.specs.Steps.{open_after};
-ghost use Rattle.bit_grammar.specs.Texts.{values_text, record_line, event_text, events_text};
+ghost use Rattle.bit_grammar.specs.Setting.{setting_of};
+ghost use Rattle.bit_grammar.specs.Texts.{values_text, record_line, event_text};
 ghost use Rattle.bit_events.specs.Coming.{Tells};
 ghost use Rattle.bit_events.specs.EventView.{shown};
-ghost use Rattle.bit_scan.specs.Listing.{told_text, Continues, ListsBytes};
+ghost use Rattle.bit_scan.specs.Lines.{listing_head};
+ghost use Rattle.bit_scan.specs.Listing.{left_text, WritesLeft, Continues, ListsBytes};
 ghost use Rattle.bit_scan.specs.Printing.{Prints};
 
 use crate::printer::Printer;
-use bit_events::{Event, Events};
+use bit_events::{Event, Events, OpenBlocks};
 use bit_fields::{Fault, Limits, Sink, SliceSource, Source};
+use bit_grammar::Info;
 use std::alloc::Global;
 
 /// Writes the values of a record.
@@ -63,20 +66,42 @@ pub(crate) fn around_after(around: u32, event: &Event<'_>) -> u32
     }
 }
 
-/// Writes the line of the next event, with so many blocks around it. Answers how many stand around the event that follows, or
-/// nothing where none is left.
+/// Takes an event: writes its line with so many blocks around it, if it is left and has one, and answers how many stand around
+/// the event that follows.
+fn write_left<K: Sink>(
+    printer: &mut Printer<K>,
+    standing: &mut OpenBlocks<'_>,
+    around: u32,
+    event: Event<'_>,
+) -> Result<u32, Fault>
+    requires { around ≤ 255 }
+    ensures { WritesLeft around standing.old (shown event.entry) printer.old result standing.new printer.new }
+{
+    let Ok(is_left) = standing.take(event) else {
+        return Err(Fault::Memory);
+    };
+    if !is_left {
+        return Ok(around);
+    }
+    write_event(printer, around, &event)?;
+    Ok(around_after(around, &event))
+}
+
+/// Takes the next event, and writes its line with so many blocks around it, if it is left and has one. Answers how many stand
+/// around the event that follows, or nothing where none is left.
 fn write_next<S: Source, K: Sink>(
     events: &mut Events<S>,
     printer: &mut Printer<K>,
+    standing: &mut OpenBlocks<'_>,
     around: u32,
 ) -> Result<Option<u32>, Fault>
     requires { around ≤ 255 }
-    ensures { Continues around events.old printer.old result events.new printer.new }
+    ensures { Continues around standing.old events.old printer.old result standing.new events.new printer.new }
 {
     match events.next() {
         Ok(Some(event)) => {
-            write_event(printer, around, &event)?;
-            Ok(Some(around_after(around, &event)))
+            let next = write_left(printer, standing, around, event)?;
+            Ok(Some(next))
         }
         Ok(None) => Ok(None),
         // The input was accepted before, so only memory can be refused.
@@ -84,40 +109,44 @@ fn write_next<S: Source, K: Sink>(
     }
 }
 
-/// Writes the lines of all events.
+/// Writes the lines of what is left of all events.
 fn write_events<S: Source, K: Sink>(
     events: &mut Events<S>,
     printer: &mut Printer<K>,
+    standing: &mut OpenBlocks<'_>,
 ) -> Result<(), Fault>
     requires tells { Tells events.old }
     requires outside { events.old.depth ≡ 0 }
     requires deepest { events.old.deepest ≤ 255 }
-    ensures { Prints (events_text 0 events.old.told.0) printer.old result printer.new }
+    requires none { standing.old.ids ≡ [] }
+    ensures { Prints (left_text 0 standing.old events.old.told.0) printer.old result printer.new }
 {
     let mut around = 0;
-    while let Some(next) = write_next(events, printer, around)? {
+    while let Some(next) = write_next(events, printer, standing, around)? {
         around = next;
     }
     Ok(())
 }
 
-/// Writes the line of a magic and those of all events.
+/// Writes the line of a magic and those of what is left of all events.
 fn write_told<S: Source, K: Sink>(
     events: &mut Events<S>,
     printer: &mut Printer<K>,
+    standing: &mut OpenBlocks<'_>,
 ) -> Result<(), Fault>
     requires tells { Tells events.old }
     requires outside { events.old.depth ≡ 0 }
     requires deepest { events.old.deepest ≤ 255 }
-    ensures prints { Prints (told_text events.old.head events.old.told) printer.old result printer.new }
+    requires none { standing.old.ids ≡ [] }
+    ensures prints { Prints (listing_head events.old.head.magic ++ left_text 0 standing.old events.old.told.0) printer.old result printer.new }
     ensures all { OnOk result (printer.new.held ≡ []) }
 {
     printer.listing_head(events.head().magic)?;
-    write_events(events, printer)?;
+    write_events(events, printer, standing)?;
     printer.finish()
 }
 
-/// Appends the listing of the bytes of an accepted input to a sink: a line for the magic, and one for each block and record in
+/// Appends the listing of what is left of the bytes of an accepted input to a sink: a line for the magic, and one for each block and record in
 /// order, as they are read.
 ///
 /// `Write`, where the sink fails, and `Memory`, where memory is refused, leave the sink a front of the listing.
@@ -125,9 +154,10 @@ pub(crate) fn write_listing<K: Sink>(
     alloc: Global,
     bytes: &[u8],
     limits: Limits,
+    info: Info<'_>,
     sink: K,
 ) -> (Result<(), Fault>, K)
-    ensures { ListsBytes limits bytes.now (K.outgoing sink) result.0 (K.outgoing result.1) }
+    ensures { ListsBytes (setting_of info.entry) limits bytes.now (K.outgoing sink) result.0 (K.outgoing result.1) }
 {
     let mut events = match Events::start(alloc, SliceSource::new(bytes), limits) {
         Ok(events) => events,
@@ -135,6 +165,7 @@ pub(crate) fn write_listing<K: Sink>(
         Err(_) => return (Err(Fault::Memory), sink),
     };
     let mut printer = Printer::new(alloc, sink);
-    let answer = write_told(&mut events, &mut printer);
+    let mut standing = OpenBlocks::new(alloc, info);
+    let answer = write_told(&mut events, &mut printer, &mut standing);
     (answer, printer.into_sink())
 }

@@ -2,6 +2,7 @@ ghost use Rattle.std.specs.Prelude.{Some};
 
 use crate::{Analysis, analyse, push_magic, write_show};
 use bit_fields::{Fault, Limits, Reason, Sink, SinkFailed, SliceSource, VecSink};
+use bit_grammar::{Info, RecordName};
 use std::alloc::{AllocError, Global};
 use std::process::Abort;
 use std::test::Fail;
@@ -213,7 +214,13 @@ fn listing_told(
     puts: u64,
 ) -> Result<Told, AllocError> {
     let sink = Pieces::new(alloc, most, puts)?;
-    let (answer, _, sink) = write_show(alloc, SliceSource::new(input), sink, Limits::usual());
+    let (answer, _, sink) = write_show(
+        alloc,
+        SliceSource::new(input),
+        sink,
+        Limits::usual(),
+        Info::Keep,
+    );
     Ok(told(answer, sink, text))
 }
 
@@ -249,6 +256,47 @@ fn listings_of_inputs(rt: HostRuntime) -> Result<(), Fail> {
     lists(&rt, alloc, &DESCRIBED, DESCRIBED_LISTING)?;
     lists(&rt, alloc, &NESTED, nested)?;
     lists(&rt, alloc, &[0, 0xff, 9, 0x10], "magic 00ff0910\n")
+}
+
+/// The listing of what is left of an input under a setting is this text.
+fn lists_left(
+    rt: &impl Abort,
+    alloc: Global,
+    input: &[u8],
+    info: Info<'_>,
+    text: &str,
+) -> Result<(), Fail> {
+    let sink = Pieces::new(alloc, 100, u64::MAX)?;
+    let source = SliceSource::new(input);
+    let (answer, _, sink) = write_show(alloc, source, sink, Limits::usual(), info);
+    tells(
+        rt,
+        Ok(told(answer, sink, text)),
+        (Ok(()), 0, Some(text.len())),
+    )
+}
+
+#[test]
+fn listings_of_what_is_left(rt: HostRuntime) -> Result<(), Fail> {
+    let alloc = rt.alloc();
+    let records = [
+        RecordName { block: 8, code: 1 },
+        RecordName { block: 0, code: 1 },
+    ];
+    let named = Info::Without {
+        blocks: &[9],
+        records: &records,
+    };
+    let described = "magic 4243c0de\nblock 0\n  record 1 8\nblock 8\n";
+    lists_left(&rt, alloc, &DESCRIBED, named, described)?;
+    lists_left(&rt, alloc, &NESTED, named, "magic 4243c0de\nblock 8\n")?;
+    lists_left(
+        &rt,
+        alloc,
+        &DESCRIBED,
+        Info::Drop,
+        "magic 4243c0de\nblock 8\n  record 1 100\n",
+    )
 }
 
 /// A stream of one block up to the values of its record, which are 20000 and stand in 6 bits each.

@@ -1,6 +1,7 @@
 -- Copying the items of a marked block, one after the other.
 use Rattle.std.proofs.Common.{◌≡◌, ℕ, suc, ◌+◌, ◌<◌, List, [], ◌∷◌, ◌++◌, length, drop, get_or, refl, sym, ap, ◌∙◌, drop-cons, add-one}
-use Rattle.bit_grammar.specs.declared.info.Info.{Info}
+use Rattle.bit_grammar.specs.Setting.{Setting}
+use Rattle.bit_grammar.specs.Under.{items_under}
 use Rattle.bit_grammar.specs.Forest.{Forest}
 use Rattle.bit_grammar.specs.Marks.{Marks, forest_of}
 use Rattle.bit_tree.specs.MarkedView.{put_marked, put_marked_block, marks_of_items, marks_of_blocks}
@@ -9,6 +10,10 @@ use Rattle.bit_tree.specs.declared.tree.Block.{Block}
 use Rattle.bit_tree.specs.declared.tree.Item.{Item}
 use Rattle.bit_tree.specs.declared.marked.MarkedBlock.{MarkedBlock}
 use Rattle.bit_tree.specs.declared.marked.MarkedItem.{MarkedItem}
+
+-- what is left of marks in a block with this id
+abbrev pub left_of : Setting → (around : ℕ) → Marks → Forest
+left_of s around m = items_under s around (forest_of m)
 
 -- ---- items
 
@@ -22,19 +27,19 @@ marked_placed : (marked : List MarkedItem) (i : ℕ) (m : MarkedItem) → i < le
 marked_placed marked i m h is = rw (add-one) (ap marks_of_items (drop-cons marked i m h) ∙ ap (λ (x : MarkedItem). put_marked x (marks_of_items (drop (suc i) marked))) (sym is))
 
 -- one more item is copied
-pub copied : (info : Info) (out : List Item) (new : Item) (marked : List MarkedItem) (i : ℕ) (m : MarkedItem) (total : Forest) →
-    i < length marked → m ≡ get_or marked i m → ((rest : Marks) → forest_of info (put_marked m rest) ≡ put_item new (forest_of info rest)) →
-    put_items out (forest_of info (marks_of_items (drop i marked))) ≡ total → put_items (out ++ new ∷ []) (forest_of info (marks_of_items (drop (i + 1) marked))) ≡ total
-copied info out new marked i m total h is same so_far =
-    put_items-push out new (forest_of info (marks_of_items (drop (i + 1) marked)))
-    ∙ ap (put_items out) (sym (ap (forest_of info) (marked_placed marked i m h is) ∙ same (marks_of_items (drop (i + 1) marked)))) ∙ so_far
+pub copied : (s : Setting) (around : ℕ) (out : List Item) (new : Item) (marked : List MarkedItem) (i : ℕ) (m : MarkedItem) (total : Forest) →
+    i < length marked → m ≡ get_or marked i m → ((rest : Marks) → left_of s around (put_marked m rest) ≡ put_item new (left_of s around rest)) →
+    put_items out (left_of s around (marks_of_items (drop i marked))) ≡ total → put_items (out ++ new ∷ []) (left_of s around (marks_of_items (drop (i + 1) marked))) ≡ total
+copied s around out new marked i m total h is same so_far =
+    put_items-push out new (left_of s around (marks_of_items (drop (i + 1) marked)))
+    ∙ ap (put_items out) (sym (ap (left_of s around) (marked_placed marked i m h is) ∙ same (marks_of_items (drop (i + 1) marked)))) ∙ so_far
 
 -- an item is left out
-pub skipped : (info : Info) (out : List Item) (marked : List MarkedItem) (i : ℕ) (m : MarkedItem) (total : Forest) →
-    i < length marked → m ≡ get_or marked i m → ((rest : Marks) → forest_of info (put_marked m rest) ≡ forest_of info rest) →
-    put_items out (forest_of info (marks_of_items (drop i marked))) ≡ total → put_items out (forest_of info (marks_of_items (drop (i + 1) marked))) ≡ total
-skipped info out marked i m total h is same so_far =
-    ap (put_items out) (sym (ap (forest_of info) (marked_placed marked i m h is) ∙ same (marks_of_items (drop (i + 1) marked)))) ∙ so_far
+pub skipped : (s : Setting) (around : ℕ) (out : List Item) (marked : List MarkedItem) (i : ℕ) (m : MarkedItem) (total : Forest) →
+    i < length marked → m ≡ get_or marked i m → ((rest : Marks) → left_of s around (put_marked m rest) ≡ left_of s around rest) →
+    put_items out (left_of s around (marks_of_items (drop i marked))) ≡ total → put_items out (left_of s around (marks_of_items (drop (i + 1) marked))) ≡ total
+skipped s around out marked i m total h is same so_far =
+    ap (put_items out) (sym (ap (left_of s around) (marked_placed marked i m h is) ∙ same (marks_of_items (drop (i + 1) marked)))) ∙ so_far
 
 -- ---- blocks
 
@@ -49,16 +54,16 @@ marked_block_placed marked i m h is =
     rw (add-one) (ap marks_of_blocks (drop-cons marked i m h) ∙ ap (λ (x : MarkedBlock). put_marked_block x (marks_of_blocks (drop (suc i) marked))) (sym is))
 
 -- one more block is copied
-pub copied_block : (info : Info) (out : List Block) (new : Block) (marked : List MarkedBlock) (i : ℕ) (m : MarkedBlock) (total : Forest) →
-    i < length marked → m ≡ get_or marked i m → ((rest : Marks) → forest_of info (put_marked_block m rest) ≡ put_block new (forest_of info rest)) →
-    put_blocks out (forest_of info (marks_of_blocks (drop i marked))) ≡ total → put_blocks (out ++ new ∷ []) (forest_of info (marks_of_blocks (drop (i + 1) marked))) ≡ total
-copied_block info out new marked i m total h is same so_far =
-    put_blocks-push out new (forest_of info (marks_of_blocks (drop (i + 1) marked)))
-    ∙ ap (put_blocks out) (sym (ap (forest_of info) (marked_block_placed marked i m h is) ∙ same (marks_of_blocks (drop (i + 1) marked)))) ∙ so_far
+pub copied_block : (s : Setting) (around : ℕ) (out : List Block) (new : Block) (marked : List MarkedBlock) (i : ℕ) (m : MarkedBlock) (total : Forest) →
+    i < length marked → m ≡ get_or marked i m → ((rest : Marks) → left_of s around (put_marked_block m rest) ≡ put_block new (left_of s around rest)) →
+    put_blocks out (left_of s around (marks_of_blocks (drop i marked))) ≡ total → put_blocks (out ++ new ∷ []) (left_of s around (marks_of_blocks (drop (i + 1) marked))) ≡ total
+copied_block s around out new marked i m total h is same so_far =
+    put_blocks-push out new (left_of s around (marks_of_blocks (drop (i + 1) marked)))
+    ∙ ap (put_blocks out) (sym (ap (left_of s around) (marked_block_placed marked i m h is) ∙ same (marks_of_blocks (drop (i + 1) marked)))) ∙ so_far
 
 -- a block is left out
-pub skipped_block : (info : Info) (out : List Block) (marked : List MarkedBlock) (i : ℕ) (m : MarkedBlock) (total : Forest) →
-    i < length marked → m ≡ get_or marked i m → ((rest : Marks) → forest_of info (put_marked_block m rest) ≡ forest_of info rest) →
-    put_blocks out (forest_of info (marks_of_blocks (drop i marked))) ≡ total → put_blocks out (forest_of info (marks_of_blocks (drop (i + 1) marked))) ≡ total
-skipped_block info out marked i m total h is same so_far =
-    ap (put_blocks out) (sym (ap (forest_of info) (marked_block_placed marked i m h is) ∙ same (marks_of_blocks (drop (i + 1) marked)))) ∙ so_far
+pub skipped_block : (s : Setting) (around : ℕ) (out : List Block) (marked : List MarkedBlock) (i : ℕ) (m : MarkedBlock) (total : Forest) →
+    i < length marked → m ≡ get_or marked i m → ((rest : Marks) → left_of s around (put_marked_block m rest) ≡ left_of s around rest) →
+    put_blocks out (left_of s around (marks_of_blocks (drop i marked))) ≡ total → put_blocks out (left_of s around (marks_of_blocks (drop (i + 1) marked))) ≡ total
+skipped_block s around out marked i m total h is same so_far =
+    ap (put_blocks out) (sym (ap (left_of s around) (marked_block_placed marked i m h is) ∙ same (marks_of_blocks (drop (i + 1) marked)))) ∙ so_far

@@ -4,11 +4,10 @@ use Rattle.std.proofs.lemmas.List.{append-nil}
 use Rattle.std.specs.Global.{Vec}
 use Rattle.std.specs.Prelude.{OnOk}
 use Rattle.std.specs.declared.alloc.AllocError.{AllocError}
-use Rattle.bit_grammar.specs.declared.info.Info.TheVariants.{Keep}
 use Rattle.bit_grammar.specs.Forest.{Fit}
 use Rattle.bit_grammar.specs.Blocks.{Limits}
 use Rattle.bit_grammar.specs.Input.{Head, Marked, SpellsInput}
-use Rattle.bit_grammar.proofs.Settings.{fit_of_setting}
+use Rattle.bit_grammar.proofs.Fits.{fit_of_spelled}
 use Rattle.bit_grammar.specs.Machine.{Event, leaves, flat}
 use Rattle.bit_grammar.specs.Marks.{Marks, no_marks, marked_block, marked_record, marked_definition}
 use Rattle.bit_grammar.specs.Steps.{open_after}
@@ -87,4 +86,4 @@ marked_fit limits bytes first last head marks after found finished =
     let m = found.marked in
     let same : ◌≡◌ {A = Marked} (record { head = m.head; blocks = m.blocks; after = m.after }) (record { head = head; blocks = marks; after = after }) = rw (found.is_head, found.is_after, finished m.blocks found.gathers) refl in
     let spelled : SpellsInput limits bytes (record { head = head; blocks = marks; after = after }) = subst (SpellsInput limits bytes) same found.spelled in
-    (spelled, fit_of_setting Keep limits bytes (record { head = head; blocks = marks; after = after }) found.capped spelled)
+    (spelled, fit_of_spelled limits bytes (record { head = head; blocks = marks; after = after }) found.capped spelled)

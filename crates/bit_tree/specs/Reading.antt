@@ -1,7 +1,6 @@
 -- What is known of what was read.
 use Rattle.std.specs.Prelude.{ℕ, List}
-use Rattle.bit_grammar.specs.declared.info.Info.{Info}
-use Rattle.bit_grammar.specs.declared.info.Info.TheVariants.{Keep}
+use Rattle.bit_grammar.specs.Setting.{Setting}
 use Rattle.bit_grammar.specs.Forest.{Tree, Fit}
 use Rattle.bit_grammar.specs.Blocks.{Limits}
 use Rattle.bit_grammar.specs.Input.{Marked, SpellsInput}
@@ -10,8 +9,8 @@ use Rattle.bit_grammar.specs.Input as input
 
 -- the bytes spell this marked tree, and its tree is fit
 abbrev pub SpellsFit : Limits → List ℕ → Marked → Type 0
-SpellsFit limits bytes m = SpellsInput limits bytes m × Fit (input.tree_of Keep m)
+SpellsFit limits bytes m = SpellsInput limits bytes m × Fit (input.tree_of m)
 
 -- the bytes spell a marked tree with this tree under a setting, and the tree is fit
-abbrev pub HasFit : Info → Limits → List ℕ → Tree → Type 0
-HasFit info limits bytes tree = HasTree info limits bytes tree × Fit tree
+abbrev pub HasFit : Setting → Limits → List ℕ → Tree → Type 0
+HasFit setting limits bytes tree = HasTree setting limits bytes tree × Fit tree

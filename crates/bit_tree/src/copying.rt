@@ -1,8 +1,9 @@
 ghost use Rattle.std.specs.Prelude.{◌≡◌, IfOk};
-ghost use Rattle.bit_grammar.specs.declared.info.Info.TheVariants.{Keep};
 ghost use Rattle.bit_grammar.specs.Forest.{Fit};
 ghost use Rattle.bit_grammar.specs.Input as input;
-ghost use Rattle.bit_grammar.specs.Marks.{keeps, forest_of};
+ghost use Rattle.bit_grammar.specs.Marks.{forest_of};
+ghost use Rattle.bit_grammar.specs.Setting.{setting_of};
+ghost use Rattle.bit_grammar.specs.Under.{items_under, under};
 ghost use Rattle.bit_tree.specs.TreeView.{forest_of_blocks};
 ghost use Rattle.bit_tree.specs.MarkedView.{marks_of_blocks};
 
@@ -14,36 +15,26 @@ use std::alloc::{AllocError, Global};
 
 /// The tree of a marked tree.
 pub fn tree_of(alloc: Global, marked: &Marked) -> Result<Document, AllocError>
-    requires { Fit (input.tree_of Keep marked.now) }
-    ensures { IfOk result (λ document. document ≡ input.tree_of Keep marked.now) }
+    requires { Fit (input.tree_of marked.now) }
+    ensures { IfOk result (λ document. document ≡ input.tree_of marked.now) }
 {
     tree_with(alloc, marked, Info::Keep)
 }
 
-/// The tree of a marked tree, with its BLOCKINFO blocks or without them.
-pub fn tree_with(alloc: Global, marked: &Marked, info: Info) -> Result<Document, AllocError>
-    requires { Fit (input.tree_of info marked.now) }
-    ensures { IfOk result (λ document. document ≡ input.tree_of info marked.now) }
+/// What is left of the tree of a marked tree under a setting.
+pub fn tree_with(alloc: Global, marked: &Marked, info: Info<'_>) -> Result<Document, AllocError>
+    requires { Fit (under (setting_of info) (input.tree_of marked.now)) }
+    ensures { IfOk result (λ document. document ≡ under (setting_of info.entry) (input.tree_of marked.now)) }
 {
     let blocks = blocks_of(alloc, &marked.blocks.0, info)?;
     Ok(Document::of(marked.head.magic, blocks))
 }
 
-/// Whether blocks with this id are kept.
-fn keeps(info: Info, id: u32) -> bool
-    ensures { result ≡ keeps info id }
-{
-    match info {
-        Info::Keep => true,
-        Info::Drop => id != 0,
-    }
-}
-
-/// Whether an item is in the tree.
-fn is_kept(item: &MarkedItem, info: Info) -> bool {
+/// Whether an item of a block with this id is in the tree.
+fn is_left(item: &MarkedItem, around: u32, info: Info<'_>) -> bool {
     match item {
-        MarkedItem::Block(block) => keeps(info, block.id),
-        MarkedItem::Record(_) => true,
+        MarkedItem::Block(block) => info.keeps(block.id),
+        MarkedItem::Record(record) => info.keeps_record(around, record.code),
         MarkedItem::Define(_) => false,
     }
 }
@@ -59,17 +50,26 @@ fn record_of(alloc: Global, code: u64, values: &[u64]) -> Result<Record, AllocEr
     })
 }
 
-/// The tree of what a marked block holds.
-fn items_of(alloc: Global, marked: &MarkedItems, info: Info) -> Result<Items, AllocError>
-    ensures { IfOk result (λ items. items ≡ forest_of info marked.now) }
+/// What is left of the tree of what a marked block with this id holds.
+fn items_of(
+    alloc: Global,
+    around: u32,
+    marked: &MarkedItems,
+    info: Info<'_>,
+) -> Result<Items, AllocError>
+    ensures { IfOk result (λ items. items ≡ items_under (setting_of info.entry) around (forest_of marked.now)) }
 {
-    let count = marked.0.iter().filter(|item| is_kept(item, info)).count();
+    let count = marked
+        .0
+        .iter()
+        .filter(|item| is_left(item, around, info))
+        .count();
     let mut items = Vec::with_capacity(alloc, count)?;
     for item in &marked.0 {
         match item {
             MarkedItem::Block(block) => {
-                if keeps(info, block.id) {
-                    let inner = items_of(alloc, &block.items, info)?;
+                if info.keeps(block.id) {
+                    let inner = items_of(alloc, block.id, &block.items, info)?;
                     items.push(Item::Block(Block {
                         id: block.id,
                         items: inner,
@@ -77,8 +77,10 @@ fn items_of(alloc: Global, marked: &MarkedItems, info: Info) -> Result<Items, Al
                 }
             }
             MarkedItem::Record(record) => {
-                let record = record_of(alloc, record.code, &record.values.0)?;
-                items.push(Item::Record(record))?;
+                if info.keeps_record(around, record.code) {
+                    let record = record_of(alloc, record.code, &record.values.0)?;
+                    items.push(Item::Record(record))?;
+                }
             }
             MarkedItem::Define(_) => {}
         }
@@ -86,19 +88,19 @@ fn items_of(alloc: Global, marked: &MarkedItems, info: Info) -> Result<Items, Al
     Ok(Items(items))
 }
 
-/// The blocks of a tree.
+/// What is left of the blocks of a tree.
 pub(crate) fn blocks_of(
     alloc: Global,
     marked: &[MarkedBlock],
-    info: Info,
+    info: Info<'_>,
 ) -> Result<Vec<Block>, AllocError>
-    ensures { IfOk result (λ blocks. forest_of_blocks blocks.items ≡ forest_of info (marks_of_blocks marked.now)) }
+    ensures { IfOk result (λ blocks. forest_of_blocks blocks.items ≡ items_under (setting_of info.entry) 0 (forest_of (marks_of_blocks marked.now))) }
 {
-    let count = marked.iter().filter(|block| keeps(info, block.id)).count();
+    let count = marked.iter().filter(|block| info.keeps(block.id)).count();
     let mut blocks = Vec::with_capacity(alloc, count)?;
     for block in marked {
-        if keeps(info, block.id) {
-            let inner = items_of(alloc, &block.items, info)?;
+        if info.keeps(block.id) {
+            let inner = items_of(alloc, block.id, &block.items, info)?;
             blocks.push(Block {
                 id: block.id,
                 items: inner,

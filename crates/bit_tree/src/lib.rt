@@ -16,7 +16,7 @@ mod tests;
 mod tree;
 
 pub use bit_events::{Event, Events};
-pub use bit_grammar::{Info, not_both, one_fault, one_tree, tree_or_fault};
+pub use bit_grammar::{Info, RecordName, not_both, one_fault, one_tree, tree_or_fault};
 pub use copying::{tree_of, tree_with};
 pub use document::{BadDocument, Document, DocumentReason};
 pub use marked::{

@@ -1,11 +1,14 @@
 ghost use Rattle.std.specs.Prelude.{◌≡◌, true};
 ghost use Rattle.bit_grammar.specs.Forest.{Fit};
 ghost use Rattle.bit_grammar.specs.Input as input;
+ghost use Rattle.bit_grammar.specs.Setting.{setting_of};
+ghost use Rattle.bit_grammar.specs.Under.{under};
 
 use crate::copying::blocks_of;
 use crate::{
     Block, Document, DocumentReason, Info, Item, Items, Marked, MarkedBlock, MarkedBlocks,
-    MarkedDefine, MarkedItem, MarkedItems, MarkedRecord, Record, Values, tree_of, tree_with,
+    MarkedDefine, MarkedItem, MarkedItems, MarkedRecord, Record, RecordName, Values, tree_of,
+    tree_with,
 };
 use bit_abbrev::{Abbrev, Op, Ops};
 use bit_fields::Head;
@@ -315,9 +318,9 @@ fn sample(rt: &impl Abort, alloc: Global) -> Marked {
     }
 }
 
-/// Whether the tree is fit, found by making it a document.
-pub(crate) fn is_fit(rt: &impl Abort, alloc: Global, marked: &Marked, info: Info) -> bool
-    ensures { result ≡ true → Fit (input.tree_of info marked.now) }
+/// Whether what is left of the tree is fit, found by making it a document.
+pub(crate) fn is_fit(rt: &impl Abort, alloc: Global, marked: &Marked, info: Info<'_>) -> bool
+    ensures { result ≡ true → Fit (under (setting_of info.entry) (input.tree_of marked.now)) }
 {
     let blocks = blocks_of(alloc, &marked.blocks.0, info).expect(rt, "memory");
     Document::new(marked.head.magic, blocks).is_ok()
@@ -331,6 +334,7 @@ pub(crate) fn shown_document(alloc: Global, document: &Document) -> Result<Strin
 }
 
 /// What `tree_of` makes of the sample, as text.
+#[tactic(auto, using(bit_grammar::proofs::Under::fit_kept))]
 fn told_of_tree(rt: &impl Abort, alloc: Global) -> Result<String, AllocError> {
     let marked = sample(rt, alloc);
     assert!(rt; is_fit(rt, alloc, &marked, Info::Keep));
@@ -339,7 +343,7 @@ fn told_of_tree(rt: &impl Abort, alloc: Global) -> Result<String, AllocError> {
 }
 
 /// What `tree_with` makes of the sample, as text.
-fn told_of_tree_with(rt: &impl Abort, alloc: Global, info: Info) -> Result<String, AllocError> {
+fn told_of_tree_with(rt: &impl Abort, alloc: Global, info: Info<'_>) -> Result<String, AllocError> {
     let marked = sample(rt, alloc);
     assert!(rt; is_fit(rt, alloc, &marked, info));
     let document = tree_with(alloc, &marked, info).expect(rt, "memory");
@@ -362,5 +366,33 @@ fn trees_keep_or_drop_blockinfo(rt: HostRuntime) {
         told_of_tree_with(&rt, rt.alloc(), Info::Drop),
         dropped,
         "dropped",
+    );
+}
+
+#[test]
+fn trees_without_what_is_named(rt: HostRuntime) {
+    let names = [
+        RecordName { block: 8, code: 1 },
+        RecordName { block: 0, code: 1 },
+    ];
+    let records = Info::Without {
+        blocks: &[],
+        records: &names,
+    };
+    let both = Info::Without {
+        blocks: &[3, 0],
+        records: &names,
+    };
+    agrees(
+        &rt,
+        told_of_tree_with(&rt, rt.alloc(), records),
+        " 0 { 1 [8] } 8 { 0 { 1 [8] } 2 [9] 8 { } } [66, 67, 192, 222]",
+        "records",
+    );
+    agrees(
+        &rt,
+        told_of_tree_with(&rt, rt.alloc(), both),
+        " 8 { 2 [9] 8 { } } [66, 67, 192, 222]",
+        "both",
     );
 }

@@ -5,6 +5,8 @@ use Rattle.std.specs.Io.KnownBytes.{Consumes, IsAtEnd}
 use Rattle.std.proofs.lemmas.List.{append-nil, take_all, take_at, drop_at, take-take}
 use Rattle.std.proofs.Math.ListN.{drop_of_length-le}
 use Rattle.std.proofs.lemmas.Bool.{cases_lt}
+use Rattle.bit_grammar.specs.Setting.{setting_of}
+use Rattle.bit_grammar.specs.Under.{under}
 use Rattle.bit_grammar.specs.declared.info.Info.{Info}
 use Rattle.bit_grammar.specs.Bits.{bits_of_bytes}
 use Rattle.bit_grammar.specs.Grammar.{Fault, at}
@@ -35,10 +37,10 @@ known_first : (i : Incoming) (first : List ℕ) (P : List ℕ → Type 0) → i.
 known_first i first P is h = subst (λ (o : Told). (IsSome o → P (known_bytes o)) → P first) (sym is) (λ of_first. of_first refl) h
 
 -- one was not read
-pub found_fault : (info : Info) (limits : Limits) (first : List ℕ) (i j now later : Incoming) (which : Which) (why : code.Fault) → i.to_come ≡ Some first → Misreads info limits which why i j now later → ComparesWith info limits first j.to_come (outcome_in which limits.bytes why)
+pub found_fault : (info : Info) (limits : Limits) (first : List ℕ) (i j now later : Incoming) (which : Which) (why : code.Fault) → i.to_come ≡ Some first → Misreads (setting_of info) limits which why i j now later → ComparesWith info limits first j.to_come (outcome_in which limits.bytes why)
 found_fault info limits first i j now later First (fault.Refused reason bit) is h = known_first i first (λ bytes. BreaksInput limits bytes (at reason bit)) is h.0.1
 found_fault info limits first i j now later Second (fault.Refused reason bit) is h =
-    let has : HasTree info limits first h.0 = known_first i first (λ bytes. HasTree info limits bytes h.0) is (λ tells. (h.1.1 tells).0.0) in
+    let has : HasTree (setting_of info) limits first h.0 = known_first i first (λ bytes. HasTree (setting_of info) limits bytes h.0) is (λ tells. (h.1.1 tells).0.0) in
     ((has.0, has.1), if_told j.to_come (λ bytes. BreaksInput limits bytes (at reason bit)) h.2.1)
 found_fault info limits first i j now later First fault.Read is h = tt
 found_fault info limits first i j now later Second fault.Read is h = tt
@@ -68,7 +70,7 @@ none_spent : (limits : Limits) (j later : Incoming) → later ≡ j → Spent li
 none_spent limits j later same = subst (λ (n : Incoming). Spent limits j n) (sym same) (spends_none j (limits.bytes + 1))
 
 pub rest_misread : (info : Info) (limits : Limits) (i j now later : Incoming) (which : Which) (why : code.Fault) → limits.bytes < 2 ^ 60 → i.pulls ≡ 0 → IsSlice now
-    → Misreads info limits which why i j now later → TakesRest limits j later (outcome_in which limits.bytes why)
+    → Misreads (setting_of info) limits which why i j now later → TakesRest limits j later (outcome_in which limits.bytes why)
 rest_misread info limits i j now later First (fault.Refused reason bit) capped fresh slice h = h.1
 rest_misread info limits i j now later Second (fault.Refused reason bit) capped fresh slice h = (h.2.0, tt)
 rest_misread info limits i j now later First fault.Read capped fresh slice h = absurd (never_fails limits i now capped fresh slice h.0)
@@ -220,18 +222,18 @@ not_taken info limits first count i now (fault.Refused reason bit) counted h = a
 -- ---- where they first differ
 
 -- what was found of bytes and an input
-pub found_where : (info : Info) (limits : Limits) (first : List ℕ) (i j now later : Incoming) (found : Option Difference) → i.to_come ≡ Some first → FindsDifference info limits i j (Ok found) now later → ComparesWhere info limits first j.to_come (Ok found)
+pub found_where : (info : Info) (limits : Limits) (first : List ℕ) (i j now later : Incoming) (found : Option Difference) → i.to_come ≡ Some first → FindsDifference (setting_of info) limits i j (Ok found) now later → ComparesWhere info limits first j.to_come (Ok found)
 found_where info limits first i j now later None is h =
     let spells : SpellsInput limits first h.0 = known_first i first (λ bytes. SpellsInput limits bytes h.0) is (λ tells. (h.2.1 tells).0) in
     let some : IsSome i.to_come = subst (λ (o : Told). IsSome o) (sym is) refl in
-    (tree_of info h.0, (h.0, spells, refl), if_told j.to_come (λ bytes. HasTree info limits bytes (tree_of info h.0)) (λ tells. (h.1, (h.3.1 tells).0, sym (h.4 some tells))))
+    (under (setting_of info) (tree_of h.0), (h.0, spells, refl), if_told j.to_come (λ bytes. HasTree (setting_of info) limits bytes (under (setting_of info) (tree_of h.0))) (λ tells. (h.1, (h.3.1 tells).0, sym (h.4 some tells))))
 found_where info limits first i j now later (Some difference) is h =
     let spells : SpellsInput limits first h.0 = known_first i first (λ bytes. SpellsInput limits bytes h.0) is (λ tells. (h.2.1 tells).0) in
     let some : IsSome i.to_come = subst (λ (o : Told). IsSome o) (sym is) refl in
-    (h.0, spells, if_told j.to_come (λ bytes. (b : Marked) × SpellsInput limits bytes b × FirstDifference info h.0 b (difference_shown difference)) (λ tells. (h.1, (h.3.1 tells).0, h.4 some tells)))
+    (h.0, spells, if_told j.to_come (λ bytes. (b : Marked) × SpellsInput limits bytes b × FirstDifference (setting_of info) h.0 b (difference_shown difference)) (λ tells. (h.1, (h.3.1 tells).0, h.4 some tells)))
 
 -- and what was taken of the input for that
-pub where_taken : (info : Info) (limits : Limits) (i j now later : Incoming) (found : Option Difference) → FindsDifference info limits i j (Ok found) now later → TakesRest limits j later (outcome_found (Ok found))
+pub where_taken : (info : Info) (limits : Limits) (i j now later : Incoming) (found : Option Difference) → FindsDifference (setting_of info) limits i j (Ok found) now later → TakesRest limits j later (outcome_found (Ok found))
 where_taken info limits i j now later None h = (h.3.0, drained j later h.3.0.tells (λ t. (h.3.1 t).1))
 where_taken info limits i j now later (Some difference) h = (h.3.0, drained j later h.3.0.tells (λ t. (h.3.1 t).1))
 

@@ -3,6 +3,7 @@ use Rattle.std.proofs.Common.{◌≡◌, ◌∙◌, ℕ, ◌+◌, List, Some, No
 use Rattle.std.specs.Prelude.{IfSome}
 use Rattle.std.specs.Io.KnownBytes.{Keeps}
 use Rattle.std.proofs.KnownBytes.{Keeps-refl, Keeps-trans}
+use Rattle.bit_grammar.specs.Setting.{keep, setting_of}
 use Rattle.bit_grammar.specs.declared.info.Info.{Info}
 use Rattle.bit_grammar.specs.declared.reason.Reason.{Reason}
 use Rattle.bit_grammar.specs.Bits.{bits_of_bytes}
@@ -17,7 +18,6 @@ use Rattle.bit_grammar.specs.EventTexts.{outlook_end, outlook_text}
 use Rattle.bit_grammar.specs.Machine.{Ending, accepted, broke}
 use Rattle.bit_grammar.specs.Outlook.{Outlook, outlook}
 use Rattle.bit_grammar.specs.declared.values.Values.{Values}
-use Rattle.bit_grammar.specs.declared.info.Info.TheVariants.{Keep}
 use Rattle.bit_events.specs.Reading.{ReadsWhole}
 use Rattle.bit_tree.specs.Reading.{HasFit}
 use Rattle.bit_scan.specs.Analysing.{HasTally}
@@ -158,27 +158,27 @@ refused_here limits i now why h = (takes_fault {A = Unit {0}} (λ bytes done. Ac
 -- ---- normal forms
 
 -- the form of a tree answers for the input that has it
-form_answers : (info : Info) (limits : Limits) (i now : Incoming) (tree : Tree) → ReadsTree info limits i (Ok tree) now → size_of tree ≤ limits.bytes → Answers (Normal limits info) i.to_come Done (normal_form tree)
-form_answers info limits i now tree h small = (tree, refl, small, if_told i.to_come (λ bytes. HasTree info limits bytes tree) (λ tells. (h.1 tells).0.0))
+form_answers : (info : Info) (limits : Limits) (i now : Incoming) (tree : Tree) → ReadsTree (setting_of info) limits i (Ok tree) now → size_of tree ≤ limits.bytes → Answers (Normal limits info) i.to_come Done (normal_form tree)
+form_answers info limits i now tree h small = (tree, refl, small, if_told i.to_come (λ bytes. HasTree (setting_of info) limits bytes tree) (λ tells. (h.1 tells).0.0))
 
-pub form_done : (info : Info) (limits : Limits) (i now : Incoming) (old new : Outgoing) (count : ℕ) → Normalises info limits i old (Ok count) now new → Does (Normal limits info) i now old new Done
+pub form_done : (info : Info) (limits : Limits) (i now : Incoming) (old new : Outgoing) (count : ℕ) → Normalises (setting_of info) limits i old (Ok count) now new → Does (Normal limits info) i now old new Done
 form_done info limits i now old new count h =
     let gain = h.2.2 in
-    (takes_done (HasFit info limits) (Normal limits info) limits (λ o. refl) i now h.0 h.1, (normal_form h.0, form_answers info limits i now h.0 h.1 h.2.0, gained (normal_form h.0) old.bytes new.bytes gain.tells gain.bytes, gain.failures))
+    (takes_done (HasFit (setting_of info) limits) (Normal limits info) limits (λ o. refl) i now h.0 h.1, (normal_form h.0, form_answers info limits i now h.0 h.1 h.2.0, gained (normal_form h.0) old.bytes new.bytes gain.tells gain.bytes, gain.failures))
 
-pub form_not_done : (info : Info) (limits : Limits) (i now : Incoming) (old new : Outgoing) (why : Fault) → Normalises info limits i old (Err why) now new → Does (Normal limits info) i now old new (outcome_of limits.bytes why)
+pub form_not_done : (info : Info) (limits : Limits) (i now : Incoming) (old new : Outgoing) (why : Fault) → Normalises (setting_of info) limits i old (Err why) now new → Does (Normal limits info) i now old new (outcome_of limits.bytes why)
 form_not_done info limits i now old new (fault.Refused reason bit) h =
-    (takes_fault (HasFit info limits) (Normal limits info) limits (λ o. refl) i now (fault.Refused reason bit) h.0, (if_told i.to_come (λ bytes. BreaksInput limits bytes (at reason bit)) h.0.1, stays_same old new h.1))
-form_not_done info limits i now old new fault.Read h = (takes_fault (HasFit info limits) (Normal limits info) limits (λ o. refl) i now fault.Read h.0, stays_same old new h.1)
-form_not_done info limits i now old new fault.Memory h = (takes_fault (HasFit info limits) (Normal limits info) limits (λ o. refl) i now fault.Memory h.0, stays_same old new h.1)
+    (takes_fault (HasFit (setting_of info) limits) (Normal limits info) limits (λ o. refl) i now (fault.Refused reason bit) h.0, (if_told i.to_come (λ bytes. BreaksInput limits bytes (at reason bit)) h.0.1, stays_same old new h.1))
+form_not_done info limits i now old new fault.Read h = (takes_fault (HasFit (setting_of info) limits) (Normal limits info) limits (λ o. refl) i now fault.Read h.0, stays_same old new h.1)
+form_not_done info limits i now old new fault.Memory h = (takes_fault (HasFit (setting_of info) limits) (Normal limits info) limits (λ o. refl) i now fault.Memory h.0, stays_same old new h.1)
 form_not_done info limits i now old new fault.Write h =
     let gain = h.2.1 in (
-      takes_write (HasFit info limits) (Normal limits info) limits (λ o. refl) i now h.0 h.1,
+      takes_write (HasFit (setting_of info) limits) (Normal limits info) limits (λ o. refl) i now h.0 h.1,
       (inr (normal_form h.0, Done, form_answers info limits i now h.0 h.1 h.2.0, gained_front (normal_form h.0) old.bytes new.bytes gain.tells gain.bytes), gain.why),
     )
 form_not_done info limits i now old new fault.OutputTooLong h = (
-  takes_long (HasFit info limits) (Normal limits info) limits (λ o. refl) i now h.0 limits.bytes h.1,
-  ((refl, if_told i.to_come (λ bytes. (tree : Tree) × HasTree info limits bytes tree × (limits.bytes < size_of tree)) (λ tells. (h.0, (h.1.1 tells).0.0, h.2.0))), stays_same old new h.2.1),
+  takes_long (HasFit (setting_of info) limits) (Normal limits info) limits (λ o. refl) i now h.0 limits.bytes h.1,
+  ((refl, if_told i.to_come (λ bytes. (tree : Tree) × HasTree (setting_of info) limits bytes tree × (limits.bytes < size_of tree)) (λ tells. (h.0, (h.1.1 tells).0.0, h.2.0))), stays_same old new h.2.1),
 )
 form_not_done info limits i now old new fault.Failed h = absurd h
 
@@ -229,15 +229,15 @@ told_report limits i now old new (Err fault.OutputTooLong) h = absurd h
 told_report limits i now old new (Err fault.Failed) h = absurd h
 
 -- the tree was read
-listed : (limits : Limits) (i now : Incoming) (old new : Outgoing) (answer : Result (Unit {0}) Fault) → ReadsAndLists limits i old answer now new → Does (Show limits) i now old new (ended limits.bytes answer)
+listed : (limits : Limits) (i now : Incoming) (old new : Outgoing) (answer : Result (Unit {0}) Fault) → ReadsAndLists keep limits i old answer now new → Does (Show limits) i now old new (ended limits.bytes answer)
 listed limits i now old new answer h =
-    text_written (HasFit Keep limits) (Show limits) limits (λ o. refl) i now old new h.0 (listing_of h.0) answer (λ s. s) (h.0, refl, if_told i.to_come (λ bytes. HasTree Keep limits bytes h.0) (λ tells. (h.1.1 tells).0.0)) h.1 h.2
+    text_written (HasFit keep limits) (Show limits) limits (λ o. refl) i now old new h.0 (listing_of h.0) answer (λ s. s) (h.0, refl, if_told i.to_come (λ bytes. HasTree keep limits bytes h.0) (λ tells. (h.1.1 tells).0.0)) h.1 h.2
 
 -- it was not
-not_listed : (limits : Limits) (i now : Incoming) (old new : Outgoing) (why : Fault) → ListsNothing limits i old why now new → Does (Show limits) i now old new (outcome_of limits.bytes why)
-not_listed limits i now old new why h = not_accepted (HasFit Keep limits) (Show limits) limits (λ o. refl) i now old new why (λ reason bit breaks. (breaks, stays_same old new h.1)) (stays_same old new h.1) h.0
+not_listed : (limits : Limits) (i now : Incoming) (old new : Outgoing) (why : Fault) → ListsNothing keep limits i old why now new → Does (Show limits) i now old new (outcome_of limits.bytes why)
+not_listed limits i now old new why h = not_accepted (HasFit keep limits) (Show limits) limits (λ o. refl) i now old new why (λ reason bit breaks. (breaks, stays_same old new h.1)) (stays_same old new h.1) h.0
 
-pub showed : (limits : Limits) (i now : Incoming) (old new : Outgoing) (answer : Result (Unit {0}) Fault) → Shows limits i old answer now new → Does (Show limits) i now old new (ended limits.bytes answer)
+pub showed : (limits : Limits) (i now : Incoming) (old new : Outgoing) (answer : Result (Unit {0}) Fault) → Shows keep limits i old answer now new → Does (Show limits) i now old new (ended limits.bytes answer)
 showed limits i now old new (Ok _) h = listed limits i now old new (Ok tt) h
 showed limits i now old new (Err fault.Write) h = listed limits i now old new (Err fault.Write) h
 showed limits i now old new (Err fault.Memory) (inl h) = not_listed limits i now old new fault.Memory h

@@ -1,8 +1,8 @@
 -- What a command does with its input and its output, and what a run of the program does, over any devices.
 use Rattle.std.specs.Prelude.{◌≡◌, ◌≢◌, ◌⊎◌, ⊤, ℕ, ◌+◌, ◌<◌, ◌≤◌, min, Bool, List, [], ◌++◌, take, drop, codes, Option, Some, IfSome, string_bytes}
 use Rattle.std.specs.Io.KnownBytes.{Keeps}
+use Rattle.bit_grammar.specs.Setting.{keep, setting_of}
 use Rattle.bit_grammar.specs.declared.info.Info.{Info}
-use Rattle.bit_grammar.specs.declared.info.Info.TheVariants.{Keep}
 use Rattle.bit_grammar.specs.declared.reason.Reason.{Reason}
 use Rattle.bit_grammar.specs.declared.values.Values.{Values}
 use Rattle.bit_grammar.specs.Bits.{bits_of_bytes}
@@ -47,7 +47,7 @@ IsText text bits = bits ≡ bits_of_bytes text
 
 -- two inputs spell marked trees whose trees first differ so
 abbrev pub DifferFirst : Info → Limits → (first second : List ℕ) → Seen → Type 0
-DifferFirst info limits first second seen = (a : Marked) × (b : Marked) × SpellsInput limits first a × SpellsInput limits second b × FirstDifference info a b seen
+DifferFirst info limits first second seen = (a : Marked) × (b : Marked) × SpellsInput limits first a × SpellsInput limits second b × FirstDifference (setting_of info) a b seen
 
 -- What is told of an input ends so, and these are the lines of the magic and the events that are told.
 abbrev pub TellsEvents : Limits → Values → Told → Ending → List Bool → Type 0
@@ -58,13 +58,13 @@ TellsEvents limits values input end bits = (told : Outlook) × (outlook_end told
 -- `events` has lines for an input that it refuses too, of the events before the fault.
 abbrev pub Answers : Task → Told → Outcome → List Bool → Type 0
 Answers (Check limits) input Done bits = IsText (codes "accepted\n") bits × IfSome input (Accepts limits)
-Answers (Normal limits info) input Done bits = (tree : Tree) × (bits ≡ normal_form tree) × (size_of tree ≤ limits.bytes) × IfSome input (λ bytes. HasTree info limits bytes tree)
-Answers (Same first limits info) input Done bits = IsText (codes "same\n") bits × IfSome input (λ bytes. (tree : Tree) × HasTree info limits (take first bytes) tree × HasTree info limits (drop first bytes) tree)
-Answers (Same first limits info) input Different bits = IsText (codes "different\n") bits × IfSome input (λ bytes. (a : Tree) × (b : Tree) × HasTree info limits (take first bytes) a × HasTree info limits (drop first bytes) b × (a ≢ b))
-Answers (Where first limits info) input Done bits = IsText (codes "same\n") bits × IfSome input (λ bytes. (tree : Tree) × HasTree info limits (take first bytes) tree × HasTree info limits (drop first bytes) tree)
+Answers (Normal limits info) input Done bits = (tree : Tree) × (bits ≡ normal_form tree) × (size_of tree ≤ limits.bytes) × IfSome input (λ bytes. HasTree (setting_of info) limits bytes tree)
+Answers (Same first limits info) input Done bits = IsText (codes "same\n") bits × IfSome input (λ bytes. (tree : Tree) × HasTree (setting_of info) limits (take first bytes) tree × HasTree (setting_of info) limits (drop first bytes) tree)
+Answers (Same first limits info) input Different bits = IsText (codes "different\n") bits × IfSome input (λ bytes. (a : Tree) × (b : Tree) × HasTree (setting_of info) limits (take first bytes) a × HasTree (setting_of info) limits (drop first bytes) b × (a ≢ b))
+Answers (Where first limits info) input Done bits = IsText (codes "same\n") bits × IfSome input (λ bytes. (tree : Tree) × HasTree (setting_of info) limits (take first bytes) tree × HasTree (setting_of info) limits (drop first bytes) tree)
 Answers (Where first limits info) input Different bits = (seen : Seen) × IsText (difference_text seen) bits × IfSome input (λ bytes. DifferFirst info limits (take first bytes) (drop first bytes) seen)
 Answers (Analyse limits) input Done bits = (tally : Tally) × IsText (report_of tally) bits × IfSome input (λ bytes. HasTally limits bytes tally)
-Answers (Show limits) input Done bits = (tree : Tree) × IsText (listing_of tree) bits × IfSome input (λ bytes. HasTree Keep limits bytes tree)
+Answers (Show limits) input Done bits = (tree : Tree) × IsText (listing_of tree) bits × IfSome input (λ bytes. HasTree keep limits bytes tree)
 Answers (Events limits values) input Done bits = (bit : ℕ) × TellsEvents limits values input (accepted bit) bits
 Answers (Events limits values) input (Refused reason bit) bits = TellsEvents limits values input (broke (at reason bit)) bits
 Answers task input outcome bits = ⊥
@@ -73,7 +73,7 @@ Answers task input outcome bits = ⊥
 abbrev pub Refuses : Task → Told → Outcome → Type 0
 Refuses (Check limits) input (Refused reason bit) = IfSome input (λ bytes. BreaksInput limits bytes (at reason bit))
 Refuses (Normal limits info) input (Refused reason bit) = IfSome input (λ bytes. BreaksInput limits bytes (at reason bit))
-Refuses (Normal limits info) input (TooLong limit) = (limit ≡ limits.bytes) × IfSome input (λ bytes. (tree : Tree) × HasTree info limits bytes tree × (limits.bytes < size_of tree))
+Refuses (Normal limits info) input (TooLong limit) = (limit ≡ limits.bytes) × IfSome input (λ bytes. (tree : Tree) × HasTree (setting_of info) limits bytes tree × (limits.bytes < size_of tree))
 Refuses (Same first limits info) input (RefusedOf First reason bit) = IfSome input (λ bytes. BreaksInput limits (take first bytes) (at reason bit))
 Refuses (Same first limits info) input (RefusedOf Second reason bit) = IfSome input (λ bytes. Accepts limits (take first bytes) × BreaksInput limits (drop first bytes) (at reason bit))
 Refuses (Where first limits info) input (RefusedOf First reason bit) = IfSome input (λ bytes. BreaksInput limits (take first bytes) (at reason bit))

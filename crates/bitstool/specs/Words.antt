@@ -13,7 +13,7 @@ use Rattle.clap.specs.declared.error.kind.ErrorKind.TheVariants.{DisplayHelp, Di
 use Rattle.bit_grammar.specs.declared.shapes.Shapes.{Shapes}
 use Rattle.bit_grammar.specs.declared.shapes.Shapes.TheVariants.{AtDefinition, AtUse}
 use Rattle.bit_grammar.specs.declared.info.Info.{Info}
-use Rattle.bit_grammar.specs.declared.info.Info.TheVariants.{Keep, Drop}
+use Rattle.bit_grammar.specs.declared.info.Info.TheVariants.{Keep, Drop, Without}
 use Rattle.bit_grammar.specs.declared.values.Values.{Values}
 use Rattle.bit_grammar.specs.declared.values.Values.TheVariants.{Shown, LeftOut}
 use Rattle.bit_grammar.specs.Blocks.{Limits}
@@ -104,6 +104,7 @@ HasLimits rows limits = HasNumber (codes "bytes") rows limits.bytes × HasNumber
 abbrev pub HasSetting : List Row → Info → Type 0
 HasSetting rows Keep = ¬ (IsGiven (codes "drop-info") rows)
 HasSetting rows Drop = IsGiven (codes "drop-info") rows
+HasSetting rows (Without blocks records) = ⊥
 
 -- values are left out exactly where the flag was given
 abbrev pub HasValues : List Row → Values → Type 0

@@ -241,7 +241,7 @@ fn limits_of(matches: &ArgMatches<'_>) -> Option<Limits>
 }
 
 /// The setting that a command was given.
-fn setting_of(matches: &ArgMatches<'_>) -> Info
+fn setting_of(matches: &ArgMatches<'_>) -> Info<'static>
     ensures { HasSetting (rows_of (found_of matches.now)) result }
 {
     if is_given(matches, "drop-info") {
@@ -263,7 +263,7 @@ fn values_of(matches: &ArgMatches<'_>) -> Values
 }
 
 /// The comparison that was asked for.
-fn comparison_of(first: u64, limits: Limits, matches: &ArgMatches<'_>) -> Task
+fn comparison_of(first: u64, limits: Limits, matches: &ArgMatches<'_>) -> Task<'static>
     ensures { AsksToCompare first limits (rows_of (found_of matches.now)) result }
 {
     let info = setting_of(matches);
@@ -283,7 +283,7 @@ fn comparison_of(first: u64, limits: Limits, matches: &ArgMatches<'_>) -> Task
 }
 
 /// The command that was given.
-fn task_of(matches: &ArgMatches<'_>) -> Option<Task>
+fn task_of(matches: &ArgMatches<'_>) -> Option<Task<'static>>
     ensures task { IfSome result (λ task. Means (subcommand_rows_of matches.now) task) }
     ensures found { FindsAll (subcommand_rows_of matches.now) → IsSome result }
 {
@@ -307,7 +307,7 @@ fn task_of(matches: &ArgMatches<'_>) -> Option<Task>
 }
 
 /// The task that the words mean.
-fn task(alloc: Global, words: &[String]) -> Result<Task, Error>
+fn task(alloc: Global, words: &[String]) -> Result<Task<'static>, Error>
     ensures ok { IfOk result (λ task. Says (map string_bytes words.now) (ParsedValue.Task task)) }
     ensures err { IfErr result (λ error. Fails (map string_bytes words.now) (kind_of error)) }
 {

@@ -86,9 +86,9 @@ fn compare_with<S: Source>(
     first: &[u8],
     rest: S,
     limits: Limits,
-    info: Info,
+    info: Info<'_>,
 ) -> (Outcome, S)
-    ensures found { ComparesWith info limits first.now (S.incoming rest).to_come result.0 }
+    ensures found { ComparesWith info.entry limits first.now (S.incoming rest).to_come result.0 }
     ensures taken { TakesRest limits (S.incoming rest) (S.incoming result.1) result.0 }
 {
     let (answer, rest) = same_as(alloc, first, rest, limits, info);
@@ -108,9 +108,9 @@ fn compare<S: Source>(
     first: u64,
     mut source: S,
     limits: Limits,
-    info: Info,
+    info: Info<'_>,
 ) -> (Outcome, S)
-    ensures { Judges (TaskValue.Same first limits info) (S.incoming source) (S.incoming result.1) result.0 }
+    ensures { Judges (TaskValue.Same first limits info.entry) (S.incoming source) (S.incoming result.1) result.0 }
 {
     let count = first.min(limits.bytes() + 1);
     match take_first(alloc, &mut source, count) {
@@ -125,9 +125,9 @@ fn compare_where_with<S: Source>(
     first: &[u8],
     rest: S,
     limits: Limits,
-    info: Info,
+    info: Info<'_>,
 ) -> (Result<Option<Difference>, Outcome>, S)
-    ensures found { ComparesWhere info limits first.now (S.incoming rest).to_come result.0 }
+    ensures found { ComparesWhere info.entry limits first.now (S.incoming rest).to_come result.0 }
     ensures taken { TakesRest limits (S.incoming rest) (S.incoming result.1) (outcome_found result.0) }
 {
     let (answer, rest) = first_difference_from(alloc, first, rest, limits, info);
@@ -146,10 +146,10 @@ fn compare_where<S: Source>(
     first: u64,
     mut source: S,
     limits: Limits,
-    info: Info,
+    info: Info<'_>,
 ) -> (Result<Option<Difference>, Outcome>, S)
-    ensures taken { Takes (TaskValue.Where first limits info) (S.incoming source) (S.incoming result.1) (outcome_found result.0) }
-    ensures found { FindsWhere (TaskValue.Where first limits info) (S.incoming source).to_come result.0 }
+    ensures taken { Takes (TaskValue.Where first limits info.entry) (S.incoming source) (S.incoming result.1) (outcome_found result.0) }
+    ensures found { FindsWhere (TaskValue.Where first limits info.entry) (S.incoming source).to_come result.0 }
 {
     let most = first.min(limits.bytes() + 1);
     match take_first(alloc, &mut source, most) {
@@ -200,11 +200,11 @@ fn perform_check<S: Source, K: Sink>(
 fn perform_normal<S: Source, K: Sink>(
     alloc: Global,
     limits: Limits,
-    info: Info,
+    info: Info<'_>,
     source: S,
     sink: K,
 ) -> (Outcome, S, K)
-    ensures { Does (TaskValue.Normal limits info) (S.incoming source) (S.incoming result.1) (K.outgoing sink) (K.outgoing result.2) result.0 }
+    ensures { Does (TaskValue.Normal limits info.entry) (S.incoming source) (S.incoming result.1) (K.outgoing sink) (K.outgoing result.2) result.0 }
 {
     let (answer, source, sink) = normalise(alloc, source, sink, limits, info);
     let outcome = match answer {
@@ -219,11 +219,11 @@ fn perform_same<S: Source, K: Sink>(
     alloc: Global,
     first: u64,
     limits: Limits,
-    info: Info,
+    info: Info<'_>,
     source: S,
     mut sink: K,
 ) -> (Outcome, S, K)
-    ensures { Does (TaskValue.Same first limits info) (S.incoming source) (S.incoming result.1) (K.outgoing sink) (K.outgoing result.2) result.0 }
+    ensures { Does (TaskValue.Same first limits info.entry) (S.incoming source) (S.incoming result.1) (K.outgoing sink) (K.outgoing result.2) result.0 }
 {
     let (outcome, source) = compare(alloc, first, source, limits, info);
     let outcome = match outcome {
@@ -264,11 +264,11 @@ fn perform_where<S: Source, K: Sink>(
     alloc: Global,
     first: u64,
     limits: Limits,
-    info: Info,
+    info: Info<'_>,
     source: S,
     mut sink: K,
 ) -> (Outcome, S, K)
-    ensures { Does (TaskValue.Where first limits info) (S.incoming source) (S.incoming result.1) (K.outgoing sink) (K.outgoing result.2) result.0 }
+    ensures { Does (TaskValue.Where first limits info.entry) (S.incoming source) (S.incoming result.1) (K.outgoing sink) (K.outgoing result.2) result.0 }
 {
     let (found, source) = compare_where(alloc, first, source, limits, info);
     let outcome = tell_found(alloc, found, &mut sink);
@@ -297,7 +297,7 @@ fn perform_show<S: Source, K: Sink>(
 ) -> (Outcome, S, K)
     ensures { Does (TaskValue.Show limits) (S.incoming source) (S.incoming result.1) (K.outgoing sink) (K.outgoing result.2) result.0 }
 {
-    let (answer, source, sink) = write_show(alloc, source, sink, limits);
+    let (answer, source, sink) = write_show(alloc, source, sink, limits, Info::Keep);
     (ended(limits.bytes(), answer), source, sink)
 }
 
@@ -316,8 +316,8 @@ fn perform_events<S: Source, K: Sink>(
 }
 
 /// Carries out a command, up to the flush.
-fn carry_out<S: Source, K: Sink>(alloc: Global, task: Task, source: S, sink: K) -> (Outcome, S, K)
-    ensures { Does task (S.incoming source) (S.incoming result.1) (K.outgoing sink) (K.outgoing result.2) result.0 }
+fn carry_out<S: Source, K: Sink>(alloc: Global, task: Task<'_>, source: S, sink: K) -> (Outcome, S, K)
+    ensures { Does task.entry (S.incoming source) (S.incoming result.1) (K.outgoing sink) (K.outgoing result.2) result.0 }
 {
     match task {
         Task::Check { limits } => perform_check(alloc, limits, source, sink),
@@ -354,11 +354,11 @@ fn settle<K: Flush>(outcome: Outcome, sink: &mut K) -> Outcome
 /// Carries out a command, and answers how it ended; the output is flushed where the command answered or refused.
 pub fn perform<S: Source, K: Flush>(
     alloc: Global,
-    task: Task,
+    task: Task<'_>,
     source: S,
     sink: K,
 ) -> (Outcome, S, K)
-    ensures { Does task (S.incoming source) (S.incoming result.1) (K.outgoing sink) (K.outgoing result.2) result.0 }
+    ensures { Does task.entry (S.incoming source) (S.incoming result.1) (K.outgoing sink) (K.outgoing result.2) result.0 }
 {
     let (outcome, source, mut sink) = carry_out(alloc, task, source, sink);
     let outcome = settle(outcome, &mut sink);

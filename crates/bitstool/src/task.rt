@@ -6,7 +6,7 @@ use bit_tree::Info;
 
 /// A command, with what it was given.
 #[derive(Clone, Copy, Debug, PartialEq, Eq)]
-pub enum Task {
+pub enum Task<'a> {
     /// Say whether the input is accepted.
     Check {
         limits: Limits,
@@ -14,19 +14,19 @@ pub enum Task {
     /// Write the normal form of the input.
     Normal {
         limits: Limits,
-        info: Info,
+        info: Info<'a>,
     },
     /// Compare the first bytes of the input, so many, with the rest.
     Same {
         first: u64,
         limits: Limits,
-        info: Info,
+        info: Info<'a>,
     },
     /// The same, and say where they first differ.
     Where {
         first: u64,
         limits: Limits,
-        info: Info,
+        info: Info<'a>,
     },
     /// Report what the input adds up to.
     Analyse {
@@ -47,7 +47,7 @@ pub enum Task {
 #[derive(Debug, Drop)]
 pub enum Parsed {
     /// A command to carry out.
-    Task(Task),
+    Task(Task<'static>),
     /// A text for the output.
     Help(String),
     /// A text for the errors.

@@ -1,5 +1,5 @@
-use Rattle.bit_grammar.proofs.Dropped.{items_are_under, tree_is_under, under_again, fit_under, items_fit, items_are_blocks, depth_under, values_under}
+use Rattle.bit_grammar.proofs.Under.{tree_kept, under_again, fit_under, items_fit, items_are_blocks, depth_under, values_under}
 use Rattle.bit_grammar.proofs.tree_laws.tree_under.Goals as goal
 
 pub returns : goal.returns
-returns c = record { items = items_are_under; tree = tree_is_under; again = under_again; fit = fit_under; fit_items = items_fit; blocks = items_are_blocks; depth = depth_under; values = values_under }
+returns c = record { kept = tree_kept; again = under_again; fit = fit_under; fit_items = items_fit; blocks = items_are_blocks; depth = depth_under; values = values_under }

@@ -1,8 +1,10 @@
-use Rattle.std.proofs.Common.{ℕ, ◌+◌, refl, sym, ap, ◌∙◌, subst}
+use Rattle.std.proofs.Common.{ℕ, ◌+◌, refl, ap, ◌∙◌, subst}
 use Rattle.bit_grammar.specs.Input.{Head}
 use Rattle.bit_fields.specs.Devices.{Incoming}
 use Rattle.bit_fields.specs.Opening.{head_told}
+use Rattle.bit_grammar.specs.Setting.{setting_of}
 use Rattle.bit_events.specs.Events.{Begun}
+use Rattle.bit_events.specs.Standing.{Standing}
 use Rattle.bit_norm.specs.Entries.{magic_bit}
 use Rattle.bit_norm.specs.InStep.{Concludes}
 use Rattle.bit_norm.proofs.InStep.{tally_begun}
@@ -10,7 +12,7 @@ use Rattle.bit_norm.proofs.Comparisons.{concluded}
 use Rattle.bit_norm.proofs.in_step.compare_with.Goals as goal
 
 pub fold-read-requires : goal.fold-read-requires
-fold-read-requires g c = tally_begun _ c.new-2.ensures.«open» refl refl
+fold-read-requires g c = tally_begun _ c.new-4.ensures.«open» (ap (λ (st : Standing). st.ids) c.new-3.ensures) refl
 
 pub returns-in-Ok-conclude : goal.returns-in-Ok-conclude
 returns-in-Ok-conclude g c =
@@ -25,8 +27,8 @@ returns-in-Ok-conclude g c =
             found.marked,
             found.spelled,
             (read.1 tells).1,
-            concluded c.args.info c.args.limits c.args.first.now _ last found.marked second answer (begun.told refl) (begun.pays.tells refl)
-                (record { setting = refl; within = c.new-2.ensures.«open»; items = c.new-2.ensures.items; passed = refl; ended = ap (λ (n : ℕ). n + 32) (c.magic_bit.ensures.bit ∙ ap magic_bit c.head.ensures) })
+            concluded (setting_of c.args.info) c.args.limits c.args.first.now _ last found.marked second answer (begun.told refl) (begun.pays.tells refl)
+                (record { first = c.new-2.ensures; second = c.new-3.ensures; within = c.new-4.ensures.«open»; items = c.new-4.ensures.items; ended = ap (λ (n : ℕ). n + 32) (c.magic_bit.ensures.bit ∙ ap magic_bit c.head.ensures) })
                 found.is_head found.gathers (subst (λ (h : Head). Concludes h second last answer) c.head.ensures c.in-Ok-conclude.ensures),
           ),
     )

@@ -1,10 +1,10 @@
 use Rattle.std.proofs.Common.{◌-◌, ◌^◌}
-use Rattle.bit_grammar.specs.Texts.{events_text}
+use Rattle.bit_scan.specs.Listing.{left_text}
 use Rattle.bit_scan.proofs.Lists.{Listing}
 use Rattle.bit_scan.proofs.listing.write_events.Given as goal
 
 abbrev pub invariant-loop-next : goal.invariant-loop-next
-invariant-loop-next g l = Listing (events_text 0 l.fn.events.told.0) l.fn.printer l.around l.events l.printer
+invariant-loop-next g l = Listing (left_text 0 l.fn.standing l.fn.events.told.0) l.fn.printer l.around l.standing l.events l.printer
 
 abbrev pub decreases-loop-next : goal.decreases-loop-next
 decreases-loop-next g l = 2 ^ 64 - l.events.position

@@ -7,9 +7,9 @@ use Rattle.bit_events.specs.EventView.{shown}
 use Rattle.bit_scan.proofs.Lists.{line_stops}
 use Rattle.bit_scan.proofs.listing.write_next.Goals as goal
 
-pub returns-in_err-write_event-in-Ok-Some : goal.returns-in_err-write_event-in-Ok-Some
-returns-in_err-write_event-in-Ok-Some g c =
+pub returns-in_err-next-in-Ok-Some : goal.returns-in_err-next-in-Ok-Some
+returns-in_err-next-in-Ok-Some g c =
     let p = err_from_is_err_and c.from_residual.result c.from_residual.ensures.1 in
     let came = subst (λ (r : Result (Option Event) Fault). Lends c.args.events.now r c.next.follows.lender-at-none) (c.in-Ok-Some.is ∙ ap (λ (o : Option Event). Ok o) c.in-Ok-Some.field-0-is) c.next.follows.holds-at-none in
     rw (p.1, p.2)
-    (line_stops c.args.around c.args.events.now c.next.follows.lender-at-none c.args.printer.now c.write_event.new.printer (shown c.in-Ok-Some.event) c.in_err-write_event-in-Ok-Some.field-0.0 came c.in_err-write_event-in-Ok-Some.ensures)
+    (line_stops c.args.around c.args.standing.now c.args.events.now c.next.follows.lender-at-none c.args.printer.now c.write_left.new.printer (shown c.in-Ok-Some.event) c.in_err-next-in-Ok-Some.field-0.0 came c.in_err-next-in-Ok-Some.ensures)

@@ -1,19 +1,27 @@
-use Rattle.std.proofs.Common.{refl}
+use Rattle.std.proofs.Common.{refl, sym, ◌∙◌}
 use Rattle.std.proofs.lemmas.Result.{on_ok_weaker}
-use Rattle.bit_grammar.specs.Machine.{Opened}
+use Rattle.bit_grammar.specs.Machine.{Opened, enters}
+use Rattle.bit_norm.specs.Building.{left}
 use Rattle.bit_norm.specs.declared.form_builder.FormBuilder.{FormBuilder}
-use Rattle.bit_norm.proofs.Building.{enters_out}
+use Rattle.bit_norm.proofs.Building.{both_ok, event_taken, event_left_out, still_passed}
 use Rattle.bit_norm.proofs.form_builder.FormBuilderGatherer.enter.Goals as goal
 
-pub returns-then-leaves_out : goal.returns-then-leaves_out
-returns-then-leaves_out c = λ first done deepest was stands.
-    let old = c.args.self.now in
+pub returns-then-self : goal.returns-then-self
+returns-then-self c = λ first done deepest was stands.
     let opened : Opened = record { id = c.args.id; width = c.args._width; first = c.args._first; body = c.args._body } in
-    let new : FormBuilder = record { alloc = old.alloc; info = old.info; limits = old.limits; text = old.text; holes = old.holes; dropped = c.push.new.self; long = old.long } in
-    enters_out first old new done opened was c.if-self.false refl refl c.if-self.false (c.leaves_out.ensures.yes c.if-leaves_out.true) refl refl c.in_ok-push.ensures.len
+    still_passed first c.args.self.now done (enters opened) was c.if-self.true
+
+pub returns-then-branch : goal.returns-then-branch
+returns-then-branch c =
+    on_ok_weaker c.open_block.result
+    (λ opens first done deepest was stands.
+    let opened : Opened = record { id = c.args.id; width = c.args._width; first = c.args._first; body = c.args._body } in
+    event_taken first c.args.self.now c.open_block.new.self done (enters opened) was c.if-self.false (sym c.in_ok-enter.ensures.left ∙ c.if-branch.true) (λ _. opens.0.0 ∙ c.in_ok-enter.ensures.ids) opens.0.1 (opens.1 (left first done) opened refl was.form c.if-self.false))
+    (both_ok _ _ c.open_block.result c.open_block.ensures.stays c.open_block.ensures.form)
 
 pub returns : goal.returns
-returns c =
-    on_ok_weaker c.open_block.result
-    (λ opens first done deepest was stands. opens first done (record { id = c.args.id; width = c.args._width; first = c.args._first; body = c.args._body }) refl was c.if-self.false (c.leaves_out.ensures.inside c.if-leaves_out.false))
-    c.open_block.ensures
+returns c = λ first done deepest was stands.
+    let old = c.args.self.now in
+    let opened : Opened = record { id = c.args.id; width = c.args._width; first = c.args._first; body = c.args._body } in
+    let new : FormBuilder = record { alloc = old.alloc; standing = c.enter.new.self; limits = old.limits; text = old.text; holes = old.holes; long = old.long } in
+    event_left_out first old new done (enters opened) was c.if-self.false (sym c.in_ok-enter.ensures.left ∙ c.if-branch.false) c.in_ok-enter.ensures.ids refl was.form

@@ -8,7 +8,8 @@ pub returns-in-Ok-Other : goal.returns-in-Ok-Other
 returns-in-Ok-Other c =
     let was = c.self.inside in
     let found : Found = record { first = c.in-Ok-Other.first; second = record { bit = c.args.bit; what = c.what.result }; value = c.in-Ok-Other.value } in
-    let old : Compared = record { info = was.info; first = was.first; within = was.walk.«open».items; items = was.walk.items; first_ended = was.first_ended; second_ended = was.second_ended; passed = was.passed; found = was.found } in
-    let new : Compared = record old { first = c.next_beside.new.events; found = Some found } in
+    let old : Compared =
+    record { first = was.first; first_blocks = was.first_blocks; second_blocks = was.second_blocks; within = was.walk.«open».items; items = was.walk.items; first_ended = was.first_ended; second_ended = was.second_ended; found = was.found } in
+    let new : Compared = record old { first = c.next_beside.new.events; first_blocks = c.next_beside.new.blocks; found = Some found } in
     subst (λ (s : Compared). TakesSign s (sign_shown c.args.sign) c.args.bit c.args.ended new) c.self.view_is
-    (departed old c.next_beside.new.events (sign_shown c.args.sign) c.args.bit c.args.ended found (search rules) (rw c.in-Ok-Other.field-0-is at c.in-Ok-Other.ensures) (search rules))
+    (departed old c.next_beside.new.events c.next_beside.new.blocks (sign_shown c.args.sign) c.args.bit c.args.ended found (search rules) (rw c.in-Ok-Other.field-0-is at c.in-Ok-Other.ensures) (search rules))

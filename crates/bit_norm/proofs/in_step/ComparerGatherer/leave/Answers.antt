@@ -1,19 +1,20 @@
-use Rattle.std.proofs.Common.{◌≡◌, ℕ, ◌<◌, refl, sym, ap, ◌∙◌, subst, arith}
+use Rattle.std.proofs.Common.{sym, ◌∙◌, subst, arith}
 use Rattle.std.proofs.lemmas.Result.{on_ok_weaker}
-use Rattle.bit_norm.specs.Entries.{ends}
-use Rattle.bit_norm.specs.InStep.{Compared, Tallied, TakesSign}
-use Rattle.bit_norm.proofs.InStep.{tally_passed_end, end_signed, tally_sign}
+use Rattle.bit_grammar.specs.Machine.{leaves}
+use Rattle.bit_norm.specs.InStep.{Compared, Tallied}
+use Rattle.bit_norm.proofs.InStep.{end_signed, some_left, tally_left_out, tally_sign}
 use Rattle.bit_norm.proofs.in_step.ComparerGatherer.leave.Goals as goal
 
-pub returns-then-self-gt0 : goal.returns-then-self-gt0
-returns-then-self-gt0 c = λ first done deepest was stands.
-    tally_passed_end first _ done c.args.after _ (subst (λ (s : Compared). Tallied first done s) (sym c.self.view_is) was) c.if-self-gt0.true refl
-
-pub returns : goal.returns
-returns c =
+pub returns-then-leave : goal.returns-then-leave
+returns-then-leave c =
     on_ok_weaker c.take.result
     (λ takes first done deepest was stands.
-    let none : c.args.self.now.passed ≡ 0 = omega (arith, ap (λ (s : Compared). s.passed) c.self.view_is, c.if-self-gt0.false) in
-    tally_sign first c.args.self.now c.take.new.self done _ _ was (end_signed c.args.self.now c.args.after none (λ found. omega (arith, was.depth found, none, stands)))
-    (subst (λ (bit : ℕ). TakesSign c.args.self.now ends bit c.args.after c.take.new.self) (ap (λ (s : Compared). s.second_ended) c.self.view_is) takes))
+    let inside = subst (λ (s : Compared). Tallied first done s) (sym c.self.view_is) was in
+    let kept = sym c.leave.ensures.left ∙ c.if-leave.true in
+    tally_sign first _ c.take.new.self c.leave.new.self done _ _ inside (c.leave.ensures.ids c.args.after)
+    (end_signed _ c.args.after kept (λ found. omega (arith, inside.depth found, some_left first _ done (leaves c.args.after) inside kept stands))) takes)
     c.take.ensures
+
+pub returns : goal.returns
+returns c = λ first done deepest was stands.
+    tally_left_out first _ done (leaves c.args.after) c.leave.new.self (subst (λ (s : Compared). Tallied first done s) (sym c.self.view_is) was) (c.leave.ensures.ids c.args.after) (sym c.leave.ensures.left ∙ c.if-leave.false)

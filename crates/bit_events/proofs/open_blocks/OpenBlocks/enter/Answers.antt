@@ -1,0 +1,17 @@
+use Rattle.std.proofs.Common.{Bool, ap, ◌∙◌}
+use Rattle.std.specs.Prelude.{reverse, ◌&&◌, ◌∷◌}
+use Rattle.std.specs.List.{list_all}
+use Rattle.bit_grammar.specs.Setting.{keeps, setting_of}
+use Rattle.bit_events.specs.Standing.{Standing}
+use Rattle.bit_events.proofs.Standings.{left_is, judged_more}
+use Rattle.bit_events.proofs.open_blocks.OpenBlocks.enter.Goals as goal
+
+pub invariant_of-self-2 : goal.invariant_of-self-2
+invariant_of-self-2 c =
+    judged_more (setting_of c.self.inside.info) c.self.inside.inner c.judged-inner.result c.self.inside.outer.items c.push.new.self.items c.self.invariant c.in_ok-push.ensures.items
+    (rw c.judged-inner.ensures.id c.judged-inner.ensures.left) (λ whole. rw c.judged-inner.ensures.id (c.judged-inner.ensures.whole whole))
+
+pub returns-clause-left : goal.returns-clause-left
+returns-clause-left c =
+    c.judged-inner.ensures.left ∙ ap (λ (b : Bool). keeps (setting_of c.self.inside.info) c.args.id && b) (left_is (setting_of c.self.inside.info) c.self.inside.inner (reverse c.self.inside.outer.items) c.self.invariant)
+    ∙ ap (λ (st : Standing). list_all (keeps st.setting) (c.args.id ∷ st.ids)) c.self.view_is

@@ -1,0 +1,141 @@
+//! The blocks that are open, under a setting.
+
+ghost use Rattle.std.specs.Prelude.{◌≡◌, ℕ, ◌&&◌, true, [], ◌∷◌, OnOk, OnErr, IfOk};
+ghost use Rattle.std.specs.List.{list_all};
+ghost use Rattle.bit_grammar.specs.Machine as machine;
+ghost use Rattle.bit_events.specs.EventView.{shown};
+ghost use Rattle.bit_events.specs.Standing.{leaves, stands_after};
+ghost use Rattle.bit_grammar.specs.Setting.{keeps, keeps_record, setting_of};
+ghost use Rattle.bit_grammar.specs.Under.{ids_after, innermost};
+
+use crate::event::Event;
+use bit_grammar::Info;
+use std::alloc::{AllocError, Global};
+use std::marker::Model;
+
+/// A block that is open, or the top, which has the id 0.
+#[derive(Clone, Copy)]
+struct Around {
+    id: u32,
+    /// The block is left, and so is each block round it.
+    is_left: bool,
+    /// It is left with all its records.
+    is_whole: bool,
+}
+
+/// What is left outside all blocks.
+const fn top() -> Around
+    ensures { result ≡ record { id = 0; is_left = true; is_whole = true } }
+{
+    Around {
+        id: 0,
+        is_left: true,
+        is_whole: true,
+    }
+}
+
+/// A block that begins, in another one or at the top.
+fn judged(info: Info<'_>, around: Around, id: u32) -> Around
+    ensures id { result.id ≡ id }
+    ensures left { result.is_left ≡ (keeps (setting_of info.entry) id && around.is_left) }
+    ensures whole { result.is_whole ≡ true → (result.is_left ≡ true) × ((code : ℕ) → keeps_record (setting_of info.entry) id code ≡ true) }
+{
+    let is_left = info.keeps(id) && around.is_left;
+    Around {
+        id,
+        is_left,
+        is_whole: is_left && info.keeps_records(id),
+    }
+}
+
+/// The blocks that are open, under a setting. It takes where blocks begin and end, and tells what is left there.
+#[derive(Drop)]
+pub struct OpenBlocks<'a> {
+    info: Info<'a>,
+    /// The innermost block.
+    inner: Around,
+    /// The blocks round it and the top, the outermost first; nothing where no block is open.
+    outer: Vec<Around>,
+}
+
+impl<'a> Model for OpenBlocks<'a> {
+    ghost use Rattle.std.specs.Prelude.{reverse};
+    ghost use Rattle.bit_grammar.specs.Setting.{setting_of};
+    ghost use Rattle.bit_events.specs.Standing.{Standing, ids_of, AreJudged};
+
+    ghost Value = { Standing };
+
+    ghost view = { λ o. record { setting = setting_of o.info; ids = ids_of o.inner (reverse o.outer.items) } };
+
+    ghost invariant = { λ o. AreJudged (setting_of o.info) o.inner (reverse o.outer.items) };
+}
+
+impl<'a> OpenBlocks<'a> {
+    /// No block is open.
+    pub fn new(alloc: Global, info: Info<'a>) -> OpenBlocks<'a>
+        ensures { result ≡ record { setting = setting_of info.entry; ids = [] } }
+    {
+        OpenBlocks {
+            info,
+            inner: top(),
+            outer: Vec::new(alloc),
+        }
+    }
+
+    /// Whether each open block is left.
+    #[inline]
+    pub fn is_left(&self) -> bool
+        ensures { result ≡ list_all (keeps self.now.setting) self.now.ids }
+    {
+        self.inner.is_left
+    }
+
+    /// Whether a record with this code is left where it stands directly in the innermost block.
+    #[inline(always)]
+    pub fn leaves_record(&self, code: u64) -> bool
+        ensures { result ≡ (list_all (keeps self.now.setting) self.now.ids && keeps_record self.now.setting (innermost self.now.ids) code) }
+    {
+        if self.inner.is_whole {
+            return true;
+        }
+        self.inner.is_left && self.info.keeps_record(self.inner.id, code)
+    }
+
+    /// Takes where a block begins, and answers whether it is left. Where memory is refused no block began.
+    pub fn enter(&mut self, id: u32) -> Result<bool, AllocError>
+        ensures left { IfOk result (λ left. left ≡ list_all (keeps self.old.setting) (id ∷ self.old.ids)) }
+        ensures ids { OnOk result (self.new ≡ record self.old { ids = id ∷ self.old.ids }) }
+        ensures stays { OnErr result (self.new ≡ self.old) }
+    {
+        let inner = judged(self.info, self.inner, id);
+        self.outer.push(self.inner)?;
+        self.inner = inner;
+        Ok(inner.is_left)
+    }
+
+    /// Takes an event, and answers whether it is left. Where memory is refused none came.
+    pub fn take(&mut self, event: Event<'_>) -> Result<bool, AllocError>
+        ensures left { IfOk result (λ left. left ≡ leaves self.old (shown event.entry)) }
+        ensures stands { OnOk result (self.new ≡ stands_after (shown event.entry) self.old) }
+        ensures stays { OnErr result (self.new ≡ self.old) }
+    {
+        match event {
+            Event::Enter { id, .. } => self.enter(id),
+            Event::Define { .. } => Ok(self.is_left()),
+            Event::Record { code, .. } => Ok(self.leaves_record(code)),
+            Event::Leave { .. } => Ok(self.leave()),
+        }
+    }
+
+    /// Takes where the innermost block ends, and answers whether its end is left.
+    pub fn leave(&mut self) -> bool
+        ensures left { result ≡ list_all (keeps self.old.setting) self.old.ids }
+        ensures ids { (after : ℕ) → self.new ≡ record self.old { ids = ids_after (machine.leaves after) self.old.ids } }
+    {
+        let is_left = self.inner.is_left;
+        if let Some(around) = self.outer.pop() {
+            self.inner = around;
+        }
+        is_left
+    }
+}
