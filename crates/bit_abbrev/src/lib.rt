@@ -1,4 +1,5 @@
-//! Abbreviations, abbreviated records, and the table of the definitions that BLOCKINFO blocks make.
+//! Abbreviations, abbreviated records, and the table of the definitions that BLOCKINFO blocks make. Begin with `read_define`, which
+//! reads a definition, and `read_abbreviated`, which reads a record by it.
 #![tactic(auto)]
 
 mod abbrev;

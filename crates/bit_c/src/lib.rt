@@ -1,5 +1,5 @@
-//! Calls for C: the same promises inside another program. Each call has at its end the status, and of a refusal the reason, the
-//! bit and the input; what a C caller owes stands in `capi/bitstream.h`.
+//! Calls for C: the same promises inside another program. Begin with `bs_check` and `bs_normal`. Each call has at its end the
+//! status, and of a refusal the reason, the bit and the input; what a C caller owes stands in `capi/bitstream.h`.
 #![tactic(auto)]
 
 mod analysing;

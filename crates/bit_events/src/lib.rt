@@ -1,4 +1,6 @@
-//! The events of a stream: block begins, definitions, records and block ends, as a machine finds them.
+//! The events of a stream: block begins, definitions, records and block ends, as a machine finds them. Begin with `check`, which
+//! says whether an input is accepted, and `Events::start`, which gives its events one at a time; `fold` is the fast way to take
+//! them all into a `Gatherer` of one's own.
 #![tactic(auto)]
 
 mod checking;

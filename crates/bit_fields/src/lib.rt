@@ -1,5 +1,6 @@
 //! Bits from the bytes of a source, and bytes for a sink from bits: the fields of the bitstream format of LLVM's
-//! "LLVM Bitcode File Format", each call told by a rule of `bit_grammar`.
+//! "LLVM Bitcode File Format", each call told by a rule of `bit_grammar`. Begin with `BitReader::start`, which reads the wrapper
+//! and the magic of a `Source` under `Limits`, and with `BitWriter::new` over a `Sink`.
 #![tactic(auto)]
 
 mod ahead;

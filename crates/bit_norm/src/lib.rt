@@ -1,4 +1,6 @@
-//! The normal form of a document or an input: its length, and writing it; and whether two inputs hold the same.
+//! Normal forms, and comparing. Begin with `normalise`, which gives a sink the normal form of an input, `same`, which says whether
+//! two inputs hold the same, and `first_difference`, which says where they first differ; `write_normal` writes the normal form of a
+//! `Document`.
 #![tactic(auto)]
 
 mod comparing;

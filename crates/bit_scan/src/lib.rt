@@ -1,4 +1,5 @@
-//! What a stream holds: the analysis by block id and record code, its report, and the listing of a tree.
+//! What a stream holds, in numbers and as text. Begin with `analyse`, which counts by block id and record code, `write_show`, which
+//! lists a tree, and `write_events`, which lists events as they are read.
 #![tactic(auto)]
 
 mod analysing;

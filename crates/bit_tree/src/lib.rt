@@ -1,4 +1,6 @@
-//! Trees of blocks and records, and the events of a stream.
+//! Trees of blocks and records. Begin with `read`, which reads an input as a tree with the bits of each item, and `tree_of`, which
+//! leaves these out; `Document::new` judges a tree that was made by hand. Who only walks over an input takes `Events`, which needs
+//! no memory for a tree.
 #![tactic(auto)]
 
 #[cfg(test)]

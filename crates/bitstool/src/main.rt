@@ -1,4 +1,5 @@
-//! The program: checks, normalises, compares, analyses and lists inputs in the LLVM bitstream container, from the command line.
+//! The program: checks, normalises, compares, analyses and lists inputs in the LLVM bitstream container, from the command line. Begin
+//! with `run`.
 #![tactic(auto)]
 
 mod devices;
