@@ -11,10 +11,8 @@ use crate::head::BlockHead;
 use crate::heads::granted;
 use bit_abbrev::{Abbrev, InForce, InfoTable, read_abbreviated, read_define, read_unabbreviated};
 use bit_fields::{BitReader, Fault, Reason, Shapes, Source, ValueTaker};
+use bit_grammar::SET_BID;
 use std::alloc::{AllocError, Global};
-
-/// The code of the records of a BLOCKINFO block that say which block is described.
-const SET_BID: u64 = 1;
 
 /// In a BLOCKINFO block: the id of the block that is described, and the table that is being made.
 #[derive(Drop)]

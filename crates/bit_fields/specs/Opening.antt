@@ -5,6 +5,7 @@ use Rattle.bit_grammar.specs.Grammar as grammar
 use Rattle.bit_grammar.specs.Grammar.{Grammar, reading, ◌and_then◌}
 use Rattle.bit_grammar.specs.Fields.{fixed}
 use Rattle.bit_grammar.specs.Blocks.{Limits}
+use Rattle.bit_grammar.specs.Normal.{most_bytes, most_depth, most_values}
 use Rattle.bit_grammar.specs.Input as input
 use Rattle.bit_grammar.specs.Input.{wrapper_and_gap, inner_magic, outer_wrapper, is_wrapped}
 use Rattle.bit_fields.specs.declared.fault.Fault.{Fault}
@@ -16,7 +17,7 @@ use Rattle.bit_fields.specs.Reader.{Reader, TellsBytes, Breaks, GoesOn}
 
 -- a limit is past its cap
 abbrev pub PassCaps : Limits → Type 0
-PassCaps l = (17179869180 < l.bytes) ⊎ ((255 < l.depth) ⊎ (4294967295 < l.values))
+PassCaps l = (most_bytes < l.bytes) ⊎ ((most_depth < l.depth) ⊎ (most_values < l.values))
 
 -- ---- heads, as the code and as the rules have them
 

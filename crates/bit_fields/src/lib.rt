@@ -31,7 +31,7 @@ mod writer_laws;
 mod writer_tests;
 
 pub use ahead::{Ahead, Sight};
-pub use bit_grammar::{Reason, Shapes};
+pub use bit_grammar::{MOST_BYTES, MOST_DEPTH, MOST_VALUES, Reason, Shapes};
 pub use fault::Fault;
 pub use head::{Head, Wrapper};
 pub use kept::KeptSource;

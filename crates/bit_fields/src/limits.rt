@@ -1,20 +1,11 @@
 ghost use Rattle.std.specs.Prelude.{◌≡◌, ◌≤◌, MatchOption};
 ghost use Rattle.bit_grammar.specs.declared.shapes.Shapes.TheVariants.{AtDefinition, AtUse};
 ghost use Rattle.bit_grammar.specs.Blocks.{judged_at};
-ghost use Rattle.bit_grammar.specs.Normal.{Capped};
+ghost use Rattle.bit_grammar.specs.Normal.{usual_limits, Capped};
 ghost use Rattle.bit_fields.specs.Opening.{PassCaps};
 
-use bit_grammar::Shapes;
+use bit_grammar::{MOST_BYTES, MOST_DEPTH, MOST_VALUES, Shapes};
 use std::marker::Model;
-
-/// The most bytes that `Limits` allow: `4 * (2^32 - 1)`, so that every block's length of a normal form fits its field.
-const MOST_BYTES: u64 = 17_179_869_180;
-
-/// The deepest nesting that `Limits` allow.
-const MOST_DEPTH: u32 = 255;
-
-/// The most values that `Limits` allow: `2^32 - 1`.
-const MOST_VALUES: u64 = 4_294_967_295;
 
 /// How much of an input is taken, and where the shapes of its definitions are judged. Zero is allowed for each number.
 #[derive(Clone, Copy, Debug, PartialEq, Eq)]
@@ -59,7 +50,7 @@ impl Limits {
 
     /// The limits that serve most inputs: 1 GiB, depth 64, 134,217,728 values. Shapes are judged at the definition.
     pub fn usual() -> Limits
-        ensures usual { result ≡ record { bytes = 1073741824; depth = 64; values = 134217728; shapes = AtDefinition } }
+        ensures usual { result ≡ usual_limits }
         ensures capped { Capped result }
     {
         Limits {

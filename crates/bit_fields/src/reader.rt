@@ -20,11 +20,8 @@ use crate::inflow::{Inflow, Missing};
 use crate::limits::Limits;
 use crate::numbers::{MOST_SHORT, is_lawful, payload_of, placed};
 use crate::source::{Source, SourceFailed};
-use bit_grammar::Reason;
+use bit_grammar::{Reason, WRAPPER_MAGIC};
 use std::marker::Model;
-
-/// The number that the first four bytes of a wrapped input spell.
-const WRAPPER_MAGIC: u64 = 0x0B17_C0DE;
 
 /// Reads the fields of a stream of bits.
 ///

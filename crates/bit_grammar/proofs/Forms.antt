@@ -8,7 +8,7 @@ use Rattle.bit_grammar.specs.Bits.{bits_of_bytes}
 use Rattle.bit_grammar.specs.Forest.{Forest, empty, a_block, a_record, Tree, forest_values, Fit}
 use Rattle.bit_grammar.specs.Blocks.{Limits}
 use Rattle.bit_grammar.specs.Input.{Marked, tree_of, SpellsInput}
-use Rattle.bit_grammar.specs.Normal.{normal_form, Capped, HasTree}
+use Rattle.bit_grammar.specs.Normal.{normal_form, most_bytes, most_depth, Capped, HasTree}
 use Rattle.bit_grammar.specs.Size.{shortest_length, values_length, record_length, body_at, body_length, end_of, size_of}
 use Rattle.bit_grammar.proofs.Bytes.{bytes_length}
 use Rattle.bit_grammar.proofs.Inputs.{one_tree}
@@ -36,7 +36,7 @@ items_take (a_record code values rest) p = omega (arith, values_take values, ite
 
 -- limits that each tree keeps to whose normal form fits
 abbrev widest : Limits
-widest = record { bytes = 17179869180; depth = 255; values = 8 * 17179869180; shapes = AtDefinition }
+widest = record { bytes = most_bytes; depth = most_depth; values = 8 * 17179869180; shapes = AtDefinition }
 
 form_has : (tree : Tree) (bytes : List ℕ) → Fit tree → bits_of_bytes bytes ≡ normal_form tree → length bytes ≤ 17179869180 → IsSpelled widest bytes tree
 form_has tree bytes fit is fits =

@@ -10,11 +10,11 @@ use Rattle.bit_grammar.specs.Marks.{Marks, forest_of}
 use Rattle.bit_grammar.specs.Blocks.{Limits, judged_at}
 use Rattle.bit_grammar.specs.Whole.{made_by}
 use Rattle.bit_grammar.specs.Input.{tree_of, reading_input}
-use Rattle.bit_grammar.specs.Normal.{normal_form}
+use Rattle.bit_grammar.specs.Normal.{normal_form, usual_limits}
 
 -- the usual limits, and the same with another limit on bytes, on depth or on values
 abbrev pub usual : Limits
-usual = record { bytes = 1073741824; depth = 64; values = 134217728; shapes = AtDefinition }
+usual = usual_limits
 
 abbrev pub with_bytes : ℕ → Limits
 with_bytes n = record usual { bytes = n }

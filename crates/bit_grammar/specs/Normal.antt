@@ -8,6 +8,7 @@ use Rattle.bit_grammar.specs.Forest.{Forest, empty, a_block, a_record, Tree}
 use Rattle.bit_grammar.specs.Setting.{Setting}
 use Rattle.bit_grammar.specs.Under.{under}
 use Rattle.bit_grammar.specs.Blocks.{Limits}
+use Rattle.bit_grammar.specs.declared.shapes.Shapes.TheVariants.{AtDefinition}
 use Rattle.bit_grammar.specs.Input.{Marked, tree_of, SpellsInput}
 
 -- bits that go by the position of the first of them
@@ -55,11 +56,25 @@ normal (a_record code values rest) = chain (chain (put (bits_of 2 3)) (put (entr
 unfoldable pub normal_form : Tree → List Bool
 normal_form tree = chain (put (bits_of 32 tree.magic)) (normal tree.blocks) 0
 
+-- The greatest limits. So many bytes are all that a block's length in words can tell: 4 * (2^32 - 1).
+abbrev pub most_bytes : ℕ
+most_bytes = 17179869180
+
+abbrev pub most_depth : ℕ
+most_depth = 255
+
+abbrev pub most_values : ℕ
+most_values = 4294967295
+
+-- the limits that are meant where none are given
+abbrev pub usual_limits : Limits
+usual_limits = record { bytes = 1073741824; depth = 64; values = 134217728; shapes = AtDefinition }
+
 -- limits within which each length of a normal form fits its field
 pub record Capped (limits : Limits) : Type 0 where
-  pub bytes : limits.bytes ≤ 17179869180
-  pub depth : limits.depth ≤ 255
-  pub values : limits.values ≤ 4294967295
+  pub bytes : limits.bytes ≤ most_bytes
+  pub depth : limits.depth ≤ most_depth
+  pub values : limits.values ≤ most_values
 
 -- these bytes spell a marked tree with this tree under a setting
 abbrev pub HasTree : Setting → Limits → List ℕ → Tree → Type 0

@@ -1,7 +1,7 @@
 ghost use Rattle.std.specs.Prelude.{◌≡◌, ℕ, ◌<◌, ◌≤◌, List, length, ◌*◌, ◌+◌, ◌-◌, ◌%◌};
 ghost use Rattle.bit_grammar.specs.Bits.{bits_of_bytes};
 ghost use Rattle.bit_grammar.specs.Forest.{Tree, forest_depth, forest_values, Fit, Forest, AreBlocks};
-ghost use Rattle.bit_grammar.specs.Normal.{normal_form, Capped, HasTree, chain, normal, end_text};
+ghost use Rattle.bit_grammar.specs.Normal.{normal_form, most_bytes, Capped, HasTree, chain, normal, end_text};
 ghost use Rattle.bit_grammar.specs.Fields.{vbr, chunk_limit};
 ghost use Rattle.bit_grammar.specs.FormatFields.{shortest};
 ghost use Rattle.bit_grammar.specs.Blocks.{Limits, block};
@@ -32,7 +32,7 @@ pub fn one_tree_of_normal()
 /// Fit trees with the same normal form are the same, where the form is no longer than the cap on bytes, so that each length
 /// in it fits its field.
 pub fn one_tree_of_form()
-    ensures { (a b : Tree) → Fit a → Fit b → size_of a ≤ 17179869180 → normal_form a ≡ normal_form b → a ≡ b }
+    ensures { (a b : Tree) → Fit a → Fit b → size_of a ≤ most_bytes → normal_form a ≡ normal_form b → a ≡ b }
 {}
 
 /// Under each setting and limits within their caps, where the normal form of what an input spells fits the limit on bytes:

@@ -2,7 +2,7 @@ ghost use Rattle.std.specs.Prelude.{◌≡◌, ◌+◌, ◌*◌, ◌/◌, ◌%�
 ghost use Rattle.bit_grammar.specs.Machine.{Event, Opened, enters, notes, leaves};
 ghost use Rattle.bit_grammar.specs.Marks.{RecordMark};
 ghost use Rattle.bit_grammar.specs.Setting.{setting_of};
-ghost use Rattle.bit_grammar.specs.Normal.{values_text, end_text, normal};
+ghost use Rattle.bit_grammar.specs.Normal.{most_bytes, values_text, end_text, normal};
 ghost use Rattle.bit_events.specs.Gathering.{left_open};
 ghost use Rattle.bit_fields.specs.Texts.{with_word};
 ghost use Rattle.bit_norm.specs.Told.{told_at_level};
@@ -30,7 +30,7 @@ fn add_head(text: &mut BitText, id: u32) -> Result<(), AllocError>
 
 /// Adds the end of a block, and puts its length in its place.
 fn close_block(text: &mut BitText, hole: u64) -> Result<(), AllocError>
-    requires few { length text.old / 8 ≤ 17179869180 }
+    requires few { length text.old / 8 ≤ most_bytes }
     requires there { 32 * hole + 32 ≤ length text.old }
     ensures { OnOk result ((words : ℕ) → 32 * (hole + 1 + words) ≡ length text.old + length (end_text (length text.old)) → text.new ≡ with_word hole words (text.old ++ end_text (length text.old))) }
 {

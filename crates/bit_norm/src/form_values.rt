@@ -1,7 +1,7 @@
 ghost use Rattle.std.specs.Prelude.{◌≡◌, ◌+◌, ◌*◌, ◌/◌, ◌^◌, ◌<◌, ◌≤◌, ℕ, List, [], ◌∷◌, ◌++◌, length, min, take, true, false, IfSome, OnOk, OnErr};
 ghost use Rattle.bit_norm.specs.Building.{HoldsText, HasTaken};
 ghost use Rattle.bit_norm.specs.declared.form_values.Holding.TheVariants.{All, Unknown};
-ghost use Rattle.bit_grammar.specs.Normal.{values_text};
+ghost use Rattle.bit_grammar.specs.Normal.{most_bytes, values_text};
 
 use bit_fields::{BitText, Limits, ValueTaker};
 use std::alloc::{AllocError, Global};
@@ -41,7 +41,7 @@ pub(crate) fn is_long(text: &BitText, limits: Limits) -> bool
     ensures yes { result ≡ true → limits.bytes < length text.now / 8 }
     ensures no { result ≡ false → length text.now / 8 ≤ limits.bytes }
     ensures few { result ≡ false → length text.now < 2 ^ 38 }
-    ensures capped { limits.bytes ≤ 17179869180 }
+    ensures capped { limits.bytes ≤ most_bytes }
 {
     text.len() / 8 > limits.bytes()
 }

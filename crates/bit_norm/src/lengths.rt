@@ -1,6 +1,7 @@
 ghost use Rattle.std.specs.Prelude.{◌≡◌, ◌+◌, ◌*◌, ◌/◌, ◌^◌, ◌<◌, ◌≤◌, length, IfSome, MatchOption};
 ghost use Rattle.bit_grammar.specs.Forest.{Tree};
 ghost use Rattle.bit_grammar.specs.Size.{shortest_length, values_length, record_length, aligned, body_at, body_length, end_of, size_of};
+ghost use Rattle.bit_grammar.specs.Normal.{most_bytes};
 ghost use Rattle.bit_norm.specs.Saturated.{saturated};
 ghost use Rattle.bit_tree.specs.TreeView.{forest_of_blocks};
 
@@ -116,7 +117,7 @@ pub(crate) fn body_words(items: &Items) -> u64
 /// How many bytes the normal form of a tree with these blocks has, or `None` where they pass the limit on bytes.
 pub(crate) fn form_len(blocks: &[Block], limits: Limits) -> Option<u64>
     ensures len { (tree : Tree) → tree.blocks ≡ forest_of_blocks blocks.now → MatchOption result (limits.bytes < size_of tree) (λ bytes. (bytes ≡ size_of tree) × (bytes ≤ limits.bytes)) }
-    ensures capped { IfSome result (λ bytes. bytes ≤ 17179869180) }
+    ensures capped { IfSome result (λ bytes. bytes ≤ most_bytes) }
 {
     let bytes = end_of_blocks(blocks, 32) / 8;
     if bytes <= limits.bytes() {
@@ -129,7 +130,7 @@ pub(crate) fn form_len(blocks: &[Block], limits: Limits) -> Option<u64>
 /// How many bytes the normal form of a document has, or `None` where they pass the limit on bytes. It takes no memory.
 pub fn normal_len(doc: &Document, limits: Limits) -> Option<u64>
     ensures len { MatchOption result (limits.bytes < size_of doc.now) (λ bytes. (bytes ≡ size_of doc.now) × (bytes ≤ limits.bytes)) }
-    ensures capped { IfSome result (λ bytes. bytes ≤ 17179869180) }
+    ensures capped { IfSome result (λ bytes. bytes ≤ most_bytes) }
 {
     form_len(doc.blocks(), limits)
 }

@@ -6,19 +6,14 @@ ghost use Rattle.bit_tree.specs.Judging.{InRange, describes_blocks, keeps_info_r
 ghost use Rattle.bit_tree.specs.TreeView.{forest_of_blocks};
 
 use crate::tree::{Block, Item, Items};
-
-/// The code of the records of a BLOCKINFO block that say which block is described.
-const SET_BID: u64 = 1;
-
-/// The magic with which a wrapper begins, its low byte first.
-const WRAPPER_MAGIC: u32 = 0x0B17C0DE;
+use bit_grammar::{SET_BID, WRAPPER_MAGIC};
 
 /// Whether the magic is that of a wrapper.
 pub(crate) fn is_wrapper(magic: [u8; 4]) -> bool
     ensures wrapper { IsTrue result ↔ (magic_number magic ≡ wrapper_magic) }
     ensures fits { magic_number magic < 2 ^ 32 }
 {
-    u32::from_le_bytes(magic) == WRAPPER_MAGIC
+    u64::from(u32::from_le_bytes(magic)) == WRAPPER_MAGIC
 }
 
 /// Whether the first value is a block id.

@@ -7,7 +7,7 @@ ghost use Rattle.bitstool.specs.Words.{numbered, FindsAll, HasAllLimits, HasLimi
 ghost use Rattle.bitstool.specs.Words.{bitstool, flag_rule, limit_rule, limited, number_rule, dropping, comparing, telling};
 
 use crate::task::{Parsed, Task};
-use bit_fields::{Limits, Shapes};
+use bit_fields::{Limits, MOST_BYTES, MOST_DEPTH, MOST_VALUES, Shapes};
 use bit_scan::Values;
 use bit_tree::Info;
 use clap::builder::ValueParser;
@@ -17,9 +17,6 @@ use std::alloc::{AllocError, Global};
 
 /// The version of the program.
 const VERSION: &str = "1.0.0";
-
-/// The greatest number of bytes of an input.
-const MOST_BYTES: u64 = 17_179_869_180;
 
 const ABOUT: &str =
     "Reads files in the LLVM bitstream container: bitcode modules, precompiled headers, diagnostics. \
@@ -114,14 +111,14 @@ fn numbered<'a>(alloc: Global, name: &'a str, about: &'a str) -> Result<Command<
         alloc,
         "depth",
         "64",
-        255,
+        u64::from(MOST_DEPTH),
         "How deep blocks may stand in one another; at most 255",
     );
     let values = limit(
         alloc,
         "values",
         "134217728",
-        4_294_967_295,
+        MOST_VALUES,
         "The most values that the records may have in all; at most 4294967295",
     );
     Command::new(alloc, name)
