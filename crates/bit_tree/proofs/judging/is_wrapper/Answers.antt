@@ -10,4 +10,5 @@ returns-clause-fits c = omega (arith, c.from_le_bytes.ensures, magic_is c.args.m
 pub returns-clause-wrapper : goal.returns-clause-wrapper
 returns-clause-wrapper c =
     let same : c.from_le_bytes.result ≡ magic_number c.args.magic = c.from_le_bytes.ensures ∙ magic_is c.args.magic (search rules) (search rules) in
-    (λ t. sym same ∙ eqb-true _ _ t, λ e. eq-eqb _ _ (same ∙ e))
+    let widened : c.from.result ≡ magic_number c.args.magic = c.from.ensures ∙ same in
+    (λ t. sym widened ∙ eqb-true _ _ t, λ e. eq-eqb _ _ (widened ∙ e))
