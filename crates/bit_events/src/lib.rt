@@ -16,6 +16,7 @@ mod heads;
 mod machine;
 mod open_blocks;
 mod running;
+mod with_first;
 
 pub use checking::{check, check_keeping};
 pub use event::Event;
