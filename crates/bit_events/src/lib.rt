@@ -15,6 +15,8 @@ mod head;
 mod heads;
 mod machine;
 mod open_blocks;
+#[cfg(test)]
+mod open_blocks_tests;
 mod running;
 mod with_first;
 
