@@ -18,6 +18,7 @@ mod open_blocks;
 #[cfg(test)]
 mod open_blocks_tests;
 mod running;
+mod with_first;
 
 pub use checking::{check, check_keeping};
 pub use event::Event;
