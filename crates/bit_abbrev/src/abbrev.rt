@@ -5,6 +5,7 @@ ghost use Rattle.bit_grammar.specs.Definition.{fits, place_after, kind_of, has_s
 ghost use Rattle.bit_grammar.specs.FormatDefinition.{Definable, Lawful};
 ghost use Rattle.bit_abbrev.specs.Breaks.{IsFirstBreak, LiteralFits, break_of};
 
+use crate::widths::{is_fixed_width, is_vbr_width};
 use bit_grammar::{Kind, Op, Place, Reason};
 use smallvec::SmallVec;
 use std::alloc::{AllocError, Global};
@@ -104,8 +105,8 @@ fn break_of(place: Place, after: u64, op: Op) -> Option<Reason>
         return Some(Reason::AbbrevShape);
     }
     match op {
-        Op::Fixed(width) if width > 32 => Some(Reason::FieldWidth),
-        Op::Vbr(width) if width > 32 || width == 1 => Some(Reason::FieldWidth),
+        Op::Fixed(width) if !is_fixed_width(u64::from(width)) => Some(Reason::FieldWidth),
+        Op::Vbr(width) if !is_vbr_width(u64::from(width)) => Some(Reason::FieldWidth),
         _ => None,
     }
 }

@@ -7,6 +7,7 @@ ghost use Rattle.bit_grammar.specs.FormatDefinition.{HasLawfulValue, Definable};
 ghost use Rattle.bit_fields.specs.Reader.{Takes, IsOnly, told_by};
 
 use crate::abbrev::{Abbrev, Ops, fits, place_after};
+use crate::widths::{is_fixed_width, is_vbr_width};
 use bit_fields::{BitReader, Fault, Source};
 use bit_grammar::{Kind, Op, Place, Reason, Shapes};
 use smallvec::SmallVec;
@@ -46,13 +47,13 @@ fn read_value<S: Source>(reader: &mut BitReader<S>, kind: Kind) -> Result<Op, Fa
         Kind::Fixed => {
             let place = reader.position();
             let width = reader.vbr(5)?;
-            reader.judge(width <= 32, Reason::FieldWidth, place)?;
+            reader.judge(is_fixed_width(width), Reason::FieldWidth, place)?;
             Ok(Op::Fixed(width as u8))
         }
         Kind::Vbr => {
             let place = reader.position();
             let width = reader.vbr(5)?;
-            reader.judge(width <= 32 && width != 1, Reason::FieldWidth, place)?;
+            reader.judge(is_vbr_width(width), Reason::FieldWidth, place)?;
             Ok(Op::Vbr(width as u8))
         }
         Kind::Array => Ok(Op::Array),

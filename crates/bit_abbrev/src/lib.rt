@@ -19,6 +19,7 @@ mod record;
 #[cfg(test)]
 mod tests;
 mod unabbreviated;
+mod widths;
 
 pub use abbrev::{Abbrev, BadAbbrev, Ops};
 pub use bit_grammar::Op;

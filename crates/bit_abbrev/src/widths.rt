@@ -1,0 +1,20 @@
+//! Which widths the fields of records may have. Source: "DEFINE_ABBREV Encoding"; the greatest width is LLVM's reader's.
+
+ghost use Rattle.std.specs.Prelude.{◌≡◌};
+ghost use Rattle.bit_grammar.specs.Definition.{fixed_lawful, vbr_lawful};
+
+/// Whether a fixed field may have so many bits.
+#[inline]
+pub(crate) fn is_fixed_width(width: u64) -> bool
+    ensures { result ≡ fixed_lawful width }
+{
+    width <= 32
+}
+
+/// Whether the chunks of a VBR may have so many bits.
+#[inline]
+pub(crate) fn is_vbr_width(width: u64) -> bool
+    ensures { result ≡ vbr_lawful width }
+{
+    width <= 32 && width != 1
+}
