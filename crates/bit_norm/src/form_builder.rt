@@ -1,11 +1,7 @@
 ghost use Rattle.std.specs.Prelude.{◌≡◌, ◌+◌, ◌*◌, ◌/◌, ◌%◌, ◌^◌, ◌<◌, ◌≤◌, ℕ, List, [], ◌∷◌, ◌++◌, length, true, false, IfSome, MatchOption, OnOk};
 ghost use Rattle.bit_grammar.specs.Machine.{Event};
 ghost use Rattle.bit_grammar.specs.Setting.{setting_of};
-<<<<<<< HEAD
-ghost use Rattle.bit_grammar.specs.Normal.{most_bytes, values_text, end_text, normal};
-=======
-ghost use Rattle.bit_grammar.specs.Normal.{values_text, end_text};
->>>>>>> ad6c90067009c20158a7409821588fe6258be14c
+ghost use Rattle.bit_grammar.specs.Normal.{most_bytes, values_text, end_text};
 ghost use Rattle.bit_events.specs.Gathering.{left_open};
 ghost use Rattle.bit_fields.specs.Texts.{with_word};
 ghost use Rattle.bit_events.specs.MachineView.{TookSome};

@@ -3,7 +3,7 @@
 #![tactic(auto)]
 
 ghost use Rattle.std.specs.Prelude.{◌≡◌, ℕ, List, Some, IfOk};
-ghost use Rattle.example.specs.Forms.{IsFormOf};
+ghost use Rattle.example.specs.Forms.{IsNormalForm};
 
 mod outline;
 
@@ -17,7 +17,7 @@ use std::process::ExitCode;
 /// A sink that has the normal form of the tree that bytes spell.
 fn normal_form(alloc: Global, bytes: &[u8], limits: Limits) -> Result<VecSink, Fault>
     ensures { IfOk result (λ sink. (form : List ℕ)
-        × ((⟦<VecSink as Sink>⟧.outgoing sink).bytes ≡ Some form) × IsFormOf limits bytes.now form) }
+        × ((⟦<VecSink as Sink>⟧.outgoing sink).bytes ≡ Some form) × IsNormalForm limits bytes.now form) }
 {
     let source = SliceSource::new(bytes);
     let (written, _, form) = normalise(alloc, source, VecSink::new(alloc), limits, Info::Keep);
