@@ -2,13 +2,9 @@
 use Rattle.std.specs.Prelude.{◌≡◌, ⊤, ℕ, List}
 use Rattle.bit_grammar.specs.Grammar.{at}
 use Rattle.bit_grammar.specs.Blocks as blocks
-use Rattle.bit_grammar.specs.Input.{Marked, SpellsInput, BreaksInput}
+use Rattle.bit_grammar.specs.Input.{Marked, SpellsInput, BreaksInput, Accepts}
 use Rattle.bit_c.specs.declared.outcome.Outcome.{Outcome}
 use Rattle.bit_c.specs.declared.outcome.Outcome.TheVariants.{Done, Refused, Memory}
-
--- these bytes spell a marked tree
-abbrev pub Accepts : blocks.Limits → List ℕ → Type 0
-Accepts limits bytes = (m : Marked) × SpellsInput limits bytes m
 
 -- the bytes break so; or no memory
 abbrev pub Fails : blocks.Limits → List ℕ → Outcome → Type 0

@@ -4,13 +4,12 @@ use Rattle.bit_grammar.specs.Setting.{Setting}
 use Rattle.bit_grammar.specs.Grammar.{at}
 use Rattle.bit_grammar.specs.Forest.{Tree}
 use Rattle.bit_grammar.specs.Blocks as blocks
-use Rattle.bit_grammar.specs.Input.{BreaksInput}
+use Rattle.bit_grammar.specs.Input.{BreaksInput, Accepts}
 use Rattle.bit_grammar.specs.Normal.{HasTree}
 use Rattle.bit_norm.specs.declared.comparing.Which.{Which}
 use Rattle.bit_norm.specs.declared.comparing.Which.TheVariants.{First, Second}
 use Rattle.bit_c.specs.declared.outcome.Outcome.{Outcome}
 use Rattle.bit_c.specs.declared.outcome.Outcome.TheVariants.{Done, Different, Refused, Memory}
-use Rattle.bit_c.specs.Calls.{Accepts}
 
 -- the number of an input
 abbrev pub input_of : Which → ℕ

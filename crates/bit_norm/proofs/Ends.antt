@@ -10,7 +10,7 @@ use Rattle.bit_tree.specs.declared.tree.Block.{Block}
 use Rattle.bit_tree.specs.declared.tree.Item.{Item}
 use Rattle.bit_tree.specs.declared.tree.Item.TheVariants as item
 use Rattle.bit_tree.proofs.Placing.{item_placed, block_placed}
-use Rattle.bit_norm.specs.Saturated.{saturated}
+use Rattle.bit_grammar.specs.Bits.{saturated}
 
 -- a position that is counted too low is past the greatest number, and so is each after it
 end_saturated : (f : Forest) (p : ℕ) → saturated (end_of f (saturated p)) ≡ saturated (end_of f p)

@@ -1,5 +1,4 @@
 pub mod InStep
-pub mod Saturated
 pub mod Whole
 pub mod Building
 pub mod Entries

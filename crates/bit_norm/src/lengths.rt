@@ -2,7 +2,7 @@ ghost use Rattle.std.specs.Prelude.{◌≡◌, ◌+◌, ◌*◌, ◌/◌, ◌^�
 ghost use Rattle.bit_grammar.specs.Forest.{Tree};
 ghost use Rattle.bit_grammar.specs.Size.{shortest_length, values_length, record_length, aligned, body_at, body_length, end_of, size_of};
 ghost use Rattle.bit_grammar.specs.Normal.{most_bytes};
-ghost use Rattle.bit_norm.specs.Saturated.{saturated};
+ghost use Rattle.bit_grammar.specs.Bits.{saturated};
 ghost use Rattle.bit_tree.specs.TreeView.{forest_of_blocks};
 
 use bit_fields::Limits;

@@ -8,7 +8,8 @@ use Rattle.bit_grammar.specs.Tally.{CodeTally, BlockTally}
 use Rattle.bit_grammar.specs.Counting.{fresh_code, fresh_row, with_row}
 use Rattle.bit_scan.specs.Additions.{with_added}
 use Rattle.bit_scan.specs.CodesView.{code_tally, code_tallies, one_more, with_use}
-use Rattle.bit_scan.specs.Cut.{saturated, cut_code, cut_row, cut_rows}
+use Rattle.bit_scan.specs.Cut.{cut_code, cut_row, cut_rows}
+use Rattle.bit_grammar.specs.Bits.{saturated}
 use Rattle.bit_scan.specs.Indexed.{IsAbsent, AreDistinct}
 use Rattle.bit_scan.specs.Rows.{block_tally, block_tallies}
 use Rattle.bit_scan.specs.declared.rows.Addition.{Addition}

@@ -9,7 +9,8 @@ use Rattle.bit_events.specs.Gathering.{left_open}
 use Rattle.bit_grammar.specs.Counting.{OpenCount, Counts, no_counts, fresh_row, with_row, count_here, count_event, count_events}
 use Rattle.bit_scan.specs.Additions.{with_added}
 use Rattle.bit_scan.specs.Counting.{added_here}
-use Rattle.bit_scan.specs.Cut.{saturated, cut, cut_row, cut_rows}
+use Rattle.bit_scan.specs.Cut.{cut, cut_row, cut_rows}
+use Rattle.bit_grammar.specs.Bits.{saturated}
 use Rattle.bit_scan.specs.declared.rows.Addition.TheVariants as addition
 
 -- one event behind others

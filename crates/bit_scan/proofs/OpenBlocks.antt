@@ -8,7 +8,8 @@ use Rattle.bit_grammar.specs.Machine.{Opened, enters}
 use Rattle.bit_grammar.specs.Counting.{OpenCount, Counts, with_row, more_inside, count_event}
 use Rattle.bit_scan.specs.Additions.{with_added}
 use Rattle.bit_scan.specs.Counting.{open_count, open_onto, open_counts, added_here, Closes}
-use Rattle.bit_scan.specs.Cut.{saturated, cut_open, cut_rows, cut}
+use Rattle.bit_scan.specs.Cut.{cut_open, cut_rows, cut}
+use Rattle.bit_grammar.specs.Bits.{saturated}
 use Rattle.bit_scan.specs.declared.counter.OpenBlock.{OpenBlock}
 use Rattle.bit_scan.specs.declared.rows.Addition.{Addition}
 use Rattle.bit_scan.specs.declared.rows.Addition.TheVariants as addition

@@ -1,6 +1,6 @@
 -- Sums that stop at the greatest of 64 bits.
 use Rattle.std.proofs.Common.{◌≡◌, ℕ, ◌+◌, ◌-◌, ◌<◌, min, arith}
-use Rattle.bit_scan.specs.Cut.{saturated}
+use Rattle.bit_grammar.specs.Bits.{saturated}
 
 -- a sum of a number that stopped is the sum that stops
 pub sum_stops : (v n more : ℕ) → v ≡ saturated n → min (v + more) 18446744073709551615 ≡ saturated (n + more)

@@ -1,11 +1,8 @@
 -- Numbers as the code counts them: they stop at the greatest of 64 bits.
-use Rattle.std.specs.Prelude.{ℕ, min, List, map}
+use Rattle.bit_grammar.specs.Bits.{saturated}
+use Rattle.std.specs.Prelude.{List, map}
 use Rattle.bit_grammar.specs.Tally.{CodeTally, BlockTally}
 use Rattle.bit_grammar.specs.Counting.{OpenCount, Counts}
-
--- a number, or the greatest of 64 bits where it passes that
-abbrev pub saturated : ℕ → ℕ
-saturated n = min n 18446744073709551615
 
 -- ---- each number cut so
 

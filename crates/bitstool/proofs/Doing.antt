@@ -8,7 +8,7 @@ use Rattle.bit_grammar.specs.Bits.{bits_of_bytes}
 use Rattle.bit_grammar.specs.Grammar.{at}
 use Rattle.bit_grammar.specs.Forest.{Tree}
 use Rattle.bit_grammar.specs.Blocks.{Limits}
-use Rattle.bit_grammar.specs.Input.{BreaksInput}
+use Rattle.bit_grammar.specs.Input.{BreaksInput, Accepts}
 use Rattle.bit_grammar.specs.Normal.{HasTree, normal_form}
 use Rattle.bit_grammar.specs.Size.{size_of}
 use Rattle.bit_grammar.specs.Texts.{report_of, listing_of}
@@ -37,7 +37,7 @@ use Rattle.bitstool.specs.declared.task.Task.TheVariants.{Check, Normal, Same, W
 use Rattle.bitstool.specs.Performing.{Finds, FindsWhere, Found, Judges, Settles, TellsDifference, TellsFound, TellsLine, ended, outcome_found, outcome_of}
 use Rattle.bitstool.specs.Differences.{difference_text}
 use Rattle.bitstool.specs.LeftOut.{setting_for}
-use Rattle.bitstool.specs.Runs.{Told, Accepts, Answers, Refuses, StopsShort, LacksMemory, LeavesRefused, LeavesUnread, Stays, Takes, Leaves, Does, most_taken, Pays}
+use Rattle.bitstool.specs.Runs.{Told, Answers, Refuses, StopsShort, LacksMemory, LeavesRefused, LeavesUnread, Stays, Takes, Leaves, Does, most_taken, Pays}
 use Rattle.bitstool.proofs.Known.{gained, gained_front, gains_front, gains_text, gains_part, gains_kept, front_kept, if_told}
 use Rattle.bitstool.proofs.Taking.{drained, fails_more, spends_more, takes_done, takes_fault, takes_long, takes_memory, takes_write}
 

@@ -6,7 +6,7 @@ use Rattle.bit_grammar.specs.Grammar.{at}
 use Rattle.bit_grammar.specs.Forest.{Tree}
 use Rattle.bit_grammar.specs.Blocks.{Limits}
 use Rattle.bit_grammar.specs.Bits.{bits_of_bytes}
-use Rattle.bit_grammar.specs.Input.{BreaksInput, Marked, SpellsInput}
+use Rattle.bit_grammar.specs.Input.{BreaksInput, Marked, SpellsInput, Accepts}
 use Rattle.bit_grammar.specs.Normal.{HasTree}
 use Rattle.bit_fields.specs.declared.fault.Fault.{Fault}
 use Rattle.bit_fields.specs.declared.fault.Fault.TheVariants as fault
@@ -21,7 +21,7 @@ use Rattle.bitstool.specs.declared.outcome.Outcome.{Outcome}
 use Rattle.bitstool.specs.declared.outcome.Outcome.TheVariants.{Done, Different, Refused, RefusedOf, TooLong, Usage, Read, Write, Memory}
 use Rattle.bitstool.specs.declared.task.Task.{Task}
 use Rattle.bitstool.specs.Differences.{difference_text}
-use Rattle.bitstool.specs.Runs.{Told, Accepts, Answers, Refuses, EndsAs, Takes, Stays, Pays}
+use Rattle.bitstool.specs.Runs.{Told, Answers, Refuses, EndsAs, Takes, Stays, Pays}
 
 -- a sink took all of a text; or a front of it, since it failed
 abbrev pub PutsAll : List ℕ → Outgoing → Result (Unit {0}) SinkFailed → Outgoing → Type 0

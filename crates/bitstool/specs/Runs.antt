@@ -8,7 +8,7 @@ use Rattle.bit_grammar.specs.Bits.{bits_of_bytes}
 use Rattle.bit_grammar.specs.Grammar.{at}
 use Rattle.bit_grammar.specs.Forest.{Tree}
 use Rattle.bit_grammar.specs.Blocks.{Limits}
-use Rattle.bit_grammar.specs.Input.{Marked, SpellsInput, BreaksInput}
+use Rattle.bit_grammar.specs.Input.{Marked, SpellsInput, BreaksInput, Accepts}
 use Rattle.bit_grammar.specs.Normal.{HasTree, normal_form}
 use Rattle.bit_grammar.specs.Size.{size_of}
 use Rattle.bit_grammar.specs.Tally.{Tally}
@@ -36,10 +36,6 @@ use Rattle.bitstool.specs.Outcome.{status_of, line_of}
 -- the bytes of an input, or of what an output holds, where they are told
 abbrev pub Told : Type 0
 Told = Option (List ℕ)
-
--- these bytes spell a marked tree
-abbrev pub Accepts : Limits → List ℕ → Type 0
-Accepts limits bytes = (m : Marked) × SpellsInput limits bytes m
 
 -- the text that is written, as bits
 abbrev pub IsText : List ℕ → List Bool → Type 0

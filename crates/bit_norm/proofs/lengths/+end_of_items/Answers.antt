@@ -1,6 +1,6 @@
 use Rattle.std.proofs.Common.{◌≡◌, ◌∙◌, ◌+◌, ap, arith, refl}
 use Rattle.bit_grammar.specs.Size.{aligned, body_at, end_of}
-use Rattle.bit_norm.specs.Saturated.{saturated}
+use Rattle.bit_grammar.specs.Bits.{saturated}
 use Rattle.bit_norm.proofs.Ends.{item_end, after_item, block_saturated, no_more_items}
 use Rattle.bit_norm.proofs.lengths.+end_of_items.Goals as goal
 use Rattle.bit_norm.proofs.lengths.+end_of_items.Goals.{in-Record, in-Block}

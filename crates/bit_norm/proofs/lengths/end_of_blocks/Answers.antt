@@ -1,7 +1,7 @@
 use Rattle.std.proofs.Common.{◌≡◌, ◌∙◌, ◌+◌, ap, arith}
 use Rattle.bit_grammar.specs.Size.{aligned, body_at, end_of}
 use Rattle.bit_tree.specs.TreeView.{forest_of_blocks}
-use Rattle.bit_norm.specs.Saturated.{saturated}
+use Rattle.bit_grammar.specs.Bits.{saturated}
 use Rattle.bit_norm.proofs.Ends.{after_block, block_saturated, no_more_blocks}
 use Rattle.bit_norm.proofs.lengths.end_of_blocks.Goals as goal
 

@@ -1,7 +1,7 @@
 use Rattle.std.proofs.Common.{◌≡◌, ◌^◌, ◌<◌, drop}
 use Rattle.bit_grammar.specs.Size.{end_of}
 use Rattle.bit_tree.specs.TreeView.{forest_of_blocks}
-use Rattle.bit_norm.specs.Saturated.{saturated}
+use Rattle.bit_grammar.specs.Bits.{saturated}
 use Rattle.bit_norm.proofs.lengths.end_of_blocks.Given as goal
 
 abbrev pub invariant-loop-block : goal.invariant-loop-block

@@ -1,7 +1,7 @@
 use Rattle.std.proofs.Common.{◌≤◌, ◌/◌, ap, sym, ◌∙◌, arith}
 use Rattle.bit_grammar.specs.Forest.{Forest}
 use Rattle.bit_grammar.specs.Size.{end_of}
-use Rattle.bit_norm.specs.Saturated.{saturated}
+use Rattle.bit_grammar.specs.Bits.{saturated}
 use Rattle.bit_norm.proofs.Ends.{size_fits, size_passes}
 use Rattle.bit_norm.proofs.lengths.form_len.Goals as goal
 
