@@ -12,7 +12,7 @@ use Rattle.bit_fields.specs.Ahead.{InSight, reader_at}
 use Rattle.bit_fields.specs.Reader.{Reader, Took}
 use Rattle.bit_fields.proofs.Composing.{same_reading, took_then}
 use Rattle.bit_abbrev.specs.Plain.{scalars, IsBehindSingles}
-use Rattle.bit_abbrev.specs.Values.{Adds, AddsEach, AddsFew, PassesEach, Has, Gains}
+use Rattle.bit_abbrev.specs.Values.{Adds, AddsEach, AddsFew, PassesEach, Gains}
 use Rattle.bit_abbrev.proofs.Adding.{value_then, adds_none, Completes, whole, and_gives}
 
 -- ---- one after another
