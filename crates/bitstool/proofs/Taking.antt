@@ -1,15 +1,14 @@
 -- What commands take of their input.
-use Rattle.std.proofs.Common.{◌≡◌, ℕ, ◌+◌, ◌^◌, ◌-◌, ◌<◌, ◌≤◌, max, true, List, [], ◌∷◌, ◌++◌, length, Some, None, Ok, Err, refl, sym, ap, ◌∙◌, subst, inl, inr, arith, take, length-append, length-take}
+use Rattle.std.proofs.Common.{◌≡◌, ℕ, ◌+◌, ◌<◌, ◌≤◌, true, List, [], ◌∷◌, ◌++◌, length, Some, None, Ok, Err, refl, sym, ap, ◌∙◌, subst, inl, arith, take, length-append, length-take}
 use Rattle.std.specs.Prelude.{IsSome}
-use Rattle.std.specs.Io.KnownBytes.{Consumes, Keeps, prepend_known}
+use Rattle.std.specs.Io.KnownBytes.{Consumes, prepend_known}
 use Rattle.std.proofs.KnownBytes.{Consumes-trans}
-use Rattle.std.proofs.lemmas.Bool.{cases_lt}
 use Rattle.std.proofs.lemmas.List.{append_cancel_right}
 use Rattle.bit_grammar.specs.Blocks.{Limits}
 use Rattle.bit_fields.specs.declared.fault.Fault.{Fault}
 use Rattle.bit_fields.specs.declared.fault.Fault.TheVariants as fault
 use Rattle.bit_fields.specs.declared.source.SourceFailed.{SourceFailed}
-use Rattle.bit_fields.specs.Devices.{Account, SaysOf, Gave, GaveNone, Incoming, Spends, Fails, keeps_of, known_bytes}
+use Rattle.bit_fields.specs.Devices.{Account, SaysOf, Gave, Incoming, Spends, Fails, keeps_of, known_bytes}
 use Rattle.bit_fields.proofs.Keeping.{fails_within, spends_within}
 use Rattle.bit_events.proofs.Kept.{Stands}
 use Rattle.bit_events.specs.Reading.{ReadsWhole}
@@ -63,11 +62,6 @@ known_after None b bytes h told = absurd (cc)
 known_after (Some xs) None bytes h told = absurd h
 known_after (Some xs) (Some ys) bytes h told = (refl, ap length h ∙ length-append bytes ys)
 
-known_kept : (a b : Told) → Keeps a b → IsSome a → IsSome b × (length (known_bytes a) ≡ length (known_bytes b))
-known_kept None b h told = absurd (cc)
-known_kept (Some xs) None h told = absurd h
-known_kept (Some xs) (Some ys) h told = (refl, ap length (sym h))
-
 -- bytes that a pull gave, of which each pays for it
 pub gave_spends : (old new : Incoming) (count : ℕ) (into : List ℕ) → Gave old new count into → 0 < count → Spends old count new 0
 gave_spends old new count into g some =
@@ -79,35 +73,6 @@ gave_spends old new count into g some =
       bytes = λ t. let more = (known_after old.to_come new.to_come (take count into) g.bytes t).1 in omega (arith, more, long);
       accounts = g.accounts;
     }
-
--- a pull that gave none
-pub gave_none : (old new : Incoming) (count : ℕ) (into : List ℕ) → Gave old new count into → count ≡ 0 → Spends old 1 new 0
-gave_none old new count into g none =
-    let long : length (take count into) ≤ count = omega (arith, length-take count into) in
-    record {
-      pulls = omega (arith, g.pulls);
-      failures = g.failures;
-      tells = λ t. (known_after old.to_come new.to_come (take count into) g.bytes t).0;
-      bytes = λ t. let more = (known_after old.to_come new.to_come (take count into) g.bytes t).1 in omega (arith, more, long);
-      accounts = g.accounts;
-    }
-
--- a pull that failed
-pub pull_fails : (old new : Incoming) → GaveNone old new → Fails old 1 new 0
-pull_fails old new g = elim (cases_lt (max old.pulls old.failures) (2 ^ 64 - 1)) [
-  | inl fresh ↦
-      let counted = g.counted fresh in
-      record {
-        pulls = omega (arith, counted.0);
-        failed = inl counted.1;
-        tells = λ t. (known_kept old.to_come new.to_come g.bytes t).0;
-        bytes = λ t. let same = (known_kept old.to_come new.to_come g.bytes t).1 in omega (arith, same);
-        accounts = g.accounts;
-      }
-  | inr worn ↦
-      let same = g.worn worn in
-      subst (λ (n : Incoming). Fails old 1 n 0) (sym same) (record { pulls = omega arith; failed = inr (refl, worn); tells = λ t. t; bytes = λ t. omega arith; accounts = λ n all says. says })
-]
 
 -- so many bytes were pulled
 abbrev pub Pulled : Incoming → ℕ → Incoming → Type 0
