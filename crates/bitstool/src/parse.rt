@@ -434,12 +434,16 @@ fn misnamed(alloc: Global, why: Unnamed<'_>) -> Parsed
 }
 
 /// The text of an error, and where it belongs.
-fn told(alloc: Global, error: &Error) -> Result<Parsed, AllocError>
+fn text_of_error(alloc: Global, error: &Error) -> Result<Parsed, AllocError>
     ensures { IfOk result (λ parsed. Shows (kind_of error.now) parsed) }
 {
     let mut text = error.to_string(alloc)?;
     if matches!(error.kind(), ErrorKind::InvalidSubcommand) {
         text.push_str(TIP)?;
+    }
+    // Help of a command comes without the end of its last line.
+    if !text.ends_with('\n') {
+        text.push('\n')?;
     }
     if error.use_stderr() {
         Ok(Parsed::Usage(text))
@@ -457,7 +461,7 @@ pub fn parse(alloc: Global, words: &[String]) -> Parsed
         Ok(Err(why)) => misnamed(alloc, why),
         Err(error) => match error.kind() {
             ErrorKind::OutOfMemory => Parsed::Memory,
-            _ => told(alloc, &error).unwrap_or(Parsed::Memory),
+            _ => text_of_error(alloc, &error).unwrap_or(Parsed::Memory),
         },
     }
 }
