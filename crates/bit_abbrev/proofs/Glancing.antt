@@ -1,14 +1,9 @@
 -- Reading from what is in sight, as a reader reads that has nothing else left.
-use Rattle.std.proofs.Common.{◌≡◌, ℕ, ◌+◌, ◌-◌, ◌<◌, ◌≤◌, Bool, true, List, [], ◌∷◌, ◌++◌, length, Option, Some, None, Result, Ok, Err, refl, sym, ap, arith, length-append}
-use Rattle.std.specs.Prelude.{OnSome, nat_le}
-use Rattle.std.proofs.lemmas.Bool.{le-leb}
-use Rattle.bit_grammar.specs.Fields.{vbr}
-use Rattle.bit_grammar.specs.Grammar as grammar
-use Rattle.bit_grammar.specs.Grammar.{Grammar, ◌and_then◌, repeat, reading}
-use Rattle.bit_grammar.specs.Record.{Entry, value_count, scalar, values_of, unabbreviated, abbreviated}
+use Rattle.std.proofs.Common.{◌≡◌, ℕ, ◌+◌, ◌<◌, ◌≤◌, List, [], ◌∷◌, ◌++◌, length, Option, Some, None, Ok, refl, sym, ap, arith, length-append}
+use Rattle.std.specs.Prelude.{OnSome}
+use Rattle.bit_grammar.specs.Grammar.{Grammar}
 use Rattle.bit_fields.specs.Ahead.{InSight, Glimpsed, reader_at}
 use Rattle.bit_fields.specs.Reader.{Reader, Took}
-use Rattle.bit_fields.proofs.Composing.{same_reading}
 use Rattle.bit_fields.proofs.Glimpses.{glimpsed_took, glimpsed_forward}
 use Rattle.bit_abbrev.specs.Values.{Gains, AddsAll, Passes}
 use Rattle.bit_abbrev.proofs.Adding.{all_begin, all_go_on, all_done}
