@@ -1,5 +1,5 @@
 -- Where two inputs first differ, as C sees it.
-use Rattle.std.specs.Prelude.{◌≡◌, ℕ, Bool, true, false, List, [], length, map, replicate, Option, Some, None}
+use Rattle.std.specs.Prelude.{◌≡◌, ℕ, true, false, List, [], length, map, replicate, Option, Some, None}
 use Rattle.bit_grammar.specs.Setting.{Setting}
 use Rattle.bit_grammar.specs.Under.{under}
 use Rattle.bit_grammar.specs.Blocks as blocks
@@ -11,7 +11,7 @@ use Rattle.bit_norm.specs.declared.differences.ValueDifference.{ValueDifference}
 use Rattle.bit_c.specs.declared.difference.BsDifference.{BsDifference}
 use Rattle.bit_c.specs.declared.difference.BsOpenBlock.{BsOpenBlock}
 use Rattle.bit_c.specs.declared.difference.BsStanding.{BsStanding}
-use Rattle.bit_c.specs.declared.difference.BsValues.{BsValues}
+use Rattle.bit_c.specs.declared.difference.BsValueDifference.{BsValueDifference}
 use Rattle.bit_c.specs.declared.outcome.Outcome.{Outcome}
 use Rattle.bit_c.specs.declared.outcome.Outcome.TheVariants.{Done, Different, Memory, Room}
 use Rattle.bit_c.specs.Comparing.{Unread}
@@ -32,7 +32,7 @@ abbrev pub Stands : Standing → BsStanding → Type 0
 Stands s told = (told.bit ≡ s.bit) × IsWhat s.what told
 
 -- the first values that differ, or that none do
-abbrev pub values_told : Option ValueDifference → BsValues
+abbrev pub values_told : Option ValueDifference → BsValueDifference
 values_told None = record { differ = false; index = 0; first = 0; second = 0 }
 values_told (Some value) = record { differ = true; index = value.index; first = value.first; second = value.second }
 

@@ -124,7 +124,7 @@ fn find_asked(
 /// Compares two inputs as `bs_same` does, and tells where they first differ; the blocks that are open there, the outermost first,
 /// go into the caller's room, all of them or none.
 #[unsafe(no_mangle)]
-pub extern "C" fn bs_difference(
+pub extern "C" fn bs_first_difference(
     alloc: Global,
     first: &[u8],
     second: &[u8],

@@ -48,7 +48,7 @@ pub struct BsStanding {
 /// The first values of two records that differ. All zeros where none do.
 #[repr(C)]
 #[derive(Clone, Copy)]
-pub struct BsValues {
+pub struct BsValueDifference {
     /// Whether values differ; they do not where one list of values is the front of the other.
     pub differ: bool,
     /// Counted from 0.
@@ -72,7 +72,7 @@ pub struct BsDifference {
     /// What stands there in the second.
     pub second: BsStanding,
     /// Of two records with the same code.
-    pub values: BsValues,
+    pub values: BsValueDifference,
 }
 
 const NO_STANDING: BsStanding = BsStanding {
@@ -84,7 +84,7 @@ const NO_STANDING: BsStanding = BsStanding {
     count: 0,
 };
 
-const NO_VALUES: BsValues = BsValues {
+const NO_VALUES: BsValueDifference = BsValueDifference {
     differ: false,
     index: 0,
     first: 0,
@@ -131,11 +131,11 @@ fn standing_of(standing: Standing) -> BsStanding
 }
 
 /// The first values that differ, as C sees them.
-fn values_of(value: Option<ValueDifference>) -> BsValues
+fn values_of(value: Option<ValueDifference>) -> BsValueDifference
     ensures { result ≡ values_told value }
 {
     match value {
-        Some(value) => BsValues {
+        Some(value) => BsValueDifference {
             differ: true,
             index: value.index,
             first: value.first,

@@ -24,8 +24,8 @@ mod texts;
 
 pub use analysing::{BsBlockRow, BsCodeRow, BsTally, bs_analyse};
 pub use checking::bs_check;
-pub use comparing::{bs_difference, bs_same};
-pub use difference::{BsDifference, BsOpenBlock, BsStanding, BsValues};
+pub use comparing::{bs_first_difference, bs_same};
+pub use difference::{BsDifference, BsOpenBlock, BsStanding, BsValueDifference};
 pub use event::BsEvent;
 pub use handle::BsHandle;
 pub use holding::{bs_hold_normal, bs_hold_report, bs_hold_show, bs_text};

@@ -5,7 +5,7 @@ use crate::event::NONE;
 use crate::handle::closed;
 use crate::{
     BsBlockRow, BsCodeRow, BsEvent, BsFault, BsHandle, BsLeftOut, BsLimits, BsOpenBlock,
-    BsRecordName, BsTally, bs_analyse, bs_check, bs_close, bs_difference, bs_hold_normal,
+    BsRecordName, BsTally, bs_analyse, bs_check, bs_close, bs_first_difference, bs_hold_normal,
     bs_hold_report, bs_hold_show, bs_next, bs_normal, bs_open, bs_report, bs_same, bs_show,
     bs_text, bs_usual_limits, bs_values,
 };
@@ -57,7 +57,7 @@ fn judged(alloc: Global) -> [u32; 2] {
 fn compared(alloc: Global, left_out: &BsLeftOut<'_>) -> (u32, usize, [u64; 2]) {
     let (limits, mut fault, mut difference) = (usual(), NO_FAULT, NO_DIFFERENCE);
     let mut room = [BsOpenBlock { id: 0, items: 0 }; 2];
-    let status = bs_difference(
+    let status = bs_first_difference(
         alloc,
         &THIRTY,
         &THIRTY_ONE,

@@ -3,7 +3,7 @@ use Rattle.std.proofs.Common.{ap, refl}
 use Rattle.bit_fields.specs.Devices.{Incoming}
 use Rattle.bit_c.specs.declared.outcome.Outcome.{Outcome}
 use Rattle.bit_c.specs.Differing.{Differences, no_difference}
-use Rattle.bit_c.proofs.Compared.{difference_found, no_difference_found, not_found}
+use Rattle.bit_c.proofs.Compared.{difference_found, not_found}
 use Rattle.bit_c.proofs.comparing.find.Goals as goal
 
 pub returns-in-Err : goal.returns-in-Err
