@@ -9,6 +9,7 @@ ghost use Rattle.bit_events.specs.Events.{Lends, Finds, Shuts, Begun, Declines};
 
 use crate::event::Event;
 use crate::machine::{Found, Machine};
+use crate::with_first::WithFirst;
 use bit_fields::{BitReader, Fault, Head, Limits, Source};
 use std::alloc::Global;
 use std::marker::Model;
@@ -25,7 +26,7 @@ pub struct Events<S: Source> {
     reader: BitReader<S>,
     machine: Machine,
     /// The values of the record that was given last.
-    values: Vec<u64>,
+    values: WithFirst<Vec<u64>>,
     /// The event that was given last.
     found: Option<Found>,
     /// The bit behind that event, or behind the head where none was given yet.
@@ -40,7 +41,7 @@ impl<S: Source> Model for Events<S> {
 
     ghost Value = { Coming };
 
-    ghost view = { λ e. coming_of e.over e.limits e.head e.machine e.values.items e.found e.reached e.reader };
+    ghost view = { λ e. coming_of e.over e.limits e.head e.machine e.values.taker.items e.found e.reached e.reader };
 
     ghost invariant = { λ e. IsEvents e.over e.machine e.found e.reached e.reader };
 }
@@ -80,7 +81,7 @@ impl<S: Source> Events<S> {
             head,
             reader,
             machine: Machine::new(alloc),
-            values: Vec::new(alloc),
+            values: WithFirst::new(Vec::new(alloc)),
             found: None,
             reached,
             over: false,
@@ -113,7 +114,7 @@ impl<S: Source> Events<S> {
     pub fn values(&self) -> &[u64]
         ensures { result.now ≡ self.now.held }
     {
-        self.values.as_slice()
+        self.values.taker.as_slice()
     }
 
     /// Finds the next event and keeps it.
@@ -151,7 +152,7 @@ impl<S: Source> Events<S> {
     {
         match &self.found {
             None => None,
-            Some(found) => found.event(&self.machine, self.values.as_slice()),
+            Some(found) => found.event(&self.machine, self.values.taker.as_slice()),
         }
     }
 
