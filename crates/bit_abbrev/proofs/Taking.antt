@@ -1,9 +1,5 @@
 -- Values that are read into what takes them.
-<<<<<<< HEAD
-use Rattle.std.proofs.Common.{◌≡◌, ℕ, zero, suc, ◌+◌, ◌-◌, ◌^◌, ◌<◌, ◌≤◌, min, true, List, [], ◌∷◌, ◌++◌, length, Result, Ok, Err, Bool, refl, sym, ap, ◌∙◌, subst, arith, map, length-append}
-=======
 use Rattle.std.proofs.Common.{◌≡◌, ℕ, zero, suc, ◌+◌, ◌-◌, ◌^◌, ◌<◌, ◌≤◌, min, true, List, [], ◌∷◌, ◌++◌, length, Result, Ok, Err, Bool, refl, sym, ap, ◌∙◌, subst, arith, map, length-append, false}
->>>>>>> trunk/main
 use Rattle.std.proofs.lemmas.List.{append-nil}
 use Rattle.bit_grammar.specs.Grammar as grammar
 use Rattle.bit_grammar.specs.Grammar.{Grammar, gives, ◌>>=◌, ◌and_then◌, repeat, reading}
@@ -13,11 +9,7 @@ use Rattle.bit_fields.specs.declared.fault.Fault.{Fault}
 use Rattle.bit_fields.specs.declared.fault.Fault.TheVariants.{Memory}
 use Rattle.bit_fields.specs.Inside.{numbers}
 use Rattle.bit_fields.specs.Reader.{Reader, Took, Why, Takes, IsOnly, told_by, stopped}
-<<<<<<< HEAD
-use Rattle.bit_fields.proofs.Composing.{fault_then, took_then, took_nothing, same_reading, only}
-=======
 use Rattle.bit_fields.proofs.Composing.{back_there, fault_then, took_then, took_nothing, same_reading, only}
->>>>>>> trunk/main
 use Rattle.bit_abbrev.specs.Values.{Has, AddsAll, AddsWithin, Recorded}
 use Rattle.bit_abbrev.proofs.Adding.{and_gives, CompletesAll, all_begin, all_go_on, all_fail, all_refused, all_done}
 
