@@ -6,6 +6,7 @@ mod event;
 mod events;
 #[cfg(test)]
 mod events_tests;
+mod finder;
 mod folding;
 #[cfg(test)]
 mod folding_tests;
@@ -20,6 +21,7 @@ mod running;
 pub use checking::{check, check_keeping};
 pub use event::Event;
 pub use events::Events;
+pub use finder::{EventFinder, PackedEvent, PackedEvents};
 pub use folding::{Folded, fold};
 pub use gatherer::Gatherer;
 pub use open_blocks::OpenBlocks;

@@ -5,7 +5,7 @@ use crate::values::ValueTaker;
 use std::alloc::Global;
 
 /// What keeps the values that it takes.
-pub trait ValueKeeper: ValueTaker {
+pub trait ValueKeeper: ValueTaker + Drop {
     ghost use Rattle.std.specs.Prelude.{◌≡◌, ℕ, List, []};
 
     // The values that it has.

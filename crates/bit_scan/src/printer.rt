@@ -233,7 +233,7 @@ impl<K: Sink> Printer<K> {
         first: u64,
         code: u64,
         abbreviation: u32,
-        count: usize,
+        count: u64,
     ) -> Result<(), Fault>
         ensures { Prints (noted_head around first code abbreviation count) self.old result self.new }
     {
