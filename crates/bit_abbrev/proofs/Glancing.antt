@@ -1,4 +1,6 @@
 -- Reading from what is in sight, as a reader reads that has nothing else left.
+use Rattle.std.proofs.Math.ListN.{replicate}
+use Rattle.std.proofs.lemmas.List.{length-replicate}
 use Rattle.std.proofs.Common.{◌≡◌, ℕ, ◌+◌, ◌-◌, ◌<◌, ◌≤◌, Bool, true, List, [], ◌∷◌, ◌++◌, length, Option, Some, None, Result, Ok, Err, refl, sym, ap, arith, length-append}
 use Rattle.std.specs.Prelude.{OnSome, nat_le}
 use Rattle.std.proofs.lemmas.Bool.{le-leb}
@@ -11,9 +13,9 @@ use Rattle.bit_fields.specs.Reader.{Reader, Took}
 use Rattle.bit_fields.proofs.Composing.{same_reading}
 use Rattle.bit_fields.proofs.Glimpses.{glimpsed_took, glimpsed_forward}
 use Rattle.bit_abbrev.specs.Plain.{plain_ops}
-use Rattle.bit_abbrev.specs.Values.{GainsMore, AddsAll, Passes}
+use Rattle.bit_abbrev.specs.Values.{Gains, AddsAll, Passes}
 use Rattle.bit_abbrev.proofs.Adding.{all_begin, all_go_on, all_done}
-use Rattle.bit_abbrev.proofs.Taking.{SoFar, passed, zeros_of, length-zeros}
+use Rattle.bit_abbrev.proofs.Taking.{SoFar, passed}
 
 pub took_at : {A : Type 0} (rule : Grammar A) (a : InSight) (value : A) (b : InSight) → Glimpsed rule a value b → Took rule (reader_at a) value (reader_at b)
 took_at rule a value b seen = glimpsed_took rule a value b seen (glimpsed_forward rule a value b seen)
@@ -45,12 +47,12 @@ past_ends rule count done a b most least h =
     (all.0, omega (arith, ap length (sym all.1), h.so.many, most, least), all.2)
 
 -- those that were passed over are behind those before
-pub past_gained : {V : Type 0} (took : V → List ℕ → Type 0) (v w : V) (rule : Grammar ℕ) (count : ℕ) (a b : Reader) → ((values others : List ℕ) → took v values → 0 < length values → length others ≡ count → took w (values ++ others)) → Passes rule count a b → GainsMore took v w (AddsAll rule count a (Ok tt) b)
-past_gained took v w rule count a b passes h = λ before t some. passed took w rule count a before h.0 (Ok tt) b h.1 (passes before h.0 t some h.1) h.2
+pub past_gained : {V : Type 0} (took : V → List ℕ → Type 0) (v w : V) (rule : Grammar ℕ) (count : ℕ) (a b : Reader) → ((values others : List ℕ) → took v values → length others ≡ count → took w (values ++ others)) → Passes rule count a b → Gains took v w (AddsAll rule count a (Ok tt) b)
+past_gained took v w rule count a b passes h = λ before t. passed took w rule count a before h.0 (Ok tt) b h.1 (passes before h.0 t h.1) h.2
 
 -- some are
-pub past_kept : {V : Type 0} (took : V → List ℕ → Type 0) (v w : V) (count : ℕ) → ((values others : List ℕ) → took v values → 0 < length values → length others ≡ count → took w (values ++ others)) → (before : List ℕ) → took v before → 0 < length before → (after : List ℕ) × took w after
-past_kept took v w count passes before t some = (before ++ zeros_of count, passes before (zeros_of count) t some (length-zeros count))
+pub past_kept : {V : Type 0} (took : V → List ℕ → Type 0) (v w : V) (count : ℕ) → ((values others : List ℕ) → took v values → length others ≡ count → took w (values ++ others)) → (before : List ℕ) → took v before → (after : List ℕ) × took w after
+past_kept took v w count passes before t = (before ++ replicate count 0, passes before (replicate count 0) t (length-replicate count 0))
 
 -- ---- records that are not abbreviated
 

@@ -13,7 +13,7 @@ use Rattle.bit_fields.specs.Ahead.{InSight, reader_at}
 use Rattle.bit_fields.specs.Reader.{Reader, Took}
 use Rattle.bit_fields.proofs.Composing.{same_reading, took_then, took_nothing}
 use Rattle.bit_abbrev.specs.Plain.{scalars, IsBehindSingles}
-use Rattle.bit_abbrev.specs.Values.{Adds, AddsEach, AddsFew, PassesEach, Has, Gains, GainsMore}
+use Rattle.bit_abbrev.specs.Values.{Adds, AddsEach, AddsFew, PassesEach, Has, Gains}
 use Rattle.bit_abbrev.proofs.Adding.{value_then, adds_none, Completes, whole, and_gives}
 
 -- ---- one after another
@@ -67,15 +67,8 @@ past_ends ops i a b most least h =
     (all.0.0, omega (arith, ap length all.0.1, all.1), all.0.2)
 
 -- those that were passed over are behind those before
-pub past_gained : {V : Type 0} (took : V → List ℕ → Type 0) (v w : V) (ops : List Op) (a b : Reader) → ((values others : List ℕ) → took v values → 0 < length values → length others ≡ length ops → took w (values ++ others)) → PassesEach ops a b → GainsMore took v w (AddsEach ops a b)
-past_gained took v w ops a b passes h = λ before t some. (before ++ h.0, passes before h.0 t some h.1, ((h.0, refl, h.2), omega (arith, length-append before h.0, h.1)))
-
--- the first, and those behind it
-pub first_then : {V : Type 0} (took : V → List ℕ → Type 0) (v w u : V) (ops : List Op) (op : Op) (others : List Op) (a : Reader) (before : List ℕ) (value : ℕ) (b c : Reader) → ops ≡ op ∷ others → Took (scalar op) a value b → ((values : List ℕ) → took v values → took w (values ++ value ∷ [])) → GainsMore took w u (AddsEach others b c) → took v before
-    → Has took u (AddsEach ops a c before)
-first_then took v w u ops op others a before value b c is t step more k =
-    let h = more (before ++ value ∷ []) (step before k) (omega (arith, length-append before (value ∷ []))) in
-    (h.0, h.1, subst (λ (all : List Op). AddsEach all a c before h.0) (sym is) (value_then (scalar op) (scalars others) a value b (Ok tt) before h.0 c t h.2.0, omega (arith, h.2.1, length-append before (value ∷ []))))
+pub past_gained : {V : Type 0} (took : V → List ℕ → Type 0) (v w : V) (ops : List Op) (a b : Reader) → ((values others : List ℕ) → took v values → length others ≡ length ops → took w (values ++ others)) → PassesEach ops a b → Gains took v w (AddsEach ops a b)
+past_gained took v w ops a b passes h = λ before t. (before ++ h.0, passes before h.0 t h.1, ((h.0, refl, h.2), omega (arith, length-append before h.0, h.1)))
 
 -- ---- and what stands behind them
 

@@ -1,5 +1,6 @@
 -- Values that are read into what takes them.
 use Rattle.std.proofs.Common.{◌≡◌, ℕ, zero, suc, ◌+◌, ◌-◌, ◌^◌, ◌<◌, ◌≤◌, min, true, List, [], ◌∷◌, ◌++◌, length, Result, Ok, Err, Bool, refl, sym, ap, ◌∙◌, subst, arith, map, length-append}
+use Rattle.std.proofs.Math.ListN.{replicate}
 use Rattle.std.specs.Result.{OnOk}
 use Rattle.std.proofs.lemmas.List.{append-nil}
 use Rattle.bit_grammar.specs.Grammar as grammar
@@ -11,7 +12,7 @@ use Rattle.bit_fields.specs.declared.fault.Fault.TheVariants.{Memory}
 use Rattle.bit_fields.specs.Inside.{numbers}
 use Rattle.bit_fields.specs.Reader.{Reader, Took, Why, Takes, IsOnly, told_by, stopped}
 use Rattle.bit_fields.proofs.Composing.{fault_then, took_then, took_nothing, same_reading, only}
-use Rattle.bit_abbrev.specs.Values.{Has, GainsMore, Adds, AddsAll, AddsWithin, Recorded}
+use Rattle.bit_abbrev.specs.Values.{Has, Adds, AddsAll, AddsWithin, Recorded}
 use Rattle.bit_abbrev.proofs.Adding.{and_gives, value_then, value_fails, no_room, adds_none, CompletesAll, all_begin, all_go_on, all_fail, all_refused, all_done}
 
 -- ---- loops
@@ -41,30 +42,6 @@ far_refused took v w rule count a before done b value c h t same = (h.0, same h.
 pub far_ends : {V : Type 0} (took : V → List ℕ → Type 0) (v : V) (rule : Grammar ℕ) (count : ℕ) (a : Reader) (before : List ℕ) (done : ℕ) (b : Reader) → count ≤ done → done ≤ count → Has took v (SoFar rule count a done b before) → Has took v (AddsAll rule count a (Ok tt) b before)
 far_ends took v rule count a before done b most least h = (h.0, h.1, (all_done rule count a before done b h.0 most h.2.all, omega (arith, h.2.many)))
 
--- ---- one value, and those behind it
-
-pub none_taken : {V : Type 0} (took : V → List ℕ → Type 0) (v : V) (rule : Grammar ℕ) (count : ℕ) (a : Reader) (before : List ℕ) → count ≡ 0 → a.live ≡ true → took v before → Has took v (AddsAll rule count a (Ok tt) a before)
-none_taken took v rule count a before none live t = (before, t, (subst (λ (n : ℕ). Adds (repeat n rule) a (Ok tt) before before a) (sym none) (adds_none a before live), omega (arith, none)))
-
-pub first_fails : {V : Type 0} (took : V → List ℕ → Type 0) (v : V) (rule : Grammar ℕ) (count : ℕ) (a : Reader) (before : List ℕ) (fault : Fault) (c : Reader) → 0 < count → Why rule a fault c → took v before → Has took v (AddsAll rule count a (Err fault) c before)
-first_fails took v rule count a before fault c some why t =
-    let all : suc (count - 1) ≡ count = omega arith in
-    (before, t, (subst (λ (n : ℕ). Adds (repeat n rule) a (Err fault) before before c) all (value_fails rule (repeat (count - 1) rule) a fault before c why), tt))
-
-pub first_refused : {V : Type 0} (took : V → List ℕ → Type 0) (v w : V) (rule : Grammar ℕ) (count : ℕ) (a : Reader) (before : List ℕ) (value : ℕ) (b : Reader) → Took rule a value b → ((values : List ℕ) → took v values → took w values) → took v before → Has took w (AddsAll rule count a (Err Memory) (stopped b) before)
-first_refused took v w rule count a before value b t same k = (before, same before k, (no_room rule (repeat count rule) a value b before t, tt))
-
-first_many : (result : Result (Unit {0}) Fault) (count : ℕ) (before after : List ℕ) (value : ℕ) → 0 < count → OnOk result (length after ≡ length (before ++ value ∷ []) + (count - 1)) → OnOk result (length after ≡ length before + count)
-first_many (Ok x) count before after value some h = omega (arith, length-append before (value ∷ []), h)
-first_many (Err fault) count before after value some h = tt
-
-pub first_then : {V : Type 0} (took : V → List ℕ → Type 0) (v w u : V) (rule : Grammar ℕ) (count : ℕ) (a : Reader) (before : List ℕ) (value : ℕ) (b : Reader) (result : Result (Unit {0}) Fault) (c : Reader) → 0 < count → Took rule a value b → ((values : List ℕ) → took v values → took w (values ++ value ∷ [])) → GainsMore took w u (AddsAll rule (count - 1) b result c) → took v before
-    → Has took u (AddsAll rule count a result c before)
-first_then took v w u rule count a before value b result c some t step more k =
-    let all : suc (count - 1) ≡ count = omega arith in
-    let h = more (before ++ value ∷ []) (step before k) (omega (arith, length-append before (value ∷ []))) in
-    (h.0, h.1, (subst (λ (n : ℕ). Adds (repeat n rule) a result before h.0 c) all (value_then rule (repeat (count - 1) rule) a value b result before h.0 c t h.2.0), first_many result count before h.0 value some h.2.1))
-
 -- ---- values that nobody looks at
 
 -- these values, read by a rule, are behind those before
@@ -72,23 +49,21 @@ pub passed : {V : Type 0} (took : V → List ℕ → Type 0) (w : V) (rule : Gra
 passed took w rule count a before others (Ok x) c many t takes = (before ++ others, t, ((others, refl, takes), omega (arith, length-append before others, many)))
 passed took w rule count a before others (Err fault) c many t takes = (before ++ others, t, ((others, refl, takes), tt))
 
+-- the same, where they are all that are left behind others
+pub passed_behind : {V : Type 0} (took : V → List ℕ → Type 0) (v w : V) (rule : Grammar ℕ) (count : ℕ) (a : Reader) (before : List ℕ) (done : ℕ) (b : Reader) (others : List ℕ) (result : Result (Unit {0}) Fault) (c : Reader) → done < count → Has took v (SoFar rule count a done b before)
+    → ((values : List ℕ) → took v values → took w (values ++ others)) → length others ≡ count - done → Takes (repeat (count - done) rule) b (told_by (λ x. others) result) c → Has took w (AddsAll rule count a result c before)
+passed_behind took v w rule count a before done b others (Ok x) c less h passes many takes = (h.0 ++ others, passes h.0 h.1, (h.2.all.so (Ok x) (h.0 ++ others) c (others, refl, takes), omega (arith, length-append h.0 others, many, h.2.many, less)))
+passed_behind took v w rule count a before done b others (Err fault) c less h passes many takes = (h.0 ++ others, passes h.0 h.1, (h.2.all.so (Err fault) (h.0 ++ others) c (others, refl, takes), tt))
+
 pub length-numbers : (n count : ℕ) (r : List Bool) → length (numbers n count r) ≡ count
 length-numbers n zero r = refl
 length-numbers n (suc count) r = ap suc (length-numbers n count _)
 
 -- zeros, which take no bits
-abbrev pub zeros_of : ℕ → List ℕ
-zeros_of zero = []
-zeros_of (suc count) = 0 ∷ zeros_of count
-
-pub length-zeros : (count : ℕ) → length (zeros_of count) ≡ count
-length-zeros zero = refl
-length-zeros (suc count) = ap suc (length-zeros count)
-
-pub zeros_took : (count : ℕ) (a : Reader) → a.live ≡ true → Took (repeat count (gives 0)) a (zeros_of count) a
-zeros_took count a live = same_reading (gives (zeros_of count)) (repeat count (gives 0)) a (Ok (zeros_of count)) a (λ p r. sym (read count p r)) (took_nothing (zeros_of count) a live)
+pub zeros_took : (count : ℕ) (a : Reader) → a.live ≡ true → Took (repeat {A = ℕ} count (gives 0)) a (replicate count 0) a
+zeros_took count a live = same_reading (gives (replicate count 0)) (repeat {A = ℕ} count (gives 0)) a (Ok (replicate count 0)) a (λ p r. sym (read count p r)) (took_nothing (replicate count 0) a live)
   where
-    read : (count p : ℕ) (r : List Bool) → reading (repeat count (gives 0)) p r ≡ Ok (zeros_of count, p, r)
+    read : (count p : ℕ) (r : List Bool) → reading (repeat {A = ℕ} count (gives 0)) p r ≡ Ok (replicate count 0, p, r)
     read zero p r = refl
     read (suc count) p r = ap (λ x. x and_then λ y. Ok (0 ∷ y.0, y.1, y.2)) (read count p r)
 

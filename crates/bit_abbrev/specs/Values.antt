@@ -16,17 +16,9 @@ Has took taker P = (values : List ℕ) × took taker values × P values
 abbrev pub Gains : {V : Type 0} → (took : V → List ℕ → Type 0) → (old new : V) → (List ℕ → List ℕ → Type 0) → Type 0
 Gains took old new P = (before : List ℕ) → took old before → Has took new (P before)
 
--- the same, where it had some before
-abbrev pub GainsMore : {V : Type 0} → (took : V → List ℕ → Type 0) → (old new : V) → (List ℕ → List ℕ → Type 0) → Type 0
-GainsMore took old new P = (before : List ℕ) → took old before → 0 < length before → Has took new (P before)
-
 -- whatever it took before, it took some values after a call
 abbrev pub Keeps : {V : Type 0} → (took : V → List ℕ → Type 0) → (old new : V) → Type 0
 Keeps took old new = (before : List ℕ) → took old before → (after : List ℕ) × took new after
-
--- the same, where it had some before
-abbrev pub KeepsMore : {V : Type 0} → (took : V → List ℕ → Type 0) → (old new : V) → Type 0
-KeepsMore took old new = (before : List ℕ) → took old before → 0 < length before → (after : List ℕ) × took new after
 
 -- what passes over so many values of a rule
 abbrev pub Passes : Grammar ℕ → (count : ℕ) → Reader → Reader → Type 0

@@ -46,15 +46,15 @@ impl<'a> Read for Few<'a> {
     }
 }
 
-/// What a record answers, and whether the reader has failed after a fault; then how many values it has, and the first one.
-type Told = ((Result<(u64, u64), Fault>, bool), u64, Option<u64>);
+/// What a record answers, and whether the reader has failed after a fault; then how many values it has.
+type Told = ((Result<(u64, u64), Fault>, bool), u64);
 
 /// A record that is read into a list, from a reader that gives so many bytes at a time.
 fn kept(alloc: Global, rest: &[u8], most: usize) -> Told {
     let mut values: Vec<u64> = Vec::new(alloc);
     let source = ReadSource::new(Few { rest, most });
     let answer = record_of(alloc, source, 99, &mut values);
-    (answer, values.count(), values.first_value())
+    (answer, values.count())
 }
 
 /// The same, where the values are counted.
@@ -62,7 +62,7 @@ fn counted(alloc: Global, rest: &[u8], most: usize) -> Told {
     let mut values = ValueCount::new();
     let source = ReadSource::new(Few { rest, most });
     let answer = record_of(alloc, source, 99, &mut values);
-    (answer, values.count(), values.first_value())
+    (answer, values.count())
 }
 
 /// Whether both are the same for each front of a record, however few bytes come at a time.
@@ -77,19 +77,19 @@ fn same_where_cut(alloc: Global, bytes: &[u8]) -> bool {
     same
 }
 
-/// Blocks with a record: the code, the bit behind it, how many values it has, and the first one.
-static ROWS: [(&[u8], (u64, u64), u64, u64); 3] = [
-    (&FIELDS, (1, 421), 40, 11),
-    (&CHARACTERS, (1, 406), 45, 102),
-    (&BLOB, (1, 736), 70, 3),
+/// Blocks with a record: the code, the bit behind it, and how many values it has.
+static ROWS: [(&[u8], (u64, u64), u64); 3] = [
+    (&FIELDS, (1, 421), 40),
+    (&CHARACTERS, (1, 406), 45),
+    (&BLOB, (1, 736), 70),
 ];
 
 #[test]
 fn cut_records_are_counted_as_they_are_kept(rt: HostRuntime) -> Result<(), Fail> {
-    for (body, record, count, first) in &ROWS {
+    for (body, record, count) in &ROWS {
         let bytes = in_block(rt.alloc(), body)?;
         let whole = counted(rt.alloc(), &bytes, 64);
-        let wanted = ((Ok(*record), true), *count, Some(*first));
+        let wanted = ((Ok(*record), true), *count);
         assert!(rt;
             whole == wanted && kept(rt.alloc(), &bytes, 64) == wanted,
             "{body:?}"
@@ -121,11 +121,11 @@ fn plain_kept(alloc: Global, bytes: &[u8], room: u64) -> (Result<(u64, u64), Fau
     (answer, values.as_slice() == [1, 40, 2].as_slice())
 }
 
-/// The same where the values are counted: the answer, how many values there are, and the first one.
-fn plain_counted(bytes: &[u8], room: u64) -> (Result<(u64, u64), Fault>, u64, Option<u64>) {
+/// The same where the values are counted: the answer, and how many values there are.
+fn plain_counted(bytes: &[u8], room: u64) -> (Result<(u64, u64), Fault>, u64) {
     let mut values = ValueCount::new();
     let answer = plain_record(bytes, room, &mut values);
-    (answer, values.count(), values.first_value())
+    (answer, values.count())
 }
 
 #[test]
@@ -134,7 +134,7 @@ fn plain_records_are_counted_as_they_are_kept(rt: HostRuntime) -> Result<(), Fai
     for room in 0..5 {
         let (answer, all) = plain_kept(rt.alloc(), &bytes, room);
         let counted = plain_counted(&bytes, room);
-        let whole = answer == Ok((5, 135)) && all && counted == (answer, 3, Some(1));
+        let whole = answer == Ok((5, 135)) && all && counted == (answer, 3);
         let refused = answer.is_err() && counted.0 == answer;
         assert!(rt; if room < 3 { refused } else { whole }, "{room}");
     }

@@ -1,6 +1,6 @@
 //! Reading many values by one rule.
 
-ghost use Rattle.std.specs.Prelude.{◌≡◌, ◌+◌, ◌<◌, ◌≤◌, ◌^◌, ℕ, List, [], ◌∷◌, ◌++◌, IfOk, IfErr, OnOk, length, true};
+ghost use Rattle.std.specs.Prelude.{◌≡◌, ◌+◌, ◌<◌, ◌≤◌, ◌^◌, ℕ, List, [], ◌∷◌, ◌++◌, IfOk, IfErr, OnOk, length, true, false};
 ghost use Rattle.bit_grammar.specs.Grammar.{gives};
 ghost use Rattle.bit_grammar.specs.Fields.{fixed, vbr, char6};
 ghost use Rattle.bit_grammar.specs.Record.{scalar, value_count, values_of};
@@ -8,13 +8,13 @@ ghost use Rattle.bit_grammar.specs.FormatDefinition.{IsElement, HasLawfulValue};
 ghost use Rattle.bit_grammar.specs.declared.op.Op.{Op};
 ghost use Rattle.bit_grammar.specs.declared.op.Op.TheVariants.{Array, Blob};
 ghost use Rattle.bit_fields.specs.Reader.{Takes, stopped};
-ghost use Rattle.bit_abbrev.specs.Values.{Adds, AddsAll, Gains, GainsMore};
+ghost use Rattle.bit_abbrev.specs.Values.{Adds, AddsAll, Gains};
 
 use bit_fields::{BitReader, Fault, Source, ValueTaker};
 use bit_grammar::{Op, Reason};
 
-/// How many values may be passed at once.
-const MOST_PASSED: u64 = u32::MAX as u64;
+/// How many fields may be skipped at once.
+const MOST_SKIPPED: u64 = u32::MAX as u64;
 
 /// Reads a number of values, of which there is room for so many.
 #[inline(always)]
@@ -45,6 +45,17 @@ pub(crate) fn take<S: Source, V: ValueTaker>(
     }
 }
 
+/// Has so many values taken without being seen, where nobody looks at them and as many fields may be skipped at once: whether
+/// they were.
+#[inline(always)]
+pub(crate) fn pass_fields<V: ValueTaker>(values: &mut V, count: u64) -> bool
+    ensures yes { result ≡ true → (before others : List ℕ) → V.took values.old before → length others ≡ count → V.took values.new (before ++ others) }
+    ensures no { result ≡ false → (before : List ℕ) → V.took values.old before → V.took values.new before }
+    ensures few { result ≡ true → count < 2 ^ 32 }
+{
+    count <= MOST_SKIPPED && values.pass(count)
+}
+
 /// Reads so many numbers in chunks of n bits.
 #[inline(always)]
 pub(crate) fn read_vbrs<S: Source, V: ValueTaker>(
@@ -65,7 +76,7 @@ pub(crate) fn read_vbrs<S: Source, V: ValueTaker>(
     Ok(())
 }
 
-/// Reads so many fields of n bits.
+/// Reads so many fields of n bits, or skips them from where on nobody looks at them.
 fn read_fixed<S: Source, V: ValueTaker>(
     reader: &mut BitReader<S>,
     count: u64,
@@ -77,37 +88,18 @@ fn read_fixed<S: Source, V: ValueTaker>(
     requires live { reader.old.live ≡ true }
     ensures { Gains V.took values.old values.new (AddsAll (fixed n) count reader.old result reader.new) }
 {
-    if count == 0 {
-        return Ok(());
-    }
-    let value = reader.fixed(n)?;
-    take(reader, values, value)?;
-    more_fixed(reader, count - 1, n, values)
-}
-
-/// Reads so many fields of n bits behind other values, or skips them where nobody looks at them.
-fn more_fixed<S: Source, V: ValueTaker>(
-    reader: &mut BitReader<S>,
-    count: u64,
-    n: u32,
-    values: &mut V,
-) -> Result<(), Fault>
-    requires some { 0 < n }
-    requires few { n ≤ 32 }
-    requires live { reader.old.live ≡ true }
-    ensures { GainsMore V.took values.old values.new (AddsAll (fixed n) count reader.old result reader.new) }
-{
-    if count <= MOST_PASSED && values.pass(count) {
-        return reader.skip_fixed(count, n);
-    }
-    for _ in 0..count {
+    for done in 0..count {
+        let left = count - done;
+        if pass_fields(values, left) {
+            return reader.skip_fixed(left, n);
+        }
         let value = reader.fixed(n)?;
         take(reader, values, value)?;
     }
     Ok(())
 }
 
-/// Reads so many characters.
+/// Reads so many characters, or skips them from where on nobody looks at them.
 fn read_characters<S: Source, V: ValueTaker>(
     reader: &mut BitReader<S>,
     count: u64,
@@ -116,34 +108,18 @@ fn read_characters<S: Source, V: ValueTaker>(
     requires { reader.old.live ≡ true }
     ensures { Gains V.took values.old values.new (AddsAll char6 count reader.old result reader.new) }
 {
-    if count == 0 {
-        return Ok(());
-    }
-    let value = reader.char6()?;
-    take(reader, values, value)?;
-    more_characters(reader, count - 1, values)
-}
-
-/// Reads so many characters behind other values, or skips them where nobody looks at them.
-fn more_characters<S: Source, V: ValueTaker>(
-    reader: &mut BitReader<S>,
-    count: u64,
-    values: &mut V,
-) -> Result<(), Fault>
-    requires { reader.old.live ≡ true }
-    ensures { GainsMore V.took values.old values.new (AddsAll char6 count reader.old result reader.new) }
-{
-    if count <= MOST_PASSED && values.pass(count) {
-        return reader.skip_fixed(count, 6);
-    }
-    for _ in 0..count {
+    for done in 0..count {
+        let left = count - done;
+        if pass_fields(values, left) {
+            return reader.skip_fixed(left, 6);
+        }
         let value = reader.char6()?;
         take(reader, values, value)?;
     }
     Ok(())
 }
 
-/// Adds so many zeros, which take no bits.
+/// Adds so many zeros, which take no bits, at once from where on they can be taken so.
 fn add_zeros<S: Source, V: ValueTaker>(
     reader: &mut BitReader<S>,
     count: u64,
@@ -152,26 +128,10 @@ fn add_zeros<S: Source, V: ValueTaker>(
     requires { reader.old.live ≡ true }
     ensures { Gains V.took values.old values.new (AddsAll (gives 0) count reader.old result reader.new) }
 {
-    if count == 0 {
-        return Ok(());
-    }
-    take(reader, values, 0)?;
-    more_zeros(reader, count - 1, values)
-}
-
-/// Adds so many zeros behind other values, or counts them where nobody looks at them.
-fn more_zeros<S: Source, V: ValueTaker>(
-    reader: &mut BitReader<S>,
-    count: u64,
-    values: &mut V,
-) -> Result<(), Fault>
-    requires { reader.old.live ≡ true }
-    ensures { GainsMore V.took values.old values.new (AddsAll (gives 0) count reader.old result reader.new) }
-{
-    if values.pass(count) {
-        return Ok(());
-    }
-    for _ in 0..count {
+    for done in 0..count {
+        if values.pass_zeros(count - done) {
+            return Ok(());
+        }
         take(reader, values, 0)?;
     }
     Ok(())

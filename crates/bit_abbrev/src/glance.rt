@@ -11,14 +11,12 @@ ghost use Rattle.bit_grammar.specs.declared.op.Op.{Op};
 ghost use Rattle.bit_grammar.specs.declared.op.Op.TheVariants.{Array, Blob};
 ghost use Rattle.bit_fields.specs.Ahead.{Glimpsed, reader_at};
 ghost use Rattle.bit_abbrev.specs.Plain.{plain_ops, IsBehindSingles};
-ghost use Rattle.bit_abbrev.specs.Values.{Adds, AddsAll, AddsEach, AddsFew, AddsWithin, Gains, GainsMore, Keeps, KeepsMore, Passes, PassesEach};
+ghost use Rattle.bit_abbrev.specs.Values.{Adds, AddsAll, AddsEach, AddsFew, AddsWithin, Gains, Keeps, Passes, PassesEach};
 
+use crate::elements::pass_fields;
 use crate::record::have_room;
 use bit_fields::{Ahead, ValueTaker};
 use bit_grammar::Op;
-
-/// How many fields may be passed at once.
-const MOST_PASSED: u64 = u32::MAX as u64;
 
 /// Hands a value on, where memory is there.
 #[inline(always)]
@@ -56,25 +54,7 @@ fn pass_vbrs(ahead: &mut Ahead<'_>, count: u64, n: u32) -> Option<()>
     Some(())
 }
 
-/// Reads so many numbers in chunks of n bits behind other values, or passes over them where nobody looks at them.
-#[inline(always)]
-fn more_vbrs<V: ValueTaker>(ahead: &mut Ahead<'_>, count: u64, n: u32, values: &mut V) -> Option<()>
-    requires some { 2 ≤ n }
-    requires few { n ≤ 32 }
-    ensures glimpsed { OnSome result (GainsMore V.took values.old values.new (AddsAll (vbr n) count (reader_at ahead.old) (Ok tt) (reader_at ahead.new))) }
-    ensures keeps { KeepsMore V.took values.old values.new }
-{
-    if values.pass(count) {
-        return pass_vbrs(ahead, count, n);
-    }
-    for _ in 0..count {
-        let value = ahead.vbr(n)?;
-        keep(values, value)?;
-    }
-    Some(())
-}
-
-/// Reads so many numbers in chunks of n bits.
+/// Reads so many numbers in chunks of n bits, or passes over them where nobody looks at them.
 #[inline(always)]
 fn glance_vbrs<V: ValueTaker>(
     ahead: &mut Ahead<'_>,
@@ -87,38 +67,17 @@ fn glance_vbrs<V: ValueTaker>(
     ensures glimpsed { OnSome result (Gains V.took values.old values.new (AddsAll (vbr n) count (reader_at ahead.old) (Ok tt) (reader_at ahead.new))) }
     ensures keeps { Keeps V.took values.old values.new }
 {
-    if count == 0 {
-        return Some(());
-    }
-    let value = ahead.vbr(n)?;
-    keep(values, value)?;
-    more_vbrs(ahead, count - 1, n, values)
-}
-
-/// Reads so many fields of n bits behind other values, or passes over them where nobody looks at them.
-#[inline(always)]
-fn more_fixed<V: ValueTaker>(
-    ahead: &mut Ahead<'_>,
-    count: u64,
-    n: u32,
-    values: &mut V,
-) -> Option<()>
-    requires some { 0 < n }
-    requires few { n ≤ 32 }
-    ensures glimpsed { OnSome result (GainsMore V.took values.old values.new (AddsAll (fixed n) count (reader_at ahead.old) (Ok tt) (reader_at ahead.new))) }
-    ensures keeps { KeepsMore V.took values.old values.new }
-{
-    if count <= MOST_PASSED && values.pass(count) {
-        return ahead.skip_fixed(count, n);
+    if values.pass(count) {
+        return pass_vbrs(ahead, count, n);
     }
     for _ in 0..count {
-        let value = ahead.fixed(n)?;
+        let value = ahead.vbr(n)?;
         keep(values, value)?;
     }
     Some(())
 }
 
-/// Reads so many fields of n bits.
+/// Reads so many fields of n bits, or passes over them where nobody looks at them.
 #[inline(always)]
 fn glance_fixed<V: ValueTaker>(
     ahead: &mut Ahead<'_>,
@@ -131,21 +90,23 @@ fn glance_fixed<V: ValueTaker>(
     ensures glimpsed { OnSome result (Gains V.took values.old values.new (AddsAll (fixed n) count (reader_at ahead.old) (Ok tt) (reader_at ahead.new))) }
     ensures keeps { Keeps V.took values.old values.new }
 {
-    if count == 0 {
-        return Some(());
+    if pass_fields(values, count) {
+        return ahead.skip_fixed(count, n);
     }
-    let value = ahead.fixed(n)?;
-    keep(values, value)?;
-    more_fixed(ahead, count - 1, n, values)
+    for _ in 0..count {
+        let value = ahead.fixed(n)?;
+        keep(values, value)?;
+    }
+    Some(())
 }
 
-/// Reads so many characters behind other values, or passes over them where nobody looks at them.
+/// Reads so many characters, or passes over them where nobody looks at them.
 #[inline(always)]
-fn more_characters<V: ValueTaker>(ahead: &mut Ahead<'_>, count: u64, values: &mut V) -> Option<()>
-    ensures glimpsed { OnSome result (GainsMore V.took values.old values.new (AddsAll char6 count (reader_at ahead.old) (Ok tt) (reader_at ahead.new))) }
-    ensures keeps { KeepsMore V.took values.old values.new }
+fn glance_characters<V: ValueTaker>(ahead: &mut Ahead<'_>, count: u64, values: &mut V) -> Option<()>
+    ensures glimpsed { OnSome result (Gains V.took values.old values.new (AddsAll char6 count (reader_at ahead.old) (Ok tt) (reader_at ahead.new))) }
+    ensures keeps { Keeps V.took values.old values.new }
 {
-    if count <= MOST_PASSED && values.pass(count) {
+    if pass_fields(values, count) {
         return ahead.skip_fixed(count, 6);
     }
     for _ in 0..count {
@@ -153,20 +114,6 @@ fn more_characters<V: ValueTaker>(ahead: &mut Ahead<'_>, count: u64, values: &mu
         keep(values, value)?;
     }
     Some(())
-}
-
-/// Reads so many characters.
-#[inline(always)]
-fn glance_characters<V: ValueTaker>(ahead: &mut Ahead<'_>, count: u64, values: &mut V) -> Option<()>
-    ensures glimpsed { OnSome result (Gains V.took values.old values.new (AddsAll char6 count (reader_at ahead.old) (Ok tt) (reader_at ahead.new))) }
-    ensures keeps { Keeps V.took values.old values.new }
-{
-    if count == 0 {
-        return Some(());
-    }
-    let value = ahead.char6()?;
-    keep(values, value)?;
-    more_characters(ahead, count - 1, values)
 }
 
 /// Reads so many fields of any operand that may be the element of an array. It is kept out of the callers, and has what is ahead
@@ -280,13 +227,12 @@ fn pass_scalars(ahead: &mut Ahead<'_>, ops: &[Op]) -> Option<()>
     Some(())
 }
 
-/// Reads the values of operands that stand for one value each behind other values, or passes over them where nobody looks at
-/// them.
+/// Reads the values of operands that stand for one value each, or passes over them where nobody looks at them.
 #[inline(always)]
-fn more_scalars<V: ValueTaker>(ahead: &mut Ahead<'_>, ops: &[Op], values: &mut V) -> Option<()>
+fn glance_scalars<U, V: ValueTaker>(ahead: &mut Ahead<'_>, ops: &[Op], values: &mut V) -> Option<()>
     requires { AllByRecursion HasLawfulValue ops.now }
-    ensures glimpsed { OnSome result (GainsMore V.took values.old values.new (AddsEach ops.now (reader_at ahead.old) (reader_at ahead.new))) }
-    ensures keeps { KeepsMore V.took values.old values.new }
+    ensures glimpsed { OnSome result (Gains V.took values.old values.new (AddsEach ops.now (reader_at ahead.old) (reader_at ahead.new))) }
+    ensures keeps { Keeps V.took values.old values.new }
 {
     if values.pass(ops.len() as u64) {
         return pass_scalars(ahead, ops);
@@ -296,21 +242,6 @@ fn more_scalars<V: ValueTaker>(ahead: &mut Ahead<'_>, ops: &[Op], values: &mut V
         keep(values, value)?;
     }
     Some(())
-}
-
-/// Reads the values of operands that stand for one value each.
-#[inline(always)]
-fn glance_scalars<U, V: ValueTaker>(ahead: &mut Ahead<'_>, ops: &[Op], values: &mut V) -> Option<()>
-    requires { AllByRecursion HasLawfulValue ops.now }
-    ensures glimpsed { OnSome result (Gains V.took values.old values.new (AddsEach ops.now (reader_at ahead.old) (reader_at ahead.new))) }
-    ensures keeps { Keeps V.took values.old values.new }
-{
-    let [first, others @ ..] = ops else {
-        return Some(());
-    };
-    let value = glance_scalar(ahead, *first)?;
-    keep(values, value)?;
-    more_scalars(ahead, others, values)
 }
 
 /// Whether the last operand but one is an array.

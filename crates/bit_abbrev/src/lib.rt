@@ -7,6 +7,8 @@ mod counting_tests;
 mod definition;
 mod elements;
 mod glance;
+#[cfg(test)]
+mod glance_tests;
 mod in_force;
 mod info;
 mod laws;

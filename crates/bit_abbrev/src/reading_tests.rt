@@ -114,7 +114,7 @@ fn reads<S: Source + Drop>(
     Ok((answer, sound))
 }
 
-/// Whether the same answer comes where the values are counted, with as many of them and the same first one.
+/// Whether the same answer comes where the values are counted, with as many of them.
 fn counts(
     alloc: Global,
     bytes: &[u8],
@@ -124,8 +124,7 @@ fn counts(
 ) -> bool {
     let mut values = ValueCount::new();
     let (counted, stays) = record_of(alloc, SliceSource::new(bytes), room, &mut values);
-    let told = (values.count(), values.first_value());
-    stays && counted == answer && told == (wanted.len() as u64, wanted.first().copied())
+    stays && counted == answer && values.count() == wanted.len() as u64
 }
 
 /// What a block with a definition and a record answers, and whether all is as it should be, also where values are counted.
@@ -142,7 +141,7 @@ fn reads_block(
 }
 
 /// An array of characters.
-const CHARACTERS: [u8; 8] = [0x1A, 0x03, 0x0C, 0x39, 0x00, 0xFF, 0x0C, 0x00];
+pub(super) const CHARACTERS: [u8; 8] = [0x1A, 0x03, 0x0C, 0x39, 0x00, 0xFF, 0x0C, 0x00];
 
 /// A blob of five bytes.
 const BLOB: [u8; 16] = [
@@ -150,7 +149,7 @@ const BLOB: [u8; 16] = [
 ];
 
 /// Eight literals.
-const LITERALS: [u8; 12] = [
+pub(super) const LITERALS: [u8; 12] = [
     0x42, 0x03, 0x06, 0x14, 0x38, 0x90, 0x60, 0x41, 0x83, 0x07, 0x24, 0,
 ];
 

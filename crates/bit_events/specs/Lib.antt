@@ -9,3 +9,4 @@ pub mod Gathering
 pub mod Folding
 pub mod Runs
 pub mod Standing
+pub mod Firsts

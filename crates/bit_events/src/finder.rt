@@ -9,6 +9,7 @@ ghost use Rattle.bit_events.specs.Events.{Finds, LendsAs, Shuts, Begun, Declines
 
 use crate::event::Event;
 use crate::machine::{Found, Machine};
+use crate::with_first::WithFirst;
 use bit_fields::{BitReader, Fault, Head, Limits, PackedValues, Source, ValueKeeper};
 use std::alloc::Global;
 use std::marker::Model;
@@ -25,7 +26,7 @@ pub struct EventFinder<S: Source, V: ValueKeeper> {
     reader: BitReader<S>,
     machine: Machine,
     /// The values of the record that was found last.
-    values: V,
+    values: WithFirst<V>,
     /// The event that was found last.
     found: Option<Found>,
     /// The bit behind that event, or behind the head where none was found yet.
@@ -40,7 +41,7 @@ impl<S: Source, V: ValueKeeper> Model for EventFinder<S, V> {
 
     ghost Value = { Coming };
 
-    ghost view = { λ e. coming_of e.over e.limits e.head e.machine (V.kept e.values) e.found e.reached e.reader };
+    ghost view = { λ e. coming_of e.over e.limits e.head e.machine (V.kept e.values.taker) e.found e.reached e.reader };
 
     ghost invariant = { λ e. IsEvents e.over e.machine e.found e.reached e.reader };
 }
@@ -80,7 +81,7 @@ impl<S: Source, V: ValueKeeper> EventFinder<S, V> {
             head,
             reader,
             machine: Machine::new(alloc),
-            values: V::empty(alloc),
+            values: WithFirst::new(V::empty(alloc)),
             found: None,
             reached,
             over: false,
@@ -113,7 +114,7 @@ impl<S: Source, V: ValueKeeper> EventFinder<S, V> {
     pub fn values(&self) -> &V
         ensures { V.kept result.now ≡ self.now.held }
     {
-        &self.values
+        &self.values.taker
     }
 
     /// Finds the next event and keeps it.
@@ -160,7 +161,7 @@ impl<S: Source, V: ValueKeeper> EventFinder<S, V> {
     fn event(&self) -> Option<Event<'_, &V>>
         ensures { shown_if_any (λ (values : Bor V). V.kept values.now) result ≡ self.now.last }
     {
-        self.lend(&self.values)
+        self.lend(&self.values.taker)
     }
 
     /// The next event, or nothing where the whole input is accepted, and then nothing again ever after.

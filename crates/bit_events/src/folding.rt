@@ -17,6 +17,7 @@ use crate::head::BlockHead;
 use crate::heads::granted;
 use crate::machine::{Aside, Machine};
 use crate::running::gather_records;
+use crate::with_first::WithFirst;
 use bit_fields::{Ahead, BitReader, Fault, Head, Limits, Source};
 use std::alloc::{AllocError, Global};
 
@@ -64,20 +65,22 @@ impl<S: Source, G: Gatherer> Folding<S, G> {
         limits: &Limits,
         id: u32,
         first: u64,
-        values: &mut G::Values,
+        values: &mut WithFirst<G::Values>,
     ) -> Result<(), Fault>
         requires live { self.old.reader.live ≡ true }
         requires some { 0 < vec_len self.old.machine.frames }
         requires id { 3 ≤ id }
-        requires took { TookSome G.Values.took values.old }
-        ensures took { TookSome G.Values.took values.new }
+        requires took { TookSome G.Values.took values.old.taker }
+        ensures took { TookSome G.Values.took values.new.taker }
         ensures takes { (f : machine.Frame) (outer : List machine.Frame) → frames_shown self.old.machine.frames.items ≡ f ∷ outer → TakesOne G.gathered limits.now.depth (record_rule limits.now.values f outer first id (handed_shown self.old.machine)) self.old.machine self.old.reader self.old.gatherer result self.new.machine self.new.reader self.new.gatherer }
         ensures head { OnOk result (innermost_head (frames_shown self.new.machine.frames.items) ≡ innermost_head (frames_shown self.old.machine.frames.items)) }
     {
         let (code, after) = self
             .machine
             .note(&mut self.reader, limits, id, first, values)?;
-        let done = self.gatherer.record(id, code, values, first, after);
+        let done = self
+            .gatherer
+            .record(id, code, &mut values.taker, first, after);
         granted(&mut self.reader, done)
     }
 
@@ -145,16 +148,16 @@ impl<S: Source, G: Gatherer> Folding<S, G> {
         alloc: Global,
         limits: &Limits,
         head: BlockHead,
-        values: &mut G::Values,
+        values: &mut WithFirst<G::Values>,
     ) -> Result<(), Fault>
         requires live { self.old.reader.live ≡ true }
-        requires took { TookSome G.Values.took values.old }
+        requires took { TookSome G.Values.took values.old.taker }
         requires head { innermost_head (frames_shown self.old.machine.frames.items) ≡ Some (head_shown head) }
-        ensures took { TookSome G.Values.took values.new }
+        ensures took { TookSome G.Values.took values.new.taker }
         ensures takes { TakesSome G.gathered limits.now self.old.machine self.old.reader self.old.gatherer result self.new.machine self.new.reader self.new.gatherer }
     {
         loop {
-            self.gather_run(limits, values)?;
+            self.gather_run(limits, &mut values.taker)?;
             let first = self.reader.position();
             let id = self.reader.fixed(u32::from(head.width))?;
             if id < 3 {
@@ -169,10 +172,10 @@ impl<S: Source, G: Gatherer> Folding<S, G> {
         &mut self,
         alloc: Global,
         limits: &Limits,
-        values: &mut G::Values,
+        values: &mut WithFirst<G::Values>,
     ) -> Result<(), Fault>
         requires live { self.old.reader.live ≡ true }
-        requires took { TookSome G.Values.took values.old }
+        requires took { TookSome G.Values.took values.old.taker }
         requires aligned { vec_len self.old.machine.frames ≡ 0 → self.old.reader.position % 8 ≡ 0 }
         ensures { TakesAll G.gathered limits.now self.old.machine self.old.reader self.old.gatherer result self.new.reader self.new.gatherer }
     {
@@ -212,7 +215,7 @@ pub fn fold<S: Source, G: Gatherer>(
         Ok(begun) => begun,
         Err((fault, source)) => return (Err(fault), source),
     };
-    let mut values = gatherer.values();
+    let mut values = WithFirst::new(gatherer.values());
     let mut folding = Folding {
         reader,
         machine: Machine::new(alloc),

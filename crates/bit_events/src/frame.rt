@@ -5,10 +5,12 @@ ghost use Rattle.bit_grammar.specs.Blocks.{Handed, Scope, Table, defined, define
 ghost use Rattle.bit_grammar.specs.Machine.{scope_of};
 ghost use Rattle.bit_fields.specs.Reader.{Takes, told_by};
 ghost use Rattle.bit_abbrev.specs.Values.{Has};
+ghost use Rattle.bit_events.specs.Firsts.{TookWithFirst};
 ghost use Rattle.bit_events.specs.FrameView.{describing_shown, info_shown, described_value, frame_shown, newest_in};
 
 use crate::head::BlockHead;
 use crate::heads::granted;
+use crate::with_first::WithFirst;
 use bit_abbrev::{Abbrev, InForce, InfoTable, read_abbreviated, read_define, read_unabbreviated};
 use bit_fields::{BitReader, Fault, Reason, Shapes, Source, ValueTaker};
 use std::alloc::{AllocError, Global};
@@ -159,18 +161,18 @@ fn describe_by<S: Source>(
 }
 
 /// Finds the block that is described after a record, if it stands in a BLOCKINFO block.
-fn describe<S: Source, V: ValueTaker>(
+fn describe<S: Source>(
     reader: &mut BitReader<S>,
     info: &mut Option<Describing>,
     first: u64,
     code: u64,
-    values: &V,
+    value: Option<u64>,
 ) -> Result<(), Fault>
     requires { reader.old.live ≡ true }
-    ensures { (list : List ℕ) → V.took values.now list → Takes (describe (info_shown info.old) first (record { code = code; values = list })) reader.old (told_by (λ _. info_shown info.new) result) reader.new }
+    ensures { (list : List ℕ) → value ≡ slice_get list 0 → Takes (describe (info_shown info.old) first (record { code = code; values = list })) reader.old (told_by (λ _. info_shown info.new) result) reader.new }
 {
     match info {
-        Some(info) => describe_by(reader, info, first, code, values.first_value()),
+        Some(info) => describe_by(reader, info, first, code, value),
         None => Ok(()),
     }
 }
@@ -181,19 +183,19 @@ pub(crate) fn record_after<S: Source, V: ValueTaker>(
     reader: &mut BitReader<S>,
     frame: &mut Frame,
     room: u64,
-    values: &mut V,
+    values: &mut WithFirst<V>,
     id: u32,
     first: u64,
 ) -> Result<(u64, u64), Fault>
     requires live { reader.old.live ≡ true }
-    requires none { V.took values.old [] }
+    requires none { TookWithFirst V.took values.old [] }
     requires id { 3 ≤ id }
-    ensures takes { Has V.took values.new (λ list. (limit : ℕ) (handed : Handed) → limit - handed.used ≡ room → Takes (record_after limit first id (scope_of (frame_shown frame.old) handed)) reader.old (told_by (λ r. (record { abbreviation = id; code = r.0; values = list; first = first; after = r.1 }, scope_of (frame_shown frame.new) (record { table = handed.table; used = handed.used + length list }))) result) reader.new) }
-    ensures few { Has V.took values.new (λ list. OnOk result (length list ≤ room)) }
+    ensures takes { Has V.took values.new.taker (λ list. (limit : ℕ) (handed : Handed) → limit - handed.used ≡ room → Takes (record_after limit first id (scope_of (frame_shown frame.old) handed)) reader.old (told_by (λ r. (record { abbreviation = id; code = r.0; values = list; first = first; after = r.1 }, scope_of (frame_shown frame.new) (record { table = handed.table; used = handed.used + length list }))) result) reader.new) }
+    ensures few { Has V.took values.new.taker (λ list. OnOk result (length list ≤ room)) }
     ensures head { frame.new.head ≡ frame.old.head }
 {
     let code = entry(reader, &frame.definitions, room, values, id, first)?;
     let after = reader.position();
-    describe(reader, &mut frame.info, first, code, values)?;
+    describe(reader, &mut frame.info, first, code, values.first)?;
     Ok((code, after))
 }

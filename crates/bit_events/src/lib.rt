@@ -16,7 +16,10 @@ mod head;
 mod heads;
 mod machine;
 mod open_blocks;
+#[cfg(test)]
+mod open_blocks_tests;
 mod running;
+mod with_first;
 
 pub use checking::{check, check_keeping};
 pub use event::Event;

@@ -14,6 +14,7 @@ use crate::event::Event;
 use crate::frame::{Describing, Frame, define, record_after};
 use crate::head::BlockHead;
 use crate::heads::{block_head, end_of_block, granted};
+use crate::with_first::WithFirst;
 use bit_abbrev::{Abbrev, InfoTable, SharedInfo};
 use bit_fields::{BitReader, Fault, Limits, Reason, Source, ValueKeeper, ValueTaker};
 use std::alloc::{AllocError, Global};
@@ -220,13 +221,13 @@ impl Machine {
         limits: &Limits,
         id: u32,
         first: u64,
-        values: &mut V,
+        values: &mut WithFirst<V>,
     ) -> Result<(u64, u64), Fault>
         requires live { reader.old.live ≡ true }
         requires some { 0 < vec_len self.old.frames }
         requires id { 3 ≤ id }
-        requires took { TookSome V.took values.old }
-        ensures takes { Has V.took values.new (λ list. InBlock self.old (λ f outer.
+        requires took { TookSome V.took values.old.taker }
+        ensures takes { Has V.took values.new.taker (λ list. InBlock self.old (λ f outer.
             Takes (record_rule limits.now.values f outer first id (handed_shown self.old))
             reader.old (told_by (λ read. (record_of id list first read, machine_shown self.new)) result) reader.new)) }
         ensures leaves { (deepest : ℕ) (list : List ℕ)
@@ -234,12 +235,12 @@ impl Machine {
         ensures head { OnOk result (innermost_head (frames_shown self.new.frames.items) ≡ innermost_head (frames_shown self.old.frames.items)) }
     {
         let room = limits.values().saturating_sub(self.used);
-        values.truncate(0);
+        values.clear();
         let Some(frame) = self.frames.last_mut() else {
             unreachable!();
         };
         let (code, after) = record_after(reader, frame, room, values, id, first)?;
-        let count = values.count();
+        let count = values.taker.count();
         self.used += count;
         Ok((code, after))
     }
@@ -279,14 +280,14 @@ impl Machine {
         reader: &mut BitReader<S>,
         limits: &Limits,
         head: BlockHead,
-        values: &mut V,
+        values: &mut WithFirst<V>,
     ) -> Result<Found, Fault>
         requires { 0 < vec_len self.old.frames }
         ensures takes { InBlock self.old (λ f outer. f.head ≡ head_shown head
             → Takes (step_in limits.now f.head outer (scope_of f (handed_shown self.old)))
-            reader.old (told_by (after_found self.new (V.kept values.new)) result) reader.new) }
-        ensures leaves { IfOk result (λ found. Leaves limits.now.depth self.old reader.old (found_shown self.new (V.kept values.new) found) self.new reader.new) }
-        ensures holds { IfOk result (λ found. V.kept values.new ≡ held_after (found_shown self.new (V.kept values.new) found) (V.kept values.old)) }
+            reader.old (told_by (after_found self.new (V.kept values.new.taker)) result) reader.new) }
+        ensures leaves { IfOk result (λ found. Leaves limits.now.depth self.old reader.old (found_shown self.new (V.kept values.new.taker) found) self.new reader.new) }
+        ensures holds { IfOk result (λ found. V.kept values.new.taker ≡ held_after (found_shown self.new (V.kept values.new.taker) found) (V.kept values.old.taker)) }
         ensures moves { OnOk result (reader.old.position < reader.new.position) }
     {
         let first = reader.position();
@@ -343,11 +344,11 @@ impl Machine {
         alloc: Global,
         reader: &mut BitReader<S>,
         limits: &Limits,
-        values: &mut V,
+        values: &mut WithFirst<V>,
     ) -> Result<Found, Fault>
-        ensures takes { Takes (step limits.now (machine_shown self.old)) reader.old (told_by (after_found self.new (V.kept values.new)) result) reader.new }
-        ensures leaves { IfOk result (λ found. Leaves limits.now.depth self.old reader.old (found_shown self.new (V.kept values.new) found) self.new reader.new) }
-        ensures holds { IfOk result (λ found. V.kept values.new ≡ held_after (found_shown self.new (V.kept values.new) found) (V.kept values.old)) }
+        ensures takes { Takes (step limits.now (machine_shown self.old)) reader.old (told_by (after_found self.new (V.kept values.new.taker)) result) reader.new }
+        ensures leaves { IfOk result (λ found. Leaves limits.now.depth self.old reader.old (found_shown self.new (V.kept values.new.taker) found) self.new reader.new) }
+        ensures holds { IfOk result (λ found. V.kept values.new.taker ≡ held_after (found_shown self.new (V.kept values.new.taker) found) (V.kept values.old.taker)) }
         ensures moves { OnOk result (reader.old.position < reader.new.position) }
     {
         match self.innermost() {

@@ -259,6 +259,15 @@ impl ValueTaker for PackedValues {
     }
 
     #[inline]
+    fn pass_zeros(&mut self, count: u64) -> bool {
+        if count > u64::MAX - self.len() {
+            return false;
+        }
+        self.zeros += count;
+        true
+    }
+
+    #[inline]
     fn truncate(&mut self, count: u64) {
         if count == 0 {
             self.clear();
@@ -271,9 +280,5 @@ impl ValueTaker for PackedValues {
     #[inline]
     fn count(&self) -> u64 {
         self.len()
-    }
-
-    fn first_value(&self) -> Option<u64> {
-        self.get(0)
     }
 }

@@ -1,6 +1,7 @@
 //! What takes the values of a record while they are read.
 
-ghost use Rattle.std.specs.Prelude.{◌≡◌, ℕ, ◌-◌, ◌^◌, ◌<◌, List, [], ◌∷◌, ◌++◌, length, min, true, false, OnOk, OnErr, slice_get};
+ghost use Rattle.std.specs.Prelude.{◌≡◌, ℕ, ◌-◌, ◌^◌, List, [], ◌∷◌, ◌++◌, length, min, true, false, OnOk, OnErr};
+ghost use Rattle.std.proofs.Math.ListN.{replicate};
 
 use std::alloc::AllocError;
 
@@ -16,11 +17,19 @@ pub trait ValueTaker {
         ensures ok { OnOk result ((values : List ℕ) → took self.old values → took self.new (values ++ value ∷ [])) }
         ensures err { OnErr result ((values : List ℕ) → took self.old values → took self.new values) };
 
-    /// Takes so many values behind others without seeing them, where it need not know them, and answers whether it did. Where
-    /// it did not, it has what it had.
+    /// Takes so many values without seeing them, where it need not know them, and answers whether it did. Where it did not, it
+    /// has what it had.
     fn pass(&mut self, count: u64) -> bool
-        ensures yes { result ≡ true → (values others : List ℕ) → took self.old values → 0 < length values → length others ≡ count → took self.new (values ++ others) }
+        ensures yes { result ≡ true → (values others : List ℕ) → took self.old values → length others ≡ count → took self.new (values ++ others) }
         ensures no { result ≡ false → (values : List ℕ) → took self.old values → took self.new values };
+
+    /// Takes so many zeros at once, where it can, and answers whether it did. Where it did not, it has what it had.
+    fn pass_zeros(&mut self, count: u64) -> bool
+        ensures yes { result ≡ true → (values : List ℕ) → took self.old values → took self.new (values ++ replicate count 0) }
+        ensures no { result ≡ false → (values : List ℕ) → took self.old values → took self.new values }
+    {
+        self.pass(count)
+    }
 
     /// Drops the values behind the first ones, of which there are so many as `count` told.
     fn truncate(&mut self, count: u64)
@@ -29,10 +38,6 @@ pub trait ValueTaker {
     /// How many values it took; `u64::MAX` where there are more.
     fn count(&self) -> u64
         ensures { (values : List ℕ) → took self.now values → result ≡ min (length values) (2 ^ 64 - 1) };
-
-    /// The first value, if it took any.
-    fn first_value(&self) -> Option<u64>
-        ensures { (values : List ℕ) → took self.now values → result ≡ slice_get values 0 };
 }
 
 /// It keeps the values.
@@ -57,17 +62,12 @@ impl ValueTaker for Vec<u64> {
     fn count(&self) -> u64 {
         self.len() as u64
     }
-
-    fn first_value(&self) -> Option<u64> {
-        self.as_slice().first().copied()
-    }
 }
 
-/// How many values there were, and the first one.
+/// How many values there were.
 #[derive(Clone, Copy, Debug, PartialEq, Eq)]
 pub struct ValueCount {
     count: u64,
-    first: Option<u64>,
 }
 
 impl ValueCount {
@@ -75,23 +75,17 @@ impl ValueCount {
     pub fn new() -> ValueCount
         ensures { ⟦<ValueCount as ValueTaker>⟧.took result [] }
     {
-        ValueCount {
-            count: 0,
-            first: None,
-        }
+        ValueCount { count: 0 }
     }
 }
 
 impl ValueTaker for ValueCount {
-    ghost use Rattle.std.specs.Prelude.{◌≡◌, ◌-◌, ◌^◌, length, min, slice_get};
+    ghost use Rattle.std.specs.Prelude.{◌≡◌, ◌-◌, ◌^◌, length, min};
 
-    ghost took = { λ c values. (c.count ≡ min (length values) (2 ^ 64 - 1)) × (c.first ≡ slice_get values 0) };
+    ghost took = { λ c values. c.count ≡ min (length values) (2 ^ 64 - 1) };
 
     #[inline]
-    fn take(&mut self, value: u64) -> Result<(), AllocError> {
-        if self.count == 0 {
-            self.first = Some(value);
-        }
+    fn take(&mut self, _value: u64) -> Result<(), AllocError> {
         self.count = self.count.saturating_add(1);
         Ok(())
     }
@@ -103,17 +97,10 @@ impl ValueTaker for ValueCount {
     }
 
     fn truncate(&mut self, count: u64) {
-        if count == 0 {
-            self.first = None;
-        }
         self.count = self.count.min(count);
     }
 
     fn count(&self) -> u64 {
         self.count
-    }
-
-    fn first_value(&self) -> Option<u64> {
-        self.first
     }
 }

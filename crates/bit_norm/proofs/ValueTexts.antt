@@ -1,6 +1,5 @@
 -- The text of values that are taken one after the other.
 use Rattle.std.proofs.Common.{◌≡◌, ℕ, ◌*◌, ◌/◌, ◌^◌, ◌<◌, ◌≤◌, Bool, List, [], ◌∷◌, ◌++◌, length, take, refl, sym, ap, subst, ◌∙◌, arith, append_assoc, length-append}
-use Rattle.std.specs.Prelude.{slice_get}
 use Rattle.std.proofs.lemmas.List.{append-nil}
 use Rattle.bit_norm.specs.Building.{HoldsText, HasTaken}
 use Rattle.bit_norm.specs.declared.form_values.FormValues.{FormValues}
@@ -46,10 +45,6 @@ pub holds_past : (limit : ℕ) (text : List Bool) (values others : List ℕ) (ho
 holds_past limit text values others All is long holds = longer_text values others limit (subst (λ (s : List Bool). limit < length s / 8) holds long)
 holds_past limit text values others TooLong is long holds = absurd (cc)
 holds_past limit text values others Unknown is long holds = absurd (cc)
-
-pub first_stays : (values others : List ℕ) → 0 < length values → slice_get values 0 ≡ slice_get (values ++ others) 0
-first_stays [] others some = absurd (omega (arith, some))
-first_stays (v ∷ values) others some = refl
 
 -- so many values have no longer a text
 pub values_few : (vs : List ℕ) → length (values_text vs) ≤ 2048 * length vs

@@ -1,5 +1,5 @@
 -- A normal form that is being built, and what it becomes by the events that follow.
-use Rattle.std.specs.Prelude.{◌≡◌, ℕ, suc, ◌+◌, ◌-◌, ◌/◌, ◌%◌, ◌^◌, ◌<◌, ◌≤◌, Bool, true, false, List, [], ◌∷◌, ◌++◌, length, min, take, slice_get, ◌&&◌}
+use Rattle.std.specs.Prelude.{◌≡◌, ℕ, suc, ◌+◌, ◌-◌, ◌/◌, ◌%◌, ◌^◌, ◌<◌, ◌≤◌, Bool, true, false, List, [], ◌∷◌, ◌++◌, length, min, take, ◌&&◌}
 use Rattle.std.specs.List.{list_all}
 use Rattle.bit_grammar.specs.Setting.{keeps, keeps_record}
 use Rattle.bit_grammar.specs.Under.{ids_behind, innermost, events_under}
@@ -31,7 +31,6 @@ pub record HasTaken (t : FormValues) (values : List ℕ) : Type 0 where
   pub few : t.held ≤ 64
   pub whole : values ≡ front ++ take t.held t.numbers
   pub count : t.before ≡ min (length front) (2 ^ 64 - 1)
-  pub first : 0 < length front → t.first ≡ slice_get front 0
   pub holds : HoldsText t.holding t.text t.limits.bytes front
 
 -- ---- open blocks

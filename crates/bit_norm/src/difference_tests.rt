@@ -2,7 +2,7 @@
 
 use crate::fault_tests::agrees;
 use crate::input_tests::bytes_of;
-use crate::{Difference, Info, Place, Standing, ValueDifference, first_difference};
+use crate::{Difference, Info, Place, RecordName, Standing, ValueDifference, first_difference};
 use bit_fields::{Limits, SliceSource};
 use std::alloc::{AllocError, Global};
 use std::process::Abort;
@@ -155,4 +155,57 @@ static WITHOUT_INFO: &str = "\
 #[test]
 fn what_is_left_out_counts_nowhere(rt: HostRuntime) {
     are_told(&rt, rt.alloc(), WITHOUT_INFO, Info::Drop, 4);
+}
+
+/// The same without blocks 9 and the records with code 1 of blocks 8.
+static WITHOUT_NAMED: &str = "\
+    M 21 08 00 00 05 00 00 00 07 81 57 82 00 00 00 00 01 00 00 00 0B 41 00 00 0B 41 01 00 \
+        = M 21 08 00 00 02 00 00 00 0B 41 71 10 24 00 00 00 =none\n\
+    M 21 08 00 00 02 00 00 00 07 81 B7 10 14 0B C1 01 = M 21 08 00 00 02 00 00 00 0B 41 B1 10 20 00 00 00 \
+        =Item { open: [OpenBlock { id: 8, items: 0 }], items: 1 }: \
+        136 Record { code: 2, count: 1 }; 116 Record { code: 2, count: 1 }; Some(ValueDifference { index: 0, first: 7, second: 8 })\n\
+    M 21 08 00 00 02 00 00 00 0B 41 71 10 78 00 00 00 = M 21 08 00 00 02 00 00 00 0B 41 B1 10 1C 00 00 00 \
+        =Item { open: [OpenBlock { id: 8, items: 0 }], items: 1 }: 116 End; 116 Record { code: 2, count: 1 }; None\n\
+    M T = M 21 08 00 00 01 00 00 00 0B 41 01 00 \
+        =Item { open: [OpenBlock { id: 8, items: 0 }], items: 0 }: 96 End; 96 Record { code: 2, count: 1 }; None\n\
+    M 25 08 00 00 01 00 00 00 00 00 00 00 E = M 25 08 00 00 01 00 00 00 00 00 00 00 \
+        =Item { open: [], items: 0 }: 128 Block(8); 32 End; None\n\
+    M E 25 08 00 00 01 00 00 00 00 00 00 00 = M E E =Item { open: [], items: 1 }: 128 End; 128 Block(8); None";
+
+/// In blocks in others, of which one stands behind a wrapper; a block in one that is left out; records round a block.
+static NAMED_AT_DEPTH: &str = "\
+    M 21 08 00 00 0D 00 00 00 07 81 97 82 00 00 00 00 09 00 00 00 25 08 00 00 01 00 00 00 0B 41 00 00 \
+        21 08 00 00 03 00 00 00 07 81 B7 10 14 07 41 B2 10 1C 00 00 00 00 00 00 00 00 00 00 \
+        = DE C0 17 0B 00 00 00 00 14 00 00 00 2C 00 00 00 00 00 00 00 M 21 08 00 00 08 00 00 00 29 08 00 00 05 00 00 00 \
+        21 08 00 00 02 00 00 00 0B 41 B1 10 20 00 00 00 00 00 00 00 00 00 00 00 \
+        =Item { open: [OpenBlock { id: 8, items: 0 }, OpenBlock { id: 10, items: 0 }, OpenBlock { id: 8, items: 0 }], items: 1 }: \
+        412 Record { code: 2, count: 1 }; 404 Record { code: 2, count: 1 }; Some(ValueDifference { index: 0, first: 7, second: 8 })\n\
+    M 21 08 00 00 0D 00 00 00 07 81 97 82 00 00 00 00 09 00 00 00 25 08 00 00 01 00 00 00 0B 41 00 00 \
+        21 08 00 00 03 00 00 00 07 81 B7 10 14 07 41 B2 10 1C 00 00 00 00 00 00 00 00 00 00 \
+        = DE C0 17 0B 00 00 00 00 14 00 00 00 38 00 00 00 00 00 00 00 M 21 08 00 00 0B 00 00 00 29 08 00 00 08 00 00 00 \
+        21 08 00 00 05 00 00 00 0B 41 51 82 00 00 00 00 01 00 00 00 00 00 00 00 07 C1 00 00 00 00 00 00 00 00 00 00 \
+        =Item { open: [OpenBlock { id: 8, items: 0 }, OpenBlock { id: 10, items: 0 }, OpenBlock { id: 8, items: 0 }], items: 1 }: \
+        412 Record { code: 2, count: 1 }; 404 End; None\n\
+    M 25 08 00 00 07 00 00 00 21 08 00 00 01 00 00 00 0B 41 00 00 25 08 00 00 01 00 00 00 0B 81 00 00 00 00 00 00 \
+        21 08 00 00 01 00 00 00 0B 41 01 00 = M 21 08 00 00 01 00 00 00 0B 81 01 00 \
+        =Item { open: [OpenBlock { id: 8, items: 0 }], items: 0 }: \
+        384 Record { code: 2, count: 1 }; 96 Record { code: 2, count: 1 }; Some(ValueDifference { index: 0, first: 5, second: 6 })\n\
+    M 21 08 00 00 06 00 00 00 07 81 97 82 00 00 00 00 01 00 00 00 07 01 01 00 0B C1 71 10 78 00 00 00 \
+        = M 21 08 00 00 05 00 00 00 29 08 00 00 01 00 00 00 07 01 01 00 0B C1 B1 10 1C 00 00 00 \
+        =Item { open: [OpenBlock { id: 8, items: 0 }], items: 2 }: 244 End; 212 Record { code: 2, count: 1 }; None\n\
+    M 21 08 00 00 05 00 00 00 07 81 97 82 00 00 00 00 01 00 00 00 07 01 01 00 00 00 00 00 \
+        = M 21 08 00 00 04 00 00 00 29 08 00 00 01 00 00 00 07 41 01 00 00 00 00 00 \
+        =Item { open: [OpenBlock { id: 8, items: 0 }, OpenBlock { id: 10, items: 0 }], items: 0 }: \
+        192 Record { code: 1, count: 1 }; 160 Record { code: 1, count: 1 }; Some(ValueDifference { index: 0, first: 4, second: 5 })";
+
+/// The setting of these.
+static NAMED: Info<'static> = Info::Without {
+    blocks: &[9],
+    records: &[RecordName { block: 8, code: 1 }],
+};
+
+#[test]
+fn what_is_named_counts_nowhere(rt: HostRuntime) {
+    are_told(&rt, rt.alloc(), WITHOUT_NAMED, NAMED, 6);
+    are_told(&rt, rt.alloc(), NAMED_AT_DEPTH, NAMED, 5);
 }

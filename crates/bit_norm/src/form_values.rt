@@ -28,9 +28,8 @@ pub(crate) struct FormValues {
     numbers: [u64; ROOM],
     held: usize,
     pub(crate) text: BitText,
-    /// How many values there are before those that are held, and the first of them.
+    /// How many values there are before those that are held.
     pub(crate) before: u64,
-    first: Option<u64>,
     limits: Limits,
     holding: Holding,
 }
@@ -81,7 +80,6 @@ impl FormValues {
             held: 0,
             text: BitText::new(alloc),
             before: 0,
-            first: None,
             limits,
             holding: Holding::All,
         }
@@ -113,11 +111,9 @@ impl FormValues {
         ensures took { (values : List ℕ) → HasTaken self.old values → HasTaken self.new values }
         ensures ok { OnOk result (self.new.held ≡ 0) }
     {
-        let first = self.first_value();
         let count = self.count();
         let recent = &self.numbers[..self.held.min(ROOM)];
         add_values(&mut self.text, &mut self.holding, self.limits, recent)?;
-        self.first = first;
         self.before = count;
         self.held = 0;
         Ok(())
@@ -167,7 +163,6 @@ impl FormValues {
         self.held = 0;
         self.text.clear();
         self.before = 0;
-        self.first = None;
         self.holding = Holding::All;
     }
 
@@ -216,10 +211,7 @@ impl ValueTaker for FormValues {
             self.clear();
             return;
         }
-        let first = self.first_value();
-        let left = self.count().min(count);
-        self.first = first;
-        self.before = left;
+        self.before = self.count().min(count);
         self.held = 0;
         self.holding = Holding::Unknown;
     }
@@ -227,12 +219,5 @@ impl ValueTaker for FormValues {
     #[inline(always)]
     fn count(&self) -> u64 {
         self.before.saturating_add(self.held as u64)
-    }
-
-    fn first_value(&self) -> Option<u64> {
-        if self.before > 0 {
-            return self.first;
-        }
-        self.recent().first().copied()
     }
 }

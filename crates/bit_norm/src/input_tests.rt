@@ -259,6 +259,17 @@ static GONE: &str = "\
     M D = M 01 08 00 00 01 00 00 00 07 01 02 00\n\
     M N = M";
 
+/// The same, and their normal forms without blocks 9 and the records with code 1 of blocks 8.
+static BOTH: &str = "\
+    # blocks 8 and 9 in a block 9\n\
+    M 25 08 00 00 07 00 00 00 21 08 00 00 01 00 00 00 0B 41 00 00 25 08 00 00 01 00 00 00 0B 81 00 00 00 00 00 00 \
+        21 08 00 00 01 00 00 00 0B 41 01 00 = M 21 08 00 00 01 00 00 00 0B 41 01 00\n\
+    # a block 9 in a block 9, in a block 8, and a record behind it\n\
+    M 21 08 00 00 07 00 00 00 25 08 00 00 04 00 00 00 25 08 00 00 01 00 00 00 00 00 00 00 00 00 00 00 07 81 07 00 = M E\n\
+    # records round a block 10 with a record of the same code\n\
+    M 21 08 00 00 06 00 00 00 07 81 97 82 00 00 00 00 01 00 00 00 07 01 01 00 0B C1 71 10 78 00 00 00 \
+        = M 21 08 00 00 04 00 00 00 29 08 00 00 01 00 00 00 07 01 01 00 0B C1 01 00";
+
 #[test]
 fn named_blocks_and_records(rt: HostRuntime) {
     let records = Info::Without {
@@ -274,6 +285,11 @@ fn named_blocks_and_records(rt: HostRuntime) {
         records: &[],
     };
     are_normalised(&rt, rt.alloc(), GONE, blocks, 3);
+    let both = Info::Without {
+        blocks: &[9],
+        records: &[RecordName { block: 8, code: 1 }],
+    };
+    are_normalised(&rt, rt.alloc(), BOTH, both, 3);
 }
 
 #[test]

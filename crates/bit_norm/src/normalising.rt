@@ -47,7 +47,8 @@ fn give<K: Sink>(magic: [u8; 4], text: BitText, sink: K) -> (Result<u64, Fault>,
     }
 }
 
-/// Gives a sink the normal form of what is left under a setting of what an input holds, and answers how many bytes that are. The input goes from the first byte that its source still has to the last.
+/// Gives a sink the normal form of what is left of an input under a setting, and answers how many bytes that are. The input
+/// goes from the first byte that its source still has to the last.
 ///
 /// Nothing is given to the sink before the whole input is accepted. `Refused` names the one reason and bit at which it breaks
 /// the rules, and `OutputTooLong` comes where its form passes the limit on bytes; both, as `Read` and `Memory`, give the sink

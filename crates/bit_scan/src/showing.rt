@@ -8,8 +8,8 @@ use bit_grammar::Info;
 use std::alloc::Global;
 
 /// Appends the listing of what is left of an input under a setting to a sink: a line for the magic, and one for each block and
-/// record in order. The input goes from the first byte that its source still has to the last, and its bytes are kept and read twice: to judge it, and then
-/// to write each line as it is read.
+/// record in order. The input goes from the first byte that its source still has to the last, and its bytes are kept and read
+/// twice: to judge it, and then to write each line as it is read.
 ///
 /// Nothing is given to the sink before the whole input is accepted. `Refused` names the one reason and bit at which it breaks
 /// the rules. `Write`, and `Memory` after acceptance, leave the sink a front of the listing. The source and the sink are

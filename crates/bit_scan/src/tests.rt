@@ -277,6 +277,21 @@ fn lists_left(
 }
 
 #[test]
+fn listings_without_blockinfo(rt: HostRuntime) -> Result<(), Fail> {
+    let text = "magic 4243c0de\nblock 8\n  record 1 100\n";
+    lists_left(&rt, rt.alloc(), &DESCRIBED, Info::Drop, text)
+}
+
+/// A block 9 around a block 8 with a record and a block 9, and behind it a block 8 with a record 1, a block 10 with another one,
+/// a record 2 and a record 1.
+static ROUND: [u8; 76] = [
+    0x42, 0x43, 0xc0, 0xde, 0x25, 0x08, 0, 0, 0x08, 0, 0, 0, 0x21, 0x08, 0, 0, 0x05, 0, 0, 0, 0x0b,
+    0x41, 0x50, 0x82, 0, 0, 0, 0, 0x01, 0, 0, 0, 0, 0, 0, 0, 0, 0, 0, 0, 0, 0, 0, 0, 0x21, 0x08, 0,
+    0, 0x06, 0, 0, 0, 0x07, 0x81, 0x97, 0x82, 0, 0, 0, 0, 0x01, 0, 0, 0, 0x07, 0x01, 0x01, 0, 0x0b,
+    0xc1, 0x71, 0x10, 0x78, 0, 0, 0,
+];
+
+#[test]
 fn listings_of_what_is_left(rt: HostRuntime) -> Result<(), Fail> {
     let alloc = rt.alloc();
     let records = [
@@ -290,13 +305,8 @@ fn listings_of_what_is_left(rt: HostRuntime) -> Result<(), Fail> {
     let described = "magic 4243c0de\nblock 0\n  record 1 8\nblock 8\n";
     lists_left(&rt, alloc, &DESCRIBED, named, described)?;
     lists_left(&rt, alloc, &NESTED, named, "magic 4243c0de\nblock 8\n")?;
-    lists_left(
-        &rt,
-        alloc,
-        &DESCRIBED,
-        Info::Drop,
-        "magic 4243c0de\nblock 8\n  record 1 100\n",
-    )
+    let round = "magic 4243c0de\nblock 8\n  block 10\n    record 1 4\n  record 2 7\n";
+    lists_left(&rt, alloc, &ROUND, named, round)
 }
 
 /// A stream of one block up to the values of its record, which are 20000 and stand in 6 bits each.

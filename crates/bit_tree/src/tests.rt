@@ -333,11 +333,17 @@ pub(crate) fn shown_document(alloc: Global, document: &Document) -> Result<Strin
     Ok(text)
 }
 
+/// Whether the whole tree is fit.
+fn is_whole_fit(rt: &impl Abort, alloc: Global, marked: &Marked) -> bool
+    ensures { result ≡ true → Fit (input.tree_of marked.now) }
+{
+    is_fit(rt, alloc, marked, Info::Keep)
+}
+
 /// What `tree_of` makes of the sample, as text.
-#[tactic(auto, using(bit_grammar::proofs::Under::fit_kept))]
 fn told_of_tree(rt: &impl Abort, alloc: Global) -> Result<String, AllocError> {
     let marked = sample(rt, alloc);
-    assert!(rt; is_fit(rt, alloc, &marked, Info::Keep));
+    assert!(rt; is_whole_fit(rt, alloc, &marked));
     let document = tree_of(alloc, &marked).expect(rt, "memory");
     shown_document(alloc, &document)
 }
@@ -369,30 +375,47 @@ fn trees_keep_or_drop_blockinfo(rt: HostRuntime) {
     );
 }
 
+/// What is left of the sample without blocks with these ids, and without its records with code 1 where these are named.
+fn told_without(rt: &impl Abort, alloc: Global, blocks: &[u32], records: &[RecordName]) -> String {
+    let info = Info::Without { blocks, records };
+    told_of_tree_with(rt, alloc, info).expect(rt, "memory")
+}
+
+/// Ids of blocks, and what is left of the sample without these, and without records with code 1 of blocks 8 and 0 as well.
+static WITHOUT: [(&[u32], &str, &str); 5] = [
+    (
+        &[],
+        " 0 { 1 [8] } 8 { 0 { 1 [8] } 2 [9] 8 { 1 [100] } } [66, 67, 192, 222]",
+        " 0 { 1 [8] } 8 { 0 { 1 [8] } 2 [9] 8 { } } [66, 67, 192, 222]",
+    ),
+    (
+        &[3, 0],
+        " 8 { 2 [9] 8 { 1 [100] } } [66, 67, 192, 222]",
+        " 8 { 2 [9] 8 { } } [66, 67, 192, 222]",
+    ),
+    (
+        &[8],
+        " 0 { 1 [8] } [66, 67, 192, 222]",
+        " 0 { 1 [8] } [66, 67, 192, 222]",
+    ),
+    (&[8, 0], " [66, 67, 192, 222]", " [66, 67, 192, 222]"),
+    (
+        &[1, 2, 9],
+        " 0 { 1 [8] } 8 { 0 { 1 [8] } 2 [9] 8 { 1 [100] } } [66, 67, 192, 222]",
+        " 0 { 1 [8] } 8 { 0 { 1 [8] } 2 [9] 8 { } } [66, 67, 192, 222]",
+    ),
+];
+
 #[test]
 fn trees_without_what_is_named(rt: HostRuntime) {
     let names = [
         RecordName { block: 8, code: 1 },
         RecordName { block: 0, code: 1 },
     ];
-    let records = Info::Without {
-        blocks: &[],
-        records: &names,
-    };
-    let both = Info::Without {
-        blocks: &[3, 0],
-        records: &names,
-    };
-    agrees(
-        &rt,
-        told_of_tree_with(&rt, rt.alloc(), records),
-        " 0 { 1 [8] } 8 { 0 { 1 [8] } 2 [9] 8 { } } [66, 67, 192, 222]",
-        "records",
-    );
-    agrees(
-        &rt,
-        told_of_tree_with(&rt, rt.alloc(), both),
-        " 8 { 2 [9] 8 { } } [66, 67, 192, 222]",
-        "both",
-    );
+    for (blocks, all, some) in &WITHOUT {
+        let told = told_without(&rt, rt.alloc(), blocks, &[]);
+        assert!(rt; told.as_str() == *all, "{blocks:?}: {told}");
+        let told = told_without(&rt, rt.alloc(), blocks, &names);
+        assert!(rt; told.as_str() == *some, "{blocks:?}: {told}");
+    }
 }

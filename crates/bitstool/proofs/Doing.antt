@@ -3,8 +3,6 @@ use Rattle.std.proofs.Common.{◌≡◌, ◌∙◌, ℕ, ◌+◌, List, Some, No
 use Rattle.std.specs.Prelude.{IfSome}
 use Rattle.std.specs.Io.KnownBytes.{Keeps}
 use Rattle.std.proofs.KnownBytes.{Keeps-refl, Keeps-trans}
-use Rattle.bit_grammar.specs.Setting.{keep, setting_of}
-use Rattle.bit_grammar.specs.declared.info.Info.{Info}
 use Rattle.bit_grammar.specs.declared.reason.Reason.{Reason}
 use Rattle.bit_grammar.specs.Bits.{bits_of_bytes}
 use Rattle.bit_grammar.specs.Grammar.{at}
@@ -33,10 +31,12 @@ use Rattle.bit_norm.specs.declared.comparing.Which.TheVariants.{First, Second}
 use Rattle.bit_norm.specs.Whole.{Normalises, ReadsTree}
 use Rattle.bitstool.specs.declared.outcome.Outcome.{Outcome}
 use Rattle.bitstool.specs.declared.outcome.Outcome.TheVariants.{Done, Different, Refused, RefusedOf, TooLong, Usage, Read, Write, Memory}
+use Rattle.bitstool.specs.declared.task.LeftOut.{LeftOut}
 use Rattle.bitstool.specs.declared.task.Task.{Task}
 use Rattle.bitstool.specs.declared.task.Task.TheVariants.{Check, Normal, Same, Where, Analyse, Show, Events}
 use Rattle.bitstool.specs.Performing.{Finds, FindsWhere, Found, Judges, Settles, TellsDifference, TellsFound, TellsLine, ended, outcome_found, outcome_of}
 use Rattle.bitstool.specs.Differences.{difference_text}
+use Rattle.bitstool.specs.LeftOut.{setting_for}
 use Rattle.bitstool.specs.Runs.{Told, Accepts, Answers, Refuses, StopsShort, LacksMemory, LeavesRefused, LeavesUnread, Stays, Takes, Leaves, Does, most_taken, Pays}
 use Rattle.bitstool.proofs.Known.{gained, gained_front, gains_front, gains_text, gains_part, gains_kept, front_kept, if_told}
 use Rattle.bitstool.proofs.Taking.{drained, fails_more, spends_more, takes_done, takes_fault, takes_long, takes_memory, takes_write}
@@ -50,21 +50,21 @@ stays_same old new same = subst (λ (o : Outgoing). Stays old o) (sym same) (Kee
 -- an output that is as it was
 memory_kept : (task : Task) (input old new : Told) → Keeps old new → LacksMemory task input old new
 memory_kept (Check limits) input old new k = k
-memory_kept (Normal limits info) input old new k = k
-memory_kept (Same first limits info) input old new k = k
-memory_kept (Where first limits info) input old new k = k
+memory_kept (Normal limits out) input old new k = k
+memory_kept (Same first limits out) input old new k = k
+memory_kept (Where first limits out) input old new k = k
 memory_kept (Analyse limits) input old new k = inl k
-memory_kept (Show limits) input old new k = inl k
+memory_kept (Show limits out) input old new k = inl k
 memory_kept (Events limits values) input old new k = inl k
 
 -- it is a kind of stopping short
 memory_stops : (task : Task) (input old new : Told) → LacksMemory task input old new → StopsShort task input old new
 memory_stops (Check limits) input old new k = inl k
-memory_stops (Normal limits info) input old new k = inl k
-memory_stops (Same first limits info) input old new k = inl k
-memory_stops (Where first limits info) input old new k = inl k
+memory_stops (Normal limits out) input old new k = inl k
+memory_stops (Same first limits out) input old new k = inl k
+memory_stops (Where first limits out) input old new k = inl k
 memory_stops (Analyse limits) input old new h = h
-memory_stops (Show limits) input old new h = h
+memory_stops (Show limits out) input old new h = h
 memory_stops (Events limits values) input old new h = h
 
 -- an output that stays as it is then
@@ -74,11 +74,11 @@ stopped_then task input old new last (inr d) keeps = inr (d.0, d.1, d.2, front_k
 
 memory_then : (task : Task) (input old new last : Told) → LacksMemory task input old new → Keeps new last → LacksMemory task input old last
 memory_then (Check limits) input old new last k keeps = Keeps-trans old new last k keeps
-memory_then (Normal limits info) input old new last k keeps = Keeps-trans old new last k keeps
-memory_then (Same first limits info) input old new last k keeps = Keeps-trans old new last k keeps
-memory_then (Where first limits info) input old new last k keeps = Keeps-trans old new last k keeps
+memory_then (Normal limits out) input old new last k keeps = Keeps-trans old new last k keeps
+memory_then (Same first limits out) input old new last k keeps = Keeps-trans old new last k keeps
+memory_then (Where first limits out) input old new last k keeps = Keeps-trans old new last k keeps
 memory_then (Analyse limits) input old new last h keeps = stopped_then (Analyse limits) input old new last h keeps
-memory_then (Show limits) input old new last h keeps = stopped_then (Show limits) input old new last h keeps
+memory_then (Show limits out) input old new last h keeps = stopped_then (Show limits out) input old new last h keeps
 memory_then (Events limits values) input old new last h keeps = stopped_then (Events limits values) input old new last h keeps
 
 -- ---- inputs that were not accepted
@@ -86,30 +86,30 @@ memory_then (Events limits values) input old new last h keeps = stopped_then (Ev
 -- an output that is as it was, where the input could not be read
 unread_kept : (task : Task) (input : Told) (old new : Outgoing) → Stays old new → LeavesUnread task input old new
 unread_kept (Check limits) input old new stays = stays
-unread_kept (Normal limits info) input old new stays = stays
-unread_kept (Same first limits info) input old new stays = stays
-unread_kept (Where first limits info) input old new stays = stays
+unread_kept (Normal limits out) input old new stays = stays
+unread_kept (Same first limits out) input old new stays = stays
+unread_kept (Where first limits out) input old new stays = stays
 unread_kept (Analyse limits) input old new stays = stays
-unread_kept (Show limits) input old new stays = stays
+unread_kept (Show limits out) input old new stays = stays
 unread_kept (Events limits values) input old new stays = (inl stays.0, stays.1)
 
 -- it is a kind of stopping short
 unread_stops : (task : Task) (input : Told) (old new : Outgoing) → LeavesUnread task input old new → StopsShort task input old.bytes new.bytes × (new.failures ≡ old.failures)
 unread_stops (Check limits) input old new stays = (inl stays.0, stays.1)
-unread_stops (Normal limits info) input old new stays = (inl stays.0, stays.1)
-unread_stops (Same first limits info) input old new stays = (inl stays.0, stays.1)
-unread_stops (Where first limits info) input old new stays = (inl stays.0, stays.1)
+unread_stops (Normal limits out) input old new stays = (inl stays.0, stays.1)
+unread_stops (Same first limits out) input old new stays = (inl stays.0, stays.1)
+unread_stops (Where first limits out) input old new stays = (inl stays.0, stays.1)
 unread_stops (Analyse limits) input old new stays = (inl stays.0, stays.1)
-unread_stops (Show limits) input old new stays = (inl stays.0, stays.1)
+unread_stops (Show limits out) input old new stays = (inl stays.0, stays.1)
 unread_stops (Events limits values) input old new h = h
 
 refused_stops : (task : Task) (input : Told) (reason : Reason) (bit : ℕ) (old new : Outgoing) → LeavesRefused task input reason bit old new → StopsShort task input old.bytes new.bytes × (new.failures ≡ old.failures)
 refused_stops (Check limits) input reason bit old new h = (inl h.1.0, h.1.1)
-refused_stops (Normal limits info) input reason bit old new h = (inl h.1.0, h.1.1)
-refused_stops (Same first limits info) input reason bit old new h = (inl h.1.0, h.1.1)
-refused_stops (Where first limits info) input reason bit old new h = (inl h.1.0, h.1.1)
+refused_stops (Normal limits out) input reason bit old new h = (inl h.1.0, h.1.1)
+refused_stops (Same first limits out) input reason bit old new h = (inl h.1.0, h.1.1)
+refused_stops (Where first limits out) input reason bit old new h = (inl h.1.0, h.1.1)
 refused_stops (Analyse limits) input reason bit old new h = (inl h.1.0, h.1.1)
-refused_stops (Show limits) input reason bit old new h = (inl h.1.0, h.1.1)
+refused_stops (Show limits out) input reason bit old new h = (inl h.1.0, h.1.1)
 refused_stops (Events limits values) input reason bit old new h = (inr (h.0, Refused reason bit, h.1, gains_front h.0 old.bytes new.bytes h.2), h.3)
 
 -- an output that stays as it is then
@@ -118,20 +118,20 @@ stays_then old new last h k = (Keeps-trans old.bytes new.bytes last.bytes h.0 k.
 
 unread_then : (task : Task) (input : Told) (old new last : Outgoing) → LeavesUnread task input old new → Stays new last → LeavesUnread task input old last
 unread_then (Check limits) input old new last h stays = stays_then old new last h stays
-unread_then (Normal limits info) input old new last h stays = stays_then old new last h stays
-unread_then (Same first limits info) input old new last h stays = stays_then old new last h stays
-unread_then (Where first limits info) input old new last h stays = stays_then old new last h stays
+unread_then (Normal limits out) input old new last h stays = stays_then old new last h stays
+unread_then (Same first limits out) input old new last h stays = stays_then old new last h stays
+unread_then (Where first limits out) input old new last h stays = stays_then old new last h stays
 unread_then (Analyse limits) input old new last h stays = stays_then old new last h stays
-unread_then (Show limits) input old new last h stays = stays_then old new last h stays
+unread_then (Show limits out) input old new last h stays = stays_then old new last h stays
 unread_then (Events limits values) input old new last h stays = (stopped_then (Events limits values) input old.bytes new.bytes last.bytes h.0 stays.0, stays.1 ∙ h.1)
 
 refused_then : (task : Task) (input : Told) (reason : Reason) (bit : ℕ) (old new last : Outgoing) → LeavesRefused task input reason bit old new → Stays new last → LeavesRefused task input reason bit old last
 refused_then (Check limits) input reason bit old new last h stays = (h.0, stays_then old new last h.1 stays)
-refused_then (Normal limits info) input reason bit old new last h stays = (h.0, stays_then old new last h.1 stays)
-refused_then (Same first limits info) input reason bit old new last h stays = (h.0, stays_then old new last h.1 stays)
-refused_then (Where first limits info) input reason bit old new last h stays = (h.0, stays_then old new last h.1 stays)
+refused_then (Normal limits out) input reason bit old new last h stays = (h.0, stays_then old new last h.1 stays)
+refused_then (Same first limits out) input reason bit old new last h stays = (h.0, stays_then old new last h.1 stays)
+refused_then (Where first limits out) input reason bit old new last h stays = (h.0, stays_then old new last h.1 stays)
 refused_then (Analyse limits) input reason bit old new last h stays = (h.0, stays_then old new last h.1 stays)
-refused_then (Show limits) input reason bit old new last h stays = (h.0, stays_then old new last h.1 stays)
+refused_then (Show limits out) input reason bit old new last h stays = (h.0, stays_then old new last h.1 stays)
 refused_then (Events limits values) input reason bit old new last h stays = (h.0, h.1, gains_kept h.0 old.bytes new.bytes last.bytes h.2 stays.0, stays.1 ∙ h.3)
 
 -- ---- checking
@@ -158,29 +158,29 @@ refused_here limits i now why h = (takes_fault {A = Unit {0}} (λ bytes done. Ac
 -- ---- normal forms
 
 -- the form of a tree answers for the input that has it
-form_answers : (info : Info) (limits : Limits) (i now : Incoming) (tree : Tree) → ReadsTree (setting_of info) limits i (Ok tree) now → size_of tree ≤ limits.bytes → Answers (Normal limits info) i.to_come Done (normal_form tree)
-form_answers info limits i now tree h small = (tree, refl, small, if_told i.to_come (λ bytes. HasTree (setting_of info) limits bytes tree) (λ tells. (h.1 tells).0.0))
+form_answers : (out : LeftOut) (limits : Limits) (i now : Incoming) (tree : Tree) → ReadsTree (setting_for out) limits i (Ok tree) now → size_of tree ≤ limits.bytes → Answers (Normal limits out) i.to_come Done (normal_form tree)
+form_answers out limits i now tree h small = (tree, refl, small, if_told i.to_come (λ bytes. HasTree (setting_for out) limits bytes tree) (λ tells. (h.1 tells).0.0))
 
-pub form_done : (info : Info) (limits : Limits) (i now : Incoming) (old new : Outgoing) (count : ℕ) → Normalises (setting_of info) limits i old (Ok count) now new → Does (Normal limits info) i now old new Done
-form_done info limits i now old new count h =
+pub form_done : (out : LeftOut) (limits : Limits) (i now : Incoming) (old new : Outgoing) (count : ℕ) → Normalises (setting_for out) limits i old (Ok count) now new → Does (Normal limits out) i now old new Done
+form_done out limits i now old new count h =
     let gain = h.2.2 in
-    (takes_done (HasFit (setting_of info) limits) (Normal limits info) limits (λ o. refl) i now h.0 h.1, (normal_form h.0, form_answers info limits i now h.0 h.1 h.2.0, gained (normal_form h.0) old.bytes new.bytes gain.tells gain.bytes, gain.failures))
+    (takes_done (HasFit (setting_for out) limits) (Normal limits out) limits (λ o. refl) i now h.0 h.1, (normal_form h.0, form_answers out limits i now h.0 h.1 h.2.0, gained (normal_form h.0) old.bytes new.bytes gain.tells gain.bytes, gain.failures))
 
-pub form_not_done : (info : Info) (limits : Limits) (i now : Incoming) (old new : Outgoing) (why : Fault) → Normalises (setting_of info) limits i old (Err why) now new → Does (Normal limits info) i now old new (outcome_of limits.bytes why)
-form_not_done info limits i now old new (fault.Refused reason bit) h =
-    (takes_fault (HasFit (setting_of info) limits) (Normal limits info) limits (λ o. refl) i now (fault.Refused reason bit) h.0, (if_told i.to_come (λ bytes. BreaksInput limits bytes (at reason bit)) h.0.1, stays_same old new h.1))
-form_not_done info limits i now old new fault.Read h = (takes_fault (HasFit (setting_of info) limits) (Normal limits info) limits (λ o. refl) i now fault.Read h.0, stays_same old new h.1)
-form_not_done info limits i now old new fault.Memory h = (takes_fault (HasFit (setting_of info) limits) (Normal limits info) limits (λ o. refl) i now fault.Memory h.0, stays_same old new h.1)
-form_not_done info limits i now old new fault.Write h =
+pub form_not_done : (out : LeftOut) (limits : Limits) (i now : Incoming) (old new : Outgoing) (why : Fault) → Normalises (setting_for out) limits i old (Err why) now new → Does (Normal limits out) i now old new (outcome_of limits.bytes why)
+form_not_done out limits i now old new (fault.Refused reason bit) h =
+    (takes_fault (HasFit (setting_for out) limits) (Normal limits out) limits (λ o. refl) i now (fault.Refused reason bit) h.0, (if_told i.to_come (λ bytes. BreaksInput limits bytes (at reason bit)) h.0.1, stays_same old new h.1))
+form_not_done out limits i now old new fault.Read h = (takes_fault (HasFit (setting_for out) limits) (Normal limits out) limits (λ o. refl) i now fault.Read h.0, stays_same old new h.1)
+form_not_done out limits i now old new fault.Memory h = (takes_fault (HasFit (setting_for out) limits) (Normal limits out) limits (λ o. refl) i now fault.Memory h.0, stays_same old new h.1)
+form_not_done out limits i now old new fault.Write h =
     let gain = h.2.1 in (
-      takes_write (HasFit (setting_of info) limits) (Normal limits info) limits (λ o. refl) i now h.0 h.1,
-      (inr (normal_form h.0, Done, form_answers info limits i now h.0 h.1 h.2.0, gained_front (normal_form h.0) old.bytes new.bytes gain.tells gain.bytes), gain.why),
+      takes_write (HasFit (setting_for out) limits) (Normal limits out) limits (λ o. refl) i now h.0 h.1,
+      (inr (normal_form h.0, Done, form_answers out limits i now h.0 h.1 h.2.0, gained_front (normal_form h.0) old.bytes new.bytes gain.tells gain.bytes), gain.why),
     )
-form_not_done info limits i now old new fault.OutputTooLong h = (
-  takes_long (HasFit (setting_of info) limits) (Normal limits info) limits (λ o. refl) i now h.0 limits.bytes h.1,
-  ((refl, if_told i.to_come (λ bytes. (tree : Tree) × HasTree (setting_of info) limits bytes tree × (limits.bytes < size_of tree)) (λ tells. (h.0, (h.1.1 tells).0.0, h.2.0))), stays_same old new h.2.1),
+form_not_done out limits i now old new fault.OutputTooLong h = (
+  takes_long (HasFit (setting_for out) limits) (Normal limits out) limits (λ o. refl) i now h.0 limits.bytes h.1,
+  ((refl, if_told i.to_come (λ bytes. (tree : Tree) × HasTree (setting_for out) limits bytes tree × (limits.bytes < size_of tree)) (λ tells. (h.0, (h.1.1 tells).0.0, h.2.0))), stays_same old new h.2.1),
 )
-form_not_done info limits i now old new fault.Failed h = absurd h
+form_not_done out limits i now old new fault.Failed h = absurd h
 
 -- ---- reports and listings
 
@@ -229,23 +229,23 @@ told_report limits i now old new (Err fault.OutputTooLong) h = absurd h
 told_report limits i now old new (Err fault.Failed) h = absurd h
 
 -- the tree was read
-listed : (limits : Limits) (i now : Incoming) (old new : Outgoing) (answer : Result (Unit {0}) Fault) → ReadsAndLists keep limits i old answer now new → Does (Show limits) i now old new (ended limits.bytes answer)
-listed limits i now old new answer h =
-    text_written (HasFit keep limits) (Show limits) limits (λ o. refl) i now old new h.0 (listing_of h.0) answer (λ s. s) (h.0, refl, if_told i.to_come (λ bytes. HasTree keep limits bytes h.0) (λ tells. (h.1.1 tells).0.0)) h.1 h.2
+listed : (out : LeftOut) (limits : Limits) (i now : Incoming) (old new : Outgoing) (answer : Result (Unit {0}) Fault) → ReadsAndLists (setting_for out) limits i old answer now new → Does (Show limits out) i now old new (ended limits.bytes answer)
+listed out limits i now old new answer h =
+    text_written (HasFit (setting_for out) limits) (Show limits out) limits (λ o. refl) i now old new h.0 (listing_of h.0) answer (λ s. s) (h.0, refl, if_told i.to_come (λ bytes. HasTree (setting_for out) limits bytes h.0) (λ tells. (h.1.1 tells).0.0)) h.1 h.2
 
 -- it was not
-not_listed : (limits : Limits) (i now : Incoming) (old new : Outgoing) (why : Fault) → ListsNothing keep limits i old why now new → Does (Show limits) i now old new (outcome_of limits.bytes why)
-not_listed limits i now old new why h = not_accepted (HasFit keep limits) (Show limits) limits (λ o. refl) i now old new why (λ reason bit breaks. (breaks, stays_same old new h.1)) (stays_same old new h.1) h.0
+not_listed : (out : LeftOut) (limits : Limits) (i now : Incoming) (old new : Outgoing) (why : Fault) → ListsNothing (setting_for out) limits i old why now new → Does (Show limits out) i now old new (outcome_of limits.bytes why)
+not_listed out limits i now old new why h = not_accepted (HasFit (setting_for out) limits) (Show limits out) limits (λ o. refl) i now old new why (λ reason bit breaks. (breaks, stays_same old new h.1)) (stays_same old new h.1) h.0
 
-pub showed : (limits : Limits) (i now : Incoming) (old new : Outgoing) (answer : Result (Unit {0}) Fault) → Shows keep limits i old answer now new → Does (Show limits) i now old new (ended limits.bytes answer)
-showed limits i now old new (Ok _) h = listed limits i now old new (Ok tt) h
-showed limits i now old new (Err fault.Write) h = listed limits i now old new (Err fault.Write) h
-showed limits i now old new (Err fault.Memory) (inl h) = not_listed limits i now old new fault.Memory h
-showed limits i now old new (Err fault.Memory) (inr h) = listed limits i now old new (Err fault.Memory) h
-showed limits i now old new (Err (fault.Refused reason bit)) h = not_listed limits i now old new (fault.Refused reason bit) h
-showed limits i now old new (Err fault.Read) h = not_listed limits i now old new fault.Read h
-showed limits i now old new (Err fault.OutputTooLong) h = absurd h
-showed limits i now old new (Err fault.Failed) h = absurd h
+pub showed : (out : LeftOut) (limits : Limits) (i now : Incoming) (old new : Outgoing) (answer : Result (Unit {0}) Fault) → Shows (setting_for out) limits i old answer now new → Does (Show limits out) i now old new (ended limits.bytes answer)
+showed out limits i now old new (Ok _) h = listed out limits i now old new (Ok tt) h
+showed out limits i now old new (Err fault.Write) h = listed out limits i now old new (Err fault.Write) h
+showed out limits i now old new (Err fault.Memory) (inl h) = not_listed out limits i now old new fault.Memory h
+showed out limits i now old new (Err fault.Memory) (inr h) = listed out limits i now old new (Err fault.Memory) h
+showed out limits i now old new (Err (fault.Refused reason bit)) h = not_listed out limits i now old new (fault.Refused reason bit) h
+showed out limits i now old new (Err fault.Read) h = not_listed out limits i now old new fault.Read h
+showed out limits i now old new (Err fault.OutputTooLong) h = absurd h
+showed out limits i now old new (Err fault.Failed) h = absurd h
 
 -- ---- events
 
@@ -315,18 +315,18 @@ no_line task i now old new outcome not_done not_different stays refuses judged =
     go Memory not_done not_different found = (memory_kept task i.to_come old.bytes new.bytes stays.0, stays.1)
 
 -- the lines of a difference were told
-difference_told : (info : Info) (limits : Limits) (first : ℕ) (i now : Incoming) (old new : Outgoing) (lines : List ℕ) (after : Outcome) → Takes (Where first limits info) i now Different
-    → Answers (Where first limits info) i.to_come Different (bits_of_bytes lines) → TellsDifference lines old after new → Does (Where first limits info) i now old new after
-difference_told info limits first i now old new lines after takes answers (inl told) = different_told (Where first limits info) i now old new lines after refl takes answers told
-difference_told info limits first i now old new lines after takes answers (inr none) = rw (none.0) ((inl takes.0, tt), stays_same old new none.1)
+difference_told : (out : LeftOut) (limits : Limits) (first : ℕ) (i now : Incoming) (old new : Outgoing) (lines : List ℕ) (after : Outcome) → Takes (Where first limits out) i now Different
+    → Answers (Where first limits out) i.to_come Different (bits_of_bytes lines) → TellsDifference lines old after new → Does (Where first limits out) i now old new after
+difference_told out limits first i now old new lines after takes answers (inl told) = different_told (Where first limits out) i now old new lines after refl takes answers told
+difference_told out limits first i now old new lines after takes answers (inr none) = rw (none.0) ((inl takes.0, tt), stays_same old new none.1)
 
 -- what two inputs were found to be was told
-pub told_where : (info : Info) (limits : Limits) (first : ℕ) (i now : Incoming) (old new : Outgoing) (found : Found) (after : Outcome) → Takes (Where first limits info) i now (outcome_found found)
-    → FindsWhere (Where first limits info) i.to_come found → TellsFound found old after new → Does (Where first limits info) i now old new after
-told_where info limits first i now old new (Ok None) after takes finds tells = done_told (Where first limits info) i now old new (codes "same\n") after refl takes (refl, finds.1.1) tells
-told_where info limits first i now old new (Ok (Some difference)) after takes finds tells = difference_told info limits first i now old new (difference_text (difference_shown difference)) after takes finds tells
-told_where info limits first i now old new (Err outcome) after takes finds tells =
-    rw (tells.0) (no_line (Where first limits info) i now old new outcome finds.1.0 finds.1.1 (stays_same old new tells.1) (λ reason bit refuses. (refuses, stays_same old new tells.1)) (takes, finds.0))
+pub told_where : (out : LeftOut) (limits : Limits) (first : ℕ) (i now : Incoming) (old new : Outgoing) (found : Found) (after : Outcome) → Takes (Where first limits out) i now (outcome_found found)
+    → FindsWhere (Where first limits out) i.to_come found → TellsFound found old after new → Does (Where first limits out) i now old new after
+told_where out limits first i now old new (Ok None) after takes finds tells = done_told (Where first limits out) i now old new (codes "same\n") after refl takes (refl, finds.1.1) tells
+told_where out limits first i now old new (Ok (Some difference)) after takes finds tells = difference_told out limits first i now old new (difference_text (difference_shown difference)) after takes finds tells
+told_where out limits first i now old new (Err outcome) after takes finds tells =
+    rw (tells.0) (no_line (Where first limits out) i now old new outcome finds.1.0 finds.1.1 (stays_same old new tells.1) (λ reason bit refuses. (refuses, stays_same old new tells.1)) (takes, finds.0))
 
 -- a check never finds two inputs different
 pub never_different : (limits : Limits) (i now : Incoming) (outcome : Outcome) → Judges (Check limits) i now outcome → outcome ≡ Different → ⊥
@@ -337,30 +337,30 @@ never_different limits i now outcome judged is = let it : Finds (Check limits) i
 -- the most is taken where the output fails
 most_write : (task : Task) (o : Outcome) → most_taken task o ≤ most_taken task Write
 most_write (Check limits) o = omega arith
-most_write (Normal limits info) o = omega arith
+most_write (Normal limits out) o = omega arith
 most_write (Analyse limits) o = omega arith
-most_write (Show limits) o = omega arith
+most_write (Show limits out) o = omega arith
 most_write (Events limits values) o = omega arith
-most_write (Same first limits info) (RefusedOf First reason bit) = omega arith
-most_write (Same first limits info) (RefusedOf Second reason bit) = omega arith
-most_write (Same first limits info) Done = omega arith
-most_write (Same first limits info) Different = omega arith
-most_write (Same first limits info) (Refused reason bit) = omega arith
-most_write (Same first limits info) (TooLong limit) = omega arith
-most_write (Same first limits info) Usage = omega arith
-most_write (Same first limits info) Read = omega arith
-most_write (Same first limits info) Write = omega arith
-most_write (Same first limits info) Memory = omega arith
-most_write (Where first limits info) (RefusedOf First reason bit) = omega arith
-most_write (Where first limits info) (RefusedOf Second reason bit) = omega arith
-most_write (Where first limits info) Done = omega arith
-most_write (Where first limits info) Different = omega arith
-most_write (Where first limits info) (Refused reason bit) = omega arith
-most_write (Where first limits info) (TooLong limit) = omega arith
-most_write (Where first limits info) Usage = omega arith
-most_write (Where first limits info) Read = omega arith
-most_write (Where first limits info) Write = omega arith
-most_write (Where first limits info) Memory = omega arith
+most_write (Same first limits out) (RefusedOf First reason bit) = omega arith
+most_write (Same first limits out) (RefusedOf Second reason bit) = omega arith
+most_write (Same first limits out) Done = omega arith
+most_write (Same first limits out) Different = omega arith
+most_write (Same first limits out) (Refused reason bit) = omega arith
+most_write (Same first limits out) (TooLong limit) = omega arith
+most_write (Same first limits out) Usage = omega arith
+most_write (Same first limits out) Read = omega arith
+most_write (Same first limits out) Write = omega arith
+most_write (Same first limits out) Memory = omega arith
+most_write (Where first limits out) (RefusedOf First reason bit) = omega arith
+most_write (Where first limits out) (RefusedOf Second reason bit) = omega arith
+most_write (Where first limits out) Done = omega arith
+most_write (Where first limits out) Different = omega arith
+most_write (Where first limits out) (Refused reason bit) = omega arith
+most_write (Where first limits out) (TooLong limit) = omega arith
+most_write (Where first limits out) Usage = omega arith
+most_write (Where first limits out) Read = omega arith
+most_write (Where first limits out) Write = omega arith
+most_write (Where first limits out) Memory = omega arith
 
 -- an output that failed before or after
 failed_then : (old new last : Outgoing) → new.failures ≡ old.failures → HasFailed new last → HasFailed old last

@@ -22,7 +22,7 @@ numeral_found f id n none value = go (one_text f id) refl
   where
     go : (o : Option Text) → one_text f id ≡ o → HasNumber id (rows_of f) n
     go None e = let bad = none e in absurd (cc)
-    go (Some t) e = let v = value t e in (t, sym (one_text-rows f id) ∙ e, v.0, sym v.1)
+    go (Some t) e = let v = value t e in (t, sym (one_text-rows f id) ∙ e, (v.0, sym v.1))
 
 -- what was read as a number, if anything was
 pub number_found : {E : Type 0} (f : Found) (id : Text) (gives : Text → Result ℕ E → Type 0) (o : Option ℕ)
@@ -39,8 +39,8 @@ pub number_read : {E : Type 0} (f : Found) (id : Text) (gives : Text → Result 
 number_read {E} f id gives o n reads value has small = go o (value has.0 (one_text-rows f id ∙ has.1))
   where
     go : (x : Option ℕ) → ReadsOne gives has.0 x → x ≡ Some n
-    go (Some v) r = let p = reads has.0 (Ok v) r in ap Some (p.1 ∙ has.3)
-    go None r = absurd (reads has.0 (Err r.0) r.1 (has.2, rw has.3 small))
+    go (Some v) r = let p = reads has.0 (Ok v) r in ap Some (p.1 ∙ has.2.1)
+    go None r = absurd (reads has.0 (Err r.0) r.1 (has.2.0, rw has.2.1 small))
 
 -- a flag that was read as given
 pub flag_found : (f : Found) (id : Text) (b : Bool) → b ≡ true → (one_text f id ≡ None → Some b ≡ None)

@@ -19,7 +19,7 @@ use Rattle.clap.specs.declared.error.kind.ErrorKind.{ErrorKind}
 use Rattle.clap.specs.declared.parser.matches.ValueSource.{ValueSource}
 use Rattle.clap.specs.declared.parser.matches.ValueSource.TheVariants.{DefaultValue}
 use Rattle.clap.proofs.ValueTestLemmas.{accepts-Accepts}
-use Rattle.bitstool.specs.Words.{HasAllLimits, HasWithin, IsComplete, checks, normalises, compares, analyses, lists, tells, FindsAll, bitstool, limited, dropping, comparing, telling, faults_of, named_by, bytes_rule, depth_rule, values_rule, first_rule}
+use Rattle.bitstool.specs.Words.{HasAllLimits, HasWithin, IsComplete, checks, normalises, compares, analyses, lists, tells, FindsAll, bitstool, limited, leaving, dropping, comparing, telling, faults_of, named_by, bytes_rule, depth_rule, values_rule, first_rule}
 use Rattle.bitstool.proofs.Walked.{GoodRow, GoodRows, IsNumeric, IsOnly, defaults_good, first_none, settle_good, then_none, walk_good}
 
 -- ---- rows
@@ -38,7 +38,7 @@ pub within : (id : Text) (most : ℕ) (rows : List Row) → GoodRows id most row
 within id most rows g has =
     let found = found_number id most rows g has in
     let number = accepts-Accepts false (Unsigned 0 most) found.0 found.2 in
-    (digits_value 10 (without_leading_plus found.0), (found.0, found.1, number.0, refl), number.3)
+    (digits_value 10 (without_leading_plus found.0), (found.0, found.1, (number.0, refl)), number.3)
 
 -- ---- what is there
 
@@ -208,6 +208,9 @@ numbers_within s tail is apart words passes =
 limited_within : (name : Text) (words : List Text) → level_fault (leaf (limited name)) [] nothing_held words false [] ≡ [] → HasAllLimits (AfterWords (leaf (limited name)) words)
 limited_within name words passes = numbers_within (leaf (limited name)) _ refl (refl, refl, refl) words passes
 
+leaving_within : (name : Text) (words : List Text) → level_fault (leaf (leaving name)) [] nothing_held words false [] ≡ [] → HasAllLimits (AfterWords (leaf (leaving name)) words)
+leaving_within name words passes = numbers_within (leaf (leaving name)) _ refl (refl, refl, refl) words passes
+
 dropping_within : (name : Text) (words : List Text) → level_fault (leaf (dropping name)) [] nothing_held words false [] ≡ [] → HasAllLimits (AfterWords (leaf (dropping name)) words)
 dropping_within name words passes = numbers_within (leaf (dropping name)) _ refl (refl, refl, refl) words passes
 
@@ -218,7 +221,8 @@ telling_within : (words : List Text) → level_fault (leaf telling) [] nothing_h
 telling_within words passes = numbers_within (leaf telling) _ refl (refl, refl, refl) words passes
 
 first_within : (words : List Text) → level_fault (leaf comparing) [] nothing_held words false [] ≡ [] → HasWithin (codes "first") 17179869180 (AfterWords (leaf comparing) words)
-first_within words passes = required_within (leaf comparing) words passes 17179869180 (filled first_rule) first_numeric (never, (never, (never, (never, (never, ((λ _. refl), (never, (never, tt)))))))) (inr (inr (inr (inr (inr (inl refl)))))) refl refl
+first_within words passes = required_within (leaf comparing) words passes 17179869180 (filled first_rule) first_numeric (never, (never, (never, (never, (never, (never, (never, ((λ _. refl), (never, (never, tt))))))))))
+    (inr (inr (inr (inr (inr (inr (inr (inl refl)))))))) refl refl
 
 -- ---- the whole command line
 
@@ -235,7 +239,7 @@ commands = (
       λ words passes. compares (comparing_within words passes) (first_within words passes),
       (
         λ words passes. analyses (limited_within (codes "analyse") words passes),
-        (λ words passes. lists (limited_within (codes "show") words passes), (λ words passes. tells (telling_within words passes), tt)),
+        (λ words passes. lists (leaving_within (codes "show") words passes), (λ words passes. tells (telling_within words passes), tt)),
       ),
     ),
   ),

@@ -7,3 +7,4 @@ pub mod Taking
 pub mod Putting
 pub mod Doing
 pub mod Comparing
+pub mod Naming

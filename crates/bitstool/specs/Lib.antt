@@ -1,3 +1,5 @@
+pub mod Names
+pub mod LeftOut
 pub mod Words
 pub mod Differences
 pub mod Outcome

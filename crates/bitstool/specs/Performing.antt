@@ -1,8 +1,7 @@
 -- The steps of carrying out a command.
 use Rattle.std.specs.Prelude.{◌≡◌, ◌≢◌, ◌⊎◌, ⊤, ℕ, ◌<◌, ◌≤◌, Bool, List, length, Option, Some, None, Result, Ok, Err, IfSome, codes, ◌+◌}
 use Rattle.std.specs.Io.KnownBytes.{Consumes, IsAtEnd, Keeps}
-use Rattle.bit_grammar.specs.Setting.{setting_of}
-use Rattle.bit_grammar.specs.declared.info.Info.{Info}
+use Rattle.bit_grammar.specs.Setting.{Setting}
 use Rattle.bit_grammar.specs.Grammar.{at}
 use Rattle.bit_grammar.specs.Forest.{Tree}
 use Rattle.bit_grammar.specs.Blocks.{Limits}
@@ -78,14 +77,14 @@ Judges task i now outcome = Takes task i now outcome × Finds task i.to_come out
 
 -- Two inputs were compared, of which the first is known: both have this tree; or they have these two; or one breaks so, the
 -- second after the first was accepted; or the source failed, or no memory.
-abbrev pub ComparesWith : Info → Limits → List ℕ → Told → Outcome → Type 0
-ComparesWith info limits first rest Done = (tree : Tree) × HasTree (setting_of info) limits first tree × IfSome rest (λ bytes. HasTree (setting_of info) limits bytes tree)
-ComparesWith info limits first rest Different = (a : Tree) × (b : Tree) × HasTree (setting_of info) limits first a × IfSome rest (λ bytes. HasTree (setting_of info) limits bytes b) × (a ≢ b)
-ComparesWith info limits first rest (RefusedOf First reason bit) = BreaksInput limits first (at reason bit)
-ComparesWith info limits first rest (RefusedOf Second reason bit) = Accepts limits first × IfSome rest (λ bytes. BreaksInput limits bytes (at reason bit))
-ComparesWith info limits first rest Read = ⊤
-ComparesWith info limits first rest Memory = ⊤
-ComparesWith info limits first rest outcome = ⊥
+abbrev pub ComparesWith : Setting → Limits → List ℕ → Told → Outcome → Type 0
+ComparesWith setting limits first rest Done = (tree : Tree) × HasTree setting limits first tree × IfSome rest (λ bytes. HasTree setting limits bytes tree)
+ComparesWith setting limits first rest Different = (a : Tree) × (b : Tree) × HasTree setting limits first a × IfSome rest (λ bytes. HasTree setting limits bytes b) × (a ≢ b)
+ComparesWith setting limits first rest (RefusedOf First reason bit) = BreaksInput limits first (at reason bit)
+ComparesWith setting limits first rest (RefusedOf Second reason bit) = Accepts limits first × IfSome rest (λ bytes. BreaksInput limits bytes (at reason bit))
+ComparesWith setting limits first rest Read = ⊤
+ComparesWith setting limits first rest Memory = ⊤
+ComparesWith setting limits first rest outcome = ⊥
 
 -- what was taken of the second for that: nothing where the first is refused
 abbrev pub TakesRest : Limits → Incoming → Incoming → Outcome → Type 0
@@ -107,10 +106,10 @@ abbrev pub IsNoAnswer : Outcome → Type 0
 IsNoAnswer outcome = (outcome ≢ Done) × (outcome ≢ Different)
 
 -- two inputs, of which the first is known, were compared: this is where they first differ, or nowhere; or as above
-abbrev pub ComparesWhere : Info → Limits → List ℕ → Told → Found → Type 0
-ComparesWhere info limits first rest (Ok None) = ComparesWith info limits first rest Done
-ComparesWhere info limits first rest (Ok (Some difference)) = (a : Marked) × SpellsInput limits first a × IfSome rest (λ bytes. (b : Marked) × SpellsInput limits bytes b × FirstDifference (setting_of info) a b (difference_shown difference))
-ComparesWhere info limits first rest (Err outcome) = ComparesWith info limits first rest outcome × IsNoAnswer outcome
+abbrev pub ComparesWhere : Setting → Limits → List ℕ → Told → Found → Type 0
+ComparesWhere setting limits first rest (Ok None) = ComparesWith setting limits first rest Done
+ComparesWhere setting limits first rest (Ok (Some difference)) = (a : Marked) × SpellsInput limits first a × IfSome rest (λ bytes. (b : Marked) × SpellsInput limits bytes b × FirstDifference setting a b (difference_shown difference))
+ComparesWhere setting limits first rest (Err outcome) = ComparesWith setting limits first rest outcome × IsNoAnswer outcome
 
 -- the same of the first bytes of an input, and the others
 abbrev pub FindsWhere : Task → Told → Found → Type 0

@@ -1,8 +1,7 @@
 -- What a command does with its input and its output, and what a run of the program does, over any devices.
 use Rattle.std.specs.Prelude.{◌≡◌, ◌≢◌, ◌⊎◌, ⊤, ℕ, ◌+◌, ◌<◌, ◌≤◌, min, Bool, List, [], ◌++◌, take, drop, codes, Option, Some, IfSome, string_bytes}
 use Rattle.std.specs.Io.KnownBytes.{Keeps}
-use Rattle.bit_grammar.specs.Setting.{keep, setting_of}
-use Rattle.bit_grammar.specs.declared.info.Info.{Info}
+use Rattle.bit_grammar.specs.Setting.{Setting}
 use Rattle.bit_grammar.specs.declared.reason.Reason.{Reason}
 use Rattle.bit_grammar.specs.declared.values.Values.{Values}
 use Rattle.bit_grammar.specs.Bits.{bits_of_bytes}
@@ -29,6 +28,7 @@ use Rattle.bitstool.specs.declared.task.Task.TheVariants.{Check, Normal, Same, W
 use Rattle.bitstool.specs.declared.task.Parsed.{Parsed}
 use Rattle.bitstool.specs.declared.task.Parsed.TheVariants as parsed
 use Rattle.bitstool.specs.Differences.{difference_text}
+use Rattle.bitstool.specs.LeftOut.{setting_for}
 use Rattle.bitstool.specs.Outcome.{status_of, line_of}
 
 -- ---- what a command says of its input
@@ -46,25 +46,27 @@ abbrev pub IsText : List ℕ → List Bool → Type 0
 IsText text bits = bits ≡ bits_of_bytes text
 
 -- two inputs spell marked trees whose trees first differ so
-abbrev pub DifferFirst : Info → Limits → (first second : List ℕ) → Seen → Type 0
-DifferFirst info limits first second seen = (a : Marked) × (b : Marked) × SpellsInput limits first a × SpellsInput limits second b × FirstDifference (setting_of info) a b seen
+abbrev pub DifferFirst : Setting → Limits → (first second : List ℕ) → Seen → Type 0
+DifferFirst setting limits first second seen =
+    (a : Marked) × (b : Marked) × SpellsInput limits first a × SpellsInput limits second b × FirstDifference setting a b seen
 
 -- What is told of an input ends so, and these are the lines of the magic and the events that are told.
 abbrev pub TellsEvents : Limits → Values → Told → Ending → List Bool → Type 0
 TellsEvents limits values input end bits = (told : Outlook) × (outlook_end told ≡ end) × IsText (outlook_text values told) bits × IfSome input (λ bytes. outlook limits bytes ≡ told)
 
 -- A command that is done with this outcome says so of its input, and has these bits for the output: a line, the normal form
--- of the input's tree under the setting, the report of its analysis, the listing of its whole tree, or the lines of its events.
+-- of the input's tree under the setting, the report of its analysis, the listing of its tree under the setting, or the lines of its
+-- events.
 -- `events` has lines for an input that it refuses too, of the events before the fault.
 abbrev pub Answers : Task → Told → Outcome → List Bool → Type 0
 Answers (Check limits) input Done bits = IsText (codes "accepted\n") bits × IfSome input (Accepts limits)
-Answers (Normal limits info) input Done bits = (tree : Tree) × (bits ≡ normal_form tree) × (size_of tree ≤ limits.bytes) × IfSome input (λ bytes. HasTree (setting_of info) limits bytes tree)
-Answers (Same first limits info) input Done bits = IsText (codes "same\n") bits × IfSome input (λ bytes. (tree : Tree) × HasTree (setting_of info) limits (take first bytes) tree × HasTree (setting_of info) limits (drop first bytes) tree)
-Answers (Same first limits info) input Different bits = IsText (codes "different\n") bits × IfSome input (λ bytes. (a : Tree) × (b : Tree) × HasTree (setting_of info) limits (take first bytes) a × HasTree (setting_of info) limits (drop first bytes) b × (a ≢ b))
-Answers (Where first limits info) input Done bits = IsText (codes "same\n") bits × IfSome input (λ bytes. (tree : Tree) × HasTree (setting_of info) limits (take first bytes) tree × HasTree (setting_of info) limits (drop first bytes) tree)
-Answers (Where first limits info) input Different bits = (seen : Seen) × IsText (difference_text seen) bits × IfSome input (λ bytes. DifferFirst info limits (take first bytes) (drop first bytes) seen)
+Answers (Normal limits left) input Done bits = (tree : Tree) × (bits ≡ normal_form tree) × (size_of tree ≤ limits.bytes) × IfSome input (λ bytes. HasTree (setting_for left) limits bytes tree)
+Answers (Same first limits left) input Done bits = IsText (codes "same\n") bits × IfSome input (λ bytes. (tree : Tree) × HasTree (setting_for left) limits (take first bytes) tree × HasTree (setting_for left) limits (drop first bytes) tree)
+Answers (Same first limits left) input Different bits = IsText (codes "different\n") bits × IfSome input (λ bytes. (a : Tree) × (b : Tree) × HasTree (setting_for left) limits (take first bytes) a × HasTree (setting_for left) limits (drop first bytes) b × (a ≢ b))
+Answers (Where first limits left) input Done bits = IsText (codes "same\n") bits × IfSome input (λ bytes. (tree : Tree) × HasTree (setting_for left) limits (take first bytes) tree × HasTree (setting_for left) limits (drop first bytes) tree)
+Answers (Where first limits left) input Different bits = (seen : Seen) × IsText (difference_text seen) bits × IfSome input (λ bytes. DifferFirst (setting_for left) limits (take first bytes) (drop first bytes) seen)
 Answers (Analyse limits) input Done bits = (tally : Tally) × IsText (report_of tally) bits × IfSome input (λ bytes. HasTally limits bytes tally)
-Answers (Show limits) input Done bits = (tree : Tree) × IsText (listing_of tree) bits × IfSome input (λ bytes. HasTree keep limits bytes tree)
+Answers (Show limits left) input Done bits = (tree : Tree) × IsText (listing_of tree) bits × IfSome input (λ bytes. HasTree (setting_for left) limits bytes tree)
 Answers (Events limits values) input Done bits = (bit : ℕ) × TellsEvents limits values input (accepted bit) bits
 Answers (Events limits values) input (Refused reason bit) bits = TellsEvents limits values input (broke (at reason bit)) bits
 Answers task input outcome bits = ⊥
@@ -72,14 +74,14 @@ Answers task input outcome bits = ⊥
 -- A command that refuses its input with this outcome says so of it.
 abbrev pub Refuses : Task → Told → Outcome → Type 0
 Refuses (Check limits) input (Refused reason bit) = IfSome input (λ bytes. BreaksInput limits bytes (at reason bit))
-Refuses (Normal limits info) input (Refused reason bit) = IfSome input (λ bytes. BreaksInput limits bytes (at reason bit))
-Refuses (Normal limits info) input (TooLong limit) = (limit ≡ limits.bytes) × IfSome input (λ bytes. (tree : Tree) × HasTree (setting_of info) limits bytes tree × (limits.bytes < size_of tree))
-Refuses (Same first limits info) input (RefusedOf First reason bit) = IfSome input (λ bytes. BreaksInput limits (take first bytes) (at reason bit))
-Refuses (Same first limits info) input (RefusedOf Second reason bit) = IfSome input (λ bytes. Accepts limits (take first bytes) × BreaksInput limits (drop first bytes) (at reason bit))
-Refuses (Where first limits info) input (RefusedOf First reason bit) = IfSome input (λ bytes. BreaksInput limits (take first bytes) (at reason bit))
-Refuses (Where first limits info) input (RefusedOf Second reason bit) = IfSome input (λ bytes. Accepts limits (take first bytes) × BreaksInput limits (drop first bytes) (at reason bit))
+Refuses (Normal limits left) input (Refused reason bit) = IfSome input (λ bytes. BreaksInput limits bytes (at reason bit))
+Refuses (Normal limits left) input (TooLong limit) = (limit ≡ limits.bytes) × IfSome input (λ bytes. (tree : Tree) × HasTree (setting_for left) limits bytes tree × (limits.bytes < size_of tree))
+Refuses (Same first limits left) input (RefusedOf First reason bit) = IfSome input (λ bytes. BreaksInput limits (take first bytes) (at reason bit))
+Refuses (Same first limits left) input (RefusedOf Second reason bit) = IfSome input (λ bytes. Accepts limits (take first bytes) × BreaksInput limits (drop first bytes) (at reason bit))
+Refuses (Where first limits left) input (RefusedOf First reason bit) = IfSome input (λ bytes. BreaksInput limits (take first bytes) (at reason bit))
+Refuses (Where first limits left) input (RefusedOf Second reason bit) = IfSome input (λ bytes. Accepts limits (take first bytes) × BreaksInput limits (drop first bytes) (at reason bit))
 Refuses (Analyse limits) input (Refused reason bit) = IfSome input (λ bytes. BreaksInput limits bytes (at reason bit))
-Refuses (Show limits) input (Refused reason bit) = IfSome input (λ bytes. BreaksInput limits bytes (at reason bit))
+Refuses (Show limits left) input (Refused reason bit) = IfSome input (λ bytes. BreaksInput limits bytes (at reason bit))
 Refuses task input outcome = ⊥
 
 -- ---- what it takes of its input
@@ -88,13 +90,13 @@ Refuses task input outcome = ⊥
 -- two inputs so many each, and of the first no more than it has; where the first is refused, the second is asked for none.
 abbrev pub most_taken : Task → Outcome → ℕ
 most_taken (Check limits) outcome = limits.bytes + 1
-most_taken (Normal limits info) outcome = limits.bytes + 1
-most_taken (Same first limits info) (RefusedOf First reason bit) = min first (limits.bytes + 1)
-most_taken (Same first limits info) outcome = min first (limits.bytes + 1) + (limits.bytes + 1)
-most_taken (Where first limits info) (RefusedOf First reason bit) = min first (limits.bytes + 1)
-most_taken (Where first limits info) outcome = min first (limits.bytes + 1) + (limits.bytes + 1)
+most_taken (Normal limits left) outcome = limits.bytes + 1
+most_taken (Same first limits left) (RefusedOf First reason bit) = min first (limits.bytes + 1)
+most_taken (Same first limits left) outcome = min first (limits.bytes + 1) + (limits.bytes + 1)
+most_taken (Where first limits left) (RefusedOf First reason bit) = min first (limits.bytes + 1)
+most_taken (Where first limits left) outcome = min first (limits.bytes + 1) + (limits.bytes + 1)
 most_taken (Analyse limits) outcome = limits.bytes + 1
-most_taken (Show limits) outcome = limits.bytes + 1
+most_taken (Show limits left) outcome = limits.bytes + 1
 most_taken (Events limits values) outcome = limits.bytes + 1
 
 -- nothing is left of an input that tells its bytes
@@ -137,7 +139,7 @@ StopsShort task input old new = Keeps old new ⊎ ((bits : List Bool) × (answer
 -- are written, it may have a front.
 abbrev pub LacksMemory : Task → Told → Told → Told → Type 0
 LacksMemory (Analyse limits) input old new = StopsShort (Analyse limits) input old new
-LacksMemory (Show limits) input old new = StopsShort (Show limits) input old new
+LacksMemory (Show limits left) input old new = StopsShort (Show limits left) input old new
 LacksMemory (Events limits values) input old new = StopsShort (Events limits values) input old new
 LacksMemory task input old new = Keeps old new
 

@@ -1,26 +1,28 @@
 -- What the words of a command line ask for: the options that the program tells `clap` of, and how a task is read from what
 -- `clap` finds. The words `App`, `Rule`, `Shape`, `subcommand_of` and `fault_of` are clap's own: what a command is, and what a
 -- parse of words finds or why it fails.
-use Rattle.std.specs.Prelude.{◌≡◌, ◌⊎◌, ⊤, ℕ, ◌≤◌, List, [], ◌∷◌, true, Option, Some, None, codes}
-use Rattle.std.specs.Str.Parse.{IsNumeral, digits_value, without_leading_plus}
-use Rattle.clap.specs.Words.{App, Row, Rule, Text, new_app, new_rule, one_of, subcommand_of, with_rule, with_subcommand}
+use Rattle.std.specs.Prelude.{◌≡◌, ◌⊎◌, ⊤, ℕ, ◌≤◌, List, [], ◌∷◌, ◌++◌, true, Option, Some, None, unwrap_or, codes, string_bytes}
+use Rattle.clap.specs.Words.{App, Row, Rule, Text, all_of, new_app, new_rule, one_of, subcommand_of, with_rule, with_subcommand}
 use Rattle.clap.specs.Kinds.{Kinds, IsAmong}
 use Rattle.clap.specs.Faults.{fault_of}
-use Rattle.clap.specs.declared.builder.action.ArgAction.TheVariants.{SetTrue}
+use Rattle.clap.specs.declared.builder.action.ArgAction.TheVariants.{Append, SetTrue}
 use Rattle.clap.specs.declared.builder.value_parser.ValueParser.TheVariants.{Unsigned}
 use Rattle.clap.specs.declared.error.kind.ErrorKind.{ErrorKind}
 use Rattle.clap.specs.declared.error.kind.ErrorKind.TheVariants.{DisplayHelp, DisplayVersion, OutOfMemory}
+use Rattle.bit_grammar.specs.declared.info.RecordName.{RecordName}
 use Rattle.bit_grammar.specs.declared.shapes.Shapes.{Shapes}
 use Rattle.bit_grammar.specs.declared.shapes.Shapes.TheVariants.{AtDefinition, AtUse}
-use Rattle.bit_grammar.specs.declared.info.Info.{Info}
-use Rattle.bit_grammar.specs.declared.info.Info.TheVariants.{Keep, Drop, Without}
 use Rattle.bit_grammar.specs.declared.values.Values.{Values}
-use Rattle.bit_grammar.specs.declared.values.Values.TheVariants.{Shown, LeftOut}
+use Rattle.bit_grammar.specs.declared.values.Values.TheVariants as values
 use Rattle.bit_grammar.specs.Blocks.{Limits}
+use Rattle.bitstool.specs.declared.names.Unnamed.{Unnamed}
+use Rattle.bitstool.specs.declared.names.Unnamed.TheVariants.{Block, Record}
+use Rattle.bitstool.specs.declared.task.LeftOut.{LeftOut}
 use Rattle.bitstool.specs.declared.task.Task.{Task}
 use Rattle.bitstool.specs.declared.task.Task.TheVariants.{Check, Normal, Same, Where, Analyse, Show, Events}
 use Rattle.bitstool.specs.declared.task.Parsed.{Parsed}
 use Rattle.bitstool.specs.declared.task.Parsed.TheVariants as parsed
+use Rattle.bitstool.specs.Names.{IsNumeralOf, IsUnnamed, NameEach, NamesBlock, NamesRecord}
 
 -- ---- the options
 
@@ -41,6 +43,10 @@ depth_rule = limit_rule (codes "depth") (codes "64") 255
 abbrev pub values_rule : Rule
 values_rule = limit_rule (codes "values") (codes "134217728") 4294967295
 
+-- an option with a text, which may be given again
+abbrev pub name_rule : (name : Text) → Rule
+name_rule name = record (new_rule name) { long = Some name; value_names = 1; action = Some Append }
+
 -- a flag
 abbrev pub flag_rule : (name : Text) → Rule
 flag_rule name = record (new_rule name) { long = Some name; action = Some SetTrue }
@@ -59,9 +65,13 @@ numbered name = with_rule (with_rule (with_rule (new_app name) bytes_rule) depth
 abbrev pub limited : Text → App
 limited name = with_rule (numbered name) (flag_rule (codes "shapes-at-use"))
 
--- a command that may drop BLOCKINFO blocks too
+-- a command that may leave out blocks and records too
+abbrev pub leaving : Text → App
+leaving name = with_rule (with_rule (limited name) (name_rule (codes "drop-block"))) (name_rule (codes "drop-record"))
+
+-- and has a flag for BLOCKINFO blocks
 abbrev pub dropping : Text → App
-dropping name = with_rule (limited name) (flag_rule (codes "drop-info"))
+dropping name = with_rule (leaving name) (flag_rule (codes "drop-info"))
 
 abbrev pub comparing : App
 comparing = with_rule (with_rule (dropping (codes "same")) first_rule) (flag_rule (codes "where"))
@@ -80,13 +90,13 @@ three = with_subcommand (with_subcommand (with_subcommand above (limited (codes 
 
 -- the whole command line, with those that tell what an input holds
 abbrev pub bitstool : App
-bitstool = with_subcommand (with_subcommand (with_subcommand three (limited (codes "analyse")).top) (limited (codes "show")).top) telling.top
+bitstool = with_subcommand (with_subcommand (with_subcommand three (limited (codes "analyse")).top) (leaving (codes "show")).top) telling.top
 
 -- ---- what was found
 
 -- the text that was found for this option is a numeral of this number
 abbrev pub HasNumber : Text → List Row → ℕ → Type 0
-HasNumber id rows n = (text : Text) × (one_of id rows ≡ Some text) × IsNumeral 10 (without_leading_plus text) × (digits_value 10 (without_leading_plus text) ≡ n)
+HasNumber id rows n = (text : Text) × (one_of id rows ≡ Some text) × IsNumeralOf text n
 
 -- the flag was given
 abbrev pub IsGiven : Text → List Row → Type 0
@@ -100,30 +110,52 @@ HasShapes rows AtUse = IsGiven (codes "shapes-at-use") rows
 abbrev pub HasLimits : List Row → Limits → Type 0
 HasLimits rows limits = HasNumber (codes "bytes") rows limits.bytes × HasNumber (codes "depth") rows limits.depth × HasNumber (codes "values") rows limits.values × HasShapes rows limits.shapes
 
--- BLOCKINFO blocks are dropped exactly where the flag was given
-abbrev pub HasSetting : List Row → Info → Type 0
-HasSetting rows Keep = ¬ (IsGiven (codes "drop-info") rows)
-HasSetting rows Drop = IsGiven (codes "drop-info") rows
-HasSetting rows (Without blocks records) = ⊥
+-- the texts that were given for this option, in order
+abbrev pub texts_of : Text → List Row → List Text
+texts_of id rows = unwrap_or (all_of id rows) []
+
+-- these blocks were named, in order, and these records
+abbrev pub NamesBlocks : List Row → List ℕ → Type 0
+NamesBlocks rows = NameEach NamesBlock (texts_of (codes "drop-block") rows)
+
+abbrev pub NamesRecords : List Row → List RecordName → Type 0
+NamesRecords rows = NameEach NamesRecord (texts_of (codes "drop-record") rows)
+
+-- The blocks with these ids are left out: those that are named, and behind them the BLOCKINFO blocks where that flag was given.
+abbrev pub HasBlocks : List Row → List ℕ → Type 0
+HasBlocks rows ids = (named : List ℕ) × NamesBlocks rows named
+    × ((IsGiven (codes "drop-info") rows × (ids ≡ named ++ 0 ∷ [])) ⊎ (¬ (IsGiven (codes "drop-info") rows) × (ids ≡ named)))
+
+-- and the records that are named
+abbrev pub HasLeftOut : List Row → LeftOut → Type 0
+HasLeftOut rows left = HasBlocks rows left.blocks.items × NamesRecords rows left.records.items
 
 -- values are left out exactly where the flag was given
 abbrev pub HasValues : List Row → Values → Type 0
-HasValues rows Shown = ¬ (IsGiven (codes "no-values") rows)
-HasValues rows LeftOut = IsGiven (codes "no-values") rows
+HasValues rows values.Shown = ¬ (IsGiven (codes "no-values") rows)
+HasValues rows values.LeftOut = IsGiven (codes "no-values") rows
+
+-- a task with these limits and what is left out by what was found for the options
+abbrev pub IsNormal : Limits → List Row → Task → Type 0
+IsNormal limits rows task = (left : LeftOut) × (task ≡ Normal limits left) × HasLeftOut rows left
+
+-- a comparison of so many first bytes with the others, which says where they differ exactly where that flag was given
+abbrev pub IsSame : ℕ → Limits → List Row → Task → Type 0
+IsSame first limits rows task = (left : LeftOut) × HasLeftOut rows left
+    × ((IsGiven (codes "where") rows × (task ≡ Where first limits left)) ⊎ (¬ (IsGiven (codes "where") rows) × (task ≡ Same first limits left)))
+
+abbrev pub IsShow : Limits → List Row → Task → Type 0
+IsShow limits rows task = (left : LeftOut) × (task ≡ Show limits left) × HasLeftOut rows left
 
 -- a command with what was found for its options asks for this
 abbrev pub Asks : Text → List Row → Task → Type 0
 Asks name rows (Check limits) = (name ≡ codes "check") × HasLimits rows limits
-Asks name rows (Normal limits info) = (name ≡ codes "normal") × HasLimits rows limits × HasSetting rows info
-Asks name rows (Same first limits info) = (name ≡ codes "same") × HasNumber (codes "first") rows first × HasLimits rows limits × HasSetting rows info × ¬ (IsGiven (codes "where") rows)
-Asks name rows (Where first limits info) = (name ≡ codes "same") × HasNumber (codes "first") rows first × HasLimits rows limits × HasSetting rows info × IsGiven (codes "where") rows
+Asks name rows (Normal limits left) = (name ≡ codes "normal") × HasLimits rows limits × HasLeftOut rows left
+Asks name rows (Same first limits left) = (name ≡ codes "same") × HasNumber (codes "first") rows first × HasLimits rows limits × HasLeftOut rows left × ¬ (IsGiven (codes "where") rows)
+Asks name rows (Where first limits left) = (name ≡ codes "same") × HasNumber (codes "first") rows first × HasLimits rows limits × HasLeftOut rows left × IsGiven (codes "where") rows
 Asks name rows (Analyse limits) = (name ≡ codes "analyse") × HasLimits rows limits
-Asks name rows (Show limits) = (name ≡ codes "show") × HasLimits rows limits
+Asks name rows (Show limits left) = (name ≡ codes "show") × HasLimits rows limits × HasLeftOut rows left
 Asks name rows (Events limits values) = (name ≡ codes "events") × HasLimits rows limits × HasValues rows values
-
--- a comparison of so many first bytes with the others, under these limits
-abbrev pub AsksToCompare : ℕ → Limits → List Row → Task → Type 0
-AsksToCompare first limits rows task = (name : Text) → name ≡ codes "same" → HasNumber (codes "first") rows first → HasLimits rows limits → Asks name rows task
 
 abbrev pub Means : Option (Text × List Row) → Task → Type 0
 Means None task = ⊥
@@ -150,6 +182,34 @@ abbrev pub FindsAll : Option (Text × List Row) → Type 0
 FindsAll None = ⊥
 FindsAll (Some found) = IsComplete found.1 found.0
 
+-- ---- names that name nothing
+
+-- the text of a usage fault: this text does not do for this option, which wants this
+abbrev pub wrong_value : (text option wanted : Text) → Text
+wrong_value text option wanted =
+    codes "error: invalid value '" ++ (text ++ (codes "' for '" ++ (option ++ (codes "': " ++ (wanted ++ codes "\n\nFor more information, try '--help'.\n")))))
+
+abbrev pub wrong_block : Text → Text
+wrong_block text = wrong_value text (codes "--drop-block <ID>") (codes "no ID from 0 to 4294967295")
+
+abbrev pub wrong_record : Text → Text
+wrong_record text = wrong_value text (codes "--drop-record <ID:CODE>") (codes "no ID from 1 to 4294967295, colon, and CODE from 0 to 18446744073709551615")
+
+-- the names that were given for what is left out do not all name something, for this reason
+abbrev pub Misnamed : List Row → Unnamed → Type 0
+Misnamed rows why = IsUnnamed (texts_of (codes "drop-block") rows) (texts_of (codes "drop-record") rows) why
+
+abbrev pub MisnamedIn : Option (Text × List Row) → Unnamed → Type 0
+MisnamedIn None why = ⊥
+MisnamedIn (Some found) why = Misnamed found.1 why
+
+-- what comes of that: the text of a usage fault; or there is no memory
+abbrev pub TellsOf : Unnamed → Parsed → Type 0
+TellsOf (Block text) (parsed.Usage line) = string_bytes line ≡ wrong_block text.now
+TellsOf (Record text) (parsed.Usage line) = string_bytes line ≡ wrong_record text.now
+TellsOf why parsed.Memory = ⊤
+TellsOf why other = ⊥
+
 -- ---- what the words say
 
 -- what clap finds in the words: the command that they name, with what is found for its options
@@ -164,6 +224,10 @@ faults_of words = fault_of bitstool words
 abbrev pub IsHelp : ErrorKind → Type 0
 IsHelp kind = (kind ≡ DisplayHelp) ⊎ (kind ≡ DisplayVersion)
 
+-- clap finds no fault with the words, and the names in them are none, for this reason
+abbrev pub MisnamesIn : List Text → Unnamed → Type 0
+MisnamesIn words why = (faults_of words ≡ []) × MisnamedIn (named_by words) why
+
 -- why no task came of the words: no memory; or clap finds this fault with them
 abbrev pub Fails : List Text → ErrorKind → Type 0
 Fails words kind = (kind ≡ OutOfMemory) ⊎ IsAmong kind (faults_of words)
@@ -176,9 +240,10 @@ Shows kind (parsed.Usage text) = IsHelp kind → ⊥
 Shows kind parsed.Memory = ⊥
 
 -- What is made of the words: the task that they mean, where clap finds no fault with them; help, where they ask for it; a usage
--- fault, where clap finds another fault; or there was no memory to read them.
+-- fault, where clap finds another fault, or where it finds none and a text that is to name blocks or records names none; or there
+-- was no memory to read them.
 abbrev pub Says : List Text → Parsed → Type 0
 Says words (parsed.Task task) = (faults_of words ≡ []) × Means (named_by words) task
 Says words (parsed.Help text) = (kind : ErrorKind) × IsHelp kind × IsAmong kind (faults_of words)
-Says words (parsed.Usage text) = (kind : ErrorKind) × (IsHelp kind → ⊥) × IsAmong kind (faults_of words)
+Says words (parsed.Usage text) = ((kind : ErrorKind) × (IsHelp kind → ⊥) × IsAmong kind (faults_of words)) ⊎ ((why : Unnamed) × MisnamesIn words why × TellsOf why (parsed.Usage text))
 Says words parsed.Memory = ⊤

@@ -3,6 +3,7 @@
 
 mod devices;
 mod differences;
+mod names;
 mod outcome;
 mod parse;
 mod perform;

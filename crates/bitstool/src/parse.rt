@@ -1,15 +1,16 @@
 //! What the words say, by `clap`.
 
-ghost use Rattle.std.specs.Prelude.{◌≡◌, ◌<◌, ◌^◌, ◌↔◌, ℕ, false, map, string_bytes, IfOk, IfErr, IfSome, IsSome, IsTrue, Some};
+ghost use Rattle.std.specs.Prelude.{◌≡◌, ◌<◌, ◌^◌, ◌↔◌, ℕ, false, map, string_bytes, IfOk, IfErr, IfSome, IsSome, IsTrue, MatchResult, Some};
 ghost use Rattle.bitstool.specs.declared.task.Parsed.{Parsed as ParsedValue};
 ghost use Rattle.clap.specs.Words.{app_of, found_of, kind_of, rows_of, rule_of, subcommand_rows_of};
-ghost use Rattle.bitstool.specs.Words.{numbered, FindsAll, HasAllLimits, HasLimits, AsksToCompare, HasNumber, HasSetting, HasShapes, HasValues, IsGiven, Means, Says, Fails, Shows};
-ghost use Rattle.bitstool.specs.Words.{bitstool, flag_rule, limit_rule, limited, number_rule, dropping, comparing, telling};
+ghost use Rattle.bitstool.specs.Words.{numbered, FindsAll, HasAllLimits, HasLimits, HasLeftOut, HasNumber, HasShapes, HasValues, IsGiven, IsNormal, IsSame, IsShow, Means, Misnamed, MisnamedIn, MisnamesIn, Says, Fails, Shows, TellsOf, NamesBlocks, NamesRecords};
+ghost use Rattle.bitstool.specs.Words.{bitstool, flag_rule, leaving, limit_rule, limited, name_rule, number_rule, dropping, comparing, telling, wrong_value};
 
-use crate::task::{Parsed, Task};
+use crate::names::{Unnamed, blocks_named, records_named};
+use crate::task::{LeftOut, Parsed, Task};
 use bit_fields::{Limits, Shapes};
 use bit_scan::Values;
-use bit_tree::Info;
+use bit_tree::RecordName;
 use clap::builder::ValueParser;
 use clap::error::ErrorKind;
 use clap::{Arg, ArgAction, ArgMatches, Command, Error};
@@ -88,6 +89,18 @@ fn limit<'a>(alloc: Global, name: &'a str, usual: &'a str, most: u64, help: &'a 
         .help(help)
 }
 
+/// An option with a name of what is left out, which may be given again.
+fn name_option<'a>(alloc: Global, name: &'a str, value: &'a str, help: &'a str) -> Arg<'a>
+    ensures rule { rule_of result ≡ name_rule name.entry.now }
+    ensures local { result.global ≡ false }
+{
+    Arg::new(alloc, name)
+        .long(name)
+        .value_name(value)
+        .action(ArgAction::Append)
+        .help(help)
+}
+
 /// A flag.
 fn flag<'a>(alloc: Global, name: &'a str, help: &'a str) -> Arg<'a>
     ensures rule { rule_of result ≡ flag_rule name.entry.now }
@@ -139,16 +152,35 @@ fn limited<'a>(alloc: Global, name: &'a str, about: &'a str) -> Result<Command<'
     numbered(alloc, name, about)?.arg(shapes)
 }
 
-/// A command with the limits and the setting as its options.
+/// A command with the limits as its options, and those that name what is left out.
+fn leaving<'a>(alloc: Global, name: &'a str, about: &'a str) -> Result<Command<'a>, AllocError>
+    ensures { IfOk result (λ command. app_of command ≡ (leaving name.entry.now)) }
+{
+    let blocks = name_option(
+        alloc,
+        "drop-block",
+        "ID",
+        "Leave out all blocks with this id, at any depth, with all that they hold; may be given again",
+    );
+    let records = name_option(
+        alloc,
+        "drop-record",
+        "ID:CODE",
+        "Leave out all records with this code that stand directly in blocks with this id, which is not 0; may be given again",
+    );
+    limited(alloc, name, about)?.arg(blocks)?.arg(records)
+}
+
+/// The same with the flag for BLOCKINFO blocks.
 fn dropping<'a>(alloc: Global, name: &'a str, about: &'a str) -> Result<Command<'a>, AllocError>
     ensures { IfOk result (λ command. app_of command ≡ (dropping name.entry.now)) }
 {
-    let setting = flag(
+    let info = flag(
         alloc,
         "drop-info",
-        "Leave out all BLOCKINFO blocks, which hold definitions for other blocks and no content",
+        "Leave out all BLOCKINFO blocks, which hold definitions for other blocks and no content, as --drop-block 0 does",
     );
-    limited(alloc, name, about)?.arg(setting)
+    leaving(alloc, name, about)?.arg(info)
 }
 
 /// The command that compares two inputs.
@@ -178,7 +210,7 @@ fn command<'a>(alloc: Global) -> Result<Command<'a>, AllocError>
     let normal = dropping(alloc, "normal", NORMAL)?;
     let same = comparing(alloc)?;
     let analyse = limited(alloc, "analyse", ANALYSE)?;
-    let show = limited(alloc, "show", SHOW)?;
+    let show = leaving(alloc, "show", SHOW)?;
     let events = telling(alloc)?;
     Command::new(alloc, "bitstool")
         .version(VERSION)
@@ -240,15 +272,36 @@ fn limits_of(matches: &ArgMatches<'_>) -> Option<Limits>
     }
 }
 
-/// The setting that a command was given.
-fn setting_of(matches: &ArgMatches<'_>) -> Info<'static>
-    ensures { HasSetting (rows_of (found_of matches.now)) result }
+/// The blocks that a command was told to leave out by their ids.
+fn blocks_of<'a>(alloc: Global, matches: &ArgMatches<'a>) -> Result<Vec<u32>, Unnamed<'a>>
+    ensures { MatchResult result (λ ids. NamesBlocks (rows_of (found_of matches.now)) ids.items) (Misnamed (rows_of (found_of matches.now))) }
 {
-    if is_given(matches, "drop-info") {
-        Info::Drop
-    } else {
-        Info::Keep
+    match matches.get_strs("drop-block") {
+        Some(given) => blocks_named(alloc, given),
+        None => Ok(Vec::new(alloc)),
     }
+}
+
+/// The records that a command was told to leave out by their names.
+fn records_of<'a>(alloc: Global, matches: &ArgMatches<'a>) -> Result<Vec<RecordName>, Unnamed<'a>>
+    ensures { MatchResult result (λ names. NamesRecords (rows_of (found_of matches.now)) names.items) (Misnamed (rows_of (found_of matches.now))) }
+{
+    match matches.get_strs("drop-record") {
+        Some(given) => records_named(alloc, given),
+        None => Ok(Vec::new(alloc)),
+    }
+}
+
+/// What a command was told to leave out.
+fn left_out<'a>(alloc: Global, matches: &ArgMatches<'a>) -> Result<LeftOut, Unnamed<'a>>
+    ensures { MatchResult result (HasLeftOut (rows_of (found_of matches.now))) (Misnamed (rows_of (found_of matches.now))) }
+{
+    let mut blocks = blocks_of(alloc, matches)?;
+    let records = records_of(alloc, matches)?;
+    if is_given(matches, "drop-info") && blocks.push(0).is_err() {
+        return Err(Unnamed::Memory);
+    }
+    Ok(LeftOut { blocks, records })
 }
 
 /// Whether a command was told to leave values out.
@@ -262,58 +315,116 @@ fn values_of(matches: &ArgMatches<'_>) -> Values
     }
 }
 
-/// The comparison that was asked for.
-fn comparison_of(first: u64, limits: Limits, matches: &ArgMatches<'_>) -> Task<'static>
-    ensures { AsksToCompare first limits (rows_of (found_of matches.now)) result }
+/// The task of writing a normal form.
+fn normal_of<'a>(
+    alloc: Global,
+    limits: Limits,
+    matches: &ArgMatches<'a>,
+) -> Result<Task, Unnamed<'a>>
+    ensures { MatchResult result (IsNormal limits (rows_of (found_of matches.now))) (Misnamed (rows_of (found_of matches.now))) }
 {
-    let info = setting_of(matches);
+    let left = left_out(alloc, matches)?;
+    Ok(Task::Normal { limits, left })
+}
+
+/// The task of comparing two inputs.
+fn same_of<'a>(
+    alloc: Global,
+    first: u64,
+    limits: Limits,
+    matches: &ArgMatches<'a>,
+) -> Result<Task, Unnamed<'a>>
+    ensures { MatchResult result (IsSame first limits (rows_of (found_of matches.now))) (Misnamed (rows_of (found_of matches.now))) }
+{
+    let left = left_out(alloc, matches)?;
     if is_given(matches, "where") {
-        Task::Where {
+        Ok(Task::Where {
             first,
             limits,
-            info,
-        }
+            left,
+        })
     } else {
-        Task::Same {
+        Ok(Task::Same {
             first,
             limits,
-            info,
-        }
+            left,
+        })
     }
 }
 
-/// The command that was given.
-fn task_of(matches: &ArgMatches<'_>) -> Option<Task<'static>>
-    ensures task { IfSome result (λ task. Means (subcommand_rows_of matches.now) task) }
+/// The task of listing.
+fn show_of<'a>(alloc: Global, limits: Limits, matches: &ArgMatches<'a>) -> Result<Task, Unnamed<'a>>
+    ensures { MatchResult result (IsShow limits (rows_of (found_of matches.now))) (Misnamed (rows_of (found_of matches.now))) }
+{
+    let left = left_out(alloc, matches)?;
+    Ok(Task::Show { limits, left })
+}
+
+/// The command that was given, or why the names of what it leaves out are none.
+fn task_of<'a>(alloc: Global, matches: &ArgMatches<'a>) -> Option<Result<Task, Unnamed<'a>>>
+    ensures task { IfSome result (λ answer. MatchResult answer (Means (subcommand_rows_of matches.now)) (MisnamedIn (subcommand_rows_of matches.now))) }
     ensures found { FindsAll (subcommand_rows_of matches.now) → IsSome result }
 {
     let (name, inner) = matches.subcommand()?;
     let limits = limits_of(inner)?;
     match name {
-        "check" => Some(Task::Check { limits }),
-        "normal" => Some(Task::Normal {
-            limits,
-            info: setting_of(inner),
-        }),
-        "same" => Some(comparison_of(number(inner, "first")?, limits, inner)),
-        "analyse" => Some(Task::Analyse { limits }),
-        "show" => Some(Task::Show { limits }),
-        "events" => Some(Task::Events {
+        "check" => Some(Ok(Task::Check { limits })),
+        "normal" => Some(normal_of(alloc, limits, inner)),
+        "same" => Some(same_of(alloc, number(inner, "first")?, limits, inner)),
+        "analyse" => Some(Ok(Task::Analyse { limits })),
+        "show" => Some(show_of(alloc, limits, inner)),
+        "events" => Some(Ok(Task::Events {
             limits,
             values: values_of(inner),
-        }),
+        })),
         _ => None,
     }
 }
 
-/// The task that the words mean.
-fn task(alloc: Global, words: &[String]) -> Result<Task<'static>, Error>
-    ensures ok { IfOk result (λ task. Says (map string_bytes words.now) (ParsedValue.Task task)) }
-    ensures err { IfErr result (λ error. Fails (map string_bytes words.now) (kind_of error)) }
+/// The task that the words mean, or why the names in them are none.
+fn task<'a>(alloc: Global, words: &'a [String]) -> Result<Result<Task, Unnamed<'a>>, Error>
+    ensures ok { IfOk result (λ answer. MatchResult answer (λ task. Says (map string_bytes words.entry.now) (ParsedValue.Task task)) (MisnamesIn (map string_bytes words.entry.now))) }
+    ensures err { IfErr result (λ error. Fails (map string_bytes words.entry.now) (kind_of error)) }
 {
     let mut command = command(alloc)?;
     let matches = command.try_get_matches_from_mut(words)?;
-    Ok(task_of(&matches).unwrap())
+    Ok(task_of(alloc, &matches).unwrap())
+}
+
+/// A usage fault for a text that does not do for an option, which wants something else.
+fn wrong_value(alloc: Global, text: &str, option: &str, wanted: &str) -> Result<String, AllocError>
+    ensures { IfOk result (λ line. string_bytes line ≡ wrong_value text.now option.now wanted.now) }
+{
+    format!(in alloc;
+        "error: invalid value '{text}' for '{option}': {wanted}\n\nFor more information, try '--help'.\n"
+    )
+}
+
+/// What comes of names that are none.
+fn misnamed(alloc: Global, why: Unnamed<'_>) -> Parsed
+    ensures { TellsOf why.entry result }
+{
+    let line = match why {
+        Unnamed::Block(text) => {
+            wrong_value(
+                alloc,
+                text,
+                "--drop-block <ID>",
+                "no ID from 0 to 4294967295",
+            )
+        }
+        Unnamed::Record(text) => wrong_value(
+            alloc,
+            text,
+            "--drop-record <ID:CODE>",
+            "no ID from 1 to 4294967295, colon, and CODE from 0 to 18446744073709551615",
+        ),
+        Unnamed::Memory => return Parsed::Memory,
+    };
+    match line {
+        Ok(line) => Parsed::Usage(line),
+        Err(AllocError) => Parsed::Memory,
+    }
 }
 
 /// The text of an error, and where it belongs.
@@ -333,7 +444,8 @@ pub fn parse(alloc: Global, words: &[String]) -> Parsed
     ensures { Says (map string_bytes words.now) result }
 {
     match task(alloc, words) {
-        Ok(task) => Parsed::Task(task),
+        Ok(Ok(task)) => Parsed::Task(task),
+        Ok(Err(why)) => misnamed(alloc, why),
         Err(error) => match error.kind() {
             ErrorKind::OutOfMemory => Parsed::Memory,
             _ => told(alloc, &error).unwrap_or(Parsed::Memory),

@@ -1,6 +1,7 @@
 //! Carrying out a command.
 
 ghost use Rattle.std.specs.Prelude.{◌≡◌, ◌<◌, ◌^◌, vec_items};
+ghost use Rattle.bit_grammar.specs.Setting.{setting_of};
 ghost use Rattle.bit_fields.specs.Reader.{told_by};
 ghost use Rattle.bitstool.specs.declared.task.Task.{Task as TaskValue};
 ghost use Rattle.bitstool.specs.Performing.{ComparesWhere, ComparesWith, FindsWhere, Judges, TellsDifference, TellsFound, outcome_found, Settles, TakesFirst, TakesRest, TellsLine, ended, outcome_in, outcome_of};
@@ -11,7 +12,7 @@ ghost use Rattle.bitstool.specs.Runs.{Does, Takes};
 use crate::devices::{Flush, put_all};
 use crate::differences::text_of;
 use crate::outcome::Outcome;
-use crate::task::Task;
+use crate::task::{LeftOut, Task};
 use bit_events::check;
 use bit_fields::{Fault, Limits, Sink, Source};
 use bit_norm::{Difference, Which, first_difference_from, normalise, same_as};
@@ -88,7 +89,7 @@ fn compare_with<S: Source>(
     limits: Limits,
     info: Info<'_>,
 ) -> (Outcome, S)
-    ensures found { ComparesWith info.entry limits first.now (S.incoming rest).to_come result.0 }
+    ensures found { ComparesWith (setting_of info.entry) limits first.now (S.incoming rest).to_come result.0 }
     ensures taken { TakesRest limits (S.incoming rest) (S.incoming result.1) result.0 }
 {
     let (answer, rest) = same_as(alloc, first, rest, limits, info);
@@ -108,13 +109,13 @@ fn compare<S: Source>(
     first: u64,
     mut source: S,
     limits: Limits,
-    info: Info<'_>,
+    left: &LeftOut,
 ) -> (Outcome, S)
-    ensures { Judges (TaskValue.Same first limits info.entry) (S.incoming source) (S.incoming result.1) result.0 }
+    ensures { Judges (TaskValue.Same first limits left.now) (S.incoming source) (S.incoming result.1) result.0 }
 {
     let count = first.min(limits.bytes() + 1);
     match take_first(alloc, &mut source, count) {
-        Ok(bytes) => compare_with(alloc, &bytes, source, limits, info),
+        Ok(bytes) => compare_with(alloc, &bytes, source, limits, left.info()),
         Err(fault) => (outcome_of(limits.bytes(), fault), source),
     }
 }
@@ -127,7 +128,7 @@ fn compare_where_with<S: Source>(
     limits: Limits,
     info: Info<'_>,
 ) -> (Result<Option<Difference>, Outcome>, S)
-    ensures found { ComparesWhere info.entry limits first.now (S.incoming rest).to_come result.0 }
+    ensures found { ComparesWhere (setting_of info.entry) limits first.now (S.incoming rest).to_come result.0 }
     ensures taken { TakesRest limits (S.incoming rest) (S.incoming result.1) (outcome_found result.0) }
 {
     let (answer, rest) = first_difference_from(alloc, first, rest, limits, info);
@@ -146,14 +147,14 @@ fn compare_where<S: Source>(
     first: u64,
     mut source: S,
     limits: Limits,
-    info: Info<'_>,
+    left: &LeftOut,
 ) -> (Result<Option<Difference>, Outcome>, S)
-    ensures taken { Takes (TaskValue.Where first limits info.entry) (S.incoming source) (S.incoming result.1) (outcome_found result.0) }
-    ensures found { FindsWhere (TaskValue.Where first limits info.entry) (S.incoming source).to_come result.0 }
+    ensures taken { Takes (TaskValue.Where first limits left.now) (S.incoming source) (S.incoming result.1) (outcome_found result.0) }
+    ensures found { FindsWhere (TaskValue.Where first limits left.now) (S.incoming source).to_come result.0 }
 {
     let most = first.min(limits.bytes() + 1);
     match take_first(alloc, &mut source, most) {
-        Ok(bytes) => compare_where_with(alloc, &bytes, source, limits, info),
+        Ok(bytes) => compare_where_with(alloc, &bytes, source, limits, left.info()),
         Err(fault) => (Err(outcome_of(limits.bytes(), fault)), source),
     }
 }
@@ -200,13 +201,13 @@ fn perform_check<S: Source, K: Sink>(
 fn perform_normal<S: Source, K: Sink>(
     alloc: Global,
     limits: Limits,
-    info: Info<'_>,
+    left: LeftOut,
     source: S,
     sink: K,
 ) -> (Outcome, S, K)
-    ensures { Does (TaskValue.Normal limits info.entry) (S.incoming source) (S.incoming result.1) (K.outgoing sink) (K.outgoing result.2) result.0 }
+    ensures { Does (TaskValue.Normal limits left) (S.incoming source) (S.incoming result.1) (K.outgoing sink) (K.outgoing result.2) result.0 }
 {
-    let (answer, source, sink) = normalise(alloc, source, sink, limits, info);
+    let (answer, source, sink) = normalise(alloc, source, sink, limits, left.info());
     let outcome = match answer {
         Ok(_) => Outcome::Done,
         Err(fault) => outcome_of(limits.bytes(), fault),
@@ -219,13 +220,13 @@ fn perform_same<S: Source, K: Sink>(
     alloc: Global,
     first: u64,
     limits: Limits,
-    info: Info<'_>,
+    left: LeftOut,
     source: S,
     mut sink: K,
 ) -> (Outcome, S, K)
-    ensures { Does (TaskValue.Same first limits info.entry) (S.incoming source) (S.incoming result.1) (K.outgoing sink) (K.outgoing result.2) result.0 }
+    ensures { Does (TaskValue.Same first limits left) (S.incoming source) (S.incoming result.1) (K.outgoing sink) (K.outgoing result.2) result.0 }
 {
-    let (outcome, source) = compare(alloc, first, source, limits, info);
+    let (outcome, source) = compare(alloc, first, source, limits, &left);
     let outcome = match outcome {
         Outcome::Done => tell(Outcome::Done, b"same\n", &mut sink),
         Outcome::Different => tell(Outcome::Different, b"different\n", &mut sink),
@@ -264,13 +265,13 @@ fn perform_where<S: Source, K: Sink>(
     alloc: Global,
     first: u64,
     limits: Limits,
-    info: Info<'_>,
+    left: LeftOut,
     source: S,
     mut sink: K,
 ) -> (Outcome, S, K)
-    ensures { Does (TaskValue.Where first limits info.entry) (S.incoming source) (S.incoming result.1) (K.outgoing sink) (K.outgoing result.2) result.0 }
+    ensures { Does (TaskValue.Where first limits left) (S.incoming source) (S.incoming result.1) (K.outgoing sink) (K.outgoing result.2) result.0 }
 {
-    let (found, source) = compare_where(alloc, first, source, limits, info);
+    let (found, source) = compare_where(alloc, first, source, limits, &left);
     let outcome = tell_found(alloc, found, &mut sink);
     (outcome, source, sink)
 }
@@ -288,16 +289,17 @@ fn perform_analyse<S: Source, K: Sink>(
     (ended(limits.bytes(), answer), source, sink)
 }
 
-/// Writes the listing of the input.
+/// Writes the listing of what the input has under the setting.
 fn perform_show<S: Source, K: Sink>(
     alloc: Global,
     limits: Limits,
+    left: LeftOut,
     source: S,
     sink: K,
 ) -> (Outcome, S, K)
-    ensures { Does (TaskValue.Show limits) (S.incoming source) (S.incoming result.1) (K.outgoing sink) (K.outgoing result.2) result.0 }
+    ensures { Does (TaskValue.Show limits left) (S.incoming source) (S.incoming result.1) (K.outgoing sink) (K.outgoing result.2) result.0 }
 {
-    let (answer, source, sink) = write_show(alloc, source, sink, limits, Info::Keep);
+    let (answer, source, sink) = write_show(alloc, source, sink, limits, left.info());
     (ended(limits.bytes(), answer), source, sink)
 }
 
@@ -316,24 +318,24 @@ fn perform_events<S: Source, K: Sink>(
 }
 
 /// Carries out a command, up to the flush.
-fn carry_out<S: Source, K: Sink>(alloc: Global, task: Task<'_>, source: S, sink: K) -> (Outcome, S, K)
-    ensures { Does task.entry (S.incoming source) (S.incoming result.1) (K.outgoing sink) (K.outgoing result.2) result.0 }
+fn carry_out<S: Source, K: Sink>(alloc: Global, task: Task, source: S, sink: K) -> (Outcome, S, K)
+    ensures { Does task (S.incoming source) (S.incoming result.1) (K.outgoing sink) (K.outgoing result.2) result.0 }
 {
     match task {
         Task::Check { limits } => perform_check(alloc, limits, source, sink),
-        Task::Normal { limits, info } => perform_normal(alloc, limits, info, source, sink),
+        Task::Normal { limits, left } => perform_normal(alloc, limits, left, source, sink),
         Task::Same {
             first,
             limits,
-            info,
-        } => perform_same(alloc, first, limits, info, source, sink),
+            left,
+        } => perform_same(alloc, first, limits, left, source, sink),
         Task::Where {
             first,
             limits,
-            info,
-        } => perform_where(alloc, first, limits, info, source, sink),
+            left,
+        } => perform_where(alloc, first, limits, left, source, sink),
         Task::Analyse { limits } => perform_analyse(alloc, limits, source, sink),
-        Task::Show { limits } => perform_show(alloc, limits, source, sink),
+        Task::Show { limits, left } => perform_show(alloc, limits, left, source, sink),
         Task::Events { limits, values } => perform_events(alloc, limits, values, source, sink),
     }
 }
@@ -354,11 +356,11 @@ fn settle<K: Flush>(outcome: Outcome, sink: &mut K) -> Outcome
 /// Carries out a command, and answers how it ended; the output is flushed where the command answered or refused.
 pub fn perform<S: Source, K: Flush>(
     alloc: Global,
-    task: Task<'_>,
+    task: Task,
     source: S,
     sink: K,
 ) -> (Outcome, S, K)
-    ensures { Does task.entry (S.incoming source) (S.incoming result.1) (K.outgoing sink) (K.outgoing result.2) result.0 }
+    ensures { Does task (S.incoming source) (S.incoming result.1) (K.outgoing sink) (K.outgoing result.2) result.0 }
 {
     let (outcome, source, mut sink) = carry_out(alloc, task, source, sink);
     let outcome = settle(outcome, &mut sink);

@@ -1,10 +1,12 @@
 //! The whole program, over any devices.
 
 ghost use Rattle.std.specs.Prelude.{◌≡◌, [], map, string_bytes};
-ghost use Rattle.bit_grammar.specs.declared.info.Info.{Info};
+ghost use Rattle.bit_grammar.specs.Setting.{keep};
 ghost use Rattle.bit_grammar.specs.declared.shapes.Shapes.TheVariants.{AtDefinition};
+ghost use Rattle.bitstool.specs.declared.task.LeftOut.{LeftOut as LeftOutValue};
 ghost use Rattle.bitstool.specs.declared.task.Parsed.{Parsed as ParsedValue};
 ghost use Rattle.bitstool.specs.declared.task.Task.{Task as TaskValue};
+ghost use Rattle.bitstool.specs.LeftOut.{setting_for};
 ghost use Rattle.bitstool.specs.Performing.{PutsAll};
 ghost use Rattle.bitstool.specs.Runs.{Helps, Runs, Tells, Writes};
 ghost use Rattle.bitstool.specs.Words.{Says};
@@ -13,9 +15,8 @@ use crate::devices::{Flush, put_all};
 use crate::outcome::Outcome;
 use crate::parse::parse;
 use crate::perform::perform;
-use crate::task::{Parsed, Task};
+use crate::task::{LeftOut, Parsed, Task};
 use bit_fields::{Limits, Sink, SinkFailed, Source};
-use bit_tree::Info;
 use std::alloc::Global;
 
 /// What a run hands back: its exit status, and the devices as they stand.
@@ -120,9 +121,9 @@ pub fn run<S: Source, K: Flush, E: Sink>(
     sink: K,
     errors: &mut E,
 ) -> Ran<S, K>
-    // Without words it writes the normal form under the usual limits, and keeps BLOCKINFO blocks.
-    ensures plain { words.items ≡ []
-        → Runs (ParsedValue.Task (TaskValue.Normal (record { bytes = 1073741824; depth = 64; values = 134217728; shapes = AtDefinition }) Info.Keep))
+    // Without words it writes the normal form under the usual limits, and leaves nothing out.
+    ensures plain { words.items ≡ [] → (left : LeftOutValue) × (setting_for left ≡ keep)
+        × Runs (ParsedValue.Task (TaskValue.Normal (record { bytes = 1073741824; depth = 64; values = 134217728; shapes = AtDefinition }) left))
         (S.incoming source) (S.incoming result.source) (K.outgoing sink) (K.outgoing result.sink)
         (E.outgoing errors.old) (E.outgoing errors.new) result.status }
     // With words it does what they say.
@@ -133,7 +134,7 @@ pub fn run<S: Source, K: Flush, E: Sink>(
     let parsed = if words.is_empty() {
         Parsed::Task(Task::Normal {
             limits: Limits::usual(),
-            info: Info::Keep,
+            left: LeftOut::nothing(alloc),
         })
     } else {
         parse(alloc, &words)

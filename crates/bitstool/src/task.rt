@@ -2,11 +2,45 @@
 
 use bit_fields::Limits;
 use bit_scan::Values;
-use bit_tree::Info;
+use bit_tree::{Info, RecordName};
+use std::alloc::Global;
+
+/// What of a tree is left out: the blocks with these ids, and the records with these names.
+#[derive(Debug, PartialEq, Eq, Drop)]
+pub struct LeftOut {
+    pub blocks: Vec<u32>,
+    pub records: Vec<RecordName>,
+}
+
+impl LeftOut {
+    ghost use Rattle.std.specs.Prelude.{◌≡◌};
+    ghost use Rattle.bit_grammar.specs.Setting.{keep, setting_of};
+    ghost use Rattle.bitstool.specs.LeftOut.{setting_for};
+
+    /// Nothing.
+    pub fn nothing(alloc: Global) -> LeftOut
+        ensures { setting_for result ≡ keep }
+    {
+        LeftOut {
+            blocks: Vec::new(alloc),
+            records: Vec::new(alloc),
+        }
+    }
+
+    /// The setting that leaves this out.
+    pub fn info(&self) -> Info<'_>
+        ensures { setting_of result ≡ setting_for self.now }
+    {
+        Info::Without {
+            blocks: &self.blocks,
+            records: &self.records,
+        }
+    }
+}
 
 /// A command, with what it was given.
-#[derive(Clone, Copy, Debug, PartialEq, Eq)]
-pub enum Task<'a> {
+#[derive(Debug, PartialEq, Eq, Drop)]
+pub enum Task {
     /// Say whether the input is accepted.
     Check {
         limits: Limits,
@@ -14,19 +48,19 @@ pub enum Task<'a> {
     /// Write the normal form of the input.
     Normal {
         limits: Limits,
-        info: Info<'a>,
+        left: LeftOut,
     },
     /// Compare the first bytes of the input, so many, with the rest.
     Same {
         first: u64,
         limits: Limits,
-        info: Info<'a>,
+        left: LeftOut,
     },
     /// The same, and say where they first differ.
     Where {
         first: u64,
         limits: Limits,
-        info: Info<'a>,
+        left: LeftOut,
     },
     /// Report what the input adds up to.
     Analyse {
@@ -35,6 +69,7 @@ pub enum Task<'a> {
     /// List the blocks and records of the input.
     Show {
         limits: Limits,
+        left: LeftOut,
     },
     /// List the events of the input as they are read.
     Events {
@@ -47,7 +82,7 @@ pub enum Task<'a> {
 #[derive(Debug, Drop)]
 pub enum Parsed {
     /// A command to carry out.
-    Task(Task<'static>),
+    Task(Task),
     /// A text for the output.
     Help(String),
     /// A text for the errors.

@@ -1,7 +1,7 @@
-use Rattle.std.proofs.Common.{◌≡◌, ℕ, List, [], refl, sym, ap, subst, arith}
+use Rattle.std.proofs.Common.{ℕ, [], refl, sym, ap, subst, arith}
 use Rattle.bit_grammar.specs.Fields.{fixed}
 use Rattle.bit_grammar.specs.Machine.{scope_of}
-use Rattle.bit_fields.specs.Ahead.{Glimpsed, reader_at}
+use Rattle.bit_fields.specs.Ahead.{Glimpsed}
 use Rattle.bit_events.specs.FrameView.{frame_shown, info_shown}
 use Rattle.bit_events.proofs.Runs.{record_seen, entry_seen}
 use Rattle.bit_events.proofs.running.glance_item.Goals as goal

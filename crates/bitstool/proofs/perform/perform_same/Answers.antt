@@ -6,7 +6,7 @@ use Rattle.bitstool.proofs.perform.perform_same.Goals as goal
 
 pub returns : goal.returns
 returns g c =
-    let task = Same c.args.first c.args.limits c.args.info in
+    let task = Same c.args.first c.args.limits c.args.left in
     let i = g.S.Source.incoming c.args.source in
     let now = g.S.Source.incoming c.compare-outcome.result.1 in
     let old = g.K.Sink.outgoing c.args.sink in

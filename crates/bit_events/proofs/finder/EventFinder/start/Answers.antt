@@ -12,4 +12,4 @@ pub invariant_of-result : goal.invariant_of-result
 invariant_of-result g c = record { stands = λ _. c.position-reached.ensures.position; aligned = λ _ _. omega (arith, c.in_ok-reader.ensures.place); closed = λ e. absurd cc }
 
 pub returns-clause-begun : goal.returns-clause-begun
-returns-clause-begun g c = rw c.position-reached.ensures.position (began c.args.limits (g.S.Source.incoming c.args.source) c.in_ok-reader.head c.new.result (g.V.ValueKeeper.kept c.empty.result) c.in_ok-reader.reader c.bytes-bytes.ensures.capped c.new.ensures.machine c.empty.ensures c.new.ensures.none c.in_ok-reader.ensures.begun)
+returns-clause-begun g c = rw c.position-reached.ensures.position (began c.args.limits (g.S.Source.incoming c.args.source) c.in_ok-reader.head c.new.result (g.V.ValueKeeper.kept c.new-2.result.taker) c.in_ok-reader.reader c.bytes-bytes.ensures.capped c.new.ensures.machine (rw c.new-2.ensures.taker c.empty.ensures) c.new.ensures.none c.in_ok-reader.ensures.begun)

@@ -6,7 +6,7 @@ use Rattle.bit_events.proofs.folding.Folding.gather.Given as goal
 abbrev pub invariant-loop-head : goal.invariant-loop-head
 invariant-loop-head g l = record {
   some : GathersSome g.G.Gatherer.gathered l.limits l.initial.self.machine l.initial.self.reader l.initial.self.gatherer l.self.machine l.self.reader l.self.gatherer;
-  took : TookSome g.G.Values.ValueTaker.took l.values;
+  took : TookSome g.G.Values.ValueTaker.took l.values.taker;
 }
 
 abbrev pub decreases-loop-head : goal.decreases-loop-head

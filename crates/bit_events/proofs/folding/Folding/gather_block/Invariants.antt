@@ -8,7 +8,7 @@ use Rattle.bit_events.proofs.folding.Folding.gather_block.Given as goal
 abbrev pub invariant-loop-first : goal.invariant-loop-first
 invariant-loop-first g l = record {
   some : GathersSome g.G.Gatherer.gathered l.limits l.initial.self.machine l.initial.self.reader l.initial.self.gatherer l.self.machine l.self.reader l.self.gatherer;
-  took : TookSome g.G.Values.ValueTaker.took l.values;
+  took : TookSome g.G.Values.ValueTaker.took l.values.taker;
   head : innermost_head (frames_shown l.self.machine.frames.items) ≡ Some (head_shown l.head);
 }
 

@@ -1,4 +1,4 @@
-use Rattle.std.proofs.Common.{◌≡◌, ◌-◌, ◌+◌, ◌^◌, ◌≤◌, ℕ, [], length, min, vec_len, arith, refl}
+use Rattle.std.proofs.Common.{◌≡◌, ◌-◌, ◌+◌, ◌^◌, ◌≤◌, ℕ, length, min, vec_len, arith, refl}
 use Rattle.std.proofs.lemmas.Result.{err_from_is_err_and}
 use Rattle.bit_abbrev.specs.Table.{definitions_at}
 use Rattle.bit_events.specs.MachineView.{handed_shown}
@@ -8,9 +8,6 @@ use Rattle.bit_events.proofs.machine.Machine.note.Goals as goal
 -- a number of values that has room is told whole
 counted : (count few many : ℕ) → count ≡ min few (2 ^ 64 - 1) → few ≤ 4294967295 → count ≡ min many (2 ^ 64 - 1) → count ≡ many
 counted count few many is fits same = omega arith
-
-pub record_after-requires-clause-none : goal.record_after-requires-clause-none
-record_after-requires-clause-none g c = c.truncate.ensures [] c.requires.took.0 c.requires.took.1 refl
 
 pub overflow_add-self : goal.overflow_add-self
 overflow_add-self g c =

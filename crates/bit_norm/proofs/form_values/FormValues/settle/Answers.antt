@@ -14,7 +14,6 @@ returns-clause-took c = λ values was.
       few = omega arith;
       whole = sym (append-nil values);
       count = c.count-count.ensures values was;
-      first = λ some. c.first_value-first.ensures values was;
       holds = subst (λ (vs : List ℕ). HoldsText c.add_values.new.holding c.add_values.new.text old.limits.bytes vs) (ap (λ (n : ℕ). was.front ++ take n old.numbers) all ∙ sym was.whole) (c.in_ok-add_values.ensures.ok was.front was.holds);
     }
 
@@ -26,6 +25,5 @@ returns-in_err-add_values-clause-took c = λ values was.
       few = was.few;
       whole = was.whole;
       count = was.count;
-      first = was.first;
       holds = subst (λ (h : Holding). HoldsText h c.add_values.new.text c.args.self.now.limits.bytes was.front) (sym c.in_err-add_values.ensures.err) tt;
     }

@@ -1,20 +1,18 @@
 use Rattle.std.proofs.Common.{◌≡◌, ◌<◌, ℕ, List, ◌++◌, length, take, ap, sym, ◌∙◌, arith, length-append}
 use Rattle.std.proofs.lemmas.List.{append-nil}
-use Rattle.bit_norm.proofs.ValueTexts.{all_text, holds_more, first_stays}
+use Rattle.bit_norm.proofs.ValueTexts.{all_text, holds_more}
 use Rattle.bit_norm.proofs.form_values.FormValuesValueTaker.pass.Goals as goal
 
 pub returns-clause-yes : goal.returns-clause-yes
-returns-clause-yes c = λ yes values others was some len.
+returns-clause-yes c = λ yes values others was len.
     let old = c.args.self.now in
     let none : old.held ≡ 0 = omega arith in
     let is : values ≡ was.front = all_text old values none was in
-    let more : 0 < length was.front = omega (arith, some, ap length is) in
     record {
       front = was.front ++ others;
       wide = was.wide;
       few = was.few;
       whole = ap (λ (vs : List ℕ). vs ++ others) is ∙ sym (append-nil (was.front ++ others)) ∙ ap (λ (n : ℕ). (was.front ++ others) ++ take n old.numbers) (sym none);
       count = omega (arith, c.saturating_add-self.ensures, was.count, length-append was.front others, len);
-      first = λ _. was.first more ∙ first_stays was.front others more;
       holds = holds_more old.limits.bytes old.text was.front others old.holding c.in_default.not-All was.holds;
     }

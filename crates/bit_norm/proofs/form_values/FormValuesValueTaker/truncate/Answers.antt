@@ -1,6 +1,5 @@
 use Rattle.std.proofs.Common.{◌++◌, sym, ◌∙◌, arith, length-append}
 use Rattle.std.proofs.lemmas.List.{append-nil}
-use Rattle.bit_norm.proofs.ValueTexts.{first_stays}
 use Rattle.bit_norm.proofs.form_values.FormValuesValueTaker.truncate.Goals as goal
 
 pub returns : goal.returns
@@ -10,7 +9,6 @@ returns c = λ values others was is.
       wide = was.wide;
       few = omega arith;
       whole = sym (append-nil values);
-      count = omega (arith, is, c.count.ensures (values ++ others) was, length-append values others, c.min-left.ensures);
-      first = λ some. c.first_value-first.ensures (values ++ others) was ∙ sym (first_stays values others some);
+      count = omega (arith, is, c.count.ensures (values ++ others) was, length-append values others, c.min-self.ensures);
       holds = tt;
     }

@@ -1,5 +1,4 @@
 use Rattle.std.proofs.Common.{◌≡◌, ◌-◌, ◌^◌, ◌∙◌, ℕ, List, length, min, leb, ap}
-use Rattle.std.specs.Prelude.{slice_get}
 use Rattle.bit_grammar.specs.Machine.{Event, notes}
 use Rattle.bit_grammar.specs.Counting.{count_event}
 use Rattle.bit_events.proofs.Folds.{each_list}
@@ -11,7 +10,7 @@ use Rattle.bit_scan.proofs.counter.CounterGatherer.record.Goals as goal
 
 pub returns-clause-gathers : goal.returns-clause-gathers
 returns-clause-gathers c =
-    each_list (λ (list : List ℕ). (c.args.values.now.count ≡ min (length list) (2 ^ 64 - 1)) × (c.args.values.now.first ≡ slice_get list 0)) _ c.count_here.result (λ list took.
+    each_list (λ (list : List ℕ). c.args.values.now.count ≡ min (length list) (2 ^ 64 - 1)) _ c.count_here.result (λ list took.
     let event : Event = notes (record { abbreviation = c.args.id; code = c.args.code; values = list; first = c.args.first; after = c.args.after }) in
     gathers_counts c.args.self.now c.count_here.new.self event c.count_here.result (λ counts is.
     then_same c.count_here.result c.count_here.new.self (cut (added_here (addition.Record c.args.code (leb 4 c.args.id) c.count.result c.saturating_sub.result) counts)) (cut (count_event event counts)) (c.count_here.ensures counts is)

@@ -1,7 +1,0 @@
-use Rattle.bit_grammar.specs.Grammar.{gives}
-use Rattle.bit_abbrev.specs.Values.{GainsMore}
-use Rattle.bit_abbrev.proofs.Taking.{SoFar}
-use Rattle.bit_abbrev.proofs.elements.more_zeros.Given as goal
-
-abbrev pub invariant-loop : goal.invariant-loop
-invariant-loop g l = GainsMore g.V.ValueTaker.took l.fn.values l.values (SoFar (gives 0) l.count l.fn.reader l.counter l.reader)

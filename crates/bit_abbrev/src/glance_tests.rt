@@ -1,0 +1,91 @@
+//! Records that are read in sight.
+
+use crate::reading_tests::{CHARACTERS, LITERALS, in_block, open_block};
+use crate::{glance_record, read_define};
+use bit_fields::{Ahead, BitReader, Fault, Limits, Shapes, SliceSource, ValueCount, ValueTaker};
+use std::alloc::{AllocError, Global};
+use std::test::Fail;
+
+/// A stream with this block, and bytes behind it.
+fn with_more(alloc: Global, body: &[u8]) -> Result<Vec<u8>, AllocError> {
+    let mut bytes = in_block(alloc, body)?;
+    bytes.extend_from_slice(&[0; 8])?;
+    Ok(bytes)
+}
+
+/// What a record in sight answers: its code and the bit behind it; and whether it has the wanted values.
+type Told = (Result<Option<(u64, u64)>, Fault>, bool);
+
+/// The record behind a block's definition, from what is in sight.
+fn in_sight<V: ValueTaker>(
+    alloc: Global,
+    reader: &mut BitReader<SliceSource<'_>>,
+    room: u64,
+    values: &mut V,
+) -> Result<Option<(u64, u64)>, Fault> {
+    open_block(reader)?;
+    let definition = read_define(alloc, reader, Shapes::AtDefinition)?;
+    let mut ahead = Ahead::new(reader.sight()?);
+    if !definition.is_usable() || ahead.fixed(3).is_none() {
+        return Ok(None);
+    }
+    let code = glance_record::<(), V>(&mut ahead, definition.lawful_ops(), room, values);
+    Ok(code.map(|code| (code, ahead.position())))
+}
+
+/// The same from the stream's beginning.
+fn glanced<V: ValueTaker>(
+    alloc: Global,
+    bytes: &[u8],
+    room: u64,
+    values: &mut V,
+) -> Result<Option<(u64, u64)>, Fault> {
+    match BitReader::start(SliceSource::new(bytes), Limits::usual()) {
+        Ok((mut reader, _)) => in_sight(alloc, &mut reader, room, values),
+        Err((fault, _)) => Err(fault),
+    }
+}
+
+/// A record with room for so many values, and whether the list has these values.
+fn kept(alloc: Global, bytes: &[u8], room: u64, wanted: &[u64]) -> Told {
+    let mut values = Vec::new(alloc);
+    let answer = glanced(alloc, bytes, room, &mut values);
+    (answer, values.as_slice() == wanted)
+}
+
+/// The same where the values are counted, and whether there are so many.
+fn counted(alloc: Global, bytes: &[u8], room: u64, wanted: &[u64]) -> Told {
+    let mut values = ValueCount::new();
+    let answer = glanced(alloc, bytes, room, &mut values);
+    (answer, values.count() == wanted.len() as u64)
+}
+
+/// A field of each kind: Fixed 3, VBR 4, Fixed 7, Char6, and an array of VBR 6.
+const KINDS: [u8; 14] = [
+    0x32, 0x32, 0x88, 0xC8, 0x41, 0x23, 0xC3, 0xB2, 0x90, 0x83, 0x21, 0x40, 0x03, 0x01,
+];
+
+/// Blocks with a definition and a record by it: the code, the bit behind the record, and its values.
+static ROWS: [(&[u8], (u64, u64), &[u64]); 3] = [
+    (&KINDS, (5, 205), &[20, 100, 98, 1, 40, 2]),
+    (&CHARACTERS, (1, 148), &[97, 95, 90]),
+    (&LITERALS, (1, 179), &[1, 2, 3, 4, 5, 6, 7]),
+];
+
+#[test]
+fn records_in_sight(rt: HostRuntime) -> Result<(), Fail> {
+    for (body, record, wanted) in &ROWS {
+        let bytes = with_more(rt.alloc(), body)?;
+        let answer = (Ok(Some(*record)), true);
+        assert!(rt; kept(rt.alloc(), &bytes, 9, wanted) == answer, "{body:?}");
+        assert!(rt;
+            counted(rt.alloc(), &bytes, 9, wanted) == answer,
+            "{body:?}"
+        );
+        assert!(rt;
+            kept(rt.alloc(), &bytes, 2, wanted).0 == Ok(None),
+            "{body:?}"
+        );
+    }
+    Ok(())
+}

@@ -1,0 +1,69 @@
+ghost use Rattle.std.specs.Prelude.{◌≡◌, [], None};
+ghost use Rattle.bit_events.specs.MachineView.{TookSome};
+ghost use Rattle.bit_events.specs.Firsts.{TookWithFirst};
+
+use bit_fields::ValueTaker;
+use std::alloc::AllocError;
+
+/// What takes the values of a record, and the first one, which in a BLOCKINFO block may tell which block is described. So the
+/// first one is not passed over.
+#[derive(Drop)]
+pub(crate) struct WithFirst<V> {
+    pub(crate) taker: V,
+    pub(crate) first: Option<u64>,
+}
+
+impl<V: ValueTaker> WithFirst<V> {
+    /// No first one was taken yet.
+    pub(crate) fn new(taker: V) -> WithFirst<V>
+        ensures taker { result.taker ≡ taker }
+        ensures first { result.first ≡ None }
+    {
+        WithFirst { taker, first: None }
+    }
+
+    /// Drops the values.
+    pub(crate) fn clear(&mut self)
+        requires { TookSome V.took self.old.taker }
+        ensures { TookWithFirst V.took self.new [] }
+    {
+        self.taker.truncate(0);
+        self.first = None;
+    }
+}
+
+impl<V: ValueTaker> ValueTaker for WithFirst<V> {
+    ghost use Rattle.bit_events.specs.Firsts.{TookWithFirst};
+
+    ghost took = { TookWithFirst V.took };
+
+    #[inline]
+    fn take(&mut self, value: u64) -> Result<(), AllocError> {
+        self.taker.take(value)?;
+        if self.first.is_none() {
+            self.first = Some(value);
+        }
+        Ok(())
+    }
+
+    #[inline]
+    fn pass(&mut self, count: u64) -> bool {
+        self.first.is_some() && self.taker.pass(count)
+    }
+
+    #[inline]
+    fn pass_zeros(&mut self, count: u64) -> bool {
+        self.first.is_some() && self.taker.pass_zeros(count)
+    }
+
+    fn truncate(&mut self, count: u64) {
+        if count == 0 {
+            self.first = None;
+        }
+        self.taker.truncate(count);
+    }
+
+    fn count(&self) -> u64 {
+        self.taker.count()
+    }
+}

@@ -1,0 +1,20 @@
+use Rattle.std.proofs.Common.{rules, ◌≡◌, List, [], codes}
+use Rattle.clap.specs.Walk.{Text, texts}
+use Rattle.clap.specs.Words.{found_of, rows_of}
+use Rattle.bitstool.specs.Names.{NameEach, NamesBlock}
+use Rattle.bitstool.specs.Words.{texts_of}
+use Rattle.bitstool.proofs.Naming.{blocks_named_by, texts_found}
+use Rattle.bitstool.proofs.parse.blocks_of.Goals as goal
+
+pub returns-in-Some : goal.returns-in-Some
+returns-in-Some c =
+    let found = found_of c.args.matches.now in
+    let is : texts c.in-Some.given.now ≡ texts_of (codes "drop-block") (rows_of found) = rw c.in-Some.is at (texts_found found (codes "drop-block") c.get_strs.result c.get_strs.ensures) in
+    blocks_named_by (λ given named. NameEach NamesBlock given named.items) (rows_of found) (texts c.in-Some.given.now) c.blocks_named.result is c.blocks_named.ensures
+
+pub returns-in-None : goal.returns-in-None
+returns-in-None c =
+    let found = found_of c.args.matches.now in
+    let none : ◌≡◌ {A = List Text} [] (texts_of (codes "drop-block") (rows_of found)) = rw c.in-None.is at (texts_found found (codes "drop-block") c.get_strs.result c.get_strs.ensures) in
+    let fresh : c.new.result.items ≡ [] = search rules in
+    rw (← none, fresh) tt
