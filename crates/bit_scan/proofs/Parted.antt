@@ -52,8 +52,8 @@ value_text v = 32 ∷ decimal v
 pub values_parts : (vs a b : List ℕ) (zeros : ℕ) → vs ≡ a ++ b ++ replicate zeros 0 → Parts (values_text vs) (values_text a) (values_text b) (values_text (replicate zeros 0))
 values_parts vs a b zeros is = record { are = ap values_text is ∙ flat_map-append value_text (a ++ b) (replicate zeros 0) ∙ ap (λ (s : List ℕ). s ++ values_text (replicate zeros 0)) (flat_map-append value_text a b) ∙ append_assoc (values_text a) (values_text b) (values_text (replicate zeros 0)) }
 
-zeros_next : (count i : ℕ) → i < count → replicate (count - i) 0 ≡ 0 ∷ replicate (count - (i + 1)) 0
-zeros_next count i lt = ap (λ (n : ℕ). replicate n 0) one_more
+zeros_next : (count i : ℕ) → i < count → replicate {A = ℕ} (count - i) 0 ≡ 0 ∷ replicate (count - (i + 1)) 0
+zeros_next count i lt = ap (λ (n : ℕ). replicate {A = ℕ} n 0) one_more
   where
     one_more : count - i ≡ suc (count - (i + 1))
     one_more = omega arith

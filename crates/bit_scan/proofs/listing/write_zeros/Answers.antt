@@ -1,13 +1,18 @@
-use Rattle.std.proofs.Common.{◌+◌, ◌-◌, arith}
+use Rattle.std.proofs.Common.{◌≡◌, ℕ, ◌+◌, ◌-◌, ap, arith}
 use Rattle.std.proofs.Math.ListN.{replicate}
 use Rattle.std.proofs.lemmas.Result.{err_from_is_err_and}
 use Rattle.bit_grammar.specs.Texts.{values_text}
 use Rattle.bit_scan.proofs.Parted.{value_text, next_zero, last_zero}
-use Rattle.bit_scan.proofs.Prints.{goes_starts, goes_on, goes_wrong}
+use Rattle.bit_scan.proofs.Prints.{goes_starts, goes_as, goes_on, goes_wrong}
 use Rattle.bit_scan.proofs.listing.write_zeros.Goals as goal
 
+all_left : (count : ℕ) → count ≡ count - 0
+all_left count = omega arith
+
 pub loop-init : goal.loop-init
-loop-init g c = goes_starts (values_text (replicate c.args.count 0)) c.args.printer.now
+loop-init g c =
+    let all = values_text (replicate c.args.count 0) in
+    goes_as all c.args.printer.now all (values_text (replicate (c.args.count - 0) 0)) c.args.printer.now (ap (λ (n : ℕ). values_text (replicate n 0)) (all_left c.args.count)) (goes_starts all c.args.printer.now)
 
 pub returns-in_err-value : goal.returns-in_err-value
 returns-in_err-value g c =
