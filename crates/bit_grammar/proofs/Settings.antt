@@ -1,6 +1,6 @@
 -- The trees of an input under each setting, and their normal forms.
 use Rattle.std.proofs.Common.{◌≡◌, ℕ, ◌≤◌, List, length, sym, ap, ◌∙◌, arith}
-use Rattle.bit_grammar.specs.Setting.{Setting}
+use Rattle.bit_grammar.specs.Setting.{Setting, keep}
 use Rattle.bit_grammar.specs.Bits.{bits_of_bytes}
 use Rattle.bit_grammar.specs.Forest.{Tree, forest_depth, forest_values, Fit}
 use Rattle.bit_grammar.specs.Under.{under}
@@ -11,10 +11,17 @@ use Rattle.bit_grammar.proofs.Inputs.{one_tree}
 use Rattle.bit_grammar.proofs.Limits.{limits_judged}
 use Rattle.bit_grammar.proofs.Normals.{IsSpelled, whole_spelled}
 use Rattle.bit_grammar.proofs.Fits.{fit_of_spelled, depth_kept, values_kept}
-use Rattle.bit_grammar.proofs.Under.{under_again, depth_under, values_under, fit_under}
+use Rattle.bit_grammar.proofs.Under.{tree_kept, under_again, depth_under, values_under, fit_under}
 
 pub fit_of_setting : (s : Setting) (limits : Limits) (bytes : List ℕ) (m : Marked) → Capped limits → SpellsInput limits bytes m → Fit (under s (tree_of m))
 fit_of_setting s limits bytes m capped h = fit_under s (tree_of m) (fit_of_spelled limits bytes m capped h)
+
+-- an input that has a tree under a setting has a whole one, of which that is left, and the other way round
+pub whole_of : (s : Setting) (limits : Limits) (bytes : List ℕ) (tree : Tree) → HasTree s limits bytes tree → (all : Tree) × HasTree keep limits bytes all × (under s all ≡ tree)
+whole_of s limits bytes tree h = (tree_of h.0, (h.0, h.1, tree_kept (tree_of h.0)), h.2)
+
+pub left_of : (s : Setting) (limits : Limits) (bytes : List ℕ) (all : Tree) → HasTree keep limits bytes all → HasTree s limits bytes (under s all)
+left_of s limits bytes all h = (h.0, h.1, ap (under s) (sym (tree_kept (tree_of h.0)) ∙ h.2))
 
 depth_of_setting : (s : Setting) (limits : Limits) (bytes : List ℕ) (m : Marked) → SpellsInput limits bytes m → forest_depth (under s (tree_of m)).blocks ≤ limits.depth
 depth_of_setting s limits bytes m h =
@@ -33,6 +40,12 @@ spelled_whole s limits bytes out m capped h is fits =
 
 pub normal_is_spelled : (s : Setting) (limits : Limits) (bytes out : List ℕ) (m : Marked) → Capped limits → SpellsInput limits bytes m → bits_of_bytes out ≡ normal_form (under s (tree_of m)) → length out ≤ limits.bytes → HasTree s limits out (under s (tree_of m))
 normal_is_spelled s limits bytes out m capped h is fits = (let x = spelled_whole s limits bytes out m capped h is fits in (x.0, x.1, ap (under s) x.2 ∙ under_again s (tree_of m)))
+
+-- and spells no other
+pub normal_whole : (s : Setting) (limits : Limits) (bytes out : List ℕ) (m n : Marked) → Capped limits → SpellsInput limits bytes m → bits_of_bytes out ≡ normal_form (under s (tree_of m)) → length out ≤ limits.bytes → SpellsInput limits out n → tree_of n ≡ under s (tree_of m)
+normal_whole s limits bytes out m n capped h is fits k =
+    let x = spelled_whole s limits bytes out m capped h is fits in
+    ap tree_of (one_tree limits out n x.0 k x.1) ∙ x.2
 
 pub normal_once : (s : Setting) (limits : Limits) (bytes out : List ℕ) (m n : Marked) → Capped limits → SpellsInput limits bytes m → bits_of_bytes out ≡ normal_form (under s (tree_of m)) → length out ≤ limits.bytes → SpellsInput limits out n → under s (tree_of n) ≡ under s (tree_of m)
 normal_once s limits bytes out m n capped h is fits k =

@@ -35,13 +35,16 @@ pub fn one_tree_of_form()
     ensures { (a b : Tree) → Fit a → Fit b → size_of a ≤ 17179869180 → normal_form a ≡ normal_form b → a ≡ b }
 {}
 
-/// Under each setting and limits within their caps, where the normal form of what an input spells fits the limit on bytes:
-/// it is spelled under the same limits, by the same tree alone, of which it is the normal form again; and inputs whose
-/// normal forms are the same bytes have the same tree.
+/// Under each setting and limits within their caps, where the normal form of what is left of what an input spells fits the
+/// limit on bytes: it is spelled under the same limits; all that it spells is what is left, of which nothing is left out under
+/// the setting, so that it is its own normal form; and inputs whose normal forms are the same bytes have the same tree.
 pub fn normal_once()
     ensures spelled { (setting : Setting) (limits : Limits) (bytes out : List ℕ) (m : Marked) → Capped limits
         → SpellsInput limits bytes m → bits_of_bytes out ≡ normal_form (under setting (tree_of m))
         → length out ≤ limits.bytes → HasTree setting limits out (under setting (tree_of m)) }
+    ensures whole { (setting : Setting) (limits : Limits) (bytes out : List ℕ) (m n : Marked) → Capped limits
+        → SpellsInput limits bytes m → bits_of_bytes out ≡ normal_form (under setting (tree_of m))
+        → length out ≤ limits.bytes → SpellsInput limits out n → tree_of n ≡ under setting (tree_of m) }
     ensures once { (setting : Setting) (limits : Limits) (bytes out : List ℕ) (m n : Marked) → Capped limits
         → SpellsInput limits bytes m → bits_of_bytes out ≡ normal_form (under setting (tree_of m))
         → length out ≤ limits.bytes → SpellsInput limits out n → under setting (tree_of n) ≡ under setting (tree_of m) }

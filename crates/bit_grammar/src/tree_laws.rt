@@ -1,7 +1,8 @@
-ghost use Rattle.std.specs.Prelude.{◌≡◌, ℕ, ◌≤◌, List, []};
-ghost use Rattle.bit_grammar.specs.Setting.{Setting, keep};
+ghost use Rattle.std.specs.Prelude.{◌≡◌, ℕ, ◌≤◌, List, [], ◌∷◌};
+ghost use Rattle.bit_grammar.specs.Setting.{Setting, keep, setting_of};
+ghost use Rattle.bit_grammar.specs.declared.info.Info.TheVariants.{Keep, Drop};
 ghost use Rattle.bit_grammar.specs.Forest.{Tree, forest_depth, forest_values, Fit, Forest, AreBlocks, FitForest};
-ghost use Rattle.bit_grammar.specs.Normal.{Capped};
+ghost use Rattle.bit_grammar.specs.Normal.{Capped, HasTree};
 ghost use Rattle.bit_grammar.specs.Machine.{flat};
 ghost use Rattle.bit_grammar.specs.Marks.{Marks, forest_of};
 ghost use Rattle.bit_grammar.specs.Blocks.{Limits};
@@ -12,6 +13,22 @@ ghost use Rattle.bit_grammar.specs.Under.{items_under, under, HasNoneNamed, even
 pub fn fit_tree()
     ensures { (setting : Setting) (limits : Limits) (bytes : List ℕ) (m : Marked) → Capped limits
         → SpellsInput limits bytes m → Fit (under setting (tree_of m)) }
+{}
+
+/// `Keep` is the setting without names, and `Drop` the one that names the blocks 0 and nothing else.
+pub fn settings_by_names()
+    ensures keep { setting_of Keep ≡ record { blocks = []; records = [] } }
+    ensures drop { setting_of Drop ≡ record { blocks = 0 ∷ []; records = [] } }
+{}
+
+/// Reading is the same under each setting: what an input has under one is what is left of the whole that it has, and where it
+/// has a whole tree it has what is left of that.
+pub fn reading_stays()
+    ensures whole { (setting : Setting) (limits : Limits) (bytes : List ℕ) (tree : Tree)
+        → HasTree setting limits bytes tree
+        → (all : Tree) × HasTree keep limits bytes all × (under setting all ≡ tree) }
+    ensures left { (setting : Setting) (limits : Limits) (bytes : List ℕ) (all : Tree)
+        → HasTree keep limits bytes all → HasTree setting limits bytes (under setting all) }
 {}
 
 /// Under the setting that keeps all a tree stays as it is, and under each setting it stays so when it is put under it once

@@ -5,7 +5,8 @@ use Rattle.bit_grammar.specs.Setting.{keeps, keeps_record}
 use Rattle.bit_grammar.specs.Under.{ids_behind, innermost, events_under}
 use Rattle.bit_grammar.specs.Bits.{bits_of}
 use Rattle.bit_grammar.specs.Forest.{Forest}
-use Rattle.bit_grammar.specs.Machine.{Event}
+use Rattle.bit_grammar.specs.Machine.{Event, Opened, enters, notes, leaves}
+use Rattle.bit_grammar.specs.Marks.{RecordMark}
 use Rattle.bit_grammar.specs.Normal.{values_text, end_text, normal}
 use Rattle.bit_grammar.specs.Size.{end_of}
 use Rattle.bit_events.specs.Gathering.{left_open}
@@ -94,6 +95,28 @@ pub record Forms (limit : ℕ) (events : List Event) (text : List Bool) (holes :
 abbrev pub HasForm : List Event → FormBuilder → Type 0
 HasForm events b = Forms b.limits.bytes events b.text b.holes.items b.long
 
+-- a builder's setting, open blocks and limits are as they were
+abbrev pub StaysAs : (old new : FormBuilder) → Type 0
+StaysAs old new = (new.standing ≡ old.standing) × (new.limits ≡ old.limits)
+
+-- unless the form was too long already, the beginning of a block with this id is built behind the events before it
+abbrev pub BuildsBlock : (id : ℕ) → (old new : FormBuilder) → Type 0
+BuildsBlock id old new =
+    (done : List Event) (opened : Opened) → opened.id ≡ id → HasForm done old → old.long ≡ false
+    → HasForm (done ++ enters opened ∷ []) new
+
+-- the same of the end of a block that is open
+abbrev pub BuildsEnd : (old new : FormBuilder) → Type 0
+BuildsEnd old new =
+    (done : List Event) (after : ℕ) → HasForm done old → old.long ≡ false → 0 < left_open done
+    → HasForm (done ++ leaves after ∷ []) new
+
+-- the same of a record with this code and the values that were taken, in a block that is open
+abbrev pub BuildsRecord : (code : ℕ) → FormValues → (old new : FormBuilder) → Type 0
+BuildsRecord code taken old new =
+    (done : List Event) (mark : RecordMark) → mark.code ≡ code → HasTaken taken mark.values → HasForm done old
+    → old.long ≡ false → 0 < left_open done → HasForm (done ++ notes mark ∷ []) new
+
 -- whether a record with this code is left in the innermost open block
 abbrev pub record_left : Standing → (code : ℕ) → Bool
 record_left standing code = list_all (keeps standing.setting) standing.ids && keeps_record standing.setting (innermost standing.ids) code
@@ -107,3 +130,16 @@ pub record IsFormOf (first : FormBuilder) (events : List Event) (b : FormBuilder
   pub limits : b.limits ≡ first.limits
   pub stands : b.long ≡ false → b.standing ≡ record { setting = first.standing.setting; ids = ids_behind events [] }
   pub form : HasForm (left first events) b
+
+-- the normal form of what is left of these events, behind the magic
+abbrev pub form_of : FormBuilder → List Event → List Bool
+form_of first events = normal (told_at_level (left first events) 0) 32
+
+-- it has more bytes than the limit, the magic among them
+abbrev pub IsTooLong : FormBuilder → List Event → Type 0
+IsTooLong first events = first.limits.bytes < 4 + length (form_of first events) / 8
+
+-- a text is that, which is whole words and within the limit
+abbrev pub IsWholeForm : FormBuilder → List Event → List Bool → Type 0
+IsWholeForm first events text =
+    (text ≡ form_of first events) × (length text % 32 ≡ 0) × (4 + length text / 8 ≤ first.limits.bytes)

@@ -155,6 +155,11 @@ static WITHOUT_INFO: &str = "\
 #[test]
 fn what_is_left_out_counts_nowhere(rt: HostRuntime) {
     are_told(&rt, rt.alloc(), WITHOUT_INFO, Info::Drop, 4);
+    let blocks = Info::Without {
+        blocks: &[0],
+        records: &[],
+    };
+    are_told(&rt, rt.alloc(), WITHOUT_INFO, blocks, 4);
 }
 
 /// The same without blocks 9 and the records with code 1 of blocks 8.

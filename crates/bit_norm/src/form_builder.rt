@@ -1,13 +1,11 @@
 ghost use Rattle.std.specs.Prelude.{◌≡◌, ◌+◌, ◌*◌, ◌/◌, ◌%◌, ◌^◌, ◌<◌, ◌≤◌, ℕ, List, [], ◌∷◌, ◌++◌, length, true, false, IfSome, MatchOption, OnOk};
-ghost use Rattle.bit_grammar.specs.Machine.{Event, Opened, enters, notes, leaves};
-ghost use Rattle.bit_grammar.specs.Marks.{RecordMark};
+ghost use Rattle.bit_grammar.specs.Machine.{Event};
 ghost use Rattle.bit_grammar.specs.Setting.{setting_of};
-ghost use Rattle.bit_grammar.specs.Normal.{values_text, end_text, normal};
+ghost use Rattle.bit_grammar.specs.Normal.{values_text, end_text};
 ghost use Rattle.bit_events.specs.Gathering.{left_open};
 ghost use Rattle.bit_fields.specs.Texts.{with_word};
-ghost use Rattle.bit_norm.specs.Told.{told_at_level};
 ghost use Rattle.bit_events.specs.MachineView.{TookSome};
-ghost use Rattle.bit_norm.specs.Building.{HasTaken, HasForm, record_left, left, IsFormOf};
+ghost use Rattle.bit_norm.specs.Building.{HasTaken, record_left, IsFormOf, StaysAs, BuildsBlock, BuildsEnd, BuildsRecord, IsTooLong, IsWholeForm};
 ghost use Rattle.bit_norm.specs.Writing.{record_head, record_text, open_text};
 
 use crate::form_values::{FormValues, is_long};
@@ -133,7 +131,8 @@ impl<'a> FormBuilder<'a> {
 
     /// The text, or `None` where the form is longer than the limit on bytes.
     pub(crate) fn finish(self) -> Option<BitText>
-        ensures form { (first : FormBuilder) (events : List Event) → IsFormOf first events self.entry → left_open events ≡ 0 → MatchOption result (first.limits.bytes < 4 + length (normal (told_at_level (left first events) 0) 32) / 8) (λ text. (text ≡ normal (told_at_level (left first events) 0) 32) × (length text % 32 ≡ 0) × (4 + length text / 8 ≤ first.limits.bytes)) }
+        ensures form { (first : FormBuilder) (events : List Event) → IsFormOf first events self.entry → left_open events ≡ 0
+            → MatchOption result (IsTooLong first events) (IsWholeForm first events) }
         ensures capped { IfSome result (λ text. length text < 2 ^ 38) }
     {
         let FormBuilder {
@@ -168,8 +167,8 @@ impl<'a> FormBuilder<'a> {
 
     /// Opens a block that is left.
     fn open_block(&mut self, id: u32) -> Result<(), AllocError>
-        ensures stays { OnOk result ((self.new.standing ≡ self.old.standing) × (self.new.limits ≡ self.old.limits)) }
-        ensures form { OnOk result ((done : List Event) (opened : Opened) → opened.id ≡ id → HasForm done self.old → self.old.long ≡ false → HasForm (done ++ enters opened ∷ []) self.new) }
+        ensures stays { OnOk result (StaysAs self.old self.new) }
+        ensures form { OnOk result (BuildsBlock id self.old self.new) }
     {
         if is_long(&self.text, self.limits) {
             self.stop();
@@ -182,8 +181,8 @@ impl<'a> FormBuilder<'a> {
 
     /// Closes a block that is left.
     fn close(&mut self) -> Result<(), AllocError>
-        ensures stays { OnOk result ((self.new.standing ≡ self.old.standing) × (self.new.limits ≡ self.old.limits)) }
-        ensures form { OnOk result ((done : List Event) (after : ℕ) → HasForm done self.old → self.old.long ≡ false → 0 < left_open done → HasForm (done ++ leaves after ∷ []) self.new) }
+        ensures stays { OnOk result (StaysAs self.old self.new) }
+        ensures form { OnOk result (BuildsEnd self.old self.new) }
     {
         let Some(hole) = self.holes.pop() else {
             return Ok(());
@@ -203,8 +202,8 @@ impl<'a> FormBuilder<'a> {
     #[inline(never)]
     fn add_long(&mut self, code: u64, values: &mut FormValues) -> Result<(), AllocError>
         requires { length self.old.text < 2 ^ 38 }
-        ensures stays { OnOk result ((self.new.standing ≡ self.old.standing) × (self.new.limits ≡ self.old.limits)) }
-        ensures form { OnOk result ((done : List Event) (mark : RecordMark) → mark.code ≡ code → HasTaken values.old mark.values → HasForm done self.old → self.old.long ≡ false → 0 < left_open done → HasForm (done ++ notes mark ∷ []) self.new) }
+        ensures stays { OnOk result (StaysAs self.old self.new) }
+        ensures form { OnOk result (BuildsRecord code values.old self.old self.new) }
     {
         values.settle()?;
         if values.is_past(self.limits) {
@@ -220,8 +219,8 @@ impl<'a> FormBuilder<'a> {
     /// Adds a record that is left, whose values it may take away.
     #[inline]
     fn add(&mut self, code: u64, values: &mut FormValues) -> Result<(), AllocError>
-        ensures stays { OnOk result ((self.new.standing ≡ self.old.standing) × (self.new.limits ≡ self.old.limits)) }
-        ensures form { OnOk result ((done : List Event) (mark : RecordMark) → mark.code ≡ code → HasTaken values.old mark.values → HasForm done self.old → self.old.long ≡ false → 0 < left_open done → HasForm (done ++ notes mark ∷ []) self.new) }
+        ensures stays { OnOk result (StaysAs self.old self.new) }
+        ensures form { OnOk result (BuildsRecord code values.old self.old self.new) }
         ensures took { TookSome HasTaken values.old → TookSome HasTaken values.new }
     {
         if is_long(&self.text, self.limits) {
