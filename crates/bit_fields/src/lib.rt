@@ -14,6 +14,8 @@ mod kept;
 mod limits;
 mod numbers;
 mod packed;
+#[cfg(test)]
+mod packed_tests;
 mod reader;
 mod sink;
 mod source;
