@@ -1,17 +1,19 @@
 # Completion of bitstool's words for bash.
 _bitstool() {
     local limits="--bytes --depth --values --shapes-at-use --help"
+    local names="--drop-block --drop-record"
     local before=${COMP_WORDS[COMP_CWORD - 1]} now=${COMP_WORDS[COMP_CWORD]} words
     case $before in
-        --bytes | --depth | --values | --first) return ;;
+        --bytes | --depth | --values | --first | --drop-block | --drop-record) return ;;
     esac
     if [ "$COMP_CWORD" -eq 1 ]; then
         words="check normal same analyse show events --help --version"
     else
         case ${COMP_WORDS[1]} in
-            check | analyse | show) words=$limits ;;
-            normal) words="$limits --drop-info" ;;
-            same) words="$limits --drop-info --first --where" ;;
+            check | analyse) words=$limits ;;
+            show) words="$limits $names" ;;
+            normal) words="$limits $names --drop-info" ;;
+            same) words="$limits $names --drop-info --first --where" ;;
             events) words="$limits --no-values" ;;
         esac
     fi

@@ -14,6 +14,8 @@ complete -c bitstool -n "$some $commands" -l bytes -x -d "The most bytes of an i
 complete -c bitstool -n "$some $commands" -l depth -x -d "How deep blocks may stand in one another"
 complete -c bitstool -n "$some $commands" -l values -x -d "The most values of all records"
 complete -c bitstool -n "$some $commands" -l shapes-at-use -d "Judge the shape of a definition where a record uses it"
+complete -c bitstool -n "$some normal same show" -l drop-block -x -d "Leave out the blocks with this id"
+complete -c bitstool -n "$some normal same show" -l drop-record -x -d "Leave out the records with this code in blocks with this id, as ID:CODE"
 complete -c bitstool -n "$some normal same" -l drop-info -d "Leave out the BLOCKINFO blocks"
 complete -c bitstool -n "$some same" -l first -x -d "How many bytes the first input has"
 complete -c bitstool -n "$some same" -l where -d "Tell where they first differ"

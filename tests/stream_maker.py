@@ -35,10 +35,28 @@ def lines_of(items, depth=0):
             yield from lines_of(item.items, depth + 1)
 
 
-def without_info(items):
-    """A tree without its BLOCKINFO blocks."""
-    kept = [item for item in items if isinstance(item, Record) or item.number != 0]
-    return [item if isinstance(item, Record) else Block(item.number, without_info(item.items)) for item in kept]
+def left_of(items, blocks, records, around=0):
+    """What is left of a tree without the blocks with these ids, and without the records with these pairs of an id and a code."""
+    left = []
+    for item in items:
+        if isinstance(item, Block) and item.number not in blocks:
+            left.append(Block(item.number, left_of(item.items, blocks, records, item.number)))
+        elif isinstance(item, Record) and (around, item.code) not in records:
+            left.append(item)
+    return left
+
+
+def names_in(items, around=0):
+    """The ids of the blocks of a tree, and the pairs of an id and a code of its records, but those in BLOCKINFO blocks."""
+    blocks, records = set(), set()
+    for item in items:
+        if isinstance(item, Block):
+            within = names_in(item.items, item.number)
+            blocks |= {item.number} | within[0]
+            records |= within[1]
+        elif around:
+            records.add((around, item.code))
+    return blocks, records
 
 
 def write_normal(bits, items):

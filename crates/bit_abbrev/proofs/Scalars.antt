@@ -1,7 +1,6 @@
 -- Operands that stand for one value each.
-use Rattle.std.specs.Prelude.{nat_le}
 use Rattle.std.proofs.Common.{◌≡◌, ◌≢◌, ◌⊎◌, ℕ, zero, suc, ◌+◌, ◌-◌, ◌<◌, ◌≤◌, Bool, true, List, [], ◌∷◌, ◌++◌, length, take, drop, Result, Ok, Err, refl, sym, ap, ◌∙◌, subst, arith, append_assoc, length-append, add-one, inl, inr}
-use Rattle.std.proofs.lemmas.List.{append-nil, length-take-le}
+use Rattle.std.proofs.lemmas.List.{length-take-le}
 use Rattle.std.proofs.Math.Seq.{drop-cons}
 use Rattle.bit_grammar.specs.declared.op.Op.{Op}
 use Rattle.bit_grammar.specs.declared.op.Op.TheVariants.{Literal, Fixed, Vbr, Array, Char6, Blob}
@@ -11,9 +10,9 @@ use Rattle.bit_grammar.specs.Record.{scalar, singles, values_of}
 use Rattle.bit_grammar.specs.FormatDefinition.{op_at}
 use Rattle.bit_fields.specs.Ahead.{InSight, reader_at}
 use Rattle.bit_fields.specs.Reader.{Reader, Took}
-use Rattle.bit_fields.proofs.Composing.{same_reading, took_then, took_nothing}
+use Rattle.bit_fields.proofs.Composing.{same_reading, took_then}
 use Rattle.bit_abbrev.specs.Plain.{scalars, IsBehindSingles}
-use Rattle.bit_abbrev.specs.Values.{Adds, AddsEach, AddsFew, PassesEach, Has, Gains}
+use Rattle.bit_abbrev.specs.Values.{Adds, AddsEach, AddsFew, PassesEach, Gains}
 use Rattle.bit_abbrev.proofs.Adding.{value_then, adds_none, Completes, whole, and_gives}
 
 -- ---- one after another

@@ -1,7 +1,6 @@
 -- Values that are read into what takes them.
-use Rattle.std.proofs.Common.{◌≡◌, ℕ, zero, suc, ◌+◌, ◌-◌, ◌^◌, ◌<◌, ◌≤◌, min, true, List, [], ◌∷◌, ◌++◌, length, Result, Ok, Err, Bool, refl, sym, ap, ◌∙◌, subst, arith, map, length-append}
+use Rattle.std.proofs.Common.{◌≡◌, ℕ, zero, suc, ◌+◌, ◌-◌, ◌^◌, ◌<◌, ◌≤◌, min, true, List, [], ◌∷◌, ◌++◌, length, Result, Ok, Err, Bool, refl, sym, ap, ◌∙◌, subst, arith, map, length-append, false}
 use Rattle.std.proofs.Math.ListN.{replicate}
-use Rattle.std.specs.Result.{OnOk}
 use Rattle.std.proofs.lemmas.List.{append-nil}
 use Rattle.bit_grammar.specs.Grammar as grammar
 use Rattle.bit_grammar.specs.Grammar.{Grammar, gives, ◌>>=◌, ◌and_then◌, repeat, reading}
@@ -11,9 +10,9 @@ use Rattle.bit_fields.specs.declared.fault.Fault.{Fault}
 use Rattle.bit_fields.specs.declared.fault.Fault.TheVariants.{Memory}
 use Rattle.bit_fields.specs.Inside.{numbers}
 use Rattle.bit_fields.specs.Reader.{Reader, Took, Why, Takes, IsOnly, told_by, stopped}
-use Rattle.bit_fields.proofs.Composing.{fault_then, took_then, took_nothing, same_reading, only}
-use Rattle.bit_abbrev.specs.Values.{Has, Adds, AddsAll, AddsWithin, Recorded}
-use Rattle.bit_abbrev.proofs.Adding.{and_gives, value_then, value_fails, no_room, adds_none, CompletesAll, all_begin, all_go_on, all_fail, all_refused, all_done}
+use Rattle.bit_fields.proofs.Composing.{back_there, fault_then, took_then, took_nothing, same_reading, only}
+use Rattle.bit_abbrev.specs.Values.{Has, AddsAll, AddsWithin, Recorded}
+use Rattle.bit_abbrev.proofs.Adding.{and_gives, CompletesAll, all_begin, all_go_on, all_fail, all_refused, all_done}
 
 -- ---- loops
 
@@ -110,13 +109,13 @@ recorded_few took v rule room a code c before h = (h.0, h.1, h.2.1)
 cut_back : {V : Type 0} (took : V → List ℕ → Type 0) (old read cut : V) (count : ℕ) (before after others : List ℕ) → ((values : List ℕ) → took old values → count ≡ min (length values) (2 ^ 64 - 1)) → ((values others : List ℕ) → took read (values ++ others) → count ≡ min (length values) (2 ^ 64 - 1) → took cut values) → took old before → took read after → after ≡ before ++ others → took cut before
 cut_back took old read cut count before after others counts cuts t u is = cuts before others (subst (took read) is u) (counts before t)
 
-pub not_recorded : {V : Type 0} (took : V → List ℕ → Type 0) (old read cut : V) (count : ℕ) (rule : Grammar Entry) (room : ℕ) (a : Reader) (fault : Fault) (c : Reader) (before : List ℕ) → ((values : List ℕ) → took old values → count ≡ min (length values) (2 ^ 64 - 1)) → ((values others : List ℕ) → took read (values ++ others) → count ≡ min (length values) (2 ^ 64 - 1) → took cut values)
-    → took old before → Has took read (AddsWithin rule room a (Err fault) c before) → Has took cut (Recorded (λ r. Takes rule a r c) (Err fault) before)
-not_recorded took old read cut count rule room a fault c before counts cuts t h = (before, cut_back took old read cut count before h.0 h.2.0.0 counts cuts t h.1 h.2.0.1, (refl, h.2.0.2))
+pub not_recorded : {V : Type 0} (took : V → List ℕ → Type 0) (old read cut : V) (count : ℕ) (rule : Grammar Entry) (room : ℕ) (a : Reader) (fault : Fault) (c : Reader) (start : ℕ) (d : Reader) (before : List ℕ) → ((values : List ℕ) → took old values → count ≡ min (length values) (2 ^ 64 - 1)) → ((values others : List ℕ) → took read (values ++ others) → count ≡ min (length values) (2 ^ 64 - 1) → took cut values)
+    → start ≡ a.position → (c.live ≡ false → d ≡ record c { position = start }) → took old before → Has took read (AddsWithin rule room a (Err fault) c before) → Has took cut (Recorded (λ r. Takes rule a r d) (Err fault) before)
+not_recorded took old read cut count rule room a fault c start d before counts cuts here moved t h = (before, cut_back took old read cut count before h.0 h.2.0.0 counts cuts t h.1 h.2.0.1, (refl, back_there rule a fault c start d h.2.0.2 here moved))
 
-pub not_recorded_only : {V : Type 0} (took : V → List ℕ → Type 0) (old read cut : V) (count : ℕ) (rule : Grammar Entry) (room : ℕ) (a : Reader) (fault : Fault) (c : Reader) (before : List ℕ) → ((values : List ℕ) → took old values → count ≡ min (length values) (2 ^ 64 - 1)) → ((values others : List ℕ) → took read (values ++ others) → count ≡ min (length values) (2 ^ 64 - 1) → took cut values)
-    → took old before → Has took read (AddsWithin rule room a (Err fault) c before) → Has took cut (Recorded (λ r. IsOnly rule a r c) (Err fault) before)
-not_recorded_only took old read cut count rule room a fault c before counts cuts t h = (before, cut_back took old read cut count before h.0 h.2.0.0 counts cuts t h.1 h.2.0.1, (refl, only rule a (Err fault) c h.2.0.2))
+pub not_recorded_only : {V : Type 0} (took : V → List ℕ → Type 0) (old read cut : V) (count : ℕ) (rule : Grammar Entry) (room : ℕ) (a : Reader) (fault : Fault) (c : Reader) (start : ℕ) (d : Reader) (before : List ℕ) → ((values : List ℕ) → took old values → count ≡ min (length values) (2 ^ 64 - 1)) → ((values others : List ℕ) → took read (values ++ others) → count ≡ min (length values) (2 ^ 64 - 1) → took cut values)
+    → start ≡ a.position → (c.live ≡ false → d ≡ record c { position = start }) → took old before → Has took read (AddsWithin rule room a (Err fault) c before) → Has took cut (Recorded (λ r. IsOnly rule a r d) (Err fault) before)
+not_recorded_only took old read cut count rule room a fault c start d before counts cuts here moved t h = (before, cut_back took old read cut count before h.0 h.2.0.0 counts cuts t h.1 h.2.0.1, (refl, only rule a (Err fault) d (back_there rule a fault c start d h.2.0.2 here moved)))
 
 pub not_recorded_few : {V : Type 0} (took : V → List ℕ → Type 0) (old read cut : V) (count : ℕ) (rule : Grammar Entry) (room : ℕ) (a : Reader) (fault : Fault) (c : Reader) (before : List ℕ) → ((values : List ℕ) → took old values → count ≡ min (length values) (2 ^ 64 - 1)) → ((values others : List ℕ) → took read (values ++ others) → count ≡ min (length values) (2 ^ 64 - 1) → took cut values)
     → took old before → Has took read (AddsWithin rule room a (Err fault) c before) → Has took cut (λ after. Unit {0})

@@ -1,5 +1,5 @@
 -- What a call reads into what takes values.
-use Rattle.std.specs.Prelude.{◌≡◌, ℕ, ◌+◌, ◌<◌, ◌≤◌, List, ◌++◌, length, Result, Ok, Err}
+use Rattle.std.specs.Prelude.{◌≡◌, ℕ, ◌+◌, ◌≤◌, List, ◌++◌, length, Result, Ok, Err}
 use Rattle.std.specs.Result.{OnOk}
 use Rattle.bit_grammar.specs.Grammar.{Grammar, repeat}
 use Rattle.bit_grammar.specs.Record.{Entry}

@@ -1,6 +1,6 @@
 //! Reading definitions.
 
-ghost use Rattle.std.specs.Prelude.{◌≡◌, ◌-◌, ◌<◌, IfOk, true};
+ghost use Rattle.std.specs.Prelude.{◌≡◌, ◌-◌, ◌<◌, IfOk, OnErr, true};
 ghost use Rattle.bit_grammar.specs.Definition.{kind, passes, valued, operand, operands, definition};
 ghost use Rattle.bit_grammar.specs.declared.op.Place.TheVariants.{First};
 ghost use Rattle.bit_grammar.specs.FormatDefinition.{HasLawfulValue, Definable};
@@ -133,7 +133,7 @@ fn read_definition<S: Source>(
 /// Reads a definition after its abbreviation id. Where shapes are judged at their use, one whose operands are in no lawful
 /// order is read too.
 ///
-/// After any fault the reader has failed. Up to eight operands take no memory.
+/// After any fault the reader has failed, and stands where the call began. Up to eight operands take no memory.
 pub fn read_define<S: Source>(
     alloc: Global,
     reader: &mut BitReader<S>,
@@ -141,6 +141,11 @@ pub fn read_define<S: Source>(
 ) -> Result<Abbrev, Fault>
     ensures takes { Takes (definition shapes) reader.old result reader.new }
     ensures only { IsOnly (definition shapes) reader.old result reader.new }
+    ensures stays { OnErr result (reader.new.position ≡ reader.old.position) }
 {
-    read_definition(alloc, reader, shapes)
+    let start = reader.position();
+    match read_definition(alloc, reader, shapes) {
+        Ok(abbrev) => Ok(abbrev),
+        Err(fault) => Err(reader.fail_at(fault, start)),
+    }
 }

@@ -1,6 +1,6 @@
 //! Reading abbreviated records.
 
-ghost use Rattle.std.specs.Prelude.{◌≡◌, ◌+◌, ◌-◌, ◌≤◌, ℕ, OnOk, length, true, nat_le};
+ghost use Rattle.std.specs.Prelude.{◌≡◌, ◌+◌, ◌-◌, ◌≤◌, ℕ, OnErr, OnOk, length, true, nat_le};
 ghost use Rattle.std.specs.List.{AllByRecursion};
 ghost use Rattle.bit_grammar.specs.Record.{scalar, singles, values_of, abbreviated};
 ghost use Rattle.bit_grammar.specs.Definition.{has_shape};
@@ -135,7 +135,7 @@ fn read_record<S: Source, V: ValueTaker>(
 ///
 /// More values than there is room for are `TooManyValues`: at that bit where the single operands alone are more, and else
 /// at the first bit of the length of the array or the blob. After any fault the values are those that there were, and
-/// the reader has failed.
+/// the reader has failed and stands where the call began.
 pub fn read_abbreviated<S: Source, V: ValueTaker>(
     reader: &mut BitReader<S>,
     abbrev: &Abbrev,
@@ -147,13 +147,15 @@ pub fn read_abbreviated<S: Source, V: ValueTaker>(
     ensures takes { Gains V.took values.old values.new (Recorded (λ r. Takes (abbreviated at room «abbrev».now) reader.old r reader.new) result) }
     ensures only { Gains V.took values.old values.new (Recorded (λ r. IsOnly (abbreviated at room «abbrev».now) reader.old r reader.new) result) }
     ensures few { Gains V.took values.old values.new (λ before after. OnOk result (length after ≤ length before + room)) }
+    ensures stays { OnErr result (reader.new.position ≡ reader.old.position) }
 {
+    let start = reader.position();
     let before = values.count();
     match read_record(reader, abbrev.lawful_ops(), at, room, values) {
         Ok(code) => Ok(code),
         Err(fault) => {
             values.truncate(before);
-            Err(fault)
+            Err(reader.fail_at(fault, start))
         }
     }
 }

@@ -1,6 +1,6 @@
 //! Reading records that are not abbreviated.
 
-ghost use Rattle.std.specs.Prelude.{◌+◌, ◌≤◌, OnOk, length};
+ghost use Rattle.std.specs.Prelude.{◌≡◌, ◌+◌, ◌≤◌, OnErr, OnOk, length};
 ghost use Rattle.bit_grammar.specs.Record.{unabbreviated};
 ghost use Rattle.bit_fields.specs.Reader.{Takes, IsOnly};
 ghost use Rattle.bit_abbrev.specs.Values.{AddsWithin, Gains, Recorded};
@@ -26,7 +26,7 @@ fn read_plain<S: Source, V: ValueTaker>(
 /// "UNABBREV_RECORD Encoding".
 ///
 /// More values than there is room for are `TooManyValues` at the first bit of their number. After any fault the values are
-/// those that there were, and the reader has failed.
+/// those that there were, and the reader has failed and stands where the call began.
 pub fn read_unabbreviated<S: Source, V: ValueTaker>(
     reader: &mut BitReader<S>,
     room: u64,
@@ -35,13 +35,15 @@ pub fn read_unabbreviated<S: Source, V: ValueTaker>(
     ensures takes { Gains V.took values.old values.new (Recorded (λ r. Takes (unabbreviated room) reader.old r reader.new) result) }
     ensures only { Gains V.took values.old values.new (Recorded (λ r. IsOnly (unabbreviated room) reader.old r reader.new) result) }
     ensures few { Gains V.took values.old values.new (λ before after. OnOk result (length after ≤ length before + room)) }
+    ensures stays { OnErr result (reader.new.position ≡ reader.old.position) }
 {
+    let start = reader.position();
     let before = values.count();
     match read_plain(reader, room, values) {
         Ok(code) => Ok(code),
         Err(fault) => {
             values.truncate(before);
-            Err(fault)
+            Err(reader.fail_at(fault, start))
         }
     }
 }

@@ -10,8 +10,8 @@ use Rattle.bit_fields.specs.declared.inflow.Missing.TheVariants as missing
 use Rattle.bit_fields.specs.declared.inflow.Missing.{Missing}
 use Rattle.bit_fields.specs.Devices.{known_bytes}
 use Rattle.bit_fields.specs.Inflow.{Flow, IsKnown, stop_of, left_of, total_of, budget_of, Keeps, RunsOut, Fills, Drained, Overran, DrainLost, DrainFails, Drains}
-use Rattle.bit_fields.specs.Reader.{Reader, Extent, is_cut}
-use Rattle.bit_fields.specs.Inside.{fault_of, reader_of, stopped_at, IsReader}
+use Rattle.bit_fields.specs.Reader.{Reader, Extent, is_cut, stopped_at}
+use Rattle.bit_fields.specs.Inside.{fault_of, reader_of, IsReader}
 use Rattle.bit_fields.specs.Ending.{stream_end, reach_of, Stays, Looks, Closed, Closes, IsThrough}
 use Rattle.bit_fields.proofs.InflowLaws.{Spends-refl, Spends-none}
 use Rattle.bit_fields.proofs.Shortening.{left_ends}
@@ -156,4 +156,4 @@ drains_on h g (Err missing.Read) d = (d.window, d.loaded)
 pub closed_is_reader : (was : Bool) (p : ℕ) (f h g : Flow) (result : Result (Unit {0}) Missing) → IsReader was p f → h ≡ record f { window = [] } → Drains h g result → IsReader false p g
 closed_is_reader was p f h g result is h_is d =
     let on = drains_on (record f { window = [] }) g result (subst (λ (x : Flow). Drains x g result) h_is d) in
-    record { place = omega (arith, is.place, on.1, ap length on.0); exact = λ e. absurd (false≢true e); empty = λ e. on.0 }
+    record { exact = λ e. absurd (false≢true e); empty = λ e. on.0 }

@@ -13,8 +13,8 @@ use Rattle.bit_grammar.specs.Fields.{chunks, chunk_limit, vbr}
 use Rattle.bit_grammar.proofs.Numbers.{number_below, number-append}
 use Rattle.bit_fields.specs.declared.fault.Fault.{Fault}
 use Rattle.bit_fields.specs.declared.fault.Fault.TheVariants.{Refused}
-use Rattle.bit_fields.specs.Reader.{Reader, Took, Why, Takes}
-use Rattle.bit_fields.specs.Inside.{part_of, above, stopped_at}
+use Rattle.bit_fields.specs.Reader.{Reader, Took, Why, Takes, stopped_at}
+use Rattle.bit_fields.specs.Inside.{part_of, above}
 use Rattle.bit_fields.proofs.InflowLaws.{Spends-refl, Spends-none}
 use Rattle.bit_fields.proofs.Composing.{took_then, fault_then, took_nothing, same_reading, from_here}
 

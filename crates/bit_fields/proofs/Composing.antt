@@ -1,5 +1,5 @@
 -- One call after another: what calls take together, by the rule that their rules make.
-use Rattle.std.proofs.Common.{◌≡◌, ℕ, ◌+◌, Bool, true, false, List, ◌++◌, length, Result, Ok, Err, refl, sym, ap, ◌∙◌, subst, arith, append_assoc, inl, inr}
+use Rattle.std.proofs.Common.{◌≡◌, ℕ, ◌+◌, Bool, true, false, List, ◌++◌, length, Result, Ok, Err, refl, sym, ap, ◌∙◌, subst, arith, append_assoc}
 use Rattle.std.proofs.lemmas.Bool.{false≢true}
 use Rattle.bit_grammar.specs.declared.reason.Reason.{Reason}
 use Rattle.bit_grammar.specs.Grammar as grammar
@@ -61,6 +61,21 @@ took_then rule after a value b (Err OutputTooLong) c t u = absurd u
 -- a reader that had failed before
 pub failed_before : {A : Type 0} (rule : Grammar A) (a b : Reader) → a.live ≡ false → b ≡ a → Why rule a Failed b
 failed_before rule a b dead same = (dead, same)
+
+-- ---- where it stands
+
+-- a reader that has failed and is put elsewhere
+stops_there : (a b : Reader) (place : ℕ) → Stops a b → Stops a (record b { position = place })
+stops_there a b place s = record { was_live = s.was_live; failed = s.failed; goes_on = s.goes_on }
+
+-- a reader that failed in a call is put where the call began, which does not matter to why it failed
+pub back_there : {A : Type 0} (rule : Grammar A) (a : Reader) (fault : Fault) (b : Reader) (start : ℕ) (c : Reader) → Why rule a fault b → start ≡ a.position → (b.live ≡ false → c ≡ record b { position = start }) → Why rule a fault c
+back_there rule a (Refused reason bit) b start c why here is = rw (is why.0.failed) (stops_there a b start why.0, why.1)
+back_there rule a Read b start c why here is = rw (is why.failed) (record { was_live = why.was_live; failed = why.failed; fails = why.fails })
+back_there rule a Memory b start c why here is = rw (is why.failed) (stops_there a b start why)
+back_there rule a Failed b start c why here is = (why.0, is (ap (λ (r : Reader). r.live) why.1 ∙ why.0) ∙ ap (λ (r : Reader). record r { position = start }) why.1 ∙ ap (λ (p : ℕ). record a { position = p }) here)
+back_there rule a Write b start c why here is = absurd why
+back_there rule a OutputTooLong b start c why here is = absurd why
 
 -- ---- parts of a rule that take no bits
 

@@ -11,11 +11,11 @@ use Rattle.bit_fields.specs.declared.fault.Fault.{Fault}
 use Rattle.bit_fields.specs.declared.fault.Fault.TheVariants.{Refused, Read, Write, Memory, OutputTooLong, Failed}
 use Rattle.bit_fields.specs.declared.inflow.Missing.{Missing}
 use Rattle.bit_fields.specs.Inflow.{Flow, left_of, Skips, Fills}
-use Rattle.bit_fields.specs.Reader.{Reader, TellsBytes, Breaks, Took, Why}
-use Rattle.bit_fields.specs.Inside.{gap_of, TookGap, reader_of, stopped_at, fault_of, IsReader}
+use Rattle.bit_fields.specs.Reader.{Reader, TellsBytes, Breaks, Took, Why, stopped_at}
+use Rattle.bit_fields.specs.Inside.{gap_of, TookGap, reader_of, fault_of, IsReader}
 use Rattle.bit_fields.proofs.BitLaws.{drop_more}
 use Rattle.bit_fields.proofs.Composing.{took_then, took_nothing, same_reading, from_here}
-use Rattle.bit_fields.proofs.Parts.{window_missed, fills_place, fills_exact}
+use Rattle.bit_fields.proofs.Parts.{window_missed, fills_exact}
 
 -- ---- what is read
 
@@ -62,7 +62,6 @@ bits_skipped was start most count p q f g now view live skips few q_is =
 
 pub skipped_is_reader : (was : Bool) (p count q : ℕ) (f g : Flow) → IsReader was p f → was ≡ true → Skips f g count → q ≡ p + count → IsReader was q g
 skipped_is_reader was p count q f g is live skips q_is = record {
-  place = omega (arith, is.place, skips.loaded, q_is);
   exact = λ e. omega (arith, is.exact live, skips.exact, q_is);
   empty = λ e. absurd (false≢true (sym e ∙ live));
 }
@@ -84,7 +83,6 @@ none_skipped was start field p f g missing fault now new view live fills fault_i
 
 pub missed_is_reader : (was : Bool) (p : ℕ) (f g : Flow) (missing : Missing) → IsReader was p f → was ≡ true → Fills 1 f g (Err missing) → IsReader was p g
 missed_is_reader was p f g missing is live fills = record {
-  place = fills_place 1 p f g missing fills is.place;
   exact = λ e. fills_exact 1 p f g missing fills (is.exact live);
   empty = λ e. absurd (false≢true (sym e ∙ live));
 }

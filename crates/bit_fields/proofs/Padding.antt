@@ -9,8 +9,8 @@ use Rattle.bit_grammar.specs.Fields.{zeros, padding_length, align32}
 use Rattle.bit_fields.specs.declared.fault.Fault.{Fault}
 use Rattle.bit_fields.specs.declared.fault.Fault.TheVariants.{Refused}
 use Rattle.bit_fields.specs.Inflow.{Flow}
-use Rattle.bit_fields.specs.Reader.{Reader, Took, Why, Takes}
-use Rattle.bit_fields.specs.Inside.{part_of, TookZeros, reader_of, stopped_at}
+use Rattle.bit_fields.specs.Reader.{Reader, Took, Why, Takes, stopped_at}
+use Rattle.bit_fields.specs.Inside.{part_of, TookZeros, reader_of}
 use Rattle.bit_fields.proofs.InflowLaws.{Spends-refl, Spends-none, Keeps-refl}
 use Rattle.bit_fields.proofs.Composing.{took_then, fault_then, took_nothing, same_reading, from_here}
 use Rattle.bit_fields.proofs.Parts.{window_took}

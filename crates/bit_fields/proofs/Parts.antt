@@ -11,8 +11,8 @@ use Rattle.bit_fields.specs.declared.inflow.Missing.{Missing}
 use Rattle.bit_fields.specs.declared.inflow.Missing.TheVariants.{End, Limit, Read}
 use Rattle.bit_fields.specs.Devices.{known_bytes}
 use Rattle.bit_fields.specs.Inflow.{Flow, stop_of, budget_of, Keeps, Fills}
-use Rattle.bit_fields.specs.Reader.{Reader, Took, Why, Takes}
-use Rattle.bit_fields.specs.Inside.{part_of, reader_of, stopped_at, fault_of}
+use Rattle.bit_fields.specs.Reader.{Reader, Took, Why, Takes, stopped_at}
+use Rattle.bit_fields.specs.Inside.{part_of, reader_of, fault_of}
 use Rattle.bit_fields.proofs.InflowLaws.{Spends-none}
 use Rattle.bit_fields.proofs.Composing.{fault_then, took_then, took_nothing, from_here}
 
@@ -55,11 +55,6 @@ window_missed rule n start p f g Limit short out = (
 window_missed rule n start p f g Read short lost = record { was_live = refl; failed = refl; fails = lost.fails }
 
 -- ---- as the code has them
-
-pub fills_place : (n p : ℕ) (a b : Flow) (missing : Missing) → Fills n a b (Err missing) → p + length a.window ≤ 8 * a.loaded → p + length b.window ≤ 8 * b.loaded
-fills_place n p a b End out place = omega (arith, out.keeps.place.loaded, place)
-fills_place n p a b Limit out place = omega (arith, out.keeps.place.loaded, place)
-fills_place n p a b Read lost place = omega (arith, lost.place.loaded, place)
 
 pub fills_exact : (n p : ℕ) (a b : Flow) (missing : Missing) → Fills n a b (Err missing) → p + length a.window ≡ 8 * min a.loaded (stop_of a) → p + length b.window ≡ 8 * min b.loaded (stop_of b)
 fills_exact n p a b End out place = omega (arith, out.keeps.place.exact, place)

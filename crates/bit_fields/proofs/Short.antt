@@ -17,8 +17,8 @@ use Rattle.bit_fields.specs.Inflow.{Flow, Keeps, Fills}
 use Rattle.bit_fields.specs.declared.window.TheConstants.{FOUR_TOPS}
 use Rattle.bit_fields.specs.declared.fault.Fault.{Fault}
 use Rattle.bit_fields.specs.declared.inflow.Missing.{Missing}
-use Rattle.bit_fields.specs.Inside.{reader_of, stopped_at, fault_of}
-use Rattle.bit_fields.specs.Reader.{Reader, Took, Why, Takes}
+use Rattle.bit_fields.specs.Inside.{reader_of, fault_of}
+use Rattle.bit_fields.specs.Reader.{Reader, Took, Why, Takes, stopped_at}
 use Rattle.bit_fields.proofs.BitLaws.{number-bits_mod, take-bits_of, window_rest, rest_below, drop_more, bits_of-number}
 use Rattle.bit_fields.proofs.InflowLaws.{Keeps-refl}
 use Rattle.bit_fields.proofs.Composing.{took_then, took_nothing, same_reading}

@@ -134,7 +134,6 @@ ended_is_reader p offset end live f g now view is_live at high limit is end_is g
     let len : length (take (length f.window - 8 * (min f.loaded f.limit - end)) f.window) ≡ length f.window - 8 * (min f.loaded f.limit - end) = length-take-le (length f.window - 8 * (min f.loaded f.limit - end)) f.window (omega arith) in
     let place : p + length f.window ≡ 8 * min f.loaded (stop_of f) = is.exact l in
     rw g_is (record {
-      place = omega (arith, is.place);
       exact = λ e. omega arith;
       empty = λ e. absurd (false≢true (sym e ∙ l));
     })

@@ -35,15 +35,10 @@ reader_of live position f = record {
   budget = if live then budget_of f else 0;
 }
 
--- what holds of its parts between calls
+-- what holds of its parts between calls; one that has failed may stand anywhere
 pub record IsReader (live : Bool) (position : ℕ) (f : Flow) : Type 0 where
-  pub place : position + length f.window ≤ 8 * f.loaded
   pub exact : live ≡ true → position + length f.window ≡ 8 * min f.loaded (stop_of f)
   pub empty : live ≡ false → f.window ≡ []
-
--- what a reader is after a fault: it stands where the call that failed began
-abbrev pub stopped_at : Reader → ℕ → Reader
-stopped_at r start = record r { live = false; position = start; left = []; budget = 0 }
 
 -- the fault of a field that began at start, where bits are missing
 abbrev pub fault_of : Missing → ℕ → ℕ → Fault

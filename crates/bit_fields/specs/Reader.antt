@@ -109,3 +109,7 @@ IsOnly rule old (Err fault) new = Unit {0}
 -- what a reader is once it has failed: it stays where it stands
 abbrev pub stopped : Reader → Reader
 stopped r = record r { live = false; left = []; budget = 0 }
+
+-- what it is once it has failed in a call that began at a bit
+abbrev pub stopped_at : Reader → ℕ → Reader
+stopped_at r start = record r { live = false; position = start; left = []; budget = 0 }

@@ -5,13 +5,13 @@ ghost use Rattle.std.specs.Io.BufRead.{Rests};
 ghost use Rattle.bit_grammar.specs.Fields.{fixed, vbr, align32, chunks, chunk_limit, zeros};
 ghost use Rattle.bit_grammar.specs.Grammar.{at, gives, test, repeat};
 ghost use Rattle.bit_grammar.specs.Input.{version, offset, wrapper, any_bits, inner_magic};
-ghost use Rattle.bit_fields.specs.Reader.{Extent, Takes, Took, Why, IsOnly, NeedsNoMemory, within, told_by, stopped};
+ghost use Rattle.bit_fields.specs.Reader.{Extent, Takes, Took, Why, IsOnly, NeedsNoMemory, within, told_by, stopped, stopped_at};
 ghost use Rattle.bit_fields.specs.Short.{TookNothing};
 ghost use Rattle.bit_fields.specs.Ahead.{Sees};
 ghost use Rattle.bit_fields.specs.Sight.{told, IsSight, Shown, Shows};
 ghost use Rattle.bit_fields.specs.Opening.{fresh, Opened, Declines, Opens, wrapper_told};
 ghost use Rattle.bit_fields.specs.Ending.{reach_of, Looks, Closes, IsThrough};
-ghost use Rattle.bit_fields.specs.Inside.{part_of, gap_of, above, stopped_at, fault_of, numbers, TookZeros, TookGap};
+ghost use Rattle.bit_fields.specs.Inside.{part_of, gap_of, above, fault_of, numbers, TookZeros, TookGap};
 
 use crate::ahead::Sight;
 use crate::fault::Fault;
@@ -179,7 +179,7 @@ impl<S: Source> BitReader<S> {
             }
             Err(missing) => {
                 let fault = self.fault_of(missing, field);
-                Err(self.stop(fault, start))
+                Err(self.fail_at(fault, start))
             }
         }
     }
@@ -213,7 +213,7 @@ impl<S: Source> BitReader<S> {
         let start = self.position;
         match self.inflow.look() {
             Ok(some) => Ok(some),
-            Err(SourceFailed) => Err(self.stop(Fault::Read, start)),
+            Err(SourceFailed) => Err(self.fail_at(Fault::Read, start)),
         }
     }
 
@@ -405,34 +405,22 @@ impl<S: Source> BitReader<S> {
     #[cold]
     #[inline(never)]
     fn halt(&mut self, start: u64)
-        requires { start ≤ self.old.position }
-        ensures { self.new ≡ stopped_at self.old start }
+        ensures failed { self.new ≡ stopped_at self.old start }
+        ensures moved { self.old.live ≡ false → self.new ≡ record self.old { position = start } }
     {
         self.live = false;
         self.position = start;
         self.inflow.clear();
     }
 
-    /// Marks the reader as failed, and hands the fault back.
-    #[inline(always)]
-    fn stop(&mut self, fault: Fault, start: u64) -> Fault
-        requires { start ≤ self.old.position }
-        ensures fault { result ≡ fault }
-        ensures stopped { self.new ≡ stopped_at self.old start }
-    {
-        self.halt(start);
-        fault
-    }
-
     /// Fails where bits are missing of a field that began at a bit.
     #[inline(always)]
     fn miss(&mut self, missing: Missing, start: u64) -> Fault
-        requires { start ≤ self.old.position }
         ensures fault { result ≡ fault_of missing start self.old.extent.limit }
         ensures stopped { self.new ≡ stopped_at self.old start }
     {
         let fault = self.fault_of(missing, start);
-        self.stop(fault, start)
+        self.fail_at(fault, start)
     }
 
     /// The fault of a field that begins at a bit, where bits of it are missing.
@@ -658,14 +646,14 @@ impl<S: Source> BitReader<S> {
             let chunk = self.part(n, start)?;
             match placed(payload_of(chunk, n), place) {
                 Some(worth) => value += worth,
-                None => return Err(self.stop(too_wide, start)),
+                None => return Err(self.fail_at(too_wide, start)),
             }
             if chunk < 1 << (n - 1) {
                 return Ok(value);
             }
             place += n - 1;
         }
-        Err(self.stop(too_wide, start))
+        Err(self.fail_at(too_wide, start))
     }
 
     /// Reads zeros up to the next position that is a multiple of 32, possibly none. Source: "Abbreviation IDs", align32.
@@ -727,7 +715,7 @@ impl<S: Source> BitReader<S> {
                 reason: Reason::DirtyPadding,
                 bit: place,
             };
-            return Err(self.stop(dirty, start));
+            return Err(self.fail_at(dirty, start));
         }
         Ok(())
     }
@@ -793,6 +781,18 @@ impl<S: Source> BitReader<S> {
         ensures fault { result ≡ fault }
         ensures failed { self.new ≡ stopped self.old }
     {
-        self.stop(fault, self.position)
+        self.fail_at(fault, self.position)
+    }
+
+    /// Marks the reader as failed, at the bit where a call of the caller's began, and hands the fault back. One that has
+    /// failed before is put there.
+    #[inline(always)]
+    pub fn fail_at(&mut self, fault: Fault, start: u64) -> Fault
+        ensures fault { result ≡ fault }
+        ensures failed { self.new ≡ stopped_at self.old start }
+        ensures moved { self.old.live ≡ false → self.new ≡ record self.old { position = start } }
+    {
+        self.halt(start);
+        fault
     }
 }

@@ -1,5 +1,5 @@
 -- What the calls on whole inputs do.
-use Rattle.std.specs.Prelude.{◌≡◌, ◌↔◌, ℕ, Bool, true, false, IsTrue, IsSome, List, [], Option, Some, None, Result, Ok, Err}
+use Rattle.std.specs.Prelude.{◌≡◌, ◌↔◌, ℕ, Bool, true, false, IsTrue, IsSome, List, [], Option, Some, None, Result, Ok, Err, codes}
 use Rattle.bit_grammar.specs.Setting.{Setting}
 use Rattle.bit_grammar.specs.Forest.{Tree}
 use Rattle.bit_grammar.specs.Blocks.{Limits}
@@ -43,6 +43,11 @@ Normalises setting limits i old (Err Memory) now new = WritesNothing setting lim
 Normalises setting limits i old (Err Failed) now new = ⊥
 
 -- ---- two inputs
+
+-- the text of one of two inputs
+abbrev pub which_text : Which → List ℕ
+which_text First = codes "first"
+which_text Second = codes "second"
 
 -- an input that was not read: the first, and the second was asked for nothing; or the second, after the first
 abbrev pub Misreads : Setting → Limits → Which → Fault → (i j now later : Incoming) → Type 0

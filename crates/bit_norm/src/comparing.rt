@@ -1,4 +1,4 @@
-ghost use Rattle.std.specs.Prelude.{◌≡◌};
+ghost use Rattle.std.specs.Prelude.{◌≡◌, Some};
 ghost use Rattle.bit_grammar.specs.Setting.{setting_of};
 ghost use Rattle.bit_norm.specs.Whole.{FindsDifference, FindsInBytes, SaysNone, Compares, ComparesBytes};
 
@@ -19,6 +19,10 @@ pub enum Which {
 }
 
 impl fmt::Display for Which {
+    ghost use Rattle.bit_norm.specs.Whole.{which_text};
+
+    ghost output = { λ w. Some (which_text w) };
+
     fn fmt<W: fmt::Write>(&self, f: &mut fmt::Formatter<W>) -> fmt::Result {
         f.write_str(match self {
             Which::First => "first",

@@ -26,7 +26,7 @@ use Rattle.bitstool.specs.declared.outcome.Outcome.TheVariants.{Done, Different,
 use Rattle.bitstool.specs.declared.task.LeftOut.{LeftOut}
 use Rattle.bitstool.specs.declared.task.Task.TheVariants.{Same, Where}
 use Rattle.bitstool.specs.LeftOut.{setting_for}
-use Rattle.bitstool.specs.Performing.{ComparesWhere, ComparesWith, Finds, FindsWhere, Found, IsNoAnswer, Judges, TakesFirst, TakesRest, outcome_found, outcome_in, outcome_of}
+use Rattle.bitstool.specs.Performing.{AreFirst, ComparesWhere, ComparesWith, Finds, FindsWhere, Found, IsNoAnswer, Judges, TakesFirst, TakesRest, outcome_found, outcome_in, outcome_of}
 use Rattle.bitstool.specs.Runs.{IsDrained, Takes, Told}
 use Rattle.bitstool.proofs.Taking.{drained, fails_more, fails_then, spends_more, spends_none, spends_then}
 use Rattle.bitstool.proofs.Known.{if_told}
@@ -202,10 +202,10 @@ of_none out limits first bytes rest Write h = absurd h
 
 -- the comparison of what was taken is that of the first bytes and the others
 pub compared : (out : LeftOut) (limits : Limits) (first count : ℕ) (told left : Told) (bytes : List ℕ) (outcome : Outcome) → count ≡ min first (limits.bytes + 1)
-    → Consumes told left bytes → length bytes ≤ count → (length bytes < count → IsAtEnd left) → ComparesWith (setting_for out) limits bytes left outcome → Finds (Same first limits out) told outcome
-compared out limits first count None left bytes outcome counted takes few ended h = of_none out limits first bytes left outcome h
-compared out limits first count (Some input) None bytes outcome counted takes few ended h = absurd takes
-compared out limits first count (Some input) (Some rest) bytes outcome counted takes few ended h = go (taken limits first count input bytes rest counted takes few ended)
+    → (IsSome told → AreFirst count told bytes left) → ComparesWith (setting_for out) limits bytes left outcome → Finds (Same first limits out) told outcome
+compared out limits first count None left bytes outcome counted are h = of_none out limits first bytes left outcome h
+compared out limits first count (Some input) None bytes outcome counted are h = absurd (are refl).0
+compared out limits first count (Some input) (Some rest) bytes outcome counted are h = go (taken limits first count input bytes rest counted (are refl).0 (are refl).1 (are refl).2)
   where
     go : Taken limits first input bytes rest → Finds (Same first limits out) (Some input) outcome
     go (whole is rest_is) = of_whole out limits first input bytes rest outcome is rest_is h
@@ -283,17 +283,17 @@ finds_where out limits first input Memory none h = h
 
 -- where the first bytes and the others first differ
 differ_told : (out : LeftOut) (limits : Limits) (first count : ℕ) (told left : Told) (bytes : List ℕ) (difference : Difference) → count ≡ min first (limits.bytes + 1)
-    → Consumes told left bytes → length bytes ≤ count → (length bytes < count → IsAtEnd left) → ComparesWhere (setting_for out) limits bytes left (Ok (Some difference)) → FindsWhere (Where first limits out) told (Ok (Some difference))
-differ_told out limits first count None left bytes difference counted takes few ended h = (difference_shown difference, refl, tt)
-differ_told out limits first count (Some input) None bytes difference counted takes few ended h = absurd takes
-differ_told out limits first count (Some input) (Some rest) bytes difference counted takes few ended h = go (taken limits first count input bytes rest counted takes few ended)
+    → (IsSome told → AreFirst count told bytes left) → ComparesWhere (setting_for out) limits bytes left (Ok (Some difference)) → FindsWhere (Where first limits out) told (Ok (Some difference))
+differ_told out limits first count None left bytes difference counted are h = (difference_shown difference, refl, tt)
+differ_told out limits first count (Some input) None bytes difference counted are h = absurd (are refl).0
+differ_told out limits first count (Some input) (Some rest) bytes difference counted are h = go (taken limits first count input bytes rest counted (are refl).0 (are refl).1 (are refl).2)
   where
     go : Taken limits first input bytes rest → FindsWhere (Where first limits out) (Some input) (Ok (Some difference))
     go (whole is rest_is) = (difference_shown difference, refl, (h.0, h.2.0, rw (← is) h.1, rw (← rest_is) h.2.1, h.2.2))
     go (past long also same) = absurd (omega (arith, h.1.fits))
 
 pub compared_where : (out : LeftOut) (limits : Limits) (first count : ℕ) (told left : Told) (bytes : List ℕ) (found : Found) → count ≡ min first (limits.bytes + 1)
-    → Consumes told left bytes → length bytes ≤ count → (length bytes < count → IsAtEnd left) → ComparesWhere (setting_for out) limits bytes left found → FindsWhere (Where first limits out) told found
-compared_where out limits first count told left bytes (Ok None) counted takes few ended h = compared out limits first count told left bytes Done counted takes few ended h
-compared_where out limits first count told left bytes (Ok (Some difference)) counted takes few ended h = differ_told out limits first count told left bytes difference counted takes few ended h
-compared_where out limits first count told left bytes (Err outcome) counted takes few ended h = (finds_where out limits first told outcome h.1 (compared out limits first count told left bytes outcome counted takes few ended h.0), h.1)
+    → (IsSome told → AreFirst count told bytes left) → ComparesWhere (setting_for out) limits bytes left found → FindsWhere (Where first limits out) told found
+compared_where out limits first count told left bytes (Ok None) counted are h = compared out limits first count told left bytes Done counted are h
+compared_where out limits first count told left bytes (Ok (Some difference)) counted are h = differ_told out limits first count told left bytes difference counted are h
+compared_where out limits first count told left bytes (Err outcome) counted are h = (finds_where out limits first told outcome h.1 (compared out limits first count told left bytes outcome counted are h.0), h.1)

@@ -1,17 +1,21 @@
 -- What commands take of their input.
-use Rattle.std.proofs.Common.{◌≡◌, ℕ, ◌+◌, ◌^◌, ◌-◌, ◌<◌, ◌≤◌, max, List, [], length, Some, None, Ok, Err, refl, sym, ap, ◌∙◌, subst, inl, inr, arith, take, length-append, length-take}
+use Rattle.std.proofs.Common.{◌≡◌, ℕ, ◌+◌, ◌<◌, ◌≤◌, true, List, [], ◌∷◌, ◌++◌, length, Some, None, Ok, Err, refl, sym, ap, ◌∙◌, subst, inl, arith, take, length-append, length-take}
 use Rattle.std.specs.Prelude.{IsSome}
-use Rattle.std.specs.Io.KnownBytes.{Consumes, Keeps}
-use Rattle.std.proofs.lemmas.Bool.{cases_lt}
+use Rattle.std.specs.Io.KnownBytes.{Consumes, prepend_known}
+use Rattle.std.proofs.KnownBytes.{Consumes-trans}
+use Rattle.std.proofs.lemmas.List.{append_cancel_right}
 use Rattle.bit_grammar.specs.Blocks.{Limits}
 use Rattle.bit_fields.specs.declared.fault.Fault.{Fault}
 use Rattle.bit_fields.specs.declared.fault.Fault.TheVariants as fault
-use Rattle.bit_fields.specs.Devices.{Gave, GaveNone, Incoming, Spends, Fails, known_bytes}
+use Rattle.bit_fields.specs.declared.source.SourceFailed.{SourceFailed}
+use Rattle.bit_fields.specs.Devices.{Account, SaysOf, Gave, Incoming, Spends, Fails, keeps_of, known_bytes}
+use Rattle.bit_fields.proofs.Keeping.{fails_within, spends_within}
+use Rattle.bit_events.proofs.Kept.{Stands}
 use Rattle.bit_events.specs.Reading.{ReadsWhole}
 use Rattle.bitstool.specs.declared.outcome.Outcome.{Outcome}
 use Rattle.bitstool.specs.declared.outcome.Outcome.TheVariants.{Done, TooLong, Write, Memory}
 use Rattle.bitstool.specs.declared.task.Task.{Task}
-use Rattle.bitstool.specs.Performing.{outcome_of}
+use Rattle.bitstool.specs.Performing.{AreFirst, PullsFirst, TakesFirst, outcome_of}
 use Rattle.bitstool.specs.Runs.{IsDrained, Takes, Told, most_taken}
 use Rattle.bitstool.proofs.Known.{if_told}
 
@@ -58,11 +62,6 @@ known_after None b bytes h told = absurd (cc)
 known_after (Some xs) None bytes h told = absurd h
 known_after (Some xs) (Some ys) bytes h told = (refl, ap length h ∙ length-append bytes ys)
 
-known_kept : (a b : Told) → Keeps a b → IsSome a → IsSome b × (length (known_bytes a) ≡ length (known_bytes b))
-known_kept None b h told = absurd (cc)
-known_kept (Some xs) None h told = absurd h
-known_kept (Some xs) (Some ys) h told = (refl, ap length (sym h))
-
 -- bytes that a pull gave, of which each pays for it
 pub gave_spends : (old new : Incoming) (count : ℕ) (into : List ℕ) → Gave old new count into → 0 < count → Spends old count new 0
 gave_spends old new count into g some =
@@ -75,34 +74,49 @@ gave_spends old new count into g some =
       accounts = g.accounts;
     }
 
--- a pull that gave none
-pub gave_none : (old new : Incoming) (count : ℕ) (into : List ℕ) → Gave old new count into → count ≡ 0 → Spends old 1 new 0
-gave_none old new count into g none =
-    let long : length (take count into) ≤ count = omega (arith, length-take count into) in
-    record {
-      pulls = omega (arith, g.pulls);
-      failures = g.failures;
-      tells = λ t. (known_after old.to_come new.to_come (take count into) g.bytes t).0;
-      bytes = λ t. let more = (known_after old.to_come new.to_come (take count into) g.bytes t).1 in omega (arith, more, long);
-      accounts = g.accounts;
-    }
+-- so many bytes were pulled
+abbrev pub Pulled : Incoming → ℕ → Incoming → Type 0
+Pulled i count now = Spends i count now 0 × ((bytes : List ℕ) × Consumes i.to_come now.to_come bytes × (length bytes ≡ count))
 
--- a pull that failed
-pub pull_fails : (old new : Incoming) → GaveNone old new → Fails old 1 new 0
-pull_fails old new g = elim (cases_lt (max old.pulls old.failures) (2 ^ 64 - 1)) [
-  | inl fresh ↦
-      let counted = g.counted fresh in
-      record {
-        pulls = omega (arith, counted.0);
-        failed = inl counted.1;
-        tells = λ t. (known_kept old.to_come new.to_come g.bytes t).0;
-        bytes = λ t. let same = (known_kept old.to_come new.to_come g.bytes t).1 in omega (arith, same);
-        accounts = g.accounts;
-      }
-  | inr worn ↦
-      let same = g.worn worn in
-      subst (λ (n : Incoming). Fails old 1 n 0) (sym same) (record { pulls = omega arith; failed = inr (refl, worn); tells = λ t. t; bytes = λ t. omega arith; accounts = λ n all says. says })
-]
+pub pulled_more : (i mid now : Incoming) (count came : ℕ) (into : List ℕ) → Pulled i count mid → Gave mid now came into → (came ≡ 0 → ⊥) → Pulled i (count + came) now
+pulled_more i mid now count came into h g some =
+    let all : length (take came into) ≡ came = omega (arith, length-take came into, g.fits) in (
+      spends_then i mid now count came h.0 (gave_spends mid now came into g (omega (arith, some))),
+      (h.1.0 ++ take came into, Consumes-trans i.to_come mid.to_come now.to_come h.1.0 (take came into) h.1.1 g.bytes, omega (arith, length-append h.1.0 (take came into), h.1.2, all)),
+    )
+
+-- ---- a source that keeps what is pulled
+
+says_whole : (a b : Account) (old new : List Account) (all : List ℕ) → ((n : ℕ) (all : List ℕ) → SaysOf (a ∷ old) n all → SaysOf (b ∷ new) n all) → a.whole ≡ Some all → b.kept ≡ true → b.whole ≡ Some all
+unfolding SaysOf
+says_whole a b old new all more told kept = more 0 all (λ h. told) kept
+
+kept_are : (o left : Told) (bytes gone : List ℕ) → ((all : List ℕ) → prepend_known [] o ≡ Some all → prepend_known bytes left ≡ Some all) → Consumes o left gone → IsSome o → gone ≡ bytes
+kept_are None left bytes gone says takes told = absurd (cc)
+kept_are (Some all) None bytes gone says takes told = absurd takes
+kept_are (Some all) (Some rest) bytes gone says takes told =
+    let same : Some (bytes ++ rest) ≡ Some all = says all refl in
+    append_cancel_right gone bytes rest (sym takes ∙ sym (ap (λ (o : Told). known_bytes o) same))
+
+-- it has kept what was pulled, where it tells its bytes
+pub first_kept : (i p q now : Incoming) (count : ℕ) (bytes : List ℕ) → p ≡ keeps_of true [] i → q ≡ keeps_of true bytes now → PullsFirst count p (Ok tt) q → TakesFirst count i (Ok bytes) now
+first_kept i p q now count bytes begun ended pulls = go (subst (λ (r : Incoming). PullsFirst count (keeps_of true [] i) (Ok tt) r) ended (subst (λ (r : Incoming). PullsFirst count r (Ok tt) q) begun pulls))
+  where
+    go : PullsFirst count (keeps_of true [] i) (Ok tt) (keeps_of true bytes now) → TakesFirst count i (Ok bytes) now
+    go h =
+        let says : (all : List ℕ) → prepend_known [] i.to_come ≡ Some all → prepend_known bytes now.to_come ≡ Some all =
+        λ all told. says_whole (record { kept = true; whole = prepend_known [] i.to_come }) (record { kept = true; whole = prepend_known bytes now.to_come }) i.accounts now.accounts all h.0.accounts told refl in (
+          spends_within true true [] bytes i now count 0 h.0,
+          λ told. subst (λ (b : List ℕ). AreFirst count i.to_come b now.to_come) (kept_are i.to_come now.to_come bytes h.1.0 says h.1.1.0 told) h.1.1,
+        )
+
+-- memory for that was refused
+pub first_lost : (i p q now : Incoming) (count : ℕ) → p ≡ keeps_of true [] i → Stands q now → PullsFirst count p (Ok tt) q → TakesFirst count i (Err fault.Memory) now
+first_lost i p q now count begun s pulls = spends_within true s.is [] s.bytes i now count 0 (subst (λ (r : Incoming). Spends (keeps_of true [] i) count r 0) s.same (subst (λ (r : Incoming). Spends r count q 0) begun pulls.0))
+
+-- the source failed
+pub first_unread : (i p q now : Incoming) (count : ℕ) (e : SourceFailed) → p ≡ keeps_of true [] i → Stands q now → PullsFirst count p (Err e) q → TakesFirst count i (Err fault.Read) now
+first_unread i p q now count e begun s pulls = fails_within true s.is [] s.bytes i now count 0 (subst (λ (r : Incoming). Fails (keeps_of true [] i) count r 0) s.same (subst (λ (r : Incoming). Fails r count q 0) begun pulls))
 
 -- ---- what is left
 

@@ -1,5 +1,5 @@
 -- The steps of carrying out a command.
-use Rattle.std.specs.Prelude.{◌≡◌, ◌≢◌, ◌⊎◌, ⊤, ℕ, ◌<◌, ◌≤◌, Bool, List, length, Option, Some, None, Result, Ok, Err, IfSome, codes, ◌+◌}
+use Rattle.std.specs.Prelude.{◌≡◌, ◌≢◌, ◌⊎◌, ⊤, ℕ, ◌<◌, ◌≤◌, Bool, List, length, Option, Some, None, Result, Ok, Err, IfSome, IsSome, codes, ◌+◌}
 use Rattle.std.specs.Io.KnownBytes.{Consumes, IsAtEnd, Keeps}
 use Rattle.bit_grammar.specs.Setting.{Setting}
 use Rattle.bit_grammar.specs.Grammar.{at}
@@ -11,6 +11,7 @@ use Rattle.bit_grammar.specs.Normal.{HasTree}
 use Rattle.bit_fields.specs.declared.fault.Fault.{Fault}
 use Rattle.bit_fields.specs.declared.fault.Fault.TheVariants as fault
 use Rattle.bit_fields.specs.declared.sink.SinkFailed.{SinkFailed}
+use Rattle.bit_fields.specs.declared.source.SourceFailed.{SourceFailed}
 use Rattle.bit_fields.specs.Devices.{Incoming, Outgoing, Spends, Fails}
 use Rattle.bit_scan.specs.Written.{TookText, TookFront, HasFailed}
 use Rattle.bit_norm.specs.Entries.{FirstDifference, difference_shown}
@@ -28,10 +29,18 @@ abbrev pub PutsAll : List ℕ → Outgoing → Result (Unit {0}) SinkFailed → 
 PutsAll text old (Ok _) new = TookText text old new
 PutsAll text old (Err e) new = TookFront text old new × HasFailed old new
 
--- Bytes were taken from a source: so many, or all where it had fewer; or it failed, or no memory.
+-- these bytes were pulled out of a source: so many, or all where it had fewer
+abbrev pub AreFirst : ℕ → Told → List ℕ → Told → Type 0
+AreFirst count told bytes left = Consumes told left bytes × (length bytes ≤ count) × (length bytes < count → IsAtEnd left)
+
+-- so were some, or it failed
+abbrev pub PullsFirst : ℕ → Incoming → Result (Unit {0}) SourceFailed → Incoming → Type 0
+PullsFirst count i (Ok _) now = Spends i count now 0 × ((bytes : List ℕ) × AreFirst count i.to_come bytes now.to_come)
+PullsFirst count i (Err e) now = Fails i count now 0
+
+-- These were taken into memory, where the source tells its bytes; or it failed, or no memory.
 abbrev pub TakesFirst : ℕ → Incoming → Result (List ℕ) Fault → Incoming → Type 0
-TakesFirst count i (Ok bytes) now =
-    Spends i count now 0 × Consumes i.to_come now.to_come bytes × (length bytes ≤ count) × (length bytes < count → IsAtEnd now.to_come)
+TakesFirst count i (Ok bytes) now = Spends i count now 0 × (IsSome i.to_come → AreFirst count i.to_come bytes now.to_come)
 TakesFirst count i (Err fault.Read) now = Fails i count now 0
 TakesFirst count i (Err fault.Memory) now = Spends i count now 0
 TakesFirst count i (Err fault) now = ⊥

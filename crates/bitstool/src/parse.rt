@@ -4,7 +4,7 @@ ghost use Rattle.std.specs.Prelude.{◌≡◌, ◌<◌, ◌^◌, ◌↔◌, ℕ,
 ghost use Rattle.bitstool.specs.declared.task.Parsed.{Parsed as ParsedValue};
 ghost use Rattle.clap.specs.Words.{app_of, found_of, kind_of, rows_of, rule_of, subcommand_rows_of};
 ghost use Rattle.bitstool.specs.Words.{numbered, FindsAll, HasAllLimits, HasLimits, HasLeftOut, HasNumber, HasShapes, HasValues, IsGiven, IsNormal, IsSame, IsShow, Means, Misnamed, MisnamedIn, MisnamesIn, Says, Fails, Shows, TellsOf, NamesBlocks, NamesRecords};
-ghost use Rattle.bitstool.specs.Words.{bitstool, flag_rule, leaving, limit_rule, limited, name_rule, number_rule, dropping, comparing, telling, wrong_value};
+ghost use Rattle.bitstool.specs.Words.{above, bitstool, flag_rule, leaving, limit_rule, limited, name_rule, number_rule, dropping, comparing, telling, wrong_value};
 
 use crate::names::{Unnamed, blocks_named, records_named};
 use crate::task::{LeftOut, Parsed, Task};
@@ -23,50 +23,76 @@ const VERSION: &str = "1.0.0";
 const MOST_BYTES: u64 = 17_179_869_180;
 
 const ABOUT: &str =
-    "Reads files in the LLVM bitstream container: bitcode modules, precompiled headers, diagnostics. \
+    "Reads files in the LLVM bitstream container: bitcode modules, precompiled headers, diagnostics.
 The input is standard input; the output is standard output.
 
-With no arguments it writes the normal form of the input, as `bitstool normal` does. An input that breaks the rules is \
-refused with one line on standard error, which names the rule and the bit, and nothing is written.
+With no arguments it writes the normal form of the input, as `bitstool normal` does. An input that
+breaks the rules is refused with one line on standard error, which names the rule and the bit, and
+nothing is written.
 
 Examples:
   bitstool analyse < FILE        which blocks and records it has, and where its bits go
   bitstool show < FILE | less    all of them, in order
   bitstool events < FILE | tail  the last that could be read of a damaged file
   bitstool normal --drop-info < FILE > NORMAL
-  cat FILE OTHER | bitstool same --first $(stat -c %s FILE)";
+  cat FILE OTHER | bitstool same --where --first $(stat -c %s FILE)";
+
+const USAGE: &str = "bitstool [COMMAND]";
 
 const AFTER: &str =
-    "Exit status: 0 done, or found the same; 1 refused, or found different; 2 wrong arguments; \
+    "Exit status: 0 done, or found the same; 1 refused, or found different; 2 wrong arguments;
 3 a read or a write failed, or no memory.";
 
 const CHECK: &str =
-    "Prints `accepted` if the input spells a tree of blocks and records, and otherwise the reason and the bit \
-of the refusal";
+    "Prints `accepted` if the input spells a tree of blocks and records, and otherwise
+the reason and the bit of the refusal";
 
 const NORMAL: &str =
-    "Writes the normal form of the input: equal trees have equal normal forms, whatever abbreviations, widths \
-and wrapper the input has";
+    "Writes the normal form of the input: equal trees have equal normal forms, whatever
+abbreviations, widths and wrapper the input has";
 
 const SAME: &str =
-    "Compares the trees of two inputs that stand in standard input one behind the other, and prints `same` or \
-`different`";
+    "Compares the trees of two inputs that stand in standard input one behind the other, and
+prints `same` or `different`";
 
 const ANALYSE: &str =
-    "Prints what the input adds up to: a line for each block id, and under it one for each code of its records, with \
-their numbers and bits";
+    "Prints what the input adds up to: a line for each block id, and under it one for each
+code of its records, with their numbers and bits";
 
 const SHOW: &str =
-    "Prints the tree of the input: a line for each block, with its id, and for each record, with its code and values, \
-indented by the blocks around it";
+    "Prints the tree of the input: a line for each block, with its id, and for each record,
+with its code and values, indented by the blocks around it";
 
 const EVENTS: &str =
-    "Prints the events of the input as they are read, one a line: the bit, and the block, definition, record or end that \
-stands there; of an input that is refused, all before the break";
+    "Prints the events of the input as they are read, one a line: the bit, and the block,
+definition, record or end that stands there; of an input that is refused, all before
+the break";
 
-const SHAPES: &str =
-    "Judge the order of a definition's operands where a record uses it, as LLVM's reader does, and not where it stands; \
-precompiled headers and module files of Clang 19 and later want this";
+const SHAPES: &str = "Judge the order of a definition's operands where a record uses it,
+as LLVM's reader does, and not where it stands; precompiled headers
+and module files of Clang 19 and later want this";
+
+const BYTES: &str = "The most bytes that the input may have, and a normal form too;
+at most 17179869180";
+
+const VALUES: &str = "The most values that the records may have in all;
+at most 4294967295";
+
+const BLOCKS: &str = "Leave out all blocks with this id, at any depth, with all that they
+hold; may be given again";
+
+const RECORDS: &str = "Leave out all records with this code that stand directly in blocks
+with this id, which is not 0; may be given again";
+
+const INFO: &str = "Leave out all BLOCKINFO blocks, which hold definitions for other
+blocks and no content, as --drop-block 0 does";
+
+const FIRST: &str = "How many bytes the first input has; the second is the rest;
+at most 17179869180";
+
+const TIP: &str = "
+  tip: the input is read from standard input, as in 'bitstool < FILE'
+";
 
 /// An option with a number from 0 to `most`.
 fn number_option<'a>(alloc: Global, name: &'a str, most: u64) -> Arg<'a>
@@ -116,13 +142,7 @@ fn flag<'a>(alloc: Global, name: &'a str, help: &'a str) -> Arg<'a>
 fn numbered<'a>(alloc: Global, name: &'a str, about: &'a str) -> Result<Command<'a>, AllocError>
     ensures { IfOk result (λ command. app_of command ≡ (numbered name.entry.now)) }
 {
-    let bytes = limit(
-        alloc,
-        "bytes",
-        "1073741824",
-        MOST_BYTES,
-        "The most bytes that the input may have, and a normal form too; at most 17179869180",
-    );
+    let bytes = limit(alloc, "bytes", "1073741824", MOST_BYTES, BYTES);
     let depth = limit(
         alloc,
         "depth",
@@ -130,13 +150,7 @@ fn numbered<'a>(alloc: Global, name: &'a str, about: &'a str) -> Result<Command<
         255,
         "How deep blocks may stand in one another; at most 255",
     );
-    let values = limit(
-        alloc,
-        "values",
-        "134217728",
-        4_294_967_295,
-        "The most values that the records may have in all; at most 4294967295",
-    );
+    let values = limit(alloc, "values", "134217728", 4_294_967_295, VALUES);
     Command::new(alloc, name)
         .about(about)
         .arg(bytes)?
@@ -156,18 +170,8 @@ fn limited<'a>(alloc: Global, name: &'a str, about: &'a str) -> Result<Command<'
 fn leaving<'a>(alloc: Global, name: &'a str, about: &'a str) -> Result<Command<'a>, AllocError>
     ensures { IfOk result (λ command. app_of command ≡ (leaving name.entry.now)) }
 {
-    let blocks = name_option(
-        alloc,
-        "drop-block",
-        "ID",
-        "Leave out all blocks with this id, at any depth, with all that they hold; may be given again",
-    );
-    let records = name_option(
-        alloc,
-        "drop-record",
-        "ID:CODE",
-        "Leave out all records with this code that stand directly in blocks with this id, which is not 0; may be given again",
-    );
+    let blocks = name_option(alloc, "drop-block", "ID", BLOCKS);
+    let records = name_option(alloc, "drop-record", "ID:CODE", RECORDS);
     limited(alloc, name, about)?.arg(blocks)?.arg(records)
 }
 
@@ -175,11 +179,7 @@ fn leaving<'a>(alloc: Global, name: &'a str, about: &'a str) -> Result<Command<'
 fn dropping<'a>(alloc: Global, name: &'a str, about: &'a str) -> Result<Command<'a>, AllocError>
     ensures { IfOk result (λ command. app_of command ≡ (dropping name.entry.now)) }
 {
-    let info = flag(
-        alloc,
-        "drop-info",
-        "Leave out all BLOCKINFO blocks, which hold definitions for other blocks and no content, as --drop-block 0 does",
-    );
+    let info = flag(alloc, "drop-info", INFO);
     leaving(alloc, name, about)?.arg(info)
 }
 
@@ -189,7 +189,7 @@ fn comparing<'a>(alloc: Global) -> Result<Command<'a>, AllocError>
 {
     let first = number_option(alloc, "first", MOST_BYTES)
         .required(true)
-        .help("How many bytes the first input has; the second is the rest; at most 17179869180");
+        .help(FIRST);
     let place = flag(alloc, "where", "Say also where they first differ");
     dropping(alloc, "same", SAME)?.arg(first)?.arg(place)
 }
@@ -202,6 +202,21 @@ fn telling<'a>(alloc: Global) -> Result<Command<'a>, AllocError>
     limited(alloc, "events", EVENTS)?.arg(values)
 }
 
+/// What goes for all commands.
+fn above<'a>(alloc: Global) -> Result<Command<'a>, AllocError>
+    ensures { IfOk result (λ command. app_of command ≡ above) }
+{
+    Command::new(alloc, "bitstool")
+        .version(VERSION)
+        .about(ABOUT)
+        .override_usage(USAGE)
+        .after_help(AFTER)
+        .no_binary_name(true)
+        .disable_help_subcommand(true)
+        .subcommand_required(true)
+        .bin_name("bitstool")
+}
+
 /// The whole command line.
 fn command<'a>(alloc: Global) -> Result<Command<'a>, AllocError>
     ensures { IfOk result (λ command. app_of command ≡ bitstool) }
@@ -212,13 +227,7 @@ fn command<'a>(alloc: Global) -> Result<Command<'a>, AllocError>
     let analyse = limited(alloc, "analyse", ANALYSE)?;
     let show = leaving(alloc, "show", SHOW)?;
     let events = telling(alloc)?;
-    Command::new(alloc, "bitstool")
-        .version(VERSION)
-        .about(ABOUT)
-        .after_help(AFTER)
-        .no_binary_name(true)
-        .disable_help_subcommand(true)
-        .subcommand_required(true)
+    above(alloc)?
         .subcommand(check)?
         .subcommand(normal)?
         .subcommand(same)?
@@ -431,7 +440,10 @@ fn misnamed(alloc: Global, why: Unnamed<'_>) -> Parsed
 fn told(alloc: Global, error: &Error) -> Result<Parsed, AllocError>
     ensures { IfOk result (λ parsed. Shows (kind_of error.now) parsed) }
 {
-    let text = error.to_string(alloc)?;
+    let mut text = error.to_string(alloc)?;
+    if matches!(error.kind(), ErrorKind::InvalidSubcommand) {
+        text.push_str(TIP)?;
+    }
     if error.use_stderr() {
         Ok(Parsed::Usage(text))
     } else {

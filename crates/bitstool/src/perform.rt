@@ -4,7 +4,7 @@ ghost use Rattle.std.specs.Prelude.{◌≡◌, ◌<◌, ◌^◌, vec_items};
 ghost use Rattle.bit_grammar.specs.Setting.{setting_of};
 ghost use Rattle.bit_fields.specs.Reader.{told_by};
 ghost use Rattle.bitstool.specs.declared.task.Task.{Task as TaskValue};
-ghost use Rattle.bitstool.specs.Performing.{ComparesWhere, ComparesWith, FindsWhere, Judges, TellsDifference, TellsFound, outcome_found, Settles, TakesFirst, TakesRest, TellsLine, ended, outcome_in, outcome_of};
+ghost use Rattle.bitstool.specs.Performing.{ComparesWhere, ComparesWith, FindsWhere, Judges, PullsFirst, TellsDifference, TellsFound, outcome_found, Settles, TakesFirst, TakesRest, TellsLine, ended, outcome_in, outcome_of};
 ghost use Rattle.bit_norm.specs.Entries.{difference_shown};
 ghost use Rattle.bitstool.specs.Differences.{difference_text};
 ghost use Rattle.bitstool.specs.Runs.{Does, Takes};
@@ -14,7 +14,7 @@ use crate::differences::text_of;
 use crate::outcome::Outcome;
 use crate::task::{LeftOut, Task};
 use bit_events::check;
-use bit_fields::{Fault, Limits, Sink, Source};
+use bit_fields::{Fault, KeptSource, Limits, Sink, Source, SourceFailed};
 use bit_norm::{Difference, Which, first_difference_from, normalise, same_as};
 use bit_scan::{Values, write_events, write_report, write_show};
 use bit_tree::Info;
@@ -58,27 +58,38 @@ fn ended(limit: u64, answer: Result<(), Fault>) -> Outcome
     }
 }
 
-/// Takes bytes of a source into memory: so many, or all where it has fewer.
-fn take_first<S: Source>(alloc: Global, source: &mut S, count: u64) -> Result<Vec<u8>, Fault>
+/// Pulls bytes out of a source: so many, or all where it has fewer.
+fn pull_first<S: Source>(source: &mut S, count: u64) -> Result<(), SourceFailed>
     requires { count < 2 ^ 60 }
-    ensures { TakesFirst count (S.incoming source.old) (told_by vec_items result) (S.incoming source.new) }
+    ensures { PullsFirst count (S.incoming source.old) result (S.incoming source.new) }
 {
-    let mut bytes = Vec::new(alloc);
+    let mut pulled = 0;
     let mut piece = [0u8; PIECE];
-    while (bytes.len() as u64) < count {
-        let room = (count - bytes.len() as u64).min(PIECE as u64) as usize;
-        let came = match source.pull(&mut piece[..room]) {
-            Ok(came) => came,
-            Err(_) => return Err(Fault::Read),
-        };
+    while pulled < count {
+        let room = (count - pulled).min(PIECE as u64) as usize;
+        let came = source.pull(&mut piece[..room])?;
         if came == 0 {
-            return Ok(bytes);
+            return Ok(());
         }
-        if bytes.extend_from_slice(&piece[..came]).is_err() {
-            return Err(Fault::Memory);
-        }
+        pulled += came as u64;
     }
-    Ok(bytes)
+    Ok(())
+}
+
+/// Takes bytes of a source into memory: so many, or all where it has fewer. Besides them at most as many bytes are held as the
+/// list of a `KeptSource` has unused.
+fn take_first<S: Source>(alloc: Global, source: S, count: u64) -> (Result<Vec<u8>, Fault>, S)
+    requires { count < 2 ^ 60 }
+    ensures { TakesFirst count (S.incoming source) (told_by vec_items result.0) (S.incoming result.1) }
+{
+    let mut kept = KeptSource::new(alloc, source);
+    let pulled = pull_first(&mut kept, count);
+    let (bytes, source) = kept.into_parts();
+    match (pulled, bytes) {
+        (Ok(()), Ok(bytes)) => (Ok(bytes), source),
+        (Ok(()), Err(AllocError)) => (Err(Fault::Memory), source),
+        (Err(SourceFailed), _) => (Err(Fault::Read), source),
+    }
 }
 
 /// Compares two inputs, of which the first is in memory.
@@ -107,14 +118,15 @@ fn compare_with<S: Source>(
 fn compare<S: Source>(
     alloc: Global,
     first: u64,
-    mut source: S,
+    source: S,
     limits: Limits,
     left: &LeftOut,
 ) -> (Outcome, S)
     ensures { Judges (TaskValue.Same first limits left.now) (S.incoming source) (S.incoming result.1) result.0 }
 {
     let count = first.min(limits.bytes() + 1);
-    match take_first(alloc, &mut source, count) {
+    let (taken, source) = take_first(alloc, source, count);
+    match taken {
         Ok(bytes) => compare_with(alloc, &bytes, source, limits, left.info()),
         Err(fault) => (outcome_of(limits.bytes(), fault), source),
     }
@@ -145,7 +157,7 @@ fn compare_where_with<S: Source>(
 fn compare_where<S: Source>(
     alloc: Global,
     first: u64,
-    mut source: S,
+    source: S,
     limits: Limits,
     left: &LeftOut,
 ) -> (Result<Option<Difference>, Outcome>, S)
@@ -153,7 +165,8 @@ fn compare_where<S: Source>(
     ensures found { FindsWhere (TaskValue.Where first limits left.now) (S.incoming source).to_come result.0 }
 {
     let most = first.min(limits.bytes() + 1);
-    match take_first(alloc, &mut source, most) {
+    let (taken, source) = take_first(alloc, source, most);
+    match taken {
         Ok(bytes) => compare_where_with(alloc, &bytes, source, limits, left.info()),
         Err(fault) => (Err(outcome_of(limits.bytes(), fault)), source),
     }

@@ -358,6 +358,65 @@ fn where_inputs_first_differ(rt: HostRuntime) -> Result<(), Fail> {
     Ok(())
 }
 
+/// What of `INFO` is left under names.
+static LEFT: [Row; 6] = [
+    ("normal --drop-block 0", (&INFO, &[]), (0, &DROPPED, "")),
+    (
+        "normal --drop-block=8 --drop-block 0",
+        (&INFO, &[]),
+        (0, &MAGIC, ""),
+    ),
+    (
+        "show --drop-record 8:1 --drop-record 9:1",
+        (&INFO, &[]),
+        (0, b"magic 4243c0de\nblock 0\n  record 1 8\nblock 8\n", ""),
+    ),
+    (
+        "same --first 16 --drop-record 8:1",
+        (&SHORT, &DROPPED),
+        (0, b"same\n", ""),
+    ),
+    (
+        "same --first 16 --drop-record 1:8",
+        (&SHORT, &DROPPED),
+        (1, b"different\n", ""),
+    ),
+    (
+        "same --where --drop-block 8 --first 16",
+        (&SHORT, &NESTED),
+        (0, b"same\n", ""),
+    ),
+];
+
+/// Names that name nothing, and what a run says of them.
+static NO_NAMES: [Row; 2] = [
+    (
+        "show --drop-block 8 --drop-block 4294967296",
+        (&SHORT, &[]),
+        (
+            2,
+            b"",
+            "error: invalid value '4294967296' for '--drop-block <ID>': no ID from 0 to 4294967295\n\nFor more information, try '--help'.\n",
+        ),
+    ),
+    (
+        "normal --drop-record 0:1",
+        (&SHORT, &[]),
+        (
+            2,
+            b"",
+            "error: invalid value '0:1' for '--drop-record <ID:CODE>': no ID from 1 to 4294967295, colon, and CODE from 0 to 18446744073709551615\n\nFor more information, try '--help'.\n",
+        ),
+    ),
+];
+
+#[test]
+fn what_is_left_under_names(rt: HostRuntime) -> Result<(), Fail> {
+    all_end(&rt, rt.alloc(), &LEFT)?;
+    all_end(&rt, rt.alloc(), &NO_NAMES)?;
+    Ok(())
+}
+
 /// The magic of LLVM's bitcode, alone.
 const MAGIC: [u8; 4] = [0x42, 0x43, 0xc0, 0xde];
 

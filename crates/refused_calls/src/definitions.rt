@@ -21,9 +21,9 @@ fn literal(alloc: Global, value: u32) -> Option<Abbrev> {
 
 /// Whether a list holds the definition with this literal in its place.
 fn has(list: &[Abbrev], value: u32) -> bool {
-    match list.get((value / IDS) as usize) {
-        Some(definition) => definition.ops() == [Op::Literal(u64::from(value))].as_slice(),
-        None => false,
+    match list.get((value / IDS) as usize).map(Abbrev::ops) {
+        Some([Op::Literal(found)]) => *found == u64::from(value),
+        _ => false,
     }
 }
 

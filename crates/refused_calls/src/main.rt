@@ -18,9 +18,7 @@ fn ask(rt: &HostRuntime, letter: u8) -> Ending {
         b'c' | b'd' | b'a' => streams::ask(rt.alloc(), letter),
         b'i' => definitions::define(rt.alloc()),
         b'e' => streams::next(rt),
-        b'r' => trees::read(rt),
-        b't' => trees::tree_of(rt),
-        b'w' => trees::tree_with(rt),
+        b'r' | b't' | b'w' => trees::ask(rt, letter),
         b'n' => trees::document(rt.alloc()),
         _ => Ending::Wrong,
     }

@@ -3,7 +3,7 @@
 use crate::ending::Ending;
 use crate::inputs::INPUT;
 use bit_abbrev::{Abbrev, Op, read_abbreviated, read_define};
-use bit_events::Events;
+use bit_events::{Event, Events};
 use bit_fields::{BitReader, Fault, Limits, Shapes, SliceSource};
 use std::alloc::Global;
 
@@ -33,54 +33,69 @@ fn is_brought(reader: &mut Reader) -> bool {
 
 /// Whether a reader takes nothing more.
 fn has_failed(reader: &mut Reader) -> bool {
-    !reader.is_live() && reader.fixed(1) == Err(Fault::Failed)
+    !reader.is_live() && matches!(reader.fixed(1), Err(Fault::Failed))
+}
+
+/// Whether a definition is the first one.
+fn is_first(definition: &Abbrev) -> bool {
+    definition.ops() == OPERANDS.as_slice()
 }
 
 /// `read_define`: where memory is refused the reader has failed.
 fn define(alloc: Global, reader: &mut Reader) -> Ending {
     match read_define(alloc, reader, Shapes::AtDefinition) {
-        Ok(definition) => Ending::answered(definition.ops() == OPERANDS.as_slice()),
-        Err(fault) => Ending::memory(fault == Fault::Memory && has_failed(reader)),
+        Ok(definition) => Ending::answered(is_first(&definition)),
+        Err(Fault::Memory) => Ending::memory(has_failed(reader)),
+        Err(_) => Ending::Wrong,
     }
 }
 
 /// `Abbrev::copy`.
 fn copy(alloc: Global, definition: &Abbrev) -> Ending {
     match definition.copy(alloc) {
-        Ok(copy) => Ending::answered(copy.ops() == OPERANDS.as_slice()),
-        Err(_) => Ending::memory(definition.ops() == OPERANDS.as_slice()),
+        Ok(copy) => Ending::answered(is_first(&copy)),
+        Err(_) => Ending::memory(is_first(definition)),
     }
 }
 
-/// `read_abbreviated`, behind a definition: where memory is refused the values are those from before, and the reader has failed.
-fn record(reader: &mut Reader, definition: &Abbrev, values: &mut Vec<u64>) -> Ending {
-    let at = reader.position();
-    if reader.fixed(3) != Ok(4) || !definition.is_usable() {
+/// `read_abbreviated`: where memory is refused the values are those from before, and the reader has failed.
+fn record(reader: &mut Reader, definition: &Abbrev, at: u64, values: &mut Vec<u64>) -> Ending {
+    if !definition.is_usable() {
         return Ending::Wrong;
     }
     match read_abbreviated(reader, definition, at, 9, values) {
         Ok(code) => Ending::answered(code == 5 && values.as_slice() == VALUES.as_slice()),
-        Err(fault) => {
-            let stay = values.as_slice() == &VALUES[..1];
-            Ending::memory(fault == Fault::Memory && stay && has_failed(reader))
+        Err(Fault::Memory) => {
+            Ending::memory(has_failed(reader) && values.as_slice() == &VALUES[..1])
         }
+        Err(_) => Ending::Wrong,
     }
 }
 
-/// The same with a list that holds a value.
+/// The same behind the record's id, with a list that holds a value.
 fn behind_a_value(alloc: Global, reader: &mut Reader, definition: &Abbrev) -> Ending {
+    let at = reader.position();
     let mut values = Vec::new(alloc);
-    match values.push(VALUES[0]) {
-        Ok(()) => record(reader, definition, &mut values),
-        Err(_) => Ending::Unready,
+    match (values.push(VALUES[0]), reader.fixed(3)) {
+        (Ok(()), Ok(4)) => record(reader, definition, at, &mut values),
+        (Err(_), _) => Ending::Unready,
+        _ => Ending::Wrong,
     }
 }
 
 /// Asks a call that needs a definition.
+fn by_definition(alloc: Global, reader: &mut Reader, definition: &Abbrev, letter: u8) -> Ending {
+    if letter == b'c' {
+        copy(alloc, definition)
+    } else {
+        behind_a_value(alloc, reader, definition)
+    }
+}
+
+/// Reads the definition, and asks a call that needs it.
 fn with_definition(alloc: Global, reader: &mut Reader, letter: u8) -> Ending {
     match read_define(alloc, reader, Shapes::AtDefinition) {
-        Ok(definition) if letter == b'c' => copy(alloc, &definition),
-        Ok(definition) => behind_a_value(alloc, reader, &definition),
+        Ok(definition) => by_definition(alloc, reader, &definition, letter),
         Err(_) => Ending::Unready,
     }
 }
@@ -101,32 +116,45 @@ pub fn ask(alloc: Global, letter: u8) -> Ending {
     }
 }
 
-/// Whether the next calls answer that one before them failed.
-fn have_failed(events: &mut Events<SliceSource<'static>>) -> bool {
-    events.next().err() == Some(Fault::Failed) && events.next().err() == Some(Fault::Failed)
+/// Whether the next call answers that one before it failed.
+fn fails(events: &mut Events<SliceSource<'static>>) -> bool {
+    matches!(events.next(), Err(Fault::Failed))
+}
+
+/// How a call ended that said so, where memory was refused to it the events have failed, and stand where they stood.
+fn judged(events: &mut Events<SliceSource<'static>>, before: u64, ending: Ending) -> Ending {
+    match ending {
+        Ending::Memory => {
+            Ending::memory(events.position() == before && fails(events) && fails(events))
+        }
+        _ => ending,
+    }
+}
+
+/// Writes an event.
+fn write(rt: &HostRuntime, event: &Event<'_>) -> Option<Ending> {
+    match println!(rt; "{event:?}") {
+        Ok(()) => None,
+        Err(_) => Some(Ending::Wrong),
+    }
 }
 
 /// Writes the next event; answers how the events ended, if they did.
 fn write_next(rt: &HostRuntime, events: &mut Events<SliceSource<'static>>) -> Option<Ending> {
-    let before = events.position();
     match events.next() {
-        Ok(Some(event)) => match println!(rt; "{event:?}") {
-            Ok(()) => None,
-            Err(_) => Some(Ending::Wrong),
-        },
+        Ok(Some(event)) => write(rt, &event),
         Ok(None) => Some(Ending::Answered),
-        Err(fault) => {
-            let stays = fault == Fault::Memory && events.position() == before;
-            Some(Ending::memory(stays && have_failed(events)))
-        }
+        Err(Fault::Memory) => Some(Ending::Memory),
+        Err(_) => Some(Ending::Wrong),
     }
 }
 
 /// Writes all events; answers how they ended.
 fn write_all(rt: &HostRuntime, events: &mut Events<SliceSource<'static>>) -> Ending {
     for _ in 0..100 {
+        let before = events.position();
         if let Some(ending) = write_next(rt, events) {
-            return ending;
+            return judged(events, before, ending);
         }
     }
     Ending::Wrong

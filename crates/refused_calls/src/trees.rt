@@ -1,9 +1,12 @@
 //! Inputs that are read whole, and the trees of them.
 
+ghost use Rattle.bit_grammar.specs.Forest.{Fit};
+ghost use Rattle.bit_grammar.specs.Input.{tree_of};
+
 use crate::ending::Ending;
 use crate::inputs::INPUT;
 use bit_fields::{Fault, Limits, SliceSource};
-use bit_tree::{Block, Document, DocumentReason, Info, Items};
+use bit_tree::{Block, Document, DocumentReason, Info, Items, Marked};
 use std::alloc::{AllocError, Global};
 
 /// The magic of LLVM's bitcode.
@@ -12,12 +15,9 @@ const MAGIC: [u8; 4] = [0x42, 0x43, 0xC0, 0xDE];
 /// The magic of a wrapper.
 const WRAPPER: [u8; 4] = [0xDE, 0xC0, 0x17, 0x0B];
 
-/// `read`, which writes the marked tree of the input.
-pub fn read(rt: &HostRuntime) -> Ending {
-    match bit_tree::read(rt.alloc(), SliceSource::new(&INPUT), Limits::usual()).0 {
-        Ok(marked) => Ending::answered(println!(rt; "{marked:?}").is_ok()),
-        Err(fault) => Ending::memory(fault == Fault::Memory),
-    }
+/// Writes the marked tree of the input.
+fn write_marked(rt: &HostRuntime, marked: &Marked) -> Ending {
+    Ending::answered(println!(rt; "{marked:?}").is_ok())
 }
 
 /// Writes a tree that was made, if it was.
@@ -28,20 +28,24 @@ fn write_tree(rt: &HostRuntime, made: Result<Document, AllocError>) -> Ending {
     }
 }
 
-/// `tree_of` the input.
-pub fn tree_of(rt: &HostRuntime) -> Ending {
-    match bit_tree::read(rt.alloc(), SliceSource::new(&INPUT), Limits::usual()).0 {
-        Ok(marked) => write_tree(rt, bit_tree::tree_of(rt.alloc(), &marked)),
-        Err(_) => Ending::Unready,
+/// Asks a call on the marked tree of the input, or writes it.
+fn ask_of(rt: &HostRuntime, marked: &Marked, letter: u8) -> Ending
+    requires { Fit (tree_of marked.now) }
+{
+    match letter {
+        b't' => write_tree(rt, bit_tree::tree_of(rt.alloc(), marked)),
+        b'w' => write_tree(rt, bit_tree::tree_with(rt.alloc(), marked, Info::Drop)),
+        _ => write_marked(rt, marked),
     }
 }
 
-/// `tree_with` of the input, without its BLOCKINFO block.
-#[tactic(auto, using(bit_grammar::proofs::Settings::fit_of_setting))]
-pub fn tree_with(rt: &HostRuntime) -> Ending {
+/// Asks `read` (r), `tree_of` (t) the input, or `tree_with` (w) of it without its BLOCKINFO block, and writes the tree.
+pub fn ask(rt: &HostRuntime, letter: u8) -> Ending {
     match bit_tree::read(rt.alloc(), SliceSource::new(&INPUT), Limits::usual()).0 {
-        Ok(marked) => write_tree(rt, bit_tree::tree_with(rt.alloc(), &marked, Info::Drop)),
-        Err(_) => Ending::Unready,
+        Ok(marked) => ask_of(rt, &marked, letter),
+        Err(Fault::Memory) if letter == b'r' => Ending::Memory,
+        Err(Fault::Memory) => Ending::Unready,
+        Err(_) => Ending::Wrong,
     }
 }
 
@@ -77,10 +81,24 @@ fn comes_back(blocks: Vec<Block>) -> bool {
     }
 }
 
+/// `Document::new` under the magic of a wrapper.
+fn under_a_wrapper(alloc: Global) -> Ending {
+    match blocks(alloc) {
+        Ok(bad) => Ending::answered(comes_back(bad)),
+        Err(_) => Ending::Unready,
+    }
+}
+
 /// The calls of `Document`, which take no memory.
 pub fn document(alloc: Global) -> Ending {
-    match (blocks(alloc), blocks(alloc)) {
-        (Ok(good), Ok(bad)) => Ending::answered(is_taken(good) && comes_back(bad)),
-        _ => Ending::Unready,
+    match blocks(alloc) {
+        Ok(good) => {
+            if is_taken(good) {
+                under_a_wrapper(alloc)
+            } else {
+                Ending::Wrong
+            }
+        }
+        Err(_) => Ending::Unready,
     }
 }

@@ -1,6 +1,15 @@
+use Rattle.std.proofs.Common.{Ok, Err}
 use Rattle.bit_grammar.specs.Definition.{definition}
-use Rattle.bit_fields.proofs.Composing.{only}
+use Rattle.bit_fields.proofs.Composing.{only, back_there}
 use Rattle.bit_abbrev.proofs.definition.read_define.Goals as goal
 
-pub returns-clause-only : goal.returns-clause-only
-returns-clause-only g c = only (definition c.args.shapes) c.args.reader.now c.read_definition.result c.read_definition.new.reader c.read_definition.ensures
+pub returns-in-Ok-clause-only : goal.returns-in-Ok-clause-only
+returns-in-Ok-clause-only g c = only (definition c.args.shapes) c.args.reader.now (Ok c.in-Ok.abbrev) c.read_definition.new.reader c.in-Ok.ensures
+
+pub returns-in-Err-clause-takes : goal.returns-in-Err-clause-takes
+returns-in-Err-clause-takes g c =
+    rw c.fail_at.ensures.fault (back_there (definition c.args.shapes) c.args.reader.now c.in-Err.fault c.read_definition.new.reader c.position-start.result c.fail_at.new.self c.in-Err.ensures c.position-start.ensures.position c.fail_at.ensures.moved)
+
+pub returns-in-Err-clause-only : goal.returns-in-Err-clause-only
+returns-in-Err-clause-only g c =
+    only (definition c.args.shapes) c.args.reader.now (Err c.fail_at.result) c.fail_at.new.self (returns-in-Err-clause-takes g c)

@@ -1,4 +1,3 @@
-use Rattle.std.proofs.Common.{◌≡◌}
 use Rattle.bit_grammar.specs.Record.{scalar}
 use Rattle.bit_abbrev.proofs.glance.far_elements.Goals as goal
 

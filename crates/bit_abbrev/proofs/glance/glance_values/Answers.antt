@@ -1,4 +1,4 @@
-use Rattle.std.proofs.Common.{◌+◌, ◌-◌, [], ◌∷◌, refl, drop}
+use Rattle.std.proofs.Common.{◌+◌, ◌-◌, ◌∷◌, refl, drop}
 use Rattle.bit_grammar.specs.Record.{singles, values_of}
 use Rattle.bit_grammar.specs.FormatDefinition.{op_at}
 use Rattle.bit_grammar.specs.declared.op.Op.TheVariants.{Array}

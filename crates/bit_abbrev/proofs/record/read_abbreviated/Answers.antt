@@ -19,13 +19,17 @@ returns-in-Ok-clause-few g c =
 
 pub returns-in-Err-clause-takes : goal.returns-in-Err-clause-takes
 returns-in-Err-clause-takes g c =
-    let added = rw c.lawful_ops.ensures.items at c.in-Err.ensures in λ before t.
-    not_recorded g.V.ValueTaker.took c.args.values.now c.read_record.new.values c.truncate.new.self c.count-before.result (abbreviated c.args.at c.args.room c.args.abbrev.now) c.args.room c.args.reader.now c.in-Err.fault c.read_record.new.reader before c.count-before.ensures c.truncate.ensures t (added before t)
+    let added = rw c.lawful_ops.ensures.items at c.in-Err.ensures in
+    let here = c.position-start.ensures.position in
+    let moved = c.fail_at.ensures.moved in rw c.fail_at.ensures.fault (λ before t.
+    not_recorded g.V.ValueTaker.took c.args.values.now c.read_record.new.values c.truncate.new.self c.count-before.result (abbreviated c.args.at c.args.room c.args.abbrev.now) c.args.room c.args.reader.now c.in-Err.fault c.read_record.new.reader c.position-start.result c.fail_at.new.self before c.count-before.ensures c.truncate.ensures here moved t (added before t))
 
 pub returns-in-Err-clause-only : goal.returns-in-Err-clause-only
 returns-in-Err-clause-only g c =
-    let added = rw c.lawful_ops.ensures.items at c.in-Err.ensures in λ before t.
-    not_recorded_only g.V.ValueTaker.took c.args.values.now c.read_record.new.values c.truncate.new.self c.count-before.result (abbreviated c.args.at c.args.room c.args.abbrev.now) c.args.room c.args.reader.now c.in-Err.fault c.read_record.new.reader before c.count-before.ensures c.truncate.ensures t (added before t)
+    let added = rw c.lawful_ops.ensures.items at c.in-Err.ensures in
+    let here = c.position-start.ensures.position in
+    let moved = c.fail_at.ensures.moved in rw c.fail_at.ensures.fault (λ before t.
+    not_recorded_only g.V.ValueTaker.took c.args.values.now c.read_record.new.values c.truncate.new.self c.count-before.result (abbreviated c.args.at c.args.room c.args.abbrev.now) c.args.room c.args.reader.now c.in-Err.fault c.read_record.new.reader c.position-start.result c.fail_at.new.self before c.count-before.ensures c.truncate.ensures here moved t (added before t))
 
 pub returns-in-Err-clause-few : goal.returns-in-Err-clause-few
 returns-in-Err-clause-few g c =

@@ -1,4 +1,4 @@
-use Rattle.std.proofs.Common.{◌≡◌, Bool, List, ◌++◌, ap, sym, ◌∙◌, append_assoc}
+use Rattle.std.proofs.Common.{Bool, List, ◌++◌, ap, sym, ◌∙◌, append_assoc}
 use Rattle.bit_grammar.specs.Bits.{bits_of}
 use Rattle.bit_fields.specs.Texts.{bits_of_words}
 use Rattle.bit_fields.proofs.text.add_field.Goals as goal

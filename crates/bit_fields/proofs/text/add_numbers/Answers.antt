@@ -1,4 +1,4 @@
-use Rattle.std.proofs.Common.{◌≡◌, ◌+◌, ◌≤◌, ℕ, Bool, List, [], ◌++◌, length, drop, get_or, ap, sym, ◌∙◌, append_assoc, arith, add-one, drop-cons, length-append}
+use Rattle.std.proofs.Common.{◌≡◌, ◌+◌, Bool, List, [], ◌++◌, length, drop, get_or, ap, sym, ◌∙◌, append_assoc, arith, length-append}
 use Rattle.std.proofs.lemmas.List.{append-nil, drop_all}
 use Rattle.bit_grammar.specs.FormatFields.{shortest}
 use Rattle.bit_grammar.specs.Normal.{values_text}

@@ -13,7 +13,7 @@ returns c =
     let analyse = c.in_ok-analyse.ensures in
     let show = c.in_ok-show.ensures in
     let events = c.in_ok-events.ensures in
-    let base : app_of c.subcommand_required.result ≡ above = search rules in
+    let base = c.in_ok-above.ensures in
     let first = c.in_ok-subcommand.ensures.shape (third_denied _ _ _ _ (ap (λ (a : App). a.top.is_plain) check))
     ∙ ap₂ with_subcommand base (ap (λ (a : App). a.top) check) in
     let second = c.in_ok-subcommand-2.ensures.shape (third_denied _ _ _ _ (ap (λ (a : App). a.top.is_plain) normal))

@@ -18,7 +18,7 @@ returns g c =
         },
       ),
       record {
-        lawful = record { most = c.window-word.ensures.most; below = c.window-word.ensures.below; fits = omega (arith, held, c.self.invariant.place, c.window-word.ensures.loaded, c.lend-bytes.ensures.few) };
+        lawful = record { most = c.window-word.ensures.most; below = c.window-word.ensures.below; fits = omega (arith, held, c.self.invariant.exact live, c.window-word.ensures.loaded, c.lend-bytes.ensures.few) };
         shown = tt;
       },
     )

@@ -21,12 +21,9 @@ overflow_add-value g c =
     let fits : c.loop-place.value + c.payload_of.result * 2 ^ c.loop-place.place < 2 ^ 64 = sum_fits c.payload_of.result c.loop-place.place c.loop-place.value c.loop-place-test.true c.loop-place.invariant.below worth.1 in
     rw worth.0 (omega arith)
 
-pub stop-requires : goal.stop-requires
-stop-requires g c = omega (arith, c.loop-place.invariant.ahead, c.in_ok-chunk.ensures.takes.forward)
-
 pub returns-in-None-clause-takes : goal.returns-in-None-clause-takes
 returns-in-None-clause-takes g c =
-    rw (c.stop.ensures.fault, c.stop.ensures.stopped) (wide_chunk c.args.n c.args.start _ c.args.self.now c.loop-place.self c.loop-place.place c.loop-place.value c.in_ok-chunk.chunk c.payload_of.result c.part.new.self c.requires.some c.loop-place-test.true c.loop-place.invariant c.in_ok-chunk.ensures.takes c.payload_of.ensures c.in-None.ensures)
+    rw (c.fail_at.ensures.fault, c.fail_at.ensures.failed) (wide_chunk c.args.n c.args.start _ c.args.self.now c.loop-place.self c.loop-place.place c.loop-place.value c.in_ok-chunk.chunk c.payload_of.result c.part.new.self c.requires.some c.loop-place-test.true c.loop-place.invariant c.in_ok-chunk.ensures.takes c.payload_of.ensures c.in-None.ensures)
 
 pub returns-then-chunk-n-clause-takes : goal.returns-then-chunk-n-clause-takes
 returns-then-chunk-n-clause-takes g c =
@@ -42,4 +39,4 @@ loop-place-preserved g c =
 
 pub returns-clause-takes : goal.returns-clause-takes
 returns-clause-takes g c =
-    rw (c.stop-2.ensures.fault, c.stop-2.ensures.stopped) (past_last_chunk c.args.n c.args.start _ c.args.self.now c.loop-place.self c.loop-place.place c.loop-place.value c.requires.some c.loop-place-test.false c.loop-place.invariant)
+    rw (c.fail_at-2.ensures.fault, c.fail_at-2.ensures.failed) (past_last_chunk c.args.n c.args.start _ c.args.self.now c.loop-place.self c.loop-place.place c.loop-place.value c.requires.some c.loop-place-test.false c.loop-place.invariant)

@@ -11,7 +11,7 @@ returns-in_err-bit-clause-takes g c =
 
 pub returns-then-bit-ne0-clause-takes : goal.returns-then-bit-ne0-clause-takes
 returns-then-bit-ne0-clause-takes g c =
-    rw (c.stop.ensures.fault, c.stop.ensures.stopped) (zero_dirty c.args.start c.self.inside.position c.args.self.now c.in_ok-bit.bit c.part.new.self c.in_ok-bit.ensures.takes c.if-bit-ne0.true (ap (λ (r : Reader). r.position) c.self.view_is))
+    rw (c.fail_at.ensures.fault, c.fail_at.ensures.failed) (zero_dirty c.args.start c.self.inside.position c.args.self.now c.in_ok-bit.bit c.part.new.self c.in_ok-bit.ensures.takes c.if-bit-ne0.true (ap (λ (r : Reader). r.position) c.self.view_is))
 
 pub returns-clause-takes : goal.returns-clause-takes
 returns-clause-takes g c = zero_took c.args.start c.args.self.now c.in_ok-bit.bit c.part.new.self c.in_ok-bit.ensures.takes c.if-bit-ne0.false

@@ -1,13 +1,12 @@
 use Rattle.std.proofs.Common.{◌≡◌, true, sym, ◌∙◌, arith, refl}
 use Rattle.std.proofs.lemmas.Bool.{false≢true}
 use Rattle.bit_fields.proofs.InflowLaws.{Keeps-refl}
-use Rattle.bit_fields.proofs.Parts.{fills_place, fills_exact, Filled, live_from, took_as, missed_as}
+use Rattle.bit_fields.proofs.Parts.{fills_exact, Filled, live_from, took_as, missed_as}
 use Rattle.bit_fields.proofs.reader.BitReader.part.Goals as goal
 use Rattle.bit_fields.proofs.reader.BitReader.part.Goals.{then-held-n+else-not-self+in-Ok, else-held-n}
 
 pub invariant_of-self : goal.invariant_of-self
 invariant_of-self g c = record {
-  place = fills_place c.args.n c.self.inside.position c.self.inside.inflow c.fill.new.self c.in-Err.missing c.in-Err.ensures c.self.invariant.place;
   exact = λ e. fills_exact c.args.n c.self.inside.position c.self.inside.inflow c.fill.new.self c.in-Err.missing c.in-Err.ensures (c.self.invariant.exact c.if-not-self.false);
   empty = λ e. absurd (false≢true (sym e ∙ c.if-not-self.false));
 }

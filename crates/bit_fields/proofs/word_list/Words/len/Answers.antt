@@ -1,4 +1,4 @@
-use Rattle.std.proofs.Common.{◌≡◌, ◌+◌, ◌*◌, length, ap, arith, length-append}
+use Rattle.std.proofs.Common.{length, ap, arith, length-append}
 use Rattle.bit_fields.specs.Texts.{joined}
 use Rattle.bit_fields.proofs.Texts.{joined-length}
 use Rattle.bit_fields.proofs.word_list.Words.len.Goals as goal
