@@ -39,7 +39,9 @@ enum {
     /* The room does not hold what was to be put there; how much is needed was told, and the room is as it was. */
     BS_ROOM = 6,
     /* The handle is closed, or holds something else. */
-    BS_CLOSED = 7
+    BS_CLOSED = 7,
+    /* Records of BLOCKINFO blocks are named to be left out. */
+    BS_NAMES = 8
 };
 
 /* How much of an input is taken: the bytes of the whole input, wrapper included, at most 17179869180; the depth of blocks, where
@@ -53,11 +55,27 @@ struct bs_limits {
     bool shapes_at_use;
 };
 
-/* What of an input is left out. All zeros where nothing is. */
-struct bs_left_out {
-    /* The BLOCKINFO blocks. */
-    bool info;
+/* Names records: those with this code that stand directly in blocks with this id. Block 0 is for no name, since what would be left
+   of a BLOCKINFO block is none: a call that is passed such a name answers BS_NAMES. */
+struct bs_record_name {
+    uint32_t block;
+    uint64_t code;
 };
+
+/* What of an input is left out. Begin with BS_WHOLE, which leaves out nothing. For each block and record the names are searched from
+   the first to the last. */
+struct bs_left_out {
+    /* The BLOCKINFO blocks, as where block 0 is named. */
+    bool info;
+    /* The blocks with these ids, at any depth and with all that they hold. */
+    const uint32_t *blocks;
+    size_t blocks_len;
+    /* The records with these names. */
+    const struct bs_record_name *records;
+    size_t records_len;
+};
+/* A pointer to no elements is aligned, and not null. */
+#define BS_WHOLE {false, (const uint32_t *)4, 0, (const struct bs_record_name *)8, 0}
 
 /* Why an input was refused; all zeros where none was. */
 struct bs_fault {
@@ -78,7 +96,7 @@ struct bs_bytes {
 
 /* The version of these calls, structures and numbers, and that of a library. They are the same where a program was built for the
    library that it runs with. */
-#define BS_VERSION 1
+#define BS_VERSION 2
 uint32_t bs_version(void);
 
 /* Sets limits to those that serve most inputs: 1073741824 bytes, depth 64, 134217728 values, and shapes not judged at their use. */
@@ -92,7 +110,8 @@ void bs_reason_name(uint32_t number, struct bs_bytes *name);
 uint32_t bs_check(const uint8_t *bytes, size_t bytes_len, const struct bs_limits *limits, struct bs_fault *fault);
 
 /* Puts the normal form of what bytes hold, whole or without what is left out, into the room, and tells in `needed` how many bytes
-   it has: BS_DONE, or BS_ROOM; or BS_REFUSED, BS_TOO_LONG, BS_MEMORY, BS_LIMITS, and then `needed` is 0 and the room as it was. */
+   it has: BS_DONE, or BS_ROOM; or BS_REFUSED, BS_TOO_LONG, BS_MEMORY, BS_LIMITS, BS_NAMES, and then `needed` is 0 and the room as
+   it was. */
 uint32_t bs_normal(const uint8_t *bytes, size_t bytes_len, const struct bs_limits *limits, const struct bs_left_out *left_out,
                    uint8_t *room, size_t room_len, size_t *needed, struct bs_fault *fault);
 
@@ -100,14 +119,81 @@ uint32_t bs_normal(const uint8_t *bytes, size_t bytes_len, const struct bs_limit
 uint32_t bs_report(const uint8_t *bytes, size_t bytes_len, const struct bs_limits *limits, uint8_t *room, size_t room_len,
                    size_t *needed, struct bs_fault *fault);
 
-/* The same of the listing, as `bitstool show` prints it. */
-uint32_t bs_show(const uint8_t *bytes, size_t bytes_len, const struct bs_limits *limits, uint8_t *room, size_t room_len,
-                 size_t *needed, struct bs_fault *fault);
+/* The same of the listing, as `bitstool show` prints it, whole or without what is left out. */
+uint32_t bs_show(const uint8_t *bytes, size_t bytes_len, const struct bs_limits *limits, const struct bs_left_out *left_out,
+                 uint8_t *room, size_t room_len, size_t *needed, struct bs_fault *fault);
 
 /* Whether two inputs have the same magic and the same blocks and records, whole or without what is left out: BS_DONE where they
-   have, BS_DIFFERENT, or BS_REFUSED, BS_MEMORY, BS_LIMITS. The second is refused only where the first is accepted. */
+   have, BS_DIFFERENT, or BS_REFUSED, BS_MEMORY, BS_LIMITS, BS_NAMES. The second is refused only where the first is accepted. */
 uint32_t bs_same(const uint8_t *first, size_t first_len, const uint8_t *second, size_t second_len, const struct bs_limits *limits,
                  const struct bs_left_out *left_out, struct bs_fault *fault);
+
+enum {
+    BS_AT_MAGIC = 1,
+    /* In blocks, or at the top. */
+    BS_AT_ITEM = 2
+};
+
+enum {
+    BS_STANDS_MAGIC = 1,
+    BS_STANDS_BLOCK = 2,
+    BS_STANDS_RECORD = 3,
+    /* The end of the innermost open block, or of the stream at the top. */
+    BS_STANDS_END = 4
+};
+
+/* A block that is open: its id, and how many items stand before it in the block round it, or at the top. What is left out and
+   definitions are no items. */
+struct bs_open_block {
+    uint32_t id;
+    uint64_t items;
+};
+
+/* What stands at a place of an input, and where that begins. What its kind does not name is 0. */
+struct bs_standing {
+    /* Counted from the first bit of that input. An end begins where the last item before it in its block ended, and where there is
+       none, behind the length of the block, or behind the magic. */
+    uint64_t bit;
+    uint32_t kind;
+    /* The magic of the stream, its first byte first. */
+    uint8_t magic[4];
+    /* Of a block its id. */
+    uint32_t id;
+    /* Of a record its code, and how many values it has, the code not counted. */
+    uint64_t code;
+    uint64_t count;
+};
+
+/* The first values of two records with the same code that differ, counted from 0. All zeros where one list of values is the front
+   of the other, and where there are no two such records. */
+struct bs_value_difference {
+    bool differ;
+    uint64_t index;
+    uint64_t first;
+    uint64_t second;
+};
+
+/* Where two inputs first differ. All zeros where they do not. */
+struct bs_difference {
+    /* BS_AT_MAGIC or BS_AT_ITEM. */
+    uint32_t place;
+    /* How many blocks are open at the place: never more than the limit on depth. */
+    size_t depth;
+    /* How many items stand before the place in the innermost of them, or at the top. */
+    uint64_t items;
+    /* What stands there in each input. */
+    struct bs_standing first;
+    struct bs_standing second;
+    struct bs_value_difference values;
+};
+
+/* Compares two inputs, and tells where they first differ: BS_DIFFERENT, and the blocks that are open there, the outermost first, stand
+   in the room; or BS_ROOM, where it does not hold them and is as it was, and all else is told. Or BS_DONE where they do not differ, or
+   BS_REFUSED, BS_MEMORY, BS_LIMITS, BS_NAMES as bs_same; then the difference is all zeros, and the room as it was. A room for 255
+   blocks holds all that can be. */
+uint32_t bs_first_difference(const uint8_t *first, size_t first_len, const uint8_t *second, size_t second_len,
+                             const struct bs_limits *limits, const struct bs_left_out *left_out, struct bs_difference *difference,
+                             struct bs_open_block *open_room, size_t open_room_len, struct bs_fault *fault);
 
 /* What a stream holds, and how many rows its analysis has. */
 struct bs_tally {
@@ -159,8 +245,8 @@ uint32_t bs_hold_normal(const uint8_t *bytes, size_t bytes_len, const struct bs_
                         struct bs_handle *handle, struct bs_fault *fault);
 uint32_t bs_hold_report(const uint8_t *bytes, size_t bytes_len, const struct bs_limits *limits, struct bs_handle *handle,
                         struct bs_fault *fault);
-uint32_t bs_hold_show(const uint8_t *bytes, size_t bytes_len, const struct bs_limits *limits, struct bs_handle *handle,
-                      struct bs_fault *fault);
+uint32_t bs_hold_show(const uint8_t *bytes, size_t bytes_len, const struct bs_limits *limits, const struct bs_left_out *left_out,
+                      struct bs_handle *handle, struct bs_fault *fault);
 
 /* Puts the text that is held into the room, and tells in `needed` how many bytes it has: BS_DONE, or BS_ROOM; or BS_CLOSED where the
    handle holds no text. The handle stays open, until bs_close gives the text back. */

@@ -7,16 +7,22 @@ from typing import NamedTuple
 from program import DIFFERENT, REASONS, SAME, TOP, Answer, done
 
 LIBRARY = f"{TOP}/capi/out/libbitstream.so"
-DONE, DIFFERS, REFUSED, MEMORY, TOO_LONG, LIMITS, ROOM, CLOSED = range(8)
+DONE, DIFFERS, REFUSED, MEMORY, TOO_LONG, LIMITS, ROOM, CLOSED, NAMES = range(9)
 OVER, ENTER, DEFINE, RECORD, LEAVE = range(5)
+NOWHERE, AT_MAGIC, AT_ITEM = range(3)
+NOTHING, STANDS_MAGIC, STANDS_BLOCK, STANDS_RECORD, STANDS_END = range(5)
 
 
 class Limits(Structure):
     _fields_ = [("bytes", c_uint64), ("depth", c_uint32), ("values", c_uint64), ("shapes_at_use", c_bool)]
 
 
+class RecordName(Structure):
+    _fields_ = [("block", c_uint32), ("code", c_uint64)]
+
+
 class LeftOut(Structure):
-    _fields_ = [("info", c_bool)]
+    _fields_ = [("info", c_bool), ("blocks", POINTER(c_uint32)), ("blocks_len", c_size_t), ("records", POINTER(RecordName)), ("records_len", c_size_t)]
 
 
 class Fault(Structure):
@@ -47,6 +53,51 @@ class Event(Structure):
     _fields_ = [("kind", c_uint32), ("id", c_uint32), ("width", c_uint32), ("code", c_uint64), ("count", c_size_t), ("first", c_uint64), ("after", c_uint64)]
 
 
+class OpenBlock(Structure):
+    _fields_ = [("id", c_uint32), ("items", c_uint64)]
+
+
+class Standing(Structure):
+    _fields_ = [("bit", c_uint64), ("kind", c_uint32), ("magic", c_uint8 * 4), ("id", c_uint32), ("code", c_uint64), ("count", c_uint64)]
+
+
+class Values(Structure):
+    _fields_ = [("differ", c_bool), ("index", c_uint64), ("first", c_uint64), ("second", c_uint64)]
+
+
+class Difference(Structure):
+    _fields_ = [("place", c_uint32), ("depth", c_size_t), ("items", c_uint64), ("first", Standing), ("second", Standing), ("values", Values)]
+
+
+class Setting(NamedTuple):
+    """What is left out: the BLOCKINFO blocks, blocks by their ids, and records by the id of their block and their code."""
+
+    info: bool = False
+    blocks: tuple = ()
+    records: tuple = ()
+
+    def words(self, command):
+        """The options of a command for it: `show` has no `--drop-info`, which says the same as `--drop-block 0`."""
+        words = (["--drop-block", "0"] if command == "show" else ["--drop-info"]) if self.info else []
+        for block in self.blocks:
+            words += ["--drop-block", str(block)]
+        for block, code in self.records:
+            words += ["--drop-record", f"{block}:{code}"]
+        return words
+
+    def passed(self):
+        """What a call takes for it."""
+        blocks, records = room_of(c_uint32, len(self.blocks)), room_of(RecordName, len(self.records))
+        for place, block in enumerate(self.blocks):
+            blocks[place] = block
+        for place, name in enumerate(self.records):
+            records[place] = RecordName(*name)
+        return LeftOut(self.info, blocks, len(self.blocks), records, len(self.records))
+
+
+WHOLE = Setting()
+
+
 class Told(NamedTuple):
     """What a call told: its status, and of a refusal the reason, the input and the bit."""
 
@@ -59,6 +110,31 @@ class Told(NamedTuple):
 def room_of(kind, count):
     """Room for so many items, and what a call takes for it: a length of 0 has a pointer that is not null too."""
     return (kind * max(count, 1))()
+
+
+def bytes_of(given):
+    return ctypes.string_at(ctypes.addressof(given), ctypes.sizeof(given))
+
+
+def standing_of(standing):
+    """What stands at a place, as the program prints it."""
+    if standing.kind == STANDS_MAGIC:
+        return f"magic {bytes(standing.magic).hex()}"
+    if standing.kind == STANDS_BLOCK:
+        return f"block {standing.id}"
+    if standing.kind == STANDS_RECORD:
+        return f"record {standing.code} count {standing.count}"
+    return "end" if standing.kind == STANDS_END else f"kind {standing.kind}"
+
+
+def lines_of(difference, blocks):
+    """The lines of a difference, as the program prints them."""
+    place = ["magic"] if difference.place == AT_MAGIC else [*[f"block {block.id} item {block.items}" for block in blocks], f"item {difference.items}"]
+    lines, values = [f"at {', '.join(place)}"], difference.values
+    for which, standing, value in (("first", difference.first, values.first), ("second", difference.second, values.second)):
+        behind = f", value {values.index} is {value}" if values.differ else ""
+        lines.append(f"{which} bit {standing.bit}: {standing_of(standing)}{behind}")
+    return "".join(line + "\n" for line in lines)
 
 
 class Library:
@@ -107,17 +183,16 @@ class Library:
         limits = self.limits(options)
         return self.as_run(self.ask("bs_check", given, c_size_t(len(given)), byref(limits)), limits, b"accepted\n")
 
-    def told_text(self, call, given, limits, room, left_out=None):
+    def told_text(self, call, given, limits, room, left_out):
         """A call for a text with so much room: what it told, how much is needed, and what stands in the room."""
         held, needed = room_of(c_uint8, room), c_size_t(77)
         ctypes.memset(held, 0xA5, max(room, 1))
-        setting = [] if left_out is None else [byref(left_out)]
-        told = self.ask(call, given, c_size_t(len(given)), byref(limits), *setting, held, c_size_t(room), byref(needed))
+        told = self.ask(call, given, c_size_t(len(given)), byref(limits), *left_out, held, c_size_t(room), byref(needed))
         return told, needed.value, bytes(held)
 
-    def text(self, call, given, options=(), left_out=None):
+    def text(self, call, given, options=(), setting=None):
         """A text, asked with no room and then with room for it; with one byte too few, nothing may be put there."""
-        limits = self.limits(options)
+        limits, left_out = self.limits(options), self.left_out(setting)
         told, needed, _ = self.told_text(call, given, limits, 0, left_out)
         if told.status != ROOM:
             return self.as_run(told, limits) if needed == 0 else Answer(f"{needed} bytes needed of none", b"", "")
@@ -129,11 +204,14 @@ class Library:
             return Answer("what is behind the text was written to", held, "")
         return self.as_run(told, limits, held[:needed])
 
-    def held(self, call, given, options=(), left_out=None):
+    def left_out(self, setting):
+        """What a call takes for a setting; nothing where it has none."""
+        return [] if setting is None else [byref(setting.passed())]
+
+    def held(self, call, given, options=(), setting=None):
         """A text that is held behind a handle, asked with a byte too few and then with room for it; and closed."""
         limits, handle, needed = self.limits(options), Handle(), c_size_t(77)
-        setting = [] if left_out is None else [byref(left_out)]
-        made = self.ask(call, given, c_size_t(len(given)), byref(limits), *setting, byref(handle))
+        made = self.ask(call, given, c_size_t(len(given)), byref(limits), *self.left_out(setting), byref(handle))
         none = self.ask("bs_text", byref(handle), room_of(c_uint8, 0), c_size_t(0), byref(needed))
         held = room_of(c_uint8, needed.value)
         told = self.ask("bs_text", byref(handle), held, c_size_t(needed.value), byref(needed))
@@ -146,15 +224,43 @@ class Library:
             return Answer(f"the library's statuses {found}", b"", "")
         return self.as_run(made, limits, bytes(held))
 
-    def normal(self, given, options=(), drop=False):
-        return self.text("bs_normal", given, options, LeftOut(drop))
+    def same(self, first, second, options=(), setting=WHOLE):
+        limits = self.limits(options)
+        told = self.ask("bs_same", first, c_size_t(len(first)), second, c_size_t(len(second)), byref(limits), *self.left_out(setting))
+        return self.as_comparison(told, limits)
 
-    def same(self, first, second, options=(), drop=False):
-        limits, left_out = self.limits(options), LeftOut(drop)
-        told = self.ask("bs_same", first, c_size_t(len(first)), second, c_size_t(len(second)), byref(limits), byref(left_out))
+    def as_comparison(self, told, limits, lines=b""):
+        """The run of `same` that would have said so, with these lines behind `different`."""
         if told.status == DIFFERS:
-            return DIFFERENT
+            return DIFFERENT._replace(output=DIFFERENT.output + lines)
         return SAME if told.status == DONE else self.as_run(told, limits, b"", ("first: ", "second: ")[told.input])
+
+    def told_difference(self, first, second, limits, setting, room):
+        """A call for a difference with so much room: what it told, the difference, and what stands in the room."""
+        difference, held = Difference(), room_of(OpenBlock, room)
+        for place in (difference, held):
+            ctypes.memset(byref(place), 0xA5, ctypes.sizeof(place))
+        told = self.ask("bs_first_difference", first, c_size_t(len(first)), second, c_size_t(len(second)), byref(limits), *self.left_out(setting),
+                        byref(difference), held, c_size_t(room))
+        return told, difference, held
+
+    def where(self, first, second, options=(), setting=WHOLE):
+        """Where two inputs first differ, asked with no room for the open blocks, with one place too few, and with one more."""
+        limits = self.limits(options)
+        told, difference, _ = self.told_difference(first, second, limits, setting, 0)
+        if told.status not in (DIFFERS, ROOM):
+            return self.as_comparison(told, limits) if not any(bytes_of(difference)) else Answer("a difference of none", b"", "")
+        depth = difference.depth
+        if depth > limits.depth or (told.status == ROOM) != (depth > 0):
+            return Answer(f"status {told.status} at depth {depth}", b"", "")
+        if depth:
+            few, again, held = self.told_difference(first, second, limits, setting, depth - 1)
+            if few != told or bytes_of(again) != bytes_of(difference) or set(bytes_of(held)) != {0xA5}:
+                return Answer("a room that is too small was written to", b"", "")
+        told, again, held = self.told_difference(first, second, limits, setting, depth + 1)
+        if bytes_of(again) != bytes_of(difference) or set(bytes_of(held[depth])) != {0xA5}:
+            return Answer("what is behind the blocks was written to", b"", "")
+        return self.as_comparison(told, limits, lines_of(difference, held[:depth]).encode())
 
     def rows(self, given, options=()):
         """The report that the rows of an analysis make."""
@@ -188,24 +294,27 @@ class Library:
         return told, []
 
     def events(self, given, options=()):
-        """The listing that the events make, without its first line, and how they ended."""
+        """The lines that the events make, but those of the magic and the operands, and how they ended."""
         limits, reader, event, lines, depth = self.limits(options), Handle(), Event(), [], 0
         told = self.ask("bs_open", given, c_size_t(len(given)), byref(limits), byref(reader))
         while told.status == DONE:
             told = self.ask("bs_next", byref(reader), byref(event))
             if told.status != DONE or event.kind == OVER:
                 break
-            if event.kind == ENTER:
-                lines.append("  " * depth + f"block {event.id}")
-                depth += 1
-            elif event.kind == LEAVE:
-                depth -= 1
-            elif event.kind == RECORD:
-                said, values = self.values(reader)
-                if said.status != DONE or len(values) != event.count:
-                    return "values", said
-                lines.append("  " * depth + " ".join(["record", *map(str, [event.code, *values])]))
-        return "".join(line + "\n" for line in lines), told, self.ending(reader, told)
+            depth -= event.kind == LEAVE
+            bit = event.after if event.kind == LEAVE else event.first
+            lines.append(f"{bit} {'  ' * depth}{self.event(reader, event)}")
+            depth += event.kind == ENTER
+        return lines, told, self.ending(reader, told)
+
+    def event(self, reader, event):
+        """What the line of an event tells."""
+        if event.kind == ENTER:
+            return f"block {event.id} width {event.width} body {event.after}"
+        if event.kind == RECORD:
+            said, values = self.values(reader)
+            return " ".join(map(str, ["record", event.code, "by", event.id, "count", event.count, *values])) if said.status == DONE else str(said)
+        return {DEFINE: "define", LEAVE: "end"}.get(event.kind, f"kind {event.kind}")
 
     def ending(self, reader, told):
         """What a reader says at its end: twice the same again, and then closed, and closed again."""

@@ -92,18 +92,49 @@ static uint64_t ask_events(const struct file *file, const struct bs_limits *limi
     return mixed(mixed(sum, fault.reason), fault.bit);
 }
 
+/* Names of which some stand in most files, with BLOCKINFO blocks or without. */
+static struct bs_left_out some_names(int with_info) {
+    static const uint32_t blocks[] = {12, 5};
+    static const struct bs_record_name records[] = {{8, 1}, {9, 100}};
+    struct bs_left_out left_out = {!with_info, blocks, 2, records, 2};
+    return left_out;
+}
+
+/* A file beside itself with one bit turned, at up to eight places. */
+static uint64_t ask_differences(const struct file *file, const struct bs_limits *limits, uint64_t sum) {
+    struct bs_left_out left_out = some_names(1);
+    struct bs_open_block room[255];
+    struct bs_difference difference;
+    struct bs_fault fault;
+    uint8_t *turned = room_for(file->len);
+    memset(&difference, 0, sizeof difference);
+    memset(room, 0, sizeof room);
+    memcpy(turned, file->at, file->len);
+    for (size_t place = 0; place < 8; place++) {
+        size_t at = file->len / 8 * place;
+        turned[at] ^= 1 << place;
+        count_memory(1);
+        uint32_t status = noted(bs_first_difference(file->at, file->len, turned, file->len, limits, &left_out, &difference, room, 255, &fault));
+        count_memory(0);
+        turned[at] ^= 1 << place;
+        sum = mixed(mixed(mixed(sum, status), difference.depth), difference.second.bit);
+        for (size_t i = 0; i < difference.depth; i++) sum = mixed(sum, room[i].items);
+    }
+    free(turned);
+    return sum;
+}
+
 /* The texts go into room for 32 times the file and 64 KiB, which these files need less than. */
 static uint64_t ask_texts(const struct file *file, const struct bs_limits *limits, uint64_t sum) {
-    struct bs_left_out left_out = {false};
     struct bs_fault fault;
     size_t len = 32 * file->len + 65536, needed = 0;
     uint8_t *room = room_for(len);
     for (int call = 0; call < 4; call++) {
-        left_out.info = call == 1;
+        struct bs_left_out left_out = some_names(call == 1);
         count_memory(1);
         uint32_t status = call < 2    ? bs_normal(file->at, file->len, limits, &left_out, room, len, &needed, &fault)
                           : call == 2 ? bs_report(file->at, file->len, limits, room, len, &needed, &fault)
-                                      : bs_show(file->at, file->len, limits, room, len, &needed, &fault);
+                                      : bs_show(file->at, file->len, limits, &left_out, room, len, &needed, &fault);
         count_memory(0);
         sum = mixed(mixed(sum, noted(status)), needed);
         if (status == BS_DONE) sum = mixed_text(sum, room, needed);
@@ -114,7 +145,7 @@ static uint64_t ask_texts(const struct file *file, const struct bs_limits *limit
 
 static uint64_t ask_held(const struct file *file, const struct bs_limits *limits, uint64_t sum) {
     struct bs_handle handle = {0};
-    struct bs_left_out left_out = {true};
+    struct bs_left_out left_out = some_names(0);
     struct bs_fault fault;
     size_t needed = 0;
     uint8_t none[1];
@@ -122,7 +153,7 @@ static uint64_t ask_held(const struct file *file, const struct bs_limits *limits
         count_memory(1);
         uint32_t status = call == 0   ? bs_hold_normal(file->at, file->len, limits, &left_out, &handle, &fault)
                           : call == 1 ? bs_hold_report(file->at, file->len, limits, &handle, &fault)
-                                      : bs_hold_show(file->at, file->len, limits, &handle, &fault);
+                                      : bs_hold_show(file->at, file->len, limits, &left_out, &handle, &fault);
         noted(status);
         if (status == BS_DONE) bs_text(&handle, none, 0, &needed, &fault);
         count_memory(0);
@@ -152,13 +183,14 @@ static uint64_t ask_rows(const struct file *file, const struct bs_limits *limits
 
 static uint64_t ask(const struct file *file) {
     struct bs_limits limits;
-    struct bs_left_out left_out = {false};
+    struct bs_left_out left_out = BS_WHOLE;
     struct bs_fault fault;
     bs_usual_limits(&limits);
     count_memory(1);
     uint64_t sum = mixed(14695981039346656037u, noted(bs_check(file->at, file->len, &limits, &fault)));
     sum = mixed(sum, noted(bs_same(file->at, file->len, file->at, file->len, &limits, &left_out, &fault)));
     count_memory(0);
+    sum = ask_differences(file, &limits, sum);
     return ask_held(file, &limits, ask_rows(file, &limits, ask_texts(file, &limits, ask_events(file, &limits, sum))));
 }
 

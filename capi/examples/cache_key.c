@@ -31,10 +31,11 @@ static uint8_t *bytes_of(const char *path, size_t *len) {
 /* The normal form of bytes, in memory that the caller frees. */
 static uint32_t normal_of(const uint8_t *bytes, size_t len, uint8_t **form, size_t *needed, struct bs_fault *fault) {
     struct bs_limits limits;
-    const struct bs_left_out left_out = {true};
+    struct bs_left_out left_out = BS_WHOLE;
     /* Most files have a shorter normal form than themselves. */
     size_t room = len + len / 4 + 64;
     bs_usual_limits(&limits);
+    left_out.info = true;
     for (;;) {
         uint8_t *at = malloc(room);
         if (!at) return BS_MEMORY;

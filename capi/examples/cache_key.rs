@@ -12,10 +12,30 @@ mod bitstream {
         pub shapes_at_use: bool,
     }
 
+    /// Records with this code that stand directly in blocks with this id, which is not 0.
     #[repr(C)]
+    #[derive(Clone, Copy, Debug)]
+    pub struct RecordName {
+        pub block: u32,
+        pub code: u64,
+    }
+
+    /// What is left out: BLOCKINFO blocks, blocks by their ids, and records by their names.
     #[derive(Clone, Copy, Debug, Default)]
-    pub struct LeftOut {
+    pub struct LeftOut<'a> {
         pub info: bool,
+        pub blocks: &'a [u32],
+        pub records: &'a [RecordName],
+    }
+
+    /// What is left out, as it is passed.
+    #[repr(C)]
+    struct Names {
+        info: bool,
+        blocks: *const u32,
+        blocks_len: usize,
+        records: *const RecordName,
+        records_len: usize,
     }
 
     #[repr(C)]
@@ -38,7 +58,7 @@ mod bitstream {
             bytes: *const u8,
             bytes_len: usize,
             limits: &Limits,
-            left_out: &LeftOut,
+            left_out: &Names,
             room: *mut u8,
             room_len: usize,
             needed: &mut usize,
@@ -56,13 +76,21 @@ mod bitstream {
     }
 
     /// The normal form of bytes, whole or without what is left out.
-    pub fn normal(bytes: &[u8], limits: &Limits, left_out: &LeftOut) -> Result<Vec<u8>, Error> {
+    pub fn normal(bytes: &[u8], limits: &Limits, left_out: &LeftOut<'_>) -> Result<Vec<u8>, Error> {
+        let LeftOut { info, blocks, records } = *left_out;
+        let names = Names {
+            info,
+            blocks: blocks.as_ptr(),
+            blocks_len: blocks.len(),
+            records: records.as_ptr(),
+            records_len: records.len(),
+        };
         let mut form = vec![0; bytes.len() + bytes.len() / 4 + 64];
         loop {
             let (mut needed, mut fault) = (0, Fault::default());
             let (from, to) = (bytes.as_ptr(), form.as_mut_ptr());
             // SAFETY: each pointer and its length are those of one slice; `form` is initialised, and borrowed alone.
-            let status = unsafe { bs_normal(from, bytes.len(), limits, left_out, to, form.len(), &mut needed, &mut fault) };
+            let status = unsafe { bs_normal(from, bytes.len(), limits, &names, to, form.len(), &mut needed, &mut fault) };
             match status {
                 0 => {
                     form.truncate(needed);
@@ -81,7 +109,7 @@ fn hash_of(bytes: &[u8]) -> u64 {
 }
 
 fn main() -> std::io::Result<()> {
-    let (limits, left_out) = (bitstream::Limits::default(), bitstream::LeftOut { info: true });
+    let (limits, left_out) = (bitstream::Limits::default(), bitstream::LeftOut { info: true, ..Default::default() });
     for path in std::env::args().skip(1) {
         match bitstream::normal(&std::fs::read(&path)?, &limits, &left_out) {
             Ok(form) => println!("{:016x} {path}", hash_of(&form)),

@@ -2,7 +2,7 @@
 use Rattle.std.proofs.Common.{ℕ, List, sym, subst}
 use Rattle.std.specs.Prelude.{Option, Some, None}
 use Rattle.bit_c.specs.declared.outcome.Outcome.{Outcome}
-use Rattle.bit_c.specs.declared.outcome.Outcome.TheVariants.{Done, Different, Refused, Memory, TooLong, Limits, Room, Closed}
+use Rattle.bit_c.specs.declared.outcome.Outcome.TheVariants.{Done, Different, Refused, Memory, TooLong, Limits, Room, Closed, Names}
 use Rattle.bit_c.specs.Handing.{HandsOut, Hands, Makes, Gives}
 
 -- a text that was made was handed out
@@ -15,6 +15,7 @@ given IsText Stops text old new needed Memory is h = absurd h
 given IsText Stops text old new needed TooLong is h = absurd h
 given IsText Stops text old new needed Limits is h = absurd h
 given IsText Stops text old new needed Closed is h = absurd h
+given IsText Stops text old new needed Names is h = absurd h
 
 -- what a call made was handed out, or nothing was made
 pub handed : (IsText : List ℕ → Type 0) (Stops : Outcome → Type 0) (made : Outcome) (text : Option (List ℕ)) (old new : List ℕ) (needed : ℕ) (outcome : Outcome)
@@ -28,3 +29,4 @@ handed IsText Stops Memory text old new needed outcome is h = subst (Gives IsTex
 handed IsText Stops TooLong text old new needed outcome is h = subst (Gives IsText Stops old needed new) (sym h.1) (is, h.0)
 handed IsText Stops Limits text old new needed outcome is h = subst (Gives IsText Stops old needed new) (sym h.1) (is, h.0)
 handed IsText Stops Closed text old new needed outcome is h = subst (Gives IsText Stops old needed new) (sym h.1) (is, h.0)
+handed IsText Stops Names text old new needed outcome is h = subst (Gives IsText Stops old needed new) (sym h.1) (is, h.0)

@@ -1,7 +1,8 @@
 -- Inputs that are bytes in memory.
-use Rattle.std.proofs.Common.{◌≡◌, ℕ, List, Result, Err, Some, refl, sym, subst, inr}
+use Rattle.std.proofs.Common.{◌≡◌, ℕ, List, Result, Ok, Err, Some, refl, sym, subst, inr, ◌∙◌}
 use Rattle.std.specs.Prelude.{Option, IsSome}
 use Rattle.bit_grammar.specs.declared.reason.Reason.{Reason}
+use Rattle.bit_grammar.specs.Setting.{Setting}
 use Rattle.bit_grammar.specs.Grammar.{at}
 use Rattle.bit_grammar.specs.Blocks as blocks
 use Rattle.bit_grammar.specs.Input.{BreaksInput}
@@ -13,11 +14,19 @@ use Rattle.bit_c.specs.declared.outcome.Outcome.{Outcome}
 use Rattle.bit_c.specs.declared.outcome.Outcome.TheVariants.{Refused, Memory}
 use Rattle.bit_grammar.specs.Normal.{Capped}
 use Rattle.bit_c.specs.Ending.{ended_by}
-use Rattle.bit_c.specs.Limiting.{Within}
+use Rattle.bit_c.specs.Limiting.{Asks, Told, Within, asked_setting, setting_told}
+use Rattle.bit_c.specs.declared.left_out.Asked.{Asked}
+use Rattle.bit_c.specs.declared.left_out.BsLeftOut.{BsLeftOut}
 
 -- what is so under limits within their caps
 pub within : (limits told : blocks.Limits) (Leaves : Type 0) (Says : blocks.Limits → Outcome → Type 0) (outcome : Outcome) → limits ≡ told → Capped limits → Says limits outcome → Within told Leaves (Says told) outcome
 within limits told Leaves Says outcome same capped h = inr (subst Capped same capped, subst (λ (l : blocks.Limits). Says l outcome) same h)
+
+-- what is so under limits and by names that are fit
+pub as_asked : (limits : blocks.Limits) (out : BsLeftOut) (asked : Asked) (setting : Setting) (Leaves : Type 0) (Says : blocks.Limits → Setting → Outcome → Type 0) (outcome : Outcome)
+    → Told limits out (Ok asked) → setting ≡ asked_setting asked → Says asked.limits setting outcome → Asks limits out Leaves (Says limits (setting_told out)) outcome
+as_asked limits out asked setting Leaves Says outcome told same h =
+    inr (told.1, told.2, subst (λ (s : Setting). Says limits s outcome) (same ∙ told.3) (subst (λ (l : blocks.Limits). Says l setting outcome) told.0 h))
 
 -- what is said of bytes that are told is said of these
 pub known : (to_come : Option (List ℕ)) (bytes : List ℕ) (P : List ℕ → Type 0) → to_come ≡ Some bytes → (IsSome to_come → P (known_bytes to_come)) → P bytes

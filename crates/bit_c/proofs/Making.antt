@@ -1,8 +1,7 @@
 -- Texts that were made or not.
 use Rattle.std.proofs.Common.{◌≡◌, ℕ, List, Result, Err, Some, refl, sym, subst}
 use Rattle.std.specs.Prelude.{Option}
-use Rattle.bit_grammar.specs.declared.info.Info.{Info}
-use Rattle.bit_grammar.specs.Setting.{keep, setting_of}
+use Rattle.bit_grammar.specs.Setting.{Setting, keep}
 use Rattle.bit_grammar.specs.Grammar.{at}
 use Rattle.bit_grammar.specs.Blocks as blocks
 use Rattle.bit_grammar.specs.Input.{BreaksInput}
@@ -20,26 +19,26 @@ use Rattle.bit_c.specs.Ending.{ended_by}
 use Rattle.bit_c.specs.Handing.{Makes}
 use Rattle.bit_c.proofs.Inputs.{known}
 
-by_fault : (info : Info) (limits : blocks.Limits) (i now : Incoming) (bytes : List ℕ) (old new : Outgoing) (why : Fault) (text : Option (List ℕ)) → i.to_come ≡ Some bytes
-    → Normalises (setting_of info) limits i old (Err why) now new → Makes (IsText (Form info) limits bytes) (FailsText (Form info) limits bytes) (ended_by 0 why) text
-by_fault info limits i now bytes old new (fault.Refused reason bit) text is h = (refl, known i.to_come bytes (λ b. BreaksInput limits b (at reason bit)) is h.0.1)
-by_fault info limits i now bytes old new fault.OutputTooLong text is h = (h.0, known i.to_come bytes (λ b. HasTree (setting_of info) limits b h.0) is (λ tells. (h.1.1 tells).0.0), h.2.0)
-by_fault info limits i now bytes old new fault.Write text is h = tt
-by_fault info limits i now bytes old new fault.Read text is h = tt
-by_fault info limits i now bytes old new fault.Memory text is h = tt
-by_fault info limits i now bytes old new fault.Failed text is h = absurd h
+by_fault : (setting : Setting) (limits : blocks.Limits) (i now : Incoming) (bytes : List ℕ) (old new : Outgoing) (why : Fault) (text : Option (List ℕ)) → i.to_come ≡ Some bytes
+    → Normalises setting limits i old (Err why) now new → Makes (IsText Form setting limits bytes) (FailsText Form setting limits bytes) (ended_by 0 why) text
+by_fault setting limits i now bytes old new (fault.Refused reason bit) text is h = (refl, known i.to_come bytes (λ b. BreaksInput limits b (at reason bit)) is h.0.1)
+by_fault setting limits i now bytes old new fault.OutputTooLong text is h = (h.0, known i.to_come bytes (λ b. HasTree setting limits b h.0) is (λ tells. (h.1.1 tells).0.0), h.2.0)
+by_fault setting limits i now bytes old new fault.Write text is h = tt
+by_fault setting limits i now bytes old new fault.Read text is h = tt
+by_fault setting limits i now bytes old new fault.Memory text is h = tt
+by_fault setting limits i now bytes old new fault.Failed text is h = absurd h
 
 -- no form was made
-pub not_made : (info : Info) (limits : blocks.Limits) (i now : Incoming) (bytes : List ℕ) (old new : Outgoing) (answer : Result ℕ Fault) (why : Fault) (outcome : Outcome) (text : Option (List ℕ))
-    → i.to_come ≡ Some bytes → answer ≡ Err why → outcome ≡ ended_by 0 why → Normalises (setting_of info) limits i old answer now new → Makes (IsText (Form info) limits bytes) (FailsText (Form info) limits bytes) outcome text
-not_made info limits i now bytes old new answer why outcome text is is_err ended h =
-    subst (λ (o : Outcome). Makes (IsText (Form info) limits bytes) (FailsText (Form info) limits bytes) o text) (sym ended)
-    (by_fault info limits i now bytes old new why text is (subst (λ (a : Result ℕ Fault). Normalises (setting_of info) limits i old a now new) is_err h))
+pub not_made : (setting : Setting) (limits : blocks.Limits) (i now : Incoming) (bytes : List ℕ) (old new : Outgoing) (answer : Result ℕ Fault) (why : Fault) (outcome : Outcome) (text : Option (List ℕ))
+    → i.to_come ≡ Some bytes → answer ≡ Err why → outcome ≡ ended_by 0 why → Normalises setting limits i old answer now new → Makes (IsText Form setting limits bytes) (FailsText Form setting limits bytes) outcome text
+not_made setting limits i now bytes old new answer why outcome text is is_err ended h =
+    subst (λ (o : Outcome). Makes (IsText Form setting limits bytes) (FailsText Form setting limits bytes) o text) (sym ended)
+    (by_fault setting limits i now bytes old new why text is (subst (λ (a : Result ℕ Fault). Normalises setting limits i old a now new) is_err h))
 
 -- ---- reports and listings
 
 unreported : (limits : blocks.Limits) (i now : Incoming) (bytes : List ℕ) (old new : Outgoing) (why : Fault) (text : Option (List ℕ)) → i.to_come ≡ Some bytes
-    → Reports limits i old (Err why) now new → Makes (IsText Report limits bytes) (FailsText Report limits bytes) (ended_by 0 why) text
+    → Reports limits i old (Err why) now new → Makes (IsText Report keep limits bytes) (FailsText Report keep limits bytes) (ended_by 0 why) text
 unreported limits i now bytes old new (fault.Refused reason bit) text is h = (refl, known i.to_come bytes (λ b. BreaksInput limits b (at reason bit)) is h.0.1)
 unreported limits i now bytes old new fault.Write text is h = tt
 unreported limits i now bytes old new fault.Read text is h = tt
@@ -48,22 +47,22 @@ unreported limits i now bytes old new fault.OutputTooLong text is h = absurd h
 unreported limits i now bytes old new fault.Failed text is h = absurd h
 
 pub not_reported : (limits : blocks.Limits) (i now : Incoming) (bytes : List ℕ) (old new : Outgoing) (answer : Result (Unit {0}) Fault) (why : Fault) (outcome : Outcome) (text : Option (List ℕ))
-    → i.to_come ≡ Some bytes → answer ≡ Err why → outcome ≡ ended_by 0 why → Reports limits i old answer now new → Makes (IsText Report limits bytes) (FailsText Report limits bytes) outcome text
+    → i.to_come ≡ Some bytes → answer ≡ Err why → outcome ≡ ended_by 0 why → Reports limits i old answer now new → Makes (IsText Report keep limits bytes) (FailsText Report keep limits bytes) outcome text
 not_reported limits i now bytes old new answer why outcome text is is_err ended h =
-    subst (λ (o : Outcome). Makes (IsText Report limits bytes) (FailsText Report limits bytes) o text) (sym ended)
+    subst (λ (o : Outcome). Makes (IsText Report keep limits bytes) (FailsText Report keep limits bytes) o text) (sym ended)
     (unreported limits i now bytes old new why text is (subst (λ (a : Result (Unit {0}) Fault). Reports limits i old a now new) is_err h))
 
-unlisted : (limits : blocks.Limits) (i now : Incoming) (bytes : List ℕ) (old new : Outgoing) (why : Fault) (text : Option (List ℕ)) → i.to_come ≡ Some bytes
-    → Shows keep limits i old (Err why) now new → Makes (IsText Listing limits bytes) (FailsText Listing limits bytes) (ended_by 0 why) text
-unlisted limits i now bytes old new (fault.Refused reason bit) text is h = (refl, known i.to_come bytes (λ b. BreaksInput limits b (at reason bit)) is h.0.1)
-unlisted limits i now bytes old new fault.Write text is h = tt
-unlisted limits i now bytes old new fault.Read text is h = tt
-unlisted limits i now bytes old new fault.Memory text is h = tt
-unlisted limits i now bytes old new fault.OutputTooLong text is h = absurd h
-unlisted limits i now bytes old new fault.Failed text is h = absurd h
+unlisted : (setting : Setting) (limits : blocks.Limits) (i now : Incoming) (bytes : List ℕ) (old new : Outgoing) (why : Fault) (text : Option (List ℕ)) → i.to_come ≡ Some bytes
+    → Shows setting limits i old (Err why) now new → Makes (IsText Listing setting limits bytes) (FailsText Listing setting limits bytes) (ended_by 0 why) text
+unlisted setting limits i now bytes old new (fault.Refused reason bit) text is h = (refl, known i.to_come bytes (λ b. BreaksInput limits b (at reason bit)) is h.0.1)
+unlisted setting limits i now bytes old new fault.Write text is h = tt
+unlisted setting limits i now bytes old new fault.Read text is h = tt
+unlisted setting limits i now bytes old new fault.Memory text is h = tt
+unlisted setting limits i now bytes old new fault.OutputTooLong text is h = absurd h
+unlisted setting limits i now bytes old new fault.Failed text is h = absurd h
 
-pub not_listed : (limits : blocks.Limits) (i now : Incoming) (bytes : List ℕ) (old new : Outgoing) (answer : Result (Unit {0}) Fault) (why : Fault) (outcome : Outcome) (text : Option (List ℕ))
-    → i.to_come ≡ Some bytes → answer ≡ Err why → outcome ≡ ended_by 0 why → Shows keep limits i old answer now new → Makes (IsText Listing limits bytes) (FailsText Listing limits bytes) outcome text
-not_listed limits i now bytes old new answer why outcome text is is_err ended h =
-    subst (λ (o : Outcome). Makes (IsText Listing limits bytes) (FailsText Listing limits bytes) o text) (sym ended)
-    (unlisted limits i now bytes old new why text is (subst (λ (a : Result (Unit {0}) Fault). Shows keep limits i old a now new) is_err h))
+pub not_listed : (setting : Setting) (limits : blocks.Limits) (i now : Incoming) (bytes : List ℕ) (old new : Outgoing) (answer : Result (Unit {0}) Fault) (why : Fault) (outcome : Outcome) (text : Option (List ℕ))
+    → i.to_come ≡ Some bytes → answer ≡ Err why → outcome ≡ ended_by 0 why → Shows setting limits i old answer now new → Makes (IsText Listing setting limits bytes) (FailsText Listing setting limits bytes) outcome text
+not_listed setting limits i now bytes old new answer why outcome text is is_err ended h =
+    subst (λ (o : Outcome). Makes (IsText Listing setting limits bytes) (FailsText Listing setting limits bytes) o text) (sym ended)
+    (unlisted setting limits i now bytes old new why text is (subst (λ (a : Result (Unit {0}) Fault). Shows setting limits i old a now new) is_err h))

@@ -5,7 +5,7 @@ use Rattle.bit_fields.specs.declared.fault.Fault.{Fault}
 use Rattle.bit_fields.specs.declared.fault.Fault.TheVariants as fault
 use Rattle.bit_c.specs.declared.outcome.BsFault.{BsFault}
 use Rattle.bit_c.specs.declared.outcome.Outcome.{Outcome}
-use Rattle.bit_c.specs.declared.outcome.Outcome.TheVariants.{Done, Different, Refused, Memory, TooLong, Limits, Room, Closed}
+use Rattle.bit_c.specs.declared.outcome.Outcome.TheVariants.{Done, Different, Refused, Memory, TooLong, Limits, Room, Closed, Names}
 
 -- the status
 abbrev pub number_of : Outcome → ℕ
@@ -17,6 +17,7 @@ number_of TooLong = 4
 number_of Limits = 5
 number_of Room = 6
 number_of Closed = 7
+number_of Names = 8
 
 abbrev pub no_fault : BsFault
 no_fault = record { reason = 0; input = 0; bit = 0 }
@@ -31,6 +32,7 @@ fault_of TooLong = no_fault
 fault_of Limits = no_fault
 fault_of Room = no_fault
 fault_of Closed = no_fault
+fault_of Names = no_fault
 
 -- how a call ends that meets a fault of an input
 abbrev pub ended_by : ℕ → Fault → Outcome

@@ -1,5 +1,6 @@
 -- Texts that are held behind a handle.
 use Rattle.std.specs.Prelude.{◌≡◌, ⊤, ℕ, List, Option, Some, None}
+use Rattle.bit_grammar.specs.Setting.{Setting}
 use Rattle.bit_grammar.specs.Blocks as blocks
 use Rattle.bit_c.specs.declared.home.Home.{Home}
 use Rattle.bit_c.specs.declared.home.Home.TheVariants as home
@@ -16,10 +17,10 @@ PutsBehind text None Memory = ⊤
 PutsBehind text new outcome = ⊥
 
 -- The text was made and is held behind a handle; or it was not, for this reason, and the handle is closed.
-abbrev pub Holds : Text → blocks.Limits → List ℕ → Option Home → Outcome → Type 0
-Holds text limits bytes (Some (home.Text made)) Done = IsText text limits bytes made.bytes.items
-Holds text limits bytes (Some other) outcome = ⊥
-Holds text limits bytes None outcome = FailsText text limits bytes outcome
+abbrev pub Holds : Text → Setting → blocks.Limits → List ℕ → Option Home → Outcome → Type 0
+Holds text setting limits bytes (Some (home.Text made)) Done = IsText text setting limits bytes made.bytes.items
+Holds text setting limits bytes (Some other) outcome = ⊥
+Holds text setting limits bytes None outcome = FailsText text setting limits bytes outcome
 
 -- The text that is held was handed out; or none is, which is said.
 abbrev pub TellsText : Option (List ℕ) → List ℕ → ℕ → List ℕ → Outcome → Type 0

@@ -1,5 +1,6 @@
 pub mod Calls
 pub mod Comparing
+pub mod Differing
 pub mod Ending
 pub mod Handing
 pub mod Held

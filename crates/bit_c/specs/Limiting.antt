@@ -1,16 +1,19 @@
 -- Limits, and what is left out, as C hands them in.
-use Rattle.std.specs.Prelude.{◌≡◌, ◌⊎◌, if◌then◌else◌}
-use Rattle.bit_grammar.specs.declared.info.Info.{Info}
-use Rattle.bit_grammar.specs.declared.info.Info.TheVariants.{Keep, Drop}
+use Rattle.std.specs.Prelude.{◌≡◌, ◌⊎◌, ◌∷◌, ◌==◌, ℕ, Bool, false, IsTrue, List, map, Result, Ok, Err, if◌then◌else◌}
+use Rattle.std.specs.List.{list_any}
+use Rattle.bit_grammar.specs.declared.info.RecordName.{RecordName}
 use Rattle.bit_grammar.specs.declared.shapes.Shapes.{Shapes}
 use Rattle.bit_grammar.specs.declared.shapes.Shapes.TheVariants.{AtDefinition, AtUse}
+use Rattle.bit_grammar.specs.Setting.{Setting}
 use Rattle.bit_grammar.specs.Blocks as blocks
 use Rattle.bit_grammar.specs.Normal.{Capped}
 use Rattle.bit_fields.specs.Opening.{PassCaps}
+use Rattle.bit_c.specs.declared.left_out.Asked.{Asked}
 use Rattle.bit_c.specs.declared.left_out.BsLeftOut.{BsLeftOut}
+use Rattle.bit_c.specs.declared.left_out.BsRecordName.{BsRecordName}
 use Rattle.bit_c.specs.declared.limits.BsLimits.{BsLimits}
 use Rattle.bit_c.specs.declared.outcome.Outcome.{Outcome}
-use Rattle.bit_c.specs.declared.outcome.Outcome.TheVariants.{Limits}
+use Rattle.bit_c.specs.declared.outcome.Outcome.TheVariants.{Limits, Names, Memory}
 
 -- where the shapes of definitions are judged
 abbrev pub shapes_told : BsLimits → Shapes
@@ -19,10 +22,42 @@ shapes_told l = if l.shapes_at_use then AtUse else AtDefinition
 abbrev pub limits_told : BsLimits → blocks.Limits
 limits_told l = record { bytes = l.bytes; depth = l.depth; values = l.values; shapes = shapes_told l }
 
--- the setting
-abbrev pub info_of : BsLeftOut → Info
-info_of out = if out.info then Drop else Keep
-
 -- A limit is past its cap, and the call said so and left all as it was; or none is, and this holds of how it ended.
 abbrev pub Within : blocks.Limits → (Leaves : Type 0) → (Outcome → Type 0) → Outcome → Type 0
 Within limits Leaves Says outcome = ((outcome ≡ Limits) × PassCaps limits × Leaves) ⊎ (Capped limits × Says outcome)
+
+-- ---- what is left out
+
+abbrev pub name_told : BsRecordName → RecordName
+name_told name = record { block = name.block; code = name.code }
+
+-- the ids of the blocks that are left out
+abbrev pub blocks_told : BsLeftOut → List ℕ
+blocks_told out = if out.info then 0 ∷ out.blocks.now else out.blocks.now
+
+-- the setting
+abbrev pub setting_told : BsLeftOut → Setting
+setting_told out = record { blocks = blocks_told out; records = map name_told out.records.now }
+
+-- whether records of BLOCKINFO blocks are named
+abbrev pub names_info : BsLeftOut → Bool
+names_info out = list_any (λ name. name.block == 0) out.records.now
+
+-- why a call did nothing: a limit is past its cap; or records of BLOCKINFO blocks are named; or there was no memory
+abbrev pub Declines : blocks.Limits → BsLeftOut → Outcome → Type 0
+Declines limits out Limits = PassCaps limits
+Declines limits out Names = Capped limits × IsTrue (names_info out)
+Declines limits out Memory = Capped limits × (names_info out ≡ false)
+Declines limits out outcome = ⊥
+
+-- The call did nothing for such a reason, and left all as it was; or limits and names are fit, and this holds of how it ended.
+abbrev pub Asks : blocks.Limits → BsLeftOut → (Leaves : Type 0) → (Outcome → Type 0) → Outcome → Type 0
+Asks limits out Leaves Says outcome = (Declines limits out outcome × Leaves) ⊎ (Capped limits × (names_info out ≡ false) × Says outcome)
+
+abbrev pub asked_setting : Asked → Setting
+asked_setting asked = record { blocks = asked.blocks.items; records = asked.records.items }
+
+-- these limits and this setting were told; or not, for such a reason
+abbrev pub Told : blocks.Limits → BsLeftOut → Result Asked Outcome → Type 0
+Told limits out (Ok asked) = (asked.limits ≡ limits) × Capped limits × (names_info out ≡ false) × (asked_setting asked ≡ setting_told out)
+Told limits out (Err outcome) = Declines limits out outcome

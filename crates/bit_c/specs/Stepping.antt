@@ -16,17 +16,18 @@ use Rattle.bit_c.specs.Calls.{Fails}
 use Rattle.bit_c.specs.Ending.{ended_by}
 use Rattle.bit_c.specs.Handing.{HandsOut, Leaves}
 
--- an event as it is shown, or that none is left
-abbrev pub Shows : BsEvent → Option Event → Type 0
-Shows e None = e.kind ≡ 0
-Shows e (Some (enters o)) = (e.kind ≡ 1) × (e.id ≡ o.id) × (e.width ≡ o.width) × (e.first ≡ o.first) × (e.after ≡ o.body)
-Shows e (Some (defines mark)) = (e.kind ≡ 2) × (e.first ≡ mark.first) × (e.after ≡ mark.after)
-Shows e (Some (notes mark)) = (e.kind ≡ 3) × (e.id ≡ mark.abbreviation) × (e.code ≡ mark.code) × (e.count ≡ length mark.values) × (e.first ≡ mark.first) × (e.after ≡ mark.after)
-Shows e (Some (leaves after)) = (e.kind ≡ 4) × (e.after ≡ after)
+-- an event as it is shown, or that none is left; what its kind does not name is 0
+abbrev pub event_told : Option Event → BsEvent
+event_told None = record { kind = 0; id = 0; width = 0; code = 0; count = 0; first = 0; after = 0 }
+event_told (Some (enters o)) = record { kind = 1; id = o.id; width = o.width; code = 0; count = 0; first = o.first; after = o.body }
+event_told (Some (defines mark)) = record { kind = 2; id = 0; width = 0; code = 0; count = 0; first = mark.first; after = mark.after }
+event_told (Some (notes mark)) =
+    record { kind = 3; id = mark.abbreviation; width = 0; code = mark.code; count = length mark.values; first = mark.first; after = mark.after }
+event_told (Some (leaves after)) = record { kind = 4; id = 0; width = 0; code = 0; count = 0; first = 0; after = after }
 
 -- what a call for the next event does, which shows it
 abbrev pub Gets : Coming → Result BsEvent Fault → Coming → Type 0
-Gets old (Ok e) new = (event : Option Event) × Shows e event × Goes old (Ok event) new
+Gets old (Ok e) new = (event : Option Event) × (e ≡ event_told event) × Goes old (Ok event) new
 Gets old (Err fault) new = Goes old (Err fault) new
 
 -- ---- a handle

@@ -1,6 +1,6 @@
 -- The texts that calls make of an input.
 use Rattle.std.specs.Prelude.{◌≡◌, ◌<◌, ℕ, List}
-use Rattle.bit_grammar.specs.Setting.{keep, setting_of}
+use Rattle.bit_grammar.specs.Setting.{Setting}
 use Rattle.bit_grammar.specs.Bits.{bits_of_bytes}
 use Rattle.bit_grammar.specs.Forest.{Tree}
 use Rattle.bit_grammar.specs.Blocks as blocks
@@ -17,17 +17,17 @@ use Rattle.bit_c.specs.Calls.{Fails}
 use Rattle.bit_c.specs.Handing.{Gives}
 
 -- A text is the normal form of the tree that the bytes spell under a setting, the report of their analysis, or the listing of
--- their whole tree.
-abbrev pub IsText : Text → blocks.Limits → List ℕ → List ℕ → Type 0
-IsText (Form info) limits bytes text = (tree : Tree) × HasTree (setting_of info) limits bytes tree × (bits_of_bytes text ≡ normal_form tree)
-IsText Report limits bytes text = (tally : Tally) × HasTally limits bytes tally × (text ≡ report_of tally)
-IsText Listing limits bytes text = (tree : Tree) × HasTree keep limits bytes tree × (text ≡ listing_of tree)
+-- that tree.
+abbrev pub IsText : Text → Setting → blocks.Limits → List ℕ → List ℕ → Type 0
+IsText Form setting limits bytes text = (tree : Tree) × HasTree setting limits bytes tree × (bits_of_bytes text ≡ normal_form tree)
+IsText Report setting limits bytes text = (tally : Tally) × HasTally limits bytes tally × (text ≡ report_of tally)
+IsText Listing setting limits bytes text = (tree : Tree) × HasTree setting limits bytes tree × (text ≡ listing_of tree)
 
 -- Why a text was not made: the bytes break so; or there was no memory; or their normal form has more bytes than the limit.
-abbrev pub FailsText : Text → blocks.Limits → List ℕ → Outcome → Type 0
-FailsText (Form info) limits bytes TooLong = (tree : Tree) × HasTree (setting_of info) limits bytes tree × (limits.bytes < size_of tree)
-FailsText text limits bytes outcome = Fails limits bytes outcome
+abbrev pub FailsText : Text → Setting → blocks.Limits → List ℕ → Outcome → Type 0
+FailsText Form setting limits bytes TooLong = (tree : Tree) × HasTree setting limits bytes tree × (limits.bytes < size_of tree)
+FailsText text setting limits bytes outcome = Fails limits bytes outcome
 
 -- The text was handed out; or the room has not enough for it; or nothing was handed out, for this reason.
-abbrev pub GivesText : Text → blocks.Limits → List ℕ → List ℕ → ℕ → List ℕ → Outcome → Type 0
-GivesText text limits bytes = Gives (IsText text limits bytes) (FailsText text limits bytes)
+abbrev pub GivesText : Text → Setting → blocks.Limits → List ℕ → List ℕ → ℕ → List ℕ → Outcome → Type 0
+GivesText text setting limits bytes = Gives (IsText text setting limits bytes) (FailsText text setting limits bytes)

@@ -1,20 +1,22 @@
 //! Texts that are held behind a handle, so that they are made once and their length is known before there is room for them.
 
 ghost use Rattle.std.specs.Prelude.{◌≡◌, None, Some};
+ghost use Rattle.bit_grammar.specs.Setting.{keep, setting_of};
 ghost use Rattle.bit_c.specs.Ending.{Ends};
 ghost use Rattle.bit_c.specs.Holding.{Holds, PutsBehind, TellsText};
-ghost use Rattle.bit_c.specs.Limiting.{Within, limits_told, info_of};
+ghost use Rattle.bit_c.specs.Limiting.{Asks, Within, limits_told, setting_told};
 ghost use Rattle.bit_c.specs.Opened.{text_of};
 ghost use Rattle.bit_c.specs.declared.texts.Text.{Text as TextTold};
 
 use crate::handle::{BsHandle, opened, take_out};
 use crate::home::Home;
-use crate::left_out::BsLeftOut;
+use crate::left_out::{BsLeftOut, asked_of};
 use crate::limits::BsLimits;
 use crate::outcome::{BsFault, Outcome};
 use crate::room::hand_out;
 use crate::texts::{Text, make};
 use bit_fields::{Limits, VecSink};
+use bit_norm::Info;
 use std::alloc::Global;
 
 /// Puts a text behind a handle that is closed.
@@ -32,31 +34,55 @@ fn put_behind(alloc: Global, made: VecSink, handle: &mut BsHandle) -> Outcome
 }
 
 /// Makes a text of what bytes hold, and puts it behind a handle that is closed.
-fn hold(alloc: Global, bytes: &[u8], limits: Limits, text: Text<'_>, handle: &mut BsHandle) -> Outcome
+fn hold(
+    alloc: Global,
+    bytes: &[u8],
+    limits: Limits,
+    text: Text,
+    info: Info<'_>,
+    handle: &mut BsHandle,
+) -> Outcome
     requires { handle.old.inner.home ≡ None }
-    ensures { Holds text.entry limits bytes.now handle.new.inner.home result }
+    ensures { Holds text (setting_of info.entry) limits bytes.now handle.new.inner.home result }
 {
-    let (outcome, made) = make(alloc, bytes, limits, text);
+    let (outcome, made) = make(alloc, bytes, limits, text, info);
     match outcome {
         Outcome::Done => put_behind(alloc, made, handle),
         other => other,
     }
 }
 
-/// The same under limits that may be past their caps, and behind a handle that may be open.
-fn hold_within(
+/// The report, under limits that may be past their caps, and behind a handle that may be open.
+fn hold_report_within(
     alloc: Global,
     bytes: &[u8],
     limits: &BsLimits,
-    text: Text<'_>,
     handle: &mut BsHandle,
 ) -> Outcome
-    ensures { let l = limits_told limits.now in let new = handle.new.inner.home in Within l (new ≡ None) (Holds text.entry l bytes.now new) result }
+    ensures { let l = limits_told limits.now in let new = handle.new.inner.home in Within l (new ≡ None) (Holds TextTold.Report keep l bytes.now new) result }
 {
     let _ = take_out(alloc, handle);
     match limits.told() {
-        Some(limits) => hold(alloc, bytes, limits, text, handle),
+        Some(limits) => hold(alloc, bytes, limits, Text::Report, Info::Keep, handle),
         None => Outcome::Limits,
+    }
+}
+
+/// A text of what is not left out, under limits and by names that may be unfit, and behind a handle that may be open.
+fn hold_asked(
+    alloc: Global,
+    bytes: &[u8],
+    limits: &BsLimits,
+    left_out: &BsLeftOut<'_>,
+    text: Text,
+    handle: &mut BsHandle,
+) -> Outcome
+    ensures { let l = limits_told limits.now in let new = handle.new.inner.home in Asks l left_out.now (new ≡ None) (Holds text (setting_told left_out.now) l bytes.now new) result }
+{
+    let _ = take_out(alloc, handle);
+    match asked_of(alloc, limits, left_out) {
+        Ok(asked) => hold(alloc, bytes, asked.limits, text, asked.setting(), handle),
+        Err(outcome) => outcome,
     }
 }
 
@@ -67,14 +93,13 @@ pub extern "C" fn bs_hold_normal(
     alloc: Global,
     bytes: &[u8],
     limits: &BsLimits,
-    left_out: &BsLeftOut,
+    left_out: &BsLeftOut<'_>,
     handle: &mut BsHandle,
     fault: &mut BsFault,
 ) -> u32
-    ensures { let l = limits_told limits.now in let new = handle.new.inner.home in let text = TextTold.Form (info_of left_out.now) in Ends result fault.new (Within l (new ≡ None) (Holds text l bytes.now new)) }
+    ensures { let l = limits_told limits.now in let new = handle.new.inner.home in Ends result fault.new (Asks l left_out.now (new ≡ None) (Holds TextTold.Form (setting_told left_out.now) l bytes.now new)) }
 {
-    let text = Text::Form(left_out.setting());
-    hold_within(alloc, bytes, limits, text, handle).tell(fault)
+    hold_asked(alloc, bytes, limits, left_out, Text::Form, handle).tell(fault)
 }
 
 /// The same of the report of an analysis of bytes.
@@ -86,23 +111,24 @@ pub extern "C" fn bs_hold_report(
     handle: &mut BsHandle,
     fault: &mut BsFault,
 ) -> u32
-    ensures { let l = limits_told limits.now in let new = handle.new.inner.home in Ends result fault.new (Within l (new ≡ None) (Holds TextTold.Report l bytes.now new)) }
+    ensures { let l = limits_told limits.now in let new = handle.new.inner.home in Ends result fault.new (Within l (new ≡ None) (Holds TextTold.Report keep l bytes.now new)) }
 {
-    hold_within(alloc, bytes, limits, Text::Report, handle).tell(fault)
+    hold_report_within(alloc, bytes, limits, handle).tell(fault)
 }
 
-/// The same of the listing of bytes.
+/// The same of the listing of bytes, whole or without what is left out.
 #[unsafe(no_mangle)]
 pub extern "C" fn bs_hold_show(
     alloc: Global,
     bytes: &[u8],
     limits: &BsLimits,
+    left_out: &BsLeftOut<'_>,
     handle: &mut BsHandle,
     fault: &mut BsFault,
 ) -> u32
-    ensures { let l = limits_told limits.now in let new = handle.new.inner.home in Ends result fault.new (Within l (new ≡ None) (Holds TextTold.Listing l bytes.now new)) }
+    ensures { let l = limits_told limits.now in let new = handle.new.inner.home in Ends result fault.new (Asks l left_out.now (new ≡ None) (Holds TextTold.Listing (setting_told left_out.now) l bytes.now new)) }
 {
-    hold_within(alloc, bytes, limits, Text::Listing, handle).tell(fault)
+    hold_asked(alloc, bytes, limits, left_out, Text::Listing, handle).tell(fault)
 }
 
 /// Hands out the text that a handle leads to.

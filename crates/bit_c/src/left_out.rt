@@ -1,22 +1,112 @@
-//! What of an input is left out.
+//! What of an input is left out, and what is asked of it: that under limits.
 
-ghost use Rattle.std.specs.Prelude.{◌≡◌};
-ghost use Rattle.bit_c.specs.Limiting.{info_of};
+ghost use Rattle.std.specs.Prelude.{◌≡◌, ◌==◌, ◌++◌, map, if◌then◌else◌, IfOk};
+ghost use Rattle.std.specs.List.{list_any};
+ghost use Rattle.bit_grammar.specs.Setting.{setting_of};
+ghost use Rattle.bit_c.specs.Limiting.{Told, asked_setting, blocks_told, limits_told, name_told};
 
-use bit_norm::Info;
+use crate::limits::BsLimits;
+use crate::outcome::Outcome;
+use bit_fields::Limits;
+use bit_norm::{Info, RecordName};
+use std::alloc::{AllocError, Global};
 
-/// What of an input is left out. All zeros where nothing is.
+/// Names records: those with this code that stand directly in blocks with this id. Records of BLOCKINFO blocks have no name,
+/// since what would be left of such a block is no BLOCKINFO block.
 #[repr(C)]
 #[derive(Clone, Copy)]
-pub struct BsLeftOut {
-    /// The BLOCKINFO blocks.
-    pub info: bool,
+pub struct BsRecordName {
+    pub block: u32,
+    pub code: u64,
 }
 
-impl BsLeftOut {
-    pub(crate) fn setting(&self) -> Info<'static>
-        ensures { result ≡ info_of self.now }
+/// What of an input is left out.
+#[repr(C)]
+#[derive(Clone, Copy)]
+pub struct BsLeftOut<'a> {
+    /// The BLOCKINFO blocks, as where block 0 is named.
+    pub info: bool,
+    /// The blocks with these ids, at any depth and with all that they hold.
+    pub blocks: &'a [u32],
+    /// The records with these names.
+    pub records: &'a [BsRecordName],
+}
+
+/// Limits that are within their caps, and the names of what is left out.
+#[derive(Drop)]
+pub(crate) struct Asked {
+    pub(crate) limits: Limits,
+    pub(crate) blocks: Vec<u32>,
+    pub(crate) records: Vec<RecordName>,
+}
+
+impl Asked {
+    pub(crate) fn setting(&self) -> Info<'_>
+        ensures { setting_of result ≡ asked_setting self.now }
     {
-        if self.info { Info::Drop } else { Info::Keep }
+        Info::Without {
+            blocks: &self.blocks,
+            records: &self.records,
+        }
     }
+}
+
+/// Whether one of these names records of BLOCKINFO blocks.
+fn name_info(names: &[BsRecordName]) -> bool
+    ensures { result ≡ list_any (λ name. name.block == 0) names.now }
+{
+    names.iter().any(|name| name.block == 0)
+}
+
+/// The ids of blocks that are left out.
+fn blocks_of(alloc: Global, left_out: &BsLeftOut<'_>) -> Result<Vec<u32>, AllocError>
+    ensures { IfOk result (λ blocks. blocks.items ≡ blocks_told left_out.now) }
+{
+    let mut blocks = Vec::new(alloc);
+    if left_out.info {
+        blocks.push(0)?;
+    }
+    blocks.extend_from_slice(left_out.blocks)?;
+    Ok(blocks)
+}
+
+/// The names of records as the crates below take them.
+fn names_of(alloc: Global, names: &[BsRecordName]) -> Result<Vec<RecordName>, AllocError>
+    ensures { IfOk result (λ out. out.items ≡ map name_told names.now) }
+{
+    let mut out = Vec::new(alloc);
+    for name in names.iter() {
+        out.push(RecordName {
+            block: name.block,
+            code: name.code,
+        })?;
+    }
+    Ok(out)
+}
+
+/// Limits and names as the crates below take them, where these can be.
+pub(crate) fn asked_of(
+    alloc: Global,
+    limits: &BsLimits,
+    left_out: &BsLeftOut<'_>,
+) -> Result<Asked, Outcome>
+    ensures { Told (limits_told limits.now) left_out.now result }
+{
+    let Some(limits) = limits.told() else {
+        return Err(Outcome::Limits);
+    };
+    if name_info(left_out.records) {
+        return Err(Outcome::Names);
+    }
+    let Ok(blocks) = blocks_of(alloc, left_out) else {
+        return Err(Outcome::Memory);
+    };
+    let Ok(records) = names_of(alloc, left_out.records) else {
+        return Err(Outcome::Memory);
+    };
+    Ok(Asked {
+        limits,
+        blocks,
+        records,
+    })
 }

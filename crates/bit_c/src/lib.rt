@@ -5,6 +5,7 @@
 mod analysing;
 mod checking;
 mod comparing;
+mod difference;
 mod event;
 mod handle;
 mod holding;
@@ -23,11 +24,12 @@ mod texts;
 
 pub use analysing::{BsBlockRow, BsCodeRow, BsTally, bs_analyse};
 pub use checking::bs_check;
-pub use comparing::bs_same;
+pub use comparing::{bs_first_difference, bs_same};
+pub use difference::{BsDifference, BsOpenBlock, BsStanding, BsValueDifference};
 pub use event::BsEvent;
 pub use handle::BsHandle;
 pub use holding::{bs_hold_normal, bs_hold_report, bs_hold_show, bs_text};
-pub use left_out::BsLeftOut;
+pub use left_out::{BsLeftOut, BsRecordName};
 pub use limits::{BsLimits, bs_usual_limits};
 pub use outcome::BsFault;
 pub use reading::{bs_close, bs_next, bs_open, bs_values};

@@ -26,6 +26,8 @@ pub(crate) enum Outcome {
     Room,
     /// The handle is closed.
     Closed,
+    /// Records of BLOCKINFO blocks are named to be left out.
+    Names,
 }
 
 /// Why an input was refused. All zeros where none was.
@@ -68,6 +70,7 @@ impl Outcome {
             Outcome::Limits => 5,
             Outcome::Room => 6,
             Outcome::Closed => 7,
+            Outcome::Names => 8,
         }
     }
 

@@ -8,9 +8,9 @@ use bit_fields::Reason;
 /// The version of these calls, structures and numbers: `BS_VERSION` of `capi/bitstream.h`.
 #[unsafe(no_mangle)]
 pub extern "C" fn bs_version() -> u32
-    ensures { result ≡ 1 }
+    ensures { result ≡ 2 }
 {
-    1
+    2
 }
 
 /// The reason with a number.

@@ -1,11 +1,13 @@
 //! Each call once where it succeeds; tests/c_library asks them from outside.
 
+use crate::difference::NO_DIFFERENCE;
 use crate::event::NONE;
 use crate::handle::closed;
 use crate::{
-    BsBlockRow, BsCodeRow, BsEvent, BsFault, BsHandle, BsLeftOut, BsLimits, BsTally, bs_analyse,
-    bs_check, bs_close, bs_hold_normal, bs_hold_report, bs_hold_show, bs_next, bs_normal, bs_open,
-    bs_report, bs_same, bs_show, bs_text, bs_usual_limits, bs_values,
+    BsBlockRow, BsCodeRow, BsEvent, BsFault, BsHandle, BsLeftOut, BsLimits, BsOpenBlock,
+    BsRecordName, BsTally, bs_analyse, bs_check, bs_close, bs_first_difference, bs_hold_normal,
+    bs_hold_report, bs_hold_show, bs_next, bs_normal, bs_open, bs_report, bs_same, bs_show,
+    bs_text, bs_usual_limits, bs_values,
 };
 use std::alloc::Global;
 
@@ -14,13 +16,24 @@ static THIRTY: [u8; 16] = [
     0x42, 0x43, 0xC0, 0xDE, 0x21, 8, 0, 0, 1, 0, 0, 0, 7, 0x81, 7, 0,
 ];
 
+/// The same with the value 31.
+static THIRTY_ONE: [u8; 16] = [
+    0x42, 0x43, 0xC0, 0xDE, 0x21, 8, 0, 0, 1, 0, 0, 0, 7, 0xC1, 7, 0,
+];
+
+static NAMES: [BsRecordName; 1] = [BsRecordName { block: 8, code: 1 }];
+
 const NO_FAULT: BsFault = BsFault {
     reason: 0,
     input: 0,
     bit: 0,
 };
 
-const WHOLE: BsLeftOut = BsLeftOut { info: false };
+const WHOLE: BsLeftOut<'static> = BsLeftOut {
+    info: false,
+    blocks: &[],
+    records: &[],
+};
 
 fn usual() -> BsLimits {
     let mut limits = BsLimits {
@@ -40,6 +53,35 @@ fn judged(alloc: Global) -> [u32; 2] {
     [check, same]
 }
 
+/// How two records with another value compare, whole and without them; and the first values that differ.
+fn compared(alloc: Global, left_out: &BsLeftOut<'_>) -> (u32, usize, [u64; 2]) {
+    let (limits, mut fault, mut difference) = (usual(), NO_FAULT, NO_DIFFERENCE);
+    let mut room = [BsOpenBlock { id: 0, items: 0 }; 2];
+    let status = bs_first_difference(
+        alloc,
+        &THIRTY,
+        &THIRTY_ONE,
+        &limits,
+        left_out,
+        &mut difference,
+        &mut room,
+        &mut fault,
+    );
+    let values = [difference.values.first, difference.values.second];
+    (status, difference.depth, values)
+}
+
+#[test]
+fn what_differs(rt: HostRuntime) {
+    assert!(rt; compared(rt.alloc(), &WHOLE) == (1, 1, [30, 31]));
+    let left_out = BsLeftOut {
+        info: true,
+        blocks: &[],
+        records: &NAMES,
+    };
+    assert!(rt; compared(rt.alloc(), &left_out) == (0, 0, [0, 0]));
+}
+
 /// How the calls for texts end, and how long the normal form is.
 fn given(alloc: Global) -> ([u32; 3], usize) {
     let (limits, mut fault, mut room) = (usual(), NO_FAULT, [0; 128]);
@@ -48,7 +90,9 @@ fn given(alloc: Global) -> ([u32; 3], usize) {
         alloc, &THIRTY, &limits, &WHOLE, &mut room, &mut form, &mut fault,
     );
     let report = bs_report(alloc, &THIRTY, &limits, &mut room, &mut other, &mut fault);
-    let show = bs_show(alloc, &THIRTY, &limits, &mut room, &mut other, &mut fault);
+    let show = bs_show(
+        alloc, &THIRTY, &limits, &WHOLE, &mut room, &mut other, &mut fault,
+    );
     ([normal, report, show], form)
 }
 
@@ -61,7 +105,7 @@ fn what_is_accepted(rt: HostRuntime) {
 fn held(alloc: Global, handle: &mut BsHandle) -> [u32; 4] {
     let (limits, mut fault, mut room, mut needed) = (usual(), NO_FAULT, [0; 64], 0);
     let report = bs_hold_report(alloc, &THIRTY, &limits, handle, &mut fault);
-    let show = bs_hold_show(alloc, &THIRTY, &limits, handle, &mut fault);
+    let show = bs_hold_show(alloc, &THIRTY, &limits, &WHOLE, handle, &mut fault);
     let normal = bs_hold_normal(alloc, &THIRTY, &limits, &WHOLE, handle, &mut fault);
     let text = bs_text(alloc, handle, &mut room, &mut needed, &mut fault);
     [report, show, normal, text]

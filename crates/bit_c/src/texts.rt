@@ -1,12 +1,13 @@
 //! The texts that calls make of an input: its normal form, its report and its listing.
 
+ghost use Rattle.bit_grammar.specs.Setting.{keep, setting_of};
 ghost use Rattle.bit_c.specs.Ending.{Ends};
 ghost use Rattle.bit_c.specs.Handing.{Leaves, Makes};
-ghost use Rattle.bit_c.specs.Limiting.{Within, limits_told, info_of};
+ghost use Rattle.bit_c.specs.Limiting.{Asks, Within, limits_told, setting_told};
 ghost use Rattle.bit_c.specs.Texts.{FailsText, GivesText, IsText};
 ghost use Rattle.bit_c.specs.declared.texts.Text.{Text as TextTold};
 
-use crate::left_out::BsLeftOut;
+use crate::left_out::{BsLeftOut, asked_of};
 use crate::limits::BsLimits;
 use crate::outcome::{BsFault, Outcome};
 use crate::room::hand;
@@ -17,16 +18,17 @@ use std::alloc::Global;
 
 /// A text of an input.
 #[derive(Clone, Copy)]
-pub(crate) enum Text<'a> {
+pub(crate) enum Text {
     /// The normal form, under a setting.
-    Form(Info<'a>),
+    Form,
     Report,
+    /// The listing, under a setting.
     Listing,
 }
 
 /// Makes the normal form of what bytes hold.
 fn form_of(alloc: Global, bytes: &[u8], limits: Limits, info: Info<'_>) -> (Outcome, VecSink)
-    ensures { let text = TextTold.Form info.entry in Makes (IsText text limits bytes.now) (FailsText text limits bytes.now) result.0 (⟦<VecSink as Sink>⟧.outgoing result.1).bytes }
+    ensures { let setting = setting_of info.entry in Makes (IsText TextTold.Form setting limits bytes.now) (FailsText TextTold.Form setting limits bytes.now) result.0 (⟦<VecSink as Sink>⟧.outgoing result.1).bytes }
 {
     let sink = VecSink::new(alloc);
     let (answer, _, sink) = normalise(alloc, SliceSource::new(bytes), sink, limits, info);
@@ -38,7 +40,7 @@ fn form_of(alloc: Global, bytes: &[u8], limits: Limits, info: Info<'_>) -> (Outc
 
 /// Makes the report of what bytes hold.
 fn report_of(alloc: Global, bytes: &[u8], limits: Limits) -> (Outcome, VecSink)
-    ensures { let text = TextTold.Report in Makes (IsText text limits bytes.now) (FailsText text limits bytes.now) result.0 (⟦<VecSink as Sink>⟧.outgoing result.1).bytes }
+    ensures { Makes (IsText TextTold.Report keep limits bytes.now) (FailsText TextTold.Report keep limits bytes.now) result.0 (⟦<VecSink as Sink>⟧.outgoing result.1).bytes }
 {
     let sink = VecSink::new(alloc);
     let (answer, _, sink) = write_report(alloc, SliceSource::new(bytes), sink, limits);
@@ -49,11 +51,11 @@ fn report_of(alloc: Global, bytes: &[u8], limits: Limits) -> (Outcome, VecSink)
 }
 
 /// Makes the listing of what bytes hold.
-fn listing_of(alloc: Global, bytes: &[u8], limits: Limits) -> (Outcome, VecSink)
-    ensures { let text = TextTold.Listing in Makes (IsText text limits bytes.now) (FailsText text limits bytes.now) result.0 (⟦<VecSink as Sink>⟧.outgoing result.1).bytes }
+fn listing_of(alloc: Global, bytes: &[u8], limits: Limits, info: Info<'_>) -> (Outcome, VecSink)
+    ensures { let setting = setting_of info.entry in Makes (IsText TextTold.Listing setting limits bytes.now) (FailsText TextTold.Listing setting limits bytes.now) result.0 (⟦<VecSink as Sink>⟧.outgoing result.1).bytes }
 {
     let sink = VecSink::new(alloc);
-    let (answer, _, sink) = write_show(alloc, SliceSource::new(bytes), sink, limits, Info::Keep);
+    let (answer, _, sink) = write_show(alloc, SliceSource::new(bytes), sink, limits, info);
     match answer {
         Ok(()) => (Outcome::Done, sink),
         Err(fault) => (Outcome::of(0, fault), sink),
@@ -61,13 +63,19 @@ fn listing_of(alloc: Global, bytes: &[u8], limits: Limits) -> (Outcome, VecSink)
 }
 
 /// Makes a text of what bytes hold.
-pub(crate) fn make(alloc: Global, bytes: &[u8], limits: Limits, text: Text<'_>) -> (Outcome, VecSink)
-    ensures { Makes (IsText text.entry limits bytes.now) (FailsText text.entry limits bytes.now) result.0 (⟦<VecSink as Sink>⟧.outgoing result.1).bytes }
+pub(crate) fn make(
+    alloc: Global,
+    bytes: &[u8],
+    limits: Limits,
+    text: Text,
+    info: Info<'_>,
+) -> (Outcome, VecSink)
+    ensures { let setting = setting_of info.entry in Makes (IsText text setting limits bytes.now) (FailsText text setting limits bytes.now) result.0 (⟦<VecSink as Sink>⟧.outgoing result.1).bytes }
 {
     match text {
-        Text::Form(info) => form_of(alloc, bytes, limits, info),
+        Text::Form => form_of(alloc, bytes, limits, info),
         Text::Report => report_of(alloc, bytes, limits),
-        Text::Listing => listing_of(alloc, bytes, limits),
+        Text::Listing => listing_of(alloc, bytes, limits, info),
     }
 }
 
@@ -76,32 +84,61 @@ fn give(
     alloc: Global,
     bytes: &[u8],
     limits: Limits,
-    text: Text<'_>,
+    text: Text,
+    info: Info<'_>,
     room: &mut [u8],
     needed: &mut usize,
 ) -> Outcome
-    ensures { GivesText text.entry limits bytes.now room.old needed.new room.new result }
+    ensures { GivesText text (setting_of info.entry) limits bytes.now room.old needed.new room.new result }
 {
-    let (outcome, made) = make(alloc, bytes, limits, text);
+    let (outcome, made) = make(alloc, bytes, limits, text, info);
     hand(outcome, &made, room, needed)
 }
 
-/// The same under limits that may be past their caps.
-fn give_within(
+/// The report, under limits that may be past their caps.
+fn report_within(
     alloc: Global,
     bytes: &[u8],
     limits: &BsLimits,
-    text: Text<'_>,
     room: &mut [u8],
     needed: &mut usize,
 ) -> Outcome
-    ensures { let l = limits_told limits.now in Within l (Leaves room.old needed.new room.new) (GivesText text.entry l bytes.now room.old needed.new room.new) result }
+    ensures { let l = limits_told limits.now in Within l (Leaves room.old needed.new room.new) (GivesText TextTold.Report keep l bytes.now room.old needed.new room.new) result }
 {
     match limits.told() {
-        Some(limits) => give(alloc, bytes, limits, text, room, needed),
+        Some(limits) => give(alloc, bytes, limits, Text::Report, Info::Keep, room, needed),
         None => {
             *needed = 0;
             Outcome::Limits
+        }
+    }
+}
+
+/// A text of what is not left out, under limits and by names that may be unfit.
+fn give_asked(
+    alloc: Global,
+    bytes: &[u8],
+    limits: &BsLimits,
+    left_out: &BsLeftOut<'_>,
+    text: Text,
+    room: &mut [u8],
+    needed: &mut usize,
+) -> Outcome
+    ensures { let l = limits_told limits.now in Asks l left_out.now (Leaves room.old needed.new room.new) (GivesText text (setting_told left_out.now) l bytes.now room.old needed.new room.new) result }
+{
+    match asked_of(alloc, limits, left_out) {
+        Ok(asked) => give(
+            alloc,
+            bytes,
+            asked.limits,
+            text,
+            asked.setting(),
+            room,
+            needed,
+        ),
+        Err(outcome) => {
+            *needed = 0;
+            outcome
         }
     }
 }
@@ -113,15 +150,14 @@ pub extern "C" fn bs_normal(
     alloc: Global,
     bytes: &[u8],
     limits: &BsLimits,
-    left_out: &BsLeftOut,
+    left_out: &BsLeftOut<'_>,
     room: &mut [u8],
     needed: &mut usize,
     fault: &mut BsFault,
 ) -> u32
-    ensures { let l = limits_told limits.now in let text = TextTold.Form (info_of left_out.now) in Ends result fault.new (Within l (Leaves room.old needed.new room.new) (GivesText text l bytes.now room.old needed.new room.new)) }
+    ensures { let l = limits_told limits.now in Ends result fault.new (Asks l left_out.now (Leaves room.old needed.new room.new) (GivesText TextTold.Form (setting_told left_out.now) l bytes.now room.old needed.new room.new)) }
 {
-    let text = Text::Form(left_out.setting());
-    give_within(alloc, bytes, limits, text, room, needed).tell(fault)
+    give_asked(alloc, bytes, limits, left_out, Text::Form, room, needed).tell(fault)
 }
 
 /// Puts the report of an analysis of bytes into the caller's room, and tells how many bytes it has.
@@ -134,22 +170,23 @@ pub extern "C" fn bs_report(
     needed: &mut usize,
     fault: &mut BsFault,
 ) -> u32
-    ensures { let l = limits_told limits.now in Ends result fault.new (Within l (Leaves room.old needed.new room.new) (GivesText TextTold.Report l bytes.now room.old needed.new room.new)) }
+    ensures { let l = limits_told limits.now in Ends result fault.new (Within l (Leaves room.old needed.new room.new) (GivesText TextTold.Report keep l bytes.now room.old needed.new room.new)) }
 {
-    give_within(alloc, bytes, limits, Text::Report, room, needed).tell(fault)
+    report_within(alloc, bytes, limits, room, needed).tell(fault)
 }
 
-/// Puts the listing of bytes into the caller's room, and tells how many bytes it has.
+/// Puts the listing of bytes, whole or without what is left out, into the caller's room, and tells how many bytes it has.
 #[unsafe(no_mangle)]
 pub extern "C" fn bs_show(
     alloc: Global,
     bytes: &[u8],
     limits: &BsLimits,
+    left_out: &BsLeftOut<'_>,
     room: &mut [u8],
     needed: &mut usize,
     fault: &mut BsFault,
 ) -> u32
-    ensures { let l = limits_told limits.now in Ends result fault.new (Within l (Leaves room.old needed.new room.new) (GivesText TextTold.Listing l bytes.now room.old needed.new room.new)) }
+    ensures { let l = limits_told limits.now in Ends result fault.new (Asks l left_out.now (Leaves room.old needed.new room.new) (GivesText TextTold.Listing (setting_told left_out.now) l bytes.now room.old needed.new room.new)) }
 {
-    give_within(alloc, bytes, limits, Text::Listing, room, needed).tell(fault)
+    give_asked(alloc, bytes, limits, left_out, Text::Listing, room, needed).tell(fault)
 }

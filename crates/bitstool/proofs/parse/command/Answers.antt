@@ -1,7 +1,6 @@
-use Rattle.std.proofs.Common.{◌≡◌, ◌∙◌, ap, ap₂, rules}
+use Rattle.std.proofs.Common.{◌∙◌, ap, ap₂}
 use Rattle.std.proofs.lemmas.Result.{IfOk-weaker}
-use Rattle.clap.specs.Words.{App, app_of, with_subcommand}
-use Rattle.bitstool.specs.Words.{above}
+use Rattle.clap.specs.Words.{App, with_subcommand}
 use Rattle.bitstool.proofs.Found.{third_denied}
 use Rattle.bitstool.proofs.parse.command.Goals as goal
 
