@@ -150,6 +150,7 @@ impl<K: Sink> Printer<K> {
     }
 
     /// A value of a record in a listing.
+    #[inline(always)]
     pub(crate) fn value(&mut self, value: u64) -> Result<(), Fault>
         ensures { Prints (32 ∷ decimal value) self.old result self.new }
     {
