@@ -1,10 +1,10 @@
--- Operands that stand for one value each, and records that are not abbreviated as records by a definition.
+-- Operands that stand for one value each.
 use Rattle.std.specs.Prelude.{◌≡◌, ◌⊎◌, ◌≤◌, ◌+◌, ℕ, List, [], ◌∷◌, length}
 use Rattle.bit_grammar.specs.Grammar.{Grammar, gives, ◌>>=◌}
 use Rattle.bit_grammar.specs.Record.{scalar, singles}
 use Rattle.bit_grammar.specs.FormatDefinition.{op_at}
 use Rattle.bit_grammar.specs.declared.op.Op.{Op}
-use Rattle.bit_grammar.specs.declared.op.Op.TheVariants.{Vbr, Array}
+use Rattle.bit_grammar.specs.declared.op.Op.TheVariants.{Array}
 
 -- the values of operands that stand for one value each
 abbrev pub scalars : List Op → Grammar (List ℕ)
@@ -16,7 +16,3 @@ pub record IsBehindSingles (ops : List Op) (count : ℕ) : Type 0 where
   pub is : count ≡ singles ops
   pub within : count ≤ length ops
   pub behind : (count ≡ length ops) ⊎ ((op_at ops count ≡ Array) × (count + 2 ≡ length ops))
-
--- a code, a number of values, and each value
-abbrev pub plain_ops : List Op
-plain_ops = Vbr 6 ∷ Array ∷ Vbr 6 ∷ []

@@ -30,7 +30,7 @@ const BLOB: [u8; 80] = [
 ];
 
 /// A record 5 that is not abbreviated, with the values 1, 40 and 2.
-const PLAIN: [u8; 5] = [0x2B, 0x86, 0, 0x0D, 4];
+pub(super) const PLAIN: [u8; 5] = [0x2B, 0x86, 0, 0x0D, 4];
 
 /// A reader that gives at most so many bytes at a time.
 #[derive(Drop)]

@@ -5,12 +5,12 @@ ghost use Rattle.std.specs.Prelude.{◌≡◌, ◌≢◌, ◌+◌, ◌*◌, ◌-
 ghost use Rattle.std.specs.List.{AllByRecursion};
 ghost use Rattle.bit_grammar.specs.Grammar.{repeat};
 ghost use Rattle.bit_grammar.specs.Fields.{fixed, vbr, char6};
-ghost use Rattle.bit_grammar.specs.Record.{scalar, singles, value_count, values_of, abbreviated};
+ghost use Rattle.bit_grammar.specs.Record.{scalar, singles, value_count, values_of, unabbreviated, abbreviated};
 ghost use Rattle.bit_grammar.specs.FormatDefinition.{op_at, HasLawfulValue, Lawful};
 ghost use Rattle.bit_grammar.specs.declared.op.Op.{Op};
 ghost use Rattle.bit_grammar.specs.declared.op.Op.TheVariants.{Array, Blob};
 ghost use Rattle.bit_fields.specs.Ahead.{Glimpsed, reader_at};
-ghost use Rattle.bit_abbrev.specs.Plain.{plain_ops, IsBehindSingles};
+ghost use Rattle.bit_abbrev.specs.Plain.{IsBehindSingles};
 ghost use Rattle.bit_abbrev.specs.Values.{Adds, AddsAll, AddsEach, AddsFew, AddsWithin, Gains, Keeps, Passes, PassesEach};
 
 use crate::elements::pass_fields;
@@ -336,10 +336,19 @@ pub fn glance_record<U, V: ValueTaker>(
     Some(code)
 }
 
-/// The operands by which a record that is not abbreviated can be read.
-pub fn plain_ops() -> [Op; 3]
-    ensures ops { result ≡ plain_ops }
-    ensures lawful { Lawful result }
+/// Reads a record that is not abbreviated, after its abbreviation id: hands its values on and answers its code. Where it answers
+/// `None`, some of its values may stand behind the others.
+#[inline(always)]
+pub fn glance_unabbreviated<V: ValueTaker>(
+    ahead: &mut Ahead<'_>,
+    room: u64,
+    values: &mut V,
+) -> Option<u64>
+    ensures glimpsed { IfSome result (λ code. Gains V.took values.old values.new (AddsWithin (unabbreviated room) room (reader_at ahead.old) (Ok code) (reader_at ahead.new))) }
+    ensures keeps { Keeps V.took values.old values.new }
 {
-    [Op::Vbr(6), Op::Array, Op::Vbr(6)]
+    let code = ahead.vbr(6)?;
+    let count = glance_count(ahead, room)?;
+    glance_vbrs(ahead, count, 6, values)?;
+    Some(code)
 }

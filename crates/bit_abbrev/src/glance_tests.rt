@@ -1,7 +1,8 @@
 //! Records that are read in sight.
 
+use crate::counting_tests::PLAIN;
 use crate::reading_tests::{CHARACTERS, LITERALS, in_block, open_block};
-use crate::{glance_record, read_define};
+use crate::{glance_record, glance_unabbreviated, read_define};
 use bit_fields::{Ahead, BitReader, Fault, Limits, Shapes, SliceSource, ValueCount, ValueTaker};
 use std::alloc::{AllocError, Global};
 use std::test::Fail;
@@ -87,5 +88,35 @@ fn records_in_sight(rt: HostRuntime) -> Result<(), Fail> {
             "{body:?}"
         );
     }
+    Ok(())
+}
+
+/// A record that is not abbreviated, behind its id.
+fn plain_glanced<V: ValueTaker>(
+    bytes: &[u8],
+    room: u64,
+    values: &mut V,
+) -> Result<Option<(u64, u64)>, Fault> {
+    let mut reader = match BitReader::start(SliceSource::new(bytes), Limits::usual()) {
+        Ok((reader, _)) => reader,
+        Err((fault, _)) => return Err(fault),
+    };
+    open_block(&mut reader)?;
+    let mut ahead = Ahead::new(reader.sight()?);
+    let code = glance_unabbreviated(&mut ahead, room, values);
+    Ok(code.map(|code| (code, ahead.position())))
+}
+
+#[test]
+fn plain_records_in_sight(rt: HostRuntime) -> Result<(), Fail> {
+    let bytes = with_more(rt.alloc(), &PLAIN)?;
+    let answer = Ok(Some((5, 135)));
+    let mut kept = Vec::new(rt.alloc());
+    assert!(rt; plain_glanced(&bytes, 3, &mut kept) == answer);
+    assert!(rt; kept.as_slice() == [1, 40, 2].as_slice());
+    let mut counted = ValueCount::new();
+    assert!(rt; plain_glanced(&bytes, 3, &mut counted) == answer);
+    assert!(rt; counted.count() == 3);
+    assert!(rt; plain_glanced(&bytes, 2, &mut counted) == Ok(None));
     Ok(())
 }

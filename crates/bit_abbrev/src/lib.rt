@@ -22,7 +22,7 @@ mod unabbreviated;
 pub use abbrev::{Abbrev, BadAbbrev, Ops};
 pub use bit_grammar::Op;
 pub use definition::read_define;
-pub use glance::{glance_record, plain_ops};
+pub use glance::{glance_record, glance_unabbreviated};
 pub use in_force::{Definitions, InForce, SharedInfo};
 pub use info::InfoTable;
 pub use laws::lawful_unbroken;

@@ -1,5 +1,5 @@
 -- The next event of a stream, as what is to come of it has it.
-use Rattle.std.proofs.Common.{◌≡◌, ℕ, ◌-◌, ◌^◌, ◌<◌, Bool, true, false, List, [], ◌∷◌, length, Option, Some, None, IsSome, Ok, Err, refl, sym, ap, subst, ◌∙◌, arith, inl, inr, vec_len}
+use Rattle.std.proofs.Common.{◌≡◌, ℕ, ◌-◌, ◌^◌, ◌<◌, Bool, true, false, List, [], ◌∷◌, length, Option, Some, None, IsSome, Ok, Err, refl, sym, ap, subst, ◌∙◌, arith, vec_len}
 use Rattle.std.specs.Option.{option_map}
 use Rattle.bit_grammar.specs.Grammar as grammar
 use Rattle.bit_grammar.specs.Grammar.{at, reading}

@@ -1,5 +1,5 @@
 -- Events that are gathered, one after the other, up to the end of an input.
-use Rattle.std.proofs.Common.{◌≡◌, ℕ, ◌+◌, ◌%◌, ◌<◌, ◌≤◌, true, false, List, [], ◌∷◌, ◌++◌, None, Some, IsSome, Result, Ok, Err, vec_len, length, refl, sym, ap, subst, ◌∙◌, arith, append_assoc, inl, inr}
+use Rattle.std.proofs.Common.{◌≡◌, ℕ, ◌+◌, ◌%◌, ◌<◌, ◌≤◌, true, false, List, [], ◌∷◌, ◌++◌, None, Some, IsSome, Result, Ok, Err, vec_len, length, refl, sym, ap, subst, ◌∙◌, arith, append_assoc, inr}
 use Rattle.std.proofs.lemmas.List.{append-nil}
 use Rattle.std.specs.Prelude.{IfOk, IfErr, OnOk}
 use Rattle.std.specs.declared.alloc.AllocError.{AllocError}

@@ -2,10 +2,9 @@
 use Rattle.std.proofs.Common.{◌≡◌, Bool, true, false, List, [], ℕ, Option, Some, None, Result, Ok, Err, MatchResult, refl, subst}
 use Rattle.std.specs.Prelude.{IsSome}
 use Rattle.bit_grammar.specs.Blocks.{Limits}
-use Rattle.bit_grammar.specs.Input.{Marked, SpellsInput}
 use Rattle.bit_fields.specs.declared.fault.Fault.{Fault}
 use Rattle.bit_fields.specs.declared.fault.Fault.TheVariants.{Refused, Read, Write, Memory, OutputTooLong, Failed}
-use Rattle.bit_fields.specs.Devices.{Incoming, Spends, known_bytes, keeps_of}
+use Rattle.bit_fields.specs.Devices.{Incoming, known_bytes, keeps_of}
 use Rattle.bit_fields.proofs.Keeping.{spends_within, fails_within, all_kept}
 use Rattle.bit_events.specs.Reading.{Spent, ReadsWhole}
 

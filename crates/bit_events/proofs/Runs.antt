@@ -1,11 +1,12 @@
 -- Records that are in sight, gathered one after the other.
-use Rattle.std.proofs.Common.{◌≡◌, ℕ, ◌+◌, ◌-◌, ◌<◌, ◌≤◌, Bool, true, List, [], ◌∷◌, ◌++◌, length, drop, None, Some, Option, Result, Ok, Err, refl, sym, ap, subst, ◌∙◌, arith, append_assoc, length-append, vec_len, inl, inr}
+use Rattle.std.proofs.Common.{◌≡◌, ◌≢◌, ℕ, ◌+◌, ◌-◌, ◌<◌, ◌≤◌, Bool, List, [], ◌∷◌, ◌++◌, length, drop, None, Some, Option, Result, Ok, Err, refl, sym, ap, subst, ◌∙◌, arith, append_assoc, length-append, vec_len}
+use Rattle.std.specs.Prelude.{IfSome}
 use Rattle.std.proofs.lemmas.List.{drop_at}
 use Rattle.bit_grammar.specs.Grammar as grammar
 use Rattle.bit_grammar.specs.Grammar.{Grammar, gives, ◌>>=◌, reading}
 use Rattle.bit_grammar.specs.Input.{any_bits}
 use Rattle.bit_grammar.specs.Fields.{fixed}
-use Rattle.bit_grammar.specs.Record.{Entry, abbreviated}
+use Rattle.bit_grammar.specs.Record.{Entry, unabbreviated, abbreviated}
 use Rattle.bit_grammar.specs.Blocks as blocks
 use Rattle.bit_grammar.specs.Blocks.{Limits, Handed, Scope, entry}
 use Rattle.bit_grammar.specs.Machine as machine
@@ -20,14 +21,14 @@ use Rattle.bit_fields.proofs.BitLaws.{drop_more}
 use Rattle.bit_fields.proofs.Glimpses.{glimpsed_forward, glimpsed_passed, took_glimpsed, seen_took, not_caught_up}
 use Rattle.bit_grammar.specs.declared.op.Op.{Op}
 use Rattle.bit_abbrev.specs.Values.{AddsWithin}
-use Rattle.bit_abbrev.proofs.Glancing.{took_at, plain_took}
+use Rattle.bit_abbrev.proofs.Glancing.{took_at}
 use Rattle.bit_events.specs.declared.frame.Frame.{Frame}
 use Rattle.bit_events.specs.declared.machine.Machine.{Machine}
 use Rattle.bit_events.specs.FrameView.{frame_shown, frames_shown}
 use Rattle.bit_events.specs.Folding.{left_to_tell, GathersSome, TakesRun}
 use Rattle.bit_events.specs.Gathering.{Gathers}
 use Rattle.bit_events.specs.MachineView.{machine_shown, record_of, Leaves}
-use Rattle.bit_events.specs.Runs.{IsFor, after_record, Passed, GathersTo, GathersRun}
+use Rattle.bit_events.specs.Runs.{HasOps, after_record, Passed, GathersTo, GathersRun}
 use Rattle.bit_events.proofs.Folds.{in_block, none_yet, one_event, some_then, step_missed}
 use Rattle.bit_events.proofs.Framing.{none_described, plain_entry, short_entry}
 use Rattle.bit_events.proofs.Framing as framing
@@ -67,14 +68,20 @@ record_seen limits f outer handed id code list a b c none most seen t =
 entry_read : (rule : Grammar Entry) (room : ℕ) (a : Reader) (code : ℕ) (b : Reader) (list : List ℕ) → AddsWithin rule room a (Ok code) b [] list → Took rule a (record { code = code; values = list }) b
 entry_read rule room a code b list h = rw h.0.1 h.0.2
 
+-- what follows from any answer
+pub each_some : {A : Type 0} (result : Option A) (P Q : A → Type 0) → ((x : A) → P x → Q x) → IfSome result P → IfSome result Q
+each_some (Some x) P Q so h = so x h
+each_some None P Q so h = tt
+
+-- an entry that was read without a definition
+pub plain_seen : (limit first id room : ℕ) (scope : Scope) (a b : InSight) (code : ℕ) (list : List ℕ) → id ≡ 3 → limit - scope.handed.used ≡ room → AddsWithin (unabbreviated room) room (reader_at a) (Ok code) (reader_at b) [] list → Took (entry limit first id scope) (reader_at a) (record { code = code; values = list }) (reader_at b)
+plain_seen limit first id room scope a b code list plain same h = plain_entry limit first id room scope (reader_at a) (Ok (record { code = code; values = list })) (reader_at b) plain same (entry_read (unabbreviated room) room (reader_at a) code (reader_at b) list h)
+
 -- an entry that was read by its operands
-pub entry_seen : (definitions : List (List Op)) (ops : List Op) (limit first id room : ℕ) (scope : Scope) (a b : InSight) (code : ℕ) (list : List ℕ) → IsFor definitions id ops → scope.definitions ≡ definitions → limit - scope.handed.used ≡ room → AddsWithin (abbreviated first room ops) room (reader_at a) (Ok code) (reader_at b) [] list
+pub entry_seen : (definitions : List (List Op)) (ops : List Op) (limit first id room : ℕ) (scope : Scope) (a b : InSight) (code : ℕ) (list : List ℕ) → id ≢ 3 → HasOps definitions id ops → scope.definitions ≡ definitions → limit - scope.handed.used ≡ room → AddsWithin (abbreviated first room ops) room (reader_at a) (Ok code) (reader_at b) [] list
     → Took (entry limit first id scope) (reader_at a) (record { code = code; values = list }) (reader_at b)
-entry_seen definitions ops limit first id room scope a b code list (inl plain) force same h =
-    plain_entry limit first id room scope (reader_at a) (Ok (record { code = code; values = list })) (reader_at b) plain.0 same
-    (plain_took first room (reader_at a) (record { code = code; values = list }) (reader_at b) (subst (λ (o : List Op). Took (abbreviated first room o) (reader_at a) (record { code = code; values = list }) (reader_at b)) plain.1 (entry_read (abbreviated first room ops) room (reader_at a) code (reader_at b) list h)))
-entry_seen definitions ops limit first id room scope a b code list (inr short) force same h =
-    short_entry limit first id room scope definitions ops (reader_at a) (Ok (record { code = code; values = list })) (reader_at b) short.0 force same short.1 short.2 (entry_read (abbreviated first room ops) room (reader_at a) code (reader_at b) list h)
+entry_seen definitions ops limit first id room scope a b code list other has force same h =
+    short_entry limit first id room scope definitions ops (reader_at a) (Ok (record { code = code; values = list })) (reader_at b) other force same has.0 has.1 (entry_read (abbreviated first room ops) room (reader_at a) code (reader_at b) list h)
 
 -- ---- several
 

@@ -1,21 +1,25 @@
 -- Gathering records that are in sight, before a reader takes them.
-use Rattle.std.specs.Prelude.{◌≡◌, ◌≢◌, ◌⊎◌, ℕ, ◌+◌, ◌-◌, List, ◌∷◌, ◌++◌, Bool, true, Some, length, slice_get}
+use Rattle.std.specs.Prelude.{◌≡◌, ℕ, ◌+◌, ◌-◌, ◌≤◌, List, ◌∷◌, ◌++◌, Bool, true, Some, length, slice_get}
 use Rattle.bit_grammar.specs.declared.op.Op.{Op}
 use Rattle.bit_grammar.specs.Definition.{has_shape}
-use Rattle.bit_abbrev.specs.Plain.{plain_ops}
-use Rattle.bit_grammar.specs.Blocks.{Limits, Handed}
+use Rattle.bit_grammar.specs.Blocks.{Limits, Handed, Scope, entry}
 use Rattle.bit_grammar.specs.Machine as machine
 use Rattle.bit_grammar.specs.Machine.{Event}
-use Rattle.bit_fields.specs.Ahead.{InSight, Sees, advanced}
-use Rattle.bit_fields.specs.Reader.{Reader}
+use Rattle.bit_fields.specs.Ahead.{InSight, Sees, advanced, reader_at}
+use Rattle.bit_fields.specs.Reader.{Reader, Took}
 use Rattle.bit_events.specs.declared.frame.Frame.{Frame}
 use Rattle.bit_events.specs.declared.machine.Machine.{Machine}
 use Rattle.bit_events.specs.FrameView.{frame_shown, frames_shown}
 use Rattle.bit_events.specs.Folding.{GathersSome}
 
--- these are the operands of a record with this id, in a lawful order
-abbrev pub IsFor : (definitions : List (List Op)) → (id : ℕ) → List Op → Type 0
-IsFor definitions id ops = ((id ≡ 3) × (ops ≡ plain_ops)) ⊎ ((id ≢ 3) × (slice_get definitions (id - 4) ≡ Some ops) × (has_shape ops ≡ true))
+-- these are the operands of the definition that this id has, in a lawful order
+abbrev pub HasOps : (definitions : List (List Op)) → (id : ℕ) → List Op → Type 0
+HasOps definitions id ops = (slice_get definitions (id - 4) ≡ Some ops) × (has_shape ops ≡ true)
+
+-- so a record with this id is read, where these definitions are in force and there is room for so many values
+abbrev pub ReadsEntry : (definitions : List (List Op)) → (room id : ℕ) → InSight → (code : ℕ) → List ℕ → InSight → Type 0
+ReadsEntry definitions room id a code values b = (length values ≤ room)
+    × ((limit first : ℕ) (scope : Scope) → scope.definitions ≡ definitions → limit - scope.handed.used ≡ room → Took (entry limit first id scope) (reader_at a) (record { code = code; values = values }) (reader_at b))
 
 -- the machine after a record with these values, in the innermost block f, which is no BLOCKINFO block
 abbrev pub after_record : machine.Frame → List machine.Frame → Handed → List ℕ → machine.Machine

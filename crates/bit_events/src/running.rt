@@ -7,39 +7,50 @@ ghost use Rattle.bit_grammar.specs.FormatDefinition.{Lawful};
 ghost use Rattle.bit_grammar.specs.Machine as machine;
 ghost use Rattle.bit_grammar.specs.Machine.{step_of};
 ghost use Rattle.bit_fields.specs.Ahead.{Glimpsed};
-ghost use Rattle.bit_abbrev.specs.Plain.{plain_ops};
 ghost use Rattle.bit_abbrev.specs.Values.{Has};
 ghost use Rattle.bit_events.specs.FrameView.{frame_shown};
 ghost use Rattle.bit_events.specs.MachineView.{record_of, TookSome};
-ghost use Rattle.bit_events.specs.Runs.{GathersRun, IsFor, after_record};
+ghost use Rattle.bit_events.specs.Runs.{GathersRun, HasOps, ReadsEntry, after_record};
 
 use crate::frame::Frame;
 use crate::gatherer::Gatherer;
-use bit_abbrev::{Definitions, Op, glance_record, plain_ops};
+use bit_abbrev::{Definitions, Op, glance_record, glance_unabbreviated};
 use bit_fields::{Ahead, Limits, ValueTaker};
 use std::alloc::AllocError;
 
-/// The operands of a record with this id, where it is not abbreviated or has a definition; `plain` are those of records that
-/// are not abbreviated.
+/// The operands of the definition that an abbreviation id has, if a record may go by it.
 #[inline(always)]
-fn ops_for<'a>(definitions: &Definitions<'a>, plain: &'a [Op], id: u32) -> Option<&'a [Op]>
-    requires id { 3 ≤ id }
-    requires plain { plain.now ≡ plain_ops }
+fn ops_for<'a>(definitions: &Definitions<'a>, id: u32) -> Option<&'a [Op]>
+    requires { 4 ≤ id }
     ensures lawful { IfSome result (λ ops. Lawful ops.now) }
-    ensures found { IfSome result (λ ops. IsFor definitions.now id ops.now) }
+    ensures found { IfSome result (λ ops. HasOps definitions.now id ops.now) }
+{
+    let abbrev = definitions.get((id - 4) as usize)?;
+    if !abbrev.is_usable() {
+        return None;
+    }
+    Some(abbrev.lawful_ops())
+}
+
+/// Reads a record after its id, and answers its code. The values are those of the record alone.
+#[inline(always)]
+fn glance_entry<G: Gatherer>(
+    ahead: &mut Ahead<'_>,
+    definitions: &Definitions<'_>,
+    room: u64,
+    id: u32,
+    values: &mut G::Values,
+) -> Option<u64>
+    requires id { 3 ≤ id }
+    requires none { G.Values.took values.old [] }
+    ensures glimpsed { IfSome result (λ code. Has G.Values.took values.new (λ list. ReadsEntry definitions.now room id ahead.old code list ahead.new)) }
+    ensures took { TookSome G.Values.took values.new }
 {
     if id == 3 {
-        return Some(plain);
+        return glance_unabbreviated(ahead, room, values);
     }
-    match definitions.get((id - 4) as usize) {
-        Some(abbrev) => {
-            if !abbrev.is_usable() {
-                return None;
-            }
-            Some(abbrev.lawful_ops())
-        }
-        None => None,
-    }
+    let ops = ops_for(definitions, id)?;
+    glance_record::<G, G::Values>(ahead, ops, room, values)
 }
 
 /// Reads a record and its id, where the block is no BLOCKINFO block: the id and the code. The values are those of the record
@@ -49,11 +60,9 @@ fn glance_item<G: Gatherer>(
     ahead: &mut Ahead<'_>,
     frame: &Frame,
     definitions: &Definitions<'_>,
-    plain: &[Op],
     room: u64,
     values: &mut G::Values,
 ) -> Option<(u32, u64)>
-    requires ops { plain.now ≡ plain_ops }
     requires took { TookSome G.Values.took values.old }
     requires plain { frame.now.info ≡ None }
     requires same { definitions.now ≡ frame.now.definitions }
@@ -66,8 +75,7 @@ fn glance_item<G: Gatherer>(
         return None;
     }
     values.truncate(0);
-    let ops = ops_for(definitions, plain, id as u32)?;
-    let code = glance_record::<G, G::Values>(ahead, ops, room, values)?;
+    let code = glance_entry::<G>(ahead, definitions, room, id as u32, values)?;
     Some((id as u32, code))
 }
 
@@ -91,17 +99,10 @@ pub(crate) fn gather_records<G: Gatherer>(
     let mut first = ahead.position();
     let mut spent = *used;
     let definitions = frame.definitions.all();
-    let plain = plain_ops();
     loop {
         let room = limits.values().saturating_sub(spent);
-        let Some((id, code)) = glance_item::<G>(
-            &mut ahead,
-            frame,
-            &definitions,
-            &plain,
-            room,
-            values,
-        ) else {
+        let Some((id, code)) = glance_item::<G>(&mut ahead, frame, &definitions, room, values)
+        else {
             *used = spent;
             return Ok(first);
         };
