@@ -1,13 +1,15 @@
 -- Reading from what is in sight, as a reader reads that has nothing else left.
 use Rattle.std.proofs.Common.{◌≡◌, ℕ, ◌+◌, ◌<◌, ◌≤◌, List, [], ◌∷◌, ◌++◌, length, Option, Some, None, Ok, refl, sym, ap, arith, length-append}
 use Rattle.std.specs.Prelude.{OnSome}
+use Rattle.std.proofs.Math.ListN.{replicate}
+use Rattle.std.proofs.lemmas.List.{length-replicate}
 use Rattle.bit_grammar.specs.Grammar.{Grammar}
 use Rattle.bit_fields.specs.Ahead.{InSight, Glimpsed, reader_at}
 use Rattle.bit_fields.specs.Reader.{Reader, Took}
 use Rattle.bit_fields.proofs.Glimpses.{glimpsed_took, glimpsed_forward}
 use Rattle.bit_abbrev.specs.Values.{Gains, AddsAll, Passes}
 use Rattle.bit_abbrev.proofs.Adding.{all_begin, all_go_on, all_done}
-use Rattle.bit_abbrev.proofs.Taking.{SoFar, passed, zeros_of, length-zeros}
+use Rattle.bit_abbrev.proofs.Taking.{SoFar, passed}
 
 pub took_at : {A : Type 0} (rule : Grammar A) (a : InSight) (value : A) (b : InSight) → Glimpsed rule a value b → Took rule (reader_at a) value (reader_at b)
 took_at rule a value b seen = glimpsed_took rule a value b seen (glimpsed_forward rule a value b seen)
@@ -44,4 +46,4 @@ past_gained took v w rule count a b passes h = λ before t. passed took w rule c
 
 -- some are
 pub past_kept : {V : Type 0} (took : V → List ℕ → Type 0) (v w : V) (count : ℕ) → ((values others : List ℕ) → took v values → length others ≡ count → took w (values ++ others)) → (before : List ℕ) → took v before → (after : List ℕ) × took w after
-past_kept took v w count passes before t = (before ++ zeros_of count, passes before (zeros_of count) t (length-zeros count))
+past_kept took v w count passes before t = (before ++ replicate count 0, passes before (replicate count 0) t (length-replicate count 0))

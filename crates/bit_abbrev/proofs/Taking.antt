@@ -1,5 +1,6 @@
 -- Values that are read into what takes them.
 use Rattle.std.proofs.Common.{◌≡◌, ℕ, zero, suc, ◌+◌, ◌-◌, ◌^◌, ◌<◌, ◌≤◌, min, true, List, [], ◌∷◌, ◌++◌, length, Result, Ok, Err, Bool, refl, sym, ap, ◌∙◌, subst, arith, map, length-append, false}
+use Rattle.std.proofs.Math.ListN.{replicate}
 use Rattle.std.proofs.lemmas.List.{append-nil}
 use Rattle.bit_grammar.specs.Grammar as grammar
 use Rattle.bit_grammar.specs.Grammar.{Grammar, gives, ◌>>=◌, ◌and_then◌, repeat, reading}
@@ -58,18 +59,10 @@ length-numbers n zero r = refl
 length-numbers n (suc count) r = ap suc (length-numbers n count _)
 
 -- zeros, which take no bits
-abbrev pub zeros_of : ℕ → List ℕ
-zeros_of zero = []
-zeros_of (suc count) = 0 ∷ zeros_of count
-
-pub length-zeros : (count : ℕ) → length (zeros_of count) ≡ count
-length-zeros zero = refl
-length-zeros (suc count) = ap suc (length-zeros count)
-
-pub zeros_took : (count : ℕ) (a : Reader) → a.live ≡ true → Took (repeat count (gives 0)) a (zeros_of count) a
-zeros_took count a live = same_reading (gives (zeros_of count)) (repeat count (gives 0)) a (Ok (zeros_of count)) a (λ p r. sym (read count p r)) (took_nothing (zeros_of count) a live)
+pub zeros_took : (count : ℕ) (a : Reader) → a.live ≡ true → Took (repeat {A = ℕ} count (gives 0)) a (replicate count 0) a
+zeros_took count a live = same_reading (gives (replicate count 0)) (repeat {A = ℕ} count (gives 0)) a (Ok (replicate count 0)) a (λ p r. sym (read count p r)) (took_nothing (replicate count 0) a live)
   where
-    read : (count p : ℕ) (r : List Bool) → reading (repeat count (gives 0)) p r ≡ Ok (zeros_of count, p, r)
+    read : (count p : ℕ) (r : List Bool) → reading (repeat {A = ℕ} count (gives 0)) p r ≡ Ok (replicate count 0, p, r)
     read zero p r = refl
     read (suc count) p r = ap (λ x. x and_then λ y. Ok (0 ∷ y.0, y.1, y.2)) (read count p r)
 

@@ -119,7 +119,7 @@ fn read_characters<S: Source, V: ValueTaker>(
     Ok(())
 }
 
-/// Adds so many zeros, which take no bits, or counts them from where on nobody looks at them.
+/// Adds so many zeros, which take no bits, at once from where on they can be taken so.
 fn add_zeros<S: Source, V: ValueTaker>(
     reader: &mut BitReader<S>,
     count: u64,
@@ -129,7 +129,7 @@ fn add_zeros<S: Source, V: ValueTaker>(
     ensures { Gains V.took values.old values.new (AddsAll (gives 0) count reader.old result reader.new) }
 {
     for done in 0..count {
-        if values.pass(count - done) {
+        if values.pass_zeros(count - done) {
             return Ok(());
         }
         take(reader, values, 0)?;

@@ -1,16 +1,25 @@
 -- What is seen of an event of the program.
-use Rattle.std.specs.Prelude.{Option, Some, None}
+use Rattle.std.specs.Prelude.{ℕ, List, Option, Some, None}
+use Rattle.std.specs.Borrow.{Bor}
 use Rattle.bit_grammar.specs.Machine as machine
 use Rattle.bit_grammar.specs.Machine.{enters, defines, notes, leaves}
 use Rattle.bit_events.specs.declared.event.Event.{Event}
 use Rattle.bit_events.specs.declared.event.Event.TheVariants as event
 
-abbrev pub shown : Event → machine.Event
-shown (event.Enter id width first body) = enters (record { id = id; width = width; first = first; body = body })
-shown (event.Define ops first after) = defines (record { ops = ops.now; first = first; after = after })
-shown (event.Record abbreviation code values first after) = notes (record { abbreviation = abbreviation; code = code; values = values.now; first = first; after = after })
-shown (event.Leave after) = leaves after
+-- where this is the list that is lent
+abbrev pub shown_by : {L : Type 0} → (told : L → List ℕ) → Event L → machine.Event
+shown_by told (event.Enter id width first body) = enters (record { id = id; width = width; first = first; body = body })
+shown_by told (event.Define ops first after) = defines (record { ops = ops.now; first = first; after = after })
+shown_by told (event.Record abbreviation code values first after) = notes (record { abbreviation = abbreviation; code = code; values = told values; first = first; after = after })
+shown_by told (event.Leave after) = leaves after
 
-abbrev pub shown_if_any : Option Event → Option machine.Event
-shown_if_any None = None
-shown_if_any (Some event) = Some (shown event)
+abbrev pub shown_if_any : {L : Type 0} → (told : L → List ℕ) → Option (Event L) → Option machine.Event
+shown_if_any told None = None
+shown_if_any told (Some event) = Some (shown_by told event)
+
+-- a list that is lent as it is
+abbrev pub lent : Bor (List ℕ) → List ℕ
+lent values = values.now
+
+abbrev pub shown : Event (Bor (List ℕ)) → machine.Event
+shown event = shown_by lent event

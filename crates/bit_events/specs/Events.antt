@@ -1,5 +1,6 @@
 -- What is seen of the events of a stream, by what the program keeps.
 use Rattle.std.specs.Prelude.{◌≡◌, ℕ, ◌+◌, ◌<◌, ◌%◌, vec_len, List, Bool, true, false, [], Option, Some, None, IsSome, Result, Ok, Err, length}
+use Rattle.std.specs.Borrow.{Bor}
 use Rattle.bit_grammar.specs.Grammar.{at}
 use Rattle.bit_grammar.specs.Blocks.{Limits}
 use Rattle.bit_grammar.specs.Machine as machine
@@ -16,7 +17,7 @@ use Rattle.bit_fields.specs.Opening.{head_told}
 use Rattle.bit_events.specs.declared.event.Event.{Event}
 use Rattle.bit_events.specs.declared.machine.Found.{Found}
 use Rattle.bit_events.specs.declared.machine.Machine.{Machine}
-use Rattle.bit_events.specs.EventView.{shown_if_any}
+use Rattle.bit_events.specs.EventView.{lent, shown_if_any}
 use Rattle.bit_events.specs.MachineView.{machine_shown, found_lent}
 use Rattle.bit_events.specs.Coming.{Stage, going, over, failed, Coming, end_at, told_of, Goes}
 
@@ -62,13 +63,16 @@ pub record IsEvents (is_over : Bool) (m : Machine) (found : Option Found) (place
 
 -- ---- events that are lent
 
-abbrev pub answer_shown : Result (Option Event) Fault → Result (Option machine.Event) Fault
-answer_shown (Ok event) = Ok (shown_if_any event)
-answer_shown (Err fault) = Err fault
+abbrev pub answer_shown : {L : Type 0} → (told : L → List ℕ) → Result (Option (Event L)) Fault → Result (Option machine.Event) Fault
+answer_shown told (Ok event) = Ok (shown_if_any told event)
+answer_shown told (Err fault) = Err fault
 
--- what a call for the next event does, which lends it
-abbrev pub Lends : Coming → Result (Option Event) Fault → Coming → Type 0
-Lends old answer new = Goes old (answer_shown answer) new
+-- what a call for the next event does, which lends it, where this is the list of values that is lent
+abbrev pub LendsAs : {L : Type 0} → (told : L → List ℕ) → Coming → Result (Option (Event L)) Fault → Coming → Type 0
+LendsAs told old answer new = Goes old (answer_shown told answer) new
+
+abbrev pub Lends : Coming → Result (Option (Event (Bor (List ℕ)))) Fault → Coming → Type 0
+Lends old answer new = LendsAs lent old answer new
 
 -- what finding the next event does
 abbrev pub answer_kept : Result (Unit {0}) Fault → Coming → Result (Option machine.Event) Fault

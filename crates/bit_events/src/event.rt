@@ -1,8 +1,9 @@
 use bit_abbrev::Abbrev;
 
-/// An event of a stream, whose lists are lent: a block begins, a definition, a record, or a block ends.
+/// An event of a stream, whose lists are lent: a block begins, a definition, a record, or a block ends. The values of a record
+/// are lent as numbers, or as what keeps them.
 #[derive(Clone, Copy, Debug)]
-pub enum Event<'a> {
+pub enum Event<'a, L = &'a [u64]> {
     Enter {
         id: u32,
         width: u8,
@@ -17,7 +18,7 @@ pub enum Event<'a> {
     Record {
         abbrev: u32,
         code: u64,
-        values: &'a [u64],
+        values: L,
         first: u64,
         after: u64,
     },

@@ -11,7 +11,7 @@ ghost use Rattle.bit_events.specs.HeadView.{head_shown};
 ghost use Rattle.bit_events.specs.MachineView.{aside_shown, handed_shown, innermost_head, record_rule, HoldsDefinition, TookSome};
 ghost use Rattle.bit_events.specs.Reading.{ReadsWhole};
 
-use crate::events::shuts;
+use crate::finder::shuts;
 use crate::gatherer::Gatherer;
 use crate::head::BlockHead;
 use crate::heads::granted;

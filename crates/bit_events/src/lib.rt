@@ -8,6 +8,7 @@ mod event;
 mod events;
 #[cfg(test)]
 mod events_tests;
+mod finder;
 mod folding;
 #[cfg(test)]
 mod folding_tests;
@@ -25,6 +26,7 @@ mod with_first;
 pub use checking::{check, check_keeping};
 pub use event::Event;
 pub use events::Events;
+pub use finder::{EventFinder, PackedEvent, PackedEvents};
 pub use folding::{Folded, fold};
 pub use gatherer::Gatherer;
 pub use open_blocks::OpenBlocks;

@@ -16,7 +16,7 @@ use crate::head::BlockHead;
 use crate::heads::{block_head, end_of_block, granted};
 use crate::with_first::WithFirst;
 use bit_abbrev::{Abbrev, InfoTable, SharedInfo};
-use bit_fields::{BitReader, Fault, Limits, Reason, Source, ValueTaker};
+use bit_fields::{BitReader, Fault, Limits, Reason, Source, ValueKeeper, ValueTaker};
 use std::alloc::{AllocError, Global};
 
 /// An event that is no record. Of a definition, which is the newest one, the machine holds the operands.
@@ -274,20 +274,20 @@ impl Machine {
     }
 
     /// Reads one item of the innermost block, or its end.
-    fn step_in<S: Source>(
+    fn step_in<S: Source, V: ValueKeeper>(
         &mut self,
         alloc: Global,
         reader: &mut BitReader<S>,
         limits: &Limits,
         head: BlockHead,
-        values: &mut WithFirst<Vec<u64>>,
+        values: &mut WithFirst<V>,
     ) -> Result<Found, Fault>
         requires { 0 < vec_len self.old.frames }
         ensures takes { InBlock self.old (λ f outer. f.head ≡ head_shown head
             → Takes (step_in limits.now f.head outer (scope_of f (handed_shown self.old)))
-            reader.old (told_by (after_found self.new values.new.taker.items) result) reader.new) }
-        ensures leaves { IfOk result (λ found. Leaves limits.now.depth self.old reader.old (found_shown self.new values.new.taker.items found) self.new reader.new) }
-        ensures holds { IfOk result (λ found. values.new.taker.items ≡ held_after (found_shown self.new values.new.taker.items found) values.old.taker.items) }
+            reader.old (told_by (after_found self.new (V.kept values.new.taker)) result) reader.new) }
+        ensures leaves { IfOk result (λ found. Leaves limits.now.depth self.old reader.old (found_shown self.new (V.kept values.new.taker) found) self.new reader.new) }
+        ensures holds { IfOk result (λ found. V.kept values.new.taker ≡ held_after (found_shown self.new (V.kept values.new.taker) found) (V.kept values.old.taker)) }
         ensures moves { OnOk result (reader.old.position < reader.new.position) }
     {
         let first = reader.position();
@@ -339,16 +339,16 @@ impl Machine {
     }
 
     /// Finds one event. The values of a record are those that the list holds then.
-    pub(crate) fn step<S: Source>(
+    pub(crate) fn step<S: Source, V: ValueKeeper>(
         &mut self,
         alloc: Global,
         reader: &mut BitReader<S>,
         limits: &Limits,
-        values: &mut WithFirst<Vec<u64>>,
+        values: &mut WithFirst<V>,
     ) -> Result<Found, Fault>
-        ensures takes { Takes (step limits.now (machine_shown self.old)) reader.old (told_by (after_found self.new values.new.taker.items) result) reader.new }
-        ensures leaves { IfOk result (λ found. Leaves limits.now.depth self.old reader.old (found_shown self.new values.new.taker.items found) self.new reader.new) }
-        ensures holds { IfOk result (λ found. values.new.taker.items ≡ held_after (found_shown self.new values.new.taker.items found) values.old.taker.items) }
+        ensures takes { Takes (step limits.now (machine_shown self.old)) reader.old (told_by (after_found self.new (V.kept values.new.taker)) result) reader.new }
+        ensures leaves { IfOk result (λ found. Leaves limits.now.depth self.old reader.old (found_shown self.new (V.kept values.new.taker) found) self.new reader.new) }
+        ensures holds { IfOk result (λ found. V.kept values.new.taker ≡ held_after (found_shown self.new (V.kept values.new.taker) found) (V.kept values.old.taker)) }
         ensures moves { OnOk result (reader.old.position < reader.new.position) }
     {
         match self.innermost() {
@@ -380,8 +380,8 @@ impl Machine {
 
 impl Aside {
     /// The event, with the definition that the machine holds.
-    fn event<'a>(&self, machine: &'a Machine) -> Option<Event<'a>>
-        ensures { shown_if_any result ≡ aside_lent machine.now self.now }
+    fn event<'a, L>(&self, machine: &'a Machine) -> Option<Event<'a, L>>
+        ensures { (told : L → List ℕ) → shown_if_any told result ≡ aside_lent machine.now self.now }
     {
         match *self {
             Aside::Enter {
@@ -411,8 +411,8 @@ impl Aside {
 impl Found {
     /// The event, with what is lent with it.
     #[inline(always)]
-    pub(crate) fn event<'a>(&self, machine: &'a Machine, values: &'a [u64]) -> Option<Event<'a>>
-        ensures { shown_if_any result ≡ found_lent machine.now values.now self.now }
+    pub(crate) fn event<'a, L: Drop>(&self, machine: &'a Machine, values: L) -> Option<Event<'a, L>>
+        ensures { (told : L → List ℕ) → shown_if_any told result ≡ found_lent machine.now (told values) self.now }
     {
         match *self {
             Found::Aside(aside) => aside.event(machine),

@@ -1,9 +1,9 @@
 //! The blocks that are open, under a setting.
 
-ghost use Rattle.std.specs.Prelude.{◌≡◌, ℕ, ◌&&◌, true, [], ◌∷◌, OnOk, OnErr, IfOk};
+ghost use Rattle.std.specs.Prelude.{◌≡◌, ℕ, List, ◌&&◌, true, [], ◌∷◌, OnOk, OnErr, IfOk};
 ghost use Rattle.std.specs.List.{list_all};
 ghost use Rattle.bit_grammar.specs.Machine as machine;
-ghost use Rattle.bit_events.specs.EventView.{shown};
+ghost use Rattle.bit_events.specs.EventView.{shown_by};
 ghost use Rattle.bit_events.specs.Standing.{leaves, stands_after};
 ghost use Rattle.bit_grammar.specs.Setting.{keeps, keeps_record, setting_of};
 ghost use Rattle.bit_grammar.specs.Under.{ids_after, innermost};
@@ -114,9 +114,9 @@ impl<'a> OpenBlocks<'a> {
     }
 
     /// Takes an event, and answers whether it is left. Where memory is refused none came.
-    pub fn take(&mut self, event: Event<'_>) -> Result<bool, AllocError>
-        ensures left { IfOk result (λ left. left ≡ leaves self.old (shown event.entry)) }
-        ensures stands { OnOk result (self.new ≡ stands_after (shown event.entry) self.old) }
+    pub fn take<L: Copy>(&mut self, event: Event<'_, L>) -> Result<bool, AllocError>
+        ensures left { IfOk result (λ left. (told : L → List ℕ) → left ≡ leaves self.old (shown_by told event.entry)) }
+        ensures stands { OnOk result ((told : L → List ℕ) → self.new ≡ stands_after (shown_by told event.entry) self.old) }
         ensures stays { OnErr result (self.new ≡ self.old) }
     {
         match event {

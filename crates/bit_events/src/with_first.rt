@@ -51,6 +51,11 @@ impl<V: ValueTaker> ValueTaker for WithFirst<V> {
         self.first.is_some() && self.taker.pass(count)
     }
 
+    #[inline]
+    fn pass_zeros(&mut self, count: u64) -> bool {
+        self.first.is_some() && self.taker.pass_zeros(count)
+    }
+
     fn truncate(&mut self, count: u64) {
         if count == 0 {
             self.first = None;

@@ -21,3 +21,4 @@ pub mod Sights
 pub mod Texts
 pub mod Looking
 pub mod AtOnce
+pub mod Unlike

@@ -10,3 +10,4 @@ pub mod Texts
 pub mod Short
 pub mod Ahead
 pub mod Sight
+pub mod Packed

@@ -1,6 +1,7 @@
 //! What takes the values of a record while they are read.
 
 ghost use Rattle.std.specs.Prelude.{◌≡◌, ℕ, ◌-◌, ◌^◌, List, [], ◌∷◌, ◌++◌, length, min, true, false, OnOk, OnErr};
+ghost use Rattle.std.proofs.Math.ListN.{replicate};
 
 use std::alloc::AllocError;
 
@@ -21,6 +22,14 @@ pub trait ValueTaker {
     fn pass(&mut self, count: u64) -> bool
         ensures yes { result ≡ true → (values others : List ℕ) → took self.old values → length others ≡ count → took self.new (values ++ others) }
         ensures no { result ≡ false → (values : List ℕ) → took self.old values → took self.new values };
+
+    /// Takes so many zeros at once, where it can, and answers whether it did. Where it did not, it has what it had.
+    fn pass_zeros(&mut self, count: u64) -> bool
+        ensures yes { result ≡ true → (values : List ℕ) → took self.old values → took self.new (values ++ replicate count 0) }
+        ensures no { result ≡ false → (values : List ℕ) → took self.old values → took self.new values }
+    {
+        self.pass(count)
+    }
 
     /// Drops the values behind the first ones, of which there are so many as `count` told.
     fn truncate(&mut self, count: u64)

@@ -1,6 +1,6 @@
 -- An input that is read in step with another one.
 use Rattle.std.proofs.Common.{◌≡◌, ℕ, suc, ◌+◌, ◌-◌, ◌<◌, Bool, true, false, List, [], ◌∷◌, ◌++◌, Option, Some, None, length, refl, sym, ap, ◌∙◌, subst, append_assoc, length-append, arith}
-use Rattle.std.specs.Prelude.{min, if◌then◌else◌}
+use Rattle.std.specs.Prelude.{if◌then◌else◌, cond, eqb, slice_get}
 use Rattle.std.proofs.lemmas.List.{append-nil}
 use Rattle.std.specs.List.{list_all}
 use Rattle.bit_grammar.specs.Setting.{keeps}
@@ -10,6 +10,7 @@ use Rattle.bit_grammar.specs.Marks.{RecordMark, DefinitionMark}
 use Rattle.bit_grammar.specs.Machine.{Opened, Event, enters, defines, notes, leaves}
 use Rattle.bit_grammar.specs.Steps.{open_after}
 use Rattle.bit_grammar.specs.Machine.{Told}
+use Rattle.bit_fields.specs.Packed.{first_apart}
 use Rattle.bit_events.specs.Coming.{Coming, Tells, Ends}
 use Rattle.bit_events.specs.Gathering.{left_open}
 use Rattle.bit_events.proofs.Folds.{open_behind-push}
@@ -72,10 +73,60 @@ entries_said stands next s event x events found is =
 -- ---- values
 
 -- where one list has no more values
-pub none_unlike : (k : ℕ) (a b : List ℕ) → min (length a) (length b) ≡ 0 → first_unlike k a b ≡ None
-none_unlike k [] b e = refl
-none_unlike k (x ∷ a) [] e = refl
-none_unlike k (x ∷ a) (y ∷ b) e = absurd (omega arith)
+-- two lists differ nowhere
+pub nowhere_apart : (k : ℕ) (a b : List ℕ) → first_apart k a b ≡ None → first_unlike k a b ≡ None
+nowhere_apart k [] b e = refl
+nowhere_apart k (x ∷ a) [] e = refl
+nowhere_apart k (x ∷ a) (y ∷ b) e = go (nowhere_apart (suc k) a b) (eqb x y) e
+  where
+    go : (first_apart (suc k) a b ≡ None → first_unlike (suc k) a b ≡ None) → (t : Bool) → cond t (first_apart (suc k) a b) (Some k) ≡ None → cond t (first_unlike (suc k) a b) (Some (record { index = k; first = x; second = y })) ≡ None
+    go rest true e = rest e
+    go rest false e = absurd (cc)
+
+-- these values stand first where two lists differ, so far behind a place
+pub record Unlike (k place : ℕ) (a b : List ℕ) : Type 0 where
+  pub behind : ℕ
+  pub first : ℕ
+  pub second : ℕ
+  pub at : place ≡ k + behind
+  pub in_first : slice_get a behind ≡ Some first
+  pub in_second : slice_get b behind ≡ Some second
+  pub is : first_unlike k a b ≡ Some (record { index = place; first = first; second = second })
+
+pub somewhere_apart : (k place : ℕ) (a b : List ℕ) → first_apart k a b ≡ Some place → Unlike k place a b
+somewhere_apart k place [] b e = absurd (cc)
+somewhere_apart k place (x ∷ a) [] e = absurd (cc)
+somewhere_apart k place (x ∷ a) (y ∷ b) e = go (somewhere_apart (suc k) place a b) (eqb x y) refl e
+  where
+    later : eqb x y ≡ true → Unlike (suc k) place a b → Unlike k place (x ∷ a) (y ∷ b)
+    later same u = record { behind = suc u.behind; first = u.first; second = u.second; at = omega (arith, u.at); in_first = u.in_first; in_second = u.in_second; is = rw same u.is }
+
+    here : eqb x y ≡ false → k ≡ place → Unlike k place (x ∷ a) (y ∷ b)
+    here apart at = record { behind = 0; first = x; second = y; at = omega (arith, at); in_first = refl; in_second = refl; is = rw (apart, at) refl }
+
+    go : (first_apart (suc k) a b ≡ Some place → Unlike (suc k) place a b) → (t : Bool) → eqb x y ≡ t → cond t (first_apart (suc k) a b) (Some k) ≡ Some place → Unlike k place (x ∷ a) (y ∷ b)
+    go rest true is e = later is (rest e)
+    go rest false is e = here is (cc)
+
+-- where both are known
+pub unlike_at : (place x y : ℕ) (a b : List ℕ) → first_apart 0 a b ≡ Some place → slice_get a place ≡ Some x → slice_get b place ≡ Some y → first_unlike 0 a b ≡ Some (record { index = place; first = x; second = y })
+unlike_at place x y a b e first second =
+    let u = somewhere_apart 0 place a b e in
+    let at : u.behind ≡ place = omega (arith, u.at) in
+    let same_first : slice_get a place ≡ Some u.first = ap (slice_get a) (sym at) ∙ u.in_first in
+    let same_second : slice_get b place ≡ Some u.second = ap (slice_get b) (sym at) ∙ u.in_second in
+    let left : u.first ≡ x = cc in
+    let right : u.second ≡ y = cc in
+    rw (← left, ← right) u.is
+
+-- both are known there
+pub has_both : (place : ℕ) (a b : List ℕ) → first_apart 0 a b ≡ Some place → (slice_get a place ≡ None → ⊥) × (slice_get b place ≡ None → ⊥)
+has_both place a b e =
+    let u = somewhere_apart 0 place a b e in
+    let at : u.behind ≡ place = omega (arith, u.at) in
+    let in_first : slice_get a place ≡ Some u.first = ap (slice_get a) (sym at) ∙ u.in_first in
+    let in_second : slice_get b place ≡ Some u.second = ap (slice_get b) (sym at) ∙ u.in_second in
+    (λ none. cc, λ none. cc)
 
 -- ---- places
 

@@ -14,8 +14,8 @@ use crate::sign::Sign;
 use crate::walk::Walk;
 use crate::writing::number_of_magic;
 use bit_abbrev::Abbrev;
-use bit_events::{Event, Events, Folded, Gatherer, OpenBlocks, fold};
-use bit_fields::{Fault, Head, Limits, SliceSource, Source, Wrapper};
+use bit_events::{Event, Folded, Gatherer, OpenBlocks, PackedEvent, PackedEvents, fold};
+use bit_fields::{Fault, Head, Limits, PackedValues, SliceSource, Source, Wrapper};
 use bit_tree::Info;
 use std::alloc::{AllocError, Global};
 use std::marker::Model;
@@ -51,7 +51,7 @@ fn held_beside(own: Sign<'_>, bit: u64, ended: u64, sign: Sign<'_>) -> Beside
 }
 
 /// How an event that is left is beside a sign, where what stands before it ended at this bit.
-fn weigh_left(event: Event<'_>, sign: Sign<'_>, ended: u64) -> Weighed
+fn weigh_left(event: PackedEvent<'_>, sign: Sign<'_>, ended: u64) -> Weighed
     ensures { IsBeside (said ended (shown event.entry)) (sign_shown sign.entry) result }
 {
     match event {
@@ -75,7 +75,7 @@ fn weigh_left(event: Event<'_>, sign: Sign<'_>, ended: u64) -> Weighed
 
 /// How an event is beside a sign, if it is left. The open blocks of the first input are then those after it.
 fn weigh(
-    event: Event<'_>,
+    event: PackedEvent<'_>,
     sign: Sign<'_>,
     blocks: &mut OpenBlocks<'_>,
     ended: u64,
@@ -92,7 +92,7 @@ fn weigh(
 /// Takes the next sign of what is left of the events to come, or the end of the stream, and answers how it is beside this one. What
 /// stands before it ended at this bit.
 fn next_beside<S: Source>(
-    events: &mut Events<S>,
+    events: &mut PackedEvents<S>,
     blocks: &mut OpenBlocks<'_>,
     walk: &Walk,
     ended: u64,
@@ -124,7 +124,7 @@ pub(crate) struct Found {
 #[derive(Drop)]
 pub(crate) struct Comparer<'a> {
     alloc: Global,
-    first: Events<SliceSource<'a>>,
+    first: PackedEvents<SliceSource<'a>>,
     /// The open blocks of the first, and of the second.
     first_blocks: OpenBlocks<'a>,
     second_blocks: OpenBlocks<'a>,
@@ -229,12 +229,12 @@ impl<'a> Comparer<'a> {
 impl<'a> Gatherer for Comparer<'a> {
     ghost use Rattle.bit_norm.specs.InStep.{Tallied};
 
-    type Values = Vec<u64>;
+    type Values = PackedValues;
 
     ghost gathered = { λ first events last. Tallied first events last };
 
-    fn values(&self) -> Vec<u64> {
-        Vec::new(self.alloc)
+    fn values(&self) -> PackedValues {
+        PackedValues::new(self.alloc)
     }
 
     fn enter(&mut self, id: u32, _width: u8, first: u64, body: u64) -> Result<(), AllocError> {
@@ -253,12 +253,12 @@ impl<'a> Gatherer for Comparer<'a> {
         &mut self,
         _id: u32,
         code: u64,
-        values: &mut Vec<u64>,
+        values: &mut PackedValues,
         first: u64,
         after: u64,
     ) -> Result<(), AllocError> {
         if self.second_blocks.leaves_record(code) {
-            return self.take(Sign::Record(code, values.as_slice()), first, after);
+            return self.take(Sign::Record(code, values), first, after);
         }
         Ok(())
     }
@@ -331,7 +331,7 @@ pub(crate) fn compare_with<S: Source>(
 ) -> (Result<Option<Difference>, SameFault>, S)
     ensures { ComparesWith (setting_of info.entry) limits first.now (S.incoming source) result.0 (S.incoming result.1) }
 {
-    let events = match Events::start(alloc, SliceSource::new(first), limits) {
+    let events = match PackedEvents::start(alloc, SliceSource::new(first), limits) {
         Ok(events) => events,
         Err(_) => return (Err(faulty(Which::First, Fault::Memory)), source),
     };

@@ -5,13 +5,14 @@ ghost use Rattle.bit_norm.specs.Entries.{begins, has_record, ends, over, first_u
 ghost use Rattle.bit_norm.specs.InStep.{sign_shown};
 
 use crate::differences::{ValueDifference, What};
+use bit_fields::PackedValues;
 
 /// What stands at a place of a tree: a block with this id begins, a record with this code and these values, a block ends, or the
 /// stream.
 #[derive(Clone, Copy)]
 pub(crate) enum Sign<'a> {
     Begins(u32),
-    Record(u64, &'a [u64]),
+    Record(u64, &'a PackedValues),
     Ends,
     Over,
 }
@@ -29,12 +30,12 @@ fn is_begin(sign: Sign<'_>, id: u32) -> bool
 }
 
 /// Whether it is this record.
-fn is_record(sign: Sign<'_>, code: u64, values: &[u64]) -> bool
+fn is_record(sign: Sign<'_>, code: u64, values: &PackedValues) -> bool
     ensures { IsTrue result ↔ (has_record code values.now ≡ sign_shown sign.entry) }
 {
     match sign {
         Sign::Begins(_) => false,
-        Sign::Record(other, others) => code == other && values == others,
+        Sign::Record(other, others) => code == other && values.is(others),
         Sign::Ends => false,
         Sign::Over => false,
     }
@@ -65,20 +66,18 @@ fn is_over(sign: Sign<'_>) -> bool
 }
 
 /// The first value that differs, if one does.
-fn first_unlike(first: &[u64], second: &[u64]) -> Option<ValueDifference>
+fn first_unlike(first: &PackedValues, second: &PackedValues) -> Option<ValueDifference>
     ensures { result ≡ first_unlike 0 first.now second.now }
 {
-    let count = first.len().min(second.len());
-    for i in 0..count {
-        if first[i] != second[i] {
-            return Some(ValueDifference {
-                index: i as u64,
-                first: first[i],
-                second: second[i],
-            });
-        }
+    let index = first.first_apart(second)?;
+    match (first.get(index), second.get(index)) {
+        (Some(first), Some(second)) => Some(ValueDifference {
+            index,
+            first,
+            second,
+        }),
+        _ => None,
     }
-    None
 }
 
 impl Sign<'_> {
@@ -103,7 +102,7 @@ impl Sign<'_> {
             Sign::Begins(id) => What::Block(id),
             Sign::Record(code, values) => What::Record {
                 code,
-                count: values.len() as u64,
+                count: values.len(),
             },
             Sign::Ends => What::End,
             Sign::Over => What::End,

@@ -1,6 +1,7 @@
 -- Printing a text in three parts, or one part for each item of a list.
-use Rattle.std.proofs.Common.{◌≡◌, ℕ, ◌+◌, ◌*◌, ◌<◌, ◌≤◌, List, [], ◌∷◌, ◌++◌, length, get_or, drop, replicate, Result, Err, sym, ap, subst, append_assoc}
+use Rattle.std.proofs.Common.{◌≡◌, ℕ, suc, ◌+◌, ◌-◌, ◌*◌, ◌<◌, ◌≤◌, List, [], ◌∷◌, ◌++◌, length, get_or, drop, replicate, Result, Err, sym, ap, ◌∙◌, subst, arith, append_assoc}
 use Rattle.std.specs.Prelude.{codes, decimal, flat_map}
+use Rattle.std.proofs.lemmas.Grind.{flat_map-append}
 use Rattle.std.proofs.lemmas.List.{drop_all}
 use Rattle.bit_grammar.specs.declared.op.Op.{Op}
 use Rattle.bit_grammar.specs.declared.values.Values.{Values}
@@ -46,6 +47,25 @@ last_part part whole old now xs i h g = goes_ends whole old now (goes_as whole o
 -- a value behind a space
 abbrev pub value_text : ℕ → List ℕ
 value_text v = 32 ∷ decimal v
+
+-- values in their parts
+pub values_parts : (vs a b : List ℕ) (zeros : ℕ) → vs ≡ a ++ b ++ replicate zeros 0 → Parts (values_text vs) (values_text a) (values_text b) (values_text (replicate zeros 0))
+values_parts vs a b zeros is = record { are = ap values_text is ∙ flat_map-append value_text (a ++ b) (replicate zeros 0) ∙ ap (λ (s : List ℕ). s ++ values_text (replicate zeros 0)) (flat_map-append value_text a b) ∙ append_assoc (values_text a) (values_text b) (values_text (replicate zeros 0)) }
+
+zeros_next : (count i : ℕ) → i < count → replicate {A = ℕ} (count - i) 0 ≡ 0 ∷ replicate (count - (i + 1)) 0
+zeros_next count i lt = ap (λ (n : ℕ). replicate {A = ℕ} n 0) one_more
+  where
+    one_more : count - i ≡ suc (count - (i + 1))
+    one_more = omega arith
+
+pub next_zero : (whole : List ℕ) (old now : Printing) (count i : ℕ) → i < count → Goes whole old (values_text (replicate (count - i) 0)) now → Goes whole old (value_text 0 ++ values_text (replicate (count - (i + 1)) 0)) now
+next_zero whole old now count i lt g = goes_as whole old (values_text (replicate (count - i) 0)) (value_text 0 ++ values_text (replicate (count - (i + 1)) 0)) now (ap values_text (zeros_next count i lt)) g
+
+pub last_zero : (whole : List ℕ) (old now : Printing) (count i : ℕ) → count ≤ i → Goes whole old (values_text (replicate (count - i) 0)) now → Printed whole old now
+last_zero whole old now count i le g = goes_ends whole old now (goes_as whole old (values_text (replicate (count - i) 0)) [] now (ap (λ (n : ℕ). values_text (replicate n 0)) none) g)
+  where
+    none : count - i ≡ 0
+    none = omega arith
 
 -- the line of a record in a listing: up to its values, these, and its end
 pub record_parts : (around code : ℕ) (vs : List ℕ) → Parts (record_line around code vs) (record_head around code) (values_text vs) (10 ∷ [])

@@ -221,7 +221,7 @@ pub(crate) fn push_noted_head(
     first: u64,
     code: u64,
     abbreviation: u32,
-    count: usize,
+    count: u64,
 ) -> Result<(), AllocError>
     ensures { OnOk result (string_bytes text.new ≡ string_bytes text.old ++ noted_head around first code abbreviation count) }
 {

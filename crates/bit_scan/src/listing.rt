@@ -1,4 +1,5 @@
 ghost use Rattle.std.specs.Prelude.{◌≡◌, ◌≤◌, ◌++◌, [], OnOk};
+ghost use Rattle.std.proofs.Math.ListN.{replicate};
 ghost use Rattle.bit_grammar.specs.Steps.{open_after};
 ghost use Rattle.bit_grammar.specs.Setting.{setting_of};
 ghost use Rattle.bit_grammar.specs.Texts.{values_text, record_line, event_text};
@@ -9,19 +10,52 @@ ghost use Rattle.bit_scan.specs.Listing.{left_text, WritesLeft, Continues, Lists
 ghost use Rattle.bit_scan.specs.Printing.{Prints};
 
 use crate::printer::Printer;
-use bit_events::{Event, Events, OpenBlocks};
-use bit_fields::{Fault, Limits, Sink, SliceSource, Source};
+use bit_events::{Event, OpenBlocks, PackedEvent, PackedEvents};
+use bit_fields::{Fault, Limits, PackedValues, Sink, SliceSource, Source};
 use bit_grammar::Info;
 use std::alloc::Global;
 
-/// Writes the values of a record.
-pub(crate) fn write_values<K: Sink>(printer: &mut Printer<K>, values: &[u64]) -> Result<(), Fault>
-    ensures { Prints (values_text values.now) printer.old result printer.new }
+/// Writes values that are bytes.
+fn write_bytes<K: Sink>(printer: &mut Printer<K>, bytes: &[u8]) -> Result<(), Fault>
+    ensures { Prints (values_text bytes.now) printer.old result printer.new }
 {
-    for value in values {
-        printer.value(*value)?;
+    for byte in bytes {
+        printer.value(u64::from(*byte))?;
     }
     Ok(())
+}
+
+/// Writes values that are numbers.
+fn write_numbers<K: Sink>(printer: &mut Printer<K>, numbers: &[u64]) -> Result<(), Fault>
+    ensures { Prints (values_text numbers.now) printer.old result printer.new }
+{
+    for number in numbers {
+        printer.value(*number)?;
+    }
+    Ok(())
+}
+
+/// Writes so many values that are zeros.
+fn write_zeros<K: Sink>(printer: &mut Printer<K>, count: u64) -> Result<(), Fault>
+    ensures { Prints (values_text (replicate count 0)) printer.old result printer.new }
+{
+    for _ in 0..count {
+        printer.value(0)?;
+    }
+    Ok(())
+}
+
+/// Writes the values of a record.
+pub(crate) fn write_values<K: Sink>(
+    printer: &mut Printer<K>,
+    values: &PackedValues,
+) -> Result<(), Fault>
+    ensures { Prints (values_text values.now) printer.old result printer.new }
+{
+    let parts = values.parts();
+    write_bytes(printer, parts.bytes)?;
+    write_numbers(printer, parts.numbers)?;
+    write_zeros(printer, parts.zeros)
 }
 
 /// Writes the line of a record, piece by piece.
@@ -29,7 +63,7 @@ fn write_record<K: Sink>(
     printer: &mut Printer<K>,
     around: u32,
     code: u64,
-    values: &[u64],
+    values: &PackedValues,
 ) -> Result<(), Fault>
     ensures { Prints (record_line around code values.now) printer.old result printer.new }
 {
@@ -43,7 +77,7 @@ fn write_record<K: Sink>(
 fn write_event<K: Sink>(
     printer: &mut Printer<K>,
     around: u32,
-    event: &Event<'_>,
+    event: &PackedEvent<'_>,
 ) -> Result<(), Fault>
     ensures { Prints (event_text around (shown event.now)) printer.old result printer.new }
 {
@@ -55,7 +89,7 @@ fn write_event<K: Sink>(
 }
 
 /// How many blocks stand around what follows an event.
-pub(crate) fn around_after(around: u32, event: &Event<'_>) -> u32
+pub(crate) fn around_after(around: u32, event: &PackedEvent<'_>) -> u32
     requires { around ≤ 255 }
     ensures { result ≡ open_after (shown event.now) around }
 {
@@ -72,7 +106,7 @@ fn write_left<K: Sink>(
     printer: &mut Printer<K>,
     standing: &mut OpenBlocks<'_>,
     around: u32,
-    event: Event<'_>,
+    event: PackedEvent<'_>,
 ) -> Result<u32, Fault>
     requires { around ≤ 255 }
     ensures { WritesLeft around standing.old (shown event.entry) printer.old result standing.new printer.new }
@@ -90,7 +124,7 @@ fn write_left<K: Sink>(
 /// Takes the next event, and writes its line with so many blocks around it, if it is left and has one. Answers how many stand
 /// around the event that follows, or nothing where none is left.
 fn write_next<S: Source, K: Sink>(
-    events: &mut Events<S>,
+    events: &mut PackedEvents<S>,
     printer: &mut Printer<K>,
     standing: &mut OpenBlocks<'_>,
     around: u32,
@@ -111,7 +145,7 @@ fn write_next<S: Source, K: Sink>(
 
 /// Writes the lines of what is left of all events.
 fn write_events<S: Source, K: Sink>(
-    events: &mut Events<S>,
+    events: &mut PackedEvents<S>,
     printer: &mut Printer<K>,
     standing: &mut OpenBlocks<'_>,
 ) -> Result<(), Fault>
@@ -130,7 +164,7 @@ fn write_events<S: Source, K: Sink>(
 
 /// Writes the line of a magic and those of what is left of all events.
 fn write_told<S: Source, K: Sink>(
-    events: &mut Events<S>,
+    events: &mut PackedEvents<S>,
     printer: &mut Printer<K>,
     standing: &mut OpenBlocks<'_>,
 ) -> Result<(), Fault>
@@ -159,7 +193,7 @@ pub(crate) fn write_listing<K: Sink>(
 ) -> (Result<(), Fault>, K)
     ensures { ListsBytes (setting_of info.entry) limits bytes.now (K.outgoing sink) result.0 (K.outgoing result.1) }
 {
-    let mut events = match Events::start(alloc, SliceSource::new(bytes), limits) {
+    let mut events = match PackedEvents::start(alloc, SliceSource::new(bytes), limits) {
         Ok(events) => events,
         // Accepted bytes begin with a magic, so this does not come.
         Err(_) => return (Err(Fault::Memory), sink),

@@ -150,6 +150,7 @@ impl<K: Sink> Printer<K> {
     }
 
     /// A value of a record in a listing.
+    #[inline(always)]
     pub(crate) fn value(&mut self, value: u64) -> Result<(), Fault>
         ensures { Prints (32 ∷ decimal value) self.old result self.new }
     {
@@ -233,7 +234,7 @@ impl<K: Sink> Printer<K> {
         first: u64,
         code: u64,
         abbreviation: u32,
-        count: usize,
+        count: u64,
     ) -> Result<(), Fault>
         ensures { Prints (noted_head around first code abbreviation count) self.old result self.new }
     {

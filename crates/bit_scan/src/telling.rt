@@ -11,8 +11,8 @@ ghost use Rattle.bit_scan.specs.Telling.{TellsNext, TellsRest, TellsAll, TellsIn
 use crate::analysing::begin_of;
 use crate::listing::{around_after, write_values};
 use crate::printer::Printer;
-use bit_events::{Event, Events};
-use bit_fields::{Fault, Limits, Sink, Source};
+use bit_events::{Event, PackedEvent, PackedEvents};
+use bit_fields::{Fault, Limits, PackedValues, Sink, Source};
 use bit_grammar::{Op, Values};
 use std::alloc::Global;
 
@@ -57,7 +57,7 @@ fn write_definition<K: Sink>(
 fn write_shown<K: Sink>(
     printer: &mut Printer<K>,
     values: Values,
-    listed: &[u64],
+    listed: &PackedValues,
 ) -> Result<(), Fault>
     ensures { Prints (shown_values values listed.now) printer.old result printer.new }
 {
@@ -81,7 +81,7 @@ fn write_noted<K: Sink>(
     around: u32,
     noted: Noted,
     values: Values,
-    listed: &[u64],
+    listed: &PackedValues,
 ) -> Result<(), Fault>
     ensures { Prints (line_at noted.first around (noted_text values noted.code noted.abbreviation listed.now)) printer.old result printer.new }
 {
@@ -100,7 +100,7 @@ fn write_noted<K: Sink>(
 fn write_line<K: Sink>(
     printer: &mut Printer<K>,
     around: u32,
-    event: &Event<'_>,
+    event: &PackedEvent<'_>,
     values: Values,
 ) -> Result<(), Fault>
     ensures { Prints (event_line values around (shown event.now)) printer.old result printer.new }
@@ -136,7 +136,7 @@ fn write_line<K: Sink>(
 /// Writes the line of the next event, with so many blocks open before it, and answers how many are open behind it. Where the
 /// events end, with acceptance or a fault, nothing is held back, and nothing or the fault is answered.
 fn write_next<S: Source, K: Sink>(
-    events: &mut Events<S>,
+    events: &mut PackedEvents<S>,
     printer: &mut Printer<K>,
     around: u32,
     values: Values,
@@ -163,7 +163,7 @@ fn write_next<S: Source, K: Sink>(
 
 /// Writes the lines of all events that are to come.
 fn write_rest<S: Source, K: Sink>(
-    events: &mut Events<S>,
+    events: &mut PackedEvents<S>,
     printer: &mut Printer<K>,
     values: Values,
 ) -> Result<(), Fault>
@@ -181,7 +181,7 @@ fn write_rest<S: Source, K: Sink>(
 
 /// Writes the line of the magic and those of all events.
 fn write_all<S: Source, K: Sink>(
-    events: &mut Events<S>,
+    events: &mut PackedEvents<S>,
     printer: &mut Printer<K>,
     values: Values,
 ) -> Result<(), Fault>
@@ -212,7 +212,7 @@ pub fn write_events<S: Source, K: Sink>(
 ) -> (Result<(), Fault>, S, K)
     ensures { TellsInput values limits (S.incoming source) (K.outgoing sink) result.0 (S.incoming result.1) (K.outgoing result.2) }
 {
-    let mut events = match Events::start(alloc, source, limits) {
+    let mut events = match PackedEvents::start(alloc, source, limits) {
         Ok(events) => events,
         Err((fault, source)) => return (Err(fault), source, sink),
     };

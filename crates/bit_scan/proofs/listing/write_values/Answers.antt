@@ -1,26 +1,28 @@
-use Rattle.std.proofs.Common.{◌+◌, get_or, drop}
+use Rattle.std.proofs.Common.{◌++◌}
+use Rattle.std.proofs.Math.ListN.{replicate}
 use Rattle.std.proofs.lemmas.Result.{err_from_is_err_and}
 use Rattle.bit_grammar.specs.Texts.{values_text}
-use Rattle.bit_scan.proofs.Parted.{value_text, next_part, last_part}
-use Rattle.bit_scan.proofs.Prints.{goes_starts, goes_on, goes_wrong}
+use Rattle.bit_scan.proofs.Parted.{no_first, no_second, third, values_parts}
 use Rattle.bit_scan.proofs.listing.write_values.Goals as goal
 
-pub loop-value-init : goal.loop-value-init
-loop-value-init g c = goes_starts (values_text c.args.values.now) c.args.printer.now
-
-pub returns-in_err-value : goal.returns-in_err-value
-returns-in_err-value g c =
+pub returns-in_err-write_bytes : goal.returns-in_err-write_bytes
+returns-in_err-write_bytes g c =
     let vs = c.args.values.now in
-    let i = c.loop-value.value-index in
+    let parts = c.parts-parts.result in
     let p = err_from_is_err_and c.from_residual.result c.from_residual.ensures.1 in
     rw (p.1, p.2)
-    (goes_wrong (values_text vs) c.args.printer.now (value_text (get_or vs i 0)) (values_text (drop (i + 1) vs)) c.loop-value.printer c.value.new.self c.in_err-value.field-0.0 (next_part value_text (values_text vs) c.args.printer.now c.loop-value.printer vs i 0 c.loop-value-test.true c.loop-value.invariant) c.in_err-value.ensures)
+    (no_first (values_text vs) (values_text parts.bytes.now) (values_text parts.numbers.now) (values_text (replicate parts.zeros 0)) c.args.printer.now c.write_bytes.new.printer c.in_err-write_bytes.field-0.0 (values_parts vs parts.bytes.now parts.numbers.now parts.zeros c.parts-parts.ensures) c.in_err-write_bytes.ensures)
 
-pub loop-value-preserved : goal.loop-value-preserved
-loop-value-preserved g c =
+pub returns-in_err-write_numbers : goal.returns-in_err-write_numbers
+returns-in_err-write_numbers g c =
     let vs = c.args.values.now in
-    let i = c.loop-value.value-index in
-    goes_on (values_text vs) c.args.printer.now (value_text (get_or vs i 0)) (values_text (drop (i + 1) vs)) c.loop-value.printer c.value.new.self (next_part value_text (values_text vs) c.args.printer.now c.loop-value.printer vs i 0 c.loop-value-test.true c.loop-value.invariant) c.in_ok-value.ensures
+    let parts = c.parts-parts.result in
+    let p = err_from_is_err_and c.from_residual-in_err-write_numbers.result c.from_residual-in_err-write_numbers.ensures.1 in
+    rw (p.1, p.2)
+    (no_second (values_text vs) (values_text parts.bytes.now) (values_text parts.numbers.now) (values_text (replicate parts.zeros 0)) c.args.printer.now c.write_bytes.new.printer c.write_numbers.new.printer c.in_err-write_numbers.field-0.0 (values_parts vs parts.bytes.now parts.numbers.now parts.zeros c.parts-parts.ensures) c.in_ok-write_bytes.ensures c.in_err-write_numbers.ensures)
 
 pub returns : goal.returns
-returns g c = last_part value_text (values_text c.args.values.now) c.args.printer.now c.loop-value.printer c.args.values.now c.loop-value.value-index c.loop-value-test.false c.loop-value.invariant
+returns g c =
+    let vs = c.args.values.now in
+    let parts = c.parts-parts.result in
+    third (values_text vs) (values_text parts.bytes.now) (values_text parts.numbers.now) (values_text (replicate parts.zeros 0)) c.args.printer.now c.write_bytes.new.printer c.write_numbers.new.printer c.write_zeros.new.printer c.write_zeros.result (values_parts vs parts.bytes.now parts.numbers.now parts.zeros c.parts-parts.ensures) c.in_ok-write_bytes.ensures c.in_ok-write_numbers.ensures c.write_zeros.ensures

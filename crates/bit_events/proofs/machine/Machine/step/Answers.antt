@@ -12,7 +12,7 @@ use Rattle.bit_events.proofs.machine.Machine.step.Goals as goal
 pub returns-in-Some-clause-takes : goal.returns-in-Some-clause-takes
 returns-in-Some-clause-takes g c =
     let inner = innermost_of (frames_shown c.args.self.now.frames.items) (head_shown c.in-Some.head) c.in-Some.ensures.head in
-    subst (λ (frames : List machine.Frame). Takes (step_of c.args.limits.now frames (handed_shown c.args.self.now)) c.args.reader.now (told_by (after_found c.step_in.new.self c.step_in.new.values.taker.items) c.step_in.result) c.step_in.new.reader) (sym inner.split) (c.step_in.ensures.takes inner.f inner.outer inner.split inner.is)
+    subst (λ (frames : List machine.Frame). Takes (step_of c.args.limits.now frames (handed_shown c.args.self.now)) c.args.reader.now (told_by (after_found c.step_in.new.self (g.V.ValueKeeper.kept c.step_in.new.values.taker)) c.step_in.result) c.step_in.new.reader) (sym inner.split) (c.step_in.ensures.takes inner.f inner.outer inner.split inner.is)
 
 pub returns-in_err-aside-in-None-clause-takes : goal.returns-in_err-aside-in-None-clause-takes
 returns-in_err-aside-in-None-clause-takes g c =

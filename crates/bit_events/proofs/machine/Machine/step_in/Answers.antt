@@ -10,6 +10,9 @@ use Rattle.bit_events.specs.MachineView.{handed_shown, machine_shown, record_of,
 use Rattle.bit_events.proofs.Stepping.{other_than, in_missed, in_then, after_record}
 use Rattle.bit_events.proofs.machine.Machine.step_in.Goals as goal
 
+pub note-requires-clause-took : goal.note-requires-clause-took
+note-requires-clause-took g c = (g.V.ValueKeeper.kept c.args.values.now.taker, g.met.V.ValueKeeper.took_kept c.args.values.now.taker)
+
 pub returns-in_err-id-clause-takes : goal.returns-in_err-id-clause-takes
 returns-in_err-id-clause-takes g c = λ f outer split is.
     let p = err_from_is_err_and c.from_residual.result c.from_residual.ensures.1 in
@@ -40,14 +43,15 @@ pub returns-clause-takes : goal.returns-clause-takes
 returns-clause-takes g c = λ f outer split is.
     let width : c.from.result ≡ f.head.width = c.from.ensures ∙ sym (ap (λ (h : blocks.BlockHead). h.width) is) in
     let noted = c.in_ok-code.ensures.takes in
-    let read : Event × machine.Machine = (record_of c.in_ok-id.id c.note.new.values.taker.items c.position-first.result (c.in_ok-code.code, c.in_ok-code.after), machine_shown c.note.new.self) in
+    let is = g.met.V.ValueKeeper.kept_took c.note.new.values.taker noted.0 noted.1 in
+    let read : Event × machine.Machine = (record_of c.in_ok-id.id (g.V.ValueKeeper.kept c.note.new.values.taker) c.position-first.result (c.in_ok-code.code, c.in_ok-code.after), machine_shown c.note.new.self) in
     in_then c.args.limits.now f.head outer (scope_of f (handed_shown c.args.self.now)) c.args.reader.now c.in_ok-id.id c.fixed.new.self c.position-first.result (Ok read) c.note.new.reader c.position-first.ensures.position (subst (λ (n : ℕ). Took (fixed n) c.args.reader.now c.in_ok-id.id c.fixed.new.self) width c.in_ok-id.ensures.takes)
-    (after_record c.args.limits.now f outer c.position-first.result c.in_ok-id.id (handed_shown c.args.self.now) c.fixed.new.self (Ok read) c.note.new.reader (other_than c.in_ok-id.id 0 c.if-id-lt3.false (omega arith)) (other_than c.in_ok-id.id 1 c.if-id-lt3.false (omega arith)) (other_than c.in_ok-id.id 2 c.if-id-lt3.false (omega arith)) (rw noted.1 (noted.2 f outer split)))
+    (after_record c.args.limits.now f outer c.position-first.result c.in_ok-id.id (handed_shown c.args.self.now) c.fixed.new.self (Ok read) c.note.new.reader (other_than c.in_ok-id.id 0 c.if-id-lt3.false (omega arith)) (other_than c.in_ok-id.id 1 c.if-id-lt3.false (omega arith)) (other_than c.in_ok-id.id 2 c.if-id-lt3.false (omega arith)) (rw is (noted.2 f outer split)))
 
 pub returns-clause-leaves : goal.returns-clause-leaves
 returns-clause-leaves g c =
-    let left = c.in_ok-code.ensures.leaves c.args.limits.now.depth c.note.new.values.taker.items in
+    let left = c.in_ok-code.ensures.leaves c.args.limits.now.depth (g.V.ValueKeeper.kept c.note.new.values.taker) in
     record { stands = left.stands; opens = left.opens; forward = omega (arith, left.forward, c.in_ok-id.ensures.takes.forward); aligned = left.aligned; holds = tt }
 
 pub returns-clause-moves : goal.returns-clause-moves
-returns-clause-moves g c = omega (arith, (c.in_ok-code.ensures.leaves c.args.limits.now.depth c.note.new.values.taker.items).forward, c.in_ok-id.ensures.moves, c.from.ensures, c.args.head.least)
+returns-clause-moves g c = omega (arith, (c.in_ok-code.ensures.leaves c.args.limits.now.depth (g.V.ValueKeeper.kept c.note.new.values.taker)).forward, c.in_ok-id.ensures.moves, c.from.ensures, c.args.head.least)

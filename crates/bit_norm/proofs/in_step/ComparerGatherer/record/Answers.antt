@@ -16,7 +16,7 @@ returns-then-leaves_record-clause-gathers c =
     let mark : RecordMark = record { abbreviation = c.args._id; code = c.args.code; values = list; first = c.args.first; after = c.args.after } in
     let kept = ap (λ (s : Compared). is_left s.second_blocks.setting s.second_blocks.ids (notes mark)) (sym c.self.view_is) ∙ sym c.leaves_record.ensures ∙ c.if-leaves_record.true in
     tally_sign first old c.take.new.self old.second_blocks done _ _ was refl (record_signed old mark kept)
-    (subst (λ (values : List ℕ). TakesSign old (has_record c.args.code values) c.args.first c.args.after c.take.new.self) (c.as_slice.ensures.value ∙ took) takes))
+    (subst (λ (values : List ℕ). TakesSign old (has_record c.args.code values) c.args.first c.args.after c.take.new.self) took takes))
     c.take.ensures
 
 pub returns-clause-gathers : goal.returns-clause-gathers
