@@ -11,12 +11,12 @@ use std::marker::Model;
 /// How many numbers may be held by what has room for others; the memory of more is given back.
 const ROOM: usize = 65536;
 
-/// Numbers, of which the first ones that are below 256 take a byte each, and all from the first greater one on eight.
+/// Numbers, of which those behind the last one that is above 255 take a byte each, and the others eight.
 #[derive(Drop)]
 struct Numbers {
     alloc: Global,
-    bytes: Vec<u8>,
     wide: Vec<u64>,
+    bytes: Vec<u8>,
 }
 
 impl Model for Numbers {
@@ -24,7 +24,33 @@ impl Model for Numbers {
 
     ghost Value = { List ℕ };
 
-    ghost view = { λ n. n.bytes.items ++ n.wide.items };
+    ghost view = { λ n. n.wide.items ++ n.bytes.items };
+}
+
+/// Adds the numbers that bytes are.
+fn add_bytes(wide: &mut Vec<u64>, bytes: &[u8]) -> Result<(), AllocError>
+    ensures ok { OnOk result (wide.new.items ≡ wide.old.items ++ bytes.now) }
+    ensures err { OnErr result (take (length wide.old.items) wide.new.items ≡ wide.old.items) }
+{
+    for byte in bytes {
+        wide.push(u64::from(*byte))?;
+    }
+    Ok(())
+}
+
+/// Gives numbers of one byte eight.
+#[cold]
+fn widen(wide: &mut Vec<u64>, bytes: &mut Vec<u8>) -> Result<(), AllocError>
+    ensures same { wide.new.items ++ bytes.new.items ≡ wide.old.items ++ bytes.old.items }
+    ensures all { OnOk result (bytes.new.items ≡ []) }
+{
+    let count = wide.len();
+    if let Err(error) = add_bytes(wide, bytes) {
+        wide.truncate(count);
+        return Err(error);
+    }
+    bytes.clear();
+    Ok(())
 }
 
 impl Numbers {
@@ -34,8 +60,8 @@ impl Numbers {
     {
         Numbers {
             alloc,
-            bytes: Vec::new(alloc),
             wide: Vec::new(alloc),
+            bytes: Vec::new(alloc),
         }
     }
 
@@ -44,7 +70,7 @@ impl Numbers {
     fn len(&self) -> u64
         ensures { result ≡ length self.now }
     {
-        self.bytes.len() as u64 + self.wide.len() as u64
+        self.wide.len() as u64 + self.bytes.len() as u64
     }
 
     /// Adds a number.
@@ -54,9 +80,12 @@ impl Numbers {
         ensures err { OnErr result (self.new ≡ self.old) }
         ensures few { length self.new < 2 ^ 64 }
     {
-        if number < 256 && self.wide.is_empty() {
+        if number < 256 {
             self.bytes.push(number as u8)?;
             return Ok(());
+        }
+        if !self.bytes.is_empty() {
+            widen(&mut self.wide, &mut self.bytes)?;
         }
         self.wide.push(number)?;
         Ok(())
@@ -68,9 +97,12 @@ impl Numbers {
         ensures { result ≡ slice_get self.now place }
     {
         let place = place as usize;
-        match self.bytes.get(place) {
-            Some(byte) => Some(u64::from(*byte)),
-            None => self.wide.get(place - self.bytes.len()).copied(),
+        match self.wide.get(place) {
+            Some(number) => Some(*number),
+            None => self
+                .bytes
+                .get(place - self.wide.len())
+                .map(|byte| u64::from(*byte)),
         }
     }
 
@@ -79,8 +111,8 @@ impl Numbers {
         ensures { self.new ≡ take count self.old }
     {
         let count = count as usize;
-        self.wide.truncate(count.saturating_sub(self.bytes.len()));
-        self.bytes.truncate(count);
+        self.bytes.truncate(count.saturating_sub(self.wide.len()));
+        self.wide.truncate(count);
     }
 
     /// Drops all.
@@ -107,16 +139,16 @@ impl Numbers {
     }
 }
 
-/// Values in their parts, which stand behind one another: bytes, numbers, and so many zeros.
+/// Values in their parts, which stand behind one another: numbers, bytes, and so many zeros.
 #[derive(Clone, Copy, Debug)]
 pub struct ValueParts<'a> {
-    pub bytes: &'a [u8],
     pub numbers: &'a [u64],
+    pub bytes: &'a [u8],
     pub zeros: u64,
 }
 
-/// The values of a record in little memory: a byte for each one before the first that is above 255, eight for each from there on,
-/// and none for the zeros at the end that were taken at once, which are counted.
+/// The values of a record in little memory: eight bytes for each one up to the last that is above 255, one for each behind it, as
+/// those of a blob or an array of characters, and none for the zeros at the end that were taken at once, which are counted.
 #[derive(Drop)]
 pub struct PackedValues {
     numbers: Numbers,
@@ -179,11 +211,11 @@ impl PackedValues {
     /// The values in their parts.
     #[inline]
     pub fn parts(&self) -> ValueParts<'_>
-        ensures { self.now ≡ result.bytes.now ++ result.numbers.now ++ replicate result.zeros 0 }
+        ensures { self.now ≡ result.numbers.now ++ result.bytes.now ++ replicate result.zeros 0 }
     {
         ValueParts {
-            bytes: self.numbers.bytes.as_slice(),
             numbers: self.numbers.wide.as_slice(),
+            bytes: self.numbers.bytes.as_slice(),
             zeros: self.zeros,
         }
     }

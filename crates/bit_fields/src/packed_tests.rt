@@ -41,11 +41,31 @@ fn has_parts(rt: &impl Abort, alloc: Global, count: u64, wanted: &str) {
 #[test]
 fn parts_of_values(rt: HostRuntime) {
     let alloc = rt.alloc();
-    let first = "7 ValueParts { bytes: [1, 255], numbers: [256, 0], zeros: 3 }";
-    assert!(rt; parts_told(alloc, 0).expect(&rt, "memory").as_str().starts_with(first));
-    has_parts(&rt, alloc, 6, ", 7 ValueParts { bytes: [1, 255], numbers: [256, 0, 0, 0, 9], zeros: 0 }");
-    has_parts(&rt, alloc, 1, ", 2 ValueParts { bytes: [1, 9], numbers: [], zeros: 0 }");
-    has_parts(&rt, alloc, 0, ", 1 ValueParts { bytes: [9], numbers: [], zeros: 0 }");
+    let first = "7 ValueParts { numbers: [1, 255, 256], bytes: [0], zeros: 3 }";
+    assert!(rt;
+        parts_told(alloc, 0)
+            .expect(&rt, "memory")
+            .as_str()
+            .starts_with(first)
+    );
+    has_parts(
+        &rt,
+        alloc,
+        6,
+        ", 7 ValueParts { numbers: [1, 255, 256], bytes: [0, 0, 0, 9], zeros: 0 }",
+    );
+    has_parts(
+        &rt,
+        alloc,
+        1,
+        ", 2 ValueParts { numbers: [1], bytes: [9], zeros: 0 }",
+    );
+    has_parts(
+        &rt,
+        alloc,
+        0,
+        ", 1 ValueParts { numbers: [], bytes: [9], zeros: 0 }",
+    );
 }
 
 /// Where values and zeros behind them first differ from others, and whether they are the same.

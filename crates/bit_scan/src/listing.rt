@@ -53,8 +53,8 @@ pub(crate) fn write_values<K: Sink>(
     ensures { Prints (values_text values.now) printer.old result printer.new }
 {
     let parts = values.parts();
-    write_bytes(printer, parts.bytes)?;
     write_numbers(printer, parts.numbers)?;
+    write_bytes(printer, parts.bytes)?;
     write_zeros(printer, parts.zeros)
 }
 
