@@ -7,7 +7,7 @@ use Rattle.bit_grammar.specs.Grammar.{Grammar, gives, ◌>>=◌, ◌>>◌, ◌an
 use Rattle.bit_grammar.specs.Fields.{fixed, align32}
 use Rattle.bit_fields.specs.declared.fault.Fault.{Fault}
 use Rattle.bit_fields.specs.declared.fault.Fault.TheVariants.{Memory}
-use Rattle.bit_fields.specs.Reader.{Reader, Took, Why, Takes, told_by, stopped}
+use Rattle.bit_fields.specs.Reader.{Reader, Took, Why, Takes, told_by, failed_reader}
 use Rattle.bit_fields.proofs.Composing.{fault_then, took_then, took_nothing, stops_here, stops_later, same_reading}
 use Rattle.bit_abbrev.specs.Values.{Adds}
 
@@ -17,8 +17,8 @@ and_gives rule f a (Ok x) c t = record { was_live = t.was_live; live = t.live; g
 and_gives rule f a (Err fault) c t = fault_then rule (λ x. gives (f x)) a fault c t
 
 -- no memory, after what was taken
-pub memory_after : {A B : Type 0} (rule : Grammar A) (after : Grammar B) (a : Reader) (value : A) (b : Reader) → Took rule a value b → Why after a Memory (stopped b)
-memory_after rule after a value b t = stops_later a b (stopped b) t.was_live t.goes_on (stops_here b t.live)
+pub memory_after : {A B : Type 0} (rule : Grammar A) (after : Grammar B) (a : Reader) (value : A) (b : Reader) → Took rule a value b → Why after a Memory (failed_reader b)
+memory_after rule after a value b t = stops_later a b (failed_reader b) t.was_live t.goes_on (stops_here b t.live)
 
 -- ---- values at the end of a list
 
@@ -48,7 +48,7 @@ pub value_fails : (rule : Grammar ℕ) (after : Grammar (List ℕ)) (a : Reader)
 value_fails rule after a fault now c why = part_fails rule (λ v. after >>= λ vs. gives (v ∷ vs)) a fault now c why
 
 -- no room in memory for a value that was read
-pub no_room : {A : Type 0} (rule : Grammar A) (all : Grammar (List ℕ)) (a : Reader) (value : A) (b : Reader) (now : List ℕ) → Took rule a value b → Adds all a (Err Memory) now now (stopped b)
+pub no_room : {A : Type 0} (rule : Grammar A) (all : Grammar (List ℕ)) (a : Reader) (value : A) (b : Reader) (now : List ℕ) → Took rule a value b → Adds all a (Err Memory) now now (failed_reader b)
 no_room rule all a value b now t = ([], sym (append-nil now), memory_after rule all a value b t)
 
 -- a rule that adds nothing
@@ -125,8 +125,8 @@ all_fail rule count a before done b now fault c less h why =
     let so = subst (λ (n : ℕ). (result : Result (Unit {0}) Fault) (after : List ℕ) (c : Reader) → Adds (repeat n rule) b result now after c → Adds (repeat count rule) a result before after c) left h.so in
     so (Err fault) now c (value_fails rule (repeat (count - (done + 1)) rule) b fault now c why)
 
-pub all_refused : (rule : Grammar ℕ) (count : ℕ) (a : Reader) (before : List ℕ) (done : ℕ) (b : Reader) (now : List ℕ) (value : ℕ) (c : Reader) → CompletesAll rule count a before done b now → Took rule b value c → Adds (repeat count rule) a (Err Memory) before now (stopped c)
-all_refused rule count a before done b now value c h t = h.so (Err Memory) now (stopped c) (no_room rule (repeat (count - done) rule) b value c now t)
+pub all_refused : (rule : Grammar ℕ) (count : ℕ) (a : Reader) (before : List ℕ) (done : ℕ) (b : Reader) (now : List ℕ) (value : ℕ) (c : Reader) → CompletesAll rule count a before done b now → Took rule b value c → Adds (repeat count rule) a (Err Memory) before now (failed_reader c)
+all_refused rule count a before done b now value c h t = h.so (Err Memory) now (failed_reader c) (no_room rule (repeat (count - done) rule) b value c now t)
 
 pub all_done : (rule : Grammar ℕ) (count : ℕ) (a : Reader) (before : List ℕ) (done : ℕ) (b : Reader) (now : List ℕ) → count ≤ done → CompletesAll rule count a before done b now → Adds (repeat count rule) a (Ok tt) before now b
 all_done rule count a before done b now most h =

@@ -11,7 +11,7 @@ use Rattle.bit_grammar.specs.declared.reason.Reason.{Reason}
 use Rattle.bit_grammar.specs.declared.reason.Reason.TheVariants.{AbbrevShape, FieldWidth}
 use Rattle.bit_grammar.specs.Definition.{fits, fixed_lawful, vbr_lawful, place_after, kind_of}
 use Rattle.bit_grammar.specs.FormatDefinition.{op_at, IsElement, HasLawfulValue, Lawful}
-use Rattle.bit_abbrev.specs.Breaks.{BreaksShape, first_array, first_blob, array_place, no_element, blob_place, BreaksWidth, Breaks, NoneBreaks, IsFirstBreak, LiteralFits, place_at, width_break, break_of, break_at}
+use Rattle.bit_abbrev.specs.Breaks.{BreaksShape, first_array, first_blob, array_place, no_element, blob_place, BreaksWidth, BreaksAt, NoneBreaks, IsFirstBreak, LiteralFits, place_at, width_break, break_of, break_at}
 
 -- ---- the shape
 
@@ -137,17 +137,17 @@ not_wide Blob e h = h
 -- ---- the operand at an index
 
 -- what is judged to break breaks so
-pub judged_so : (ops : List Op) (i : ℕ) (reason : Reason) → i < length ops → break_at ops i ≡ Some reason → Breaks ops i reason
+pub judged_so : (ops : List Op) (i : ℕ) (reason : Reason) → i < length ops → break_at ops i ≡ Some reason → BreaksAt ops i reason
 judged_so ops i reason h e = by (fits_at ops i) refl e
   where
-    by : (b : Bool) → fits_at ops i ≡ b → cond b (width_break (op_at ops i)) (Some AbbrevShape) ≡ Some reason → Breaks ops i reason
+    by : (b : Bool) → fits_at ops i ≡ b → cond b (width_break (op_at ops i)) (Some AbbrevShape) ≡ Some reason → BreaksAt ops i reason
     by true is e =
         let wide = too_wide (op_at ops i) reason e in
         (h, inr (wide.0, well_placed ops i h is, wide.1))
     by false is e = (h, inl (cc, misplaced ops i (place_at ops i) (op_at ops i) h refl refl is))
 
 -- what is judged to hold breaks in no way
-pub not_broken : (ops : List Op) (i : ℕ) (reason : Reason) → break_at ops i ≡ None → Breaks ops i reason → ⊥
+pub not_broken : (ops : List Op) (i : ℕ) (reason : Reason) → break_at ops i ≡ None → BreaksAt ops i reason → ⊥
 not_broken ops i reason e b = by (fits_at ops i) refl e
   where
     by : (t : Bool) → fits_at ops i ≡ t → cond t (width_break (op_at ops i)) (Some AbbrevShape) ≡ None → ⊥

@@ -7,7 +7,7 @@ use Rattle.bit_grammar.specs.Grammar.{Grammar}
 use Rattle.bit_fields.specs.Ahead.{InSight, Glimpsed, reader_at}
 use Rattle.bit_fields.specs.Reader.{Reader, Took}
 use Rattle.bit_fields.proofs.Glimpses.{glimpsed_took, glimpsed_forward}
-use Rattle.bit_abbrev.specs.Values.{Gains, AddsAll, Passes}
+use Rattle.bit_abbrev.specs.Values.{Gains, AddsAll, PassesValues}
 use Rattle.bit_abbrev.proofs.Adding.{all_begin, all_go_on, all_done}
 use Rattle.bit_abbrev.proofs.Taking.{SoFar, passed}
 
@@ -35,13 +35,13 @@ past_goes_on rule count done a b value c less h t = record {
   so = record { all = all_go_on rule count a [] done b h.values value c less h.so.all t; many = omega (arith, length-append h.values (value ∷ []), h.so.many) };
 }
 
-pub past_ends : (rule : Grammar ℕ) (count done : ℕ) (a b : Reader) → count ≤ done → done ≤ count → FarPast rule count done a b → Passes rule count a b
+pub past_ends : (rule : Grammar ℕ) (count done : ℕ) (a b : Reader) → count ≤ done → done ≤ count → FarPast rule count done a b → PassesValues rule count a b
 past_ends rule count done a b most least h =
     let all = all_done rule count a [] done b h.values most h.so.all in
     (all.0, omega (arith, ap length (sym all.1), h.so.many, most, least), all.2)
 
 -- those that were passed over are behind those before
-pub past_gained : {V : Type 0} (took : V → List ℕ → Type 0) (v w : V) (rule : Grammar ℕ) (count : ℕ) (a b : Reader) → ((values others : List ℕ) → took v values → length others ≡ count → took w (values ++ others)) → Passes rule count a b → Gains took v w (AddsAll rule count a (Ok tt) b)
+pub past_gained : {V : Type 0} (took : V → List ℕ → Type 0) (v w : V) (rule : Grammar ℕ) (count : ℕ) (a b : Reader) → ((values others : List ℕ) → took v values → length others ≡ count → took w (values ++ others)) → PassesValues rule count a b → Gains took v w (AddsAll rule count a (Ok tt) b)
 past_gained took v w rule count a b passes h = λ before t. passed took w rule count a before h.0 (Ok tt) b h.1 (passes before h.0 t h.1) h.2
 
 -- some are

@@ -13,7 +13,7 @@ use Rattle.bit_grammar.specs.Definition.{fits, passes, kind, valued, operand, pl
 use Rattle.bit_grammar.specs.FormatDefinition.{HasLawfulValue, Definable}
 use Rattle.bit_fields.specs.declared.fault.Fault.{Fault}
 use Rattle.bit_fields.specs.declared.fault.Fault.TheVariants.{Memory}
-use Rattle.bit_fields.specs.Reader.{Reader, Took, Why, Takes, told_by, stopped}
+use Rattle.bit_fields.specs.Reader.{Reader, Took, Why, Takes, told_by, failed_reader}
 use Rattle.bit_fields.proofs.Composing.{fault_then, took_then, took_nothing, from_here}
 use Rattle.bit_abbrev.proofs.Adding.{and_gives, memory_after}
 
@@ -87,8 +87,8 @@ fails shapes count a done place b ops fault c less h why =
     let left : count - done ≡ suc (count - 1 - done) = omega (arith, less) in
     h.so (Err fault) c (subst (λ (n : ℕ). Why (operands shapes n place) b fault c) (sym left) (none_more shapes (count - 1 - done) place b fault c why))
 
-pub refused : (shapes : Shapes) (count : ℕ) (a : Reader) (done : ℕ) (place : Place) (b : Reader) (ops : List Op) (op : Op) (c : Reader) → Defines shapes count a done place b ops → Took (operand shapes place (count - 1 - done)) b op c → Why (operands shapes count first) a Memory (stopped c)
-refused shapes count a done place b ops op c h t = h.so (Err Memory) (stopped c) (memory_after (operand shapes place (count - 1 - done)) (operands shapes (count - done) place) b op c t)
+pub refused : (shapes : Shapes) (count : ℕ) (a : Reader) (done : ℕ) (place : Place) (b : Reader) (ops : List Op) (op : Op) (c : Reader) → Defines shapes count a done place b ops → Took (operand shapes place (count - 1 - done)) b op c → Why (operands shapes count first) a Memory (failed_reader c)
+refused shapes count a done place b ops op c h t = h.so (Err Memory) (failed_reader c) (memory_after (operand shapes place (count - 1 - done)) (operands shapes (count - done) place) b op c t)
 
 pub is_done : (shapes : Shapes) (count : ℕ) (a : Reader) (done : ℕ) (place : Place) (b : Reader) (ops : List Op) → count ≤ done → Defines shapes count a done place b ops → Took (operands shapes count first) a ops b
 unfolding operands

@@ -9,11 +9,12 @@ use Rattle.bit_grammar.specs.declared.op.Op.TheVariants.{Literal, Fixed, Vbr, Ar
 use Rattle.bit_grammar.specs.declared.reason.Reason.TheVariants.{TooManyValues}
 use Rattle.bit_grammar.specs.Grammar.{Grammar, at, gives, test, ◌>>=◌, ◌>>◌, repeat}
 use Rattle.bit_grammar.specs.Fields.{fixed, align32, byte}
-use Rattle.bit_grammar.specs.Record.{Entry, value_count, scalar, singles, values_of, abbreviated}
+use Rattle.bit_grammar.specs.Record.{value_count, scalar, singles, values_of, abbreviated}
+use Rattle.bit_grammar.specs.Terms.{CodeAndValues}
 use Rattle.bit_grammar.specs.FormatDefinition.{op_at, IsElement, Lawful}
 use Rattle.bit_fields.specs.declared.fault.Fault.{Fault}
 use Rattle.bit_fields.specs.declared.fault.Fault.TheVariants.{Memory}
-use Rattle.bit_fields.specs.Reader.{Reader, Took, Why, Takes, stopped}
+use Rattle.bit_fields.specs.Reader.{Reader, Took, Why, Takes, failed_reader}
 use Rattle.bit_fields.proofs.Composing.{fault_then, took_then}
 use Rattle.bit_abbrev.specs.Values.{Adds, AddsAll, AddsRecord}
 use Rattle.bit_abbrev.proofs.Adding.{and_gives, part_then, part_fails, values_fail, padding_then, value_then, value_fails, no_room, adds_none, Completes}
@@ -107,8 +108,8 @@ pub from_fails : (room : ℕ) (ops : List Op) (a : Reader) (before : List ℕ) (
 from_fails room ops a before i b now fault c less m n h why =
     (at_index room ops a before i b now less h).so (Err fault) now c (single_fails room (op_at ops i) (drop (i + 1) ops) b fault now c m n why)
 
-pub from_refused : (room : ℕ) (ops : List Op) (a : Reader) (before : List ℕ) (i : ℕ) (b : Reader) (now : List ℕ) (op : Op) (value : ℕ) (c : Reader) → CompletesFrom room ops a before i b now → Took (scalar op) b value c → Adds (values_of room ops) a (Err Memory) before now (stopped c)
-from_refused room ops a before i b now op value c h t = h.so (Err Memory) now (stopped c) (no_room (scalar op) (values_of room (drop i ops)) b value c now t)
+pub from_refused : (room : ℕ) (ops : List Op) (a : Reader) (before : List ℕ) (i : ℕ) (b : Reader) (now : List ℕ) (op : Op) (value : ℕ) (c : Reader) → CompletesFrom room ops a before i b now → Took (scalar op) b value c → Adds (values_of room ops) a (Err Memory) before now (failed_reader c)
+from_refused room ops a before i b now op value c h t = h.so (Err Memory) now (failed_reader c) (no_room (scalar op) (values_of room (drop i ops)) b value c now t)
 
 -- an operand that is the element of an array stands in the list
 pub element_inside : (ops : List Op) (i : ℕ) → IsElement (op_at ops i) → i < length ops
@@ -195,14 +196,14 @@ from_done room ops a before i b now most h =
 -- ---- a record
 
 -- a record's fields, once its single values are known to have room
-abbrev fields_of : ℕ → Op → List Op → Grammar Entry
+abbrev fields_of : ℕ → Op → List Op → Grammar CodeAndValues
 fields_of room op others = scalar op >>= λ code. values_of (room - singles others) others >>= λ values. gives (record { code = code; values = values })
 
 abbrev judged : (start room : ℕ) → List Op → Grammar (Unit {0})
 judged start room others = test (nat_le (singles others) room) (at TooManyValues start)
 
 -- what follows a record's code
-abbrev values_after : (room : ℕ) → List Op → ℕ → Grammar Entry
+abbrev values_after : (room : ℕ) → List Op → ℕ → Grammar CodeAndValues
 values_after room others code = values_of (room - singles others) others >>= λ values. gives (record { code = code; values = values })
 
 pub record_crowded : (start room : ℕ) (op : Op) (others : List Op) (a : Reader) (fault : Fault) (now : List ℕ) (c : Reader) → Why (judged start room others) a fault c → AddsRecord (abbreviated start room (op ∷ others)) a (Err fault) now now c

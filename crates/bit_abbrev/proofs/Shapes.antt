@@ -3,8 +3,8 @@ use Rattle.std.proofs.Common.{◌≡◌, true, List, sym}
 use Rattle.bit_grammar.specs.declared.op.Op.{Op}
 use Rattle.bit_grammar.specs.Definition.{has_shape}
 use Rattle.bit_grammar.specs.FormatDefinition.{Definable, Lawful}
-use Rattle.bit_grammar.proofs.Definitions.{is_in_order}
-use Rattle.bit_grammar.proofs.Operands.{shape_of}
+use Rattle.bit_grammar.proofs.Words.Definitions.{is_in_order}
+use Rattle.bit_grammar.proofs.Words.Operands.{shape_of}
 
 pub lawful_of : (ops : List Op) → Definable ops → has_shape ops ≡ true → Lawful ops
 lawful_of ops definable shape = record { some = definable.some; order = is_in_order ops shape; values = definable.values }

@@ -4,12 +4,13 @@ use Rattle.std.proofs.Math.ListN.{replicate}
 use Rattle.std.proofs.lemmas.List.{append-nil}
 use Rattle.bit_grammar.specs.Grammar as grammar
 use Rattle.bit_grammar.specs.Grammar.{Grammar, gives, ◌>>=◌, ◌and_then◌, repeat, reading}
-use Rattle.bit_grammar.specs.Fields.{fixed, vbr, char6, character}
-use Rattle.bit_grammar.specs.Record.{Entry, value_count, unabbreviated}
+use Rattle.bit_grammar.specs.Fields.{fixed, vbr, char6}
+use Rattle.bit_grammar.specs.Terms.{character, CodeAndValues}
+use Rattle.bit_grammar.specs.Record.{value_count, unabbreviated}
 use Rattle.bit_fields.specs.declared.fault.Fault.{Fault}
 use Rattle.bit_fields.specs.declared.fault.Fault.TheVariants.{Memory}
 use Rattle.bit_fields.specs.Inside.{numbers}
-use Rattle.bit_fields.specs.Reader.{Reader, Took, Why, Takes, IsOnly, told_by, stopped}
+use Rattle.bit_fields.specs.Reader.{Reader, Took, Why, Takes, IsOnly, told_by, failed_reader}
 use Rattle.bit_fields.proofs.Composing.{back_there, fault_then, took_then, took_nothing, same_reading, only}
 use Rattle.bit_abbrev.specs.Values.{Has, AddsAll, AddsWithin, Recorded}
 use Rattle.bit_abbrev.proofs.Adding.{and_gives, CompletesAll, all_begin, all_go_on, all_fail, all_refused, all_done}
@@ -35,7 +36,7 @@ far_goes_on took v w rule count a before done b value c less h t step = (
 pub far_fails : {V : Type 0} (took : V → List ℕ → Type 0) (v : V) (rule : Grammar ℕ) (count : ℕ) (a : Reader) (before : List ℕ) (done : ℕ) (b : Reader) (fault : Fault) (c : Reader) → done < count → Has took v (SoFar rule count a done b before) → Why rule b fault c → Has took v (AddsAll rule count a (Err fault) c before)
 far_fails took v rule count a before done b fault c less h why = (h.0, h.1, (all_fail rule count a before done b h.0 fault c less h.2.all why, tt))
 
-pub far_refused : {V : Type 0} (took : V → List ℕ → Type 0) (v w : V) (rule : Grammar ℕ) (count : ℕ) (a : Reader) (before : List ℕ) (done : ℕ) (b : Reader) (value : ℕ) (c : Reader) → Has took v (SoFar rule count a done b before) → Took rule b value c → ((values : List ℕ) → took v values → took w values) → Has took w (AddsAll rule count a (Err Memory) (stopped c) before)
+pub far_refused : {V : Type 0} (took : V → List ℕ → Type 0) (v w : V) (rule : Grammar ℕ) (count : ℕ) (a : Reader) (before : List ℕ) (done : ℕ) (b : Reader) (value : ℕ) (c : Reader) → Has took v (SoFar rule count a done b before) → Took rule b value c → ((values : List ℕ) → took v values → took w values) → Has took w (AddsAll rule count a (Err Memory) (failed_reader c) before)
 far_refused took v w rule count a before done b value c h t same = (h.0, same h.0 h.1, (all_refused rule count a before done b h.0 value c h.2.all t, tt))
 
 pub far_ends : {V : Type 0} (took : V → List ℕ → Type 0) (v : V) (rule : Grammar ℕ) (count : ℕ) (a : Reader) (before : List ℕ) (done : ℕ) (b : Reader) → count ≤ done → done ≤ count → Has took v (SoFar rule count a done b before) → Has took v (AddsAll rule count a (Ok tt) b before)
@@ -96,37 +97,37 @@ characters_took count a codes (Err fault) c t = same_reading (repeat count (fixe
 
 -- ---- records
 
-pub recorded : {V : Type 0} (took : V → List ℕ → Type 0) (v : V) (rule : Grammar Entry) (room : ℕ) (a : Reader) (code : ℕ) (c : Reader) (before : List ℕ) → Has took v (AddsWithin rule room a (Ok code) c before) → Has took v (Recorded (λ r. Takes rule a r c) (Ok code) before)
+pub recorded : {V : Type 0} (took : V → List ℕ → Type 0) (v : V) (rule : Grammar CodeAndValues) (room : ℕ) (a : Reader) (code : ℕ) (c : Reader) (before : List ℕ) → Has took v (AddsWithin rule room a (Ok code) c before) → Has took v (Recorded (λ r. Takes rule a r c) (Ok code) before)
 recorded took v rule room a code c before h = (h.0, h.1, h.2.0)
 
-pub recorded_only : {V : Type 0} (took : V → List ℕ → Type 0) (v : V) (rule : Grammar Entry) (room : ℕ) (a : Reader) (code : ℕ) (c : Reader) (before : List ℕ) → Has took v (AddsWithin rule room a (Ok code) c before) → Has took v (Recorded (λ r. IsOnly rule a r c) (Ok code) before)
+pub recorded_only : {V : Type 0} (took : V → List ℕ → Type 0) (v : V) (rule : Grammar CodeAndValues) (room : ℕ) (a : Reader) (code : ℕ) (c : Reader) (before : List ℕ) → Has took v (AddsWithin rule room a (Ok code) c before) → Has took v (Recorded (λ r. IsOnly rule a r c) (Ok code) before)
 recorded_only took v rule room a code c before h = (h.0, h.1, (h.2.0.0, h.2.0.1, only rule a (Ok (record { code = code; values = h.2.0.0 })) c h.2.0.2))
 
-pub recorded_few : {V : Type 0} (took : V → List ℕ → Type 0) (v : V) (rule : Grammar Entry) (room : ℕ) (a : Reader) (code : ℕ) (c : Reader) (before : List ℕ) → Has took v (AddsWithin rule room a (Ok code) c before) → Has took v (λ after. length after ≤ length before + room)
+pub recorded_few : {V : Type 0} (took : V → List ℕ → Type 0) (v : V) (rule : Grammar CodeAndValues) (room : ℕ) (a : Reader) (code : ℕ) (c : Reader) (before : List ℕ) → Has took v (AddsWithin rule room a (Ok code) c before) → Has took v (λ after. length after ≤ length before + room)
 recorded_few took v rule room a code c before h = (h.0, h.1, h.2.1)
 
 -- what is cut back to so many values as there were
 cut_back : {V : Type 0} (took : V → List ℕ → Type 0) (old read cut : V) (count : ℕ) (before after others : List ℕ) → ((values : List ℕ) → took old values → count ≡ min (length values) (2 ^ 64 - 1)) → ((values others : List ℕ) → took read (values ++ others) → count ≡ min (length values) (2 ^ 64 - 1) → took cut values) → took old before → took read after → after ≡ before ++ others → took cut before
 cut_back took old read cut count before after others counts cuts t u is = cuts before others (subst (took read) is u) (counts before t)
 
-pub not_recorded : {V : Type 0} (took : V → List ℕ → Type 0) (old read cut : V) (count : ℕ) (rule : Grammar Entry) (room : ℕ) (a : Reader) (fault : Fault) (c : Reader) (start : ℕ) (d : Reader) (before : List ℕ) → ((values : List ℕ) → took old values → count ≡ min (length values) (2 ^ 64 - 1)) → ((values others : List ℕ) → took read (values ++ others) → count ≡ min (length values) (2 ^ 64 - 1) → took cut values)
+pub not_recorded : {V : Type 0} (took : V → List ℕ → Type 0) (old read cut : V) (count : ℕ) (rule : Grammar CodeAndValues) (room : ℕ) (a : Reader) (fault : Fault) (c : Reader) (start : ℕ) (d : Reader) (before : List ℕ) → ((values : List ℕ) → took old values → count ≡ min (length values) (2 ^ 64 - 1)) → ((values others : List ℕ) → took read (values ++ others) → count ≡ min (length values) (2 ^ 64 - 1) → took cut values)
     → start ≡ a.position → (c.live ≡ false → d ≡ record c { position = start }) → took old before → Has took read (AddsWithin rule room a (Err fault) c before) → Has took cut (Recorded (λ r. Takes rule a r d) (Err fault) before)
 not_recorded took old read cut count rule room a fault c start d before counts cuts here moved t h = (before, cut_back took old read cut count before h.0 h.2.0.0 counts cuts t h.1 h.2.0.1, (refl, back_there rule a fault c start d h.2.0.2 here moved))
 
-pub not_recorded_only : {V : Type 0} (took : V → List ℕ → Type 0) (old read cut : V) (count : ℕ) (rule : Grammar Entry) (room : ℕ) (a : Reader) (fault : Fault) (c : Reader) (start : ℕ) (d : Reader) (before : List ℕ) → ((values : List ℕ) → took old values → count ≡ min (length values) (2 ^ 64 - 1)) → ((values others : List ℕ) → took read (values ++ others) → count ≡ min (length values) (2 ^ 64 - 1) → took cut values)
+pub not_recorded_only : {V : Type 0} (took : V → List ℕ → Type 0) (old read cut : V) (count : ℕ) (rule : Grammar CodeAndValues) (room : ℕ) (a : Reader) (fault : Fault) (c : Reader) (start : ℕ) (d : Reader) (before : List ℕ) → ((values : List ℕ) → took old values → count ≡ min (length values) (2 ^ 64 - 1)) → ((values others : List ℕ) → took read (values ++ others) → count ≡ min (length values) (2 ^ 64 - 1) → took cut values)
     → start ≡ a.position → (c.live ≡ false → d ≡ record c { position = start }) → took old before → Has took read (AddsWithin rule room a (Err fault) c before) → Has took cut (Recorded (λ r. IsOnly rule a r d) (Err fault) before)
 not_recorded_only took old read cut count rule room a fault c start d before counts cuts here moved t h = (before, cut_back took old read cut count before h.0 h.2.0.0 counts cuts t h.1 h.2.0.1, (refl, only rule a (Err fault) d (back_there rule a fault c start d h.2.0.2 here moved)))
 
-pub not_recorded_few : {V : Type 0} (took : V → List ℕ → Type 0) (old read cut : V) (count : ℕ) (rule : Grammar Entry) (room : ℕ) (a : Reader) (fault : Fault) (c : Reader) (before : List ℕ) → ((values : List ℕ) → took old values → count ≡ min (length values) (2 ^ 64 - 1)) → ((values others : List ℕ) → took read (values ++ others) → count ≡ min (length values) (2 ^ 64 - 1) → took cut values)
+pub not_recorded_few : {V : Type 0} (took : V → List ℕ → Type 0) (old read cut : V) (count : ℕ) (rule : Grammar CodeAndValues) (room : ℕ) (a : Reader) (fault : Fault) (c : Reader) (before : List ℕ) → ((values : List ℕ) → took old values → count ≡ min (length values) (2 ^ 64 - 1)) → ((values others : List ℕ) → took read (values ++ others) → count ≡ min (length values) (2 ^ 64 - 1) → took cut values)
     → took old before → Has took read (AddsWithin rule room a (Err fault) c before) → Has took cut (λ after. Unit {0})
 not_recorded_few took old read cut count rule room a fault c before counts cuts t h = (before, cut_back took old read cut count before h.0 h.2.0.0 counts cuts t h.1 h.2.0.1, tt)
 
 -- ---- records that are not abbreviated
 
-abbrev entry_of : ℕ → Grammar (List ℕ) → Grammar Entry
+abbrev entry_of : ℕ → Grammar (List ℕ) → Grammar CodeAndValues
 entry_of code rule = rule >>= λ values. gives (record { code = code; values = values })
 
-abbrev counted : (room code : ℕ) → Grammar Entry
+abbrev counted : (room code : ℕ) → Grammar CodeAndValues
 counted room code = value_count room >>= λ count. entry_of code (repeat count (vbr 6))
 
 pub plain_coded : {V : Type 0} (took : V → List ℕ → Type 0) (v : V) (room : ℕ) (a : Reader) (fault : Fault) (c : Reader) (before : List ℕ) → Why (vbr 6) a fault c → took v before → Has took v (AddsWithin (unabbreviated room) room a (Err fault) c before)

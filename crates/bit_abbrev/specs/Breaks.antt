@@ -17,7 +17,8 @@ pub data BreaksShape (ops : List Op) (i : ℕ) : Type 0 where
   first_array : i ≡ 0 → op_at ops i ≡ Array → BreaksShape ops i
   first_blob : i ≡ 0 → op_at ops i ≡ Blob → BreaksShape ops i
   array_place : op_at ops i ≡ Array → i + 2 ≢ length ops → BreaksShape ops i
-  no_element : (before : ℕ) → i ≡ before + 1 → op_at ops before ≡ Array → (IsElement (op_at ops i) → ⊥) → BreaksShape ops i
+  no_element : (before : ℕ) → i ≡ before + 1 → op_at ops before ≡ Array
+      → (IsElement (op_at ops i) → ⊥) → BreaksShape ops i
   blob_place : op_at ops i ≡ Blob → i + 1 ≢ length ops → BreaksShape ops i
 
 -- a width is over 32, or a VBR's is 1
@@ -27,17 +28,19 @@ BreaksWidth (Vbr width) = (32 < width) ⊎ (width ≡ 1)
 BreaksWidth _ = ⊥
 
 -- the operand at an index breaks the rules with this reason; the shape is judged before the width
-abbrev pub Breaks : List Op → ℕ → Reason → Type 0
-Breaks ops i reason = (i < length ops) × (((reason ≡ AbbrevShape) × BreaksShape ops i) ⊎ ((reason ≡ FieldWidth) × (BreaksShape ops i → ⊥) × BreaksWidth (op_at ops i)))
+abbrev pub BreaksAt : List Op → ℕ → Reason → Type 0
+BreaksAt ops i reason = (i < length ops) × (((reason ≡ AbbrevShape) × BreaksShape ops i)
+    ⊎ ((reason ≡ FieldWidth) × (BreaksShape ops i → ⊥) × BreaksWidth (op_at ops i)))
 
 -- no operand breaks the rules
 abbrev pub NoneBreaks : List Op → Type 0
-NoneBreaks ops = (i : ℕ) (reason : Reason) → Breaks ops i reason → ⊥
+NoneBreaks ops = (i : ℕ) (reason : Reason) → BreaksAt ops i reason → ⊥
 
 -- the first break of a list: it is empty, or the operand at the least index that breaks
 abbrev pub IsFirstBreak : List Op → ℕ → Reason → Type 0
 IsFirstBreak [] i reason = (i ≡ 0) × (reason ≡ AbbrevEmpty)
-IsFirstBreak (op ∷ ops) i reason = Breaks (op ∷ ops) i reason × ((j : ℕ) (other : Reason) → j < i → Breaks (op ∷ ops) j other → ⊥)
+IsFirstBreak (op ∷ ops) i reason = BreaksAt (op ∷ ops) i reason
+    × ((j : ℕ) (other : Reason) → j < i → BreaksAt (op ∷ ops) j other → ⊥)
 
 -- a literal has 64 bits, as each one of the code has
 abbrev pub LiteralFits : Op → Type 0

@@ -10,8 +10,8 @@ abbrev pub definitions_at : List (ℕ × List (List Op)) → ℕ → List (List 
 definitions_at table id = unwrap_or (lookup (nat_eq id) table) []
 
 -- the entries, with each vector as the list of its definitions
-abbrev pub shown : List (ℕ × Vec (List Op)) → List (ℕ × List (List Op))
-shown entries = map (λ e. (e.0, e.1.items)) entries
+abbrev pub table_shown : List (ℕ × Vec (List Op)) → List (ℕ × List (List Op))
+table_shown entries = map (λ e. (e.0, e.1.items)) entries
 
 -- the definitions of the entry at a place; none past the last
 abbrev pub list_at : List (ℕ × List (List Op)) → ℕ → List (List Op)

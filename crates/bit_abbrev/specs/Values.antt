@@ -2,7 +2,7 @@
 use Rattle.std.specs.Prelude.{◌≡◌, ℕ, ◌+◌, ◌≤◌, List, ◌++◌, length, Result, Ok, Err}
 use Rattle.std.specs.Result.{OnOk}
 use Rattle.bit_grammar.specs.Grammar.{Grammar, repeat}
-use Rattle.bit_grammar.specs.Record.{Entry}
+use Rattle.bit_grammar.specs.Terms.{CodeAndValues}
 use Rattle.bit_grammar.specs.declared.op.Op.{Op}
 use Rattle.bit_fields.specs.declared.fault.Fault.{Fault}
 use Rattle.bit_fields.specs.Reader.{Reader, Took, Why}
@@ -13,7 +13,8 @@ abbrev pub Has : {V : Type 0} → (took : V → List ℕ → Type 0) → V → (
 Has took taker P = (values : List ℕ) × took taker values × P values
 
 -- whatever values it had before a call, it has values after it of which, with those, this holds
-abbrev pub Gains : {V : Type 0} → (took : V → List ℕ → Type 0) → (old new : V) → (List ℕ → List ℕ → Type 0) → Type 0
+abbrev pub Gains : {V : Type 0} → (took : V → List ℕ → Type 0) → (old new : V)
+    → (List ℕ → List ℕ → Type 0) → Type 0
 Gains took old new P = (before : List ℕ) → took old before → Has took new (P before)
 
 -- whatever it took before, it took some values after a call
@@ -21,42 +22,59 @@ abbrev pub Keeps : {V : Type 0} → (took : V → List ℕ → Type 0) → (old 
 Keeps took old new = (before : List ℕ) → took old before → (after : List ℕ) × took new after
 
 -- what passes over so many values of a rule
-abbrev pub Passes : Grammar ℕ → (count : ℕ) → Reader → Reader → Type 0
-Passes rule count old new = (values : List ℕ) × (length values ≡ count) × Took (repeat count rule) old values new
+abbrev pub PassesValues : Grammar ℕ → (count : ℕ) → Reader → Reader → Type 0
+PassesValues rule count old new = (values : List ℕ) × (length values ≡ count)
+    × Took (repeat count rule) old values new
 
 -- A call adds to a list the values that the rule reads; after a fault some values may stand behind those that were there.
-abbrev pub Adds : Grammar (List ℕ) → Reader → Result (Unit {0}) Fault → (before after : List ℕ) → Reader → Type 0
-Adds rule old (Ok x) before after new = (values : List ℕ) × (after ≡ before ++ values) × Took rule old values new
-Adds rule old (Err fault) before after new = (values : List ℕ) × (after ≡ before ++ values) × Why rule old fault new
+abbrev pub Adds : Grammar (List ℕ) → Reader → Result (Unit {0}) Fault → (before after : List ℕ)
+    → Reader → Type 0
+Adds rule old (Ok x) before after new = (values : List ℕ) × (after ≡ before ++ values)
+    × Took rule old values new
+Adds rule old (Err fault) before after new = (values : List ℕ) × (after ≡ before ++ values)
+    × Why rule old fault new
 
 -- what passes over a value of each of these operands
 abbrev pub PassesEach : List Op → Reader → Reader → Type 0
-PassesEach ops old new = (values : List ℕ) × (length values ≡ length ops) × Took (scalars ops) old values new
+PassesEach ops old new = (values : List ℕ) × (length values ≡ length ops)
+    × Took (scalars ops) old values new
 
 -- A call adds to a list a value of each of these operands.
 abbrev pub AddsEach : List Op → (old new : Reader) → (before after : List ℕ) → Type 0
-AddsEach ops old new before after = Adds (scalars ops) old (Ok tt) before after new × (length after ≡ length before + length ops)
+AddsEach ops old new before after = Adds (scalars ops) old (Ok tt) before after new
+    × (length after ≡ length before + length ops)
 
 -- A call adds to a list the values that the rule reads, no more than there was room for.
-abbrev pub AddsFew : Grammar (List ℕ) → (room : ℕ) → (old new : Reader) → (before after : List ℕ) → Type 0
-AddsFew rule room old new before after = Adds rule old (Ok tt) before after new × (length after ≤ length before + room)
+abbrev pub AddsFew : Grammar (List ℕ) → (room : ℕ) → (old new : Reader) → (before after : List ℕ)
+    → Type 0
+AddsFew rule room old new before after = Adds rule old (Ok tt) before after new
+    × (length after ≤ length before + room)
 
 -- A call adds so many values to a list.
-abbrev pub AddsAll : Grammar ℕ → (count : ℕ) → Reader → Result (Unit {0}) Fault → Reader → (before after : List ℕ) → Type 0
-AddsAll rule count old result new before after = Adds (repeat count rule) old result before after new × OnOk result (length after ≡ length before + count)
+abbrev pub AddsAll : Grammar ℕ → (count : ℕ) → Reader → Result (Unit {0}) Fault → Reader
+    → (before after : List ℕ) → Type 0
+AddsAll rule count old result new before after = Adds (repeat count rule) old result before after
+    new × OnOk result (length after ≡ length before + count)
 
 -- A call answers the code of a record and adds its values to a list, and what it answers has a property of records; after a
 -- fault the list is as it was.
-abbrev pub Recorded : (Result Entry Fault → Type 0) → Result ℕ Fault → (before after : List ℕ) → Type 0
-Recorded P (Ok code) before after = (values : List ℕ) × (after ≡ before ++ values) × P (Ok (record { code = code; values = values }))
+abbrev pub Recorded : (Result CodeAndValues Fault → Type 0) → Result ℕ Fault
+    → (before after : List ℕ) → Type 0
+Recorded P (Ok code) before after = (values : List ℕ) × (after ≡ before ++ values)
+    × P (Ok (record { code = code; values = values }))
 Recorded P (Err fault) before after = (after ≡ before) × P (Err fault)
 
 -- A call answers the code of a record and adds its values to a list; after a fault some of them may stand behind those that
 -- were there.
-abbrev pub AddsRecord : Grammar Entry → Reader → Result ℕ Fault → (before after : List ℕ) → Reader → Type 0
-AddsRecord rule old (Ok code) before after new = (values : List ℕ) × (after ≡ before ++ values) × Took rule old (record { code = code; values = values }) new
-AddsRecord rule old (Err fault) before after new = (values : List ℕ) × (after ≡ before ++ values) × Why rule old fault new
+abbrev pub AddsRecord : Grammar CodeAndValues → Reader → Result ℕ Fault → (before after : List ℕ)
+    → Reader → Type 0
+AddsRecord rule old (Ok code) before after new = (values : List ℕ) × (after ≡ before ++ values)
+    × Took rule old (record { code = code; values = values }) new
+AddsRecord rule old (Err fault) before after new = (values : List ℕ) × (after ≡ before ++ values)
+    × Why rule old fault new
 
 -- the same, with room for so many
-abbrev pub AddsWithin : Grammar Entry → (room : ℕ) → Reader → Result ℕ Fault → Reader → (before after : List ℕ) → Type 0
-AddsWithin rule room old result new before after = AddsRecord rule old result before after new × OnOk result (length after ≤ length before + room)
+abbrev pub AddsWithin : Grammar CodeAndValues → (room : ℕ) → Reader → Result ℕ Fault → Reader
+    → (before after : List ℕ) → Type 0
+AddsWithin rule room old result new before after = AddsRecord rule old result before after new
+    × OnOk result (length after ≤ length before + room)

@@ -43,7 +43,8 @@ impl Model for Abbrev {
 
     ghost view = { λ definition. definition.ops.items };
 
-    ghost invariant = { λ definition. Definable definition.ops.items × (definition.usable ≡ has_shape definition.ops.items) };
+    ghost invariant = { λ definition. Definable definition.ops.items
+        × (definition.usable ≡ has_shape definition.ops.items) };
 }
 
 /// Whether an operand of this kind may stand there, with so many operands after it.

@@ -83,10 +83,10 @@ fn read_operand<S: Source>(
     ensures takes { Takes (operand shapes place after) reader.old result reader.new }
     ensures lawful { IfOk result HasLawfulValue }
 {
-    let start = reader.position();
+    let first = reader.position();
     let kind = read_kind(reader)?;
     let passed = passes(shapes, fits(place, after, kind));
-    reader.judge(passed, Reason::AbbrevShape, start)?;
+    reader.judge(passed, Reason::AbbrevShape, first)?;
     read_value(reader, kind)
 }
 
@@ -99,7 +99,8 @@ fn read_operands<S: Source>(
 ) -> Result<Ops, Fault>
     requires some { 0 < count }
     requires live { reader.old.live ≡ true }
-    ensures takes { Takes (operands shapes count First) reader.old (told_by (λ ops. ops.items) result) reader.new }
+    ensures takes { Takes (operands shapes count First) reader.old
+        (told_by (λ ops. ops.items) result) reader.new }
     ensures definable { IfOk result (λ ops. Definable ops.items) }
 {
     let mut ops = SmallVec::new(alloc);
@@ -124,9 +125,9 @@ fn read_definition<S: Source>(
 ) -> Result<Abbrev, Fault>
     ensures { Takes (definition shapes) reader.old result reader.new }
 {
-    let start = reader.position();
+    let first = reader.position();
     let count = reader.vbr(5)?;
-    reader.judge(count != 0, Reason::AbbrevEmpty, start)?;
+    reader.judge(count != 0, Reason::AbbrevEmpty, first)?;
     let ops = read_operands(alloc, reader, shapes, count)?;
     Ok(Abbrev::from_definable(ops))
 }
@@ -144,9 +145,9 @@ pub fn read_define<S: Source>(
     ensures only { IsOnly (definition shapes) reader.old result reader.new }
     ensures stays { OnErr result (reader.new.position ≡ reader.old.position) }
 {
-    let start = reader.position();
+    let first = reader.position();
     match read_definition(alloc, reader, shapes) {
         Ok(abbrev) => Ok(abbrev),
-        Err(fault) => Err(reader.fail_at(fault, start)),
+        Err(fault) => Err(reader.fail_at(fault, first)),
     }
 }

@@ -7,7 +7,7 @@ ghost use Rattle.bit_grammar.specs.Record.{scalar, value_count, values_of};
 ghost use Rattle.bit_grammar.specs.FormatDefinition.{IsElement, HasLawfulValue};
 ghost use Rattle.bit_grammar.specs.declared.op.Op.{Op};
 ghost use Rattle.bit_grammar.specs.declared.op.Op.TheVariants.{Array, Blob};
-ghost use Rattle.bit_fields.specs.Reader.{Takes, stopped};
+ghost use Rattle.bit_fields.specs.Reader.{Takes, failed_reader};
 ghost use Rattle.bit_abbrev.specs.Values.{Adds, AddsAll, Gains};
 
 use bit_fields::{BitReader, Fault, Source, ValueTaker};
@@ -36,8 +36,11 @@ pub(crate) fn take<S: Source, V: ValueTaker>(
     values: &mut V,
     value: u64,
 ) -> Result<(), Fault>
-    ensures ok { OnOk result ((reader.new ≡ reader.old) × ((before : List ℕ) → V.took values.old before → V.took values.new (before ++ value ∷ []))) }
-    ensures err { IfErr result (λ fault. (fault ≡ Fault.Memory) × (reader.new ≡ stopped reader.old) × ((before : List ℕ) → V.took values.old before → V.took values.new before)) }
+    ensures ok { OnOk result ((reader.new ≡ reader.old)
+        × ((before : List ℕ) → V.took values.old before → V.took values.new (before ++ value ∷ []))) }
+    ensures err { IfErr result (λ fault. (fault ≡ Fault.Memory)
+        × (reader.new ≡ failed_reader reader.old)
+        × ((before : List ℕ) → V.took values.old before → V.took values.new before)) }
 {
     match values.take(value) {
         Ok(()) => Ok(()),
@@ -49,8 +52,10 @@ pub(crate) fn take<S: Source, V: ValueTaker>(
 /// they were.
 #[inline(always)]
 pub(crate) fn pass_fields<V: ValueTaker>(values: &mut V, count: u64) -> bool
-    ensures yes { result ≡ true → (before others : List ℕ) → V.took values.old before → length others ≡ count → V.took values.new (before ++ others) }
-    ensures no { result ≡ false → (before : List ℕ) → V.took values.old before → V.took values.new before }
+    ensures yes { result ≡ true → (before others : List ℕ) → V.took values.old before
+        → length others ≡ count → V.took values.new (before ++ others) }
+    ensures no { result ≡ false → (before : List ℕ) → V.took values.old before
+        → V.took values.new before }
     ensures few { result ≡ true → count < 2 ^ 32 }
 {
     count <= MOST_SKIPPED && values.pass(count)
@@ -67,7 +72,8 @@ pub(crate) fn read_vbrs<S: Source, V: ValueTaker>(
     requires some { 2 ≤ n }
     requires few { n ≤ 32 }
     requires live { reader.old.live ≡ true }
-    ensures { Gains V.took values.old values.new (AddsAll (vbr n) count reader.old result reader.new) }
+    ensures { Gains V.took values.old values.new
+        (AddsAll (vbr n) count reader.old result reader.new) }
 {
     for _ in 0..count {
         let value = reader.vbr(n)?;
@@ -86,7 +92,8 @@ fn read_fixed<S: Source, V: ValueTaker>(
     requires some { 0 < n }
     requires few { n ≤ 32 }
     requires live { reader.old.live ≡ true }
-    ensures { Gains V.took values.old values.new (AddsAll (fixed n) count reader.old result reader.new) }
+    ensures { Gains V.took values.old values.new
+        (AddsAll (fixed n) count reader.old result reader.new) }
 {
     for done in 0..count {
         let left = count - done;
@@ -126,7 +133,8 @@ fn add_zeros<S: Source, V: ValueTaker>(
     values: &mut V,
 ) -> Result<(), Fault>
     requires { reader.old.live ≡ true }
-    ensures { Gains V.took values.old values.new (AddsAll (gives 0) count reader.old result reader.new) }
+    ensures { Gains V.took values.old values.new
+        (AddsAll (gives 0) count reader.old result reader.new) }
 {
     for done in 0..count {
         if values.pass_zeros(count - done) {
@@ -147,7 +155,8 @@ fn read_elements<S: Source, V: ValueTaker>(
     requires element { IsElement element }
     requires lawful { HasLawfulValue element }
     requires live { reader.old.live ≡ true }
-    ensures { Gains V.took values.old values.new (AddsAll (scalar element) count reader.old result reader.new) }
+    ensures { Gains V.took values.old values.new
+        (AddsAll (scalar element) count reader.old result reader.new) }
 {
     match element {
         Op::Fixed(0) => add_zeros(reader, count, values),
@@ -169,7 +178,9 @@ pub(crate) fn read_array<S: Source, V: ValueTaker>(
 ) -> Result<(), Fault>
     requires element { IsElement element }
     requires lawful { HasLawfulValue element }
-    ensures { (others : List Op) → Gains V.took values.old values.new (λ before after. Adds (values_of room (Array ∷ element ∷ others)) reader.old result before after reader.new × OnOk result (length after ≤ length before + room)) }
+    ensures { (others : List Op) → Gains V.took values.old values.new
+        (λ before after. Adds (values_of room (Array ∷ element ∷ others)) reader.old result before
+        after reader.new × OnOk result (length after ≤ length before + room)) }
 {
     let count = read_count(reader, room)?;
     read_elements(reader, count, element, values)
@@ -181,7 +192,9 @@ pub(crate) fn read_blob<S: Source, V: ValueTaker>(
     room: u64,
     values: &mut V,
 ) -> Result<(), Fault>
-    ensures { (others : List Op) → Gains V.took values.old values.new (λ before after. Adds (values_of room (Blob ∷ others)) reader.old result before after reader.new × OnOk result (length after ≤ length before + room)) }
+    ensures { (others : List Op) → Gains V.took values.old values.new
+        (λ before after. Adds (values_of room (Blob ∷ others)) reader.old result before after
+        reader.new × OnOk result (length after ≤ length before + room)) }
 {
     let count = read_count(reader, room)?;
     reader.pad()?;

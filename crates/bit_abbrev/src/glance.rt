@@ -11,7 +11,7 @@ ghost use Rattle.bit_grammar.specs.declared.op.Op.{Op};
 ghost use Rattle.bit_grammar.specs.declared.op.Op.TheVariants.{Array, Blob};
 ghost use Rattle.bit_fields.specs.Ahead.{Glimpsed, reader_at};
 ghost use Rattle.bit_abbrev.specs.Plain.{IsBehindSingles};
-ghost use Rattle.bit_abbrev.specs.Values.{Adds, AddsAll, AddsEach, AddsFew, AddsWithin, Gains, Keeps, Passes, PassesEach};
+ghost use Rattle.bit_abbrev.specs.Values.{Adds, AddsAll, AddsEach, AddsFew, AddsWithin, Gains, Keeps, PassesValues, PassesEach};
 
 use crate::elements::pass_fields;
 use crate::record::have_room;
@@ -21,7 +21,8 @@ use bit_grammar::Op;
 /// Hands a value on, where memory is there.
 #[inline(always)]
 fn keep<V: ValueTaker>(values: &mut V, value: u64) -> Option<()>
-    ensures some { OnSome result ((before : List ℕ) → V.took values.old before → V.took values.new (before ++ value ∷ [])) }
+    ensures some { OnSome result ((before : List ℕ) → V.took values.old before
+        → V.took values.new (before ++ value ∷ [])) }
     ensures keeps { Keeps V.took values.old values.new }
 {
     match values.take(value) {
@@ -34,7 +35,8 @@ fn keep<V: ValueTaker>(values: &mut V, value: u64) -> Option<()>
 #[inline(always)]
 #[tactic(auto, unfolding(bit_grammar::specs::Record::value_count))]
 fn glance_count(ahead: &mut Ahead<'_>, room: u64) -> Option<u64>
-    ensures glimpsed { IfSome result (λ count. Glimpsed (value_count room) ahead.old count ahead.new) }
+    ensures glimpsed { IfSome result (λ count. Glimpsed (value_count room) ahead.old count
+        ahead.new) }
     ensures few { IfSome result (λ count. count ≤ room) }
 {
     let count = ahead.vbr(6)?;
@@ -46,7 +48,7 @@ fn glance_count(ahead: &mut Ahead<'_>, room: u64) -> Option<u64>
 fn pass_vbrs(ahead: &mut Ahead<'_>, count: u64, n: u32) -> Option<()>
     requires some { 2 ≤ n }
     requires few { n ≤ 32 }
-    ensures { OnSome result (Passes (vbr n) count (reader_at ahead.old) (reader_at ahead.new)) }
+    ensures { OnSome result (PassesValues (vbr n) count (reader_at ahead.old) (reader_at ahead.new)) }
 {
     for _ in 0..count {
         ahead.pass_vbr(n)?;
@@ -64,7 +66,8 @@ fn glance_vbrs<V: ValueTaker>(
 ) -> Option<()>
     requires some { 2 ≤ n }
     requires few { n ≤ 32 }
-    ensures glimpsed { OnSome result (Gains V.took values.old values.new (AddsAll (vbr n) count (reader_at ahead.old) (Ok tt) (reader_at ahead.new))) }
+    ensures glimpsed { OnSome result (Gains V.took values.old values.new
+        (AddsAll (vbr n) count (reader_at ahead.old) (Ok tt) (reader_at ahead.new))) }
     ensures keeps { Keeps V.took values.old values.new }
 {
     if values.pass(count) {
@@ -87,7 +90,8 @@ fn glance_fixed<V: ValueTaker>(
 ) -> Option<()>
     requires some { 0 < n }
     requires few { n ≤ 32 }
-    ensures glimpsed { OnSome result (Gains V.took values.old values.new (AddsAll (fixed n) count (reader_at ahead.old) (Ok tt) (reader_at ahead.new))) }
+    ensures glimpsed { OnSome result (Gains V.took values.old values.new
+        (AddsAll (fixed n) count (reader_at ahead.old) (Ok tt) (reader_at ahead.new))) }
     ensures keeps { Keeps V.took values.old values.new }
 {
     if pass_fields(values, count) {
@@ -103,7 +107,8 @@ fn glance_fixed<V: ValueTaker>(
 /// Reads so many characters, or passes over them where nobody looks at them.
 #[inline(always)]
 fn glance_characters<V: ValueTaker>(ahead: &mut Ahead<'_>, count: u64, values: &mut V) -> Option<()>
-    ensures glimpsed { OnSome result (Gains V.took values.old values.new (AddsAll char6 count (reader_at ahead.old) (Ok tt) (reader_at ahead.new))) }
+    ensures glimpsed { OnSome result (Gains V.took values.old values.new
+        (AddsAll char6 count (reader_at ahead.old) (Ok tt) (reader_at ahead.new))) }
     ensures keeps { Keeps V.took values.old values.new }
 {
     if pass_fields(values, count) {
@@ -126,7 +131,8 @@ fn far_elements<'a, V: ValueTaker>(
     values: &mut V,
 ) -> Option<Ahead<'a>>
     requires { HasLawfulValue element }
-    ensures glimpsed { IfSome result (λ after. Gains V.took values.old values.new (AddsAll (scalar element) count (reader_at ahead.entry) (Ok tt) (reader_at after))) }
+    ensures glimpsed { IfSome result (λ after. Gains V.took values.old values.new
+        (AddsAll (scalar element) count (reader_at ahead.entry) (Ok tt) (reader_at after))) }
     ensures keeps { Keeps V.took values.old values.new }
 {
     let mut ahead = ahead;
@@ -157,7 +163,8 @@ fn glance_elements<V: ValueTaker>(
     values: &mut V,
 ) -> Option<()>
     requires { HasLawfulValue element }
-    ensures glimpsed { OnSome result (Gains V.took values.old values.new (AddsAll (scalar element) count (reader_at ahead.old) (Ok tt) (reader_at ahead.new))) }
+    ensures glimpsed { OnSome result (Gains V.took values.old values.new
+        (AddsAll (scalar element) count (reader_at ahead.old) (Ok tt) (reader_at ahead.new))) }
     ensures keeps { Keeps V.took values.old values.new }
 {
     if let Op::Vbr(6) = element {
@@ -176,7 +183,9 @@ fn glance_array<U, V: ValueTaker>(
     values: &mut V,
 ) -> Option<()>
     requires { HasLawfulValue element }
-    ensures glimpsed { (others : List Op) → OnSome result (Gains V.took values.old values.new (AddsFew (values_of room (Array ∷ element ∷ others)) room (reader_at ahead.old) (reader_at ahead.new))) }
+    ensures glimpsed { (others : List Op) → OnSome result
+        (Gains V.took values.old values.new (AddsFew (values_of room (Array ∷ element ∷ others))
+        room (reader_at ahead.old) (reader_at ahead.new))) }
     ensures keeps { Keeps V.took values.old values.new }
 {
     let count = glance_count(ahead, room)?;
@@ -231,7 +240,8 @@ fn pass_scalars(ahead: &mut Ahead<'_>, ops: &[Op]) -> Option<()>
 #[inline(always)]
 fn glance_scalars<U, V: ValueTaker>(ahead: &mut Ahead<'_>, ops: &[Op], values: &mut V) -> Option<()>
     requires { AllByRecursion HasLawfulValue ops.now }
-    ensures glimpsed { OnSome result (Gains V.took values.old values.new (AddsEach ops.now (reader_at ahead.old) (reader_at ahead.new))) }
+    ensures glimpsed { OnSome result (Gains V.took values.old values.new
+        (AddsEach ops.now (reader_at ahead.old) (reader_at ahead.new))) }
     ensures keeps { Keeps V.took values.old values.new }
 {
     if values.pass(ops.len() as u64) {
@@ -247,7 +257,8 @@ fn glance_scalars<U, V: ValueTaker>(ahead: &mut Ahead<'_>, ops: &[Op], values: &
 /// Whether the last operand but one is an array.
 #[inline(always)]
 fn has_array(ops: &[Op]) -> bool
-    ensures yes { result ≡ true → (2 ≤ length ops.now) × (op_at ops.now (length ops.now - 2) ≡ Array) }
+    ensures yes { result ≡ true → (2 ≤ length ops.now)
+        × (op_at ops.now (length ops.now - 2) ≡ Array) }
     ensures no { result ≡ false → 2 ≤ length ops.now → op_at ops.now (length ops.now - 2) ≢ Array }
 {
     if ops.len() < 2 {
@@ -298,7 +309,9 @@ fn glance_values<U, V: ValueTaker>(
     requires blob { (i : ℕ) → op_at ops.now i ≡ Blob → i + 1 ≡ length ops.now }
     requires lawful { AllByRecursion HasLawfulValue ops.now }
     requires fits { singles ops.now ≤ room }
-    ensures glimpsed { OnSome result (Gains V.took values.old values.new (AddsFew (values_of (room - singles ops.now) ops.now) room (reader_at ahead.old) (reader_at ahead.new))) }
+    ensures glimpsed { OnSome result (Gains V.took values.old values.new
+        (AddsFew (values_of (room - singles ops.now) ops.now) room (reader_at ahead.old)
+        (reader_at ahead.new))) }
     ensures keeps { Keeps V.took values.old values.new }
 {
     let count = count_singles(ops)?;
@@ -322,7 +335,9 @@ pub fn glance_record<U, V: ValueTaker>(
     values: &mut V,
 ) -> Option<u64>
     requires { Lawful ops.now }
-    ensures glimpsed { IfSome result (λ code. Gains V.took values.old values.new (λ before after. (at : ℕ) → AddsWithin (abbreviated at room ops.now) room (reader_at ahead.old) (Ok code) (reader_at ahead.new) before after)) }
+    ensures glimpsed { IfSome result (λ code. Gains V.took values.old values.new
+        (λ before after. (at : ℕ) → AddsWithin (abbreviated at room ops.now) room
+        (reader_at ahead.old) (Ok code) (reader_at ahead.new) before after)) }
     ensures keeps { Keeps V.took values.old values.new }
 {
     let [first, others @ ..] = ops else {
@@ -344,7 +359,9 @@ pub fn glance_unabbreviated<V: ValueTaker>(
     room: u64,
     values: &mut V,
 ) -> Option<u64>
-    ensures glimpsed { IfSome result (λ code. Gains V.took values.old values.new (AddsWithin (unabbreviated room) room (reader_at ahead.old) (Ok code) (reader_at ahead.new))) }
+    ensures glimpsed { IfSome result (λ code. Gains V.took values.old values.new
+        (AddsWithin (unabbreviated room) room (reader_at ahead.old) (Ok code)
+        (reader_at ahead.new))) }
     ensures keeps { Keeps V.took values.old values.new }
 {
     let code = ahead.vbr(6)?;

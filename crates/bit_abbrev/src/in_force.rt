@@ -78,7 +78,8 @@ impl Model for InForce {
 
     ghost Value = { List (List Op) };
 
-    ghost view = { λ inside. option_map_or (λ shared. list_at shared.0.value shared.1) inside.shared [] ++ inside.own.items };
+    ghost view = { λ inside. option_map_or (λ shared. list_at shared.0.value shared.1) inside.shared
+        [] ++ inside.own.items };
 }
 
 /// The definitions in force in a block, as the two lists that they stand in.

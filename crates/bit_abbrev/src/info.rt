@@ -1,7 +1,7 @@
 //! The table of the abbreviations that BLOCKINFO blocks define, by block id.
 
 ghost use Rattle.std.specs.Prelude.{◌≡◌, ℕ, [], IfSome, IfNone, OnOk, OnErr};
-ghost use Rattle.bit_grammar.specs.Blocks.{defined_at, no_definitions};
+ghost use Rattle.bit_grammar.specs.Terms.{defined_at, no_definitions};
 ghost use Rattle.bit_abbrev.specs.Table.{definitions_at, list_at};
 
 use crate::Abbrev;
@@ -22,9 +22,9 @@ impl Model for InfoTable {
 
     ghost Value = { List (ℕ × List (List Op)) };
 
-    ghost use Rattle.bit_abbrev.specs.Table.{shown};
+    ghost use Rattle.bit_abbrev.specs.Table.{table_shown};
 
-    ghost view = { λ table. shown table.lists.entries };
+    ghost view = { λ table. table_shown table.lists.entries };
 }
 
 impl InfoTable {
@@ -68,7 +68,9 @@ impl InfoTable {
 
     /// Adds a definition to those for a block id. Where memory is refused it is dropped.
     pub fn define(&mut self, id: u32, abbrev: Abbrev) -> Result<(), AllocError>
-        ensures ok { OnOk result ((other : ℕ) → definitions_at self.new other ≡ defined_at id «abbrev» (definitions_at self.old) other) }
+        ensures ok { OnOk result ((other : ℕ)
+            → definitions_at self.new other ≡ defined_at id «abbrev» (definitions_at self.old)
+            other) }
         ensures err { OnErr result (self.new ≡ self.old) }
     {
         if let Some(list) = self.lists.get_mut(&id) {

@@ -6,5 +6,6 @@ ghost use Rattle.bit_abbrev.specs.Breaks.{LiteralFits, NoneBreaks};
 
 /// A list of operands is lawful exactly if it is not empty, its literals have 64 bits and no operand breaks the rules.
 pub fn lawful_unbroken()
-    ensures { (ops : List Op) → (Lawful ops ↔ ((0 < length ops) × AllByRecursion LiteralFits ops × NoneBreaks ops)) }
+    ensures { (ops : List Op) → (Lawful ops ↔ ((0 < length ops) × AllByRecursion LiteralFits ops
+        × NoneBreaks ops)) }
 {}

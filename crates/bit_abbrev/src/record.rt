@@ -93,7 +93,9 @@ fn read_values<S: Source, V: ValueTaker>(
     requires lawful { AllByRecursion HasLawfulValue ops.now }
     requires live { reader.old.live ≡ true }
     requires fits { singles ops.now ≤ room }
-    ensures { Gains V.took values.old values.new (λ before after. Adds (values_of (room - singles ops.now) ops.now) reader.old result before after reader.new × OnOk result (length after ≤ length before + room)) }
+    ensures { Gains V.took values.old values.new
+        (λ before after. Adds (values_of (room - singles ops.now) ops.now) reader.old result before
+        after reader.new × OnOk result (length after ≤ length before + room)) }
 {
     for (index, op) in ops.iter().enumerate() {
         match op {
@@ -116,7 +118,8 @@ fn read_record<S: Source, V: ValueTaker>(
     values: &mut V,
 ) -> Result<u64, Fault>
     requires { Lawful ops.now }
-    ensures { Gains V.took values.old values.new (AddsWithin (abbreviated at room ops.now) room reader.old result reader.new) }
+    ensures { Gains V.took values.old values.new
+        (AddsWithin (abbreviated at room ops.now) room reader.old result reader.new) }
 {
     if !reader.is_live() {
         return Err(Fault::Failed);
@@ -144,9 +147,12 @@ pub fn read_abbreviated<S: Source, V: ValueTaker>(
     values: &mut V,
 ) -> Result<u64, Fault>
     requires { has_shape «abbrev».now ≡ true }
-    ensures takes { Gains V.took values.old values.new (Recorded (λ r. Takes (abbreviated at room «abbrev».now) reader.old r reader.new) result) }
-    ensures only { Gains V.took values.old values.new (Recorded (λ r. IsOnly (abbreviated at room «abbrev».now) reader.old r reader.new) result) }
-    ensures few { Gains V.took values.old values.new (λ before after. OnOk result (length after ≤ length before + room)) }
+    ensures takes { Gains V.took values.old values.new
+        (Recorded (λ r. Takes (abbreviated at room «abbrev».now) reader.old r reader.new) result) }
+    ensures only { Gains V.took values.old values.new
+        (Recorded (λ r. IsOnly (abbreviated at room «abbrev».now) reader.old r reader.new) result) }
+    ensures few { Gains V.took values.old values.new
+        (λ before after. OnOk result (length after ≤ length before + room)) }
     ensures stays { OnErr result (reader.new.position ≡ reader.old.position) }
 {
     let start = reader.position();

@@ -14,7 +14,8 @@ fn read_plain<S: Source, V: ValueTaker>(
     room: u64,
     values: &mut V,
 ) -> Result<u64, Fault>
-    ensures { Gains V.took values.old values.new (AddsWithin (unabbreviated room) room reader.old result reader.new) }
+    ensures { Gains V.took values.old values.new
+        (AddsWithin (unabbreviated room) room reader.old result reader.new) }
 {
     let code = reader.vbr(6)?;
     let count = read_count(reader, room)?;
@@ -32,9 +33,12 @@ pub fn read_unabbreviated<S: Source, V: ValueTaker>(
     room: u64,
     values: &mut V,
 ) -> Result<u64, Fault>
-    ensures takes { Gains V.took values.old values.new (Recorded (λ r. Takes (unabbreviated room) reader.old r reader.new) result) }
-    ensures only { Gains V.took values.old values.new (Recorded (λ r. IsOnly (unabbreviated room) reader.old r reader.new) result) }
-    ensures few { Gains V.took values.old values.new (λ before after. OnOk result (length after ≤ length before + room)) }
+    ensures takes { Gains V.took values.old values.new
+        (Recorded (λ r. Takes (unabbreviated room) reader.old r reader.new) result) }
+    ensures only { Gains V.took values.old values.new
+        (Recorded (λ r. IsOnly (unabbreviated room) reader.old r reader.new) result) }
+    ensures few { Gains V.took values.old values.new
+        (λ before after. OnOk result (length after ≤ length before + room)) }
     ensures stays { OnErr result (reader.new.position ≡ reader.old.position) }
 {
     let start = reader.position();

@@ -6,7 +6,8 @@ use Rattle.bit_grammar.specs.Setting.{Setting}
 use Rattle.bit_grammar.specs.Grammar.{at}
 use Rattle.bit_grammar.specs.Forest.{Tree}
 use Rattle.bit_grammar.specs.Blocks as blocks
-use Rattle.bit_grammar.specs.Input.{Marked, SpellsInput, BreaksInput}
+use Rattle.bit_grammar.specs.Input.{SpellsInput, BreaksInput}
+use Rattle.bit_grammar.specs.Terms.{Marked}
 use Rattle.bit_grammar.specs.Normal.{HasTree}
 use Rattle.bit_fields.specs.declared.fault.Fault.{Fault}
 use Rattle.bit_fields.specs.declared.fault.Fault.TheVariants as fault

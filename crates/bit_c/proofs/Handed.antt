@@ -3,10 +3,10 @@ use Rattle.std.proofs.Common.{ℕ, List, sym, subst}
 use Rattle.std.specs.Prelude.{Option, Some, None}
 use Rattle.bit_c.specs.declared.outcome.Outcome.{Outcome}
 use Rattle.bit_c.specs.declared.outcome.Outcome.TheVariants.{Done, Different, Refused, Memory, TooLong, Limits, Room, Closed, Names}
-use Rattle.bit_c.specs.Handing.{HandsOut, Hands, Makes, Gives}
+use Rattle.bit_c.specs.Handing.{HandsOut, Hands, Makes, HandsText}
 
 -- a text that was made was handed out
-given : (IsText : List ℕ → Type 0) (Stops : Outcome → Type 0) (text old new : List ℕ) (needed : ℕ) (outcome : Outcome) → IsText text → HandsOut text old needed new outcome → Gives IsText Stops old needed new outcome
+given : (IsText : List ℕ → Type 0) (Stops : Outcome → Type 0) (text old new : List ℕ) (needed : ℕ) (outcome : Outcome) → IsText text → HandsOut text old needed new outcome → HandsText IsText Stops old needed new outcome
 given IsText Stops text old new needed Done is h = (text, is, h)
 given IsText Stops text old new needed Room is h = (text, is, h)
 given IsText Stops text old new needed Different is h = absurd h
@@ -19,14 +19,14 @@ given IsText Stops text old new needed Names is h = absurd h
 
 -- what a call made was handed out, or nothing was made
 pub handed : (IsText : List ℕ → Type 0) (Stops : Outcome → Type 0) (made : Outcome) (text : Option (List ℕ)) (old new : List ℕ) (needed : ℕ) (outcome : Outcome)
-    → Makes IsText Stops made text → Hands made text old needed new outcome → Gives IsText Stops old needed new outcome
+    → Makes IsText Stops made text → Hands made text old needed new outcome → HandsText IsText Stops old needed new outcome
 handed IsText Stops Done (Some text) old new needed outcome is h = given IsText Stops text old new needed outcome is h
 handed IsText Stops Done None old new needed outcome is h = absurd is
 handed IsText Stops Room text old new needed outcome is h = absurd is
-handed IsText Stops Different text old new needed outcome is h = subst (Gives IsText Stops old needed new) (sym h.1) (is, h.0)
-handed IsText Stops (Refused input reason bit) text old new needed outcome is h = subst (Gives IsText Stops old needed new) (sym h.1) (is, h.0)
-handed IsText Stops Memory text old new needed outcome is h = subst (Gives IsText Stops old needed new) (sym h.1) (is, h.0)
-handed IsText Stops TooLong text old new needed outcome is h = subst (Gives IsText Stops old needed new) (sym h.1) (is, h.0)
-handed IsText Stops Limits text old new needed outcome is h = subst (Gives IsText Stops old needed new) (sym h.1) (is, h.0)
-handed IsText Stops Closed text old new needed outcome is h = subst (Gives IsText Stops old needed new) (sym h.1) (is, h.0)
-handed IsText Stops Names text old new needed outcome is h = subst (Gives IsText Stops old needed new) (sym h.1) (is, h.0)
+handed IsText Stops Different text old new needed outcome is h = subst (HandsText IsText Stops old needed new) (sym h.1) (is, h.0)
+handed IsText Stops (Refused input reason bit) text old new needed outcome is h = subst (HandsText IsText Stops old needed new) (sym h.1) (is, h.0)
+handed IsText Stops Memory text old new needed outcome is h = subst (HandsText IsText Stops old needed new) (sym h.1) (is, h.0)
+handed IsText Stops TooLong text old new needed outcome is h = subst (HandsText IsText Stops old needed new) (sym h.1) (is, h.0)
+handed IsText Stops Limits text old new needed outcome is h = subst (HandsText IsText Stops old needed new) (sym h.1) (is, h.0)
+handed IsText Stops Closed text old new needed outcome is h = subst (HandsText IsText Stops old needed new) (sym h.1) (is, h.0)
+handed IsText Stops Names text old new needed outcome is h = subst (HandsText IsText Stops old needed new) (sym h.1) (is, h.0)

@@ -14,7 +14,7 @@ use Rattle.bit_c.specs.declared.outcome.Outcome.{Outcome}
 use Rattle.bit_c.specs.declared.outcome.Outcome.TheVariants.{Refused, Memory}
 use Rattle.bit_grammar.specs.Normal.{Capped}
 use Rattle.bit_c.specs.Ending.{ended_by}
-use Rattle.bit_c.specs.Limiting.{Asks, Told, Within, asked_setting, setting_told}
+use Rattle.bit_c.specs.Limiting.{AsksWithin, ToldOfAsked, Within, asked_setting, setting_told}
 use Rattle.bit_c.specs.declared.left_out.Asked.{Asked}
 use Rattle.bit_c.specs.declared.left_out.BsLeftOut.{BsLeftOut}
 
@@ -24,7 +24,7 @@ within limits told Leaves Says outcome same capped h = inr (subst Capped same ca
 
 -- what is so under limits and by names that are fit
 pub as_asked : (limits : blocks.Limits) (out : BsLeftOut) (asked : Asked) (setting : Setting) (Leaves : Type 0) (Says : blocks.Limits → Setting → Outcome → Type 0) (outcome : Outcome)
-    → Told limits out (Ok asked) → setting ≡ asked_setting asked → Says asked.limits setting outcome → Asks limits out Leaves (Says limits (setting_told out)) outcome
+    → ToldOfAsked limits out (Ok asked) → setting ≡ asked_setting asked → Says asked.limits setting outcome → AsksWithin limits out Leaves (Says limits (setting_told out)) outcome
 as_asked limits out asked setting Leaves Says outcome told same h =
     inr (told.1, told.2, subst (λ (s : Setting). Says limits s outcome) (same ∙ told.3) (subst (λ (l : blocks.Limits). Says l setting outcome) told.0 h))
 

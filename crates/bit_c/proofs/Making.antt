@@ -14,13 +14,13 @@ use Rattle.bit_scan.specs.Reporting.{Reports}
 use Rattle.bit_scan.specs.Showing.{Shows}
 use Rattle.bit_c.specs.declared.outcome.Outcome.{Outcome}
 use Rattle.bit_c.specs.declared.texts.Text.TheVariants.{Form, Report, Listing}
-use Rattle.bit_c.specs.Texts.{IsText, FailsText}
+use Rattle.bit_c.specs.Texts.{IsTextOf, FailsText}
 use Rattle.bit_c.specs.Ending.{ended_by}
 use Rattle.bit_c.specs.Handing.{Makes}
 use Rattle.bit_c.proofs.Inputs.{known}
 
 by_fault : (setting : Setting) (limits : blocks.Limits) (i now : Incoming) (bytes : List ℕ) (old new : Outgoing) (why : Fault) (text : Option (List ℕ)) → i.to_come ≡ Some bytes
-    → Normalises setting limits i old (Err why) now new → Makes (IsText Form setting limits bytes) (FailsText Form setting limits bytes) (ended_by 0 why) text
+    → Normalises setting limits i old (Err why) now new → Makes (IsTextOf Form setting limits bytes) (FailsText Form setting limits bytes) (ended_by 0 why) text
 by_fault setting limits i now bytes old new (fault.Refused reason bit) text is h = (refl, known i.to_come bytes (λ b. BreaksInput limits b (at reason bit)) is h.0.1)
 by_fault setting limits i now bytes old new fault.OutputTooLong text is h = (h.0, known i.to_come bytes (λ b. HasTree setting limits b h.0) is (λ tells. (h.1.1 tells).0.0), h.2.0)
 by_fault setting limits i now bytes old new fault.Write text is h = tt
@@ -30,15 +30,15 @@ by_fault setting limits i now bytes old new fault.Failed text is h = absurd h
 
 -- no form was made
 pub not_made : (setting : Setting) (limits : blocks.Limits) (i now : Incoming) (bytes : List ℕ) (old new : Outgoing) (answer : Result ℕ Fault) (why : Fault) (outcome : Outcome) (text : Option (List ℕ))
-    → i.to_come ≡ Some bytes → answer ≡ Err why → outcome ≡ ended_by 0 why → Normalises setting limits i old answer now new → Makes (IsText Form setting limits bytes) (FailsText Form setting limits bytes) outcome text
+    → i.to_come ≡ Some bytes → answer ≡ Err why → outcome ≡ ended_by 0 why → Normalises setting limits i old answer now new → Makes (IsTextOf Form setting limits bytes) (FailsText Form setting limits bytes) outcome text
 not_made setting limits i now bytes old new answer why outcome text is is_err ended h =
-    subst (λ (o : Outcome). Makes (IsText Form setting limits bytes) (FailsText Form setting limits bytes) o text) (sym ended)
+    subst (λ (o : Outcome). Makes (IsTextOf Form setting limits bytes) (FailsText Form setting limits bytes) o text) (sym ended)
     (by_fault setting limits i now bytes old new why text is (subst (λ (a : Result ℕ Fault). Normalises setting limits i old a now new) is_err h))
 
 -- ---- reports and listings
 
 unreported : (limits : blocks.Limits) (i now : Incoming) (bytes : List ℕ) (old new : Outgoing) (why : Fault) (text : Option (List ℕ)) → i.to_come ≡ Some bytes
-    → Reports limits i old (Err why) now new → Makes (IsText Report keep limits bytes) (FailsText Report keep limits bytes) (ended_by 0 why) text
+    → Reports limits i old (Err why) now new → Makes (IsTextOf Report keep limits bytes) (FailsText Report keep limits bytes) (ended_by 0 why) text
 unreported limits i now bytes old new (fault.Refused reason bit) text is h = (refl, known i.to_come bytes (λ b. BreaksInput limits b (at reason bit)) is h.0.1)
 unreported limits i now bytes old new fault.Write text is h = tt
 unreported limits i now bytes old new fault.Read text is h = tt
@@ -47,13 +47,13 @@ unreported limits i now bytes old new fault.OutputTooLong text is h = absurd h
 unreported limits i now bytes old new fault.Failed text is h = absurd h
 
 pub not_reported : (limits : blocks.Limits) (i now : Incoming) (bytes : List ℕ) (old new : Outgoing) (answer : Result (Unit {0}) Fault) (why : Fault) (outcome : Outcome) (text : Option (List ℕ))
-    → i.to_come ≡ Some bytes → answer ≡ Err why → outcome ≡ ended_by 0 why → Reports limits i old answer now new → Makes (IsText Report keep limits bytes) (FailsText Report keep limits bytes) outcome text
+    → i.to_come ≡ Some bytes → answer ≡ Err why → outcome ≡ ended_by 0 why → Reports limits i old answer now new → Makes (IsTextOf Report keep limits bytes) (FailsText Report keep limits bytes) outcome text
 not_reported limits i now bytes old new answer why outcome text is is_err ended h =
-    subst (λ (o : Outcome). Makes (IsText Report keep limits bytes) (FailsText Report keep limits bytes) o text) (sym ended)
+    subst (λ (o : Outcome). Makes (IsTextOf Report keep limits bytes) (FailsText Report keep limits bytes) o text) (sym ended)
     (unreported limits i now bytes old new why text is (subst (λ (a : Result (Unit {0}) Fault). Reports limits i old a now new) is_err h))
 
 unlisted : (setting : Setting) (limits : blocks.Limits) (i now : Incoming) (bytes : List ℕ) (old new : Outgoing) (why : Fault) (text : Option (List ℕ)) → i.to_come ≡ Some bytes
-    → Shows setting limits i old (Err why) now new → Makes (IsText Listing setting limits bytes) (FailsText Listing setting limits bytes) (ended_by 0 why) text
+    → Shows setting limits i old (Err why) now new → Makes (IsTextOf Listing setting limits bytes) (FailsText Listing setting limits bytes) (ended_by 0 why) text
 unlisted setting limits i now bytes old new (fault.Refused reason bit) text is h = (refl, known i.to_come bytes (λ b. BreaksInput limits b (at reason bit)) is h.0.1)
 unlisted setting limits i now bytes old new fault.Write text is h = tt
 unlisted setting limits i now bytes old new fault.Read text is h = tt
@@ -62,7 +62,7 @@ unlisted setting limits i now bytes old new fault.OutputTooLong text is h = absu
 unlisted setting limits i now bytes old new fault.Failed text is h = absurd h
 
 pub not_listed : (setting : Setting) (limits : blocks.Limits) (i now : Incoming) (bytes : List ℕ) (old new : Outgoing) (answer : Result (Unit {0}) Fault) (why : Fault) (outcome : Outcome) (text : Option (List ℕ))
-    → i.to_come ≡ Some bytes → answer ≡ Err why → outcome ≡ ended_by 0 why → Shows setting limits i old answer now new → Makes (IsText Listing setting limits bytes) (FailsText Listing setting limits bytes) outcome text
+    → i.to_come ≡ Some bytes → answer ≡ Err why → outcome ≡ ended_by 0 why → Shows setting limits i old answer now new → Makes (IsTextOf Listing setting limits bytes) (FailsText Listing setting limits bytes) outcome text
 not_listed setting limits i now bytes old new answer why outcome text is is_err ended h =
-    subst (λ (o : Outcome). Makes (IsText Listing setting limits bytes) (FailsText Listing setting limits bytes) o text) (sym ended)
+    subst (λ (o : Outcome). Makes (IsTextOf Listing setting limits bytes) (FailsText Listing setting limits bytes) o text) (sym ended)
     (unlisted setting limits i now bytes old new why text is (subst (λ (a : Result (Unit {0}) Fault). Shows setting limits i old a now new) is_err h))

@@ -18,12 +18,16 @@ input_of Second = 1
 
 -- the first breaks so; or the second does, and the first is accepted; or no memory
 abbrev pub Unread : blocks.Limits → List ℕ → List ℕ → Outcome → Type 0
-Unread limits first second (Refused input reason bit) = ((input ≡ 0) × BreaksInput limits first (at reason bit)) ⊎ ((input ≡ 1) × Accepts limits first × BreaksInput limits second (at reason bit))
+Unread limits first second (Refused input reason bit) = ((input ≡ 0)
+    × BreaksInput limits first (at reason bit))
+    ⊎ ((input ≡ 1) × Accepts limits first × BreaksInput limits second (at reason bit))
 Unread limits first second Memory = ⊤
 Unread limits first second outcome = ⊥
 
 -- Both spell one tree; or two that differ; or one was not read.
 abbrev pub Sames : Setting → blocks.Limits → List ℕ → List ℕ → Outcome → Type 0
-Sames setting limits first second Done = (tree : Tree) × HasTree setting limits first tree × HasTree setting limits second tree
-Sames setting limits first second Different = (a : Tree) × (b : Tree) × HasTree setting limits first a × HasTree setting limits second b × (a ≢ b)
+Sames setting limits first second Done = (tree : Tree) × HasTree setting limits first tree
+    × HasTree setting limits second tree
+Sames setting limits first second Different = (a : Tree) × (b : Tree)
+    × HasTree setting limits first a × HasTree setting limits second b × (a ≢ b)
 Sames setting limits first second outcome = Unread limits first second outcome

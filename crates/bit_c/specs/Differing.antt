@@ -3,7 +3,8 @@ use Rattle.std.specs.Prelude.{◌≡◌, ℕ, true, false, List, [], length, map
 use Rattle.bit_grammar.specs.Setting.{Setting}
 use Rattle.bit_grammar.specs.Under.{under}
 use Rattle.bit_grammar.specs.Blocks as blocks
-use Rattle.bit_grammar.specs.Input.{Marked, SpellsInput, tree_of}
+use Rattle.bit_grammar.specs.Input.{SpellsInput, tree_of}
+use Rattle.bit_grammar.specs.Terms.{Marked}
 use Rattle.bit_fields.specs.Opening.{magic_number}
 use Rattle.bit_norm.specs.Entries.{FirstDifference, Place, Seen, Standing, What, at_item, at_magic, the_block, the_end, the_magic, the_record}
 use Rattle.bit_norm.specs.declared.differences.OpenBlock.{OpenBlock}
@@ -15,26 +16,35 @@ use Rattle.bit_c.specs.declared.difference.BsValueDifference.{BsValueDifference}
 use Rattle.bit_c.specs.declared.outcome.Outcome.{Outcome}
 use Rattle.bit_c.specs.declared.outcome.Outcome.TheVariants.{Done, Different, Memory, Room}
 use Rattle.bit_c.specs.Comparing.{Unread}
-use Rattle.bit_c.specs.Handing.{Fills}
+use Rattle.bit_c.specs.Handing.{FillsRoom}
 
 abbrev pub no_magic : List ℕ
 no_magic = replicate 4 0
 
 -- what stands at a place; what its kind does not name is 0
 abbrev pub IsWhat : What → BsStanding → Type 0
-IsWhat (the_magic magic) told = (told.kind ≡ 1) × (magic_number told.magic ≡ magic) × (told.id ≡ 0) × (told.code ≡ 0) × (told.count ≡ 0)
-IsWhat (the_block id) told = (told.kind ≡ 2) × (told.magic ≡ no_magic) × (told.id ≡ id) × (told.code ≡ 0) × (told.count ≡ 0)
-IsWhat (the_record code count) told = (told.kind ≡ 3) × (told.magic ≡ no_magic) × (told.id ≡ 0) × (told.code ≡ code) × (told.count ≡ count)
-IsWhat the_end told = (told.kind ≡ 4) × (told.magic ≡ no_magic) × (told.id ≡ 0) × (told.code ≡ 0) × (told.count ≡ 0)
+IsWhat (the_magic magic) told = (told.kind ≡ 1) × (magic_number told.magic ≡ magic) × (told.id ≡ 0)
+    × (told.code ≡ 0) × (told.count ≡ 0)
+IsWhat (the_block id) told = (told.kind ≡ 2) × (told.magic ≡ no_magic) × (told.id ≡ id)
+    × (told.code ≡ 0) × (told.count ≡ 0)
+IsWhat (the_record code count) told = (told.kind ≡ 3) × (told.magic ≡ no_magic) × (told.id ≡ 0)
+    × (told.code ≡ code) × (told.count ≡ count)
+IsWhat the_end told = (told.kind ≡ 4) × (told.magic ≡ no_magic) × (told.id ≡ 0) × (told.code ≡ 0)
+    × (told.count ≡ 0)
 
 -- and where that begins
 abbrev pub Stands : Standing → BsStanding → Type 0
 Stands s told = (told.bit ≡ s.bit) × IsWhat s.what told
 
 -- the first values that differ, or that none do
-abbrev pub values_told : Option ValueDifference → BsValueDifference
-values_told None = record { differ = false; index = 0; first = 0; second = 0 }
-values_told (Some value) = record { differ = true; index = value.index; first = value.first; second = value.second }
+abbrev pub value_difference_told : Option ValueDifference → BsValueDifference
+value_difference_told None = record { differ = false; index = 0; first = 0; second = 0 }
+value_difference_told (Some value) = record {
+  differ = true;
+  index = value.index;
+  first = value.first;
+  second = value.second;
+}
 
 -- the blocks that are open at a place, the outermost first
 abbrev pub open_in : Place → List OpenBlock
@@ -57,7 +67,7 @@ pub record Tells (seen : Seen) (told : BsDifference) : Type 0 where
   pub items : told.items ≡ items_before seen.place
   pub first : Stands seen.first told.first
   pub second : Stands seen.second told.second
-  pub values : told.values ≡ values_told seen.value
+  pub values : told.values ≡ value_difference_told seen.value
 
 abbrev pub block_told : OpenBlock → BsOpenBlock
 block_told block = record { id = block.id; items = block.items }
@@ -66,25 +76,42 @@ abbrev pub no_standing : BsStanding
 no_standing = record { bit = 0; kind = 0; magic = no_magic; id = 0; code = 0; count = 0 }
 
 abbrev pub no_difference : BsDifference
-no_difference = record { place = 0; depth = 0; items = 0; first = no_standing; second = no_standing; values = values_told None }
+no_difference = record {
+  place = 0;
+  depth = 0;
+  items = 0;
+  first = no_standing;
+  second = no_standing;
+  values = value_difference_told None;
+}
 
 -- A difference was told, and the open blocks stand at the front of the room; or the room has not enough for them; or there was no
 -- memory, and nothing was told.
 abbrev pub GivesDifference : Seen → BsDifference → (old new : List BsOpenBlock) → Outcome → Type 0
-GivesDifference seen told old new Different = Tells seen told × Fills (map block_told (open_in seen.place)) old true new
-GivesDifference seen told old new Room = Tells seen told × Fills (map block_told (open_in seen.place)) old false new
+GivesDifference seen told old new Different = Tells seen told
+    × FillsRoom (map block_told (open_in seen.place)) old true new
+GivesDifference seen told old new Room = Tells seen told
+    × FillsRoom (map block_told (open_in seen.place)) old false new
 GivesDifference seen told old new Memory = (told ≡ no_difference) × (new ≡ old)
 GivesDifference seen told old new outcome = ⊥
 
 -- both spell marked trees whose first difference was given
-abbrev pub DifferSo : Setting → blocks.Limits → List ℕ → List ℕ → BsDifference → (old new : List BsOpenBlock) → Outcome → Type 0
+abbrev pub DifferSo : Setting → blocks.Limits → List ℕ → List ℕ → BsDifference
+    → (old new : List BsOpenBlock) → Outcome → Type 0
 DifferSo setting limits first second told old new outcome =
-    (a b : Marked) × (seen : Seen) × SpellsInput limits first a × SpellsInput limits second b × FirstDifference setting a b seen × GivesDifference seen told old new outcome
+    (a b : Marked) × (seen : Seen) × SpellsInput limits first a × SpellsInput limits second b
+    × FirstDifference setting a b seen × GivesDifference seen told old new outcome
 
 -- Both spell marked trees of which the same is left; or two whose first difference is told; or nothing was told, for this reason.
-abbrev pub Differences : Setting → blocks.Limits → List ℕ → List ℕ → BsDifference → (old new : List BsOpenBlock) → Outcome → Type 0
+abbrev pub Differences : Setting → blocks.Limits → List ℕ → List ℕ → BsDifference
+    → (old new : List BsOpenBlock) → Outcome → Type 0
 Differences setting limits first second told old new Done =
-    (a b : Marked) × SpellsInput limits first a × SpellsInput limits second b × (under setting (tree_of a) ≡ under setting (tree_of b)) × (told ≡ no_difference) × (new ≡ old)
-Differences setting limits first second told old new Different = DifferSo setting limits first second told old new Different
-Differences setting limits first second told old new Room = DifferSo setting limits first second told old new Room
-Differences setting limits first second told old new outcome = Unread limits first second outcome × (told ≡ no_difference) × (new ≡ old)
+    (a b : Marked) × SpellsInput limits first a × SpellsInput limits second b
+    × (under setting (tree_of a) ≡ under setting (tree_of b)) × (told ≡ no_difference)
+    × (new ≡ old)
+Differences setting limits first second told old new Different = DifferSo setting limits first
+    second told old new Different
+Differences setting limits first second told old new Room = DifferSo setting limits first second
+    told old new Room
+Differences setting limits first second told old new outcome = Unread limits first second outcome
+    × (told ≡ no_difference) × (new ≡ old)

@@ -8,31 +8,35 @@ use Rattle.bit_c.specs.declared.outcome.Outcome.{Outcome}
 use Rattle.bit_c.specs.declared.outcome.Outcome.TheVariants.{Done, Different, Refused, Memory, TooLong, Limits, Room, Closed, Names}
 
 -- the status
-abbrev pub number_of : Outcome → ℕ
-number_of Done = 0
-number_of Different = 1
-number_of (Refused input reason bit) = 2
-number_of Memory = 3
-number_of TooLong = 4
-number_of Limits = 5
-number_of Room = 6
-number_of Closed = 7
-number_of Names = 8
+abbrev pub status_number : Outcome → ℕ
+status_number Done = 0
+status_number Different = 1
+status_number (Refused input reason bit) = 2
+status_number Memory = 3
+status_number TooLong = 4
+status_number Limits = 5
+status_number Room = 6
+status_number Closed = 7
+status_number Names = 8
 
 abbrev pub no_fault : BsFault
 no_fault = record { reason = 0; input = 0; bit = 0 }
 
 -- of a refusal the number of its reason, the input and the bit
-abbrev pub fault_of : Outcome → BsFault
-fault_of Done = no_fault
-fault_of Different = no_fault
-fault_of (Refused input reason bit) = record { reason = reasons.number_of reason; input = input; bit = bit }
-fault_of Memory = no_fault
-fault_of TooLong = no_fault
-fault_of Limits = no_fault
-fault_of Room = no_fault
-fault_of Closed = no_fault
-fault_of Names = no_fault
+abbrev pub fault_told : Outcome → BsFault
+fault_told Done = no_fault
+fault_told Different = no_fault
+fault_told (Refused input reason bit) = record {
+  reason = reasons.number_of reason;
+  input = input;
+  bit = bit;
+}
+fault_told Memory = no_fault
+fault_told TooLong = no_fault
+fault_told Limits = no_fault
+fault_told Room = no_fault
+fault_told Closed = no_fault
+fault_told Names = no_fault
 
 -- how a call ends that meets a fault of an input
 abbrev pub ended_by : ℕ → Fault → Outcome
@@ -44,5 +48,6 @@ ended_by input fault.Read = Memory
 ended_by input fault.Failed = Memory
 
 -- The status and the fault are those of an outcome of which this holds.
-abbrev pub Ends : ℕ → BsFault → (Outcome → Type 0) → Type 0
-Ends status f Says = (outcome : Outcome) × (status ≡ number_of outcome) × (f ≡ fault_of outcome) × Says outcome
+abbrev pub EndsCall : ℕ → BsFault → (Outcome → Type 0) → Type 0
+EndsCall status f Says = (outcome : Outcome) × (status ≡ status_number outcome)
+    × (f ≡ fault_told outcome) × Says outcome

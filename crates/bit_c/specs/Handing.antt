@@ -4,30 +4,32 @@ use Rattle.bit_c.specs.declared.outcome.Outcome.{Outcome}
 use Rattle.bit_c.specs.declared.outcome.Outcome.TheVariants.{Done, Room}
 
 -- the room has enough, and the items stand at its front; or it has not, and is as it was
-abbrev pub Fills : {A : Type 0} → List A → List A → Bool → List A → Type 0
-Fills items old true new = (length items ≤ length old) × (new ≡ items ++ drop (length items) old)
-Fills items old false new = (length old < length items) × (new ≡ old)
+abbrev pub FillsRoom : {A : Type 0} → List A → List A → Bool → List A → Type 0
+FillsRoom items old true new = (length items ≤ length old)
+    × (new ≡ items ++ drop (length items) old)
+FillsRoom items old false new = (length old < length items) × (new ≡ old)
 
 -- items were handed out, and their number told; or the room has not enough
 abbrev pub HandsOut : {A : Type 0} → List A → List A → ℕ → List A → Outcome → Type 0
-HandsOut items old needed new Done = (needed ≡ length items) × Fills items old true new
-HandsOut items old needed new Room = (needed ≡ length items) × Fills items old false new
+HandsOut items old needed new Done = (needed ≡ length items) × FillsRoom items old true new
+HandsOut items old needed new Room = (needed ≡ length items) × FillsRoom items old false new
 HandsOut items old needed new outcome = ⊥
 
 -- nothing was handed out
-abbrev pub Leaves : {A : Type 0} → List A → ℕ → List A → Type 0
-Leaves old needed new = (needed ≡ 0) × (new ≡ old)
+abbrev pub LeavesRoom : {A : Type 0} → List A → ℕ → List A → Type 0
+LeavesRoom old needed new = (needed ≡ 0) × (new ≡ old)
 
 -- What a call made was handed out, where it was done.
 abbrev pub Hands : Outcome → Option (List ℕ) → List ℕ → ℕ → List ℕ → Outcome → Type 0
 Hands Done (Some text) old needed new outcome = HandsOut text old needed new outcome
 Hands Done None old needed new outcome = ⊥
-Hands made text old needed new outcome = Leaves old needed new × (outcome ≡ made)
+Hands made text old needed new outcome = LeavesRoom old needed new × (outcome ≡ made)
 
 -- ---- texts
 
 -- A text was made, of which this holds; or none, and this holds of how the call ended.
-abbrev pub Makes : (IsText : List ℕ → Type 0) → (Stops : Outcome → Type 0) → Outcome → Option (List ℕ) → Type 0
+abbrev pub Makes : (IsText : List ℕ → Type 0) → (Stops : Outcome → Type 0) → Outcome
+    → Option (List ℕ) → Type 0
 Makes IsText Stops Done (Some text) = IsText text
 Makes IsText Stops Done None = ⊥
 Makes IsText Stops Room text = ⊥
@@ -35,7 +37,10 @@ Makes IsText Stops outcome text = Stops outcome
 
 -- A text of which this holds was handed out, and its length told; or the room has not enough for it, and its length was told; or
 -- nothing was handed out, and this holds of how the call ended.
-abbrev pub Gives : (IsText : List ℕ → Type 0) → (Stops : Outcome → Type 0) → List ℕ → ℕ → List ℕ → Outcome → Type 0
-Gives IsText Stops old needed new Done = (text : List ℕ) × IsText text × HandsOut text old needed new Done
-Gives IsText Stops old needed new Room = (text : List ℕ) × IsText text × HandsOut text old needed new Room
-Gives IsText Stops old needed new outcome = Stops outcome × Leaves old needed new
+abbrev pub HandsText : (IsText : List ℕ → Type 0) → (Stops : Outcome → Type 0) → List ℕ → ℕ → List ℕ
+    → Outcome → Type 0
+HandsText IsText Stops old needed new Done = (text : List ℕ) × IsText text
+    × HandsOut text old needed new Done
+HandsText IsText Stops old needed new Room = (text : List ℕ) × IsText text
+    × HandsOut text old needed new Room
+HandsText IsText Stops old needed new outcome = Stops outcome × LeavesRoom old needed new

@@ -7,8 +7,8 @@ use Rattle.bit_c.specs.declared.home.Home.TheVariants as home
 use Rattle.bit_c.specs.declared.outcome.Outcome.{Outcome}
 use Rattle.bit_c.specs.declared.outcome.Outcome.TheVariants.{Done, Memory, Closed}
 use Rattle.bit_c.specs.declared.texts.Text.{Text}
-use Rattle.bit_c.specs.Handing.{HandsOut, Leaves}
-use Rattle.bit_c.specs.Texts.{IsText, FailsText}
+use Rattle.bit_c.specs.Handing.{HandsOut, LeavesRoom}
+use Rattle.bit_c.specs.Texts.{IsTextOf, FailsText}
 
 -- a text was put behind a handle; or there was no memory, and it is closed
 abbrev pub PutsBehind : List ℕ → Option Home → Outcome → Type 0
@@ -18,11 +18,12 @@ PutsBehind text new outcome = ⊥
 
 -- The text was made and is held behind a handle; or it was not, for this reason, and the handle is closed.
 abbrev pub Holds : Text → Setting → blocks.Limits → List ℕ → Option Home → Outcome → Type 0
-Holds text setting limits bytes (Some (home.Text made)) Done = IsText text setting limits bytes made.bytes.items
+Holds text setting limits bytes (Some (home.Text made)) Done = IsTextOf text setting limits bytes
+    made.bytes.items
 Holds text setting limits bytes (Some other) outcome = ⊥
 Holds text setting limits bytes None outcome = FailsText text setting limits bytes outcome
 
 -- The text that is held was handed out; or none is, which is said.
 abbrev pub TellsText : Option (List ℕ) → List ℕ → ℕ → List ℕ → Outcome → Type 0
 TellsText (Some text) old needed new outcome = HandsOut text old needed new outcome
-TellsText None old needed new outcome = (outcome ≡ Closed) × Leaves old needed new
+TellsText None old needed new outcome = (outcome ≡ Closed) × LeavesRoom old needed new

@@ -20,11 +20,17 @@ abbrev pub shapes_told : BsLimits → Shapes
 shapes_told l = if l.shapes_at_use then AtUse else AtDefinition
 
 abbrev pub limits_told : BsLimits → blocks.Limits
-limits_told l = record { bytes = l.bytes; depth = l.depth; values = l.values; shapes = shapes_told l }
+limits_told l = record {
+  bytes = l.bytes;
+  depth = l.depth;
+  values = l.values;
+  shapes = shapes_told l;
+}
 
 -- A limit is past its cap, and the call said so and left all as it was; or none is, and this holds of how it ended.
 abbrev pub Within : blocks.Limits → (Leaves : Type 0) → (Outcome → Type 0) → Outcome → Type 0
-Within limits Leaves Says outcome = ((outcome ≡ Limits) × PassCaps limits × Leaves) ⊎ (Capped limits × Says outcome)
+Within limits Leaves Says outcome = ((outcome ≡ Limits) × PassCaps limits × Leaves)
+    ⊎ (Capped limits × Says outcome)
 
 -- ---- what is left out
 
@@ -44,20 +50,23 @@ abbrev pub names_info : BsLeftOut → Bool
 names_info out = list_any (λ name. name.block == 0) out.records.now
 
 -- why a call did nothing: a limit is past its cap; or records of BLOCKINFO blocks are named; or there was no memory
-abbrev pub Declines : blocks.Limits → BsLeftOut → Outcome → Type 0
-Declines limits out Limits = PassCaps limits
-Declines limits out Names = Capped limits × IsTrue (names_info out)
-Declines limits out Memory = Capped limits × (names_info out ≡ false)
-Declines limits out outcome = ⊥
+abbrev pub DeclinesCall : blocks.Limits → BsLeftOut → Outcome → Type 0
+DeclinesCall limits out Limits = PassCaps limits
+DeclinesCall limits out Names = Capped limits × IsTrue (names_info out)
+DeclinesCall limits out Memory = Capped limits × (names_info out ≡ false)
+DeclinesCall limits out outcome = ⊥
 
 -- The call did nothing for such a reason, and left all as it was; or limits and names are fit, and this holds of how it ended.
-abbrev pub Asks : blocks.Limits → BsLeftOut → (Leaves : Type 0) → (Outcome → Type 0) → Outcome → Type 0
-Asks limits out Leaves Says outcome = (Declines limits out outcome × Leaves) ⊎ (Capped limits × (names_info out ≡ false) × Says outcome)
+abbrev pub AsksWithin : blocks.Limits → BsLeftOut → (Leaves : Type 0) → (Outcome → Type 0) → Outcome
+    → Type 0
+AsksWithin limits out Leaves Says outcome = (DeclinesCall limits out outcome × Leaves)
+    ⊎ (Capped limits × (names_info out ≡ false) × Says outcome)
 
 abbrev pub asked_setting : Asked → Setting
 asked_setting asked = record { blocks = asked.blocks.items; records = asked.records.items }
 
 -- these limits and this setting were told; or not, for such a reason
-abbrev pub Told : blocks.Limits → BsLeftOut → Result Asked Outcome → Type 0
-Told limits out (Ok asked) = (asked.limits ≡ limits) × Capped limits × (names_info out ≡ false) × (asked_setting asked ≡ setting_told out)
-Told limits out (Err outcome) = Declines limits out outcome
+abbrev pub ToldOfAsked : blocks.Limits → BsLeftOut → Result Asked Outcome → Type 0
+ToldOfAsked limits out (Ok asked) = (asked.limits ≡ limits) × Capped limits
+    × (names_info out ≡ false) × (asked_setting asked ≡ setting_told out)
+ToldOfAsked limits out (Err outcome) = DeclinesCall limits out outcome

@@ -10,4 +10,5 @@ IsReason number None = (reason : Reason) → number ≡ number_of reason → ⊥
 
 -- the name is that of the reason with this number; or no reason has the number, and it is empty
 abbrev pub Names : ℕ → List ℕ → Type 0
-Names number name = ((reason : Reason) × (number ≡ number_of reason) × (name ≡ name_of reason)) ⊎ (IsReason number None × (name ≡ []))
+Names number name = ((reason : Reason) × (number ≡ number_of reason) × (name ≡ name_of reason))
+    ⊎ (IsReason number None × (name ≡ []))

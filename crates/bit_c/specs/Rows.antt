@@ -9,8 +9,8 @@ use Rattle.bit_c.specs.declared.analysing.BsCodeRow.{BsCodeRow}
 use Rattle.bit_c.specs.declared.analysing.BsTally.{BsTally}
 use Rattle.bit_c.specs.declared.outcome.Outcome.{Outcome}
 use Rattle.bit_c.specs.declared.outcome.Outcome.TheVariants.{Done, Memory, Room}
-use Rattle.bit_c.specs.Calls.{Fails}
-use Rattle.bit_c.specs.Handing.{Fills}
+use Rattle.bit_c.specs.Calls.{FailsCall}
+use Rattle.bit_c.specs.Handing.{FillsRoom}
 
 abbrev pub code_told : CodeTally → BsCodeRow
 code_told row = record { code = row.code; count = row.count; bits = row.bits }
@@ -32,20 +32,26 @@ abbrev pub codes_told : List BlockTally → List BsCodeRow
 codes_told rows = flat_map (λ row. map code_told row.codes) rows
 
 -- the magic, the bits, and how many rows there are
-pub record Tells (tally : Tally) (told : BsTally) : Type 0 where
+pub record TellsTally (tally : Tally) (told : BsTally) : Type 0 where
   pub magic : magic_number told.magic ≡ tally.magic
   pub bits : told.bits ≡ tally.bits
   pub blocks : told.blocks ≡ length tally.rows
   pub codes : told.codes ≡ length (codes_told tally.rows)
 
 -- nothing was put into the two rooms
-abbrev pub LeavesRows : (old_blocks new_blocks : List BsBlockRow) → (old_codes new_codes : List BsCodeRow) → Type 0
-LeavesRows old_blocks new_blocks old_codes new_codes = (new_blocks ≡ old_blocks) × (new_codes ≡ old_codes)
+abbrev pub LeavesRows : (old_blocks new_blocks : List BsBlockRow)
+    → (old_codes new_codes : List BsCodeRow) → Type 0
+LeavesRows old_blocks new_blocks old_codes new_codes = (new_blocks ≡ old_blocks)
+    × (new_codes ≡ old_codes)
 
 -- all rows stand at the front of the two rooms; or one of these has not enough, and nothing was put there
-abbrev pub GivesRows : List BsBlockRow → List BsCodeRow → (old_blocks new_blocks : List BsBlockRow) → (old_codes new_codes : List BsCodeRow) → Outcome → Type 0
-GivesRows rows codes old_blocks new_blocks old_codes new_codes Done = Fills rows old_blocks true new_blocks × Fills codes old_codes true new_codes
-GivesRows rows codes old_blocks new_blocks old_codes new_codes Room = ((length old_blocks < length rows) ⊎ (length old_codes < length codes)) × LeavesRows old_blocks new_blocks old_codes new_codes
+abbrev pub GivesRows : List BsBlockRow → List BsCodeRow → (old_blocks new_blocks : List BsBlockRow)
+    → (old_codes new_codes : List BsCodeRow) → Outcome → Type 0
+GivesRows rows codes old_blocks new_blocks old_codes new_codes Done = FillsRoom rows old_blocks true
+    new_blocks × FillsRoom codes old_codes true new_codes
+GivesRows rows codes old_blocks new_blocks old_codes new_codes
+    Room = ((length old_blocks < length rows) ⊎ (length old_codes < length codes))
+    × LeavesRows old_blocks new_blocks old_codes new_codes
 GivesRows rows codes old_blocks new_blocks old_codes new_codes outcome = ⊥
 
 -- ---- a call
@@ -54,15 +60,27 @@ abbrev pub no_tally : BsTally
 no_tally = record { magic = replicate 4 0; bits = 0; blocks = 0; codes = 0 }
 
 -- an analysis was told, and its rows were given; or a room has not enough for them; or there was no memory, and nothing was told
-abbrev pub GivesTally : Tally → BsTally → (old_blocks new_blocks : List BsBlockRow) → (old_codes new_codes : List BsCodeRow) → Outcome → Type 0
-GivesTally tally told old_blocks new_blocks old_codes new_codes Done = Tells tally told × GivesRows (map row_told tally.rows) (codes_told tally.rows) old_blocks new_blocks old_codes new_codes Done
-GivesTally tally told old_blocks new_blocks old_codes new_codes Room = Tells tally told × GivesRows (map row_told tally.rows) (codes_told tally.rows) old_blocks new_blocks old_codes new_codes Room
-GivesTally tally told old_blocks new_blocks old_codes new_codes Memory = (told ≡ no_tally) × LeavesRows old_blocks new_blocks old_codes new_codes
+abbrev pub GivesTally : Tally → BsTally → (old_blocks new_blocks : List BsBlockRow)
+    → (old_codes new_codes : List BsCodeRow) → Outcome → Type 0
+GivesTally tally told old_blocks new_blocks old_codes new_codes Done = TellsTally tally told
+    × GivesRows (map row_told tally.rows) (codes_told tally.rows) old_blocks new_blocks old_codes
+    new_codes Done
+GivesTally tally told old_blocks new_blocks old_codes new_codes Room = TellsTally tally told
+    × GivesRows (map row_told tally.rows) (codes_told tally.rows) old_blocks new_blocks old_codes
+    new_codes Room
+GivesTally tally told old_blocks new_blocks old_codes new_codes Memory = (told ≡ no_tally)
+    × LeavesRows old_blocks new_blocks old_codes new_codes
 GivesTally tally told old_blocks new_blocks old_codes new_codes outcome = ⊥
 
 -- The analysis of the bytes was told, and its rows were given; or a room has not enough for them; or nothing was told, for this
 -- reason.
-abbrev pub Analyses : blocks.Limits → List ℕ → BsTally → (old_blocks new_blocks : List BsBlockRow) → (old_codes new_codes : List BsCodeRow) → Outcome → Type 0
-Analyses limits bytes told old_blocks new_blocks old_codes new_codes Done = (tally : Tally) × HasTally limits bytes tally × GivesTally tally told old_blocks new_blocks old_codes new_codes Done
-Analyses limits bytes told old_blocks new_blocks old_codes new_codes Room = (tally : Tally) × HasTally limits bytes tally × GivesTally tally told old_blocks new_blocks old_codes new_codes Room
-Analyses limits bytes told old_blocks new_blocks old_codes new_codes outcome = Fails limits bytes outcome × (told ≡ no_tally) × LeavesRows old_blocks new_blocks old_codes new_codes
+abbrev pub Analyses : blocks.Limits → List ℕ → BsTally → (old_blocks new_blocks : List BsBlockRow)
+    → (old_codes new_codes : List BsCodeRow) → Outcome → Type 0
+Analyses limits bytes told old_blocks new_blocks old_codes new_codes Done = (tally : Tally)
+    × HasTally limits bytes tally × GivesTally tally told old_blocks new_blocks old_codes new_codes
+    Done
+Analyses limits bytes told old_blocks new_blocks old_codes new_codes Room = (tally : Tally)
+    × HasTally limits bytes tally × GivesTally tally told old_blocks new_blocks old_codes new_codes
+    Room
+Analyses limits bytes told old_blocks new_blocks old_codes new_codes outcome = FailsCall limits
+    bytes outcome × (told ≡ no_tally) × LeavesRows old_blocks new_blocks old_codes new_codes

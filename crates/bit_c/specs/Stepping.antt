@@ -12,18 +12,50 @@ use Rattle.bit_c.specs.declared.home.Home.TheVariants as home
 use Rattle.bit_c.specs.declared.home.Reading.{Reading}
 use Rattle.bit_c.specs.declared.outcome.Outcome.{Outcome}
 use Rattle.bit_c.specs.declared.outcome.Outcome.TheVariants.{Done, Closed}
-use Rattle.bit_c.specs.Calls.{Fails}
+use Rattle.bit_c.specs.Calls.{FailsCall}
 use Rattle.bit_c.specs.Ending.{ended_by}
-use Rattle.bit_c.specs.Handing.{HandsOut, Leaves}
+use Rattle.bit_c.specs.Handing.{HandsOut, LeavesRoom}
 
 -- an event as it is shown, or that none is left; what its kind does not name is 0
 abbrev pub event_told : Option Event → BsEvent
 event_told None = record { kind = 0; id = 0; width = 0; code = 0; count = 0; first = 0; after = 0 }
-event_told (Some (enters o)) = record { kind = 1; id = o.id; width = o.width; code = 0; count = 0; first = o.first; after = o.body }
-event_told (Some (defines mark)) = record { kind = 2; id = 0; width = 0; code = 0; count = 0; first = mark.first; after = mark.after }
+event_told (Some (enters o)) = record {
+  kind = 1;
+  id = o.id;
+  width = o.width;
+  code = 0;
+  count = 0;
+  first = o.first;
+  after = o.body;
+}
+event_told (Some (defines mark)) = record {
+  kind = 2;
+  id = 0;
+  width = 0;
+  code = 0;
+  count = 0;
+  first = mark.first;
+  after = mark.after;
+}
 event_told (Some (notes mark)) =
-    record { kind = 3; id = mark.abbreviation; width = 0; code = mark.code; count = length mark.values; first = mark.first; after = mark.after }
-event_told (Some (leaves after)) = record { kind = 4; id = 0; width = 0; code = 0; count = 0; first = 0; after = after }
+    record {
+      kind = 3;
+      id = mark.abbreviation;
+      width = 0;
+      code = mark.code;
+      count = length mark.values;
+      first = mark.first;
+      after = mark.after;
+    }
+event_told (Some (leaves after)) = record {
+  kind = 4;
+  id = 0;
+  width = 0;
+  code = 0;
+  count = 0;
+  first = 0;
+  after = after;
+}
 
 -- what a call for the next event does, which shows it
 abbrev pub Gets : Coming → Result BsEvent Fault → Coming → Type 0
@@ -37,52 +69,65 @@ abbrev pub whole : List ℕ → Incoming
 whole bytes = record { to_come = Some bytes; pulls = 0; failures = 0; accounts = [] }
 
 -- the events of the bytes were begun; or not, for this reason
-abbrev pub Begins : blocks.Limits → List ℕ → Result Reading Outcome → Type 0
-Begins limits bytes (Ok new) = (new.fault ≡ None) × Begun limits (whole bytes) new.events
-Begins limits bytes (Err outcome) = Fails limits bytes outcome
+abbrev pub BeginsReading : blocks.Limits → List ℕ → Result Reading Outcome → Type 0
+BeginsReading limits bytes (Ok new) = (new.fault ≡ None) × Begun limits (whole bytes) new.events
+BeginsReading limits bytes (Err outcome) = FailsCall limits bytes outcome
 
 -- The events of the bytes are begun behind a handle; or it is closed, for this reason.
-abbrev pub Opens : blocks.Limits → List ℕ → Option Reading → Outcome → Type 0
-Opens limits bytes (Some new) Done = (new.fault ≡ None) × Begun limits (whole bytes) new.events
-Opens limits bytes (Some new) outcome = ⊥
-Opens limits bytes None outcome = Fails limits bytes outcome
+abbrev pub OpensHandle : blocks.Limits → List ℕ → Option Reading → Outcome → Type 0
+OpensHandle limits bytes (Some new) Done = (new.fault ≡ None)
+    × Begun limits (whole bytes) new.events
+OpensHandle limits bytes (Some new) outcome = ⊥
+OpensHandle limits bytes None outcome = FailsCall limits bytes outcome
 
 -- an answer of a call for the next event was told, and a fault is kept
-abbrev pub Keeps : (old : Reading) → (before : BsEvent) → Result BsEvent Fault → Reading → BsEvent → Outcome → Type 0
-Keeps old before (Ok e) new after outcome = (outcome ≡ Done) × (after ≡ e) × (new.fault ≡ None)
-Keeps old before (Err fault) new after outcome = (outcome ≡ ended_by 0 fault) × (after ≡ before) × (new.fault ≡ Some fault)
+abbrev pub KeepsAnswer : (old : Reading) → (before : BsEvent) → Result BsEvent Fault → Reading
+    → BsEvent → Outcome → Type 0
+KeepsAnswer old before (Ok e) new after outcome = (outcome ≡ Done) × (after ≡ e)
+    × (new.fault ≡ None)
+KeepsAnswer old before (Err fault) new after outcome = (outcome ≡ ended_by 0 fault)
+    × (after ≡ before) × (new.fault ≡ Some fault)
 
 -- a call for the next event of events that met no fault
-abbrev pub GoesOn : (old : Reading) → (before : BsEvent) → Reading → BsEvent → Outcome → Type 0
-GoesOn old before new after outcome = (answer : Result BsEvent Fault) × Gets old.events answer new.events × Keeps old before answer new after outcome
+abbrev pub GoesOnReading : (old : Reading) → (before : BsEvent) → Reading → BsEvent → Outcome
+    → Type 0
+GoesOnReading old before new after outcome = (answer : Result BsEvent Fault)
+    × Gets old.events answer new.events × KeepsAnswer old before answer new after outcome
 
 -- a call for the next event of events that met a fault says that fault again, and changes nothing
 abbrev pub SaysAgain : Reading → BsEvent → Fault → Reading → BsEvent → Outcome → Type 0
-SaysAgain old before fault new after outcome = (outcome ≡ ended_by 0 fault) × (new ≡ old) × (after ≡ before)
+SaysAgain old before fault new after outcome = (outcome ≡ ended_by 0 fault) × (new ≡ old)
+    × (after ≡ before)
 
-abbrev pub Steps : Reading → BsEvent → Reading → BsEvent → Outcome → Type 0
-Steps old before new after outcome = MatchOption old.fault (GoesOn old before new after outcome) (λ fault. SaysAgain old before fault new after outcome)
+abbrev pub StepsReading : Reading → BsEvent → Reading → BsEvent → Outcome → Type 0
+StepsReading old before new after outcome = MatchOption old.fault
+    (GoesOnReading old before new after outcome)
+    (λ fault. SaysAgain old before fault new after outcome)
 
 -- The next event of a handle; a closed one stays so, and says it.
 abbrev pub Nexts : Option Reading → BsEvent → Option Reading → BsEvent → Outcome → Type 0
 Nexts None before None after outcome = (outcome ≡ Closed) × (after ≡ before)
 Nexts None before (Some new) after outcome = ⊥
 Nexts (Some old) before None after outcome = ⊥
-Nexts (Some old) before (Some new) after outcome = Steps old before new after outcome
+Nexts (Some old) before (Some new) after outcome = StepsReading old before new after outcome
 
 -- the same of what an open handle leads to
 abbrev pub NextsIn : Home → BsEvent → Home → BsEvent → Outcome → Type 0
-NextsIn (home.Reading old) before (home.Reading new) after outcome = Steps old before new after outcome
-NextsIn (home.Text old) before (home.Text new) after outcome = (outcome ≡ Closed) × (after ≡ before) × (new ≡ old)
+NextsIn (home.Reading old) before (home.Reading new) after outcome = StepsReading old before new
+    after outcome
+NextsIn (home.Text old) before (home.Text new) after outcome = (outcome ≡ Closed) × (after ≡ before)
+    × (new ≡ old)
 NextsIn old before new after outcome = ⊥
 
 -- ---- values
 
 -- those of the record that was given last were handed out; or the fault that was met was said, and nothing was
 abbrev pub Lists : Reading → List ℕ → ℕ → List ℕ → Outcome → Type 0
-Lists reading old needed new outcome = MatchOption reading.fault (HandsOut reading.events.held old needed new outcome) (λ fault. (outcome ≡ ended_by 0 fault) × Leaves old needed new)
+Lists reading old needed new outcome = MatchOption reading.fault
+    (HandsOut reading.events.held old needed new outcome)
+    (λ fault. (outcome ≡ ended_by 0 fault) × LeavesRoom old needed new)
 
 -- the same of a handle; a closed one says that it is
 abbrev pub ListsOf : Option Reading → List ℕ → ℕ → List ℕ → Outcome → Type 0
-ListsOf None old needed new outcome = (outcome ≡ Closed) × Leaves old needed new
+ListsOf None old needed new outcome = (outcome ≡ Closed) × LeavesRoom old needed new
 ListsOf (Some reading) old needed new outcome = Lists reading old needed new outcome

@@ -13,21 +13,27 @@ use Rattle.bit_c.specs.declared.outcome.Outcome.{Outcome}
 use Rattle.bit_c.specs.declared.outcome.Outcome.TheVariants.{TooLong}
 use Rattle.bit_c.specs.declared.texts.Text.{Text}
 use Rattle.bit_c.specs.declared.texts.Text.TheVariants.{Form, Report, Listing}
-use Rattle.bit_c.specs.Calls.{Fails}
-use Rattle.bit_c.specs.Handing.{Gives}
+use Rattle.bit_c.specs.Calls.{FailsCall}
+use Rattle.bit_c.specs.Handing.{HandsText}
 
 -- A text is the normal form of the tree that the bytes spell under a setting, the report of their analysis, or the listing of
 -- that tree.
-abbrev pub IsText : Text → Setting → blocks.Limits → List ℕ → List ℕ → Type 0
-IsText Form setting limits bytes text = (tree : Tree) × HasTree setting limits bytes tree × (bits_of_bytes text ≡ normal_form tree)
-IsText Report setting limits bytes text = (tally : Tally) × HasTally limits bytes tally × (text ≡ report_of tally)
-IsText Listing setting limits bytes text = (tree : Tree) × HasTree setting limits bytes tree × (text ≡ listing_of tree)
+abbrev pub IsTextOf : Text → Setting → blocks.Limits → List ℕ → List ℕ → Type 0
+IsTextOf Form setting limits bytes text = (tree : Tree) × HasTree setting limits bytes tree
+    × (bits_of_bytes text ≡ normal_form tree)
+IsTextOf Report setting limits bytes text = (tally : Tally) × HasTally limits bytes tally
+    × (text ≡ report_of tally)
+IsTextOf Listing setting limits bytes text = (tree : Tree) × HasTree setting limits bytes tree
+    × (text ≡ listing_of tree)
 
 -- Why a text was not made: the bytes break so; or there was no memory; or their normal form has more bytes than the limit.
 abbrev pub FailsText : Text → Setting → blocks.Limits → List ℕ → Outcome → Type 0
-FailsText Form setting limits bytes TooLong = (tree : Tree) × HasTree setting limits bytes tree × (limits.bytes < size_of tree)
-FailsText text setting limits bytes outcome = Fails limits bytes outcome
+FailsText Form setting limits bytes TooLong = (tree : Tree) × HasTree setting limits bytes tree
+    × (limits.bytes < size_of tree)
+FailsText text setting limits bytes outcome = FailsCall limits bytes outcome
 
 -- The text was handed out; or the room has not enough for it; or nothing was handed out, for this reason.
-abbrev pub GivesText : Text → Setting → blocks.Limits → List ℕ → List ℕ → ℕ → List ℕ → Outcome → Type 0
-GivesText text setting limits bytes = Gives (IsText text setting limits bytes) (FailsText text setting limits bytes)
+abbrev pub GivesText : Text → Setting → blocks.Limits → List ℕ → List ℕ → ℕ → List ℕ → Outcome
+    → Type 0
+GivesText text setting limits bytes = HandsText (IsTextOf text setting limits bytes)
+    (FailsText text setting limits bytes)

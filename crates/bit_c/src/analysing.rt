@@ -3,7 +3,7 @@
 ghost use Rattle.std.specs.Prelude.{◌≡◌, ◌++◌, map, flat_map, length, IfOk, OnOk};
 ghost use Rattle.bit_scan.specs.CodesView.{code_tallies};
 ghost use Rattle.bit_scan.specs.Rows.{block_tally, block_tallies};
-ghost use Rattle.bit_c.specs.Ending.{Ends};
+ghost use Rattle.bit_c.specs.Ending.{EndsCall};
 ghost use Rattle.bit_c.specs.Limiting.{Within, limits_told};
 ghost use Rattle.bit_c.specs.Rows.{Analyses, GivesRows, GivesTally, LeavesRows, code_told, codes_told, no_tally, row_told};
 
@@ -118,7 +118,8 @@ fn give_rows(
     block_room: &mut [BsBlockRow],
     code_room: &mut [BsCodeRow],
 ) -> Outcome
-    ensures { GivesRows blocks.now codes.now block_room.old block_room.new code_room.old code_room.new result }
+    ensures { GivesRows blocks.now codes.now block_room.old block_room.new code_room.old
+        code_room.new result }
 {
     if block_room.len() < blocks.len() || code_room.len() < codes.len() {
         return Outcome::Room;
@@ -136,7 +137,8 @@ fn give_tally(
     block_room: &mut [BsBlockRow],
     code_room: &mut [BsCodeRow],
 ) -> Outcome
-    ensures { GivesTally analysis.now tally.new block_room.old block_room.new code_room.old code_room.new result }
+    ensures { GivesTally analysis.now tally.new block_room.old block_room.new code_room.old
+        code_room.new result }
 {
     *tally = NO_TALLY;
     let Ok(blocks) = block_rows(alloc, analysis.rows()) else {
@@ -163,7 +165,8 @@ fn analyse_under(
     block_room: &mut [BsBlockRow],
     code_room: &mut [BsCodeRow],
 ) -> Outcome
-    ensures { Analyses limits bytes.now tally.new block_room.old block_room.new code_room.old code_room.new result }
+    ensures { Analyses limits bytes.now tally.new block_room.old block_room.new code_room.old
+        code_room.new result }
 {
     let (answer, _) = analyse(alloc, SliceSource::new(bytes), limits);
     match answer {
@@ -184,7 +187,10 @@ fn analyse_within(
     block_room: &mut [BsBlockRow],
     code_room: &mut [BsCodeRow],
 ) -> Outcome
-    ensures { let l = limits_told limits.now in Within l ((tally.new ≡ no_tally) × LeavesRows block_room.old block_room.new code_room.old code_room.new) (Analyses l bytes.now tally.new block_room.old block_room.new code_room.old code_room.new) result }
+    ensures { let l = limits_told limits.now in Within l
+        ((tally.new ≡ no_tally) × LeavesRows block_room.old block_room.new code_room.old
+        code_room.new) (Analyses l bytes.now tally.new block_room.old block_room.new code_room.old
+        code_room.new) result }
 {
     match limits.told() {
         Some(limits) => analyse_under(alloc, bytes, limits, tally, block_room, code_room),
@@ -207,7 +213,10 @@ pub extern "C" fn bs_analyse(
     code_room: &mut [BsCodeRow],
     fault: &mut BsFault,
 ) -> u32
-    ensures { let l = limits_told limits.now in Ends result fault.new (Within l ((tally.new ≡ no_tally) × LeavesRows block_room.old block_room.new code_room.old code_room.new) (Analyses l bytes.now tally.new block_room.old block_room.new code_room.old code_room.new)) }
+    ensures { let l = limits_told limits.now in EndsCall result fault.new
+        (Within l ((tally.new ≡ no_tally) × LeavesRows block_room.old block_room.new code_room.old
+        code_room.new) (Analyses l bytes.now tally.new block_room.old block_room.new code_room.old
+        code_room.new)) }
 {
     analyse_within(alloc, bytes, limits, tally, block_room, code_room).tell(fault)
 }

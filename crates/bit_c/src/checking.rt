@@ -2,7 +2,7 @@
 
 ghost use Rattle.std.specs.Prelude.{⊤};
 ghost use Rattle.bit_c.specs.Calls.{Checks};
-ghost use Rattle.bit_c.specs.Ending.{Ends};
+ghost use Rattle.bit_c.specs.Ending.{EndsCall};
 ghost use Rattle.bit_c.specs.Limiting.{Within, limits_told};
 
 use crate::limits::BsLimits;
@@ -40,7 +40,8 @@ pub extern "C" fn bs_check(
     limits: &BsLimits,
     fault: &mut BsFault,
 ) -> u32
-    ensures { Ends result fault.new (Within (limits_told limits.now) ⊤ (Checks (limits_told limits.now) bytes.now)) }
+    ensures { EndsCall result fault.new (Within (limits_told limits.now) ⊤
+        (Checks (limits_told limits.now) bytes.now)) }
 {
     judge_within(alloc, bytes, limits).tell(fault)
 }

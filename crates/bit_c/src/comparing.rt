@@ -4,8 +4,8 @@ ghost use Rattle.std.specs.Prelude.{◌≡◌, ⊤};
 ghost use Rattle.bit_grammar.specs.Setting.{setting_of};
 ghost use Rattle.bit_c.specs.Comparing.{Sames, input_of};
 ghost use Rattle.bit_c.specs.Differing.{Differences, no_difference};
-ghost use Rattle.bit_c.specs.Ending.{Ends};
-ghost use Rattle.bit_c.specs.Limiting.{Asks, limits_told, setting_told};
+ghost use Rattle.bit_c.specs.Ending.{EndsCall};
+ghost use Rattle.bit_c.specs.Limiting.{AsksWithin, limits_told, setting_told};
 
 use crate::difference::{BsDifference, BsOpenBlock, NO_DIFFERENCE, give_difference};
 use crate::left_out::{BsLeftOut, asked_of};
@@ -45,7 +45,8 @@ fn compare_asked(
     limits: &BsLimits,
     left_out: &BsLeftOut<'_>,
 ) -> Outcome
-    ensures { let l = limits_told limits.now in Asks l left_out.now ⊤ (Sames (setting_told left_out.now) l first.now second.now) result }
+    ensures { let l = limits_told limits.now in AsksWithin l left_out.now ⊤
+        (Sames (setting_told left_out.now) l first.now second.now) result }
 {
     match asked_of(alloc, limits, left_out) {
         Ok(asked) => compare(alloc, first, second, asked.limits, asked.setting()),
@@ -63,7 +64,8 @@ pub extern "C" fn bs_same(
     left_out: &BsLeftOut<'_>,
     fault: &mut BsFault,
 ) -> u32
-    ensures { let l = limits_told limits.now in Ends result fault.new (Asks l left_out.now ⊤ (Sames (setting_told left_out.now) l first.now second.now)) }
+    ensures { let l = limits_told limits.now in EndsCall result fault.new
+        (AsksWithin l left_out.now ⊤ (Sames (setting_told left_out.now) l first.now second.now)) }
 {
     compare_asked(alloc, first, second, limits, left_out).tell(fault)
 }
@@ -78,7 +80,8 @@ fn find(
     difference: &mut BsDifference,
     open_room: &mut [BsOpenBlock],
 ) -> Outcome
-    ensures { Differences (setting_of info.entry) limits first.now second.now difference.new open_room.old open_room.new result }
+    ensures { Differences (setting_of info.entry) limits first.now second.now difference.new
+        open_room.old open_room.new result }
 {
     *difference = NO_DIFFERENCE;
     let (answer, _) = first_difference_from(alloc, first, SliceSource::new(second), limits, info);
@@ -99,7 +102,10 @@ fn find_asked(
     difference: &mut BsDifference,
     open_room: &mut [BsOpenBlock],
 ) -> Outcome
-    ensures { let l = limits_told limits.now in Asks l left_out.now ((difference.new ≡ no_difference) × (open_room.new ≡ open_room.old)) (Differences (setting_told left_out.now) l first.now second.now difference.new open_room.old open_room.new) result }
+    ensures { let l = limits_told limits.now in AsksWithin l left_out.now
+        ((difference.new ≡ no_difference) × (open_room.new ≡ open_room.old))
+        (Differences (setting_told left_out.now) l first.now second.now difference.new open_room.old
+        open_room.new) result }
 {
     match asked_of(alloc, limits, left_out) {
         Ok(asked) => {
@@ -134,7 +140,10 @@ pub extern "C" fn bs_first_difference(
     open_room: &mut [BsOpenBlock],
     fault: &mut BsFault,
 ) -> u32
-    ensures { let l = limits_told limits.now in Ends result fault.new (Asks l left_out.now ((difference.new ≡ no_difference) × (open_room.new ≡ open_room.old)) (Differences (setting_told left_out.now) l first.now second.now difference.new open_room.old open_room.new)) }
+    ensures { let l = limits_told limits.now in EndsCall result fault.new
+        (AsksWithin l left_out.now ((difference.new ≡ no_difference)
+        × (open_room.new ≡ open_room.old)) (Differences (setting_told left_out.now) l first.now
+        second.now difference.new open_room.old open_room.new)) }
 {
     find_asked(
         alloc, first, second, limits, left_out, difference, open_room,

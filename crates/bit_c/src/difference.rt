@@ -2,7 +2,7 @@
 
 ghost use Rattle.std.specs.Prelude.{◌≡◌, length, map, IfOk};
 ghost use Rattle.bit_norm.specs.Entries.{difference_shown, place_shown, standing_shown};
-ghost use Rattle.bit_c.specs.Differing.{GivesDifference, Stands, Tells, block_told, items_before, open_in, place_number, values_told};
+ghost use Rattle.bit_c.specs.Differing.{GivesDifference, Stands, Tells, block_told, items_before, open_in, place_number, value_difference_told};
 
 use crate::outcome::Outcome;
 use crate::room::put;
@@ -132,7 +132,7 @@ fn standing_of(standing: Standing) -> BsStanding
 
 /// The first values that differ, as C sees them.
 fn values_of(value: Option<ValueDifference>) -> BsValueDifference
-    ensures { result ≡ values_told value }
+    ensures { result ≡ value_difference_told value }
 {
     match value {
         Some(value) => BsValueDifference {

@@ -1,7 +1,7 @@
 //! Events as C sees them.
 
 ghost use Rattle.std.specs.Prelude.{◌≡◌, None, Some};
-ghost use Rattle.bit_events.specs.EventView.{shown};
+ghost use Rattle.bit_events.specs.EventView.{event_shown};
 ghost use Rattle.bit_c.specs.Stepping.{Gets, event_told};
 
 use bit_events::{Event, Events};
@@ -51,7 +51,7 @@ pub(crate) const NONE: BsEvent = BsEvent {
 
 /// An event as C sees it.
 fn event_of(event: Event<'_>) -> BsEvent
-    ensures { result ≡ event_told (Some (shown event.entry)) }
+    ensures { result ≡ event_told (Some (event_shown event.entry)) }
 {
     match event {
         Event::Enter {

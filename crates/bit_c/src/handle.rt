@@ -40,7 +40,8 @@ pub(crate) fn opened(home: Box<Home>) -> BsHandle
 
 /// What one leads to.
 fn taken(handle: BsHandle) -> Option<Box<Home>>
-    ensures { MatchOption result (handle.inner.home ≡ None) (λ home. handle.inner.home ≡ Some home.value) }
+    ensures { MatchOption result (handle.inner.home ≡ None)
+        (λ home. handle.inner.home ≡ Some home.value) }
 {
     let BsHandle { live, inner } = handle;
     if live {
@@ -53,7 +54,8 @@ fn taken(handle: BsHandle) -> Option<Box<Home>>
 /// Takes out what a handle leads to, and leaves it closed.
 pub(crate) fn take_out(alloc: Global, handle: &mut BsHandle) -> Option<Box<Home>>
     ensures closed { handle.new.inner.home ≡ None }
-    ensures told { MatchOption result (handle.old.inner.home ≡ None) (λ home. handle.old.inner.home ≡ Some home.value) }
+    ensures told { MatchOption result (handle.old.inner.home ≡ None)
+        (λ home. handle.old.inner.home ≡ Some home.value) }
 {
     let (none, _) = closed(alloc);
     taken(mem::replace(handle, none))

@@ -2,9 +2,9 @@
 
 ghost use Rattle.std.specs.Prelude.{◌≡◌, None, Some};
 ghost use Rattle.bit_grammar.specs.Setting.{keep, setting_of};
-ghost use Rattle.bit_c.specs.Ending.{Ends};
+ghost use Rattle.bit_c.specs.Ending.{EndsCall};
 ghost use Rattle.bit_c.specs.Holding.{Holds, PutsBehind, TellsText};
-ghost use Rattle.bit_c.specs.Limiting.{Asks, Within, limits_told, setting_told};
+ghost use Rattle.bit_c.specs.Limiting.{AsksWithin, Within, limits_told, setting_told};
 ghost use Rattle.bit_c.specs.Opened.{text_of};
 ghost use Rattle.bit_c.specs.declared.texts.Text.{Text as TextTold};
 
@@ -59,7 +59,8 @@ fn hold_report_within(
     limits: &BsLimits,
     handle: &mut BsHandle,
 ) -> Outcome
-    ensures { let l = limits_told limits.now in let new = handle.new.inner.home in Within l (new ≡ None) (Holds TextTold.Report keep l bytes.now new) result }
+    ensures { let l = limits_told limits.now in let new = handle.new.inner.home
+        in Within l (new ≡ None) (Holds TextTold.Report keep l bytes.now new) result }
 {
     let _ = take_out(alloc, handle);
     match limits.told() {
@@ -77,7 +78,9 @@ fn hold_asked(
     text: Text,
     handle: &mut BsHandle,
 ) -> Outcome
-    ensures { let l = limits_told limits.now in let new = handle.new.inner.home in Asks l left_out.now (new ≡ None) (Holds text (setting_told left_out.now) l bytes.now new) result }
+    ensures { let l = limits_told limits.now in let new = handle.new.inner.home
+        in AsksWithin l left_out.now (new ≡ None)
+        (Holds text (setting_told left_out.now) l bytes.now new) result }
 {
     let _ = take_out(alloc, handle);
     match asked_of(alloc, limits, left_out) {
@@ -97,7 +100,9 @@ pub extern "C" fn bs_hold_normal(
     handle: &mut BsHandle,
     fault: &mut BsFault,
 ) -> u32
-    ensures { let l = limits_told limits.now in let new = handle.new.inner.home in Ends result fault.new (Asks l left_out.now (new ≡ None) (Holds TextTold.Form (setting_told left_out.now) l bytes.now new)) }
+    ensures { let l = limits_told limits.now in let new = handle.new.inner.home
+        in EndsCall result fault.new (AsksWithin l left_out.now (new ≡ None)
+        (Holds TextTold.Form (setting_told left_out.now) l bytes.now new)) }
 {
     hold_asked(alloc, bytes, limits, left_out, Text::Form, handle).tell(fault)
 }
@@ -111,7 +116,9 @@ pub extern "C" fn bs_hold_report(
     handle: &mut BsHandle,
     fault: &mut BsFault,
 ) -> u32
-    ensures { let l = limits_told limits.now in let new = handle.new.inner.home in Ends result fault.new (Within l (new ≡ None) (Holds TextTold.Report keep l bytes.now new)) }
+    ensures { let l = limits_told limits.now in let new = handle.new.inner.home
+        in EndsCall result fault.new (Within l (new ≡ None)
+        (Holds TextTold.Report keep l bytes.now new)) }
 {
     hold_report_within(alloc, bytes, limits, handle).tell(fault)
 }
@@ -126,7 +133,9 @@ pub extern "C" fn bs_hold_show(
     handle: &mut BsHandle,
     fault: &mut BsFault,
 ) -> u32
-    ensures { let l = limits_told limits.now in let new = handle.new.inner.home in Ends result fault.new (Asks l left_out.now (new ≡ None) (Holds TextTold.Listing (setting_told left_out.now) l bytes.now new)) }
+    ensures { let l = limits_told limits.now in let new = handle.new.inner.home
+        in EndsCall result fault.new (AsksWithin l left_out.now (new ≡ None)
+        (Holds TextTold.Listing (setting_told left_out.now) l bytes.now new)) }
 {
     hold_asked(alloc, bytes, limits, left_out, Text::Listing, handle).tell(fault)
 }
@@ -172,7 +181,8 @@ pub extern "C" fn bs_text(
     fault: &mut BsFault,
 ) -> u32
     ensures kept { handle.new.inner.home ≡ handle.old.inner.home }
-    ensures tells { Ends result fault.new (TellsText (text_of handle.old.inner.home) room.old needed.new room.new) }
+    ensures tells { EndsCall result fault.new
+        (TellsText (text_of handle.old.inner.home) room.old needed.new room.new) }
 {
     tell_of(alloc, handle, room, needed).tell(fault)
 }

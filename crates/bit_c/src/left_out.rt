@@ -3,7 +3,7 @@
 ghost use Rattle.std.specs.Prelude.{◌≡◌, ◌==◌, ◌++◌, map, if◌then◌else◌, IfOk};
 ghost use Rattle.std.specs.List.{list_any};
 ghost use Rattle.bit_grammar.specs.Setting.{setting_of};
-ghost use Rattle.bit_c.specs.Limiting.{Told, asked_setting, blocks_told, limits_told, name_told};
+ghost use Rattle.bit_c.specs.Limiting.{ToldOfAsked, asked_setting, blocks_told, limits_told, name_told};
 
 use crate::limits::BsLimits;
 use crate::outcome::Outcome;
@@ -90,7 +90,7 @@ pub(crate) fn asked_of(
     limits: &BsLimits,
     left_out: &BsLeftOut<'_>,
 ) -> Result<Asked, Outcome>
-    ensures { Told (limits_told limits.now) left_out.now result }
+    ensures { ToldOfAsked (limits_told limits.now) left_out.now result }
 {
     let Some(limits) = limits.told() else {
         return Err(Outcome::Limits);

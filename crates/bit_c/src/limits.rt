@@ -22,7 +22,8 @@ pub struct BsLimits {
 impl BsLimits {
     /// The limits, where none is past its cap.
     pub(crate) fn told(&self) -> Option<Limits>
-        ensures { MatchOption result (PassCaps (limits_told self.now)) (λ limits. (limits ≡ limits_told self.now) × Capped limits) }
+        ensures { MatchOption result (PassCaps (limits_told self.now))
+            (λ limits. (limits ≡ limits_told self.now) × Capped limits) }
     {
         let limits = Limits::new(self.bytes, self.depth, self.values)?;
         if self.shapes_at_use {
@@ -36,7 +37,12 @@ impl BsLimits {
 /// Sets limits to those that serve most inputs: 1 GiB, depth 64, 134,217,728 values. Shapes are judged at the definition.
 #[unsafe(no_mangle)]
 pub extern "C" fn bs_usual_limits(limits: &mut BsLimits)
-    ensures { limits.new ≡ record { bytes = 1073741824; depth = 64; values = 134217728; shapes_at_use = false } }
+    ensures { limits.new ≡ record {
+      bytes = 1073741824;
+      depth = 64;
+      values = 134217728;
+      shapes_at_use = false;
+    } }
 {
     let usual = Limits::usual();
     *limits = BsLimits {

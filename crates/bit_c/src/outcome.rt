@@ -1,7 +1,7 @@
 //! How a call ends, and what C is told of that.
 
 ghost use Rattle.std.specs.Prelude.{◌≡◌};
-ghost use Rattle.bit_c.specs.Ending.{number_of, fault_of, ended_by};
+ghost use Rattle.bit_c.specs.Ending.{status_number, fault_told, ended_by};
 
 use bit_fields::{Fault, Reason};
 
@@ -59,7 +59,7 @@ impl Outcome {
 
     /// The status.
     pub(crate) fn number(self) -> u32
-        ensures { result ≡ number_of self }
+        ensures { result ≡ status_number self }
     {
         match self {
             Outcome::Done => 0,
@@ -76,7 +76,7 @@ impl Outcome {
 
     /// Of a refusal the reason, the input and the bit.
     fn fault(self) -> BsFault
-        ensures { result ≡ fault_of self }
+        ensures { result ≡ fault_told self }
     {
         match self {
             Outcome::Refused { input, reason, bit } => BsFault {
@@ -94,8 +94,8 @@ impl Outcome {
 
     /// Tells C how a call ended.
     pub(crate) fn tell(self, fault: &mut BsFault) -> u32
-        ensures number { result ≡ number_of self }
-        ensures fault { fault.new ≡ fault_of self }
+        ensures number { result ≡ status_number self }
+        ensures fault { fault.new ≡ fault_told self }
     {
         *fault = self.fault();
         self.number()

@@ -1,10 +1,10 @@
 //! The calls of the reader of events.
 
 ghost use Rattle.std.specs.Prelude.{◌≡◌, None, Some};
-ghost use Rattle.bit_c.specs.Ending.{Ends};
+ghost use Rattle.bit_c.specs.Ending.{EndsCall};
 ghost use Rattle.bit_c.specs.Limiting.{Within, limits_told};
 ghost use Rattle.bit_c.specs.Opened.{reading_of};
-ghost use Rattle.bit_c.specs.Stepping.{Begins, Lists, ListsOf, Nexts, NextsIn, Opens, Steps};
+ghost use Rattle.bit_c.specs.Stepping.{BeginsReading, Lists, ListsOf, Nexts, NextsIn, OpensHandle, StepsReading};
 
 use crate::event::{BsEvent, next_of};
 use crate::handle::{BsHandle, opened, take_out};
@@ -18,7 +18,7 @@ use std::alloc::Global;
 
 /// Begins the events of bytes.
 fn begin(alloc: Global, bytes: &'static [u8], limits: Limits) -> Result<Reading, Outcome>
-    ensures { Begins limits bytes.now result }
+    ensures { BeginsReading limits bytes.now result }
 {
     match Events::start(alloc, SliceSource::new(bytes), limits) {
         Ok(events) => Ok(Reading {
@@ -32,7 +32,7 @@ fn begin(alloc: Global, bytes: &'static [u8], limits: Limits) -> Result<Reading,
 /// Begins the events of bytes behind a handle that is closed.
 fn open_at(alloc: Global, bytes: &'static [u8], limits: Limits, handle: &mut BsHandle) -> Outcome
     requires { handle.old.inner.home ≡ None }
-    ensures { Opens limits bytes.now (reading_of handle.new.inner.home) result }
+    ensures { OpensHandle limits bytes.now (reading_of handle.new.inner.home) result }
 {
     let reading = match begin(alloc, bytes, limits) {
         Ok(reading) => reading,
@@ -54,7 +54,8 @@ fn open_within(
     limits: &BsLimits,
     handle: &mut BsHandle,
 ) -> Outcome
-    ensures { let l = limits_told limits.now in let new = reading_of handle.new.inner.home in Within l (new ≡ None) (Opens l bytes.now new) result }
+    ensures { let l = limits_told limits.now in let new = reading_of handle.new.inner.home
+        in Within l (new ≡ None) (OpensHandle l bytes.now new) result }
 {
     let _ = take_out(alloc, handle);
     match limits.told() {
@@ -73,14 +74,15 @@ pub extern "C" fn bs_open(
     handle: &mut BsHandle,
     fault: &mut BsFault,
 ) -> u32
-    ensures { let l = limits_told limits.now in let new = reading_of handle.new.inner.home in Ends result fault.new (Within l (new ≡ None) (Opens l bytes.now new)) }
+    ensures { let l = limits_told limits.now in let new = reading_of handle.new.inner.home
+        in EndsCall result fault.new (Within l (new ≡ None) (OpensHandle l bytes.now new)) }
 {
     open_within(alloc, bytes, limits, handle).tell(fault)
 }
 
 /// The next event of events, or the fault that they met.
 fn step(reading: &mut Reading, event: &mut BsEvent) -> Outcome
-    ensures { Steps reading.old event.old reading.new event.new result }
+    ensures { StepsReading reading.old event.old reading.new event.new result }
 {
     if let Some(fault) = reading.fault {
         return Outcome::of(0, fault);
@@ -109,7 +111,8 @@ fn step_in(home: &mut Home, event: &mut BsEvent) -> Outcome
 
 /// The next event of a handle.
 fn step_of(alloc: Global, handle: &mut BsHandle, event: &mut BsEvent) -> Outcome
-    ensures { Nexts (reading_of handle.old.inner.home) event.old (reading_of handle.new.inner.home) event.new result }
+    ensures { Nexts (reading_of handle.old.inner.home) event.old (reading_of handle.new.inner.home)
+        event.new result }
 {
     match take_out(alloc, handle) {
         Some(mut home) => {
@@ -129,7 +132,8 @@ pub extern "C" fn bs_next(
     event: &mut BsEvent,
     fault: &mut BsFault,
 ) -> u32
-    ensures { Ends result fault.new (Nexts (reading_of handle.old.inner.home) event.old (reading_of handle.new.inner.home) event.new) }
+    ensures { EndsCall result fault.new (Nexts (reading_of handle.old.inner.home) event.old
+        (reading_of handle.new.inner.home) event.new) }
 {
     step_of(alloc, handle, event).tell(fault)
 }
@@ -186,7 +190,8 @@ pub extern "C" fn bs_values(
     fault: &mut BsFault,
 ) -> u32
     ensures kept { handle.new.inner.home ≡ handle.old.inner.home }
-    ensures lists { Ends result fault.new (ListsOf (reading_of handle.old.inner.home) room.old needed.new room.new) }
+    ensures lists { EndsCall result fault.new
+        (ListsOf (reading_of handle.old.inner.home) room.old needed.new room.new) }
 {
     list_of(alloc, handle, room, needed).tell(fault)
 }

@@ -2,7 +2,7 @@
 
 ghost use Rattle.std.specs.Prelude.{◌≤◌, length, true};
 ghost use Rattle.bit_fields.specs.Devices.{Outgoing};
-ghost use Rattle.bit_c.specs.Handing.{Fills, Hands, HandsOut};
+ghost use Rattle.bit_c.specs.Handing.{FillsRoom, Hands, HandsOut};
 
 use crate::outcome::Outcome;
 use bit_fields::{Sink, VecSink};
@@ -10,7 +10,7 @@ use bit_fields::{Sink, VecSink};
 /// Puts items at the front of the caller's room.
 pub(crate) fn put<T: Copy>(items: &[T], room: &mut [T])
     requires { length items.now ≤ length room.old }
-    ensures { Fills items.now room.old true room.new }
+    ensures { FillsRoom items.now room.old true room.new }
 {
     room[..items.len()].copy_from_slice(items);
 }
@@ -29,7 +29,8 @@ pub(crate) fn hand_out<T: Copy>(items: &[T], room: &mut [T], needed: &mut usize)
 
 /// Puts what a call made at the front of the caller's room, where it was done; else leaves the room as it was.
 pub(crate) fn hand(outcome: Outcome, made: &VecSink, room: &mut [u8], needed: &mut usize) -> Outcome
-    ensures { Hands outcome (⟦<VecSink as Sink>⟧.outgoing made.now).bytes room.old needed.new room.new result }
+    ensures { Hands outcome (⟦<VecSink as Sink>⟧.outgoing made.now).bytes room.old needed.new
+        room.new result }
 {
     match outcome {
         Outcome::Done => hand_out(made.bytes(), room, needed),

@@ -1,10 +1,10 @@
 //! The texts that calls make of an input: its normal form, its report and its listing.
 
 ghost use Rattle.bit_grammar.specs.Setting.{keep, setting_of};
-ghost use Rattle.bit_c.specs.Ending.{Ends};
-ghost use Rattle.bit_c.specs.Handing.{Leaves, Makes};
-ghost use Rattle.bit_c.specs.Limiting.{Asks, Within, limits_told, setting_told};
-ghost use Rattle.bit_c.specs.Texts.{FailsText, GivesText, IsText};
+ghost use Rattle.bit_c.specs.Ending.{EndsCall};
+ghost use Rattle.bit_c.specs.Handing.{LeavesRoom, Makes};
+ghost use Rattle.bit_c.specs.Limiting.{AsksWithin, Within, limits_told, setting_told};
+ghost use Rattle.bit_c.specs.Texts.{FailsText, GivesText, IsTextOf};
 ghost use Rattle.bit_c.specs.declared.texts.Text.{Text as TextTold};
 
 use crate::left_out::{BsLeftOut, asked_of};
@@ -28,7 +28,10 @@ pub(crate) enum Text {
 
 /// Makes the normal form of what bytes hold.
 fn form_of(alloc: Global, bytes: &[u8], limits: Limits, info: Info<'_>) -> (Outcome, VecSink)
-    ensures { let setting = setting_of info.entry in Makes (IsText TextTold.Form setting limits bytes.now) (FailsText TextTold.Form setting limits bytes.now) result.0 (⟦<VecSink as Sink>⟧.outgoing result.1).bytes }
+    ensures { let setting = setting_of info.entry
+        in Makes (IsTextOf TextTold.Form setting limits bytes.now)
+        (FailsText TextTold.Form setting limits bytes.now) result.0
+        (⟦<VecSink as Sink>⟧.outgoing result.1).bytes }
 {
     let sink = VecSink::new(alloc);
     let (answer, _, sink) = normalise(alloc, SliceSource::new(bytes), sink, limits, info);
@@ -40,7 +43,9 @@ fn form_of(alloc: Global, bytes: &[u8], limits: Limits, info: Info<'_>) -> (Outc
 
 /// Makes the report of what bytes hold.
 fn report_of(alloc: Global, bytes: &[u8], limits: Limits) -> (Outcome, VecSink)
-    ensures { Makes (IsText TextTold.Report keep limits bytes.now) (FailsText TextTold.Report keep limits bytes.now) result.0 (⟦<VecSink as Sink>⟧.outgoing result.1).bytes }
+    ensures { Makes (IsTextOf TextTold.Report keep limits bytes.now)
+        (FailsText TextTold.Report keep limits bytes.now) result.0
+        (⟦<VecSink as Sink>⟧.outgoing result.1).bytes }
 {
     let sink = VecSink::new(alloc);
     let (answer, _, sink) = write_report(alloc, SliceSource::new(bytes), sink, limits);
@@ -52,7 +57,10 @@ fn report_of(alloc: Global, bytes: &[u8], limits: Limits) -> (Outcome, VecSink)
 
 /// Makes the listing of what bytes hold.
 fn listing_of(alloc: Global, bytes: &[u8], limits: Limits, info: Info<'_>) -> (Outcome, VecSink)
-    ensures { let setting = setting_of info.entry in Makes (IsText TextTold.Listing setting limits bytes.now) (FailsText TextTold.Listing setting limits bytes.now) result.0 (⟦<VecSink as Sink>⟧.outgoing result.1).bytes }
+    ensures { let setting = setting_of info.entry
+        in Makes (IsTextOf TextTold.Listing setting limits bytes.now)
+        (FailsText TextTold.Listing setting limits bytes.now) result.0
+        (⟦<VecSink as Sink>⟧.outgoing result.1).bytes }
 {
     let sink = VecSink::new(alloc);
     let (answer, _, sink) = write_show(alloc, SliceSource::new(bytes), sink, limits, info);
@@ -70,7 +78,9 @@ pub(crate) fn make(
     text: Text,
     info: Info<'_>,
 ) -> (Outcome, VecSink)
-    ensures { let setting = setting_of info.entry in Makes (IsText text setting limits bytes.now) (FailsText text setting limits bytes.now) result.0 (⟦<VecSink as Sink>⟧.outgoing result.1).bytes }
+    ensures { let setting = setting_of info.entry
+        in Makes (IsTextOf text setting limits bytes.now) (FailsText text setting limits bytes.now)
+        result.0 (⟦<VecSink as Sink>⟧.outgoing result.1).bytes }
 {
     match text {
         Text::Form => form_of(alloc, bytes, limits, info),
@@ -89,7 +99,8 @@ fn give(
     room: &mut [u8],
     needed: &mut usize,
 ) -> Outcome
-    ensures { GivesText text (setting_of info.entry) limits bytes.now room.old needed.new room.new result }
+    ensures { GivesText text (setting_of info.entry) limits bytes.now room.old needed.new room.new
+        result }
 {
     let (outcome, made) = make(alloc, bytes, limits, text, info);
     hand(outcome, &made, room, needed)
@@ -103,7 +114,8 @@ fn report_within(
     room: &mut [u8],
     needed: &mut usize,
 ) -> Outcome
-    ensures { let l = limits_told limits.now in Within l (Leaves room.old needed.new room.new) (GivesText TextTold.Report keep l bytes.now room.old needed.new room.new) result }
+    ensures { let l = limits_told limits.now in Within l (LeavesRoom room.old needed.new room.new)
+        (GivesText TextTold.Report keep l bytes.now room.old needed.new room.new) result }
 {
     match limits.told() {
         Some(limits) => give(alloc, bytes, limits, Text::Report, Info::Keep, room, needed),
@@ -124,7 +136,9 @@ fn give_asked(
     room: &mut [u8],
     needed: &mut usize,
 ) -> Outcome
-    ensures { let l = limits_told limits.now in Asks l left_out.now (Leaves room.old needed.new room.new) (GivesText text (setting_told left_out.now) l bytes.now room.old needed.new room.new) result }
+    ensures { let l = limits_told limits.now in AsksWithin l left_out.now
+        (LeavesRoom room.old needed.new room.new)
+        (GivesText text (setting_told left_out.now) l bytes.now room.old needed.new room.new) result }
 {
     match asked_of(alloc, limits, left_out) {
         Ok(asked) => give(
@@ -155,7 +169,10 @@ pub extern "C" fn bs_normal(
     needed: &mut usize,
     fault: &mut BsFault,
 ) -> u32
-    ensures { let l = limits_told limits.now in Ends result fault.new (Asks l left_out.now (Leaves room.old needed.new room.new) (GivesText TextTold.Form (setting_told left_out.now) l bytes.now room.old needed.new room.new)) }
+    ensures { let l = limits_told limits.now in EndsCall result fault.new
+        (AsksWithin l left_out.now (LeavesRoom room.old needed.new room.new)
+        (GivesText TextTold.Form (setting_told left_out.now) l bytes.now room.old needed.new
+        room.new)) }
 {
     give_asked(alloc, bytes, limits, left_out, Text::Form, room, needed).tell(fault)
 }
@@ -170,7 +187,9 @@ pub extern "C" fn bs_report(
     needed: &mut usize,
     fault: &mut BsFault,
 ) -> u32
-    ensures { let l = limits_told limits.now in Ends result fault.new (Within l (Leaves room.old needed.new room.new) (GivesText TextTold.Report keep l bytes.now room.old needed.new room.new)) }
+    ensures { let l = limits_told limits.now in EndsCall result fault.new
+        (Within l (LeavesRoom room.old needed.new room.new)
+        (GivesText TextTold.Report keep l bytes.now room.old needed.new room.new)) }
 {
     report_within(alloc, bytes, limits, room, needed).tell(fault)
 }
@@ -186,7 +205,10 @@ pub extern "C" fn bs_show(
     needed: &mut usize,
     fault: &mut BsFault,
 ) -> u32
-    ensures { let l = limits_told limits.now in Ends result fault.new (Asks l left_out.now (Leaves room.old needed.new room.new) (GivesText TextTold.Listing (setting_told left_out.now) l bytes.now room.old needed.new room.new)) }
+    ensures { let l = limits_told limits.now in EndsCall result fault.new
+        (AsksWithin l left_out.now (LeavesRoom room.old needed.new room.new)
+        (GivesText TextTold.Listing (setting_told left_out.now) l bytes.now room.old needed.new
+        room.new)) }
 {
     give_asked(alloc, bytes, limits, left_out, Text::Listing, room, needed).tell(fault)
 }

@@ -5,12 +5,12 @@ use Rattle.bit_grammar.specs.Grammar as grammar
 use Rattle.bit_grammar.specs.Grammar.{at, reading}
 use Rattle.bit_grammar.specs.Blocks.{Limits}
 use Rattle.bit_grammar.specs.Machine as machine
-use Rattle.bit_grammar.specs.Machine.{Event, at_start, Ending, accepted, broke, Told, step, is_done, unless_done, told_by, to_come}
+use Rattle.bit_grammar.specs.Machine.{Event, at_start, Ending, accepted, broke, Told, step, is_done, unless_done, told_of_step, to_come}
 use Rattle.bit_grammar.specs.Steps.{AreWide}
 use Rattle.bit_grammar.specs.Input.{front_of}
 use Rattle.bit_grammar.specs.Normal.{Capped}
 use Rattle.bit_grammar.specs.Outlook.{outlook}
-use Rattle.bit_grammar.proofs.Machines.{Step, comes}
+use Rattle.bit_grammar.proofs.Events.Machines.{Step, comes}
 use Rattle.bit_fields.specs.declared.fault.Fault.{Fault}
 use Rattle.bit_fields.specs.declared.fault.Fault.TheVariants.{Refused, Read, Write, Memory, OutputTooLong, Failed}
 use Rattle.bit_fields.specs.declared.head.Head.{Head}
@@ -18,7 +18,7 @@ use Rattle.bit_fields.specs.Devices.{Incoming, Fails, known_bytes}
 use Rattle.bit_fields.specs.Reader as fields
 use Rattle.bit_fields.specs.Reader.{Reader, Extent, TellsBytes, GoesOn, Took, Why, within}
 use Rattle.bit_fields.specs.Opening as opening
-use Rattle.bit_fields.specs.Opening.{head_told, Opened, fresh, beginning, Beginning, wrapper_of, end_of}
+use Rattle.bit_fields.specs.Opening.{head_told, OpenedInput, fresh, beginning, Beginning, wrapper_of, end_of_stream}
 use Rattle.bit_fields.specs.Ending.{Stays}
 use Rattle.bit_fields.proofs.InflowLaws.{Spends-trans, fails_later}
 use Rattle.bit_events.specs.declared.frame.Frame.{Frame}
@@ -28,11 +28,11 @@ use Rattle.bit_events.specs.FrameView.{frame_shown, frames_onto, frames_shown}
 use Rattle.bit_events.specs.declared.machine.Found.TheVariants as found
 use Rattle.bit_events.specs.declared.machine.Aside.TheVariants.{Enter, Define, Leave}
 use Rattle.bit_events.specs.Coming.{held_after}
-use Rattle.bit_events.specs.MachineView.{machine_shown, definition_of, found_shown, found_lent, after_found, HoldsDefinition, Leaves}
+use Rattle.bit_events.specs.MachineView.{machine_shown, definition_of, found_shown, found_lent, after_found, HoldsDefinition, LeavesMachine}
 use Rattle.bit_events.specs.Coming.{over as over_stage}
-use Rattle.bit_events.specs.Coming.{failed, Goes, Gives, Ends, Breaks, Stops, Loses, before, end_at, end_by, told_of}
+use Rattle.bit_events.specs.Coming.{failed, Goes, GivesEvent, EndsEvents, BreaksOff, StopsEvents, LosesEvents, event_before, end_at, end_by, told_of}
 use Rattle.bit_events.specs.Folding.{left_to_tell}
-use Rattle.bit_events.specs.Events.{stage_of, coming_of, IsEvents, Over, Shuts, Begun, Declines}
+use Rattle.bit_events.specs.Events.{stage_of, coming_of, IsEvents, Over, Shuts, Begun, DeclinesEvents}
 use Rattle.bit_events.proofs.Beginnings.{outlook_begun, outlook_declined}
 
 -- ---- open blocks
@@ -71,9 +71,9 @@ told_until e told = (told.0, end_by e told.1)
 
 -- an event that is read is the first to come
 told_event : (limits : Limits) (e : Extent) (m new : machine.Machine) (p q : ℕ) (left rest : List Bool) (event : Event) → AreWide m.frames → is_done m.frames left ≡ false
-    → reading (step limits m) p left ≡ Ok ((event, new), q, rest) → told_of limits e m p left ≡ before event (told_of limits e new q rest)
+    → reading (step limits m) p left ≡ Ok ((event, new), q, rest) → told_of limits e m p left ≡ event_before event (told_of limits e new q rest)
 told_event limits e m new p q left rest event ids more read =
-    ap (told_until e) (comes limits m p left ids more ∙ ap (told_by (to_come limits)) read)
+    ap (told_until e) (comes limits m p left ids more ∙ ap (told_of_step (to_come limits)) read)
 
 -- a step that breaks is the end
 told_fault : (limits : Limits) (e : Extent) (m : machine.Machine) (p : ℕ) (left : List Bool) (reason : _) (bit : ℕ) → AreWide m.frames → is_done m.frames left ≡ false
@@ -81,7 +81,7 @@ told_fault : (limits : Limits) (e : Extent) (m : machine.Machine) (p : ℕ) (lef
 told_fault limits e m p left reason bit ids more breaks =
     ap (told_until e) (comes limits m p left ids more) ∙ go (reading (step limits m) p left) breaks
   where
-    go : (read : Step) → fields.Breaks e read reason bit → told_until e (told_by (to_come limits) read) ≡ ([], broke (at reason bit))
+    go : (read : Step) → fields.Breaks e read reason bit → told_until e (told_of_step (to_come limits) read) ≡ ([], broke (at reason bit))
     go (Ok x) k = absurd k
     go (Err fault) k = ap (λ (f : grammar.Fault). ([], broke f)) k
 
@@ -112,11 +112,11 @@ pub dead : (live : Bool) → live ≡ true → live ≡ false → ⊥
 dead live is isnt = cc
 
 -- an event that came is the first to come
-pub event_told : (limits : Limits) (m new : Machine) (event : Event) (a b c : Reader) → Ready m a b → Took (step limits (machine_shown m)) b (event, machine_shown new) c → TellsBytes a → left_to_tell limits m a ≡ before event (left_to_tell limits new c)
+pub event_told : (limits : Limits) (m new : Machine) (event : Event) (a b c : Reader) → Ready m a b → Took (step limits (machine_shown m)) b (event, machine_shown new) c → TellsBytes a → left_to_tell limits m a ≡ event_before event (left_to_tell limits new c)
 event_told limits m new event a b c h took tells =
     let read : reading (step limits (machine_shown m)) a.position a.left ≡ Ok ((event, machine_shown new), c.position, c.left) = subst (λ (left : List Bool). reading (step limits (machine_shown m)) a.position left ≡ Ok ((event, machine_shown new), c.position, c.left)) (h.0.left tells) (subst (λ (p : ℕ). reading (step limits (machine_shown m)) p b.left ≡ Ok ((event, machine_shown new), c.position, c.left)) h.0.position (took.reads (h.0.goes_on.tells tells))) in
     told_event limits a.extent (machine_shown m) (machine_shown new) a.position c.position a.left c.left event (wide m.frames.items) (not_done m a b h tells) read
-    ∙ ap (λ (e : Extent). before event (told_of limits e (machine_shown new) c.position c.left)) (sym (took.extent (h.0.goes_on.tells tells) ∙ h.0.extent tells))
+    ∙ ap (λ (e : Extent). event_before event (told_of limits e (machine_shown new) c.position c.left)) (sym (took.extent (h.0.goes_on.tells tells) ∙ h.0.extent tells))
 
 -- a step that breaks is the end
 pub break_told : (limits : Limits) (m : Machine) (reason : _) (bit : ℕ) (a b : Reader) → Ready m a b → (TellsBytes b → fields.Breaks b.extent (reading (step limits (machine_shown m)) b.position b.left) reason bit) → TellsBytes a → left_to_tell limits m a ≡ ([], broke (at reason bit))
@@ -129,16 +129,16 @@ pub shut_told : (limits : Limits) (m : Machine) (a : Reader) (ending : Ending) �
 shut_told limits m a ending none empty is =
     told_end limits a.extent (machine_shown m) a.position a.left (shown_none m.frames.items (sym m.frames.ok.0 ∙ none)) empty ∙ ap (λ (e : Ending). ([], e)) is
 
-stops : (limits : Limits) (head : Head) (m new : Machine) (vs ws : List ℕ) (found next_found : Option Found) (a b c : Reader) → Stays a b → fields.Stops b c → Stops (coming_of false limits head m vs found a.position a) (coming_of false limits head new ws next_found a.position c)
+stops : (limits : Limits) (head : Head) (m new : Machine) (vs ws : List ℕ) (found next_found : Option Found) (a b c : Reader) → Stays a b → fields.StopsReading b c → StopsEvents (coming_of false limits head m vs found a.position a) (coming_of false limits head new ws next_found a.position c)
 stops limits head m new vs ws found next_found a b c h s = record { went = rw h.was_live refl; stopped = rw s.failed refl; head = refl; position = refl; pays = pays_both a b c h.goes_on s.goes_on }
 
-loses : (limits : Limits) (head : Head) (m new : Machine) (vs ws : List ℕ) (found next_found : Option Found) (a b c : Reader) → Stays a b → fields.Loses b c → Loses (coming_of false limits head m vs found a.position a) (coming_of false limits head new ws next_found a.position c)
+loses : (limits : Limits) (head : Head) (m new : Machine) (vs ws : List ℕ) (found next_found : Option Found) (a b c : Reader) → Stays a b → fields.Loses b c → LosesEvents (coming_of false limits head m vs found a.position a) (coming_of false limits head new ws next_found a.position c)
 loses limits head m new vs ws found next_found a b c h s = record { went = rw h.was_live refl; stopped = rw s.failed refl; head = refl; position = refl; fails = loses_both a b c h.goes_on s.fails }
 
 -- an event came
 gives : (limits : Limits) (head : Head) (m new : Machine) (vs ws : List ℕ) (found : Option Found) (next_found : Found) (a b c : Reader) → Ready m a b
-    → Took (step limits (machine_shown m)) b (after_found new ws next_found) c → Leaves limits.depth m b (found_shown new ws next_found) new c → ws ≡ held_after (found_shown new ws next_found) vs → b.position < c.position → c.position < 2 ^ 64
-    → Gives (coming_of false limits head m vs found a.position a) (found_shown new ws next_found) (coming_of false limits head new ws (Some next_found) c.position c)
+    → Took (step limits (machine_shown m)) b (after_found new ws next_found) c → LeavesMachine limits.depth m b (found_shown new ws next_found) new c → ws ≡ held_after (found_shown new ws next_found) vs → b.position < c.position → c.position < 2 ^ 64
+    → GivesEvent (coming_of false limits head m vs found a.position a) (found_shown new ws next_found) (coming_of false limits head new ws (Some next_found) c.position c)
 gives limits head m new vs ws found next_found a b c h took leaves held forward below = record {
   went = rw h.0.was_live refl;
   goes = rw took.live refl;
@@ -155,7 +155,7 @@ gives limits head m new vs ws found next_found a b c h took leaves held forward 
 
 -- no event came
 misses : (limits : Limits) (head : Head) (m new : Machine) (vs ws : List ℕ) (found next_found : Option Found) (a b c : Reader) (fault : Fault) → Ready m a b
-    → Why (step limits (machine_shown m)) b fault c → Breaks (coming_of false limits head m vs found a.position a) fault (coming_of false limits head new ws next_found a.position c)
+    → Why (step limits (machine_shown m)) b fault c → BreaksOff (coming_of false limits head m vs found a.position a) fault (coming_of false limits head new ws next_found a.position c)
 misses limits head m new vs ws found next_found a b c (Refused reason bit) h why = (stops limits head m new vs ws found next_found a b c h.0 why.0, λ tells. break_told limits m reason bit a b h why.1 tells)
 misses limits head m new vs ws found next_found a b c Read h why = loses limits head m new vs ws found next_found a b c h.0 why
 misses limits head m new vs ws found next_found a b c Memory h why = stops limits head m new vs ws found next_found a b c h.0 why
@@ -173,7 +173,7 @@ begun false e = cc
 
 -- the input ends
 ends : (limits : Limits) (head : Head) (m : Machine) (vs : List ℕ) (found : Option Found) (a c : Reader) → vec_len m.frames ≡ 0 → a.live ≡ true → Over a c
-    → Ends (coming_of false limits head m vs found a.position a) (coming_of true limits head m vs None a.position c)
+    → EndsEvents (coming_of false limits head m vs found a.position a) (coming_of true limits head m vs None a.position c)
 ends limits head m vs found a c none live over = record {
   held_on = λ e. still a.live live e;
   ends = refl;
@@ -191,7 +191,7 @@ ends limits head m vs found a c none live over = record {
 
 -- outside of all blocks no event came
 refuses : (limits : Limits) (head : Head) (m : Machine) (vs : List ℕ) (found : Option Found) (a c : Reader) (fault : Fault) → vec_len m.frames ≡ 0 → Shuts true a (Err fault) c
-    → Breaks (coming_of false limits head m vs found a.position a) fault (coming_of false limits head m vs found a.position c)
+    → BreaksOff (coming_of false limits head m vs found a.position a) fault (coming_of false limits head m vs found a.position c)
 refuses limits head m vs found a c (Refused reason bit) none (_, s, told) = (
   record { went = rw s.was_live refl; stopped = rw s.failed refl; head = refl; position = refl; pays = s.goes_on },
   λ tells. shut_told limits m a (broke (at reason bit)) none (told tells).0 (told tells).1,
@@ -206,7 +206,7 @@ refuses limits head m vs found a c OutputTooLong none h = absurd h
 
 -- an input was begun
 pub began : (limits : Limits) (i : Incoming) (head : Head) (m : Machine) (values : List ℕ) (r : Reader) → Capped limits → machine_shown m ≡ at_start → values ≡ [] → vec_len m.frames ≡ 0
-    → Opened (fresh i limits.bytes) head r → Begun limits i (coming_of false limits head m values None r.position r)
+    → OpenedInput (fresh i limits.bytes) head r → Begun limits i (coming_of false limits head m values None r.position r)
 began limits i head m values r capped shown held none o = record {
   capped = capped;
   goes = rw o.live refl;
@@ -224,11 +224,11 @@ began limits i head m values r capped shown held none o = record {
         ∙ ap (λ (x : machine.Machine). Ok (head_told head, told_of limits r.extent x r.position r.left)) (sym shown)
 
 -- an input was not begun
-pub declined : (limits : Limits) (i : Incoming) (fault : Fault) (now : Incoming) → limits.bytes < 2 ^ 64 - 1 → opening.Declines (fresh i limits.bytes) fault now → Declines limits i fault now
+pub declined : (limits : Limits) (i : Incoming) (fault : Fault) (now : Incoming) → limits.bytes < 2 ^ 64 - 1 → opening.Declines (fresh i limits.bytes) fault now → DeclinesEvents limits i fault now
 declined limits i (Refused reason bit) now low (leaves, breaks) = (leaves, λ tells. go (beginning (front_of limits (known_bytes i.to_come))) refl (breaks tells))
   where
     e : Extent
-    e = record { total = length (known_bytes i.to_come); end = end_of (wrapper_of (front_of limits (known_bytes i.to_come))); limit = limits.bytes }
+    e = record { total = length (known_bytes i.to_come); end = end_of_stream (wrapper_of (front_of limits (known_bytes i.to_come))); limit = limits.bytes }
 
     go : (read : Beginning) → beginning (front_of limits (known_bytes i.to_come)) ≡ read → fields.Breaks e read reason bit → outlook limits (known_bytes i.to_come) ≡ Err (at reason bit)
     go (Ok x) is k = absurd k
@@ -250,27 +250,27 @@ lends m values (found.Record id code first after) h = refl
 
 -- an event came, and it is lent
 pub kept_goes : (is_over : Bool) (limits : Limits) (head : Head) (m new : Machine) (vs ws : List ℕ) (found : Option Found) (next_found : Found) (a b c : Reader) (outside : Bool) → is_over ≡ false
-    → (vec_len m.frames ≡ 0 → outside ≡ true) → Shuts outside a (Ok false) b → Took (step limits (machine_shown m)) b (after_found new ws next_found) c → Leaves limits.depth m b (found_shown new ws next_found) new c → ws ≡ held_after (found_shown new ws next_found) vs
+    → (vec_len m.frames ≡ 0 → outside ≡ true) → Shuts outside a (Ok false) b → Took (step limits (machine_shown m)) b (after_found new ws next_found) c → LeavesMachine limits.depth m b (found_shown new ws next_found) new c → ws ≡ held_after (found_shown new ws next_found) vs
     → b.position < c.position → c.position < 2 ^ 64
     → Goes (coming_of is_over limits head m vs found a.position a) (Ok (found_lent new ws next_found)) (coming_of is_over limits head new ws (Some next_found) c.position c)
 kept_goes is_over limits head m new vs ws found next_found a b c outside e out shut took leaves held forward below =
     subst (λ (o : Option Event). Goes (coming_of is_over limits head m vs found a.position a) (Ok o) (coming_of is_over limits head new ws (Some next_found) c.position c)) (sym (lends new ws next_found leaves.holds))
-    (subst (λ (x : Bool). Gives (coming_of x limits head m vs found a.position a) (found_shown new ws next_found) (coming_of x limits head new ws (Some next_found) c.position c)) (sym e)
+    (subst (λ (x : Bool). GivesEvent (coming_of x limits head m vs found a.position a) (found_shown new ws next_found) (coming_of x limits head new ws (Some next_found) c.position c)) (sym e)
     (gives limits head m new vs ws found next_found a b c (shut.0, λ none. shut.1 (out none)) took leaves held forward below))
 
 -- no event came
 pub kept_misses : (is_over : Bool) (limits : Limits) (head : Head) (m new : Machine) (vs ws : List ℕ) (found : Option Found) (a b c : Reader) (outside : Bool) (fault : Fault) → is_over ≡ false
     → (vec_len m.frames ≡ 0 → outside ≡ true) → Shuts outside a (Ok false) b → Why (step limits (machine_shown m)) b fault c
-    → Breaks (coming_of is_over limits head m vs found a.position a) fault (coming_of is_over limits head new ws found a.position c)
+    → BreaksOff (coming_of is_over limits head m vs found a.position a) fault (coming_of is_over limits head new ws found a.position c)
 kept_misses is_over limits head m new vs ws found a b c outside fault e out shut why =
-    subst (λ (x : Bool). Breaks (coming_of x limits head m vs found a.position a) fault (coming_of x limits head new ws found a.position c)) (sym e)
+    subst (λ (x : Bool). BreaksOff (coming_of x limits head m vs found a.position a) fault (coming_of x limits head new ws found a.position c)) (sym e)
     (misses limits head m new vs ws found found a b c fault (shut.0, λ none. shut.1 (out none)) why)
 
 -- the input ends
 pub kept_ends : (is_over : Bool) (limits : Limits) (head : Head) (m : Machine) (vs : List ℕ) (found : Option Found) (a c : Reader) (outside : Bool) → is_over ≡ false → (outside ≡ true → vec_len m.frames ≡ 0)
-    → Shuts outside a (Ok true) c → Ends (coming_of is_over limits head m vs found a.position a) (coming_of true limits head m vs None a.position c)
+    → Shuts outside a (Ok true) c → EndsEvents (coming_of is_over limits head m vs found a.position a) (coming_of true limits head m vs None a.position c)
 kept_ends is_over limits head m vs found a c outside e out shut =
-    subst (λ (x : Bool). Ends (coming_of x limits head m vs found a.position a) (coming_of true limits head m vs None a.position c)) (sym e)
+    subst (λ (x : Bool). EndsEvents (coming_of x limits head m vs found a.position a) (coming_of true limits head m vs None a.position c)) (sym e)
     (ends limits head m vs found a c (out shut.0) shut.1.stops.was_live shut.1)
 
 was_outside : (outside : Bool) (a : Reader) (fault : Fault) (c : Reader) → Shuts outside a (Err fault) c → outside ≡ true
@@ -292,10 +292,10 @@ shut_live outside a OutputTooLong c h = absurd h
 
 -- outside of all blocks no event came
 pub kept_refuses : (is_over : Bool) (limits : Limits) (head : Head) (m : Machine) (vs : List ℕ) (found : Option Found) (a c : Reader) (outside : Bool) (fault : Fault) → is_over ≡ false → (outside ≡ true → vec_len m.frames ≡ 0)
-    → Shuts outside a (Err fault) c → Breaks (coming_of is_over limits head m vs found a.position a) fault (coming_of is_over limits head m vs found a.position c)
+    → Shuts outside a (Err fault) c → BreaksOff (coming_of is_over limits head m vs found a.position a) fault (coming_of is_over limits head m vs found a.position c)
 kept_refuses is_over limits head m vs found a c outside fault e out shut =
     let outside_so = was_outside outside a fault c shut in
-    subst (λ (x : Bool). Breaks (coming_of x limits head m vs found a.position a) fault (coming_of x limits head m vs found a.position c)) (sym e)
+    subst (λ (x : Bool). BreaksOff (coming_of x limits head m vs found a.position a) fault (coming_of x limits head m vs found a.position c)) (sym e)
     (refuses limits head m vs found a c fault (out outside_so) (subst (λ (o : Bool). Shuts o a (Err fault) c) outside_so shut))
 
 -- what holds where the input has ended

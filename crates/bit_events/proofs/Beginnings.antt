@@ -9,17 +9,18 @@ use Rattle.bit_grammar.specs.Grammar as grammar
 use Rattle.bit_grammar.specs.Grammar.{at, Spells, ◌and_then◌, reading}
 use Rattle.bit_grammar.specs.Fields.{fixed}
 use Rattle.bit_grammar.specs.Blocks.{Limits}
-use Rattle.bit_grammar.specs.Input.{Wrapper, version, offset, wrapper, any_bits, wrapper_and_gap, inner_magic, is_wrapped, Head, outer_wrapper, front_of, is_closed, too_long, cut_fault}
+use Rattle.bit_grammar.specs.Input.{version, offset, wrapper, any_bits, wrapper_and_gap, inner_magic, is_wrapped, outer_wrapper, front_of, is_closed, too_long, cut_fault}
+use Rattle.bit_grammar.specs.Terms.{Wrapper, Head}
 use Rattle.bit_grammar.specs.Machine.{Ending, accepted, broke, Told, at_start, to_come}
 use Rattle.bit_grammar.specs.Outlook.{Outlook, ending_by, end_of_few, cut_end, told_input, outlook}
-use Rattle.bit_grammar.proofs.Deciding.{is_spelled}
-use Rattle.bit_grammar.proofs.Numbers.{number_below}
-use Rattle.bit_grammar.proofs.Wholes.{is_le, is_not_le}
-use Rattle.bit_grammar.proofs.Fields.{fixed_is, sum_is}
-use Rattle.bit_grammar.proofs.SpelledParts.{Spelled}
-use Rattle.bit_grammar.proofs.Parts.{apart, from_here, after_judge, is_given, image}
+use Rattle.bit_grammar.proofs.Readings.Deciding.{is_spelled}
+use Rattle.bit_grammar.proofs.Bits.Numbers.{number_below}
+use Rattle.bit_grammar.proofs.Readings.Wholes.{is_le, is_not_le}
+use Rattle.bit_grammar.proofs.Words.Fields.{fixed_is, sum_is}
+use Rattle.bit_grammar.proofs.NormalForms.SpelledParts.{Spelled}
+use Rattle.bit_grammar.proofs.Readings.Parts.{apart, from_here, after_judge, is_given, image}
 use Rattle.bit_fields.specs.Reader.{Extent, within}
-use Rattle.bit_fields.specs.Opening.{Beginning, with_magic, in_wrapper, beginning, wrapper_of, end_of}
+use Rattle.bit_fields.specs.Opening.{Beginning, with_magic, in_wrapper, beginning, wrapper_of, end_of_stream}
 use Rattle.bit_fields.proofs.BitLaws.{length-bits_of_bytes}
 use Rattle.bit_fields.proofs.Cutting.{within_whole, within_cut}
 use Rattle.bit_events.specs.Coming.{end_at, end_by, told_of}
@@ -37,7 +38,7 @@ HoldsIn len (Some w) = (8 * w.offset ≤ len) × (w.offset < 2 ^ 32) × (w.size 
 
 -- the extent of an input with such a wrapper
 abbrev pub extent_of : Limits → List ℕ → Option Wrapper → Extent
-extent_of limits bytes outer = record { total = length bytes; end = end_of outer; limit = limits.bytes }
+extent_of limits bytes outer = record { total = length bytes; end = end_of_stream outer; limit = limits.bytes }
 
 -- ---- the wrapper that was read
 
@@ -220,9 +221,9 @@ whole_end limits bytes (Some w) (broke fault) fits k = ap broke (sym (within_who
 -- one that is longer is not accepted
 long_end : (limits : Limits) (bytes : List ℕ) (outer : Option Wrapper) (p : ℕ) → limits.bytes < 2 ^ 64 - 1 → limits.bytes < length bytes → end_at (extent_of limits bytes outer) p ≡ broke (too_long limits)
 long_end limits bytes outer p low longer =
-    elim (cases_lt limits.bytes (end_of outer)) [
-      | inl lt ↦ rw (lt-ltb limits.bytes (length bytes) longer, lt-ltb limits.bytes (end_of outer) lt) refl
-      | inr le ↦ rw (lt-ltb limits.bytes (length bytes) longer, le-ltb limits.bytes (end_of outer) le, lt-ltb (end_of outer) (2 ^ 64 - 1) (omega (arith, le, low)), le-ltb (length bytes) (end_of outer) (omega (arith, le, longer))) refl
+    elim (cases_lt limits.bytes (end_of_stream outer)) [
+      | inl lt ↦ rw (lt-ltb limits.bytes (length bytes) longer, lt-ltb limits.bytes (end_of_stream outer) lt) refl
+      | inr le ↦ rw (lt-ltb limits.bytes (length bytes) longer, le-ltb limits.bytes (end_of_stream outer) le, lt-ltb (end_of_stream outer) (2 ^ 64 - 1) (omega (arith, le, low)), le-ltb (length bytes) (end_of_stream outer) (omega (arith, le, longer))) refl
     ]
 
 few_cut : (limits : Limits) (closed enough : Bool) (p : ℕ) → cut_end limits closed (end_of_few enough (at WrapperSize 96) (accepted p)) ≡ broke (too_long limits)
@@ -262,7 +263,7 @@ with_end x ending = Ok (x.0, (x.1.0, ending))
 
 -- where the beginning is read, the head and the events behind it are told, with the end that a reader finds
 pub outlook_begun : (limits : Limits) (bytes : List ℕ) (head : Head) (p : ℕ) (left : List Bool) → limits.bytes < 2 ^ 64 - 1 → beginning (front_of limits bytes) ≡ Ok (head, p, left)
-    → outlook limits bytes ≡ Ok (head, told_of limits (record { total = length bytes; end = end_of head.wrapper; limit = limits.bytes }) at_start p left)
+    → outlook limits bytes ≡ Ok (head, told_of limits (record { total = length bytes; end = end_of_stream head.wrapper; limit = limits.bytes }) at_start p left)
 outlook_begun limits bytes head p left low e =
     let told = to_come limits at_start p left in
     let b : Begun limits (front_of limits bytes) (head, p, left) = subst (IsRight limits (front_of limits bytes)) e (beginning_right limits (front_of limits bytes)) in
@@ -278,7 +279,7 @@ outlook_begun limits bytes head p left low e =
 
 -- where it breaks, the fault that a reader answers is told
 pub outlook_declined : (limits : Limits) (bytes : List ℕ) (fault : grammar.Fault) → limits.bytes < 2 ^ 64 - 1 → beginning (front_of limits bytes) ≡ Err fault
-    → outlook limits bytes ≡ Err (within (record { total = length bytes; end = end_of (wrapper_of (front_of limits bytes)); limit = limits.bytes }) fault.reason fault.bit)
+    → outlook limits bytes ≡ Err (within (record { total = length bytes; end = end_of_stream (wrapper_of (front_of limits bytes)); limit = limits.bytes }) fault.reason fault.bit)
 outlook_declined limits bytes fault low e =
     let b : Unbegun limits (front_of limits bytes) fault = subst (IsRight limits (front_of limits bytes)) e (beginning_right limits (front_of limits bytes)) in
     let outer = wrapper_of (front_of limits bytes) in

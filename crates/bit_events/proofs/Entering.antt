@@ -3,7 +3,8 @@ use Rattle.std.proofs.Common.{◌≡◌, ◌≢◌, ℕ, List, [], ◌∷◌, �
 use Rattle.std.proofs.Math.Path.{fun_ext}
 use Rattle.std.proofs.lemmas.Bool.{ne_eqb}
 use Rattle.bit_grammar.specs.declared.op.Op.{Op}
-use Rattle.bit_grammar.specs.Blocks.{no_definitions, info_for, enter}
+use Rattle.bit_grammar.specs.Blocks.{enter}
+use Rattle.bit_grammar.specs.Terms.{no_definitions, info_for}
 use Rattle.bit_grammar.specs.Machine as machine
 use Rattle.bit_grammar.specs.Machine.{inside}
 use Rattle.bit_abbrev.specs.Table.{definitions_at}

@@ -10,14 +10,15 @@ use Rattle.bit_grammar.specs.declared.op.Place.TheVariants.{First as first_place
 use Rattle.bit_grammar.specs.declared.reason.Reason.{Reason}
 use Rattle.bit_grammar.specs.declared.reason.Reason.TheVariants.{WrapperSize}
 use Rattle.bit_grammar.specs.Grammar.{Fault, Round, Grammar, gives, refuses, position, next_bits, test, choose, ◌>>=◌, rounds, repeat, Halts, Spells, Stops, reading}
-use Rattle.bit_grammar.specs.Fields.{fixed, chunks, chunk_limit, vbr, char6, zeros, padding_length, align32, byte}
+use Rattle.bit_grammar.specs.Fields.{fixed, chunks, vbr, char6, zeros, padding_length, align32, byte}
+use Rattle.bit_grammar.specs.Terms.{chunk_limit, CodeAndValues, BlockInfo}
 use Rattle.bit_grammar.specs.Definition.{kind, valued, operand, place_after, operands, definition}
-use Rattle.bit_grammar.specs.Record.{Entry, value_count, unabbreviated, scalar, singles, values_of, abbreviated}
-use Rattle.bit_grammar.specs.Blocks.{Limits, BlockInfo, Handed, Scope, BlockHead, block_id, new_width, block_head, end_of_block, define, by_definition, entry, describe, record_after}
+use Rattle.bit_grammar.specs.Record.{value_count, unabbreviated, scalar, singles, values_of, abbreviated}
+use Rattle.bit_grammar.specs.Blocks.{Limits, Handed, Scope, BlockHead, block_id, new_width, block_head, end_of_block, define, by_definition, entry, describe, record_after}
 use Rattle.bit_grammar.specs.Input.{version, offset, wrapper, any_bits, wrapper_and_gap, inner_magic}
-use Rattle.bit_grammar.specs.Machine.{Frame, Machine, frame_of, scope_of, open_block, open_nested, step_after, step_in, step_top, step_of, step, Ending, accepted, broke, Told, is_done, unless_done, told_by, told_at, to_come}
-use Rattle.bit_grammar.proofs.Deciding.{is_stopped}
-use Rattle.bit_grammar.proofs.Machines.{Step}
+use Rattle.bit_grammar.specs.Machine.{Frame, Machine, frame_of, scope_of, open_block, open_nested, step_after, step_in, step_top, step_of, step, Ending, accepted, broke, Told, is_done, unless_done, told_of_step, told_at, to_come}
+use Rattle.bit_grammar.proofs.Readings.Deciding.{is_stopped}
+use Rattle.bit_grammar.proofs.Events.Machines.{Step}
 
 -- each fault that a rule names is of this kind
 abbrev pub Faults : {A : Type 0} → (Fault → Type 0) → Grammar A → Type 0
@@ -193,7 +194,7 @@ entry_free : (limit first id : ℕ) (scope : Scope) → Free (entry limit first 
 unfolding entry by_definition
 entry_free limit first id scope = (unabbreviated_free _, ((tt, λ held. abbreviated_free first _ _), tt))
 
-describe_free : (info : Option BlockInfo) (first : ℕ) (e : Entry) → Free (describe info first e)
+describe_free : (info : Option BlockInfo) (first : ℕ) (e : CodeAndValues) → Free (describe info first e)
 unfolding describe
 describe_free None first e = tt
 describe_free (Some info) first e = ((tt, λ held. tt), (tt, λ held. tt))
@@ -235,9 +236,9 @@ unless_other false p told k = k
 
 told_other : (limits : Limits) (n : ℕ) (m : Machine) (p : ℕ) (r : List Bool) → EndsOther (told_at limits n m p r).1
 told_other limits zero m p r = tt
-told_other limits (suc n) m p r = unless_other (is_done m.frames r) p (told_by (told_at limits n) (reading (step limits m) p r)) (go (reading (step limits m) p r) refl (λ new q rest. told_other limits n new q rest))
+told_other limits (suc n) m p r = unless_other (is_done m.frames r) p (told_of_step (told_at limits n) (reading (step limits m) p r)) (go (reading (step limits m) p r) refl (λ new q rest. told_other limits n new q rest))
   where
-    go : (read : Step) → reading (step limits m) p r ≡ read → ((new : Machine) (q : ℕ) (rest : List Bool) → EndsOther (told_at limits n new q rest).1) → EndsOther (told_by (told_at limits n) read).1
+    go : (read : Step) → reading (step limits m) p r ≡ read → ((new : Machine) (q : ℕ) (rest : List Bool) → EndsOther (told_at limits n new q rest).1) → EndsOther (told_of_step (told_at limits n) read).1
     go (Ok x) e more = more x.0.1 x.1 x.2
     go (Err fault) e more = step_other limits m p r fault e
 

@@ -14,20 +14,20 @@ use Rattle.bit_fields.specs.declared.fault.Fault.{Fault}
 use Rattle.bit_fields.specs.declared.fault.Fault.TheVariants.{Refused, Read, Write, Memory, OutputTooLong, Failed}
 use Rattle.bit_fields.specs.declared.head.Head.{Head}
 use Rattle.bit_fields.specs.Devices.{Incoming, known_bytes}
-use Rattle.bit_fields.specs.Reader.{Reader, TellsBytes, GoesOn, Took, Why, Takes, Stops, stopped}
+use Rattle.bit_fields.specs.Reader.{Reader, TellsBytes, GoesOn, Took, Why, Takes, StopsReading, failed_reader}
 use Rattle.bit_fields.specs.Ending.{Stays}
 use Rattle.bit_fields.specs.Opening.{head_told}
 use Rattle.bit_fields.proofs.Composing.{stops_here}
 use Rattle.bit_fields.proofs.InflowLaws.{Spends-refl, Spends-trans, Spends-none, Fails-none, fails_later}
 use Rattle.bit_events.specs.declared.head.BlockHead.{BlockHead}
 use Rattle.bit_events.specs.declared.machine.Machine.{Machine}
-use Rattle.bit_grammar.proofs.Telling.{told_if_broken}
+use Rattle.bit_grammar.proofs.Events.Telling.{told_if_broken}
 use Rattle.bit_events.specs.Events.{coming_of, Shuts, Begun}
 use Rattle.bit_events.specs.FrameView.{frames_shown}
-use Rattle.bit_events.specs.Folding.{left_to_tell, GathersOne, TakesOne, TakesSome, GathersSome, GathersAll, Misses, Gathered, GatheredSome}
+use Rattle.bit_events.specs.Folding.{left_to_tell, GathersOne, TakesOne, TakesSome, GathersSome, GathersAll, MissesEvents, Gathered, GatheredSome}
 use Rattle.bit_events.specs.Gathering.{open_behind, left_open, Gathers}
 use Rattle.bit_events.specs.HeadView.{head_shown}
-use Rattle.bit_events.specs.MachineView.{handed_shown, machine_shown, innermost_head, record_rule, Leaves}
+use Rattle.bit_events.specs.MachineView.{handed_shown, machine_shown, innermost_head, record_rule, LeavesMachine}
 use Rattle.bit_events.specs.Reading.{Spent, ReadsWhole}
 use Rattle.bit_events.proofs.Advancing.{Ready, event_told, break_told, shut_told, pays_both, loses_both, dead}
 use Rattle.bit_events.proofs.Stepping.{Innermost, innermost_of, length-frames, frames-none, in_missed, in_then, after_record, other_than}
@@ -42,8 +42,8 @@ open_behind-push (first ∷ events) event count = open_behind-push events event 
 -- ---- a step of the innermost block
 
 -- memory was refused after a call
-pub took_lost : {A : Type 0} (rule : Grammar A) (a : Reader) (v : A) (b c : Reader) → Took rule a v b → c ≡ stopped b → Why rule a Memory c
-took_lost rule a v b c t is = subst (λ (r : Reader). Stops a r) (sym is) (record { was_live = t.was_live; failed = refl; goes_on = pays_both a b (stopped b) t.goes_on (stops_here b t.live).goes_on })
+pub took_lost : {A : Type 0} (rule : Grammar A) (a : Reader) (v : A) (b c : Reader) → Took rule a v b → c ≡ failed_reader b → Why rule a Memory c
+took_lost rule a v b c t is = subst (λ (r : Reader). StopsReading a r) (sym is) (record { was_live = t.was_live; failed = refl; goes_on = pays_both a b (failed_reader b) t.goes_on (stops_here b t.live).goes_on })
 
 pub id_missed : (limits : Limits) (m : Machine) (head : BlockHead) (a : Reader) (fault : Fault) (b : Reader) → Innermost (frames_shown m.frames.items) (head_shown head) → Why (fixed head.width) a fault b → Why (step limits (machine_shown m)) a fault b
 id_missed limits m head a fault b inner why =
@@ -86,8 +86,8 @@ for_list Taken P (Ok value) list took each = each list took
 for_list Taken P (Err e) list took each = tt
 
 -- an event was read, and memory was there to gather it
-pub one_granted : {G : Type 0} (gathered : G → List Event → G → Type 0) (deepest : ℕ) (rule : Grammar (Event × machine.Machine)) (m : Machine) (a : Reader) (g : G) (n : Machine) (b : Reader) (h : G) (event : Event) (got : Result (Unit {0}) AllocError) (result : Result (Unit {0}) Fault) (c : Reader) → Took rule a (event, machine_shown n) b → Leaves deepest m a event n b
-    → OnOk got (Gathers gathered g event h) → IfOk result (λ value. (got ≡ Ok value) × (c ≡ b)) → IfErr result (λ fault. (fault ≡ Memory) × (c ≡ stopped b)) → TakesOne gathered deepest rule m a g result n c h
+pub one_granted : {G : Type 0} (gathered : G → List Event → G → Type 0) (deepest : ℕ) (rule : Grammar (Event × machine.Machine)) (m : Machine) (a : Reader) (g : G) (n : Machine) (b : Reader) (h : G) (event : Event) (got : Result (Unit {0}) AllocError) (result : Result (Unit {0}) Fault) (c : Reader) → Took rule a (event, machine_shown n) b → LeavesMachine deepest m a event n b
+    → OnOk got (Gathers gathered g event h) → IfOk result (λ value. (got ≡ Ok value) × (c ≡ b)) → IfErr result (λ fault. (fault ≡ Memory) × (c ≡ failed_reader b)) → TakesOne gathered deepest rule m a g result n c h
 one_granted gathered deepest rule m a g n b h event got (Ok value) c took leaves gathers ok err =
     let came = subst (λ (x : Result (Unit {0}) AllocError). OnOk x (Gathers gathered g event h)) ok.0 gathers in
     rw ok.1 (record { event = event; took = took; leaves = leaves; gathers = came })
@@ -148,7 +148,7 @@ some_then gathered limits m a g n b h o c k one two = record {
 -- ---- the end
 
 -- no event came
-pub step_missed : (limits : Limits) (m : Machine) (a b : Reader) (fault : Fault) (c : Reader) → Ready m a b → Why (step limits (machine_shown m)) b fault c → Misses limits m a fault c
+pub step_missed : (limits : Limits) (m : Machine) (a b : Reader) (fault : Fault) (c : Reader) → Ready m a b → Why (step limits (machine_shown m)) b fault c → MissesEvents limits m a fault c
 step_missed limits m a b (Refused reason bit) c ready why = (pays_both a b c ready.0.goes_on why.0.goes_on, λ tells. ap (λ (told : Told). told.1) (break_told limits m reason bit a b ready why.1 tells))
 step_missed limits m a b Read c ready why = loses_both a b c ready.0.goes_on why.fails
 step_missed limits m a b Memory c ready why = pays_both a b c ready.0.goes_on why.goes_on
@@ -157,7 +157,7 @@ step_missed limits m a b Write c ready why = why
 step_missed limits m a b OutputTooLong c ready why = why
 
 -- none came after some
-pub some_missed : {G : Type 0} (gathered : G → List Event → G → Type 0) (limits : Limits) (m : Machine) (a : Reader) (g : G) (n : Machine) (b : Reader) (h : G) (fault : Fault) (c : Reader) → GathersSome gathered limits m a g n b h → Misses limits n b fault c → Misses limits m a fault c
+pub some_missed : {G : Type 0} (gathered : G → List Event → G → Type 0) (limits : Limits) (m : Machine) (a : Reader) (g : G) (n : Machine) (b : Reader) (h : G) (fault : Fault) (c : Reader) → GathersSome gathered limits m a g n b h → MissesEvents limits n b fault c → MissesEvents limits m a fault c
 some_missed gathered limits m a g n b h (Refused reason bit) c some miss = (pays_both a b c some.pays miss.0, λ tells. ap (λ (told : Told). told.1) (some.told tells) ∙ miss.1 (some.pays.tells tells))
 some_missed gathered limits m a g n b h Read c some miss = loses_both a b c some.pays miss
 some_missed gathered limits m a g n b h Memory c some miss = pays_both a b c some.pays miss
@@ -189,7 +189,7 @@ pub head_stays : (m n : Machine) (head : BlockHead) → n.frames ≡ m.frames �
 head_stays m n head same is = rw same is
 
 -- where its next id is not read
-pub no_id : (limits : Limits) (m : Machine) (head : BlockHead) (a : Reader) (fault : Fault) (b : Reader) → HasHead m head → a.live ≡ true → Why (fixed head.width) a fault b → Misses limits m a fault b
+pub no_id : (limits : Limits) (m : Machine) (head : BlockHead) (a : Reader) (fault : Fault) (b : Reader) → HasHead m head → a.live ≡ true → Why (fixed head.width) a fault b → MissesEvents limits m a fault b
 no_id limits m head a fault b is live why = step_missed limits m a a fault b (inner_ready m head a is live) (id_missed limits m head a fault b (inner_of m head is) why)
 
 -- a record of it
@@ -201,7 +201,7 @@ record_event gathered limits m head a g id b first n c h is place t most one =
     (one_by gathered limits.depth (record_rule limits.values inner.f inner.outer first id (handed_shown m)) (step limits (machine_shown m)) m a b g n c h (one inner.f inner.outer inner.split) t.forward (λ v u. step_by_record limits m head a id b first (Ok v) c inner place t most u))
 
 pub no_record : (limits : Limits) (m : Machine) (head : BlockHead) (a : Reader) (id : ℕ) (b : Reader) (first : ℕ) (fault : Fault) (c : Reader) → HasHead m head → first ≡ a.position → Took (fixed head.width) a id b → 3 ≤ id
-    → ((f : machine.Frame) (outer : List machine.Frame) → frames_shown m.frames.items ≡ f ∷ outer → Why (record_rule limits.values f outer first id (handed_shown m)) b fault c) → Misses limits m a fault c
+    → ((f : machine.Frame) (outer : List machine.Frame) → frames_shown m.frames.items ≡ f ∷ outer → Why (record_rule limits.values f outer first id (handed_shown m)) b fault c) → MissesEvents limits m a fault c
 no_record limits m head a id b first fault c is place t most why =
     let inner = inner_of m head is in
     step_missed limits m a a fault c (inner_ready m head a is t.was_live) (step_by_record limits m head a id b first (Err fault) c inner place t most (why inner.f inner.outer inner.split))
@@ -221,7 +221,7 @@ aside_taken gathered limits m a g n head b h id c first (Err fault) o d k some i
 -- ---- outside of all blocks
 
 -- the input is not accepted at the end of its stream
-pub shut_missed : (limits : Limits) (m : Machine) (a : Reader) (fault : Fault) (c : Reader) → vec_len m.frames ≡ 0 → Shuts true a (Err fault) c → Misses limits m a fault c
+pub shut_missed : (limits : Limits) (m : Machine) (a : Reader) (fault : Fault) (c : Reader) → vec_len m.frames ≡ 0 → Shuts true a (Err fault) c → MissesEvents limits m a fault c
 shut_missed limits m a (Refused reason bit) c none (_, stops, told) = (stops.goes_on, λ tells. ap (λ (told : Told). told.1) (shut_told limits m a (broke (at reason bit)) none (told tells).0 (told tells).1))
 shut_missed limits m a Read c none (_, loses) = loses.fails
 shut_missed limits m a Memory c none h = absurd h
@@ -247,7 +247,7 @@ pub top_event : {G : Type 0} (gathered : G → List Event → G → Type 0) (lim
 top_event gathered limits m a b g n c h none shut one =
     one_event gathered limits m a b g n c h (shut.0, λ _. shut.1 refl) (one_by gathered limits.depth (step_top limits (handed_shown m)) (step limits (machine_shown m)) m b b g n c h one (omega arith) (λ v u. top_step limits m b (Ok v) c none u))
 
-pub no_top : (limits : Limits) (m : Machine) (a b : Reader) (fault : Fault) (c : Reader) → vec_len m.frames ≡ 0 → Shuts true a (Ok false) b → Why (step_top limits (handed_shown m)) b fault c → Misses limits m a fault c
+pub no_top : (limits : Limits) (m : Machine) (a b : Reader) (fault : Fault) (c : Reader) → vec_len m.frames ≡ 0 → Shuts true a (Ok false) b → Why (step_top limits (handed_shown m)) b fault c → MissesEvents limits m a fault c
 no_top limits m a b fault c none shut why = step_missed limits m a b fault c (shut.0, λ _. shut.1 refl) (top_step limits m b (Err fault) c none why)
 
 -- ---- a whole input
@@ -258,10 +258,10 @@ spent limits i head m a b begun pays = Spends-none i (limits.bytes + 1) b.incomi
 abbrev failure : {A : Type 0} → Fault → Result A Fault
 failure fault = Err fault
 
-pub not_read : {A : Type 0} (Holds : List ℕ → A → Type 0) (limits : Limits) (i now : Incoming) (head : Head) (m : Machine) (a b : Reader) (fault : Fault) → Begun limits i (coming_of false limits head m [] None a.position a) → now ≡ b.incoming → Misses limits m a fault b → ReadsWhole Holds limits i (Err fault) now
+pub not_read : {A : Type 0} (Holds : List ℕ → A → Type 0) (limits : Limits) (i now : Incoming) (head : Head) (m : Machine) (a b : Reader) (fault : Fault) → Begun limits i (coming_of false limits head m [] None a.position a) → now ≡ b.incoming → MissesEvents limits m a fault b → ReadsWhole Holds limits i (Err fault) now
 not_read {A = A} Holds limits i now head m a b fault begun is_now miss = subst (λ (x : Incoming). ReadsWhole Holds limits i (failure {A = A} fault) x) (sym is_now) (go fault miss)
   where
-    go : (fault : Fault) → Misses limits m a fault b → ReadsWhole Holds limits i (failure {A = A} fault) b.incoming
+    go : (fault : Fault) → MissesEvents limits m a fault b → ReadsWhole Holds limits i (failure {A = A} fault) b.incoming
     go (Refused reason bit) h = (spent limits i head m a b begun h.0, λ tells. (told_if_broken limits (known_bytes i.to_come) (at reason bit)).1 (inr ((head_told head, left_to_tell limits m a), begun.told tells, h.1 (begun.pays.tells tells))))
     go Read h = Fails-none i (limits.bytes + 1) b.incoming b.budget (fails_later i (limits.bytes + 1) a.incoming a.budget b.incoming b.budget begun.pays h)
     go Memory h = spent limits i head m a b begun h

@@ -11,13 +11,14 @@ use Rattle.bit_grammar.specs.declared.shapes.Shapes.{Shapes}
 use Rattle.bit_grammar.specs.declared.op.Op.{Op}
 use Rattle.bit_grammar.specs.declared.reason.Reason.TheVariants.{UndefinedAbbrev, AbbrevShape, NoBlockSet, BadSetBid}
 use Rattle.bit_grammar.specs.Grammar.{Grammar, at, gives, refuses, test, choose, ◌>>◌}
-use Rattle.bit_grammar.specs.Record.{Entry, unabbreviated, abbreviated}
+use Rattle.bit_grammar.specs.Record.{unabbreviated, abbreviated}
+use Rattle.bit_grammar.specs.Terms.{CodeAndValues, BlockInfo, Table, defined_at}
 use Rattle.bit_grammar.specs.Forest.{set_bid, names_block}
-use Rattle.bit_grammar.specs.Blocks.{Handed, Scope, BlockInfo, Table, made_for, defined, defined_at, may_define, define, by_definition, entry, describe, record_after}
+use Rattle.bit_grammar.specs.Blocks.{Handed, Scope, made_for, defined, may_define, define, by_definition, entry, describe, record_after}
 use Rattle.bit_grammar.specs.Machine.{scope_of}
 use Rattle.bit_fields.specs.declared.fault.Fault.{Fault}
 use Rattle.bit_fields.specs.declared.fault.Fault.TheVariants.{Refused, Memory}
-use Rattle.bit_fields.specs.Reader.{Reader, Took, Why, Takes, told_by, stopped}
+use Rattle.bit_fields.specs.Reader.{Reader, Took, Why, Takes, told_by, failed_reader}
 use Rattle.bit_fields.proofs.Composing.{took_then, fault_then, took_nothing, first_chosen, second_chosen, stops_here, holds_then, fails_here}
 use Rattle.bit_grammar.specs.Definition.{definition, has_shape}
 use Rattle.bit_abbrev.specs.Table.{definitions_at}
@@ -63,13 +64,13 @@ newest_put f new ops may puts =
 
 -- ---- records
 
-pub plain_entry : (limit first id room : ℕ) (scope : Scope) (a : Reader) (result : Result Entry Fault) (b : Reader) → id ≡ 3 → limit - scope.handed.used ≡ room → Takes (unabbreviated room) a result b → Takes (entry limit first id scope) a result b
+pub plain_entry : (limit first id room : ℕ) (scope : Scope) (a : Reader) (result : Result CodeAndValues Fault) (b : Reader) → id ≡ 3 → limit - scope.handed.used ≡ room → Takes (unabbreviated room) a result b → Takes (entry limit first id scope) a result b
 unfolding entry
 plain_entry limit first id room scope a result b plain is t =
     first_chosen (eqb id 3) (unabbreviated (limit - scope.handed.used)) (choose (ltb (id - 4) (length scope.definitions)) (by_definition first (limit - scope.handed.used) (get_or scope.definitions (id - 4) [])) (refuses (at UndefinedAbbrev first))) a result b (eq-eqb id 3 plain) (subst (λ (n : ℕ). Takes (unabbreviated n) a result b) (sym is) t)
 
 -- by a definition in force
-found_entry : (limit first id room : ℕ) (scope : Scope) (definitions : List (List Op)) (ops : List Op) (a : Reader) (result : Result Entry Fault) (b : Reader) → id ≢ 3 → scope.definitions ≡ definitions → limit - scope.handed.used ≡ room → slice_get definitions (id - 4) ≡ Some ops → Takes (by_definition first room ops) a result b → Takes (entry limit first id scope) a result b
+found_entry : (limit first id room : ℕ) (scope : Scope) (definitions : List (List Op)) (ops : List Op) (a : Reader) (result : Result CodeAndValues Fault) (b : Reader) → id ≢ 3 → scope.definitions ≡ definitions → limit - scope.handed.used ≡ room → slice_get definitions (id - 4) ≡ Some ops → Takes (by_definition first room ops) a result b → Takes (entry limit first id scope) a result b
 unfolding entry
 found_entry limit first id room scope definitions ops a result b other force is found t =
     let within : id - 4 < length scope.definitions = rw force (slice_get_within definitions (id - 4) ops found) in
@@ -78,26 +79,26 @@ found_entry limit first id room scope definitions ops a result b other force is 
     (first_chosen (ltb (id - 4) (length scope.definitions)) (by_definition first (limit - scope.handed.used) (get_or scope.definitions (id - 4) [])) (refuses (at UndefinedAbbrev first)) a result b (lt-ltb (id - 4) (length scope.definitions) within)
     (rw (there, is) t))
 
-pub short_entry : (limit first id room : ℕ) (scope : Scope) (definitions : List (List Op)) (ops : List Op) (a : Reader) (result : Result Entry Fault) (b : Reader) → id ≢ 3 → scope.definitions ≡ definitions → limit - scope.handed.used ≡ room → slice_get definitions (id - 4) ≡ Some ops → has_shape ops ≡ true → Takes (abbreviated first room ops) a result b → Takes (entry limit first id scope) a result b
+pub short_entry : (limit first id room : ℕ) (scope : Scope) (definitions : List (List Op)) (ops : List Op) (a : Reader) (result : Result CodeAndValues Fault) (b : Reader) → id ≢ 3 → scope.definitions ≡ definitions → limit - scope.handed.used ≡ room → slice_get definitions (id - 4) ≡ Some ops → has_shape ops ≡ true → Takes (abbreviated first room ops) a result b → Takes (entry limit first id scope) a result b
 unfolding by_definition
 short_entry limit first id room scope definitions ops a result b other force is found shape t = found_entry limit first id room scope definitions ops a result b other force is found (holds_then (has_shape ops) (at AbbrevShape first) (abbreviated first room ops) a result b shape t)
 
 -- a definition without a shape
-pub shapeless_entry : (limit first id room : ℕ) (scope : Scope) (definitions : List (List Op)) (ops : List Op) (a : Reader) → id ≢ 3 → scope.definitions ≡ definitions → limit - scope.handed.used ≡ room → slice_get definitions (id - 4) ≡ Some ops → has_shape ops ≡ false → a.live ≡ true → Why (entry limit first id scope) a (Refused AbbrevShape first) (stopped a)
+pub shapeless_entry : (limit first id room : ℕ) (scope : Scope) (definitions : List (List Op)) (ops : List Op) (a : Reader) → id ≢ 3 → scope.definitions ≡ definitions → limit - scope.handed.used ≡ room → slice_get definitions (id - 4) ≡ Some ops → has_shape ops ≡ false → a.live ≡ true → Why (entry limit first id scope) a (Refused AbbrevShape first) (failed_reader a)
 unfolding by_definition
 shapeless_entry limit first id room scope definitions ops a other force is found shape live =
-    found_entry limit first id room scope definitions ops a (Err (Refused AbbrevShape first)) (stopped a) other force is found
-    (fault_then (test (has_shape ops) (at AbbrevShape first)) (λ x. abbreviated first room ops) a (Refused AbbrevShape first) (stopped a) (fails_here (has_shape ops) AbbrevShape first a shape live (λ e. refl)))
+    found_entry limit first id room scope definitions ops a (Err (Refused AbbrevShape first)) (failed_reader a) other force is found
+    (fault_then (test (has_shape ops) (at AbbrevShape first)) (λ x. abbreviated first room ops) a (Refused AbbrevShape first) (failed_reader a) (fails_here (has_shape ops) AbbrevShape first a shape live (λ e. refl)))
 
-pub no_entry : (limit first id : ℕ) (scope : Scope) (definitions : List (List Op)) (a : Reader) → id ≢ 3 → scope.definitions ≡ definitions → slice_get definitions (id - 4) ≡ None → a.live ≡ true → Why (entry limit first id scope) a (Refused UndefinedAbbrev first) (stopped a)
+pub no_entry : (limit first id : ℕ) (scope : Scope) (definitions : List (List Op)) (a : Reader) → id ≢ 3 → scope.definitions ≡ definitions → slice_get definitions (id - 4) ≡ None → a.live ≡ true → Why (entry limit first id scope) a (Refused UndefinedAbbrev first) (failed_reader a)
 unfolding entry
 no_entry limit first id scope definitions a other force none live =
     let past : ltb (id - 4) (length scope.definitions) ≡ false = elim (by (ltb (id - 4) (length scope.definitions)) refl) [
       | inl past ↦ past
       | inr contradiction ↦ absurd contradiction
     ] in
-    second_chosen (eqb id 3) (unabbreviated (limit - scope.handed.used)) (choose (ltb (id - 4) (length scope.definitions)) (by_definition first (limit - scope.handed.used) (get_or scope.definitions (id - 4) [])) (refuses (at UndefinedAbbrev first))) a (Err (Refused UndefinedAbbrev first)) (stopped a) (ne_eqb id 3 other)
-    (second_chosen (ltb (id - 4) (length scope.definitions)) (by_definition first (limit - scope.handed.used) (get_or scope.definitions (id - 4) [])) (refuses (at UndefinedAbbrev first)) a (Err (Refused UndefinedAbbrev first)) (stopped a) past
+    second_chosen (eqb id 3) (unabbreviated (limit - scope.handed.used)) (choose (ltb (id - 4) (length scope.definitions)) (by_definition first (limit - scope.handed.used) (get_or scope.definitions (id - 4) [])) (refuses (at UndefinedAbbrev first))) a (Err (Refused UndefinedAbbrev first)) (failed_reader a) (ne_eqb id 3 other)
+    (second_chosen (ltb (id - 4) (length scope.definitions)) (by_definition first (limit - scope.handed.used) (get_or scope.definitions (id - 4) [])) (refuses (at UndefinedAbbrev first)) a (Err (Refused UndefinedAbbrev first)) (failed_reader a) past
     (stops_here a live, λ k. refl))
   where
     by : (b : Bool) → ltb (id - 4) (length scope.definitions) ≡ b → (ltb (id - 4) (length scope.definitions) ≡ false) ⊎ ⊥
@@ -125,7 +126,7 @@ described_id-first (id ∷ values) h = by (ltb id (2 ^ 32)) h
     by true h = refl
     by false h = absurd cc
 
-abbrev set_rule : (info : BlockInfo) (first : ℕ) (e : Entry) → Grammar (Option BlockInfo)
+abbrev set_rule : (info : BlockInfo) (first : ℕ) (e : CodeAndValues) → Grammar (Option BlockInfo)
 set_rule info first e = test (names_block e.values) (at BadSetBid first) >> gives (Some (record info { described = Some (get_or e.values 0 0) }))
 
 abbrev other_rule : (info : BlockInfo) (first : ℕ) → Grammar (Option BlockInfo)
@@ -155,7 +156,7 @@ set_wrong info first code values a fault b set h =
     first_chosen (eqb code set_bid) (set_rule info first (record { code = code; values = values })) (other_rule info first) a (Err fault) b (eq-eqb code 1 set) (fault_then (test (names_block values) (at BadSetBid first)) (λ v. gives (Some (record info { described = Some (get_or values 0 0) }))) a fault b judged)
 
 -- a block that is no BLOCKINFO block
-pub none_described : (first : ℕ) (e : Entry) (a : Reader) → a.live ≡ true → Took (describe None first e) a None a
+pub none_described : (first : ℕ) (e : CodeAndValues) (a : Reader) → a.live ≡ true → Took (describe None first e) a None a
 unfolding describe
 none_described first e a live = took_nothing None a live
 
@@ -169,7 +170,7 @@ pub define_missed : (shapes : Shapes) (first : ℕ) (scope : Scope) (a b : Reade
 unfolding define
 define_missed shapes first scope a b fault c t h = why (define shapes first scope) a fault c (andThen t (breaks h))
 
-pub define_lost : (shapes : Shapes) (first : ℕ) (scope : Scope) (a b : Reader) (ops : List Op) (c d : Reader) → Took (test (may_define scope.info) (at NoBlockSet first)) a tt b → Took (definition shapes) b ops c → d ≡ stopped c → Why (define shapes first scope) a Memory d
+pub define_lost : (shapes : Shapes) (first : ℕ) (scope : Scope) (a b : Reader) (ops : List Op) (c d : Reader) → Took (test (may_define scope.info) (at NoBlockSet first)) a tt b → Took (definition shapes) b ops c → d ≡ failed_reader c → Why (define shapes first scope) a Memory d
 unfolding define
 define_lost shapes first scope a b ops c d t u is = why (define shapes first scope) a Memory d (andThen t (andThen u (here c.position refl (without_memory u.live is))))
 
@@ -185,11 +186,11 @@ pub record_missed : (limit first id : ℕ) (scope : Scope) (a : Reader) (fault :
 unfolding record_after
 record_missed limit first id scope a fault b h = why (record_after limit first id scope) a fault b (breaks h)
 
-pub record_wrong : (limit first id : ℕ) (scope : Scope) (a : Reader) (e : Entry) (b : Reader) (fault : Fault) (c : Reader) → Took (entry limit first id scope) a e b → Why (describe scope.info first e) b fault c → Why (record_after limit first id scope) a fault c
+pub record_wrong : (limit first id : ℕ) (scope : Scope) (a : Reader) (e : CodeAndValues) (b : Reader) (fault : Fault) (c : Reader) → Took (entry limit first id scope) a e b → Why (describe scope.info first e) b fault c → Why (record_after limit first id scope) a fault c
 unfolding record_after
 record_wrong limit first id scope a e b fault c t h = why (record_after limit first id scope) a fault c (andThen t (here b.position refl (breaks h)))
 
-pub record_took : (limit first id : ℕ) (scope : Scope) (a : Reader) (e : Entry) (b : Reader) (after : ℕ) (info : Option BlockInfo) (c : Reader) → Took (entry limit first id scope) a e b → after ≡ b.position → Took (describe scope.info first e) b info c
+pub record_took : (limit first id : ℕ) (scope : Scope) (a : Reader) (e : CodeAndValues) (b : Reader) (after : ℕ) (info : Option BlockInfo) (c : Reader) → Took (entry limit first id scope) a e b → after ≡ b.position → Took (describe scope.info first e) b info c
     → Took (record_after limit first id scope) a (record { abbreviation = id; code = e.code; values = e.values; first = first; after = after }, record scope { info = info; handed = record { table = scope.handed.table; used = scope.handed.used + length e.values } }) c
 unfolding record_after
 record_took limit first id scope a e b after info c t is u =
@@ -197,7 +198,7 @@ record_took limit first id scope a e b after info c t is u =
     (andThen t (here after is (andThen u (ends u.live))))
 
 -- what is read into what had no values
-pub recorded : (rule : Grammar Entry) (a : Reader) (result : Result ℕ Fault) (now : List ℕ) (b : Reader) → Recorded (λ r. Takes rule a r b) result [] now → Takes rule a (told_by (λ code. record { code = code; values = now }) result) b
+pub recorded : (rule : Grammar CodeAndValues) (a : Reader) (result : Result ℕ Fault) (now : List ℕ) (b : Reader) → Recorded (λ r. Takes rule a r b) result [] now → Takes rule a (told_by (λ code. record { code = code; values = now }) result) b
 recorded rule a (Ok code) now b h = rw h.1 h.2
 recorded rule a (Err fault) now b h = h.1
 

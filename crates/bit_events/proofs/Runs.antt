@@ -6,12 +6,14 @@ use Rattle.bit_grammar.specs.Grammar as grammar
 use Rattle.bit_grammar.specs.Grammar.{Grammar, gives, ◌>>=◌, reading}
 use Rattle.bit_grammar.specs.Input.{any_bits}
 use Rattle.bit_grammar.specs.Fields.{fixed}
-use Rattle.bit_grammar.specs.Record.{Entry, unabbreviated, abbreviated}
+use Rattle.bit_grammar.specs.Record.{unabbreviated, abbreviated}
+use Rattle.bit_grammar.specs.Terms.{CodeAndValues}
 use Rattle.bit_grammar.specs.Blocks as blocks
+use Rattle.bit_grammar.specs.Terms as terms
 use Rattle.bit_grammar.specs.Blocks.{Limits, Handed, Scope, entry}
 use Rattle.bit_grammar.specs.Machine as machine
 use Rattle.bit_grammar.specs.Machine.{Event, Told, scope_of, step, step_of}
-use Rattle.bit_fields.specs.Ahead.{InSight, Glimpsed, Sees, advanced, reader_at}
+use Rattle.bit_fields.specs.Ahead.{InSight, Glimpsed, Sees, reader_further, reader_at}
 use Rattle.bit_fields.specs.declared.fault.Fault.{Fault}
 use Rattle.bit_fields.specs.Reader.{Reader, TellsBytes, Took, Takes}
 use Rattle.bit_fields.specs.Short.{TookNothing}
@@ -27,7 +29,7 @@ use Rattle.bit_events.specs.declared.machine.Machine.{Machine}
 use Rattle.bit_events.specs.FrameView.{frame_shown, frames_shown}
 use Rattle.bit_events.specs.Folding.{left_to_tell, GathersSome, TakesRun}
 use Rattle.bit_events.specs.Gathering.{Gathers}
-use Rattle.bit_events.specs.MachineView.{machine_shown, record_of, Leaves}
+use Rattle.bit_events.specs.MachineView.{machine_shown, record_of, LeavesMachine}
 use Rattle.bit_events.specs.Runs.{HasOps, after_record, Passed, GathersTo, GathersRun}
 use Rattle.bit_events.proofs.Folds.{in_block, none_yet, one_event, some_then, step_missed}
 use Rattle.bit_events.proofs.Framing.{none_described, plain_entry, short_entry}
@@ -62,10 +64,10 @@ record_seen limits f outer handed id code list a b c none most seen t =
     described = rw none (none_described a.position (record { code = code; values = list }) (reader_at c) refl)
 
     made : new ≡ machine.inside f.head outer (record scope { info = None; handed = more })
-    made = ap (λ (info : Option blocks.BlockInfo). record { frames = record { head = f.head; definitions = f.definitions; info = info } ∷ outer; handed = more }) none
+    made = ap (λ (info : Option terms.BlockInfo). record { frames = record { head = f.head; definitions = f.definitions; info = info } ∷ outer; handed = more }) none
 
 -- the values of a record are those that were taken
-entry_read : (rule : Grammar Entry) (room : ℕ) (a : Reader) (code : ℕ) (b : Reader) (list : List ℕ) → AddsWithin rule room a (Ok code) b [] list → Took rule a (record { code = code; values = list }) b
+entry_read : (rule : Grammar CodeAndValues) (room : ℕ) (a : Reader) (code : ℕ) (b : Reader) (list : List ℕ) → AddsWithin rule room a (Ok code) b [] list → Took rule a (record { code = code; values = list }) b
 entry_read rule room a code b list h = rw h.0.1 h.0.2
 
 -- what follows from any answer
@@ -85,7 +87,7 @@ entry_seen definitions ops limit first id room scope a b code list other has for
 
 -- ---- several
 
-advanced_both : (r : Reader) (n m k : ℕ) → n + m ≡ k → advanced (advanced r n) m ≡ advanced r k
+advanced_both : (r : Reader) (n m k : ℕ) → n + m ≡ k → reader_further (reader_further r n) m ≡ reader_further r k
 advanced_both r n m k all =
     let place : r.position + n + m ≡ r.position + k = omega (arith, all) in
     rw (place, drop_more n m r.left, all) refl
@@ -113,9 +115,9 @@ passed_more rule a b value c p seen = (let q = glimpsed_passed rule b value c se
 -- a step of the innermost block, by a reader that sees it
 one_seen : {G : Type 0} (gathered : G → List Event → G → Type 0) (limits : Limits) (m n : Machine) (outer : List machine.Frame) (f : machine.Frame) (g h : G) (id code : ℕ) (list : List ℕ) (r : Reader) (b c : InSight) → frames_shown m.frames.items ≡ f ∷ outer → n.frames ≡ m.frames → machine_shown n ≡ after_record f outer (machine_shown m).handed list → b.position ≤ c.position
     → Sees r b → Glimpsed (step_of limits (f ∷ outer) (machine_shown m).handed) b (record_of id list b.position (code, c.position), after_record f outer (machine_shown m).handed list) c → Gathers gathered g (record_of id list b.position (code, c.position)) h
-    → GathersSome gathered limits m r g n (advanced r (c.position - b.position)) h
+    → GathersSome gathered limits m r g n (reader_further r (c.position - b.position)) h
 one_seen gathered limits m n outer f g h id code list r b c split same made forward sees seen gathers =
-    one_event gathered limits m r r g n (advanced r (c.position - b.position)) h (in_block m r sees.live some) (record { event = event; took = took; leaves = leaves; gathers = gathers })
+    one_event gathered limits m r r g n (reader_further r (c.position - b.position)) h (in_block m r sees.live some) (record { event = event; took = took; leaves = leaves; gathers = gathers })
   where
     event : Event
     event = record_of id list b.position (code, c.position)
@@ -123,10 +125,10 @@ one_seen gathered limits m n outer f g h id code list r b c split same made forw
     some : 0 < vec_len m.frames
     some = omega (arith, m.frames.ok.0, length-frames m.frames.items, ap length split)
 
-    took : Took (step_of limits (machine_shown m).frames (machine_shown m).handed) r (event, machine_shown n) (advanced r (c.position - b.position))
+    took : Took (step_of limits (machine_shown m).frames (machine_shown m).handed) r (event, machine_shown n) (reader_further r (c.position - b.position))
     took = rw (split, made) (seen_took (step_of limits (f ∷ outer) (machine_shown m).handed) r b (event, after_record f outer (machine_shown m).handed list) c sees seen).0
 
-    leaves : Leaves limits.depth m r event n (advanced r (c.position - b.position))
+    leaves : LeavesMachine limits.depth m r event n (reader_further r (c.position - b.position))
     leaves = record { stands = some; opens = ap vec_len same; forward = omega arith; aligned = λ none. absurd (omega (arith, some, none, ap vec_len same)); holds = tt }
 
 -- one more
@@ -139,12 +141,12 @@ gathers_more {G = G} gathered limits f used a g now_used b h id code list c k mo
       let before = so.gathers m outer r split same sees in
       let n : Machine = record m { used = now_used } in
       let o : Machine = record m { used = more_used } in
-      let there : Reader = advanced r (b.position - a.position) in
+      let there : Reader = reader_further r (b.position - a.position) in
       let here = step outer (machine_shown n).handed refl in
       let made : machine_shown o ≡ after_record (frame_shown f) outer (machine_shown n).handed list = rw (split, is) refl in
       let one = one_seen gathered limits n o outer (frame_shown f) h k id code list there b c split refl made forward before.1 here gathers in
-      let e : advanced there (c.position - b.position) ≡ advanced r (c.position - a.position) = advanced_both r (b.position - a.position) (c.position - b.position) (c.position - a.position) (omega (arith, passed_forward a b so.passed, forward)) in (
-        subst (λ (t : Reader). GathersSome gathered limits m r g o t k) e (some_then gathered limits m r g n there h o (advanced there (c.position - b.position)) k before.0 one),
+      let e : reader_further there (c.position - b.position) ≡ reader_further r (c.position - a.position) = advanced_both r (b.position - a.position) (c.position - b.position) (c.position - a.position) (omega (arith, passed_forward a b so.passed, forward)) in (
+        subst (λ (t : Reader). GathersSome gathered limits m r g o t k) e (some_then gathered limits m r g n there h o (reader_further there (c.position - b.position)) k before.0 one),
         subst (λ (t : Reader). Sees t c) e (seen_took (step_of limits (frame_shown f ∷ outer) (machine_shown n).handed) there b (record_of id list b.position (code, c.position), after_record (frame_shown f) outer (machine_shown n).handed list) c before.1 here).1,
       );
 }
@@ -183,7 +185,7 @@ same_left : (limits : Limits) (m : Machine) (a b : Reader) → b.extent ≡ a.ex
 same_left limits m a b extent position left = rw (extent, position, left) refl
 
 -- a reader that caught up
-run_taken : {G : Type 0} (gathered : G → List Event → G → Type 0) (limits : Limits) (m : Machine) (r : Reader) (g : G) (n : Machine) (h : G) (a b : InSight) (c : Reader) → 0 < vec_len n.frames → Passed a b → Sees r a → GathersSome gathered limits m r g n (advanced r (b.position - a.position)) h → Took (any_bits (b.position - a.position)) r tt c → GathersSome gathered limits m r g n c h
+run_taken : {G : Type 0} (gathered : G → List Event → G → Type 0) (limits : Limits) (m : Machine) (r : Reader) (g : G) (n : Machine) (h : G) (a b : InSight) (c : Reader) → 0 < vec_len n.frames → Passed a b → Sees r a → GathersSome gathered limits m r g n (reader_further r (b.position - a.position)) h → Took (any_bits (b.position - a.position)) r tt c → GathersSome gathered limits m r g n c h
 run_taken gathered limits m r g n h a b c some p sees all t = record {
   events = all.events;
   live = t.live;
@@ -195,7 +197,7 @@ run_taken gathered limits m r g n h a b c some p sees all t = record {
 }
   where
     there : Reader
-    there = advanced r (b.position - a.position)
+    there = reader_further r (b.position - a.position)
 
     here : TellsBytes r → (there.position ≡ c.position) × (there.left ≡ c.left)
     here k = same_answer (tt, there.position, there.left) (tt, c.position, c.left) (reading (any_bits (b.position - a.position)) r.position r.left) ((seen_took (any_bits (b.position - a.position)) r a tt b sees (any_seen a b p)).0.reads k) (t.reads k)

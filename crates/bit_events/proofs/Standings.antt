@@ -7,7 +7,7 @@ use Rattle.bit_grammar.specs.Setting.{Setting, keeps, keeps_record}
 use Rattle.bit_grammar.specs.Machine.{Event, enters, defines, notes, leaves}
 use Rattle.bit_grammar.specs.Under.{ids_after, ids_behind, innermost, is_left, events_under}
 use Rattle.bit_events.specs.Gathering.{open_behind, left_open}
-use Rattle.bit_grammar.proofs.Under.{info_kept}
+use Rattle.bit_grammar.proofs.NormalForms.Under.{info_kept}
 use Rattle.bit_events.specs.Standing.{ids_of, AreJudged}
 use Rattle.bit_events.specs.declared.open_blocks.Around.{Around}
 

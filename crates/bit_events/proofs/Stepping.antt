@@ -14,7 +14,7 @@ use Rattle.bit_grammar.specs.Machine as machine
 use Rattle.bit_grammar.specs.Machine.{Event, enters, defines, notes, leaves, scope_of, frame_of, inside, open_block, open_nested, step_after, step_in, step_top}
 use Rattle.bit_fields.specs.declared.fault.Fault.{Fault}
 use Rattle.bit_fields.specs.declared.fault.Fault.TheVariants.{Memory}
-use Rattle.bit_fields.specs.Reader.{Reader, Took, Why, Takes, stopped}
+use Rattle.bit_fields.specs.Reader.{Reader, Took, Why, Takes, failed_reader}
 use Rattle.bit_events.specs.declared.head.BlockHead.{BlockHead}
 use Rattle.bit_events.specs.declared.frame.Frame.{Frame}
 use Rattle.bit_events.specs.declared.frame.Describing.{Describing}
@@ -100,7 +100,7 @@ pub open_missed : (limits : Limits) (frames : List machine.Frame) (first : ℕ) 
 unfolding open_block
 open_missed limits frames first handed a b fault c t h = why (open_block limits frames first handed) a fault c (andThen t (breaks h))
 
-pub open_lost : (limits : Limits) (frames : List machine.Frame) (first : ℕ) (handed : Handed) (a b : Reader) (head : blocks.BlockHead) (c d : Reader) → Took (test (ltb (length frames) limits.depth) (at TooDeep first)) a tt b → Took block_head b head c → d ≡ stopped c → Why (open_block limits frames first handed) a Memory d
+pub open_lost : (limits : Limits) (frames : List machine.Frame) (first : ℕ) (handed : Handed) (a b : Reader) (head : blocks.BlockHead) (c d : Reader) → Took (test (ltb (length frames) limits.depth) (at TooDeep first)) a tt b → Took block_head b head c → d ≡ failed_reader c → Why (open_block limits frames first handed) a Memory d
 unfolding open_block
 open_lost limits frames first handed a b head c d t u is = why (open_block limits frames first handed) a Memory d (andThen t (andThen u (without_memory u.live is)))
 
@@ -137,7 +137,7 @@ top_opens limits handed a id b start c result d is t u v = told (step_top limits
 pub end_missed : (f : machine.Frame) (outer : List machine.Frame) (handed : Handed) (a : Reader) (fault : Fault) (b : Reader) → Why (end_of_block f.head) a fault b → Why (end_rule f outer handed) a fault b
 end_missed f outer handed a fault b h = why (end_rule f outer handed) a fault b (breaks h)
 
-pub end_lost : (f : machine.Frame) (outer : List machine.Frame) (handed : Handed) (a : Reader) (after : ℕ) (b c : Reader) → Took (end_of_block f.head) a after b → c ≡ stopped b → Why (end_rule f outer handed) a Memory c
+pub end_lost : (f : machine.Frame) (outer : List machine.Frame) (handed : Handed) (a : Reader) (after : ℕ) (b c : Reader) → Took (end_of_block f.head) a after b → c ≡ failed_reader b → Why (end_rule f outer handed) a Memory c
 end_lost f outer handed a after b c t is = why (end_rule f outer handed) a Memory c (andThen t (without_memory t.live is))
 
 pub end_took : (f : machine.Frame) (outer : List machine.Frame) (handed : Handed) (a : Reader) (after : ℕ) (b c : Reader) (new : machine.Machine) → Took (end_of_block f.head) a after b → c ≡ b → new ≡ record { frames = outer; handed = leave f.info handed } → Took (end_rule f outer handed) a (leaves after, new) c
@@ -247,7 +247,7 @@ held_end_missed frames others f shown outer handed a fault b is split h =
     end_missed shown outer handed a fault b (subst (λ (x : machine.Frame). Why (end_of_block x.head) a fault b) popped.0 h)
 
 pub held_end_lost : (frames others : List Frame) (f : Frame) (shown : machine.Frame) (outer : List machine.Frame) (handed : Handed) (a : Reader) (after : ℕ) (b c : Reader) → frames ≡ others ++ f ∷ [] → frames_shown frames ≡ shown ∷ outer
-    → Took (end_of_block (head_shown f.head)) a after b → c ≡ stopped b → Why (end_rule shown outer handed) a Memory c
+    → Took (end_of_block (head_shown f.head)) a after b → c ≡ failed_reader b → Why (end_rule shown outer handed) a Memory c
 held_end_lost frames others f shown outer handed a after b c is split t lost =
     let popped = frames-pop frames others f shown outer is split in
     end_lost shown outer handed a after b c (subst (λ (x : machine.Frame). Took (end_of_block x.head) a after b) popped.0 t) lost

@@ -4,7 +4,7 @@ use Rattle.std.proofs.Common.{◌≡◌, ℕ, Bool, true, false, Result, Ok, Err
 use Rattle.bit_grammar.specs.Grammar.{Grammar, gives, position, choose, ◌>>=◌}
 use Rattle.bit_fields.specs.declared.fault.Fault.{Fault}
 use Rattle.bit_fields.specs.declared.fault.Fault.TheVariants.{Memory}
-use Rattle.bit_fields.specs.Reader.{Reader, Took, Why, Takes, stopped}
+use Rattle.bit_fields.specs.Reader.{Reader, Took, Why, Takes, failed_reader}
 use Rattle.bit_fields.proofs.Composing.{took_then, fault_then, took_nothing, from_here, first_chosen, second_chosen, stops_here}
 
 -- a call takes what a rule reads, or answers its break
@@ -49,5 +49,5 @@ pub second_rule : {A : Type 0} {b : Bool} {yes_rule no_rule : Grammar A} {a : Re
 second_rule {b = b} {yes_rule = yes_rule} {no_rule = no_rule} {a = a} {result = result} {c = c} is t = record { takes = second_chosen b yes_rule no_rule a result c is t.takes }
 
 -- memory was refused
-pub without_memory : {A : Type 0} {rule : Grammar A} {a b : Reader} → a.live ≡ true → b ≡ stopped a → Tells rule a (Err Memory) b
+pub without_memory : {A : Type 0} {rule : Grammar A} {a b : Reader} → a.live ≡ true → b ≡ failed_reader a → Tells rule a (Err Memory) b
 without_memory {rule = rule} {a = a} {b = b} live is = record { takes = subst (λ (r : Reader). Why rule a Memory r) (sym is) (stops_here a live) }

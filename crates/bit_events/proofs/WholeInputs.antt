@@ -3,19 +3,20 @@ use Rattle.std.proofs.Common.{◌≡◌, ℕ, List, [], Result, Ok, Err, sym, ap
 use Rattle.bit_grammar.specs.Grammar as grammar
 use Rattle.bit_grammar.specs.Grammar.{at}
 use Rattle.bit_grammar.specs.Blocks.{Limits}
-use Rattle.bit_grammar.specs.Input.{Head, Marked, SpellsInput}
+use Rattle.bit_grammar.specs.Input.{SpellsInput}
+use Rattle.bit_grammar.specs.Terms.{Head, Marked}
 use Rattle.bit_grammar.specs.Machine.{Event, flat, Ending, accepted, broke, Told}
 use Rattle.bit_grammar.specs.Outlook.{outlook, EndsBy}
-use Rattle.bit_grammar.proofs.Inputs.{tree_or_fault}
-use Rattle.bit_grammar.proofs.Telling.{told_if_spelled, told_if_broken}
+use Rattle.bit_grammar.proofs.WholeInputs.Inputs.{tree_or_fault}
+use Rattle.bit_grammar.proofs.Events.Telling.{told_if_spelled, told_if_broken}
 use Rattle.bit_fields.specs.declared.fault.Fault.{Fault}
 use Rattle.bit_fields.specs.declared.fault.Fault.TheVariants.{Refused, Read, Write, Memory, OutputTooLong, Failed}
 use Rattle.bit_fields.specs.Devices.{Incoming, known_bytes}
-use Rattle.bit_events.specs.Events.{Declines}
+use Rattle.bit_events.specs.Events.{DeclinesEvents}
 use Rattle.bit_events.specs.Reading.{ReadsWhole}
 
 -- an input that was not begun
-pub not_begun : {A : Type 0} (Holds : List ℕ → A → Type 0) (limits : Limits) (i now : Incoming) (fault : Fault) → Declines limits i fault now → ReadsWhole Holds limits i (Err fault) now
+pub not_begun : {A : Type 0} (Holds : List ℕ → A → Type 0) (limits : Limits) (i now : Incoming) (fault : Fault) → DeclinesEvents limits i fault now → ReadsWhole Holds limits i (Err fault) now
 not_begun Holds limits i now (Refused reason bit) h = (h.0, λ tells. (told_if_broken limits (known_bytes i.to_come) (at reason bit)).1 (inl (h.1 tells)))
 not_begun Holds limits i now Read h = h
 not_begun Holds limits i now Memory h = absurd h

@@ -4,7 +4,7 @@ use Rattle.bit_grammar.specs.declared.reason.Reason.TheVariants.{TooLong}
 use Rattle.bit_grammar.specs.Grammar as grammar
 use Rattle.bit_grammar.specs.Grammar.{at}
 use Rattle.bit_grammar.specs.Blocks.{Limits}
-use Rattle.bit_grammar.specs.Input.{Head}
+use Rattle.bit_grammar.specs.Terms.{Head}
 use Rattle.bit_grammar.specs.Machine.{Event, enters, defines, notes, leaves, Machine, Ending, accepted, broke, Told, to_come}
 use Rattle.bit_grammar.specs.Steps.{MayStand, open_after}
 use Rattle.bit_fields.specs.declared.fault.Fault.{Fault}
@@ -15,13 +15,13 @@ use Rattle.bit_fields.specs.Ending.{verdict}
 
 -- ---- how a stream ends, by how far it goes
 
-abbrev pub judged : Result (Unit {0}) grammar.Fault → ℕ → Ending
-judged (Ok _) p = accepted p
-judged (Err fault) p = broke fault
+abbrev pub ending_of : Result (Unit {0}) grammar.Fault → ℕ → Ending
+ending_of (Ok _) p = accepted p
+ending_of (Err fault) p = broke fault
 
 -- a stream whose blocks are whole ends by the limit on bytes where it goes on past it, else as is said of its input
 abbrev pub end_at : Extent → ℕ → Ending
-end_at e p = if is_cut e then broke (at TooLong (8 * e.limit)) else judged (verdict e) p
+end_at e p = if is_cut e then broke (at TooLong (8 * e.limit)) else ending_of (verdict e) p
 
 -- the end of a stream of this extent, where so ends what is read of it
 abbrev pub end_by : Extent → Ending → Ending
@@ -59,8 +59,8 @@ pub record Coming : Type 0 where
   pub budget : ℕ
 
 -- the source tells its bytes
-abbrev pub Tells : Coming → Type 0
-Tells c = IsSome c.incoming.to_come
+abbrev pub TellsComing : Coming → Type 0
+TellsComing c = IsSome c.incoming.to_come
 
 -- each pull and each byte was paid for, and the source did not fail
 abbrev pub Pays : Coming → Coming → Type 0
@@ -74,11 +74,11 @@ held_after (defines mark) held = held
 held_after (leaves after) held = held
 
 -- an event before others
-abbrev pub before : Event → Told → Told
-before event told = (event ∷ told.0, told.1)
+abbrev pub event_before : Event → Told → Told
+event_before event told = (event ∷ told.0, told.1)
 
 -- an event came, and the others are left
-pub record Gives (old : Coming) (event : Event) (new : Coming) : Type 0 where
+pub record GivesEvent (old : Coming) (event : Event) (new : Coming) : Type 0 where
   pub went : old.stage ≡ going
   pub goes : new.stage ≡ going
   pub pays : Pays old new
@@ -89,10 +89,10 @@ pub record Gives (old : Coming) (event : Event) (new : Coming) : Type 0 where
   pub held : new.held ≡ held_after event old.held
   pub forward : old.position < new.position
   pub below : new.position < 2 ^ 64
-  pub told : Tells old → old.told ≡ before event new.told
+  pub told : TellsComing old → old.told ≡ event_before event new.told
 
 -- no event was left: the whole input is accepted, and its source has no byte left
-pub record Ends (old new : Coming) : Type 0 where
+pub record EndsEvents (old new : Coming) : Type 0 where
   pub held_on : old.stage ≡ failed → ⊥
   pub ends : new.stage ≡ over
   pub again : old.stage ≡ over → new ≡ old
@@ -100,11 +100,12 @@ pub record Ends (old new : Coming) : Type 0 where
   pub head : new.head ≡ old.head
   pub depth : old.depth ≡ 0
   pub none_open : new.depth ≡ 0
-  pub told : Tells old → (old.told ≡ ([], accepted new.position)) × (new.told ≡ ([], accepted new.position))
-  pub none : old.stage ≡ going → Tells old → known_bytes new.incoming.to_come ≡ []
+  pub told : TellsComing old → (old.told ≡ ([], accepted new.position))
+      × (new.told ≡ ([], accepted new.position))
+  pub none : old.stage ≡ going → TellsComing old → known_bytes new.incoming.to_come ≡ []
 
 -- a call failed, and not for its source
-pub record Stops (old new : Coming) : Type 0 where
+pub record StopsEvents (old new : Coming) : Type 0 where
   pub went : old.stage ≡ going
   pub stopped : new.stage ≡ failed
   pub head : new.head ≡ old.head
@@ -112,7 +113,7 @@ pub record Stops (old new : Coming) : Type 0 where
   pub pays : Pays old new
 
 -- a call failed for its source
-pub record Loses (old new : Coming) : Type 0 where
+pub record LosesEvents (old new : Coming) : Type 0 where
   pub went : old.stage ≡ going
   pub stopped : new.stage ≡ failed
   pub head : new.head ≡ old.head
@@ -121,16 +122,17 @@ pub record Loses (old new : Coming) : Type 0 where
 
 -- Why no event came: the events end with this fault; the source failed; no memory; or a call before had failed, and nothing
 -- changed.
-abbrev pub Breaks : Coming → Fault → Coming → Type 0
-Breaks old (Refused reason bit) new = Stops old new × (Tells old → old.told ≡ ([], broke (at reason bit)))
-Breaks old Read new = Loses old new
-Breaks old Memory new = Stops old new
-Breaks old Failed new = (old.stage ≡ failed) × (new ≡ old)
-Breaks old Write new = ⊥
-Breaks old OutputTooLong new = ⊥
+abbrev pub BreaksOff : Coming → Fault → Coming → Type 0
+BreaksOff old (Refused reason bit) new = StopsEvents old new
+    × (TellsComing old → old.told ≡ ([], broke (at reason bit)))
+BreaksOff old Read new = LosesEvents old new
+BreaksOff old Memory new = StopsEvents old new
+BreaksOff old Failed new = (old.stage ≡ failed) × (new ≡ old)
+BreaksOff old Write new = ⊥
+BreaksOff old OutputTooLong new = ⊥
 
 -- what a call for the next event does
 abbrev pub Goes : Coming → Result (Option Event) Fault → Coming → Type 0
-Goes old (Ok (Some event)) new = Gives old event new
-Goes old (Ok None) new = Ends old new
-Goes old (Err fault) new = Breaks old fault new
+Goes old (Ok (Some event)) new = GivesEvent old event new
+Goes old (Ok None) new = EndsEvents old new
+Goes old (Err fault) new = BreaksOff old fault new

@@ -8,12 +8,22 @@ use Rattle.bit_events.specs.declared.event.Event.TheVariants as event
 
 -- where this is the list that is lent
 abbrev pub shown_by : {L : Type 0} → (told : L → List ℕ) → Event L → machine.Event
-shown_by told (event.Enter id width first body) = enters (record { id = id; width = width; first = first; body = body })
-shown_by told (event.Define ops first after) = defines (record { ops = ops.now; first = first; after = after })
-shown_by told (event.Record abbreviation code values first after) = notes (record { abbreviation = abbreviation; code = code; values = told values; first = first; after = after })
+shown_by told (event.Enter id width first body) = enters
+    (record { id = id; width = width; first = first; body = body })
+shown_by told (event.Define ops first after) = defines
+    (record { ops = ops.now; first = first; after = after })
+shown_by told (event.Record abbreviation code values first after) = notes
+    (record {
+      abbreviation = abbreviation;
+      code = code;
+      values = told values;
+      first = first;
+      after = after;
+    })
 shown_by told (event.Leave after) = leaves after
 
-abbrev pub shown_if_any : {L : Type 0} → (told : L → List ℕ) → Option (Event L) → Option machine.Event
+abbrev pub shown_if_any : {L : Type 0} → (told : L → List ℕ) → Option (Event L)
+    → Option machine.Event
 shown_if_any told None = None
 shown_if_any told (Some event) = Some (shown_by told event)
 
@@ -21,5 +31,5 @@ shown_if_any told (Some event) = Some (shown_by told event)
 abbrev pub lent : Bor (List ℕ) → List ℕ
 lent values = values.now
 
-abbrev pub shown : Event (Bor (List ℕ)) → machine.Event
-shown event = shown_by lent event
+abbrev pub event_shown : Event (Bor (List ℕ)) → machine.Event
+event_shown event = shown_by lent event

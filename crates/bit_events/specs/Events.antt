@@ -11,7 +11,7 @@ use Rattle.bit_fields.specs.declared.fault.Fault.{Fault}
 use Rattle.bit_fields.specs.declared.fault.Fault.TheVariants.{Refused, Read, Write, Memory, OutputTooLong, Failed}
 use Rattle.bit_fields.specs.declared.head.Head.{Head}
 use Rattle.bit_fields.specs.Devices.{Incoming, Spends, Fails, known_bytes}
-use Rattle.bit_fields.specs.Reader.{Reader, TellsBytes, Stops, Loses}
+use Rattle.bit_fields.specs.Reader.{Reader, TellsBytes, StopsReading, Loses}
 use Rattle.bit_fields.specs.Ending.{Stays}
 use Rattle.bit_fields.specs.Opening.{head_told}
 use Rattle.bit_events.specs.declared.event.Event.{Event}
@@ -36,7 +36,8 @@ abbrev pub last_of : Machine → List ℕ → Option Found → Option machine.Ev
 last_of m values None = None
 last_of m values (Some found) = found_lent m values found
 
-abbrev pub coming_of : (is_over : Bool) → Limits → Head → Machine → (values : List ℕ) → Option Found → (place : ℕ) → Reader → Coming
+abbrev pub coming_of : (is_over : Bool) → Limits → Head → Machine → (values : List ℕ) → Option Found
+    → (place : ℕ) → Reader → Coming
 coming_of is_over limits head m values found place r = record {
   stage = stage_of is_over r.live;
   head = head_told head;
@@ -56,19 +57,22 @@ pub record IsClosed (m : Machine) (found : Option Found) : Type 0 where
   pub last : found ≡ None
 
 -- what holds between calls: the reader stands behind the last event, and outside of all blocks at a byte
-pub record IsEvents (is_over : Bool) (m : Machine) (found : Option Found) (place : ℕ) (r : Reader) : Type 0 where
+pub record IsEvents (is_over : Bool) (m : Machine) (found : Option Found) (place : ℕ)
+    (r : Reader) : Type 0 where
   pub stands : r.live ≡ true → place ≡ r.position
   pub aligned : r.live ≡ true → vec_len m.frames ≡ 0 → r.position % 8 ≡ 0
   pub closed : is_over ≡ true → IsClosed m found
 
 -- ---- events that are lent
 
-abbrev pub answer_shown : {L : Type 0} → (told : L → List ℕ) → Result (Option (Event L)) Fault → Result (Option machine.Event) Fault
+abbrev pub answer_shown : {L : Type 0} → (told : L → List ℕ) → Result (Option (Event L)) Fault
+    → Result (Option machine.Event) Fault
 answer_shown told (Ok event) = Ok (shown_if_any told event)
 answer_shown told (Err fault) = Err fault
 
 -- what a call for the next event does, which lends it, where this is the list of values that is lent
-abbrev pub LendsAs : {L : Type 0} → (told : L → List ℕ) → Coming → Result (Option (Event L)) Fault → Coming → Type 0
+abbrev pub LendsAs : {L : Type 0} → (told : L → List ℕ) → Coming → Result (Option (Event L)) Fault
+    → Coming → Type 0
 LendsAs told old answer new = Goes old (answer_shown told answer) new
 
 abbrev pub Lends : Coming → Result (Option (Event (Bor (List ℕ)))) Fault → Coming → Type 0
@@ -86,17 +90,20 @@ Finds old answer new = Goes old (answer_kept answer new) new
 
 -- no byte is left, and the whole input is accepted
 pub record Over (old new : Reader) : Type 0 where
-  pub stops : Stops old new
+  pub stops : StopsReading old new
   pub position : new.position ≡ old.position
-  pub told : TellsBytes old → (old.left ≡ []) × (end_at old.extent old.position ≡ accepted old.position)
+  pub told : TellsBytes old → (old.left ≡ [])
+      × (end_at old.extent old.position ≡ accepted old.position)
   pub none : TellsBytes old → known_bytes new.incoming.to_come ≡ []
 
 -- Outside of all blocks the whole input is accepted, or bits are left, or the input ends with this fault, or its source failed.
 -- In a block nothing is done.
 abbrev pub Shuts : (outside : Bool) → Reader → Result Bool Fault → Reader → Type 0
 Shuts outside old (Ok true) new = (outside ≡ true) × Over old new
-Shuts outside old (Ok false) new = Stays old new × (outside ≡ true → TellsBytes old → 0 < length old.left)
-Shuts outside old (Err (Refused reason bit)) new = (outside ≡ true) × Stops old new × (TellsBytes old → (old.left ≡ []) × (end_at old.extent old.position ≡ broke (at reason bit)))
+Shuts outside old (Ok false) new = Stays old new
+    × (outside ≡ true → TellsBytes old → 0 < length old.left)
+Shuts outside old (Err (Refused reason bit)) new = (outside ≡ true) × StopsReading old new
+    × (TellsBytes old → (old.left ≡ []) × (end_at old.extent old.position ≡ broke (at reason bit)))
 Shuts outside old (Err Read) new = (outside ≡ true) × Loses old new
 Shuts outside old (Err Memory) new = ⊥
 Shuts outside old (Err Failed) new = ⊥
@@ -116,10 +123,11 @@ pub record Begun (limits : Limits) (i : Incoming) (c : Coming) : Type 0 where
   pub told : IsSome i.to_come → outlook limits (known_bytes i.to_come) ≡ Ok (c.head, c.told)
 
 -- why an input was not begun: it breaks so before its first block, or the source failed
-abbrev pub Declines : Limits → Incoming → Fault → Incoming → Type 0
-Declines limits i (Refused reason bit) now = Spends i (limits.bytes + 1) now 0 × (IsSome i.to_come → outlook limits (known_bytes i.to_come) ≡ Err (at reason bit))
-Declines limits i Read now = Fails i (limits.bytes + 1) now 0
-Declines limits i Memory now = ⊥
-Declines limits i Failed now = ⊥
-Declines limits i Write now = ⊥
-Declines limits i OutputTooLong now = ⊥
+abbrev pub DeclinesEvents : Limits → Incoming → Fault → Incoming → Type 0
+DeclinesEvents limits i (Refused reason bit) now = Spends i (limits.bytes + 1) now 0
+    × (IsSome i.to_come → outlook limits (known_bytes i.to_come) ≡ Err (at reason bit))
+DeclinesEvents limits i Read now = Fails i (limits.bytes + 1) now 0
+DeclinesEvents limits i Memory now = ⊥
+DeclinesEvents limits i Failed now = ⊥
+DeclinesEvents limits i Write now = ⊥
+DeclinesEvents limits i OutputTooLong now = ⊥

@@ -2,7 +2,8 @@
 use Rattle.std.specs.Prelude.{◌≡◌, ℕ, ◌<◌, ◌≤◌, ◌%◌, true, List, [], ◌++◌, vec_len, Result, Ok, Err}
 use Rattle.bit_grammar.specs.Grammar.{Grammar, at}
 use Rattle.bit_grammar.specs.Blocks.{Limits}
-use Rattle.bit_grammar.specs.Input.{Head, Marked, SpellsInput}
+use Rattle.bit_grammar.specs.Input.{SpellsInput}
+use Rattle.bit_grammar.specs.Terms.{Head, Marked}
 use Rattle.bit_grammar.specs.Normal.{Capped}
 use Rattle.bit_grammar.specs.Machine as machine
 use Rattle.bit_grammar.specs.Machine.{Event, flat, accepted, broke, Told}
@@ -13,7 +14,7 @@ use Rattle.bit_fields.specs.Reader.{Reader, TellsBytes, GoesOn, Took, Why}
 use Rattle.bit_events.specs.declared.machine.Machine.{Machine}
 use Rattle.bit_events.specs.Coming.{told_of}
 use Rattle.bit_events.specs.Gathering.{left_open, Gathers}
-use Rattle.bit_events.specs.MachineView.{machine_shown, Leaves}
+use Rattle.bit_events.specs.MachineView.{machine_shown, LeavesMachine}
 
 -- the events to come, and their end, of what is left of a stream
 abbrev pub left_to_tell : Limits → Machine → Reader → Told
@@ -22,67 +23,85 @@ left_to_tell limits m r = told_of limits r.extent (machine_shown m) r.position r
 -- ---- one event
 
 -- an event was read by this rule, and gathered
-pub record GathersOne {G : Type 0} (gathered : G → List Event → G → Type 0) (deepest : ℕ) (rule : Grammar (Event × machine.Machine)) (m : Machine) (a : Reader) (g : G) (n : Machine) (b : Reader) (h : G) : Type 0 where
+pub record GathersOne {G : Type 0} (gathered : G → List Event → G → Type 0) (deepest : ℕ)
+    (rule : Grammar (Event × machine.Machine)) (m : Machine) (a : Reader) (g : G) (n : Machine)
+    (b : Reader) (h : G) : Type 0 where
   pub event : Event
   pub took : Took rule a (event, machine_shown n) b
-  pub leaves : Leaves deepest m a event n b
+  pub leaves : LeavesMachine deepest m a event n b
   pub gathers : Gathers gathered g event h
 
 -- reading an event by this rule, and gathering it
-abbrev pub TakesOne : {G : Type 0} → (G → List Event → G → Type 0) → (deepest : ℕ) → Grammar (Event × machine.Machine) → Machine → Reader → G → Result (Unit {0}) Fault → Machine → Reader → G → Type 0
+abbrev pub TakesOne : {G : Type 0} → (G → List Event → G → Type 0) → (deepest : ℕ)
+    → Grammar (Event × machine.Machine) → Machine → Reader → G → Result (Unit {0}) Fault → Machine
+    → Reader → G → Type 0
 TakesOne gathered deepest rule m a g (Ok _) n b h = GathersOne gathered deepest rule m a g n b h
 TakesOne gathered deepest rule m a g (Err fault) n b h = Why rule a fault b
 
 -- ---- several
 
 -- these events came and were gathered, and others are left
-pub record GathersSome {G : Type 0} (gathered : G → List Event → G → Type 0) (limits : Limits) (m : Machine) (a : Reader) (g : G) (n : Machine) (b : Reader) (h : G) : Type 0 where
+pub record GathersSome {G : Type 0} (gathered : G → List Event → G → Type 0) (limits : Limits)
+    (m : Machine) (a : Reader) (g : G) (n : Machine) (b : Reader) (h : G) : Type 0 where
   pub events : List Event
   pub live : b.live ≡ true
   pub pays : GoesOn a b
   pub forward : a.position ≤ b.position
   pub aligned : vec_len n.frames ≡ 0 → b.position % 8 ≡ 0
-  pub told : TellsBytes a → left_to_tell limits m a ≡ (events ++ (left_to_tell limits n b).0, (left_to_tell limits n b).1)
-  pub gathers : (first : G) (done : List Event) → gathered first done g → left_open done ≡ vec_len m.frames → gathered first (done ++ events) h × (left_open (done ++ events) ≡ vec_len n.frames)
+  pub told : TellsBytes a → left_to_tell limits m a
+      ≡ (events ++ (left_to_tell limits n b).0, (left_to_tell limits n b).1)
+  pub gathers : (first : G) (done : List Event) → gathered first done g
+      → left_open done ≡ vec_len m.frames → gathered first (done ++ events) h
+      × (left_open (done ++ events) ≡ vec_len n.frames)
 
 -- these are all events, and they leave no block open
-pub record GathersAll {G : Type 0} (gathered : G → List Event → G → Type 0) (limits : Limits) (m : Machine) (a : Reader) (g : G) (b : Reader) (h : G) : Type 0 where
+pub record GathersAll {G : Type 0} (gathered : G → List Event → G → Type 0) (limits : Limits)
+    (m : Machine) (a : Reader) (g : G) (b : Reader) (h : G) : Type 0 where
   pub events : List Event
   pub pays : GoesOn a b
   pub told : TellsBytes a → left_to_tell limits m a ≡ (events, accepted b.position)
   pub none : TellsBytes a → known_bytes b.incoming.to_come ≡ []
-  pub gathers : (first : G) (done : List Event) → gathered first done g → left_open done ≡ vec_len m.frames → gathered first (done ++ events) h × (left_open (done ++ events) ≡ 0)
+  pub gathers : (first : G) (done : List Event) → gathered first done g
+      → left_open done ≡ vec_len m.frames → gathered first (done ++ events) h
+      × (left_open (done ++ events) ≡ 0)
 
 -- Why events are left that were not gathered: the events end with this fault; the source failed; or no memory.
-abbrev pub Misses : Limits → Machine → Reader → Fault → Reader → Type 0
-Misses limits m a (Refused reason bit) b = GoesOn a b × (TellsBytes a → (left_to_tell limits m a).1 ≡ broke (at reason bit))
-Misses limits m a Read b = Fails a.incoming a.budget b.incoming b.budget
-Misses limits m a Memory b = GoesOn a b
-Misses limits m a Failed b = ⊥
-Misses limits m a Write b = ⊥
-Misses limits m a OutputTooLong b = ⊥
+abbrev pub MissesEvents : Limits → Machine → Reader → Fault → Reader → Type 0
+MissesEvents limits m a (Refused reason bit) b = GoesOn a b
+    × (TellsBytes a → (left_to_tell limits m a).1 ≡ broke (at reason bit))
+MissesEvents limits m a Read b = Fails a.incoming a.budget b.incoming b.budget
+MissesEvents limits m a Memory b = GoesOn a b
+MissesEvents limits m a Failed b = ⊥
+MissesEvents limits m a Write b = ⊥
+MissesEvents limits m a OutputTooLong b = ⊥
 
-abbrev pub TakesSome : {G : Type 0} → (G → List Event → G → Type 0) → Limits → Machine → Reader → G → Result (Unit {0}) Fault → Machine → Reader → G → Type 0
-TakesSome gathered limits m a g (Ok _) n b h = GathersSome gathered limits m a g n b h × (a.position < b.position)
-TakesSome gathered limits m a g (Err fault) n b h = Misses limits m a fault b
+abbrev pub TakesSome : {G : Type 0} → (G → List Event → G → Type 0) → Limits → Machine → Reader → G
+    → Result (Unit {0}) Fault → Machine → Reader → G → Type 0
+TakesSome gathered limits m a g (Ok _) n b h = GathersSome gathered limits m a g n b h
+    × (a.position < b.position)
+TakesSome gathered limits m a g (Err fault) n b h = MissesEvents limits m a fault b
 
 -- a run of records that came and were gathered, possibly none
-abbrev pub TakesRun : {G : Type 0} → (G → List Event → G → Type 0) → Limits → Machine → Reader → G → Result (Unit {0}) Fault → Machine → Reader → G → Type 0
+abbrev pub TakesRun : {G : Type 0} → (G → List Event → G → Type 0) → Limits → Machine → Reader → G
+    → Result (Unit {0}) Fault → Machine → Reader → G → Type 0
 TakesRun gathered limits m a g (Ok _) n b h = GathersSome gathered limits m a g n b h
-TakesRun gathered limits m a g (Err fault) n b h = Misses limits m a fault b
+TakesRun gathered limits m a g (Err fault) n b h = MissesEvents limits m a fault b
 
-abbrev pub TakesAll : {G : Type 0} → (G → List Event → G → Type 0) → Limits → Machine → Reader → G → Result (Unit {0}) Fault → Reader → G → Type 0
+abbrev pub TakesAll : {G : Type 0} → (G → List Event → G → Type 0) → Limits → Machine → Reader → G
+    → Result (Unit {0}) Fault → Reader → G → Type 0
 TakesAll gathered limits m a g (Ok _) b h = GathersAll gathered limits m a g b h
-TakesAll gathered limits m a g (Err fault) b h = Misses limits m a fault b
+TakesAll gathered limits m a g (Err fault) b h = MissesEvents limits m a fault b
 
 -- ---- a whole input
 
 -- it gathered some events, which leave no block open
 abbrev pub GatheredSome : {G : Type 0} → (G → List Event → G → Type 0) → (first last : G) → Type 0
-GatheredSome gathered first last = (events : List Event) × gathered first events last × (left_open events ≡ 0)
+GatheredSome gathered first last = (events : List Event) × gathered first events last
+    × (left_open events ≡ 0)
 
 -- the bytes spell a marked tree with this head that ends before this bit, and its events were gathered
-pub record Gathered {G : Type 0} (gathered : G → List Event → G → Type 0) (limits : Limits) (bytes : List ℕ) (first : G) (head : Head) (last : G) (after : ℕ) : Type 0 where
+pub record Gathered {G : Type 0} (gathered : G → List Event → G → Type 0) (limits : Limits)
+    (bytes : List ℕ) (first : G) (head : Head) (last : G) (after : ℕ) : Type 0 where
   pub capped : Capped limits
   pub marked : Marked
   pub spelled : SpellsInput limits bytes marked

@@ -1,7 +1,7 @@
 -- What is seen of an open block of the program.
 use Rattle.std.specs.Prelude.{ℕ, ◌^◌, List, [], ◌∷◌, Option, Some, None, nat_lt, if◌then◌else◌, ◌-◌, length, slice_get}
 use Rattle.bit_grammar.specs.declared.op.Op.{Op}
-use Rattle.bit_grammar.specs.Blocks.{BlockInfo, Table}
+use Rattle.bit_grammar.specs.Terms.{BlockInfo, Table}
 use Rattle.bit_grammar.specs.Machine as machine
 use Rattle.bit_abbrev.specs.Table.{definitions_at}
 use Rattle.bit_events.specs.HeadView.{head_shown}
@@ -26,7 +26,11 @@ described_id [] = None
 described_id (id ∷ values) = described_value (Some id)
 
 abbrev pub frame_shown : Frame → machine.Frame
-frame_shown f = record { head = head_shown f.head; definitions = f.definitions; info = info_shown f.info }
+frame_shown f = record {
+  head = head_shown f.head;
+  definitions = f.definitions;
+  info = info_shown f.info;
+}
 
 -- ---- the newest definition
 

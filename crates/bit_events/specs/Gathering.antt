@@ -14,4 +14,6 @@ left_open events = open_behind events 0
 
 -- What had gathered some events has gathered one more, where this one may stand behind them.
 abbrev pub Gathers : {G : Type 0} → (G → List Event → G → Type 0) → G → Event → G → Type 0
-Gathers {G} gathered old event new = (first : G) (done : List Event) (deepest : ℕ) → gathered first done old → MayStand deepest event (left_open done) → gathered first (done ++ event ∷ []) new
+Gathers {G} gathered old event new = (first : G) (done : List Event) (deepest : ℕ)
+    → gathered first done old → MayStand deepest event (left_open done)
+    → gathered first (done ++ event ∷ []) new

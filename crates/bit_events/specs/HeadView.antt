@@ -3,4 +3,10 @@ use Rattle.bit_grammar.specs.Blocks as blocks
 use Rattle.bit_events.specs.declared.head.BlockHead.{BlockHead}
 
 abbrev pub head_shown : BlockHead → blocks.BlockHead
-head_shown h = record { id = h.id; width = h.width; length_at = h.length_at; words = h.words; body = h.body }
+head_shown h = record {
+  id = h.id;
+  width = h.width;
+  length_at = h.length_at;
+  words = h.words;
+  body = h.body;
+}

@@ -35,12 +35,15 @@ definition_of first after ops = defines (record { ops = ops; first = first; afte
 
 -- the record with this id, whose code and the bit after it were read
 abbrev pub record_of : (id : ℕ) → List ℕ → (first : ℕ) → (read : ℕ × ℕ) → Event
-record_of id values first read = notes (record { abbreviation = id; code = read.0; values = values; first = first; after = read.1 })
+record_of id values first read = notes (record
+    { abbreviation = id; code = read.0; values = values; first = first; after = read.1 })
 
 -- an event that is no record, where a definition is the machine's newest one
 abbrev pub aside_shown : Machine → Aside → Event
-aside_shown m (Enter id width first body) = enters (record { id = id; width = width; first = first; body = body })
-aside_shown m (Define first after) = definition_of first after (unwrap_or (newest (frames_shown m.frames.items)) [])
+aside_shown m (Enter id width first body) = enters
+    (record { id = id; width = width; first = first; body = body })
+aside_shown m (Define first after) = definition_of first after
+    (unwrap_or (newest (frames_shown m.frames.items)) [])
 aside_shown m (Leave after) = leaves after
 
 -- an event that was found, with these values
@@ -50,7 +53,8 @@ found_shown m values (found.Record id code first after) = record_of id values fi
 
 -- the same as they are lent, where the machine has what belongs to them
 abbrev pub aside_lent : Machine → Aside → Option Event
-aside_lent m (Define first after) = option_map (definition_of first after) (newest (frames_shown m.frames.items))
+aside_lent m (Define first after) = option_map (definition_of first after)
+    (newest (frames_shown m.frames.items))
 aside_lent m aside = Some (aside_shown m aside)
 
 abbrev pub found_lent : Machine → List ℕ → Found → Option Event
@@ -81,7 +85,8 @@ HoldsDefinition m (leaves after) = Unit {0}
 
 -- what holds of the innermost block, and of those round it, where one is open
 abbrev pub InBlock : Machine → (Frame → List Frame → Type 0) → Type 0
-InBlock m Holds = (f : Frame) (outer : List Frame) → frames_shown m.frames.items ≡ f ∷ outer → Holds f outer
+InBlock m Holds = (f : Frame) (outer : List Frame) → frames_shown m.frames.items ≡ f ∷ outer
+    → Holds f outer
 
 -- the head of the innermost block, which stands first
 abbrev pub innermost_head : List machine.Frame → Option BlockHead
@@ -90,7 +95,8 @@ innermost_head (f ∷ outer) = Some f.head
 
 -- What a call leaves that found an event: the event may stand where so many blocks are open, and so many are open behind it;
 -- the reader didn't go back, and where no block is open it stands at a word; and a definition is at hand.
-pub record Leaves (deepest : ℕ) (old : Machine) (a : Reader) (event : Event) (new : Machine) (b : Reader) : Type 0 where
+pub record LeavesMachine (deepest : ℕ) (old : Machine) (a : Reader) (event : Event) (new : Machine)
+    (b : Reader) : Type 0 where
   pub stands : MayStand deepest event (vec_len old.frames)
   pub opens : vec_len new.frames ≡ open_after event (vec_len old.frames)
   pub forward : a.position ≤ b.position
@@ -101,12 +107,17 @@ pub record Leaves (deepest : ℕ) (old : Machine) (a : Reader) (event : Event) (
 
 -- its end
 abbrev pub end_rule : Frame → List Frame → Handed → Grammar (Event × machine.Machine)
-end_rule f outer handed = end_of_block f.head >>= λ after. gives (leaves after, record { frames = outer; handed = leave f.info handed })
+end_rule f outer handed = end_of_block f.head >>= λ after. gives
+    (leaves after, record { frames = outer; handed = leave f.info handed })
 
 -- a definition, whose id began at first
-abbrev pub define_rule : Shapes → Frame → List Frame → (first : ℕ) → Handed → Grammar (Event × machine.Machine)
-define_rule shapes f outer first handed = define shapes first (scope_of f handed) >>= λ definition. gives (defines definition.0, inside f.head outer definition.1)
+abbrev pub define_rule : Shapes → Frame → List Frame → (first : ℕ) → Handed
+    → Grammar (Event × machine.Machine)
+define_rule shapes f outer first handed = define shapes first (scope_of f handed) >>= λ definition.
+    gives (defines definition.0, inside f.head outer definition.1)
 
 -- a record with this id, which began at first
-abbrev pub record_rule : (limit : ℕ) → Frame → List Frame → (first id : ℕ) → Handed → Grammar (Event × machine.Machine)
-record_rule limit f outer first id handed = record_after limit first id (scope_of f handed) >>= λ item. gives (notes item.0, inside f.head outer item.1)
+abbrev pub record_rule : (limit : ℕ) → Frame → List Frame → (first id : ℕ) → Handed
+    → Grammar (Event × machine.Machine)
+record_rule limit f outer first id handed = record_after limit first id (scope_of f handed) >>=
+    λ item. gives (notes item.0, inside f.head outer item.1)

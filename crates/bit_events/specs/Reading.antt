@@ -12,14 +12,17 @@ abbrev pub Spent : Limits → Incoming → Incoming → Type 0
 Spent limits i now = Spends i (limits.bytes + 1) now 0
 
 -- the same, but that the source failed, once, or was worn
-abbrev pub Lost : Limits → Incoming → Incoming → Type 0
-Lost limits i now = Fails i (limits.bytes + 1) now 0
+abbrev pub LostInput : Limits → Incoming → Incoming → Type 0
+LostInput limits i now = Fails i (limits.bytes + 1) now 0
 
 -- The input holds what is answered, and its source has no byte left; or it breaks so; or the source failed; or no memory.
-abbrev pub ReadsWhole : {A : Type 0} → (List ℕ → A → Type 0) → Limits → Incoming → Result A Fault → Incoming → Type 0
-ReadsWhole Holds limits i (Ok a) now = Spent limits i now × (IsSome i.to_come → Holds (known_bytes i.to_come) a × (known_bytes now.to_come ≡ []))
-ReadsWhole Holds limits i (Err (Refused reason bit)) now = Spent limits i now × (IsSome i.to_come → BreaksInput limits (known_bytes i.to_come) (at reason bit))
-ReadsWhole Holds limits i (Err Read) now = Lost limits i now
+abbrev pub ReadsWhole : {A : Type 0} → (List ℕ → A → Type 0) → Limits → Incoming → Result A Fault
+    → Incoming → Type 0
+ReadsWhole Holds limits i (Ok a) now = Spent limits i now
+    × (IsSome i.to_come → Holds (known_bytes i.to_come) a × (known_bytes now.to_come ≡ []))
+ReadsWhole Holds limits i (Err (Refused reason bit)) now = Spent limits i now
+    × (IsSome i.to_come → BreaksInput limits (known_bytes i.to_come) (at reason bit))
+ReadsWhole Holds limits i (Err Read) now = LostInput limits i now
 ReadsWhole Holds limits i (Err Memory) now = Spent limits i now
 ReadsWhole Holds limits i (Err Write) now = ⊥
 ReadsWhole Holds limits i (Err OutputTooLong) now = ⊥

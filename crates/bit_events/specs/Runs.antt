@@ -5,7 +5,7 @@ use Rattle.bit_grammar.specs.Definition.{has_shape}
 use Rattle.bit_grammar.specs.Blocks.{Limits, Handed, Scope, entry}
 use Rattle.bit_grammar.specs.Machine as machine
 use Rattle.bit_grammar.specs.Machine.{Event}
-use Rattle.bit_fields.specs.Ahead.{InSight, Sees, advanced, reader_at}
+use Rattle.bit_fields.specs.Ahead.{InSight, Sees, reader_further, reader_at}
 use Rattle.bit_fields.specs.Reader.{Reader, Took}
 use Rattle.bit_events.specs.declared.frame.Frame.{Frame}
 use Rattle.bit_events.specs.declared.machine.Machine.{Machine}
@@ -17,24 +17,38 @@ abbrev pub HasOps : (definitions : List (List Op)) → (id : ℕ) → List Op �
 HasOps definitions id ops = (slice_get definitions (id - 4) ≡ Some ops) × (has_shape ops ≡ true)
 
 -- so a record with this id is read, where these definitions are in force and there is room for so many values
-abbrev pub ReadsEntry : (definitions : List (List Op)) → (room id : ℕ) → InSight → (code : ℕ) → List ℕ → InSight → Type 0
+abbrev pub ReadsEntry : (definitions : List (List Op)) → (room id : ℕ) → InSight → (code : ℕ)
+    → List ℕ → InSight → Type 0
 ReadsEntry definitions room id a code values b = (length values ≤ room)
-    × ((limit first : ℕ) (scope : Scope) → scope.definitions ≡ definitions → limit - scope.handed.used ≡ room → Took (entry limit first id scope) (reader_at a) (record { code = code; values = values }) (reader_at b))
+    × ((limit first : ℕ) (scope : Scope) → scope.definitions ≡ definitions
+    → limit - scope.handed.used ≡ room → Took (entry limit first id scope) (reader_at a)
+    (record { code = code; values = values }) (reader_at b))
 
 -- the machine after a record with these values, in the innermost block f, which is no BLOCKINFO block
 abbrev pub after_record : machine.Frame → List machine.Frame → Handed → List ℕ → machine.Machine
-after_record f outer handed values = record { frames = f ∷ outer; handed = record { table = handed.table; used = handed.used + length values } }
+after_record f outer handed values = record {
+  frames = f ∷ outer;
+  handed = record { table = handed.table; used = handed.used + length values };
+}
 
 -- bits that were in sight first stand before what is in sight now
 abbrev pub Passed : InSight → InSight → Type 0
-Passed a b = (bits : List Bool) × (a.bits ≡ bits ++ b.bits) × (b.position ≡ a.position + length bits)
+Passed a b = (bits : List Bool) × (a.bits ≡ bits ++ b.bits)
+    × (b.position ≡ a.position + length bits)
 
 -- Whatever reader sees the first and whatever machine has this innermost block, and so many values: further on events were
 -- gathered, the machine has so many values now, and the reader sees the second.
-pub record GathersTo {G : Type 0} (gathered : G → List Event → G → Type 0) (limits : Limits) (f : Frame) (used : ℕ) (a : InSight) (g : G) (now_used : ℕ) (b : InSight) (h : G) : Type 0 where
+pub record GathersTo {G : Type 0} (gathered : G → List Event → G → Type 0) (limits : Limits)
+    (f : Frame) (used : ℕ) (a : InSight) (g : G) (now_used : ℕ) (b : InSight) (h : G) : Type 0 where
   pub passed : Passed a b
-  pub gathers : (m : Machine) (outer : List machine.Frame) (r : Reader) → frames_shown m.frames.items ≡ frame_shown f ∷ outer → m.used ≡ used → Sees r a → GathersSome gathered limits m r g (record m { used = now_used }) (advanced r (b.position - a.position)) h × Sees (advanced r (b.position - a.position)) b
+  pub gathers : (m : Machine) (outer : List machine.Frame) (r : Reader)
+      → frames_shown m.frames.items ≡ frame_shown f ∷ outer → m.used ≡ used → Sees r a
+      → GathersSome gathered limits m r g (record m { used = now_used })
+      (reader_further r (b.position - a.position)) h
+      × Sees (reader_further r (b.position - a.position)) b
 
 -- the same, up to a bit
-abbrev pub GathersRun : {G : Type 0} → (G → List Event → G → Type 0) → Limits → Frame → (used : ℕ) → InSight → G → (now_used after : ℕ) → G → Type 0
-GathersRun gathered limits f used a g now_used after h = (b : InSight) × (b.position ≡ after) × GathersTo gathered limits f used a g now_used b h
+abbrev pub GathersRun : {G : Type 0} → (G → List Event → G → Type 0) → Limits → Frame → (used : ℕ)
+    → InSight → G → (now_used after : ℕ) → G → Type 0
+GathersRun gathered limits f used a g now_used after h = (b : InSight) × (b.position ≡ after)
+    × GathersTo gathered limits f used a g now_used b h

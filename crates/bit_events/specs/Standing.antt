@@ -7,20 +7,23 @@ use Rattle.bit_grammar.specs.Under.{ids_after, is_left, events_under}
 use Rattle.bit_events.specs.declared.open_blocks.Around.{Around}
 
 -- a setting, and the ids of the open blocks, the innermost first
-pub record Standing : Type 0 where
+pub record OpenUnder : Type 0 where
   pub setting : Setting
   pub ids : List ℕ
 
 -- whether an event is left
-abbrev pub leaves : Standing → Event → Bool
+abbrev pub leaves : OpenUnder → Event → Bool
 leaves standing event = is_left standing.setting standing.ids event
 
 -- what stands after an event
-abbrev pub stands_after : Event → Standing → Standing
-stands_after event standing = record { setting = standing.setting; ids = ids_after event standing.ids }
+abbrev pub stands_after : Event → OpenUnder → OpenUnder
+stands_after event standing = record {
+  setting = standing.setting;
+  ids = ids_after event standing.ids;
+}
 
 -- what is left of events
-abbrev pub left_of : Standing → List Event → List Event
+abbrev pub left_of : OpenUnder → List Event → List Event
 left_of standing events = events_under standing.setting standing.ids events
 
 -- their ids, where these stand round the innermost one, the nearest first and the top last
@@ -32,4 +35,6 @@ ids_of inner (next ∷ outer) = inner.id ∷ ids_of next outer
 abbrev pub AreJudged : Setting → Around → List Around → Type 0
 AreJudged setting inner [] = (inner.is_left ≡ true) × (inner.is_whole ≡ true)
 AreJudged setting inner (next ∷ outer) =
-    (inner.is_left ≡ list_all (keeps setting) (ids_of inner (next ∷ outer))) × (inner.is_whole ≡ true → (inner.is_left ≡ true) × ((code : ℕ) → keeps_record setting inner.id code ≡ true)) × AreJudged setting next outer
+    (inner.is_left ≡ list_all (keeps setting) (ids_of inner (next ∷ outer)))
+    × (inner.is_whole ≡ true → (inner.is_left ≡ true)
+    × ((code : ℕ) → keeps_record setting inner.id code ≡ true)) × AreJudged setting next outer

@@ -1,5 +1,6 @@
 ghost use Rattle.std.specs.Prelude.{◌≡◌};
-ghost use Rattle.bit_grammar.specs.Input.{Marked, SpellsInput};
+ghost use Rattle.bit_grammar.specs.Input.{SpellsInput};
+ghost use Rattle.bit_grammar.specs.Terms.{Marked};
 ghost use Rattle.bit_events.specs.Reading.{ReadsWhole};
 
 use crate::folding::fold;
@@ -52,7 +53,8 @@ impl Gatherer for Nothing {
 
 /// Whether an input is accepted: `Ok` where it is, or the one refusal. Of the input no more is held than its open blocks.
 pub fn check<S: Source>(alloc: Global, source: S, limits: Limits) -> (Result<(), Fault>, S)
-    ensures { ReadsWhole (λ bytes _. (m : Marked) × SpellsInput limits bytes m) limits (S.incoming source) result.0 (S.incoming result.1) }
+    ensures { ReadsWhole (λ bytes _. (m : Marked) × SpellsInput limits bytes m) limits
+        (S.incoming source) result.0 (S.incoming result.1) }
 {
     let (answer, source) = fold(alloc, source, limits, Nothing);
     match answer {
@@ -68,7 +70,9 @@ pub fn check_keeping<S: Source>(
     source: S,
     limits: Limits,
 ) -> (Result<Vec<u8>, Fault>, S)
-    ensures { ReadsWhole (λ bytes kept. (kept.items ≡ bytes) × ((m : Marked) × SpellsInput limits bytes m)) limits (S.incoming source) result.0 (S.incoming result.1) }
+    ensures { ReadsWhole (λ bytes kept. (kept.items ≡ bytes)
+        × ((m : Marked) × SpellsInput limits bytes m)) limits (S.incoming source) result.0
+        (S.incoming result.1) }
 {
     let (answer, source) = check(alloc, KeptSource::new(alloc, source), limits);
     let (kept, source) = source.into_parts();

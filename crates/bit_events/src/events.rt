@@ -5,7 +5,7 @@ ghost use Rattle.std.specs.Borrow.{sem, follows_so};
 ghost use mathlib.Core.Option.{none};
 ghost use Rattle.bit_fields.specs.Opening.{head_told};
 ghost use Rattle.bit_events.specs.EventView.{lent, shown_if_any};
-ghost use Rattle.bit_events.specs.Events.{Lends, Begun, Declines};
+ghost use Rattle.bit_events.specs.Events.{Lends, Begun, DeclinesEvents};
 
 use crate::event::Event;
 use crate::finder::EventFinder;
@@ -38,7 +38,8 @@ impl<S: Source> Events<S> {
     /// It refuses an input that breaks there, as `BitReader::start` does, and hands its source back.
     pub fn start(alloc: Global, source: S, limits: Limits) -> Result<Events<S>, (Fault, S)>
         ensures begun { IfOk result (λ events. Begun limits (S.incoming source) events) }
-        ensures declined { IfErr result (λ refused. Declines limits (S.incoming source) refused.0 (S.incoming refused.1)) }
+        ensures declined { IfErr result (λ refused. DeclinesEvents limits (S.incoming source)
+            refused.0 (S.incoming refused.1)) }
     {
         let finder = EventFinder::start(alloc, source, limits)?;
         Ok(Events { finder })
@@ -85,7 +86,8 @@ impl<S: Source> Events<S> {
     ///
     /// A refusal comes behind the events of all that is whole and holds before it.
     pub fn next(&mut self) -> Result<Option<Event<'_>>, Fault>
-        ensures* { sem 𝓛 (follows_so (the_row S.row S.Source) (the_row S.row S.Source) self.entry.ghost_name none (λ _ _. ⊤) (λ v. Lends self.old result v)) }
+        ensures* { sem 𝓛 (follows_so (the_row S.row S.Source) (the_row S.row S.Source)
+            self.entry.ghost_name none (λ _ _. ⊤) (λ v. Lends self.old result v)) }
     {
         self.finder.find()?;
         Ok(self.event())

@@ -5,7 +5,7 @@ ghost use Rattle.std.specs.Borrow.{Bor, sem, follows_so};
 ghost use mathlib.Core.Option.{none};
 ghost use Rattle.bit_fields.specs.Opening.{head_told};
 ghost use Rattle.bit_events.specs.EventView.{shown_if_any};
-ghost use Rattle.bit_events.specs.Events.{Finds, LendsAs, Shuts, Begun, Declines};
+ghost use Rattle.bit_events.specs.Events.{Finds, LendsAs, Shuts, Begun, DeclinesEvents};
 
 use crate::event::Event;
 use crate::machine::{Found, Machine};
@@ -41,7 +41,8 @@ impl<S: Source, V: ValueKeeper> Model for EventFinder<S, V> {
 
     ghost Value = { Coming };
 
-    ghost view = { λ e. coming_of e.over e.limits e.head e.machine (V.kept e.values.taker) e.found e.reached e.reader };
+    ghost view = { λ e. coming_of e.over e.limits e.head e.machine (V.kept e.values.taker) e.found
+        e.reached e.reader };
 
     ghost invariant = { λ e. IsEvents e.over e.machine e.found e.reached e.reader };
 }
@@ -69,7 +70,8 @@ impl<S: Source, V: ValueKeeper> EventFinder<S, V> {
     /// It refuses an input that breaks there, as `BitReader::start` does, and hands its source back.
     pub fn start(alloc: Global, source: S, limits: Limits) -> Result<EventFinder<S, V>, (Fault, S)>
         ensures begun { IfOk result (λ events. Begun limits (S.incoming source) events) }
-        ensures declined { IfErr result (λ refused. Declines limits (S.incoming source) refused.0 (S.incoming refused.1)) }
+        ensures declined { IfErr result (λ refused. DeclinesEvents limits (S.incoming source)
+            refused.0 (S.incoming refused.1)) }
     {
         // Its cap is below 2^64 - 1, where no wrapper ends a stream.
         let _bytes = limits.bytes();
@@ -148,7 +150,8 @@ impl<S: Source, V: ValueKeeper> EventFinder<S, V> {
     /// The event that was found last, with its values lent as this, or nothing where none was found.
     #[inline(always)]
     pub(crate) fn lend<'a, L: Drop>(&'a self, values: L) -> Option<Event<'a, L>>
-        ensures { (told : L → List ℕ) → told values ≡ self.now.held → shown_if_any told result ≡ self.now.last }
+        ensures { (told : L → List ℕ) → told values ≡ self.now.held
+            → shown_if_any told result ≡ self.now.last }
     {
         match &self.found {
             None => None,
@@ -168,7 +171,9 @@ impl<S: Source, V: ValueKeeper> EventFinder<S, V> {
     ///
     /// A refusal comes behind the events of all that is whole and holds before it.
     pub fn next(&mut self) -> Result<Option<Event<'_, &V>>, Fault>
-        ensures* { sem 𝓛 (follows_so (the_row S.row V.row S.Source V.ValueKeeper.own V.ValueTaker) (the_row S.row V.row S.Source V.ValueKeeper.own V.ValueTaker) self.entry.ghost_name none (λ _ _. ⊤) (λ v. LendsAs (λ (values : Bor V). V.kept values.now) self.old result v)) }
+        ensures* { sem 𝓛 (follows_so (the_row S.row V.row S.Source V.ValueKeeper.own V.ValueTaker)
+            (the_row S.row V.row S.Source V.ValueKeeper.own V.ValueTaker) self.entry.ghost_name none
+            (λ _ _. ⊤) (λ v. LendsAs (λ (values : Bor V). V.kept values.now) self.old result v)) }
     {
         self.find()?;
         Ok(self.event())

@@ -40,7 +40,8 @@ struct Folding<S: Source, G: Gatherer> {
 /// Hands on what was found that is no record.
 fn hand_on<G: Gatherer>(gatherer: &mut G, machine: &Machine, aside: Aside) -> Result<(), AllocError>
     requires { HoldsDefinition machine.now (aside_shown machine.now aside) }
-    ensures { OnOk result (Gathers G.gathered gatherer.old (aside_shown machine.now aside) gatherer.new) }
+    ensures { OnOk result (Gathers G.gathered gatherer.old (aside_shown machine.now aside)
+        gatherer.new) }
 {
     match aside {
         Aside::Enter {
@@ -72,8 +73,14 @@ impl<S: Source, G: Gatherer> Folding<S, G> {
         requires id { 3 ≤ id }
         requires took { TookSome G.Values.took values.old.taker }
         ensures took { TookSome G.Values.took values.new.taker }
-        ensures takes { (f : machine.Frame) (outer : List machine.Frame) → frames_shown self.old.machine.frames.items ≡ f ∷ outer → TakesOne G.gathered limits.now.depth (record_rule limits.now.values f outer first id (handed_shown self.old.machine)) self.old.machine self.old.reader self.old.gatherer result self.new.machine self.new.reader self.new.gatherer }
-        ensures head { OnOk result (innermost_head (frames_shown self.new.machine.frames.items) ≡ innermost_head (frames_shown self.old.machine.frames.items)) }
+        ensures takes { (f : machine.Frame) (outer : List machine.Frame)
+            → frames_shown self.old.machine.frames.items ≡ f ∷ outer
+            → TakesOne G.gathered limits.now.depth
+            (record_rule limits.now.values f outer first id (handed_shown self.old.machine))
+            self.old.machine self.old.reader self.old.gatherer result self.new.machine
+            self.new.reader self.new.gatherer }
+        ensures head { OnOk result (innermost_head (frames_shown self.new.machine.frames.items)
+            ≡ innermost_head (frames_shown self.old.machine.frames.items)) }
     {
         let (code, after) = self
             .machine
@@ -97,7 +104,12 @@ impl<S: Source, G: Gatherer> Folding<S, G> {
         requires live { self.old.reader.live ≡ true }
         requires some { 0 < vec_len self.old.machine.frames }
         requires id { id < 3 }
-        ensures { (f : machine.Frame) (outer : List machine.Frame) → frames_shown self.old.machine.frames.items ≡ f ∷ outer → TakesOne G.gathered limits.now.depth (step_after limits.now f.head outer first (scope_of f (handed_shown self.old.machine)) id) self.old.machine self.old.reader self.old.gatherer result self.new.machine self.new.reader self.new.gatherer }
+        ensures { (f : machine.Frame) (outer : List machine.Frame)
+            → frames_shown self.old.machine.frames.items ≡ f ∷ outer
+            → TakesOne G.gathered limits.now.depth
+            (step_after limits.now f.head outer first (scope_of f (handed_shown self.old.machine))
+            id) self.old.machine self.old.reader self.old.gatherer result self.new.machine
+            self.new.reader self.new.gatherer }
     {
         let aside = self
             .machine
@@ -109,7 +121,9 @@ impl<S: Source, G: Gatherer> Folding<S, G> {
     /// Gathers the beginning of a block at the top.
     fn gather_top(&mut self, alloc: Global, limits: &Limits) -> Result<(), Fault>
         requires { vec_len self.old.machine.frames ≡ 0 }
-        ensures takes { TakesOne G.gathered limits.now.depth (step_top limits.now (handed_shown self.old.machine)) self.old.machine self.old.reader self.old.gatherer result self.new.machine self.new.reader self.new.gatherer }
+        ensures takes { TakesOne G.gathered limits.now.depth
+            (step_top limits.now (handed_shown self.old.machine)) self.old.machine self.old.reader
+            self.old.gatherer result self.new.machine self.new.reader self.new.gatherer }
         ensures moves { OnOk result (self.old.reader.position < self.new.reader.position) }
     {
         let aside = self.machine.step_top(alloc, &mut self.reader, limits)?;
@@ -124,7 +138,8 @@ impl<S: Source, G: Gatherer> Folding<S, G> {
         requires took { TookSome G.Values.took values.old }
         requires some { 0 < vec_len self.old.machine.frames }
         ensures took { TookSome G.Values.took values.new }
-        ensures takes { TakesRun G.gathered limits.now self.old.machine self.old.reader self.old.gatherer result self.new.machine self.new.reader self.new.gatherer }
+        ensures takes { TakesRun G.gathered limits.now self.old.machine self.old.reader
+            self.old.gatherer result self.new.machine self.new.reader self.new.gatherer }
         ensures frames { self.new.machine.frames ≡ self.old.machine.frames }
     {
         let Some(frame) = self.machine.frames.last() else {
@@ -152,9 +167,11 @@ impl<S: Source, G: Gatherer> Folding<S, G> {
     ) -> Result<(), Fault>
         requires live { self.old.reader.live ≡ true }
         requires took { TookSome G.Values.took values.old.taker }
-        requires head { innermost_head (frames_shown self.old.machine.frames.items) ≡ Some (head_shown head) }
+        requires head { innermost_head (frames_shown self.old.machine.frames.items)
+            ≡ Some (head_shown head) }
         ensures took { TookSome G.Values.took values.new.taker }
-        ensures takes { TakesSome G.gathered limits.now self.old.machine self.old.reader self.old.gatherer result self.new.machine self.new.reader self.new.gatherer }
+        ensures takes { TakesSome G.gathered limits.now self.old.machine self.old.reader
+            self.old.gatherer result self.new.machine self.new.reader self.new.gatherer }
     {
         loop {
             self.gather_run(limits, &mut values.taker)?;
@@ -177,7 +194,8 @@ impl<S: Source, G: Gatherer> Folding<S, G> {
         requires live { self.old.reader.live ≡ true }
         requires took { TookSome G.Values.took values.old.taker }
         requires aligned { vec_len self.old.machine.frames ≡ 0 → self.old.reader.position % 8 ≡ 0 }
-        ensures { TakesAll G.gathered limits.now self.old.machine self.old.reader self.old.gatherer result self.new.reader self.new.gatherer }
+        ensures { TakesAll G.gathered limits.now self.old.machine self.old.reader self.old.gatherer
+            result self.new.reader self.new.gatherer }
     {
         loop {
             // Positions are below 2^64 and rise, so that the events end.
@@ -206,7 +224,9 @@ pub fn fold<S: Source, G: Gatherer>(
     gatherer: G,
 ) -> (Result<Folded<G>, Fault>, S)
     requires { G.gathered gatherer [] gatherer }
-    ensures whole { ReadsWhole (λ bytes folded. Gathered G.gathered limits bytes gatherer (head_told folded.head) folded.gatherer folded.after) limits (S.incoming source) result.0 (S.incoming result.1) }
+    ensures whole { ReadsWhole (λ bytes folded. Gathered G.gathered limits bytes gatherer
+        (head_told folded.head) folded.gatherer folded.after) limits (S.incoming source) result.0
+        (S.incoming result.1) }
     ensures some { IfOk result.0 (λ folded. GatheredSome G.gathered gatherer folded.gatherer) }
 {
     // Its cap is below 2^64 - 1, where no wrapper ends a stream.

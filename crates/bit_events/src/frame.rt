@@ -1,7 +1,8 @@
 ghost use Rattle.std.specs.Prelude.{◌≡◌, ◌-◌, ◌+◌, ◌≤◌, true, [], ℕ, List, Some, OnOk, IsSome, length, unwrap_or, slice_get};
 ghost use Rattle.std.specs.Option.{option_copied};
 ghost use Rattle.bit_grammar.specs.Blocks as blocks;
-ghost use Rattle.bit_grammar.specs.Blocks.{Handed, Scope, Table, defined, define, describe, entry, record_after, may_define};
+ghost use Rattle.bit_grammar.specs.Blocks.{Handed, Scope, defined, define, describe, entry, record_after, may_define};
+ghost use Rattle.bit_grammar.specs.Terms.{Table};
 ghost use Rattle.bit_grammar.specs.Machine.{scope_of};
 ghost use Rattle.bit_fields.specs.Reader.{Takes, told_by};
 ghost use Rattle.bit_abbrev.specs.Values.{Has};
@@ -59,7 +60,9 @@ impl Frame {
     /// Takes a definition: the block's own, or in a BLOCKINFO block one for the block that is described.
     fn put(&mut self, abbrev: Abbrev) -> Result<(), AllocError>
         requires { may_define (info_shown self.old.info) ≡ true }
-        ensures defined { OnOk result ((handed : Handed) → scope_of (frame_shown self.new) handed ≡ defined (info_shown self.old.info) «abbrev» (scope_of (frame_shown self.old) handed)) }
+        ensures defined { OnOk result ((handed : Handed)
+            → scope_of (frame_shown self.new) handed
+            ≡ defined (info_shown self.old.info) «abbrev» (scope_of (frame_shown self.old) handed)) }
         ensures head { self.new.head ≡ self.old.head }
     {
         match &mut self.info {
@@ -81,7 +84,16 @@ pub(crate) fn define<S: Source>(
     first: u64,
 ) -> Result<u64, Fault>
     requires { reader.old.live ≡ true }
-    ensures takes { (handed : Handed) → Takes (define shapes first (scope_of (frame_shown frame.old) handed)) reader.old (told_by (λ after. (record { ops = unwrap_or (newest_in (frame_shown frame.new)) []; first = first; after = after }, scope_of (frame_shown frame.new) handed)) result) reader.new }
+    ensures takes { (handed : Handed) → Takes
+        (define shapes first (scope_of (frame_shown frame.old) handed)) reader.old
+        (told_by (λ after. (
+          record {
+            ops = unwrap_or (newest_in (frame_shown frame.new)) [];
+            first = first;
+            after = after;
+          },
+          scope_of (frame_shown frame.new) handed,
+        )) result) reader.new }
     ensures newest { OnOk result (IsSome (newest_in (frame_shown frame.new))) }
     ensures head { frame.new.head ≡ frame.old.head }
 {
@@ -104,7 +116,10 @@ fn entry<S: Source, V: ValueTaker>(
     requires live { reader.old.live ≡ true }
     requires none { V.took values.old [] }
     requires id { 3 ≤ id }
-    ensures takes { Has V.took values.new (λ list. (limit : ℕ) (scope : Scope) → scope.definitions ≡ definitions.now → limit - scope.handed.used ≡ room → Takes (entry limit first id scope) reader.old (told_by (λ code. record { code = code; values = list }) result) reader.new) }
+    ensures takes { Has V.took values.new (λ list. (limit : ℕ) (scope : Scope)
+        → scope.definitions ≡ definitions.now → limit - scope.handed.used ≡ room
+        → Takes (entry limit first id scope) reader.old
+        (told_by (λ code. record { code = code; values = list }) result) reader.new) }
     ensures few { Has V.took values.new (λ list. OnOk result (length list ≤ room)) }
 {
     if id == 3 {
@@ -146,7 +161,10 @@ fn describe_by<S: Source>(
     value: Option<u64>,
 ) -> Result<(), Fault>
     requires { reader.old.live ≡ true }
-    ensures { (values : List ℕ) → value ≡ slice_get values 0 → Takes (describe (Some (describing_shown info.old)) first (record { code = code; values = values })) reader.old (told_by (λ _. Some (describing_shown info.new)) result) reader.new }
+    ensures { (values : List ℕ) → value ≡ slice_get values 0
+        → Takes (describe (Some (describing_shown info.old)) first
+        (record { code = code; values = values })) reader.old
+        (told_by (λ _. Some (describing_shown info.new)) result) reader.new }
 {
     if code != SET_BID {
         reader.judge(info.described.is_some(), Reason::NoBlockSet, first)?;
@@ -167,7 +185,9 @@ fn describe<S: Source>(
     value: Option<u64>,
 ) -> Result<(), Fault>
     requires { reader.old.live ≡ true }
-    ensures { (list : List ℕ) → value ≡ slice_get list 0 → Takes (describe (info_shown info.old) first (record { code = code; values = list })) reader.old (told_by (λ _. info_shown info.new) result) reader.new }
+    ensures { (list : List ℕ) → value ≡ slice_get list 0
+        → Takes (describe (info_shown info.old) first (record { code = code; values = list }))
+        reader.old (told_by (λ _. info_shown info.new) result) reader.new }
 {
     match info {
         Some(info) => describe_by(reader, info, first, code, value),
@@ -188,7 +208,20 @@ pub(crate) fn record_after<S: Source, V: ValueTaker>(
     requires live { reader.old.live ≡ true }
     requires none { TookWithFirst V.took values.old [] }
     requires id { 3 ≤ id }
-    ensures takes { Has V.took values.new.taker (λ list. (limit : ℕ) (handed : Handed) → limit - handed.used ≡ room → Takes (record_after limit first id (scope_of (frame_shown frame.old) handed)) reader.old (told_by (λ r. (record { abbreviation = id; code = r.0; values = list; first = first; after = r.1 }, scope_of (frame_shown frame.new) (record { table = handed.table; used = handed.used + length list }))) result) reader.new) }
+    ensures takes { Has V.took values.new.taker
+        (λ list. (limit : ℕ) (handed : Handed) → limit - handed.used ≡ room
+        → Takes (record_after limit first id (scope_of (frame_shown frame.old) handed)) reader.old
+        (told_by (λ r. (
+          record {
+            abbreviation = id;
+            code = r.0;
+            values = list;
+            first = first;
+            after = r.1;
+          },
+          scope_of (frame_shown frame.new)
+              (record { table = handed.table; used = handed.used + length list }),
+        )) result) reader.new) }
     ensures few { Has V.took values.new.taker (λ list. OnOk result (length list ≤ room)) }
     ensures head { frame.new.head ≡ frame.old.head }
 {

@@ -24,11 +24,13 @@ pub trait Gatherer: Drop {
 
     /// Takes a block's beginning: its id, the width of the ids in it, its first bit, and the first bit of its body.
     fn enter(&mut self, id: u32, width: u8, first: u64, body: u64) -> Result<(), AllocError>
-        ensures { OnOk result (Gathers gathered self.old (enters (record { id = id; width = width; first = first; body = body })) self.new) };
+        ensures { OnOk result (Gathers gathered self.old
+            (enters (record { id = id; width = width; first = first; body = body })) self.new) };
 
     /// Takes a definition in the innermost block, its first bit and the bit after it.
     fn define(&mut self, abbrev: &Abbrev, first: u64, after: u64) -> Result<(), AllocError>
-        ensures { OnOk result (Gathers gathered self.old (defines (record { ops = «abbrev».now; first = first; after = after })) self.new) };
+        ensures { OnOk result (Gathers gathered self.old
+            (defines (record { ops = «abbrev».now; first = first; after = after })) self.new) };
 
     /// Takes a record in the innermost block: its abbreviation id, its code, what took its values, its first bit and the bit
     /// after it. The values may be taken away.
@@ -40,8 +42,17 @@ pub trait Gatherer: Drop {
         first: u64,
         after: u64,
     ) -> Result<(), AllocError>
-        ensures gathers { OnOk result ((list : List ℕ) → Self.Values.took values.old list → Gathers gathered self.old (notes (record { abbreviation = id; code = code; values = list; first = first; after = after })) self.new) }
-        ensures took { TookSome Self.Values.took values.old → TookSome Self.Values.took values.new };
+        ensures gathers { OnOk result ((list : List ℕ) → Self.Values.took values.old list
+            → Gathers gathered self.old (notes
+            (record {
+              abbreviation = id;
+              code = code;
+              values = list;
+              first = first;
+              after = after;
+            })) self.new) }
+        ensures took { TookSome Self.Values.took values.old
+            → TookSome Self.Values.took values.new };
 
     /// Takes the end of the innermost block, the bit after it.
     fn leave(&mut self, after: u64) -> Result<(), AllocError>

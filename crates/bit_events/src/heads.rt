@@ -1,6 +1,6 @@
 ghost use Rattle.std.specs.Prelude.{◌≡◌, ◌+◌, ◌*◌, ◌≤◌, ◌%◌, OnOk, IfOk, IfErr, ◌==◌, ◌&&◌, nat_le};
 ghost use Rattle.bit_grammar.specs.Blocks.{block_id, new_width, block_head, end_of_block};
-ghost use Rattle.bit_fields.specs.Reader.{Takes, told_by, stopped};
+ghost use Rattle.bit_fields.specs.Reader.{Takes, told_by, failed_reader};
 ghost use Rattle.bit_events.specs.HeadView.{head_shown};
 
 use crate::head::BlockHead;
@@ -13,7 +13,8 @@ pub(crate) fn granted<S: Source, T>(
     got: Result<T, AllocError>,
 ) -> Result<T, Fault>
     ensures ok { IfOk result (λ value. (got ≡ Ok value) × (reader.new ≡ reader.old)) }
-    ensures err { IfErr result (λ fault. (fault ≡ Fault.Memory) × (reader.new ≡ stopped reader.old)) }
+    ensures err { IfErr result (λ fault. (fault ≡ Fault.Memory)
+        × (reader.new ≡ failed_reader reader.old)) }
 {
     match got {
         Ok(value) => Ok(value),
@@ -25,9 +26,9 @@ pub(crate) fn granted<S: Source, T>(
 fn block_id<S: Source>(reader: &mut BitReader<S>) -> Result<u32, Fault>
     ensures { Takes block_id reader.old result reader.new }
 {
-    let start = reader.position();
+    let first = reader.position();
     let id = reader.vbr(8)?;
-    reader.judge(id < 1 << 32, Reason::BlockId, start)?;
+    reader.judge(id < 1 << 32, Reason::BlockId, first)?;
     Ok(id as u32)
 }
 
@@ -44,9 +45,9 @@ fn new_width<S: Source>(reader: &mut BitReader<S>) -> Result<u8, Fault>
     ensures least { IfOk result (λ width. 1 ≤ width) }
     ensures most { IfOk result (λ width. width ≤ 32) }
 {
-    let start = reader.position();
+    let first = reader.position();
     let width = reader.vbr(4)?;
-    reader.judge(is_width(width), Reason::AbbrevWidth, start)?;
+    reader.judge(is_width(width), Reason::AbbrevWidth, first)?;
     Ok(width as u8)
 }
 

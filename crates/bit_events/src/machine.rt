@@ -1,6 +1,7 @@
 ghost use Rattle.std.specs.Prelude.{◌≡◌, ◌<◌, ◌≤◌, ◌+◌, true, [], ℕ, List, OnOk, IfOk, vec_len, is_none, IfSome, IfNone, IsTrue, ◌↔◌};
 ghost use Rattle.std.specs.Option.{option_copied, option_map};
-ghost use Rattle.bit_grammar.specs.Blocks.{enter, leave, info_for};
+ghost use Rattle.bit_grammar.specs.Blocks.{enter, leave};
+ghost use Rattle.bit_grammar.specs.Terms.{info_for};
 ghost use Rattle.bit_grammar.specs.Machine.{at_start, open_block, open_nested, step_after, step_in, step_top, step, scope_of, inside};
 ghost use Rattle.bit_fields.specs.Reader.{Takes, told_by};
 ghost use Rattle.bit_abbrev.specs.Values.{Has};
@@ -8,7 +9,7 @@ ghost use Rattle.bit_events.specs.Coming.{held_after};
 ghost use Rattle.bit_events.specs.EventView.{shown_if_any};
 ghost use Rattle.bit_events.specs.HeadView.{head_shown};
 ghost use Rattle.bit_events.specs.FrameView.{info_shown, frames_shown};
-ghost use Rattle.bit_events.specs.MachineView.{handed_shown, machine_shown, newest, aside_shown, aside_lent, found_shown, found_lent, after_aside, after_found, record_of, innermost_head, Leaves, TookSome, InBlock, end_rule, define_rule, record_rule};
+ghost use Rattle.bit_events.specs.MachineView.{handed_shown, machine_shown, newest, aside_shown, aside_lent, found_shown, found_lent, after_aside, after_found, record_of, innermost_head, LeavesMachine, TookSome, InBlock, end_rule, define_rule, record_rule};
 
 use crate::event::Event;
 use crate::frame::{Describing, Frame, define, record_after};
@@ -112,9 +113,11 @@ impl Machine {
         first: u64,
     ) -> Result<Aside, Fault>
         requires { reader.old.live ≡ true }
-        ensures takes { Takes (open_block limits.now (frames_shown self.old.frames.items) first (handed_shown self.old))
+        ensures takes { Takes (open_block limits.now (frames_shown self.old.frames.items) first
+            (handed_shown self.old))
             reader.old (told_by (after_aside self.new) result) reader.new }
-        ensures leaves { IfOk result (λ aside. Leaves limits.now.depth self.old reader.old (aside_shown self.new aside) self.new reader.new) }
+        ensures leaves { IfOk result (λ aside. LeavesMachine limits.now.depth self.old reader.old
+            (aside_shown self.new aside) self.new reader.new) }
     {
         let fits = self.frames.len() < limits.depth() as usize;
         reader.judge(fits, Reason::TooDeep, first)?;
@@ -138,9 +141,11 @@ impl Machine {
     ) -> Result<Aside, Fault>
         requires live { reader.old.live ≡ true }
         requires some { 0 < vec_len self.old.frames }
-        ensures takes { InBlock self.old (λ f outer. Takes (open_nested limits.now f.head outer first (scope_of f (handed_shown self.old)))
+        ensures takes { InBlock self.old (λ f outer. Takes
+            (open_nested limits.now f.head outer first (scope_of f (handed_shown self.old)))
             reader.old (told_by (after_aside self.new) result) reader.new) }
-        ensures leaves { IfOk result (λ aside. Leaves limits.now.depth self.old reader.old (aside_shown self.new aside) self.new reader.new) }
+        ensures leaves { IfOk result (λ aside. LeavesMachine limits.now.depth self.old reader.old
+            (aside_shown self.new aside) self.new reader.new) }
     {
         let plain = self.is_plain();
         reader.judge(plain, Reason::NestedInBlockInfo, first)?;
@@ -166,9 +171,12 @@ impl Machine {
     ) -> Result<Aside, Fault>
         requires live { reader.old.live ≡ true }
         requires some { 0 < vec_len self.old.frames }
-        ensures takes { InBlock self.old (λ f outer. Takes (end_rule f outer (handed_shown self.old))
+        ensures takes { InBlock self.old (λ f outer. Takes
+            (end_rule f outer (handed_shown self.old))
             reader.old (told_by (after_aside self.new) result) reader.new) }
-        ensures leaves { (deepest : ℕ) → IfOk result (λ aside. Leaves deepest self.old reader.old (aside_shown self.new aside) self.new reader.new) }
+        ensures leaves { (deepest : ℕ) → IfOk result
+            (λ aside. LeavesMachine deepest self.old reader.old (aside_shown self.new aside)
+            self.new reader.new) }
     {
         let Some(frame) = self.frames.pop() else {
             unreachable!();
@@ -203,9 +211,12 @@ impl Machine {
     ) -> Result<Aside, Fault>
         requires live { reader.old.live ≡ true }
         requires some { 0 < vec_len self.old.frames }
-        ensures takes { InBlock self.old (λ f outer. Takes (define_rule limits.now.shapes f outer first (handed_shown self.old))
+        ensures takes { InBlock self.old (λ f outer. Takes
+            (define_rule limits.now.shapes f outer first (handed_shown self.old))
             reader.old (told_by (after_aside self.new) result) reader.new) }
-        ensures leaves { (deepest : ℕ) → IfOk result (λ aside. Leaves deepest self.old reader.old (aside_shown self.new aside) self.new reader.new) }
+        ensures leaves { (deepest : ℕ) → IfOk result
+            (λ aside. LeavesMachine deepest self.old reader.old (aside_shown self.new aside)
+            self.new reader.new) }
     {
         let Some(frame) = self.frames.last_mut() else {
             unreachable!();
@@ -231,8 +242,9 @@ impl Machine {
             Takes (record_rule limits.now.values f outer first id (handed_shown self.old))
             reader.old (told_by (λ read. (record_of id list first read, machine_shown self.new)) result) reader.new)) }
         ensures leaves { (deepest : ℕ) (list : List ℕ)
-            → IfOk result (λ read. Leaves deepest self.old reader.old (record_of id list first read) self.new reader.new) }
-        ensures head { OnOk result (innermost_head (frames_shown self.new.frames.items) ≡ innermost_head (frames_shown self.old.frames.items)) }
+            → IfOk result (λ read. LeavesMachine deepest self.old reader.old (record_of id list first read) self.new reader.new) }
+        ensures head { OnOk result (innermost_head (frames_shown self.new.frames.items)
+            ≡ innermost_head (frames_shown self.old.frames.items)) }
     {
         let room = limits.values().saturating_sub(self.used);
         values.clear();
@@ -260,9 +272,11 @@ impl Machine {
         requires live { reader.old.live ≡ true }
         requires some { 0 < vec_len self.old.frames }
         requires id { id < 3 }
-        ensures takes { InBlock self.old (λ f outer. Takes (step_after limits.now f.head outer first (scope_of f (handed_shown self.old)) id)
+        ensures takes { InBlock self.old (λ f outer. Takes
+            (step_after limits.now f.head outer first (scope_of f (handed_shown self.old)) id)
             reader.old (told_by (after_aside self.new) result) reader.new) }
-        ensures leaves { IfOk result (λ aside. Leaves limits.now.depth self.old reader.old (aside_shown self.new aside) self.new reader.new) }
+        ensures leaves { IfOk result (λ aside. LeavesMachine limits.now.depth self.old reader.old
+            (aside_shown self.new aside) self.new reader.new) }
     {
         if id == 0 {
             return self.end_block(alloc, reader);
@@ -286,8 +300,11 @@ impl Machine {
         ensures takes { InBlock self.old (λ f outer. f.head ≡ head_shown head
             → Takes (step_in limits.now f.head outer (scope_of f (handed_shown self.old)))
             reader.old (told_by (after_found self.new (V.kept values.new.taker)) result) reader.new) }
-        ensures leaves { IfOk result (λ found. Leaves limits.now.depth self.old reader.old (found_shown self.new (V.kept values.new.taker) found) self.new reader.new) }
-        ensures holds { IfOk result (λ found. V.kept values.new.taker ≡ held_after (found_shown self.new (V.kept values.new.taker) found) (V.kept values.old.taker)) }
+        ensures leaves { IfOk result (λ found. LeavesMachine limits.now.depth self.old reader.old
+            (found_shown self.new (V.kept values.new.taker) found) self.new reader.new) }
+        ensures holds { IfOk result (λ found. V.kept values.new.taker
+            ≡ held_after (found_shown self.new (V.kept values.new.taker) found)
+            (V.kept values.old.taker)) }
         ensures moves { OnOk result (reader.old.position < reader.new.position) }
     {
         let first = reader.position();
@@ -316,8 +333,10 @@ impl Machine {
         limits: &Limits,
     ) -> Result<Aside, Fault>
         requires { vec_len self.old.frames ≡ 0 }
-        ensures takes { Takes (step_top limits.now (handed_shown self.old)) reader.old (told_by (after_aside self.new) result) reader.new }
-        ensures leaves { IfOk result (λ aside. Leaves limits.now.depth self.old reader.old (aside_shown self.new aside) self.new reader.new) }
+        ensures takes { Takes (step_top limits.now (handed_shown self.old)) reader.old
+            (told_by (after_aside self.new) result) reader.new }
+        ensures leaves { IfOk result (λ aside. LeavesMachine limits.now.depth self.old reader.old
+            (aside_shown self.new aside) self.new reader.new) }
         ensures moves { OnOk result (reader.old.position < reader.new.position) }
     {
         let first = reader.position();
@@ -328,7 +347,8 @@ impl Machine {
 
     /// The head of the innermost block.
     pub(crate) fn innermost(&self) -> Option<BlockHead>
-        ensures head { option_map head_shown result ≡ innermost_head (frames_shown self.now.frames.items) }
+        ensures head { option_map head_shown result
+            ≡ innermost_head (frames_shown self.now.frames.items) }
         ensures open { IfSome result (λ _. 0 < vec_len self.now.frames) }
         ensures none { IfNone result (vec_len self.now.frames ≡ 0) }
     {
@@ -346,9 +366,13 @@ impl Machine {
         limits: &Limits,
         values: &mut WithFirst<V>,
     ) -> Result<Found, Fault>
-        ensures takes { Takes (step limits.now (machine_shown self.old)) reader.old (told_by (after_found self.new (V.kept values.new.taker)) result) reader.new }
-        ensures leaves { IfOk result (λ found. Leaves limits.now.depth self.old reader.old (found_shown self.new (V.kept values.new.taker) found) self.new reader.new) }
-        ensures holds { IfOk result (λ found. V.kept values.new.taker ≡ held_after (found_shown self.new (V.kept values.new.taker) found) (V.kept values.old.taker)) }
+        ensures takes { Takes (step limits.now (machine_shown self.old)) reader.old
+            (told_by (after_found self.new (V.kept values.new.taker)) result) reader.new }
+        ensures leaves { IfOk result (λ found. LeavesMachine limits.now.depth self.old reader.old
+            (found_shown self.new (V.kept values.new.taker) found) self.new reader.new) }
+        ensures holds { IfOk result (λ found. V.kept values.new.taker
+            ≡ held_after (found_shown self.new (V.kept values.new.taker) found)
+            (V.kept values.old.taker)) }
         ensures moves { OnOk result (reader.old.position < reader.new.position) }
     {
         match self.innermost() {
@@ -412,7 +436,8 @@ impl Found {
     /// The event, with what is lent with it.
     #[inline(always)]
     pub(crate) fn event<'a, L: Drop>(&self, machine: &'a Machine, values: L) -> Option<Event<'a, L>>
-        ensures { (told : L → List ℕ) → shown_if_any told result ≡ found_lent machine.now (told values) self.now }
+        ensures { (told : L → List ℕ) → shown_if_any told result
+            ≡ found_lent machine.now (told values) self.now }
     {
         match *self {
             Found::Aside(aside) => aside.event(machine),

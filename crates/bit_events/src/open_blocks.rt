@@ -38,7 +38,8 @@ const fn top() -> Around
 fn judged(info: Info<'_>, around: Around, id: u32) -> Around
     ensures id { result.id ≡ id }
     ensures left { result.is_left ≡ (keeps (setting_of info.entry) id && around.is_left) }
-    ensures whole { result.is_whole ≡ true → (result.is_left ≡ true) × ((code : ℕ) → keeps_record (setting_of info.entry) id code ≡ true) }
+    ensures whole { result.is_whole ≡ true → (result.is_left ≡ true)
+        × ((code : ℕ) → keeps_record (setting_of info.entry) id code ≡ true) }
 {
     let is_left = info.keeps(id) && around.is_left;
     Around {
@@ -61,11 +62,14 @@ pub struct OpenBlocks<'a> {
 impl<'a> Model for OpenBlocks<'a> {
     ghost use Rattle.std.specs.Prelude.{reverse};
     ghost use Rattle.bit_grammar.specs.Setting.{setting_of};
-    ghost use Rattle.bit_events.specs.Standing.{Standing, ids_of, AreJudged};
+    ghost use Rattle.bit_events.specs.Standing.{OpenUnder, ids_of, AreJudged};
 
-    ghost Value = { Standing };
+    ghost Value = { OpenUnder };
 
-    ghost view = { λ o. record { setting = setting_of o.info; ids = ids_of o.inner (reverse o.outer.items) } };
+    ghost view = { λ o. record {
+      setting = setting_of o.info;
+      ids = ids_of o.inner (reverse o.outer.items);
+    } };
 
     ghost invariant = { λ o. AreJudged (setting_of o.info) o.inner (reverse o.outer.items) };
 }
@@ -93,7 +97,8 @@ impl<'a> OpenBlocks<'a> {
     /// Whether a record with this code is left where it stands directly in the innermost block.
     #[inline(always)]
     pub fn leaves_record(&self, code: u64) -> bool
-        ensures { result ≡ (list_all (keeps self.now.setting) self.now.ids && keeps_record self.now.setting (innermost self.now.ids) code) }
+        ensures { result ≡ (list_all (keeps self.now.setting) self.now.ids
+            && keeps_record self.now.setting (innermost self.now.ids) code) }
     {
         if self.inner.is_whole {
             return true;
@@ -103,7 +108,8 @@ impl<'a> OpenBlocks<'a> {
 
     /// Takes where a block begins, and answers whether it is left. Where memory is refused no block began.
     pub fn enter(&mut self, id: u32) -> Result<bool, AllocError>
-        ensures left { IfOk result (λ left. left ≡ list_all (keeps self.old.setting) (id ∷ self.old.ids)) }
+        ensures left { IfOk result (λ left. left
+            ≡ list_all (keeps self.old.setting) (id ∷ self.old.ids)) }
         ensures ids { OnOk result (self.new ≡ record self.old { ids = id ∷ self.old.ids }) }
         ensures stays { OnErr result (self.new ≡ self.old) }
     {
@@ -115,8 +121,10 @@ impl<'a> OpenBlocks<'a> {
 
     /// Takes an event, and answers whether it is left. Where memory is refused none came.
     pub fn take<L: Copy>(&mut self, event: Event<'_, L>) -> Result<bool, AllocError>
-        ensures left { IfOk result (λ left. (told : L → List ℕ) → left ≡ leaves self.old (shown_by told event.entry)) }
-        ensures stands { OnOk result ((told : L → List ℕ) → self.new ≡ stands_after (shown_by told event.entry) self.old) }
+        ensures left { IfOk result (λ left. (told : L → List ℕ)
+            → left ≡ leaves self.old (shown_by told event.entry)) }
+        ensures stands { OnOk result ((told : L → List ℕ)
+            → self.new ≡ stands_after (shown_by told event.entry) self.old) }
         ensures stays { OnErr result (self.new ≡ self.old) }
     {
         match event {
@@ -130,7 +138,8 @@ impl<'a> OpenBlocks<'a> {
     /// Takes where the innermost block ends, and answers whether its end is left.
     pub fn leave(&mut self) -> bool
         ensures left { result ≡ list_all (keeps self.old.setting) self.old.ids }
-        ensures ids { (after : ℕ) → self.new ≡ record self.old { ids = ids_after (machine.leaves after) self.old.ids } }
+        ensures ids { (after : ℕ) → self.new ≡ record self.old
+            { ids = ids_after (machine.leaves after) self.old.ids } }
     {
         let is_left = self.inner.is_left;
         if let Some(around) = self.outer.pop() {

@@ -43,7 +43,8 @@ fn glance_entry<G: Gatherer>(
 ) -> Option<u64>
     requires id { 3 ≤ id }
     requires none { G.Values.took values.old [] }
-    ensures glimpsed { IfSome result (λ code. Has G.Values.took values.new (λ list. ReadsEntry definitions.now room id ahead.old code list ahead.new)) }
+    ensures glimpsed { IfSome result (λ code. Has G.Values.took values.new
+        (λ list. ReadsEntry definitions.now room id ahead.old code list ahead.new)) }
     ensures took { TookSome G.Values.took values.new }
 {
     if id == 3 {
@@ -66,7 +67,13 @@ fn glance_item<G: Gatherer>(
     requires took { TookSome G.Values.took values.old }
     requires plain { frame.now.info ≡ None }
     requires same { definitions.now ≡ frame.now.definitions }
-    ensures glimpsed { IfSome result (λ read. Has G.Values.took values.new (λ list. (length list ≤ room) × ((limits : blocks.Limits) (outer : List machine.Frame) (handed : Handed) → limits.values - handed.used ≡ room → Glimpsed (step_of limits (frame_shown frame.now ∷ outer) handed) ahead.old (record_of read.0 list ahead.old.position (read.1, ahead.new.position), after_record (frame_shown frame.now) outer handed list) ahead.new))) }
+    ensures glimpsed { IfSome result (λ read. Has G.Values.took values.new
+        (λ list. (length list ≤ room) × ((limits : blocks.Limits) (outer : List machine.Frame)
+        (handed : Handed) → limits.values - handed.used ≡ room
+        → Glimpsed (step_of limits (frame_shown frame.now ∷ outer) handed) ahead.old (
+          record_of read.0 list ahead.old.position (read.1, ahead.new.position),
+          after_record (frame_shown frame.now) outer handed list,
+        ) ahead.new))) }
     ensures took { TookSome G.Values.took values.new }
     ensures moves { OnSome result (ahead.old.position < ahead.new.position) }
 {
@@ -93,7 +100,8 @@ pub(crate) fn gather_records<G: Gatherer>(
     requires took { TookSome G.Values.took values.old }
     requires plain { frame.now.info ≡ None }
     ensures took { TookSome G.Values.took values.new }
-    ensures gathers { IfOk result (λ after. GathersRun G.gathered limits.now frame.now used.old ahead.entry gatherer.old used.new after gatherer.new) }
+    ensures gathers { IfOk result (λ after. GathersRun G.gathered limits.now frame.now used.old
+        ahead.entry gatherer.old used.new after gatherer.new) }
 {
     let mut ahead = ahead;
     let mut first = ahead.position();

@@ -4,9 +4,9 @@ use Rattle.std.proofs.lemmas.Bool.{false≢true}
 use Rattle.std.proofs.lemmas.List.{length-append, take_all}
 use Rattle.std.proofs.Math.Seq.{drop-append-add}
 use Rattle.bit_grammar.specs.Bits.{bits_of, bits_of_bytes}
-use Rattle.bit_grammar.proofs.Numbers.{length-bits_of}
+use Rattle.bit_grammar.proofs.Bits.Numbers.{length-bits_of}
 use Rattle.bit_fields.specs.Devices.{Incoming, GaveBehind}
-use Rattle.bit_fields.specs.Inflow.{Flow, IsFlow, Keeps, Skips, stop_of}
+use Rattle.bit_fields.specs.Inflow.{Flow, IsFlow, KeepsFlow, Skips, stop_of}
 use Rattle.bit_fields.proofs.BitLaws.{length-bits_of_bytes, bytes_dropped, drop_more, window_rest}
 use Rattle.bit_fields.proofs.InflowLaws.{bytes_came}
 use Rattle.bit_fields.proofs.Draining.{window_skipped}
@@ -30,7 +30,7 @@ pub word_behind_skips : (f : Flow) (i : Incoming) (bits count part word : ℕ) (
     → window ≡ bits_of (64 - part) (word / 2 ^ part) → Skips f (record f { window = window; incoming = i; loaded = f.loaded + (count + 8) }) bits
 word_behind_skips f i bits count part word window going le some is few taken window_is =
     let g : Flow = record f { window = f.window ++ bits_of_bytes (take (count + 8) taken.into); incoming = i; loaded = f.loaded + (count + 8) } in
-    let kept : Keeps f (record f { window = f.window ++ bits_of_bytes (take (count + 8) taken.into); incoming = i; loaded = f.loaded + (count + 8) }) = bytes_came f i (count + 8) taken.into going (omega (arith, le)) (omega arith) taken.gave in
+    let kept : KeepsFlow f (record f { window = f.window ++ bits_of_bytes (take (count + 8) taken.into); incoming = i; loaded = f.loaded + (count + 8) }) = bytes_came f i (count + 8) taken.into going (omega (arith, le)) (omega arith) taken.gave in
     let whole : take (count + 8) taken.into ≡ taken.into = take_all (count + 8) taken.into (omega (arith, taken.wide)) in
     let long : length (f.window ++ bits_of_bytes (take (count + 8) taken.into)) ≡ length f.window + 8 * (count + 8) =
     omega (arith, length-append f.window (bits_of_bytes (take (count + 8) taken.into)), length-bits_of_bytes (take (count + 8) taken.into), ap length whole, taken.wide) in

@@ -9,10 +9,10 @@ use Rattle.bit_fields.specs.declared.fault.Fault.TheVariants.{Refused, Read}
 use Rattle.bit_fields.specs.declared.inflow.Missing.TheVariants as missing
 use Rattle.bit_fields.specs.declared.inflow.Missing.{Missing}
 use Rattle.bit_fields.specs.Devices.{known_bytes}
-use Rattle.bit_fields.specs.Inflow.{Flow, IsKnown, stop_of, left_of, total_of, budget_of, Keeps, RunsOut, Fills, Drained, Overran, DrainLost, DrainFails, Drains}
+use Rattle.bit_fields.specs.Inflow.{Flow, IsKnown, stop_of, flow_bits, total_of, budget_of, KeepsFlow, RunsOut, Fills, Drained, Overran, DrainLost, DrainFails, Drains}
 use Rattle.bit_fields.specs.Reader.{Reader, Extent, is_cut, stopped_at}
-use Rattle.bit_fields.specs.Inside.{fault_of, reader_of, IsReader}
-use Rattle.bit_fields.specs.Ending.{stream_end, reach_of, Stays, Looks, Closed, Closes, IsThrough}
+use Rattle.bit_fields.specs.Inside.{fault_of_missing, reader_of, IsReader}
+use Rattle.bit_fields.specs.Ending.{stream_end, reach_of, Stays, LooksForEnd, Closed, Closes, IsThrough}
 use Rattle.bit_fields.proofs.InflowLaws.{Spends-refl, Spends-none}
 use Rattle.bit_fields.proofs.Shortening.{left_ends}
 use Rattle.bit_fields.proofs.Parts.{fills_exact}
@@ -44,7 +44,7 @@ cut_is e cut = elim (cases_lt e.limit e.total) [
 
 -- ---- whether the stream has no byte left
 
-stays_so : (p : ℕ) (f g : Flow) → Keeps f g → Stays (reader_of true p f) (reader_of true p g)
+stays_so : (p : ℕ) (f g : Flow) → KeepsFlow f g → Stays (reader_of true p f) (reader_of true p g)
 stays_so p f g kept = record {
   was_live = refl;
   live = refl;
@@ -54,23 +54,23 @@ stays_so p f g kept = record {
   left = kept.left;
 }
 
-pub looks_on : (was : Bool) (p : ℕ) (f g : Flow) (now : Reader) → reader_of was p f ≡ now → IsReader was p f → was ≡ true → Keeps f g → 0 < length g.window → Looks now (Ok false) (reader_of was p g)
+pub looks_on : (was : Bool) (p : ℕ) (f g : Flow) (now : Reader) → reader_of was p f ≡ now → IsReader was p f → was ≡ true → KeepsFlow f g → 0 < length g.window → LooksForEnd now (Ok false) (reader_of was p g)
 looks_on was p f g now view is live kept some =
-    let reach : p + length (left_of f) ≡ 8 * min (stop_of f) (total_of f) = left_ends f p (is.exact live) in
-    let more : IsKnown f → 0 < length (left_of f) = λ k. omega (arith, ap length (kept.left k), length-append g.window (bits_of_bytes (take (stop_of g - g.loaded) (known_bytes g.incoming.to_come)))) in
+    let reach : p + length (flow_bits f) ≡ 8 * min (stop_of f) (total_of f) = left_ends f p (is.exact live) in
+    let more : IsKnown f → 0 < length (flow_bits f) = λ k. omega (arith, ap length (kept.left k), length-append g.window (bits_of_bytes (take (stop_of g - g.loaded) (known_bytes g.incoming.to_come)))) in
     rw (← view, live) (stays_so p f g kept, λ k. (omega (arith, reach, more k), more k))
 
-looks_through : (was : Bool) (p : ℕ) (f g : Flow) (now : Reader) → reader_of was p f ≡ now → IsReader was p f → was ≡ true → RunsOut f g 1 false → Looks now (Ok true) (reader_of was p g)
+looks_through : (was : Bool) (p : ℕ) (f g : Flow) (now : Reader) → reader_of was p f ≡ now → IsReader was p f → was ≡ true → RunsOut f g 1 false → LooksForEnd now (Ok true) (reader_of was p g)
 looks_through was p f g now view is live out =
-    let reach : p + length (left_of f) ≡ 8 * min (stop_of f) (total_of f) = left_ends f p (is.exact live) in
+    let reach : p + length (flow_bits f) ≡ 8 * min (stop_of f) (total_of f) = left_ends f p (is.exact live) in
     rw (← view, live) (
       stays_so p f g out.keeps,
-      λ k. (omega (arith, reach, out.left k, uncut (record { total = total_of f; end = f.end; limit = f.limit }) (out.cut k)), nil_from_length (left_of f) (omega (arith, out.left k))),
+      λ k. (omega (arith, reach, out.left k, uncut (record { total = total_of f; end = f.end; limit = f.limit }) (out.cut k)), nil_from_length (flow_bits f) (omega (arith, out.left k))),
     )
 
-looks_limit : (was : Bool) (p : ℕ) (f g : Flow) (fault : Fault) (now new : Reader) → reader_of was p f ≡ now → IsReader was p f → was ≡ true → RunsOut f g 1 true → fault ≡ fault_of missing.Limit p g.limit → new ≡ stopped_at (reader_of was p g) p → Looks now (Err fault) new
+looks_limit : (was : Bool) (p : ℕ) (f g : Flow) (fault : Fault) (now new : Reader) → reader_of was p f ≡ now → IsReader was p f → was ≡ true → RunsOut f g 1 true → fault ≡ fault_of_missing missing.Limit p g.limit → new ≡ stopped_at (reader_of was p g) p → LooksForEnd now (Err fault) new
 looks_limit was p f g fault now new view is live out fault_is new_is =
-    let reach : p + length (left_of f) ≡ 8 * min (stop_of f) (total_of f) = left_ends f p (is.exact live) in
+    let reach : p + length (flow_bits f) ≡ 8 * min (stop_of f) (total_of f) = left_ends f p (is.exact live) in
     rw (fault_is, new_is, ← view, live) (
       record { was_live = refl; failed = refl; goes_on = Spends-none f.incoming (budget_of f) g.incoming (budget_of g) out.keeps.spends },
       (refl, ap (λ (l : ℕ). 8 * l) out.keeps.limit),
@@ -84,13 +84,13 @@ pub is_through : (was : Bool) (p : ℕ) (f g : Flow) (what : Missing) → IsRead
 is_through was p f g what is live end fills =
     let out : RunsOut f g 1 false = subst (λ (m : Missing). Fills 1 f g (Err m)) end fills in
     let place : p + length g.window ≡ 8 * min g.loaded (stop_of g) = fills_exact 1 p f g what fills (is.exact live) in
-    let reach : p + length (left_of g) ≡ 8 * min (stop_of g) (total_of g) = left_ends g p place in
+    let reach : p + length (flow_bits g) ≡ 8 * min (stop_of g) (total_of g) = left_ends g p place in
     λ l k. omega (arith, reach, out.left_now, uncut (record { total = total_of g; end = g.end; limit = g.limit }) out.cut_now)
 
-pub looks_ended : (was : Bool) (p : ℕ) (f g : Flow) (what : Missing) (now : Reader) → reader_of was p f ≡ now → IsReader was p f → was ≡ true → what ≡ missing.End → Fills 1 f g (Err what) → Looks now (Ok true) (reader_of was p g)
+pub looks_ended : (was : Bool) (p : ℕ) (f g : Flow) (what : Missing) (now : Reader) → reader_of was p f ≡ now → IsReader was p f → was ≡ true → what ≡ missing.End → Fills 1 f g (Err what) → LooksForEnd now (Ok true) (reader_of was p g)
 looks_ended was p f g what now view is live end out = looks_through was p f g now view is live (subst (λ (m : Missing). Fills 1 f g (Err m)) end out)
 
-pub looks_cut : (was : Bool) (p : ℕ) (f g : Flow) (what : Missing) (fault : Fault) (now new : Reader) → reader_of was p f ≡ now → IsReader was p f → was ≡ true → what ≡ missing.Limit → Fills 1 f g (Err what) → fault ≡ fault_of missing.Limit p g.limit → new ≡ stopped_at (reader_of was p g) p → Looks now (Err fault) new
+pub looks_cut : (was : Bool) (p : ℕ) (f g : Flow) (what : Missing) (fault : Fault) (now new : Reader) → reader_of was p f ≡ now → IsReader was p f → was ≡ true → what ≡ missing.Limit → Fills 1 f g (Err what) → fault ≡ fault_of_missing missing.Limit p g.limit → new ≡ stopped_at (reader_of was p g) p → LooksForEnd now (Err fault) new
 looks_cut was p f g what fault now new view is live limit out fault_is new_is = looks_limit was p f g fault now new view is live (subst (λ (m : Missing). Fills 1 f g (Err m)) limit out) fault_is new_is
 
 -- ---- closing

@@ -6,7 +6,7 @@ use Rattle.std.proofs.lemmas.Bool.{eqb-true}
 use Rattle.std.proofs.Math.Nat.{pow-suc}
 use Rattle.std.specs.Int.{w32, w64, to_le_bytes}
 use Rattle.bit_grammar.specs.Bits.{bit, bits_of, number, bits_of_bytes}
-use Rattle.bit_grammar.proofs.Numbers.{length-bits_of}
+use Rattle.bit_grammar.proofs.Bits.Numbers.{length-bits_of}
 
 bit-eqb : (r : ℕ) → r < 2 → bit (eqb r 1) ≡ r
 bit-eqb zero lt = refl

@@ -9,12 +9,13 @@ use Rattle.bit_grammar.specs.declared.reason.Reason.TheVariants.{ValueTooWide}
 use Rattle.bit_grammar.specs.Bits.{bit, number}
 use Rattle.bit_grammar.specs.Grammar as grammar
 use Rattle.bit_grammar.specs.Grammar.{Grammar, at, gives, choose, ◌>>=◌, ◌>>◌, ◌and_then◌, judge, reading}
-use Rattle.bit_grammar.specs.Fields.{chunks, chunk_limit, vbr}
-use Rattle.bit_grammar.proofs.Numbers.{number_below, number-append}
+use Rattle.bit_grammar.specs.Fields.{chunks, vbr}
+use Rattle.bit_grammar.specs.Terms.{chunk_limit}
+use Rattle.bit_grammar.proofs.Bits.Numbers.{number_below, number-append}
 use Rattle.bit_fields.specs.declared.fault.Fault.{Fault}
 use Rattle.bit_fields.specs.declared.fault.Fault.TheVariants.{Refused}
 use Rattle.bit_fields.specs.Reader.{Reader, Took, Why, Takes, stopped_at}
-use Rattle.bit_fields.specs.Inside.{part_of, above}
+use Rattle.bit_fields.specs.Inside.{part_of, number_above}
 use Rattle.bit_fields.proofs.InflowLaws.{Spends-refl, Spends-none}
 use Rattle.bit_fields.proofs.Composing.{took_then, fault_then, took_nothing, same_reading, from_here}
 
@@ -50,7 +51,7 @@ chunk_parts payload s len =
 abbrev pub after_chunk : (payload start permitted places low : ℕ) → Bool → Grammar ℕ
 after_chunk payload start permitted places low more =
     judge (ltb low (2 ^ places)) ValueTooWide start >>
-    choose more (above low payload (chunks payload start permitted (places - payload))) (gives low)
+    choose more (number_above low payload (chunks payload start permitted (places - payload))) (gives low)
 
 -- what follows a whole chunk with this number
 abbrev pub after_number : (payload start permitted places x : ℕ) → Grammar ℕ
@@ -87,7 +88,7 @@ valued_then f (Ok x) after = refl
 valued_then f (Err fault) after = refl
 
 -- chunks above a value are one chunk, and what follows it above the value
-above_step : (payload start permitted places value place p : ℕ) (r : List Bool) → reading (part_of start (suc payload) >>= λ x. above value place (after_number payload start permitted places x)) p r ≡ reading (above value place (chunks payload start (suc permitted) places)) p r
+above_step : (payload start permitted places value place p : ℕ) (r : List Bool) → reading (part_of start (suc payload) >>= λ x. number_above value place (after_number payload start permitted places x)) p r ≡ reading (number_above value place (chunks payload start (suc permitted) places)) p r
 above_step payload start permitted places value place p r =
     sym (valued_then (λ v. value + 2 ^ place * v) (reading (part_of start (suc payload)) p r) (after_number payload start permitted places)) ∙ ap (valued (λ v. value + 2 ^ place * v)) (chunk_step payload start permitted places p r)
 
@@ -95,32 +96,32 @@ above_step payload start permitted places value place p r =
 
 -- a chunk that says that another follows
 pub chunk_more : (payload start permitted value place chunk value' place' : ℕ) (a b : Reader) (result : Result ℕ Fault) (c : Reader) → Took (part_of start (suc payload)) a chunk b → 2 ^ payload ≤ chunk → chunk % 2 ^ payload < 2 ^ (64 - place) → value' ≡ value + chunk % 2 ^ payload * 2 ^ place → place' ≡ place + payload
-    → Takes (above value' place' (chunks payload start permitted (64 - place'))) b result c → Takes (above value place (chunks payload start (suc permitted) (64 - place))) a result c
+    → Takes (number_above value' place' (chunks payload start permitted (64 - place'))) b result c → Takes (number_above value place (chunks payload start (suc permitted) (64 - place))) a result c
 chunk_more payload start permitted value place chunk value' place' a b result c took goes fits value_is place_is rest =
     let low : ℕ = chunk % 2 ^ payload in
     let places : 64 - place' ≡ 64 - place - payload = omega (arith, place_is) in
     let power : 2 ^ place' ≡ 2 ^ place * 2 ^ payload = ap (λ (k : ℕ). 2 ^ k) place_is ∙ pow-add 2 place payload in
     let same : (v : ℕ) → value + 2 ^ place * (low + 2 ^ payload * v) ≡ value' + 2 ^ place' * v = λ v. rw (power, value_is) (omega arith) in
-    let read : (p : ℕ) (r : List Bool) → reading (above value' place' (chunks payload start permitted (64 - place'))) p r ≡ reading (above value place (after_number payload start permitted (64 - place) chunk)) p r = λ p r.
+    let read : (p : ℕ) (r : List Bool) → reading (number_above value' place' (chunks payload start permitted (64 - place'))) p r ≡ reading (number_above value place (after_number payload start permitted (64 - place) chunk)) p r = λ p r.
     rw (lt-ltb low (2 ^ (64 - place)) fits, le-leb (2 ^ payload) chunk goes, places)
     (sym (valued_twice (λ v. low + 2 ^ payload * v) (λ v. value + 2 ^ place * v) (λ v. value' + 2 ^ place' * v) (reading (chunks payload start permitted (64 - place - payload)) p r) same)) in
-    same_reading (part_of start (suc payload) >>= λ x. above value place (after_number payload start permitted (64 - place) x)) (above value place (chunks payload start (suc permitted) (64 - place))) a result c
+    same_reading (part_of start (suc payload) >>= λ x. number_above value place (after_number payload start permitted (64 - place) x)) (number_above value place (chunks payload start (suc permitted) (64 - place))) a result c
     (λ p r. above_step payload start permitted (64 - place) value place p r)
-    (took_then (part_of start (suc payload)) (λ x. above value place (after_number payload start permitted (64 - place) x)) a chunk b result c took
-    (same_reading (above value' place' (chunks payload start permitted (64 - place'))) (above value place (after_number payload start permitted (64 - place) chunk)) b result c read rest))
+    (took_then (part_of start (suc payload)) (λ x. number_above value place (after_number payload start permitted (64 - place) x)) a chunk b result c took
+    (same_reading (number_above value' place' (chunks payload start permitted (64 - place'))) (number_above value place (after_number payload start permitted (64 - place) chunk)) b result c read rest))
 
 -- a chunk that says that it is the last
 pub chunk_last : (payload start permitted value place chunk value' : ℕ) (a b : Reader) → Took (part_of start (suc payload)) a chunk b → chunk < 2 ^ payload → chunk % 2 ^ payload < 2 ^ (64 - place) → value' ≡ value + chunk % 2 ^ payload * 2 ^ place
-    → Took (above value place (chunks payload start (suc permitted) (64 - place))) a value' b
+    → Took (number_above value place (chunks payload start (suc permitted) (64 - place))) a value' b
 chunk_last payload start permitted value place chunk value' a b took ends fits value_is =
     let low : ℕ = chunk % 2 ^ payload in
     let turned : value' ≡ value + 2 ^ place * low = omega (arith, value_is) in
-    let read : (p : ℕ) (r : List Bool) → reading (gives value') p r ≡ reading (above value place (after_number payload start permitted (64 - place) chunk)) p r = λ p r.
+    let read : (p : ℕ) (r : List Bool) → reading (gives value') p r ≡ reading (number_above value place (after_number payload start permitted (64 - place) chunk)) p r = λ p r.
     rw (lt-ltb low (2 ^ (64 - place)) fits, lt-leb (2 ^ payload) chunk ends, turned) refl in
-    same_reading (part_of start (suc payload) >>= λ x. above value place (after_number payload start permitted (64 - place) x)) (above value place (chunks payload start (suc permitted) (64 - place))) a (Ok value') b
+    same_reading (part_of start (suc payload) >>= λ x. number_above value place (after_number payload start permitted (64 - place) x)) (number_above value place (chunks payload start (suc permitted) (64 - place))) a (Ok value') b
     (λ p r. above_step payload start permitted (64 - place) value place p r)
-    (took_then (part_of start (suc payload)) (λ x. above value place (after_number payload start permitted (64 - place) x)) a chunk b (Ok value') b took
-    (same_reading (gives value') (above value place (after_number payload start permitted (64 - place) chunk)) b (Ok value') b read (took_nothing value' b took.live)))
+    (took_then (part_of start (suc payload)) (λ x. number_above value place (after_number payload start permitted (64 - place) x)) a chunk b (Ok value') b took
+    (same_reading (gives value') (number_above value place (after_number payload start permitted (64 - place) chunk)) b (Ok value') b read (took_nothing value' b took.live)))
 
 -- a rule that is refused whatever follows
 too_wide : (rule : Grammar ℕ) (start : ℕ) (a : Reader) → a.live ≡ true → ((p : ℕ) (r : List Bool) → reading rule p r ≡ Err (at ValueTooWide start)) → Why rule a (Refused ValueTooWide start) (stopped_at a start)
@@ -129,46 +130,46 @@ too_wide rule start a live read = (
   λ k. rw (read a.position a.left) refl,
 )
 
-wide_number : (payload start permitted value place chunk p : ℕ) (r : List Bool) → 2 ^ (64 - place) ≤ chunk % 2 ^ payload → reading (above value place (after_number payload start permitted (64 - place) chunk)) p r ≡ Err (at ValueTooWide start)
+wide_number : (payload start permitted value place chunk p : ℕ) (r : List Bool) → 2 ^ (64 - place) ≤ chunk % 2 ^ payload → reading (number_above value place (after_number payload start permitted (64 - place) chunk)) p r ≡ Err (at ValueTooWide start)
 wide_number payload start permitted value place chunk p r wide =
     let refused : Result (ℕ × ℕ × List Bool) grammar.Fault = Err (at ValueTooWide start) in
     rw (le-ltb (chunk % 2 ^ payload) (2 ^ (64 - place)) wide) (refl {a = refused})
 
 -- a chunk with a payload bit past the last place
 pub chunk_wide : (payload start permitted value place chunk : ℕ) (a b : Reader) → Took (part_of start (suc payload)) a chunk b → 2 ^ (64 - place) ≤ chunk % 2 ^ payload
-    → Why (above value place (chunks payload start (suc permitted) (64 - place))) a (Refused ValueTooWide start) (stopped_at b start)
+    → Why (number_above value place (chunks payload start (suc permitted) (64 - place))) a (Refused ValueTooWide start) (stopped_at b start)
 chunk_wide payload start permitted value place chunk a b took wide =
-    let rule : Grammar ℕ = above value place (after_number payload start permitted (64 - place) chunk) in
-    same_reading (part_of start (suc payload) >>= λ x. above value place (after_number payload start permitted (64 - place) x)) (above value place (chunks payload start (suc permitted) (64 - place))) a (Err (Refused ValueTooWide start)) (stopped_at b start)
+    let rule : Grammar ℕ = number_above value place (after_number payload start permitted (64 - place) chunk) in
+    same_reading (part_of start (suc payload) >>= λ x. number_above value place (after_number payload start permitted (64 - place) x)) (number_above value place (chunks payload start (suc permitted) (64 - place))) a (Err (Refused ValueTooWide start)) (stopped_at b start)
     (λ p r. above_step payload start permitted (64 - place) value place p r)
-    (took_then (part_of start (suc payload)) (λ x. above value place (after_number payload start permitted (64 - place) x)) a chunk b (Err (Refused ValueTooWide start)) (stopped_at b start) took
+    (took_then (part_of start (suc payload)) (λ x. number_above value place (after_number payload start permitted (64 - place) x)) a chunk b (Err (Refused ValueTooWide start)) (stopped_at b start) took
     (too_wide rule start b took.live (λ p r. wide_number payload start permitted value place chunk p r wide)))
 
 -- a chunk that is not whole
-pub chunk_missed : (payload start permitted value place : ℕ) (a : Reader) (fault : Fault) (b : Reader) → Why (part_of start (suc payload)) a fault b → Why (above value place (chunks payload start (suc permitted) (64 - place))) a fault b
+pub chunk_missed : (payload start permitted value place : ℕ) (a : Reader) (fault : Fault) (b : Reader) → Why (part_of start (suc payload)) a fault b → Why (number_above value place (chunks payload start (suc permitted) (64 - place))) a fault b
 chunk_missed payload start permitted value place a fault b why =
-    same_reading (part_of start (suc payload) >>= λ x. above value place (after_number payload start permitted (64 - place) x)) (above value place (chunks payload start (suc permitted) (64 - place))) a (Err fault) b
+    same_reading (part_of start (suc payload) >>= λ x. number_above value place (after_number payload start permitted (64 - place) x)) (number_above value place (chunks payload start (suc permitted) (64 - place))) a (Err fault) b
     (λ p r. above_step payload start permitted (64 - place) value place p r)
-    (fault_then (part_of start (suc payload)) (λ x. above value place (after_number payload start permitted (64 - place) x)) a fault b why)
+    (fault_then (part_of start (suc payload)) (λ x. number_above value place (after_number payload start permitted (64 - place) x)) a fault b why)
 
-no_chunks : (payload start value place places p : ℕ) (r : List Bool) → reading (above value place (chunks payload start zero places)) p r ≡ Err (at ValueTooWide start)
+no_chunks : (payload start value place places p : ℕ) (r : List Bool) → reading (number_above value place (chunks payload start zero places)) p r ≡ Err (at ValueTooWide start)
 no_chunks payload start value place places p r =
     let wide : Result (ℕ × ℕ × List Bool) grammar.Fault = Err (at ValueTooWide start) in
     refl {a = wide}
 
 -- more chunks than are permitted
-pub chunks_past : (payload start value place places : ℕ) (a : Reader) → a.live ≡ true → Why (above value place (chunks payload start zero places)) a (Refused ValueTooWide start) (stopped_at a start)
-chunks_past payload start value place places a live = too_wide (above value place (chunks payload start zero places)) start a live (λ p r. no_chunks payload start value place places p r)
+pub chunks_past : (payload start value place places : ℕ) (a : Reader) → a.live ≡ true → Why (number_above value place (chunks payload start zero places)) a (Refused ValueTooWide start) (stopped_at a start)
+chunks_past payload start value place places a live = too_wide (number_above value place (chunks payload start zero places)) start a live (λ p r. no_chunks payload start value place places p r)
 
 -- ---- the whole
 
-above_nothing : (payload start permitted p : ℕ) (r : List Bool) → reading (above 0 0 (chunks payload start permitted (64 - 0))) p r ≡ reading (chunks payload start permitted 64) p r
+above_nothing : (payload start permitted p : ℕ) (r : List Bool) → reading (number_above 0 0 (chunks payload start permitted (64 - 0))) p r ≡ reading (chunks payload start permitted 64) p r
 above_nothing payload start permitted p r = valued_same (λ v. 0 + 2 ^ 0 * v) (reading (chunks payload start permitted 64) p r) (λ v. omega arith)
 
-pub vbr_from : (n payload start permitted : ℕ) (a : Reader) (result : Result ℕ Fault) (b : Reader) → n ≡ suc payload → start ≡ a.position → chunk_limit payload ≡ suc permitted → Takes (above 0 0 (chunks payload start (suc permitted) (64 - 0))) a result b → Takes (vbr n) a result b
+pub vbr_from : (n payload start permitted : ℕ) (a : Reader) (result : Result ℕ Fault) (b : Reader) → n ≡ suc payload → start ≡ a.position → chunk_limit payload ≡ suc permitted → Takes (number_above 0 0 (chunks payload start (suc permitted) (64 - 0))) a result b → Takes (vbr n) a result b
 unfolding vbr
 vbr_from n payload start permitted a result b n_is here limit t =
-    let whole : Takes (chunks payload start (suc permitted) 64) a result b = same_reading (above 0 0 (chunks payload start (suc permitted) (64 - 0))) (chunks payload start (suc permitted) 64) a result b (λ p r. above_nothing payload start (suc permitted) p r) t in
+    let whole : Takes (chunks payload start (suc permitted) 64) a result b = same_reading (number_above 0 0 (chunks payload start (suc permitted) (64 - 0))) (chunks payload start (suc permitted) 64) a result b (λ p r. above_nothing payload start (suc permitted) p r) t in
     let placed : Takes (chunks payload a.position (suc permitted) 64) a result b = subst (λ (p : ℕ). Takes (chunks payload p (suc permitted) 64) a result b) here whole in
     rw n_is (from_here (λ p. chunks payload p (chunk_limit payload) 64) a result b (rw limit placed))
 
@@ -197,9 +198,9 @@ pub record Chunking (payload start : ℕ) (rule : Grammar ℕ) (a b : Reader) (p
   pub positive : 0 < place
   pub live : b.live ≡ true
   pub ahead : start ≤ b.position
-  pub rest : (result : Result ℕ Fault) (c : Reader) → Takes (above value place (chunks payload start most (64 - place))) b result c → Takes rule a result c
+  pub rest : (result : Result ℕ Fault) (c : Reader) → Takes (number_above value place (chunks payload start most (64 - place))) b result c → Takes rule a result c
 
-pub chunking_begins : (payload start first : ℕ) (a : Reader) → 1 ≤ payload → a.live ≡ true → start ≤ a.position → first < 2 ^ payload → Chunking payload start (above first payload (chunks payload start (chunk_limit payload - 1) (64 - payload))) a a payload first
+pub chunking_begins : (payload start first : ℕ) (a : Reader) → 1 ≤ payload → a.live ≡ true → start ≤ a.position → first < 2 ^ payload → Chunking payload start (number_above first payload (chunks payload start (chunk_limit payload - 1) (64 - payload))) a a payload first
 chunking_begins payload start first a some live ahead below =
     let k = some_left payload (chunk_limit payload) (omega (arith, (limit_times payload some).0)) in
     record {
@@ -235,7 +236,7 @@ next_chunk n start rule a b place value chunk payload value' d two lt at took is
       positive = omega (arith, at.positive);
       live = took.live;
       ahead = omega (arith, at.ahead, took.forward);
-      rest = λ result c t. at.rest result c (subst (λ (m : ℕ). Takes (above value place (chunks (n - 1) start m (64 - place))) b result c) (sym k.1) (chunk_more (n - 1) start k.0 value place chunk value' (place + (n - 1)) b d result c part goes (subst (λ (x : ℕ). x < 2 ^ (64 - place)) is fits) value_at refl t));
+      rest = λ result c t. at.rest result c (subst (λ (m : ℕ). Takes (number_above value place (chunks (n - 1) start m (64 - place))) b result c) (sym k.1) (chunk_more (n - 1) start k.0 value place chunk value' (place + (n - 1)) b d result c part goes (subst (λ (x : ℕ). x < 2 ^ (64 - place)) is fits) value_at refl t));
     }
   where
     count_down : (k d : ℕ) → place + suc k * d ≡ chunk_limit (n - 1) * d → place + d + k * d ≡ chunk_limit (n - 1) * d
@@ -248,7 +249,7 @@ last_chunk n start rule a b place value chunk payload value' d two lt at took is
     let wide : n ≡ suc (n - 1) = omega arith in
     let part : Took (part_of start (suc (n - 1))) b chunk d = subst (λ (m : ℕ). Took (part_of start m) b chunk d) wide took in
     let value_at : value' ≡ value + chunk % 2 ^ (n - 1) * 2 ^ place = value_is ∙ ap (λ (x : ℕ). value + x * 2 ^ place) is in
-    at.rest (Ok value') d (subst (λ (m : ℕ). Took (above value place (chunks (n - 1) start m (64 - place))) b value' d) (sym k.1) (chunk_last (n - 1) start k.0 value place chunk value' b d part ends (subst (λ (x : ℕ). x < 2 ^ (64 - place)) is fits) value_at))
+    at.rest (Ok value') d (subst (λ (m : ℕ). Took (number_above value place (chunks (n - 1) start m (64 - place))) b value' d) (sym k.1) (chunk_last (n - 1) start k.0 value place chunk value' b d part ends (subst (λ (x : ℕ). x < 2 ^ (64 - place)) is fits) value_at))
 
 pub wide_chunk : (n start : ℕ) (rule : Grammar ℕ) (a b : Reader) (place value chunk payload : ℕ) (d : Reader) → 2 ≤ n → place < 64 → Chunking (n - 1) start rule a b place value → Took (part_of start n) b chunk d → payload ≡ chunk % 2 ^ (n - 1)
     → 2 ^ (64 - place) ≤ payload → Why rule a (Refused ValueTooWide start) (stopped_at d start)
@@ -256,19 +257,19 @@ wide_chunk n start rule a b place value chunk payload d two lt at took is wide =
     let k = more_left (n - 1) start rule a b place value (omega arith) lt at in
     let width : n ≡ suc (n - 1) = omega arith in
     let part : Took (part_of start (suc (n - 1))) b chunk d = subst (λ (m : ℕ). Took (part_of start m) b chunk d) width took in
-    at.rest (Err (Refused ValueTooWide start)) (stopped_at d start) (subst (λ (m : ℕ). Why (above value place (chunks (n - 1) start m (64 - place))) b (Refused ValueTooWide start) (stopped_at d start)) (sym k.1) (chunk_wide (n - 1) start k.0 value place chunk b d part (subst (λ (x : ℕ). 2 ^ (64 - place) ≤ x) is wide)))
+    at.rest (Err (Refused ValueTooWide start)) (stopped_at d start) (subst (λ (m : ℕ). Why (number_above value place (chunks (n - 1) start m (64 - place))) b (Refused ValueTooWide start) (stopped_at d start)) (sym k.1) (chunk_wide (n - 1) start k.0 value place chunk b d part (subst (λ (x : ℕ). 2 ^ (64 - place) ≤ x) is wide)))
 
 pub missed_chunk : (n start : ℕ) (rule : Grammar ℕ) (a b : Reader) (place value : ℕ) (fault : Fault) (d : Reader) → 2 ≤ n → place < 64 → Chunking (n - 1) start rule a b place value → Why (part_of start n) b fault d → Why rule a fault d
 missed_chunk n start rule a b place value fault d two lt at why =
     let k = more_left (n - 1) start rule a b place value (omega arith) lt at in
     let width : n ≡ suc (n - 1) = omega arith in
     let part : Why (part_of start (suc (n - 1))) b fault d = subst (λ (m : ℕ). Why (part_of start m) b fault d) width why in
-    at.rest (Err fault) d (subst (λ (m : ℕ). Why (above value place (chunks (n - 1) start m (64 - place))) b fault d) (sym k.1) (chunk_missed (n - 1) start k.0 value place b fault d part))
+    at.rest (Err fault) d (subst (λ (m : ℕ). Why (number_above value place (chunks (n - 1) start m (64 - place))) b fault d) (sym k.1) (chunk_missed (n - 1) start k.0 value place b fault d part))
 
 pub past_last_chunk : (n start : ℕ) (rule : Grammar ℕ) (a b : Reader) (place value : ℕ) → 2 ≤ n → 64 ≤ place → Chunking (n - 1) start rule a b place value → Why rule a (Refused ValueTooWide start) (stopped_at b start)
 past_last_chunk n start rule a b place value two le at =
     let none : at.most ≡ 0 = none_left (n - 1) at.most (omega (arith, at.count, (limit_times (n - 1) (omega arith)).1)) in
-    at.rest (Err (Refused ValueTooWide start)) (stopped_at b start) (subst (λ (m : ℕ). Why (above value place (chunks (n - 1) start m (64 - place))) b (Refused ValueTooWide start) (stopped_at b start)) (sym none) (chunks_past (n - 1) start value place (64 - place) b at.live))
+    at.rest (Err (Refused ValueTooWide start)) (stopped_at b start) (subst (λ (m : ℕ). Why (number_above value place (chunks (n - 1) start m (64 - place))) b (Refused ValueTooWide start) (stopped_at b start)) (sym none) (chunks_past (n - 1) start value place (64 - place) b at.live))
 
 -- ---- the first chunk
 
@@ -288,7 +289,7 @@ one_chunk n start a chunk b two few here last took =
     vbr_from n (n - 1) start k.0 a (Ok chunk) b width here k.1 (chunk_last (n - 1) start k.0 0 0 chunk chunk a b part last (small n chunk few) value)
 
 pub several_chunks : (n start : ℕ) (a : Reader) (chunk payload : ℕ) (b : Reader) (result : Result ℕ Fault) (c : Reader) → 2 ≤ n → n ≤ 32 → start ≡ a.position → 2 ^ (n - 1) ≤ chunk → payload ≡ chunk % 2 ^ (n - 1) → Took (part_of start n) a chunk b
-    → Takes (above payload (n - 1) (chunks (n - 1) start (chunk_limit (n - 1) - 1) (64 - (n - 1)))) b result c → Takes (vbr n) a result c
+    → Takes (number_above payload (n - 1) (chunks (n - 1) start (chunk_limit (n - 1) - 1) (64 - (n - 1)))) b result c → Takes (vbr n) a result c
 several_chunks n start a chunk payload b result c two few here goes is took rest =
     let k = some_left (n - 1) (chunk_limit (n - 1)) (omega (arith, (limit_times (n - 1) (omega arith)).0)) in
     let one : chunk_limit (n - 1) - 1 ≡ k.0 = omega (arith, k.1) in
@@ -296,7 +297,7 @@ several_chunks n start a chunk payload b result c two few here goes is took rest
     let part : Took (part_of start (suc (n - 1))) a chunk b = subst (λ (m : ℕ). Took (part_of start m) a chunk b) width took in
     let value : payload ≡ 0 + chunk % 2 ^ (n - 1) * 2 ^ 0 = omega (arith, is) in
     let place : n - 1 ≡ 0 + (n - 1) = omega arith in
-    let later : Takes (above payload (n - 1) (chunks (n - 1) start k.0 (64 - (n - 1)))) b result c = subst (λ (m : ℕ). Takes (above payload (n - 1) (chunks (n - 1) start m (64 - (n - 1)))) b result c) one rest in
+    let later : Takes (number_above payload (n - 1) (chunks (n - 1) start k.0 (64 - (n - 1)))) b result c = subst (λ (m : ℕ). Takes (number_above payload (n - 1) (chunks (n - 1) start m (64 - (n - 1)))) b result c) one rest in
     vbr_from n (n - 1) start k.0 a result c width here k.1 (chunk_more (n - 1) start k.0 0 0 chunk payload (n - 1) a b result c part goes (small n chunk few) value place later)
 
 pub missed_first : (n start : ℕ) (a : Reader) (fault : Fault) (b : Reader) → 2 ≤ n → start ≡ a.position → Why (part_of start n) a fault b → Why (vbr n) a fault b

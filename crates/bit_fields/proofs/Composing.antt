@@ -4,23 +4,23 @@ use Rattle.std.proofs.lemmas.Bool.{false≢true}
 use Rattle.bit_grammar.specs.declared.reason.Reason.{Reason}
 use Rattle.bit_grammar.specs.Grammar as grammar
 use Rattle.bit_grammar.specs.Grammar.{Grammar, at, gives, position, test, choose, ◌>>=◌, ◌>>◌, ◌and_then◌, Spells, reading}
-use Rattle.bit_grammar.proofs.Deciding.{reads, is_spelled, one_value}
+use Rattle.bit_grammar.proofs.Readings.Deciding.{reads, is_spelled, one_value}
 use Rattle.bit_fields.specs.declared.fault.Fault.{Fault}
 use Rattle.bit_fields.specs.declared.fault.Fault.TheVariants.{Refused, Read, Write, Memory, OutputTooLong, Failed}
-use Rattle.bit_fields.specs.Reader.{Reader, Extent, within, Breaks, GoesOn, Took, Stops, Loses, Why, Takes, IsOnly, stopped}
+use Rattle.bit_fields.specs.Reader.{Reader, Extent, within, Breaks, GoesOn, Took, StopsReading, Loses, Why, Takes, IsOnly, failed_reader}
 use Rattle.bit_fields.proofs.InflowLaws.{Spends-refl, Spends-trans, Spends-none, fails_later}
 
 pub goes_on_both : (a b c : Reader) → GoesOn a b → GoesOn b c → GoesOn a c
 goes_on_both a b c p q = Spends-trans a.incoming a.budget b.incoming b.budget c.incoming c.budget p q
 
-pub stops_later : (a b c : Reader) → a.live ≡ true → GoesOn a b → Stops b c → Stops a c
+pub stops_later : (a b c : Reader) → a.live ≡ true → GoesOn a b → StopsReading b c → StopsReading a c
 stops_later a b c was p q = record { was_live = was; failed = q.failed; goes_on = goes_on_both a b c p q.goes_on }
 
 pub loses_later : (a b c : Reader) → a.live ≡ true → GoesOn a b → Loses b c → Loses a c
 loses_later a b c was p q = record { was_live = was; failed = q.failed; fails = fails_later a.incoming a.budget b.incoming b.budget c.incoming c.budget p q.fails }
 
 -- a live reader that is made to fail
-pub stops_here : (a : Reader) → a.live ≡ true → Stops a (stopped a)
+pub stops_here : (a : Reader) → a.live ≡ true → StopsReading a (failed_reader a)
 stops_here a live = record { was_live = live; failed = refl; goes_on = Spends-none a.incoming a.budget a.incoming a.budget (Spends-refl a.incoming a.budget) }
 
 breaks_on : {A B : Type 0} (e : Extent) (first : Result (A × ℕ × List Bool) grammar.Fault) (next : A × ℕ × List Bool → Result (B × ℕ × List Bool) grammar.Fault) (reason : Reason) (bit : ℕ) → Breaks e first reason bit → Breaks e (first and_then next) reason bit
@@ -65,7 +65,7 @@ failed_before rule a b dead same = (dead, same)
 -- ---- where it stands
 
 -- a reader that has failed and is put elsewhere
-stops_there : (a b : Reader) (place : ℕ) → Stops a b → Stops a (record b { position = place })
+stops_there : (a b : Reader) (place : ℕ) → StopsReading a b → StopsReading a (record b { position = place })
 stops_there a b place s = record { was_live = s.was_live; failed = s.failed; goes_on = s.goes_on }
 
 -- a reader that failed in a call is put where the call began, which does not matter to why it failed
@@ -120,7 +120,7 @@ pub holds_last : (holds : Bool) (fault : grammar.Fault) (a : Reader) → holds �
 holds_last holds fault a is live = same_reading (gives tt) (test holds fault) a (Ok tt) a (λ p r. rw is refl) (took_nothing tt a live)
 
 -- a judgement that fails, where its fault has nothing to do with the limit on bytes: the reader is made to fail
-pub fails_here : (holds : Bool) (reason : Reason) (bit : ℕ) (a : Reader) → holds ≡ false → a.live ≡ true → ((e : Extent) → within e reason bit ≡ at reason bit) → Why (test holds (at reason bit)) a (Refused reason bit) (stopped a)
+pub fails_here : (holds : Bool) (reason : Reason) (bit : ℕ) (a : Reader) → holds ≡ false → a.live ≡ true → ((e : Extent) → within e reason bit ≡ at reason bit) → Why (test holds (at reason bit)) a (Refused reason bit) (failed_reader a)
 fails_here holds reason bit a is live stays = (stops_here a live, λ k. rw is (stays a.extent))
 
 -- which of two rules is read

@@ -4,7 +4,7 @@ use Rattle.std.proofs.lemmas.Bool.{false≢true}
 use Rattle.std.proofs.lemmas.List.{length-append, length-take-le, length-drop, drop-append-le, drop_at}
 use Rattle.bit_grammar.specs.Bits.{bits_of_bytes}
 use Rattle.bit_fields.specs.Devices.{Incoming, Gave, GaveNone, known_bytes}
-use Rattle.bit_fields.specs.Inflow.{Flow, IsKnown, stop_of, left_of, budget_of, IsFlow, Keeps, Passes, Skips, Draining, Drained, Overran, DrainLost, DrainFails}
+use Rattle.bit_fields.specs.Inflow.{Flow, IsKnown, stop_of, flow_bits, budget_of, IsFlow, KeepsFlow, PassesBytes, Skips, Draining, Drained, Overran, DrainLost, DrainFails}
 use Rattle.bit_fields.specs.declared.inflow.Missing.{Missing}
 use Rattle.bit_fields.specs.declared.inflow.Missing.TheVariants.{End, Limit, Read}
 use Rattle.bit_fields.proofs.BitLaws.{length-bits_of_bytes}
@@ -13,13 +13,13 @@ use Rattle.bit_fields.proofs.InflowLaws.{Spends-refl, Spends-trans, Spends-none,
 -- ---- bytes of the stream
 
 -- bytes of the stream came that are not kept
-pub passed : (f : Flow) (i : Incoming) (count : ℕ) (into : List ℕ) → f.window ≡ [] → f.ended ≡ false → count ≤ stop_of f - f.loaded → f.loaded ≤ stop_of f → (count ≡ 0 → ⊥) → Gave f.incoming i count into → Passes f (record f { incoming = i; loaded = f.loaded + count }) count
+pub passed : (f : Flow) (i : Incoming) (count : ℕ) (into : List ℕ) → f.window ≡ [] → f.ended ≡ false → count ≤ stop_of f - f.loaded → f.loaded ≤ stop_of f → (count ≡ 0 → ⊥) → Gave f.incoming i count into → PassesBytes f (record f { incoming = i; loaded = f.loaded + count }) count
 passed f i count into empty going fits le some gave =
     let few : f.loaded + count ≤ stop_of f = omega (arith, gave.fits) in
     let after : ℕ = stop_of f - (f.loaded + count) in
     let room : stop_of f - f.loaded ≡ count + after = omega arith in
     let taken : length (bits_of_bytes (take count into)) ≡ 8 * count = omega (arith, length-bits_of_bytes (take count into), length-take-le count into gave.fits) in
-    let parts : IsKnown f → left_of f ≡ bits_of_bytes (take count into) ++ bits_of_bytes (take after (known_bytes i.to_come)) = λ k. ap (λ (w : List Bool). w ++ bits_of_bytes (take (stop_of f - f.loaded) (known_bytes f.incoming.to_come))) empty ∙ ap (λ (n : ℕ). bits_of_bytes (take n (known_bytes f.incoming.to_come))) room ∙ front_came f.incoming i count into after gave k in
+    let parts : IsKnown f → flow_bits f ≡ bits_of_bytes (take count into) ++ bits_of_bytes (take after (known_bytes i.to_come)) = λ k. ap (λ (w : List Bool). w ++ bits_of_bytes (take (stop_of f - f.loaded) (known_bytes f.incoming.to_come))) empty ∙ ap (λ (n : ℕ). bits_of_bytes (take n (known_bytes f.incoming.to_come))) room ∙ front_came f.incoming i count into after gave k in
     record {
       some = omega arith;
       window = empty;
@@ -45,7 +45,7 @@ passed_is_flow f i count into was going fits le gave = record {
 -- ---- bits of the stream
 
 -- a block of bytes
-pub bytes_skipped : (f g : Flow) (count bits : ℕ) → f.window ≡ [] → Passes f g count → bits ≡ 8 * count → Skips f g bits
+pub bytes_skipped : (f g : Flow) (count bits : ℕ) → f.window ≡ [] → PassesBytes f g count → bits ≡ 8 * count → Skips f g bits
 bytes_skipped f g count bits empty p is =
     let none : length f.window ≡ 0 = ap length empty in
     let after : length g.window ≡ 0 = ap length p.window in
@@ -62,7 +62,7 @@ bytes_skipped f g count bits empty p is =
     })
 
 -- bits of the window
-pub window_skipped : (f g h : Flow) (count : ℕ) → Keeps f g → 0 < count → count ≤ length g.window → h ≡ record g { window = drop count g.window } → Skips f h count
+pub window_skipped : (f g h : Flow) (count : ℕ) → KeepsFlow f g → 0 < count → count ≤ length g.window → h ≡ record g { window = drop count g.window } → Skips f h count
 window_skipped f g h count kept some there is =
     let len : length (drop count g.window) ≡ length g.window - count = length-drop count g.window in
     let behind : List Bool = bits_of_bytes (take (stop_of g - g.loaded) (known_bytes g.incoming.to_come)) in

@@ -10,9 +10,9 @@ use Rattle.bit_grammar.specs.Input.{any_bits}
 use Rattle.bit_fields.specs.declared.fault.Fault.{Fault}
 use Rattle.bit_fields.specs.declared.fault.Fault.TheVariants.{Refused, Read, Write, Memory, OutputTooLong, Failed}
 use Rattle.bit_fields.specs.declared.inflow.Missing.{Missing}
-use Rattle.bit_fields.specs.Inflow.{Flow, left_of, Skips, Fills}
+use Rattle.bit_fields.specs.Inflow.{Flow, flow_bits, Skips, Fills}
 use Rattle.bit_fields.specs.Reader.{Reader, TellsBytes, Breaks, Took, Why, stopped_at}
-use Rattle.bit_fields.specs.Inside.{gap_of, TookGap, reader_of, fault_of, IsReader}
+use Rattle.bit_fields.specs.Inside.{gap_of, TookGap, reader_of, fault_of_missing, IsReader}
 use Rattle.bit_fields.proofs.BitLaws.{drop_more}
 use Rattle.bit_fields.proofs.Composing.{took_then, took_nothing, same_reading, from_here}
 use Rattle.bit_fields.proofs.Parts.{window_missed, fills_exact}
@@ -55,7 +55,7 @@ bits_skipped was start most count p q f g now view live skips few q_is =
         end = skips.end;
         limit = skips.limit;
         extent = λ k. rw (skips.total k, skips.end, skips.limit) refl;
-        reads = λ k. gap_whole count start p (left_of f) (skips.there k) ∙ ap (λ (r : List Bool). Ok (tt, p + count, r)) (sym (skips.left k));
+        reads = λ k. gap_whole count start p (flow_bits f) (skips.there k) ∙ ap (λ (r : List Bool). Ok (tt, p + count, r)) (sym (skips.left k));
       };
       moves = refl;
     })
@@ -76,9 +76,9 @@ stopped_elsewhere rule a Write r s t live why = why
 stopped_elsewhere rule a OutputTooLong r s t live why = why
 
 -- not one bit is left
-pub none_skipped : (was : Bool) (start field p : ℕ) (f g : Flow) (missing : Missing) (fault : Fault) (now new : Reader) → reader_of was p f ≡ now → was ≡ true → Fills 1 f g (Err missing) → fault ≡ fault_of missing field g.limit → new ≡ stopped_at (reader_of was p g) start → Why (gap_of field 1) now fault new
+pub none_skipped : (was : Bool) (start field p : ℕ) (f g : Flow) (missing : Missing) (fault : Fault) (now new : Reader) → reader_of was p f ≡ now → was ≡ true → Fills 1 f g (Err missing) → fault ≡ fault_of_missing missing field g.limit → new ≡ stopped_at (reader_of was p g) start → Why (gap_of field 1) now fault new
 none_skipped was start field p f g missing fault now new view live fills fault_is new_is =
-    rw (fault_is, new_is, ← view, live) (stopped_elsewhere (gap_of field 1) (reader_of true p f) (fault_of missing field g.limit) (reader_of true p g) field start refl
+    rw (fault_is, new_is, ← view, live) (stopped_elsewhere (gap_of field 1) (reader_of true p f) (fault_of_missing missing field g.limit) (reader_of true p g) field start refl
     (window_missed (gap_of field 1) 1 field p f g missing (λ more short. gap_short 1 field p (f.window ++ more) short) fills))
 
 pub missed_is_reader : (was : Bool) (p : ℕ) (f g : Flow) (missing : Missing) → IsReader was p f → was ≡ true → Fills 1 f g (Err missing) → IsReader was p g

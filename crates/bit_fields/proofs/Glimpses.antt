@@ -4,15 +4,15 @@ use Rattle.std.proofs.lemmas.List.{length-append, drop_at}
 use Rattle.bit_grammar.specs.Grammar as grammar
 use Rattle.bit_grammar.specs.Grammar.{Grammar, gives, ◌>>=◌, Spells, reading}
 use Rattle.bit_grammar.specs.Input.{any_bits}
-use Rattle.bit_grammar.proofs.Deciding.{reads, is_spelled}
+use Rattle.bit_grammar.proofs.Readings.Deciding.{reads, is_spelled}
 use Rattle.bit_fields.specs.declared.fault.Fault.{Fault}
 use Rattle.bit_fields.specs.declared.fault.Fault.TheVariants.{Refused, Read, Write, Memory, OutputTooLong, Failed}
 use Rattle.bit_fields.specs.Reader.{Reader, TellsBytes, Breaks, Took, Why, Takes}
 use Rattle.bit_fields.specs.Short.{TookNothing}
 use Rattle.bit_fields.specs.declared.ahead.Sight.{Sight}
-use Rattle.bit_fields.specs.Sight.{told, Shown}
+use Rattle.bit_fields.specs.Sight.{sight_lent, Shown}
 use Rattle.bit_fields.proofs.Composing.{took_then, same_reading}
-use Rattle.bit_fields.specs.Ahead.{InSight, Glimpsed, Sees, advanced, reader_at, beyond}
+use Rattle.bit_fields.specs.Ahead.{InSight, Glimpsed, Sees, reader_further, reader_at, beyond}
 use Rattle.bit_fields.proofs.InflowLaws.{Spends-refl}
 use Rattle.bit_fields.proofs.Gap.{gap_whole}
 
@@ -83,7 +83,7 @@ glimpsed_beyond rule a value b bits seen is =
 pub nothing_then : {A : Type 0} (rule : Grammar A) (a b : Reader) (result : Result A Fault) (c : Reader) → TookNothing a b → Takes rule b result c → Takes rule a result c
 nothing_then rule a b result c nothing t = same_reading (gives (tt {0}) >>= λ v. rule) rule a result c (λ p r. refl) (took_then (gives (tt {0})) (λ v. rule) a (tt {0}) b result c nothing t)
 
-pub seen_took : {A : Type 0} (rule : Grammar A) (r : Reader) (a : InSight) (value : A) (b : InSight) → Sees r a → Glimpsed rule a value b → Took rule r value (advanced r (b.position - a.position)) × Sees (advanced r (b.position - a.position)) b
+pub seen_took : {A : Type 0} (rule : Grammar A) (r : Reader) (a : InSight) (value : A) (b : InSight) → Sees r a → Glimpsed rule a value b → Took rule r value (reader_further r (b.position - a.position)) × Sees (reader_further r (b.position - a.position)) b
 seen_took rule r a value b sees seen =
     let on : a.position ≤ b.position = glimpsed_forward rule a value b seen in
     let place : r.position + (b.position - a.position) ≡ b.position = omega (arith, sees.position) in
@@ -141,10 +141,10 @@ not_caught_up rule r a value b OutputTooLong s other sees seen why = why
 
 -- ---- a reader that lent it
 
-pub shown_caught_up : {A : Type 0} (rule : Grammar A) (r : Reader) (sight : Sight) (value : A) (b : InSight) (s t : Reader) → Shown r sight s → Glimpsed rule (told sight) value b → Took (any_bits (b.position - sight.position)) s tt t → Took rule r value t
+pub shown_caught_up : {A : Type 0} (rule : Grammar A) (r : Reader) (sight : Sight) (value : A) (b : InSight) (s t : Reader) → Shown r sight s → Glimpsed rule (sight_lent sight) value b → Took (any_bits (b.position - sight.position)) s tt t → Took rule r value t
 shown_caught_up rule r sight value b s t shown seen took =
-    caught_up rule r (told sight) value b t shown.sees seen (nothing_then (any_bits (b.position - sight.position)) r s (Ok tt) t shown.nothing took)
+    caught_up rule r (sight_lent sight) value b t shown.sees seen (nothing_then (any_bits (b.position - sight.position)) r s (Ok tt) t shown.nothing took)
 
-pub shown_not_caught_up : {A B : Type 0} (rule : Grammar A) (r : Reader) (sight : Sight) (value : A) (b : InSight) (s : Reader) (fault : Fault) (t : Reader) (other : Grammar B) → Shown r sight s → Glimpsed rule (told sight) value b → Why (any_bits (b.position - sight.position)) s fault t → Why other r fault t
+pub shown_not_caught_up : {A B : Type 0} (rule : Grammar A) (r : Reader) (sight : Sight) (value : A) (b : InSight) (s : Reader) (fault : Fault) (t : Reader) (other : Grammar B) → Shown r sight s → Glimpsed rule (sight_lent sight) value b → Why (any_bits (b.position - sight.position)) s fault t → Why other r fault t
 shown_not_caught_up rule r sight value b s fault t other shown seen why =
-    not_caught_up rule r (told sight) value b fault t other shown.sees seen (nothing_then (any_bits (b.position - sight.position)) r s (Err fault) t shown.nothing why)
+    not_caught_up rule r (sight_lent sight) value b fault t other shown.sees seen (nothing_then (any_bits (b.position - sight.position)) r s (Err fault) t shown.nothing why)

@@ -6,9 +6,9 @@ use Rattle.std.proofs.lemmas.Bool.{cases_lt, false≢true, le-ltb, lt-ltb, and_r
 use Rattle.std.proofs.lemmas.List.{append-nil, length-append, length-take-le}
 use Rattle.std.proofs.Math.Seq.{take-append-add}
 use Rattle.bit_grammar.specs.Bits.{bits_of, bits_of_bytes}
-use Rattle.bit_grammar.proofs.Numbers.{length-bits_of}
+use Rattle.bit_grammar.proofs.Bits.Numbers.{length-bits_of}
 use Rattle.bit_fields.specs.Devices.{Incoming, Gave, GaveNone, GaveWord, Spends, Fails, known_bytes}
-use Rattle.bit_fields.specs.Inflow.{Flow, IsKnown, stop_of, left_of, total_of, is_cut, budget_of, IsFlow, SamePlace, Keeps, NoMore, Lost, RunsOut, Misses, Fills}
+use Rattle.bit_fields.specs.Inflow.{Flow, IsKnown, stop_of, flow_bits, total_of, is_flow_cut, budget_of, IsFlow, SamePlace, KeepsFlow, NoMore, LostFlow, RunsOut, Misses, Fills}
 use Rattle.bit_fields.specs.declared.inflow.Missing.{Missing}
 use Rattle.bit_fields.specs.declared.inflow.Missing.TheVariants.{End, Limit, Read}
 use Rattle.bit_fields.proofs.BitLaws.{bits_of_bytes-append, length-bits_of_bytes}
@@ -99,10 +99,10 @@ SamePlace-refl f = record { loaded = omega arith; exact = refl }
 pub SamePlace-trans : (a b c : Flow) → SamePlace a b → SamePlace b c → SamePlace a c
 SamePlace-trans a b c p q = record { loaded = omega (arith, p.loaded, q.loaded); exact = omega (arith, p.exact, q.exact) }
 
-pub Keeps-refl : (f : Flow) → Keeps f f
+pub Keeps-refl : (f : Flow) → KeepsFlow f f
 Keeps-refl f = record { end = refl; limit = refl; place = SamePlace-refl f; spends = Spends-refl f.incoming (budget_of f); left = λ k. refl; total = λ k. refl }
 
-pub Keeps-trans : (a b c : Flow) → Keeps a b → Keeps b c → Keeps a c
+pub Keeps-trans : (a b c : Flow) → KeepsFlow a b → KeepsFlow b c → KeepsFlow a c
 Keeps-trans a b c p q = record {
   end = q.end ∙ p.end;
   limit = q.limit ∙ p.limit;
@@ -112,7 +112,7 @@ Keeps-trans a b c p q = record {
   total = λ k. q.total (p.spends.tells k) ∙ p.total k;
 }
 
-pub nothing_left : (f : Flow) → stop_of f ≤ f.loaded → left_of f ≡ f.window
+pub nothing_left : (f : Flow) → stop_of f ≤ f.loaded → flow_bits f ≡ f.window
 nothing_left f at = ap (λ (s : List Bool). f.window ++ s) (none_taken (stop_of f - f.loaded) (known_bytes f.incoming.to_come) (omega arith)) ∙ append-nil f.window
 
 -- a wrapper ends the stream within the limit
@@ -129,7 +129,7 @@ stops_at_end f at le = record {
 -- the input was seen to be longer
 pub stops_at_limit : (f : Flow) → stop_of f ≤ f.loaded → f.limit < f.end → f.limit < f.loaded → NoMore f f true
 stops_at_limit f at lt over =
-    let cut : is_cut f ≡ true = and_from (ltb f.limit (total_of f)) (ltb f.limit f.end) (lt-ltb f.limit (total_of f) (omega arith)) (lt-ltb f.limit f.end lt) in
+    let cut : is_flow_cut f ≡ true = and_from (ltb f.limit (total_of f)) (ltb f.limit f.end) (lt-ltb f.limit (total_of f) (omega arith)) (lt-ltb f.limit f.end lt) in
     record {
       keeps = Keeps-refl f;
       window = refl;
@@ -145,8 +145,8 @@ stops_again f is e =
     let end = is.ended e in
     let none : known_bytes f.incoming.to_come ≡ [] = at_end f.incoming.to_come end.0 in
     let few : length (known_bytes f.incoming.to_come) ≡ 0 = ap length none in
-    let left : left_of f ≡ f.window = ap (λ (s : List Bool). f.window ++ s) (none_there (stop_of f - f.loaded) (known_bytes f.incoming.to_come) none) ∙ append-nil f.window in
-    let cut : is_cut f ≡ false = and_left (ltb f.limit (total_of f)) (ltb f.limit f.end) (le-ltb f.limit (total_of f) (omega (arith, end.1, few))) in
+    let left : flow_bits f ≡ f.window = ap (λ (s : List Bool). f.window ++ s) (none_there (stop_of f - f.loaded) (known_bytes f.incoming.to_come) none) ∙ append-nil f.window in
+    let cut : is_flow_cut f ≡ false = and_left (ltb f.limit (total_of f)) (ltb f.limit f.end) (le-ltb f.limit (total_of f) (omega (arith, end.1, few))) in
     record { keeps = Keeps-refl f; window = refl; left = λ k. left; cut = λ k. cut; left_now = left; cut_now = cut }
 
 none_given : (old new : Incoming) (count : ℕ) (into : List ℕ) → count ≡ 0 → Gave old new count into → Gave old new 0 into
@@ -166,8 +166,8 @@ ends_here f i count into going le zero_given given room =
     let none : known_bytes i.to_come ≡ [] = so.0 in
     let before : IsKnown f → known_bytes f.incoming.to_come ≡ [] = so.1 in
     let after : Flow = record f { incoming = i; ended = true } in
-    let left_before : IsKnown f → left_of f ≡ f.window = λ k. ap (λ (s : List Bool). f.window ++ s) (none_there (stop_of f - f.loaded) (known_bytes f.incoming.to_come) (before k)) ∙ append-nil f.window in
-    let left_after : left_of after ≡ f.window = ap (λ (s : List Bool). f.window ++ s) (none_there (stop_of f - f.loaded) (known_bytes i.to_come) none) ∙ append-nil f.window in
+    let left_before : IsKnown f → flow_bits f ≡ f.window = λ k. ap (λ (s : List Bool). f.window ++ s) (none_there (stop_of f - f.loaded) (known_bytes f.incoming.to_come) (before k)) ∙ append-nil f.window in
+    let left_after : flow_bits after ≡ f.window = ap (λ (s : List Bool). f.window ++ s) (none_there (stop_of f - f.loaded) (known_bytes i.to_come) none) ∙ append-nil f.window in
     record {
       keeps = record {
         end = refl;
@@ -221,7 +221,7 @@ front_came i j count into room gave k =
 
 -- bytes came into the window
 pub bytes_came : (f : Flow) (i : Incoming) (count : ℕ) (into : List ℕ) → f.ended ≡ false → f.loaded + count ≤ stop_of f → 0 < count → Gave f.incoming i count into
-    → Keeps f (record f { window = f.window ++ bits_of_bytes (take count into); incoming = i; loaded = f.loaded + count })
+    → KeepsFlow f (record f { window = f.window ++ bits_of_bytes (take count into); incoming = i; loaded = f.loaded + count })
 bytes_came f i count into going le some gave =
     let taken : length (take count into) ≡ count = length-take-le count into gave.fits in
     let len : length (f.window ++ bits_of_bytes (take count into)) ≡ length f.window + 8 * count = omega (arith, length-append f.window (bits_of_bytes (take count into)), length-bits_of_bytes (take count into), taken) in
@@ -238,7 +238,7 @@ bytes_came f i count into going le some gave =
 
 -- the same, as a word
 pub word_came : (f : Flow) (i : Incoming) (room word count : ℕ) (window : List Bool) → f.ended ≡ false → room ≤ stop_of f - f.loaded → f.loaded ≤ stop_of f → (count ≡ 0 → ⊥) → GaveWord f.incoming i room word count
-    → window ≡ f.window ++ bits_of (8 * count) word → Keeps f (record f { window = window; incoming = i; loaded = f.loaded + count }) × (length f.window < length window)
+    → window ≡ f.window ++ bits_of (8 * count) word → KeepsFlow f (record f { window = window; incoming = i; loaded = f.loaded + count }) × (length f.window < length window)
 word_came f i room word count window going le fits some taken is =
     let gave = taken.gave in
     let w : window ≡ f.window ++ bits_of_bytes (take count taken.into) = is ∙ ap (λ (s : List Bool). f.window ++ s) taken.bits in
@@ -258,7 +258,7 @@ flow_after f i room word count window was going le fits free taken is =
     }
 
 -- the source failed
-pub source_failed : (f : Flow) (i : Incoming) → f.ended ≡ false → f.loaded ≤ f.limit → GaveNone f.incoming i → Lost f (record f { incoming = i })
+pub source_failed : (f : Flow) (i : Incoming) → f.ended ≡ false → f.loaded ≤ f.limit → GaveNone f.incoming i → LostFlow f (record f { incoming = i })
 source_failed f i going le none = record {
   place = record { loaded = omega arith; exact = refl };
   fails = rw going (pull_fails f.incoming i (f.limit + 1 - f.loaded) none (omega arith));
@@ -266,11 +266,11 @@ source_failed f i going le none = record {
 
 -- ---- several times
 
-same_cut : (a b : Flow) → Keeps a b → IsKnown a → is_cut a ≡ is_cut b
+same_cut : (a b : Flow) → KeepsFlow a b → IsKnown a → is_flow_cut a ≡ is_flow_cut b
 same_cut a b kept k = rw (kept.limit, kept.end, kept.total k) refl
 
 -- nothing more comes, and the bits that came are too few
-runs_out : (n : ℕ) (a b c : Flow) (by_limit : Bool) → Keeps a b → NoMore b c by_limit → length b.window < n → RunsOut a c n by_limit
+runs_out : (n : ℕ) (a b c : Flow) (by_limit : Bool) → KeepsFlow a b → NoMore b c by_limit → length b.window < n → RunsOut a c n by_limit
 runs_out n a b c by_limit kept none few = record {
   keeps = Keeps-trans a b c kept none.keeps;
   left = λ k. rw (sym (kept.left k)) (rw (none.left (kept.spends.tells k)) few);
@@ -279,13 +279,13 @@ runs_out n a b c by_limit kept none few = record {
   cut_now = none.cut_now;
 }
 
-pub lost_after : (a b c : Flow) → Keeps a b → Lost b c → Lost a c
+pub lost_after : (a b c : Flow) → KeepsFlow a b → LostFlow b c → LostFlow a c
 lost_after a b c kept lost = record {
   place = SamePlace-trans a b c kept.place lost.place;
   fails = fails_later a.incoming (budget_of a) b.incoming (budget_of b) c.incoming 0 kept.spends lost.fails;
 }
 
-pub not_filled : (n : ℕ) (a b c : Flow) (missing : Missing) → Keeps a b → length b.window < n → Misses b c missing → Fills n a c (Err missing)
+pub not_filled : (n : ℕ) (a b c : Flow) (missing : Missing) → KeepsFlow a b → length b.window < n → Misses b c missing → Fills n a c (Err missing)
 not_filled n a b c End kept few none = runs_out n a b c false kept none few
 not_filled n a b c Limit kept few none = runs_out n a b c true kept none few
 not_filled n a b c Read kept few lost = lost_after a b c kept lost

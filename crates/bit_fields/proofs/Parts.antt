@@ -5,14 +5,15 @@ use Rattle.std.proofs.lemmas.List.{length-append, take-append-le, drop-append-le
 use Rattle.bit_grammar.specs.Bits.{number, bits_of_bytes}
 use Rattle.bit_grammar.specs.declared.reason.Reason.TheVariants.{Truncated}
 use Rattle.bit_grammar.specs.Grammar.{Grammar, at, gives, reading}
-use Rattle.bit_grammar.specs.Fields.{fixed, byte, character, char6}
+use Rattle.bit_grammar.specs.Fields.{fixed, byte, char6}
+use Rattle.bit_grammar.specs.Terms.{character}
 use Rattle.bit_fields.specs.declared.fault.Fault.{Fault}
 use Rattle.bit_fields.specs.declared.inflow.Missing.{Missing}
 use Rattle.bit_fields.specs.declared.inflow.Missing.TheVariants.{End, Limit, Read}
 use Rattle.bit_fields.specs.Devices.{known_bytes}
-use Rattle.bit_fields.specs.Inflow.{Flow, stop_of, budget_of, Keeps, Fills}
+use Rattle.bit_fields.specs.Inflow.{Flow, stop_of, budget_of, KeepsFlow, Fills}
 use Rattle.bit_fields.specs.Reader.{Reader, Took, Why, Takes, stopped_at}
-use Rattle.bit_fields.specs.Inside.{part_of, reader_of, fault_of}
+use Rattle.bit_fields.specs.Inside.{part_of, reader_of, fault_of_missing}
 use Rattle.bit_fields.proofs.InflowLaws.{Spends-none}
 use Rattle.bit_fields.proofs.Composing.{fault_then, took_then, took_nothing, from_here}
 
@@ -30,7 +31,7 @@ part_short n start p r short = rw (lt-ltb (length r) n short) refl
 -- ---- the call
 
 -- a rule that takes n bits of the window
-pub window_took : {A : Type 0} (rule : Grammar A) (value : A) (n p : ℕ) (f g : Flow) → Keeps f g → ((rest : List Bool) → reading rule p (g.window ++ rest) ≡ Ok (value, p + n, drop n g.window ++ rest)) → Took rule (reader_of true p f) value (reader_of true (p + n) (record g { window = drop n g.window }))
+pub window_took : {A : Type 0} (rule : Grammar A) (value : A) (n p : ℕ) (f g : Flow) → KeepsFlow f g → ((rest : List Bool) → reading rule p (g.window ++ rest) ≡ Ok (value, p + n, drop n g.window ++ rest)) → Took rule (reader_of true p f) value (reader_of true (p + n) (record g { window = drop n g.window }))
 window_took rule value n p f g kept read = record {
   was_live = refl;
   live = refl;
@@ -43,7 +44,7 @@ window_took rule value n p f g kept read = record {
 }
 
 -- a rule that is truncated where fewer than n bits are left
-pub window_missed : {A : Type 0} (rule : Grammar A) (n start p : ℕ) (f g : Flow) (missing : Missing) → ((more : List Bool) → length (f.window ++ more) < n → reading rule p (f.window ++ more) ≡ Err (at Truncated start)) → Fills n f g (Err missing) → Why rule (reader_of true p f) (fault_of missing start g.limit) (stopped_at (reader_of true p g) start)
+pub window_missed : {A : Type 0} (rule : Grammar A) (n start p : ℕ) (f g : Flow) (missing : Missing) → ((more : List Bool) → length (f.window ++ more) < n → reading rule p (f.window ++ more) ≡ Err (at Truncated start)) → Fills n f g (Err missing) → Why rule (reader_of true p f) (fault_of_missing missing start g.limit) (stopped_at (reader_of true p g) start)
 window_missed rule n start p f g End short out = (
   record { was_live = refl; failed = refl; goes_on = Spends-none f.incoming (budget_of f) g.incoming (budget_of g) out.keeps.spends },
   λ k. rw (short (bits_of_bytes (take (stop_of f - f.loaded) (known_bytes f.incoming.to_come))) (out.left k)) (rw (out.cut k) refl),
@@ -69,7 +70,7 @@ live_from false w n empty some there = absurd (omega (arith, ap length (empty re
 pub record Filled (n p : ℕ) (f : Flow) (alive : Bool) (q : ℕ) (g : Flow) : Type 0 where
   pub live : alive ≡ true
   pub position : q ≡ p
-  pub keeps : Keeps f g
+  pub keeps : KeepsFlow f g
   pub there : n ≤ length g.window
 
 pub took_as : (n start p q value after_q : ℕ) (was live : Bool) (f g after : Flow) (now : Reader) → was ≡ true → reader_of was p f ≡ now → Filled n p f live q g → value ≡ number (take n g.window) → after_q ≡ q + n → after ≡ record g { window = drop n g.window }
@@ -77,7 +78,7 @@ pub took_as : (n start p q value after_q : ℕ) (was live : Bool) (f g after : F
 took_as n start p q value after_q was live f g after now was_live now_is filled value_is q_is after_is =
     rw (← now_is, was_live, filled.live, value_is, q_is, filled.position, after_is) (window_took (part_of start n) (number (take n g.window)) n p f g filled.keeps (λ rest. part_at n start p g.window rest filled.there))
 
-pub missed_as : (n start p : ℕ) (was : Bool) (f g : Flow) (missing : Missing) (now new : Reader) (fault : Fault) → was ≡ true → reader_of was p f ≡ now → Fills n f g (Err missing) → fault ≡ fault_of missing start g.limit → new ≡ stopped_at (reader_of was p g) start
+pub missed_as : (n start p : ℕ) (was : Bool) (f g : Flow) (missing : Missing) (now new : Reader) (fault : Fault) → was ≡ true → reader_of was p f ≡ now → Fills n f g (Err missing) → fault ≡ fault_of_missing missing start g.limit → new ≡ stopped_at (reader_of was p g) start
     → Why (part_of start n) now fault new
 missed_as n start p was f g missing now new fault was_live now_is fills fault_is new_is =
     rw (← now_is, new_is, was_live, fault_is) (window_missed (part_of start n) n start p f g missing (λ more short. part_short n start p (f.window ++ more) short) fills)

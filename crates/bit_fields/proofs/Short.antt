@@ -10,14 +10,15 @@ use Rattle.std.proofs.Math.Pow.{pow_mono, mod-mod-pow}
 use Rattle.bit_grammar.specs.declared.reason.Reason.TheVariants.{Truncated}
 use Rattle.bit_grammar.specs.Bits.{bits_of, number}
 use Rattle.bit_grammar.specs.Grammar.{at, gives, ◌>>=◌, reading}
-use Rattle.bit_grammar.specs.Fields.{chunks, chunk_limit, vbr}
-use Rattle.bit_grammar.proofs.Numbers.{length-bits_of, number_below}
-use Rattle.bit_fields.specs.Short.{Ends, EndsAt, gathered, TookNothing}
-use Rattle.bit_fields.specs.Inflow.{Flow, Keeps, Fills}
+use Rattle.bit_grammar.specs.Fields.{chunks, vbr}
+use Rattle.bit_grammar.specs.Terms.{chunk_limit}
+use Rattle.bit_grammar.proofs.Bits.Numbers.{length-bits_of, number_below}
+use Rattle.bit_fields.specs.Short.{EndsChunks, EndsAt, payload_number, TookNothing}
+use Rattle.bit_fields.specs.Inflow.{Flow, KeepsFlow, Fills}
 use Rattle.bit_fields.specs.declared.window.TheConstants.{FOUR_TOPS}
 use Rattle.bit_fields.specs.declared.fault.Fault.{Fault}
 use Rattle.bit_fields.specs.declared.inflow.Missing.{Missing}
-use Rattle.bit_fields.specs.Inside.{reader_of, fault_of}
+use Rattle.bit_fields.specs.Inside.{reader_of, fault_of_missing}
 use Rattle.bit_fields.specs.Reader.{Reader, Took, Why, Takes, stopped_at}
 use Rattle.bit_fields.proofs.BitLaws.{number-bits_mod, take-bits_of, window_rest, rest_below, drop_more, bits_of-number}
 use Rattle.bit_fields.proofs.InflowLaws.{Keeps-refl}
@@ -27,7 +28,7 @@ use Rattle.bit_fields.proofs.Chunks.{chunk_step, after_number, limit_times}
 
 -- ---- how many chunks
 
-ends_next : (payload count word : ℕ) → word / 2 ^ payload % 2 ≡ 1 → Ends payload count (word / 2 ^ suc payload) → Ends payload (suc count) word
+ends_next : (payload count word : ℕ) → word / 2 ^ payload % 2 ≡ 1 → EndsChunks payload count (word / 2 ^ suc payload) → EndsChunks payload (suc count) word
 ends_next payload zero word goes ends = absurd ends
 ends_next payload (suc count) word goes ends = (goes, ends)
 
@@ -35,16 +36,16 @@ ends_next payload (suc count) word goes ends = (goes, ends)
 behind_bit : (payload place word b : ℕ) → word / 2 ^ (suc payload + place) % 2 ≡ b → word / 2 ^ suc payload / 2 ^ place % 2 ≡ b
 behind_bit payload place word b is = ap (λ (x : ℕ). x % 2) (shr-shr word (suc payload) place) ∙ is
 
-ends_1 : (payload word : ℕ) → word / 2 ^ payload % 2 ≡ 0 → Ends payload 1 word
+ends_1 : (payload word : ℕ) → word / 2 ^ payload % 2 ≡ 0 → EndsChunks payload 1 word
 ends_1 payload word off = off
 
-ends_2 : (payload word : ℕ) → word / 2 ^ payload % 2 ≡ 1 → word / 2 ^ (suc payload + payload) % 2 ≡ 0 → Ends payload 2 word
+ends_2 : (payload word : ℕ) → word / 2 ^ payload % 2 ≡ 1 → word / 2 ^ (suc payload + payload) % 2 ≡ 0 → EndsChunks payload 2 word
 ends_2 payload word on off = ends_next payload 1 word on (ends_1 payload (word / 2 ^ suc payload) (behind_bit payload payload word 0 off))
 
-ends_3 : (payload word : ℕ) → word / 2 ^ payload % 2 ≡ 1 → word / 2 ^ (suc payload + payload) % 2 ≡ 1 → word / 2 ^ (suc payload + (suc payload + payload)) % 2 ≡ 0 → Ends payload 3 word
+ends_3 : (payload word : ℕ) → word / 2 ^ payload % 2 ≡ 1 → word / 2 ^ (suc payload + payload) % 2 ≡ 1 → word / 2 ^ (suc payload + (suc payload + payload)) % 2 ≡ 0 → EndsChunks payload 3 word
 ends_3 payload word on second off = ends_next payload 2 word on (ends_2 payload (word / 2 ^ suc payload) (behind_bit payload payload word 1 second) (behind_bit payload (suc payload + payload) word 0 off))
 
-ends_4 : (payload word : ℕ) → word / 2 ^ payload % 2 ≡ 1 → word / 2 ^ (suc payload + payload) % 2 ≡ 1 → word / 2 ^ (suc payload + (suc payload + payload)) % 2 ≡ 1 → word / 2 ^ (suc payload + (suc payload + (suc payload + payload))) % 2 ≡ 0 → Ends payload 4 word
+ends_4 : (payload word : ℕ) → word / 2 ^ payload % 2 ≡ 1 → word / 2 ^ (suc payload + payload) % 2 ≡ 1 → word / 2 ^ (suc payload + (suc payload + payload)) % 2 ≡ 1 → word / 2 ^ (suc payload + (suc payload + (suc payload + payload))) % 2 ≡ 0 → EndsChunks payload 4 word
 ends_4 payload word on second third off = ends_next payload 3 word on (ends_3 payload (word / 2 ^ suc payload) (behind_bit payload payload word 1 second) (behind_bit payload (suc payload + payload) word 1 third) (behind_bit payload (suc payload + (suc payload + payload)) word 0 off))
 
 -- the bits that end chunks
@@ -147,13 +148,13 @@ first_reads payload start permitted places held word p rest there =
     sym (chunk_step payload start permitted places p (w ++ rest))
     ∙ rw (part_at (suc payload) start p w rest many, chunk, behind) refl
 
-pub short_reads : (count payload start permitted places held word p : ℕ) (rest : List Bool) → Ends payload count word → count ≤ permitted → count * suc payload ≤ held → count * payload ≤ places
-    → reading (chunks payload start permitted places) p (bits_of held word ++ rest) ≡ Ok (gathered payload count word, p + count * suc payload, drop (count * suc payload) (bits_of held word) ++ rest)
+pub short_reads : (count payload start permitted places held word p : ℕ) (rest : List Bool) → EndsChunks payload count word → count ≤ permitted → count * suc payload ≤ held → count * payload ≤ places
+    → reading (chunks payload start permitted places) p (bits_of held word ++ rest) ≡ Ok (payload_number payload count word, p + count * suc payload, drop (count * suc payload) (bits_of held word) ++ rest)
 short_reads zero payload start permitted places held word p rest ends few there fits = absurd ends
 short_reads (suc zero) payload start zero places held word p rest ends few there fits = absurd (omega (arith, few))
 short_reads (suc zero) payload start (suc permitted) places held word p rest ends few there fits =
     let behind : bits_of (held - suc payload) (word / 2 ^ suc payload) ≡ drop (suc payload) (bits_of held word) = window_rest held word (suc payload) (bits_of held word) (omega (arith, there)) refl in
-    let value : word % 2 ^ payload ≡ gathered payload 1 word = omega arith in
+    let value : word % 2 ^ payload ≡ payload_number payload 1 word = omega arith in
     let bits : 1 * suc payload ≡ suc payload = omega arith in
     first_reads payload start permitted places held word p rest (omega (arith, there))
     ∙ rw (payload_is payload word, ends_there payload word ends, fits_places payload places word (omega (arith, fits)), behind, bits, ← value) refl
@@ -186,7 +187,7 @@ four_at_most (suc (suc (suc zero))) n few narrow = omega (arith, narrow)
 four_at_most (suc (suc (suc (suc zero)))) n few narrow = omega (arith, narrow)
 four_at_most (suc (suc (suc (suc (suc k))))) n few narrow = absurd (omega (arith, few))
 
-pub vbr_reads : (payload count p : ℕ) (w rest : List Bool) → 1 ≤ payload → payload ≤ 13 → count ≤ 4 → Ends payload count (number w) → suc payload * count ≤ length w → reading (vbr (suc payload)) p (w ++ rest) ≡ Ok (gathered payload count (number w), p + suc payload * count, drop (suc payload * count) w ++ rest)
+pub vbr_reads : (payload count p : ℕ) (w rest : List Bool) → 1 ≤ payload → payload ≤ 13 → count ≤ 4 → EndsChunks payload count (number w) → suc payload * count ≤ length w → reading (vbr (suc payload)) p (w ++ rest) ≡ Ok (payload_number payload count (number w), p + suc payload * count, drop (suc payload * count) w ++ rest)
 unfolding vbr
 vbr_reads payload count p w rest some narrow few ends there =
     let turned : count * suc payload ≡ suc payload * count = omega arith in
@@ -194,16 +195,16 @@ vbr_reads payload count p w rest some narrow few ends there =
     let read = short_reads count payload p (chunk_limit payload) 64 (length w) (number w) p rest ends (enough count (chunk_limit payload) payload few narrow (limit_times payload some).0) (omega (arith, there, turned)) (omega (arith, most)) in
     rw (bits_of-number w, turned) at read
 
-took_count : (n count p q value : ℕ) (live : Bool) (f after : Flow) (now : Reader) → live ≡ true → reader_of live p f ≡ now → 2 ≤ n → n ≤ 14 → count ≤ 4 → Ends (n - 1) count (number f.window) → n * count ≤ length f.window → value ≡ gathered (n - 1) count (number f.window) → q ≡ p + n * count → after ≡ record f { window = drop (n * count) f.window }
+took_count : (n count p q value : ℕ) (live : Bool) (f after : Flow) (now : Reader) → live ≡ true → reader_of live p f ≡ now → 2 ≤ n → n ≤ 14 → count ≤ 4 → EndsChunks (n - 1) count (number f.window) → n * count ≤ length f.window → value ≡ payload_number (n - 1) count (number f.window) → q ≡ p + n * count → after ≡ record f { window = drop (n * count) f.window }
     → Took (vbr n) now value (reader_of live q after)
 took_count n count p q value live f after now alive now_is two narrow few ends there value_is q_is after_is =
     let width : n ≡ suc (n - 1) = omega (arith, two) in
-    let read : (rest : List Bool) → reading (vbr n) p (f.window ++ rest) ≡ Ok (gathered (n - 1) count (number f.window), p + n * count, drop (n * count) f.window ++ rest) = λ rest.
-    subst (λ (m : ℕ). reading (vbr m) p (f.window ++ rest) ≡ Ok (gathered (n - 1) count (number f.window), p + m * count, drop (m * count) f.window ++ rest)) (sym width)
+    let read : (rest : List Bool) → reading (vbr n) p (f.window ++ rest) ≡ Ok (payload_number (n - 1) count (number f.window), p + n * count, drop (n * count) f.window ++ rest) = λ rest.
+    subst (λ (m : ℕ). reading (vbr m) p (f.window ++ rest) ≡ Ok (payload_number (n - 1) count (number f.window), p + m * count, drop (m * count) f.window ++ rest)) (sym width)
     (vbr_reads (n - 1) count p f.window rest (omega (arith, two)) (omega (arith, narrow)) few ends (subst (λ (m : ℕ). m * count ≤ length f.window) width there)) in
-    rw (← now_is, alive, value_is, q_is, after_is) (window_took (vbr n) (gathered (n - 1) count (number f.window)) (n * count) p f f (Keeps-refl f) read)
+    rw (← now_is, alive, value_is, q_is, after_is) (window_took (vbr n) (payload_number (n - 1) count (number f.window)) (n * count) p f f (Keeps-refl f) read)
 
-pub short_took : (n bits p q value : ℕ) (live : Bool) (f after : Flow) (now : Reader) → live ≡ true → reader_of live p f ≡ now → 2 ≤ n → n ≤ 14 → EndsAt n bits (number f.window) → bits ≤ length f.window → ((count : ℕ) → count ≤ 4 → bits ≡ n * count → value ≡ gathered (n - 1) count (number f.window)) → q ≡ p + bits → after ≡ record f { window = drop bits f.window }
+pub short_took : (n bits p q value : ℕ) (live : Bool) (f after : Flow) (now : Reader) → live ≡ true → reader_of live p f ≡ now → 2 ≤ n → n ≤ 14 → EndsAt n bits (number f.window) → bits ≤ length f.window → ((count : ℕ) → count ≤ 4 → bits ≡ n * count → value ≡ payload_number (n - 1) count (number f.window)) → q ≡ p + bits → after ≡ record f { window = drop bits f.window }
     → Took (vbr n) now value (reader_of live q after)
 short_took n bits p q value live f after now alive now_is two narrow at_bits there value_is q_is after_is =
     took_count n at_bits.0 p q value live f after now alive now_is two narrow at_bits.1 at_bits.3 (subst (λ (k : ℕ). k ≤ length f.window) at_bits.2 there) (value_is at_bits.0 at_bits.1 at_bits.2) (subst (λ (k : ℕ). q ≡ p + k) at_bits.2 q_is) (subst (λ (k : ℕ). after ≡ record f { window = drop k f.window }) at_bits.2 after_is)
@@ -213,7 +214,7 @@ short_took n bits p q value live f after now alive now_is two narrow at_bits the
 pub word_is : (held word : ℕ) (s : List Bool) → bits_of held word ≡ s → word < 2 ^ held → number s ≡ word
 word_is held word s is below = ap number (sym is) ∙ number-bits_mod held word ∙ mod-eq_of_lt below
 
-gathered_none : (payload count : ℕ) → gathered payload count 0 ≡ 0
+gathered_none : (payload count : ℕ) → payload_number payload count 0 ≡ 0
 gathered_none payload zero = refl
 gathered_none payload (suc count) =
     let low : 0 % 2 ^ payload ≡ 0 = mod-eq_of_lt (pow_pos payload) in
@@ -221,7 +222,7 @@ gathered_none payload (suc count) =
     rw (low, high, gathered_none payload count) (omega arith)
 
 -- chunks behind those that were cut off are zeros
-pub gathered_cut : (payload count more word : ℕ) → gathered payload (count + more) (word % 2 ^ (suc payload * count)) ≡ gathered payload count word
+pub gathered_cut : (payload count more word : ℕ) → payload_number payload (count + more) (word % 2 ^ (suc payload * count)) ≡ payload_number payload count word
 gathered_cut payload zero more word =
     let none : suc payload * 0 ≡ 0 = omega arith in
     let cut : word % 1 ≡ 0 = omega arith in
@@ -235,15 +236,15 @@ gathered_cut payload (suc count) more word =
     let one : suc count + more ≡ suc (count + more) = omega arith in
     rw (one, wide, low, high, gathered_cut payload count more (word / 2 ^ suc payload)) refl
 
-pub gathered_below : (payload count word : ℕ) → gathered payload count word < 2 ^ (payload * count)
+pub gathered_below : (payload count word : ℕ) → payload_number payload count word < 2 ^ (payload * count)
 gathered_below payload zero word = let none : payload * 0 ≡ 0 = omega arith in rw none (omega arith)
 gathered_below payload (suc count) word =
     let wide : payload * suc count ≡ payload + payload * count = omega arith in
     let high = gathered_below payload count (word / 2 ^ suc payload) in
-    let all = mul-add-lt (gathered payload count (word / 2 ^ suc payload)) (2 ^ payload) (word % 2 ^ payload) (2 ^ (payload * count)) high (mod_below word (2 ^ payload) (pow_pos payload)) in
+    let all = mul-add-lt (payload_number payload count (word / 2 ^ suc payload)) (2 ^ payload) (word % 2 ^ payload) (2 ^ (payload * count)) high (mod_below word (2 ^ payload) (pow_pos payload)) in
     rw (wide, pow-add 2 payload (payload * count)) (omega (arith, all))
 
-pub gathered_fits : (payload count word : ℕ) → count ≤ 4 → payload ≤ 13 → gathered payload count word < 2 ^ 52
+pub gathered_fits : (payload count word : ℕ) → count ≤ 4 → payload ≤ 13 → payload_number payload count word < 2 ^ 52
 gathered_fits payload count word few narrow =
     let most : payload * count ≤ 52 = times count few in
     let wide : 2 ^ (payload * count) ≤ 2 ^ 52 = pow_mono {i = payload * count} {j = 52} most in
@@ -264,37 +265,37 @@ bits_end n held word t s two narrow most is below some t_is tops_fits =
     let wide : 2 ^ held ≤ 2 ^ 64 = pow_mono {i = held} {j = 64} most in
     rw (word_is held word s is below) (number_ends n word t two (lowest word (tops_of (n - 1) (2 * n - 1) (3 * n - 1) (4 * n - 1)) t (omega (arith, below, wide)) tops_fits some t_is))
 
-pub gathered_as : (n bits count held word value : ℕ) (s : List Bool) → bits ≡ n * count → 2 ≤ n → n ≤ 14 → count ≤ 4 → bits_of held word ≡ s → word < 2 ^ held → value ≡ gathered (n - 1) 4 (bit_and word (1 * 2 ^ bits % 2 ^ 64 - 1)) → value ≡ gathered (n - 1) count (number s)
+pub gathered_as : (n bits count held word value : ℕ) (s : List Bool) → bits ≡ n * count → 2 ≤ n → n ≤ 14 → count ≤ 4 → bits_of held word ≡ s → word < 2 ^ held → value ≡ payload_number (n - 1) 4 (bit_and word (1 * 2 ^ bits % 2 ^ 64 - 1)) → value ≡ payload_number (n - 1) count (number s)
 gathered_as n bits count held word value s bits_is two narrow few is below value_is =
     let most : n * count ≤ 56 = four_at_most count n few narrow in
     let width : n ≡ suc (n - 1) = omega (arith, two) in
     let whole : count + (4 - count) ≡ 4 = omega (arith, few) in
-    let cut : gathered (n - 1) 4 (word % 2 ^ (suc (n - 1) * count)) ≡ gathered (n - 1) count word = subst (λ (k : ℕ). gathered (n - 1) k (word % 2 ^ (suc (n - 1) * count)) ≡ gathered (n - 1) count word) whole (gathered_cut (n - 1) count (4 - count) word) in
+    let cut : payload_number (n - 1) 4 (word % 2 ^ (suc (n - 1) * count)) ≡ payload_number (n - 1) count word = subst (λ (k : ℕ). payload_number (n - 1) k (word % 2 ^ (suc (n - 1) * count)) ≡ payload_number (n - 1) count word) whole (gathered_cut (n - 1) count (4 - count) word) in
     let masked : bit_and word (1 * 2 ^ (n * count) % 2 ^ 64 - 1) ≡ word % 2 ^ (n * count) = rw (one_shl (n * count) 64 (omega (arith, most))) (and_mask word (n * count)) in
-    value_is ∙ ap (gathered (n - 1) 4) (ap (λ (k : ℕ). bit_and word (1 * 2 ^ k % 2 ^ 64 - 1)) bits_is ∙ masked ∙ ap (λ (m : ℕ). word % 2 ^ (m * count)) width) ∙ cut ∙ ap (gathered (n - 1) count) (sym (word_is held word s is below))
+    value_is ∙ ap (payload_number (n - 1) 4) (ap (λ (k : ℕ). bit_and word (1 * 2 ^ k % 2 ^ 64 - 1)) bits_is ∙ masked ∙ ap (λ (m : ℕ). word % 2 ^ (m * count)) width) ∙ cut ∙ ap (payload_number (n - 1) count) (sym (word_is held word s is below))
 
 payload_mask : (n x : ℕ) → n ≤ 14 → bit_and x (1 * 2 ^ (n - 1) % 2 ^ 64 - 1) ≡ x % 2 ^ (n - 1)
 payload_mask n x narrow = rw (one_shl (n - 1) 64 (omega (arith, narrow))) (and_mask x (n - 1))
 
-gathered_next : (payload count w v low high value : ℕ) → v ≡ w / 2 ^ suc payload → high ≡ gathered payload count v → low ≡ w % 2 ^ payload → value ≡ low + 2 ^ payload * high → value ≡ gathered payload (suc count) w
+gathered_next : (payload count w v low high value : ℕ) → v ≡ w / 2 ^ suc payload → high ≡ payload_number payload count v → low ≡ w % 2 ^ payload → value ≡ low + 2 ^ payload * high → value ≡ payload_number payload (suc count) w
 gathered_next payload count w v low high value v_is high_is low_is value_is = rw (low_is, high_is, v_is) at value_is
 
-pub one_gathered : (n word value : ℕ) → 2 ≤ n → n ≤ 14 → value ≡ bit_and word (1 * 2 ^ (n - 1) % 2 ^ 64 - 1) → value ≡ gathered (n - 1) 1 word
+pub one_gathered : (n word value : ℕ) → 2 ≤ n → n ≤ 14 → value ≡ bit_and word (1 * 2 ^ (n - 1) % 2 ^ 64 - 1) → value ≡ payload_number (n - 1) 1 word
 one_gathered n word value two narrow is = let e : word % 2 ^ (n - 1) ≡ word % 2 ^ (n - 1) + 2 ^ (n - 1) * 0 = omega arith in is ∙ payload_mask n word narrow ∙ e
 
-pub more_gathered : (n count place next word high value : ℕ) → 2 ≤ n → n ≤ 14 → next ≡ place + n → high ≡ gathered (n - 1) count (word / 2 ^ next) → value ≡ bit_and (word / 2 ^ place) (1 * 2 ^ (n - 1) % 2 ^ 64 - 1) + 2 ^ (n - 1) * high → value ≡ gathered (n - 1) (suc count) (word / 2 ^ place)
+pub more_gathered : (n count place next word high value : ℕ) → 2 ≤ n → n ≤ 14 → next ≡ place + n → high ≡ payload_number (n - 1) count (word / 2 ^ next) → value ≡ bit_and (word / 2 ^ place) (1 * 2 ^ (n - 1) % 2 ^ 64 - 1) + 2 ^ (n - 1) * high → value ≡ payload_number (n - 1) (suc count) (word / 2 ^ place)
 more_gathered n count place next word high value two narrow next_is high_is value_is =
     let behind : place + suc (n - 1) ≡ next = omega (arith, two, next_is) in
     let moved : word / 2 ^ next ≡ word / 2 ^ place / 2 ^ suc (n - 1) = ap (λ (k : ℕ). word / 2 ^ k) (sym behind) ∙ sym (shr-shr word place (suc (n - 1))) in
     gathered_next (n - 1) count (word / 2 ^ place) (word / 2 ^ next) (bit_and (word / 2 ^ place) (1 * 2 ^ (n - 1) % 2 ^ 64 - 1)) high value moved high_is (payload_mask n (word / 2 ^ place) narrow) value_is
 
-pub all_gathered : (n count word high value : ℕ) → 2 ≤ n → n ≤ 14 → high ≡ gathered (n - 1) count (word / 2 ^ n) → value ≡ bit_and word (1 * 2 ^ (n - 1) % 2 ^ 64 - 1) + 2 ^ (n - 1) * high → value ≡ gathered (n - 1) (suc count) word
+pub all_gathered : (n count word high value : ℕ) → 2 ≤ n → n ≤ 14 → high ≡ payload_number (n - 1) count (word / 2 ^ n) → value ≡ bit_and word (1 * 2 ^ (n - 1) % 2 ^ 64 - 1) + 2 ^ (n - 1) * high → value ≡ payload_number (n - 1) (suc count) word
 all_gathered n count word high value two narrow high_is value_is =
     let width : n ≡ suc (n - 1) = omega (arith, two) in
     gathered_next (n - 1) count word (word / 2 ^ n) (bit_and word (1 * 2 ^ (n - 1) % 2 ^ 64 - 1)) high value (ap (λ (k : ℕ). word / 2 ^ k) width) high_is (payload_mask n word narrow) value_is
 
 pub four_is : (n word third second value : ℕ) → 2 ≤ n → n ≤ 14 → third ≡ bit_and (word / 2 ^ (2 * n)) (1 * 2 ^ (n - 1) % 2 ^ 64 - 1) + 2 ^ (n - 1) * bit_and (word / 2 ^ (3 * n)) (1 * 2 ^ (n - 1) % 2 ^ 64 - 1) → second ≡ bit_and (word / 2 ^ n) (1 * 2 ^ (n - 1) % 2 ^ 64 - 1) + 2 ^ (n - 1) * third
-    → value ≡ bit_and word (1 * 2 ^ (n - 1) % 2 ^ 64 - 1) + 2 ^ (n - 1) * second → value ≡ gathered (n - 1) 4 word
+    → value ≡ bit_and word (1 * 2 ^ (n - 1) % 2 ^ 64 - 1) + 2 ^ (n - 1) * second → value ≡ payload_number (n - 1) 4 word
 four_is n word third second value two narrow third_is second_is value_is =
     let fourth = one_gathered n (word / 2 ^ (3 * n)) (bit_and (word / 2 ^ (3 * n)) (1 * 2 ^ (n - 1) % 2 ^ 64 - 1)) two narrow refl in
     let three = more_gathered n 1 (2 * n) (3 * n) word (bit_and (word / 2 ^ (3 * n)) (1 * 2 ^ (n - 1) % 2 ^ 64 - 1)) third two narrow (omega arith) fourth third_is in
@@ -317,7 +318,7 @@ held_beyond payload held word below on = elim (cases_lt held (suc payload)) [
   | inr le ↦ le
 ]
 
-short_truncated : (count payload start permitted places held word p : ℕ) (more : List Bool) → word < 2 ^ held → Ends payload count word → count ≤ permitted → count * payload ≤ places → length (bits_of held word ++ more) < count * suc payload
+short_truncated : (count payload start permitted places held word p : ℕ) (more : List Bool) → word < 2 ^ held → EndsChunks payload count word → count ≤ permitted → count * payload ≤ places → length (bits_of held word ++ more) < count * suc payload
     → reading (chunks payload start permitted places) p (bits_of held word ++ more) ≡ Err (at Truncated start)
 short_truncated zero payload start permitted places held word p more below ends few fits short = absurd ends
 short_truncated (suc zero) payload start zero places held word p more below ends few fits short = absurd (omega (arith, few))
@@ -333,7 +334,7 @@ short_truncated (suc (suc count)) payload start (suc permitted) places held word
     first_reads payload start permitted places held word p more there
     ∙ rw (payload_is payload word, goes_there payload word ends.0, fits_places payload places word (omega (arith, fits)), later) refl
 
-vbr_truncated : (payload count p : ℕ) (w more : List Bool) → 1 ≤ payload → payload ≤ 13 → count ≤ 4 → Ends payload count (number w) → length (w ++ more) < suc payload * count → reading (vbr (suc payload)) p (w ++ more) ≡ Err (at Truncated p)
+vbr_truncated : (payload count p : ℕ) (w more : List Bool) → 1 ≤ payload → payload ≤ 13 → count ≤ 4 → EndsChunks payload count (number w) → length (w ++ more) < suc payload * count → reading (vbr (suc payload)) p (w ++ more) ≡ Err (at Truncated p)
 unfolding vbr
 vbr_truncated payload count p w more some narrow few ends short =
     let turned : suc payload * count ≡ count * suc payload = omega arith in
@@ -341,12 +342,12 @@ vbr_truncated payload count p w more some narrow few ends short =
     let read = short_truncated count payload p (chunk_limit payload) 64 (length w) (number w) p more (number_below w) ends (enough count (chunk_limit payload) payload few narrow (limit_times payload some).0) (omega (arith, most)) in
     rw (bits_of-number w, ← turned) at read short
 
-pub short_missed : (n bits p : ℕ) (was : Bool) (f g : Flow) (missing : Missing) (now new : Reader) (fault : Fault) → was ≡ true → reader_of was p f ≡ now → 2 ≤ n → n ≤ 14 → EndsAt n bits (number f.window) → Fills bits f g (Err missing) → fault ≡ fault_of missing p g.limit → new ≡ stopped_at (reader_of was p g) p
+pub short_missed : (n bits p : ℕ) (was : Bool) (f g : Flow) (missing : Missing) (now new : Reader) (fault : Fault) → was ≡ true → reader_of was p f ≡ now → 2 ≤ n → n ≤ 14 → EndsAt n bits (number f.window) → Fills bits f g (Err missing) → fault ≡ fault_of_missing missing p g.limit → new ≡ stopped_at (reader_of was p g) p
     → Why (vbr n) now fault new
 short_missed n bits p was f g missing now new fault was_live now_is two narrow at_bits fills_bits fault_is new_is =
     let count : ℕ = at_bits.0 in
     let few : count ≤ 4 = at_bits.1 in
-    let ends : Ends (n - 1) count (number f.window) = at_bits.3 in
+    let ends : EndsChunks (n - 1) count (number f.window) = at_bits.3 in
     let fills : Fills (n * count) f g (Err missing) = subst (λ (k : ℕ). Fills k f g (Err missing)) at_bits.2 fills_bits in
     let width : n ≡ suc (n - 1) = omega (arith, two) in
     let read : (more : List Bool) → length (f.window ++ more) < n * count → reading (vbr n) p (f.window ++ more) ≡ Err (at Truncated p) = λ more short.
@@ -355,7 +356,7 @@ short_missed n bits p was f g missing now new fault was_live now_is two narrow a
     rw (← now_is, new_is, was_live, fault_is) (window_missed (vbr n) (n * count) p p f g missing read fills)
 
 -- bytes came, and nothing was read
-pub filled_as : (p : ℕ) (live : Bool) (f g : Flow) (now : Reader) → live ≡ true → reader_of live p f ≡ now → Keeps f g → TookNothing now (reader_of live p g)
+pub filled_as : (p : ℕ) (live : Bool) (f g : Flow) (now : Reader) → live ≡ true → reader_of live p f ≡ now → KeepsFlow f g → TookNothing now (reader_of live p g)
 filled_as p live f g now alive now_is kept =
     let same : p + 0 ≡ p = omega arith in
     let read : (rest : List Bool) → reading (gives (tt {0})) p (g.window ++ rest) ≡ Ok (tt {0}, p + 0, drop 0 g.window ++ rest) = λ rest. rw same refl in

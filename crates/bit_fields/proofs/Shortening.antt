@@ -5,7 +5,7 @@ use Rattle.std.proofs.lemmas.List.{length-append, length-take, take-append-le, t
 use Rattle.std.proofs.Math.Seq.{take-append-add}
 use Rattle.bit_grammar.specs.Bits.{bits_of_bytes}
 use Rattle.bit_fields.specs.Devices.{known_bytes}
-use Rattle.bit_fields.specs.Inflow.{Flow, stop_of, left_of, total_of, shortened}
+use Rattle.bit_fields.specs.Inflow.{Flow, stop_of, flow_bits, total_of, flow_ended_at}
 use Rattle.bit_fields.proofs.BitLaws.{length-bits_of_bytes, bits_of_bytes-take, take_whole}
 use Rattle.bit_fields.proofs.InflowLaws.{nothing_left}
 
@@ -22,13 +22,13 @@ take_both a b c bytes is = elim (cases_lt b a) [
 ]
 
 -- what is left of a stream that is ended at a byte ahead
-pub left_shortened : (f : Flow) (p end : ℕ) → f.limit ≤ f.end → p + length f.window ≡ 8 * min f.loaded (stop_of f) → p ≤ 8 * end → left_of (shortened f end) ≡ take (8 * end - p) (left_of f)
+pub left_shortened : (f : Flow) (p end : ℕ) → f.limit ≤ f.end → p + length f.window ≡ 8 * min f.loaded (stop_of f) → p ≤ 8 * end → flow_bits (flow_ended_at f end) ≡ take (8 * end - p) (flow_bits f)
 left_shortened f p end high place ahead =
     let to : List ℕ = known_bytes f.incoming.to_come in
     elim (cases_lt end (min f.loaded f.limit)) [
       | inl lt ↦
           let n : length f.window - 8 * (min f.loaded f.limit - end) ≡ 8 * end - p = omega arith in
-          nothing_left (shortened f end) (omega arith) ∙ ap (λ (k : ℕ). take k f.window) n ∙ sym (take-append-le (8 * end - p) f.window (bits_of_bytes (take (stop_of f - f.loaded) to)) (omega arith))
+          nothing_left (flow_ended_at f end) (omega arith) ∙ ap (λ (k : ℕ). take k f.window) n ∙ sym (take-append-le (8 * end - p) f.window (bits_of_bytes (take (stop_of f - f.loaded) to)) (omega arith))
       | inr le ↦
           let none : length f.window - 8 * (min f.loaded f.limit - end) ≡ length f.window = omega arith in
           let whole : take (length f.window - 8 * (min f.loaded f.limit - end)) f.window ≡ f.window = take_whole (length f.window - 8 * (min f.loaded f.limit - end)) f.window (omega arith) in
@@ -38,9 +38,9 @@ left_shortened f p end high place ahead =
           ap (λ (s : List Bool). s ++ bits_of_bytes (take (min end f.limit - f.loaded) to)) whole
           ∙ ap (λ (s : List Bool). f.window ++ s) (sym tail)
           ∙ sym (take-append-add f.window (bits_of_bytes (take (stop_of f - f.loaded) to)) (8 * (end - min f.loaded f.limit)))
-          ∙ ap (λ (k : ℕ). take k (left_of f)) (sym n)
+          ∙ ap (λ (k : ℕ). take k (flow_bits f)) (sym n)
     ]
 
 -- where the bits that are left end
-pub left_ends : (f : Flow) (p : ℕ) → p + length f.window ≡ 8 * min f.loaded (stop_of f) → p + length (left_of f) ≡ 8 * min (stop_of f) (total_of f)
+pub left_ends : (f : Flow) (p : ℕ) → p + length f.window ≡ 8 * min f.loaded (stop_of f) → p + length (flow_bits f) ≡ 8 * min (stop_of f) (total_of f)
 left_ends f p place = omega (arith, length-append f.window (bits_of_bytes (take (stop_of f - f.loaded) (known_bytes f.incoming.to_come))), length-bits_of_bytes (take (stop_of f - f.loaded) (known_bytes f.incoming.to_come)), length-take (stop_of f - f.loaded) (known_bytes f.incoming.to_come))

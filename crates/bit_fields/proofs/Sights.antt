@@ -6,12 +6,13 @@ use Rattle.std.proofs.Math.Seq.{drop-append-add}
 use Rattle.bit_grammar.specs.declared.reason.Reason.TheVariants.{Truncated}
 use Rattle.bit_grammar.specs.Bits.{number, bits_of, bits_of_bytes}
 use Rattle.bit_grammar.specs.Grammar.{Fault, at, repeat, reading}
-use Rattle.bit_grammar.specs.Fields.{fixed, vbr, char6, character}
+use Rattle.bit_grammar.specs.Fields.{fixed, vbr, char6}
+use Rattle.bit_grammar.specs.Terms.{character}
 use Rattle.bit_fields.specs.Inside.{part_of, numbers}
 use Rattle.bit_fields.specs.Reader.{Took}
-use Rattle.bit_fields.specs.Short.{EndsAt, gathered}
-use Rattle.bit_grammar.proofs.Numbers.{length-bits_of}
-use Rattle.bit_fields.specs.Sight.{told}
+use Rattle.bit_fields.specs.Short.{EndsAt, payload_number}
+use Rattle.bit_grammar.proofs.Bits.Numbers.{length-bits_of}
+use Rattle.bit_fields.specs.Sight.{sight_lent}
 use Rattle.bit_fields.specs.Ahead.{InSight, Glimpsed, reader_at, beyond}
 use Rattle.bit_fields.proofs.BitLaws.{length-bits_of_bytes, bytes_dropped, drop_more}
 use Rattle.bit_fields.proofs.Parts.{part_at, part_short}
@@ -54,13 +55,13 @@ one_glimpsed n end chunk a w after bytes is two few there fits chunk_is last aft
     let on : a.position ≤ (sight_of end after bytes).position = rw (after_is, ← is) (omega (arith, length-drop n w)) in
     took_glimpsed (vbr n) a chunk (sight_of end after bytes) (one_chunk n a.position (reader_at a) chunk (reader_at (sight_of end after bytes)) two few refl last (glimpsed_took (part_of a.position n) a chunk (sight_of end after bytes) seen on))
 
-pub few_glimpsed : (n bits end value : ℕ) (a : InSight) (w after : List Bool) (bytes : List ℕ) → sight_of end w bytes ≡ a → 2 ≤ n → n ≤ 14 → EndsAt n bits (number w) → bits ≤ length w → length w + 8 * length bytes ≤ end → ((count : ℕ) → count ≤ 4 → bits ≡ n * count → value ≡ gathered (n - 1) count (number w)) → after ≡ drop bits w
+pub few_glimpsed : (n bits end value : ℕ) (a : InSight) (w after : List Bool) (bytes : List ℕ) → sight_of end w bytes ≡ a → 2 ≤ n → n ≤ 14 → EndsAt n bits (number w) → bits ≤ length w → length w + 8 * length bytes ≤ end → ((count : ℕ) → count ≤ 4 → bits ≡ n * count → value ≡ payload_number (n - 1) count (number w)) → after ≡ drop bits w
     → Glimpsed (vbr n) a value (sight_of end after bytes)
 few_glimpsed n bits end value a w after bytes is two narrow at_bits there fits value_is after_is =
     let width : n ≡ suc (n - 1) = omega (arith, two) in
     let all : n * at_bits.0 ≤ length w = omega (arith, at_bits.2, there) in
-    let read : reading (vbr n) (end - (length w + 8 * length bytes)) (w ++ bits_of_bytes bytes) ≡ Ok (gathered (n - 1) at_bits.0 (number w), end - (length w + 8 * length bytes) + n * at_bits.0, drop (n * at_bits.0) w ++ bits_of_bytes bytes) =
-    subst (λ (m : ℕ). reading (vbr m) (end - (length w + 8 * length bytes)) (w ++ bits_of_bytes bytes) ≡ Ok (gathered (n - 1) at_bits.0 (number w), end - (length w + 8 * length bytes) + m * at_bits.0, drop (m * at_bits.0) w ++ bits_of_bytes bytes)) (sym width)
+    let read : reading (vbr n) (end - (length w + 8 * length bytes)) (w ++ bits_of_bytes bytes) ≡ Ok (payload_number (n - 1) at_bits.0 (number w), end - (length w + 8 * length bytes) + n * at_bits.0, drop (n * at_bits.0) w ++ bits_of_bytes bytes) =
+    subst (λ (m : ℕ). reading (vbr m) (end - (length w + 8 * length bytes)) (w ++ bits_of_bytes bytes) ≡ Ok (payload_number (n - 1) at_bits.0 (number w), end - (length w + 8 * length bytes) + m * at_bits.0, drop (m * at_bits.0) w ++ bits_of_bytes bytes)) (sym width)
     (vbr_reads (n - 1) at_bits.0 (end - (length w + 8 * length bytes)) w (bits_of_bytes bytes) (omega (arith, two)) (omega (arith, narrow)) at_bits.1 at_bits.3 (subst (λ (m : ℕ). m * at_bits.0 ≤ length w) width all)) in
     let gone : after ≡ drop (n * at_bits.0) w = after_is ∙ ap (λ (k : ℕ). drop k w) at_bits.2 in
     let place : end - (length w + 8 * length bytes) + n * at_bits.0 ≡ end - (length (drop (n * at_bits.0) w) + 8 * length bytes) = omega (arith, length-drop (n * at_bits.0) w) in
@@ -122,7 +123,7 @@ fields_glimpsed n count bits a b all there is =
 
 -- ---- what was lent
 
-pub sight_told : (word held position end : ℕ) (window : List Bool) (bytes : Bor (List ℕ)) → window ≡ bits_of held word → end ≡ position + (held + 8 * length bytes.now) → sight_of end window bytes.now ≡ told (record { word = word; held = held; bytes = bytes; position = position })
+pub sight_told : (word held position end : ℕ) (window : List Bool) (bytes : Bor (List ℕ)) → window ≡ bits_of held word → end ≡ position + (held + 8 * length bytes.now) → sight_of end window bytes.now ≡ sight_lent (record { word = word; held = held; bytes = bytes; position = position })
 sight_told word held position end window bytes is end_is =
     sight_is (end - (length window + 8 * length bytes.now)) position (window ++ bits_of_bytes bytes.now) (bits_of held word ++ bits_of_bytes bytes.now) (omega (arith, end_is, ap length is, length-bits_of held word)) (ap (λ (w : List Bool). w ++ bits_of_bytes bytes.now) is)
 

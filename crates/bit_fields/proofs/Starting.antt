@@ -11,16 +11,16 @@ use Rattle.bit_grammar.specs.Bits.{bits_of_bytes, number}
 use Rattle.bit_grammar.specs.Grammar as grammar
 use Rattle.bit_grammar.specs.Grammar.{Grammar, at, gives, position, test, ◌>>=◌, ◌>>◌, ◌and_then◌, reading}
 use Rattle.bit_grammar.specs.Fields.{fixed}
-use Rattle.bit_grammar.specs.Input as input
+use Rattle.bit_grammar.specs.Terms as terms
 use Rattle.bit_grammar.specs.Input.{version, offset, wrapper, any_bits, wrapper_and_gap, inner_magic, outer_wrapper, is_wrapped}
 use Rattle.bit_fields.specs.declared.fault.Fault.{Fault}
 use Rattle.bit_fields.specs.declared.fault.Fault.TheVariants.{Refused, Read, Write, Memory, OutputTooLong, Failed}
 use Rattle.bit_fields.specs.declared.head.Wrapper.{Wrapper}
 use Rattle.bit_fields.specs.Devices.{Incoming, Fails, known_bytes}
-use Rattle.bit_fields.specs.Inflow.{Flow, left_of, stop_of, shortened}
+use Rattle.bit_fields.specs.Inflow.{Flow, flow_bits, stop_of, flow_ended_at}
 use Rattle.bit_fields.specs.Reader.{Reader, Extent, TellsBytes, is_cut, Breaks, GoesOn, Loses, Took, Why, Takes, NeedsNoMemory}
 use Rattle.bit_fields.specs.Inside.{reader_of, IsReader}
-use Rattle.bit_fields.specs.Opening.{Beginning, with_magic, in_wrapper, beginning, wrapper_read, wrapper_of, wrapper_told, magic_number, end_of, fresh, Opened, Leaves, Declines}
+use Rattle.bit_fields.specs.Opening.{Beginning, with_magic, in_wrapper, beginning, wrapper_read, wrapper_of, wrapper_told, magic_number, end_of_stream, fresh, OpenedInput, LeavesSource, Declines}
 use Rattle.bit_fields.specs.Ending.{reach_of}
 use Rattle.bit_fields.proofs.BitLaws.{le_bytes_bits_32, number-bits_mod}
 use Rattle.bit_fields.proofs.InflowLaws.{Spends-none, Fails-none, fails_later}
@@ -82,13 +82,13 @@ inner_took a n b start c here t u = from_here (judged is_inner WrapperNested) a 
 
 -- ---- a wrapper
 
-abbrev from_cpu : (offset size : ℕ) → Grammar input.Wrapper
+abbrev from_cpu : (offset size : ℕ) → Grammar terms.Wrapper
 from_cpu offset size = fixed 32 >>= λ cpu. gives (record { offset = offset; size = size; cpu = cpu })
 
-abbrev from_size : ℕ → Grammar input.Wrapper
+abbrev from_size : ℕ → Grammar terms.Wrapper
 from_size offset = fixed 32 >>= λ size. from_cpu offset size
 
-abbrev from_offset : Grammar input.Wrapper
+abbrev from_offset : Grammar terms.Wrapper
 from_offset = offset >>= λ o. from_size o
 
 pub wrapper_version : (a : Reader) (fault : Fault) (b : Reader) → Why version a fault b → Why wrapper a fault b
@@ -111,22 +111,22 @@ wrapper_cpu a b o c size d fault e t u v why =
 pub wrapper_took : (a b : Reader) (o : ℕ) (c : Reader) (size : ℕ) (d : Reader) (cpu : ℕ) (e : Reader) → Took version a tt b → Took offset b o c → Took (fixed 32) c size d → Took (fixed 32) d cpu e → Took wrapper a (record { offset = o; size = size; cpu = cpu }) e
 unfolding wrapper
 wrapper_took a b o c size d cpu e t u v w =
-    let made : input.Wrapper = record { offset = o; size = size; cpu = cpu } in
+    let made : terms.Wrapper = record { offset = o; size = size; cpu = cpu } in
     took_then version (λ v. from_offset) a tt b (Ok made) e t (took_then offset (λ o. from_size o) b o c (Ok made) e u (took_then (fixed 32) (λ size. from_cpu o size) c size d (Ok made) e v (took_then (fixed 32) (λ cpu. gives (record { offset = o; size = size; cpu = cpu })) d cpu e (Ok made) e w (took_nothing made e w.live))))
 
 -- ---- the end that a wrapper names
 
-pub ended_after : (p offset size end : ℕ) (live : Bool) (f g : Flow) (now : Reader) → reader_of live p f ≡ now → now.live ≡ true → now.position ≡ 8 * offset → now.extent.end ≡ 2 ^ 64 - 1 → f.limit < 2 ^ 35 → IsReader live p f → end ≡ offset + size → g ≡ shortened f end
+pub ended_after : (p offset size end : ℕ) (live : Bool) (f g : Flow) (now : Reader) → reader_of live p f ≡ now → now.live ≡ true → now.position ≡ 8 * offset → now.extent.end ≡ 2 ^ 64 - 1 → f.limit < 2 ^ 35 → IsReader live p f → end ≡ offset + size → g ≡ flow_ended_at f end
     → reader_of live p g ≡ record now { left = take (8 * size) now.left; extent = record now.extent { end = offset + size } }
 ended_after p offset size end live f g now view is_live at high limit is end_is g_is =
     let l : live ≡ true = ap (λ (r : Reader). r.live) view ∙ is_live in
     let q : p ≡ 8 * offset = ap (λ (r : Reader). r.position) view ∙ at in
     let h : f.end ≡ 2 ^ 64 - 1 = ap (λ (r : Reader). r.extent.end) view ∙ high in
     let n : 8 * end - p ≡ 8 * size = omega arith in
-    let left : left_of (shortened f end) ≡ take (8 * size) (left_of f) = left_shortened f p end (omega arith) (is.exact l) (omega arith) ∙ ap (λ (k : ℕ). take k (left_of f)) n in
+    let left : flow_bits (flow_ended_at f end) ≡ take (8 * size) (flow_bits f) = left_shortened f p end (omega arith) (is.exact l) (omega arith) ∙ ap (λ (k : ℕ). take k (flow_bits f)) n in
     rw (← view, g_is, l, left, end_is) refl
 
-pub ended_is_reader : (p offset end : ℕ) (live : Bool) (f g : Flow) (now : Reader) → reader_of live p f ≡ now → now.live ≡ true → now.position ≡ 8 * offset → now.extent.end ≡ 2 ^ 64 - 1 → f.limit < 2 ^ 35 → IsReader live p f → offset ≤ end → g ≡ shortened f end → IsReader live p g
+pub ended_is_reader : (p offset end : ℕ) (live : Bool) (f g : Flow) (now : Reader) → reader_of live p f ≡ now → now.live ≡ true → now.position ≡ 8 * offset → now.extent.end ≡ 2 ^ 64 - 1 → f.limit < 2 ^ 35 → IsReader live p f → offset ≤ end → g ≡ flow_ended_at f end → IsReader live p g
 ended_is_reader p offset end live f g now view is_live at high limit is end_is g_is =
     let l : live ≡ true = ap (λ (r : Reader). r.live) view ∙ is_live in
     let q : p ≡ 8 * offset = ap (λ (r : Reader). r.position) view ∙ at in
@@ -144,7 +144,7 @@ ended_is_reader p offset end live f g now view is_live at high limit is end_is g
 magic_is : (n : ℕ) (bytes : List ℕ) → n < 2 ^ 32 → bytes ≡ to_le_bytes w32 n → magic_number bytes ≡ n
 magic_is n bytes below is = ap number (ap bits_of_bytes is ∙ le_bytes_bits_32 n) ∙ number-bits_mod 32 n ∙ mod-eq_of_lt below
 
-leaves : (a b : Reader) → GoesOn a b → Leaves a b.incoming
+leaves : (a b : Reader) → GoesOn a b → LeavesSource a b.incoming
 leaves a b g = Spends-none a.incoming a.budget b.incoming b.budget g
 
 fails_from : (a b c : Reader) → GoesOn a b → Loses b c → Fails a.incoming a.budget c.incoming 0
@@ -153,7 +153,7 @@ fails_from a b c p q = Fails-none a.incoming a.budget c.incoming c.budget (fails
 read_first : (a : Reader) (first : ℕ) (b : Reader) → a.position ≡ 0 → Took (fixed 32) a first b → TellsBytes a → reading (fixed 32) 0 a.left ≡ Ok (first, b.position, b.left)
 read_first a first b at t k = subst (λ (p : ℕ). reading (fixed 32) p a.left ≡ Ok (first, b.position, b.left)) at (t.reads k)
 
-pub magic_took : (a : Reader) (first : ℕ) (magic : List ℕ) (b : Reader) → a.position ≡ 0 → a.extent.end ≡ 2 ^ 64 - 1 → Took (fixed 32) a first b → (first ≡ 0x0B17C0DE → ⊥) → first < 2 ^ 32 → magic ≡ to_le_bytes w32 first → Opened a (record { magic = magic; wrapper = None }) b
+pub magic_took : (a : Reader) (first : ℕ) (magic : List ℕ) (b : Reader) → a.position ≡ 0 → a.extent.end ≡ 2 ^ 64 - 1 → Took (fixed 32) a first b → (first ≡ 0x0B17C0DE → ⊥) → first < 2 ^ 32 → magic ≡ to_le_bytes w32 first → OpenedInput a (record { magic = magic; wrapper = None }) b
 unfolding beginning
 magic_took a first magic b at high t other below is = record {
   live = t.live;
@@ -163,9 +163,9 @@ magic_took a first magic b at high t other below is = record {
 }
 
 -- a break at the first four bytes, of the beginning and of what looks for a wrapper alike
-first_broke : (e : Extent) (x : Result (ℕ × ℕ × List Bool) grammar.Fault) (f : ℕ × ℕ × List Bool → Beginning) (g : ℕ × ℕ × List Bool → Result (Option input.Wrapper × ℕ × List Bool) grammar.Fault) (reason : Reason) (bit : ℕ) → e.end ≡ 2 ^ 64 - 1 → Breaks e x reason bit → Breaks (record e { end = end_of (wrapper_read (x and_then g)) }) (x and_then f) reason bit
+first_broke : (e : Extent) (x : Result (ℕ × ℕ × List Bool) grammar.Fault) (f : ℕ × ℕ × List Bool → Beginning) (g : ℕ × ℕ × List Bool → Result (Option terms.Wrapper × ℕ × List Bool) grammar.Fault) (reason : Reason) (bit : ℕ) → e.end ≡ 2 ^ 64 - 1 → Breaks e x reason bit → Breaks (record e { end = end_of_stream (wrapper_read (x and_then g)) }) (x and_then f) reason bit
 first_broke e (Ok x) f g reason bit high b = absurd b
-first_broke e (Err x) f g reason bit high b = subst (λ (n : ℕ). Breaks {A = input.Head} (record e { end = n }) (Err x) reason bit) high b
+first_broke e (Err x) f g reason bit high b = subst (λ (n : ℕ). Breaks {A = terms.Head} (record e { end = n }) (Err x) reason bit) high b
 
 pub magic_missed : (a : Reader) (fault : Fault) (b : Reader) → a.position ≡ 0 → a.live ≡ true → a.extent.end ≡ 2 ^ 64 - 1 → Why (fixed 32) a fault b → NeedsNoMemory {A = ℕ} (Err fault) → Declines a fault b.incoming
 unfolding beginning wrapper_of outer_wrapper
@@ -179,13 +179,13 @@ magic_missed a OutputTooLong b at live high why m = why
 -- ---- a wrapped input
 
 -- a break in the wrapper, of the beginning and of what looks for a wrapper alike
-second_broke : (e : Extent) (x : Result (input.Wrapper × ℕ × List Bool) grammar.Fault) (f : input.Wrapper × ℕ × List Bool → Result (input.Wrapper × ℕ × List Bool) grammar.Fault) (h : input.Wrapper × ℕ × List Bool → Beginning) (g : input.Wrapper × ℕ × List Bool → Result (Option input.Wrapper × ℕ × List Bool) grammar.Fault) (reason : Reason) (bit : ℕ)
-    → e.end ≡ 2 ^ 64 - 1 → Breaks e x reason bit → Breaks (record e { end = end_of (wrapper_read (x and_then g)) }) ((x and_then f) and_then h) reason bit
+second_broke : (e : Extent) (x : Result (terms.Wrapper × ℕ × List Bool) grammar.Fault) (f : terms.Wrapper × ℕ × List Bool → Result (terms.Wrapper × ℕ × List Bool) grammar.Fault) (h : terms.Wrapper × ℕ × List Bool → Beginning) (g : terms.Wrapper × ℕ × List Bool → Result (Option terms.Wrapper × ℕ × List Bool) grammar.Fault) (reason : Reason) (bit : ℕ)
+    → e.end ≡ 2 ^ 64 - 1 → Breaks e x reason bit → Breaks (record e { end = end_of_stream (wrapper_read (x and_then g)) }) ((x and_then f) and_then h) reason bit
 second_broke e (Ok x) f h g reason bit high b = absurd b
-second_broke e (Err x) f h g reason bit high b = subst (λ (n : ℕ). Breaks {A = input.Head} (record e { end = n }) (Err x) reason bit) high b
+second_broke e (Err x) f h g reason bit high b = subst (λ (n : ℕ). Breaks {A = terms.Head} (record e { end = n }) (Err x) reason bit) high b
 
 wrapper_broke : (a : Reader) (first : ℕ) (b : Reader) (reason : Reason) (bit : ℕ) → a.position ≡ 0 → a.extent.end ≡ 2 ^ 64 - 1 → Took (fixed 32) a first b → first ≡ 0x0B17C0DE → (k : TellsBytes a) → Breaks b.extent (reading wrapper b.position b.left) reason bit
-    → Breaks (record a.extent { end = end_of (wrapper_of a.left) }) (beginning a.left) reason bit
+    → Breaks (record a.extent { end = end_of_stream (wrapper_of a.left) }) (beginning a.left) reason bit
 unfolding beginning wrapper_of outer_wrapper wrapper_and_gap
 wrapper_broke a first b reason bit at high t is k breaks =
     rw (read_first a first b at t k, is_eqb first 0x0B17C0DE is)
@@ -200,15 +200,15 @@ wrapper_missed a first b Write c at high t is why m = why
 wrapper_missed a first b OutputTooLong c at high t is why m = why
 
 -- the rest of the beginning, from the gap on
-abbrev from_gap : input.Wrapper → ℕ → List Bool → Beginning
+abbrev from_gap : terms.Wrapper → ℕ → List Bool → Beginning
 from_gap w p r = reading (any_bits (8 * (w.offset - 20))) p r and_then λ x. with_magic (Some w) (reading inner_magic x.1 (take (8 * w.size) x.2))
 
-gap_then : (w : input.Wrapper) (x : Result (Unit {0} × ℕ × List Bool) grammar.Fault) → in_wrapper (x and_then λ y. Ok (w, y.1, y.2)) ≡ (x and_then λ y. with_magic (Some w) (reading inner_magic y.1 (take (8 * w.size) y.2)))
+gap_then : (w : terms.Wrapper) (x : Result (Unit {0} × ℕ × List Bool) grammar.Fault) → in_wrapper (x and_then λ y. Ok (w, y.1, y.2)) ≡ (x and_then λ y. with_magic (Some w) (reading inner_magic y.1 (take (8 * w.size) y.2)))
 gap_then w (Ok y) = refl
 gap_then w (Err fault) = refl
 
 -- the header of a wrapper was read
-pub record Headed (a : Reader) (w : input.Wrapper) (c : Reader) : Type 0 where
+pub record Headed (a : Reader) (w : terms.Wrapper) (c : Reader) : Type 0 where
   pub live : c.live ≡ true
   pub goes_on : GoesOn a c
   pub end : c.extent.end ≡ a.extent.end
@@ -216,7 +216,7 @@ pub record Headed (a : Reader) (w : input.Wrapper) (c : Reader) : Type 0 where
   pub wrapped : TellsBytes a → wrapper_of a.left ≡ Some w
   pub reads : TellsBytes a → beginning a.left ≡ from_gap w c.position c.left
 
-pub headed : (a : Reader) (first : ℕ) (b : Reader) (w : input.Wrapper) (c : Reader) → a.position ≡ 0 → Took (fixed 32) a first b → first ≡ 0x0B17C0DE → Took wrapper b w c → Headed a w c
+pub headed : (a : Reader) (first : ℕ) (b : Reader) (w : terms.Wrapper) (c : Reader) → a.position ≡ 0 → Took (fixed 32) a first b → first ≡ 0x0B17C0DE → Took wrapper b w c → Headed a w c
 unfolding beginning wrapper_of outer_wrapper wrapper_and_gap
 headed a first b w c at t is u = record {
   live = u.live;
@@ -234,7 +234,7 @@ same_cut e offset end len high reach few fits le = elim (cases_lt e.limit e.tota
   | inr more ↦ rw (le-ltb e.limit e.total more) refl
 ]
 
-gap_broke : (e : Extent) (w : input.Wrapper) (end p : ℕ) (r : List Bool) (reason : Reason) (bit : ℕ) → e.end ≡ 2 ^ 64 - 1 → 160 + length r ≡ reach_of e → w.offset < 2 ^ 32 → w.offset ≤ end
+gap_broke : (e : Extent) (w : terms.Wrapper) (end p : ℕ) (r : List Bool) (reason : Reason) (bit : ℕ) → e.end ≡ 2 ^ 64 - 1 → 160 + length r ≡ reach_of e → w.offset < 2 ^ 32 → w.offset ≤ end
     → Breaks e (reading (any_bits (8 * (w.offset - 20))) p r) reason bit → Breaks (record e { end = end }) (from_gap w p r) reason bit
 unfolding any_bits
 gap_broke e w end p r reason bit high reach fits le breaks = elim (cases_lt (length r) (8 * (w.offset - 20))) [
@@ -242,7 +242,7 @@ gap_broke e w end p r reason bit high reach fits le breaks = elim (cases_lt (len
   | inr more ↦ absurd (rw (le-ltb (length r) (8 * (w.offset - 20)) more) at breaks)
 ]
 
-pub gap_missed : (a : Reader) (w : input.Wrapper) (c : Reader) (place : ℕ) (fault : Fault) (d : Reader) → a.extent.end ≡ 2 ^ 64 - 1 → Headed a w c → c.position ≡ 160 → w.offset < 2 ^ 32 → place ≡ c.position → (c.live ≡ true → place + length c.left ≡ reach_of c.extent)
+pub gap_missed : (a : Reader) (w : terms.Wrapper) (c : Reader) (place : ℕ) (fault : Fault) (d : Reader) → a.extent.end ≡ 2 ^ 64 - 1 → Headed a w c → c.position ≡ 160 → w.offset < 2 ^ 32 → place ≡ c.position → (c.live ≡ true → place + length c.left ≡ reach_of c.extent)
     → Why (any_bits (8 * (w.offset - 20))) c fault d → NeedsNoMemory {A = Unit {0}} (Err fault) → Declines a fault d.incoming
 gap_missed a w c place (Refused reason bit) d high t at fits place_is reach why m = (
   leaves a d (goes_on_both a c d t.goes_on why.0.goes_on),
@@ -257,14 +257,14 @@ gap_missed a w c place Write d high t at fits place_is reach why m = why
 gap_missed a w c place OutputTooLong d high t at fits place_is reach why m = why
 
 -- the stream of a wrapper begins here
-pub record Reached (a : Reader) (w : input.Wrapper) (d : Reader) : Type 0 where
+pub record Reached (a : Reader) (w : terms.Wrapper) (d : Reader) : Type 0 where
   pub live : d.live ≡ true
   pub goes_on : GoesOn a d
   pub extent : TellsBytes a → d.extent ≡ record a.extent { end = w.offset + w.size }
   pub wrapped : TellsBytes a → wrapper_of a.left ≡ Some w
   pub reads : TellsBytes a → beginning a.left ≡ with_magic (Some w) (reading inner_magic d.position d.left)
 
-pub reached : (a : Reader) (w : input.Wrapper) (c d e : Reader) → Headed a w c → Took (any_bits (8 * (w.offset - 20))) c tt d → e ≡ record d { left = take (8 * w.size) d.left; extent = record d.extent { end = w.offset + w.size } } → Reached a w e
+pub reached : (a : Reader) (w : terms.Wrapper) (c d e : Reader) → Headed a w c → Took (any_bits (8 * (w.offset - 20))) c tt d → e ≡ record d { left = take (8 * w.size) d.left; extent = record d.extent { end = w.offset + w.size } } → Reached a w e
 reached a w c d e t u e_is =
     let both = goes_on_both a c d t.goes_on u.goes_on in
     rw e_is (record {
@@ -275,11 +275,11 @@ reached a w c d e t u e_is =
       reads = λ k. rw (t.reads k, u.reads (t.goes_on.tells k)) refl;
     })
 
-magic_broke : (e : Extent) (outer : Option input.Wrapper) (x : Result (ℕ × ℕ × List Bool) grammar.Fault) (reason : Reason) (bit : ℕ) → Breaks e x reason bit → Breaks e (with_magic outer x) reason bit
+magic_broke : (e : Extent) (outer : Option terms.Wrapper) (x : Result (ℕ × ℕ × List Bool) grammar.Fault) (reason : Reason) (bit : ℕ) → Breaks e x reason bit → Breaks e (with_magic outer x) reason bit
 magic_broke e outer (Ok x) reason bit b = absurd b
 magic_broke e outer (Err x) reason bit b = b
 
-pub inner_declines : (a : Reader) (w : input.Wrapper) (e : Reader) (fault : Fault) (f : Reader) → Reached a w e → Why inner_magic e fault f → NeedsNoMemory {A = ℕ} (Err fault) → Declines a fault f.incoming
+pub inner_declines : (a : Reader) (w : terms.Wrapper) (e : Reader) (fault : Fault) (f : Reader) → Reached a w e → Why inner_magic e fault f → NeedsNoMemory {A = ℕ} (Err fault) → Declines a fault f.incoming
 inner_declines a w e (Refused reason bit) f t why m = (
   leaves a f (goes_on_both a e f t.goes_on why.0.goes_on),
   λ k. rw (t.reads k, t.wrapped k) (magic_broke (record a.extent { end = w.offset + w.size }) (Some w) (reading inner_magic e.position e.left) reason bit (subst (λ (x : Extent). Breaks x (reading inner_magic e.position e.left) reason bit) (t.extent k) (why.1 (t.goes_on.tells k)))),
@@ -290,7 +290,7 @@ inner_declines a w e Failed f t why m = absurd (false≢true (sym why.0 ∙ t.li
 inner_declines a w e Write f t why m = why
 inner_declines a w e OutputTooLong f t why m = why
 
-pub stream_begins : (a : Reader) (w : Wrapper) (e : Reader) (n : ℕ) (magic : List ℕ) (f : Reader) → Reached a (wrapper_told w) e → Took inner_magic e n f → n < 2 ^ 32 → magic ≡ to_le_bytes w32 n → Opened a (record { magic = magic; wrapper = Some w }) f
+pub stream_begins : (a : Reader) (w : Wrapper) (e : Reader) (n : ℕ) (magic : List ℕ) (f : Reader) → Reached a (wrapper_told w) e → Took inner_magic e n f → n < 2 ^ 32 → magic ≡ to_le_bytes w32 n → OpenedInput a (record { magic = magic; wrapper = Some w }) f
 stream_begins a w e n magic f t u below is = record {
   live = u.live;
   goes_on = goes_on_both a e f t.goes_on u.goes_on;

@@ -8,9 +8,9 @@ use Rattle.std.proofs.lemmas.Grind.{flat_map-append}
 use Rattle.std.specs.Global.{Vec}
 use Rattle.bit_grammar.specs.Bits.{bits_of, number}
 use Rattle.bit_grammar.specs.FormatFields.{shortest}
-use Rattle.bit_grammar.specs.Normal.{values_text}
-use Rattle.bit_grammar.proofs.Numbers.{length-bits_of, number_below}
-use Rattle.bit_fields.specs.Texts.{joined, AreFull, bits_of_words, with_word}
+use Rattle.bit_grammar.specs.Normal.{values_bits}
+use Rattle.bit_grammar.proofs.Bits.Numbers.{length-bits_of, number_below}
+use Rattle.bit_fields.specs.Texts.{words_of_chunks, AreFull, bits_of_words, with_word}
 use Rattle.bit_fields.specs.Writer.{Writer, Wrote, Writes}
 use Rattle.bit_fields.specs.declared.fault.Fault.{Fault}
 use Rattle.bit_fields.proofs.BitLaws.{bits_of-number}
@@ -18,9 +18,9 @@ use Rattle.bit_fields.proofs.WriterLaws.{wrote_nothing, wrote_then, not_written}
 
 -- ---- chunks
 
-pub joined-push : (chunks : List (Vec ℕ)) (chunk : Vec ℕ) → joined (chunks ++ chunk ∷ []) ≡ joined chunks ++ chunk.items
+pub joined-push : (chunks : List (Vec ℕ)) (chunk : Vec ℕ) → words_of_chunks (chunks ++ chunk ∷ []) ≡ words_of_chunks chunks ++ chunk.items
 joined-push [] chunk = append-nil chunk.items
-joined-push (first ∷ chunks) chunk = ap (λ (ws : List ℕ). first.items ++ ws) (joined-push chunks chunk) ∙ sym (append_assoc first.items (joined chunks) chunk.items)
+joined-push (first ∷ chunks) chunk = ap (λ (ws : List ℕ). first.items ++ ws) (joined-push chunks chunk) ∙ sym (append_assoc first.items (words_of_chunks chunks) chunk.items)
 
 pub full-push : (chunks : List (Vec ℕ)) (chunk : Vec ℕ) → AreFull chunks → length chunk.items ≡ 262144 → AreFull (chunks ++ chunk ∷ [])
 full-push [] chunk full is = (is, tt)
@@ -36,21 +36,21 @@ full-set [] i chunk full is = tt
 full-set (first ∷ chunks) zero chunk full is = (is, full.1)
 full-set (first ∷ chunks) (suc i) chunk full is = (full.0, full-set chunks i chunk full.1 is)
 
-pub joined-length : (chunks : List (Vec ℕ)) → AreFull chunks → length (joined chunks) ≡ 262144 * length chunks
+pub joined-length : (chunks : List (Vec ℕ)) → AreFull chunks → length (words_of_chunks chunks) ≡ 262144 * length chunks
 joined-length [] full = refl
-joined-length (first ∷ chunks) full = omega (arith, length-append first.items (joined chunks), full.0, joined-length chunks full.1)
+joined-length (first ∷ chunks) full = omega (arith, length-append first.items (words_of_chunks chunks), full.0, joined-length chunks full.1)
 
 -- a word of a chunk is set
-pub joined-set : (chunks : List (Vec ℕ)) (i j word : ℕ) (chunk new : Vec ℕ) → AreFull chunks → i < length chunks → chunk ≡ get_or chunks i chunk → j < 262144 → new.items ≡ set chunk.items j word → joined (set chunks i new) ≡ set (joined chunks) (262144 * i + j) word
+pub joined-set : (chunks : List (Vec ℕ)) (i j word : ℕ) (chunk new : Vec ℕ) → AreFull chunks → i < length chunks → chunk ≡ get_or chunks i chunk → j < 262144 → new.items ≡ set chunk.items j word → words_of_chunks (set chunks i new) ≡ set (words_of_chunks chunks) (262144 * i + j) word
 joined-set [] i j word chunk new full lt is few set_is = absurd (omega (arith, lt))
 joined-set (first ∷ chunks) zero j word chunk new full lt is few set_is =
     let same : new.items ≡ set first.items j word = set_is ∙ ap (λ (v : Vec ℕ). set v.items j word) is in
     let place : 262144 * 0 + j ≡ j = omega arith in
-    ap (λ (ws : List ℕ). ws ++ joined chunks) same ∙ sym (set-append_left first.items (joined chunks) j word (omega (arith, full.0, few))) ∙ ap (λ (k : ℕ). set (first.items ++ joined chunks) k word) (sym place)
+    ap (λ (ws : List ℕ). ws ++ words_of_chunks chunks) same ∙ sym (set-append_left first.items (words_of_chunks chunks) j word (omega (arith, full.0, few))) ∙ ap (λ (k : ℕ). set (first.items ++ words_of_chunks chunks) k word) (sym place)
 joined-set (first ∷ chunks) (suc i) j word chunk new full lt is few set_is =
     let place : 262144 * suc i + j - 262144 ≡ 262144 * i + j = omega arith in
-    ap (λ (ws : List ℕ). first.items ++ ws) (joined-set chunks i j word chunk new full.1 (omega (arith, lt)) is few set_is ∙ ap (λ (k : ℕ). set (joined chunks) k word) (sym place))
-    ∙ sym (set-append_right first.items (joined chunks) 262144 (262144 * suc i + j) word full.0 (omega arith))
+    ap (λ (ws : List ℕ). first.items ++ ws) (joined-set chunks i j word chunk new full.1 (omega (arith, lt)) is few set_is ∙ ap (λ (k : ℕ). set (words_of_chunks chunks) k word) (sym place))
+    ∙ sym (set-append_right first.items (words_of_chunks chunks) 262144 (262144 * suc i + j) word full.0 (omega arith))
 
 -- an empty chunk is put behind, and changed for a full one
 swapped : (old new : List (Vec ℕ)) (chunk last x : Vec ℕ) (k : ℕ) → new ≡ old ++ chunk ∷ [] → k ≡ length old → x ≡ last → set new k x ≡ old ++ last ∷ []
@@ -63,9 +63,9 @@ swapped_out old new chunk slot k is place there = there ∙ ap (λ (vs : List (V
 pub full-swap : (old new : List (Vec ℕ)) (chunk last x : Vec ℕ) (k : ℕ) → new ≡ old ++ chunk ∷ [] → k ≡ length old → x ≡ last → length last.items ≡ 262144 → AreFull old → AreFull (set new k x)
 full-swap old new chunk last x k is place x_is len full = subst AreFull (sym (swapped old new chunk last x k is place x_is)) (full-push old last full len)
 
-pub joined-swap : (old new : List (Vec ℕ)) (chunk last x y : Vec ℕ) (k : ℕ) → new ≡ old ++ chunk ∷ [] → k ≡ length old → x ≡ last → y.items ≡ [] → joined (set new k x) ++ y.items ≡ joined old ++ last.items
+pub joined-swap : (old new : List (Vec ℕ)) (chunk last x y : Vec ℕ) (k : ℕ) → new ≡ old ++ chunk ∷ [] → k ≡ length old → x ≡ last → y.items ≡ [] → words_of_chunks (set new k x) ++ y.items ≡ words_of_chunks old ++ last.items
 joined-swap old new chunk last x y k is place x_is none =
-    ap (λ (ws : List ℕ). joined (set new k x) ++ ws) none ∙ append-nil (joined (set new k x)) ∙ ap joined (swapped old new chunk last x k is place x_is) ∙ joined-push old last
+    ap (λ (ws : List ℕ). words_of_chunks (set new k x) ++ ws) none ∙ append-nil (words_of_chunks (set new k x)) ∙ ap words_of_chunks (swapped old new chunk last x k is place x_is) ∙ joined-push old last
 
 -- no chunk has the place
 pub beyond : (i count : ℕ) → (i < count → false ≡ true) → count ≤ i
@@ -173,38 +173,38 @@ going_ends whole old now rest none g = g.completes (Ok tt) now (subst (λ (s : L
 
 -- ---- the chunks of a list of words, one after the other
 
-pub chunks-next : (chunks : List (Vec ℕ)) (last : List ℕ) (i : ℕ) (chunk : Vec ℕ) → i < length chunks → chunk ≡ get_or chunks i chunk → bits_of_words (joined (drop i chunks) ++ last) ≡ bits_of_words chunk.items ++ bits_of_words (joined (drop (i + 1) chunks) ++ last)
+pub chunks-next : (chunks : List (Vec ℕ)) (last : List ℕ) (i : ℕ) (chunk : Vec ℕ) → i < length chunks → chunk ≡ get_or chunks i chunk → bits_of_words (words_of_chunks (drop i chunks) ++ last) ≡ bits_of_words chunk.items ++ bits_of_words (words_of_chunks (drop (i + 1) chunks) ++ last)
 chunks-next chunks last i chunk lt is =
     let there : drop i chunks ≡ chunk ∷ drop (i + 1) chunks = rw add-one (drop-cons chunks i chunk lt ∙ ap (λ (v : Vec ℕ). v ∷ drop (suc i) chunks) (sym is)) in
-    ap (λ (vs : List (Vec ℕ)). bits_of_words (joined vs ++ last)) there ∙ ap bits_of_words (append_assoc chunk.items (joined (drop (i + 1) chunks)) last) ∙ words-append chunk.items (joined (drop (i + 1) chunks) ++ last)
+    ap (λ (vs : List (Vec ℕ)). bits_of_words (words_of_chunks vs ++ last)) there ∙ ap bits_of_words (append_assoc chunk.items (words_of_chunks (drop (i + 1) chunks)) last) ∙ words-append chunk.items (words_of_chunks (drop (i + 1) chunks) ++ last)
 
-pub chunks-end : (chunks : List (Vec ℕ)) (last : List ℕ) (i : ℕ) → length chunks ≤ i → bits_of_words (joined (drop i chunks) ++ last) ≡ bits_of_words last
-chunks-end chunks last i le = ap (λ (vs : List (Vec ℕ)). bits_of_words (joined vs ++ last)) (drop_all i chunks le)
+pub chunks-end : (chunks : List (Vec ℕ)) (last : List ℕ) (i : ℕ) → length chunks ≤ i → bits_of_words (words_of_chunks (drop i chunks) ++ last) ≡ bits_of_words last
+chunks-end chunks last i le = ap (λ (vs : List (Vec ℕ)). bits_of_words (words_of_chunks vs ++ last)) (drop_all i chunks le)
 
 pub some_left : (count : ℕ) → false ≡ (count == 0) → 0 < count
 some_left zero e = absurd cc
 some_left (suc count) e = omega arith
 
 -- the first chunk is taken out
-pub first_chunk : (chunks : List (Vec ℕ)) (chunk : Vec ℕ) → 0 < length chunks → chunk ≡ get_or chunks 0 chunk → joined chunks ≡ chunk.items ++ joined (drop 1 chunks)
+pub first_chunk : (chunks : List (Vec ℕ)) (chunk : Vec ℕ) → 0 < length chunks → chunk ≡ get_or chunks 0 chunk → words_of_chunks chunks ≡ chunk.items ++ words_of_chunks (drop 1 chunks)
 first_chunk [] chunk some is = absurd (omega (arith, some))
-first_chunk (first ∷ chunks) chunk some is = ap (λ (v : Vec ℕ). v.items ++ joined chunks) (sym is)
+first_chunk (first ∷ chunks) chunk some is = ap (λ (v : Vec ℕ). v.items ++ words_of_chunks chunks) (sym is)
 
 pub full-after : (chunks : List (Vec ℕ)) → AreFull chunks → AreFull (drop 1 chunks)
 full-after [] full = tt
 full-after (first ∷ chunks) full = full.1
 
 -- what was moved, with what is left
-pub moved_so_far : (chunks : List (Vec ℕ)) (chunk : Vec ℕ) (now next : List Bool) → 0 < length chunks → chunk ≡ get_or chunks 0 chunk → next ≡ now ++ bits_of_words chunk.items → next ++ bits_of_words (joined (drop 1 chunks)) ≡ now ++ bits_of_words (joined chunks)
+pub moved_so_far : (chunks : List (Vec ℕ)) (chunk : Vec ℕ) (now next : List Bool) → 0 < length chunks → chunk ≡ get_or chunks 0 chunk → next ≡ now ++ bits_of_words chunk.items → next ++ bits_of_words (words_of_chunks (drop 1 chunks)) ≡ now ++ bits_of_words (words_of_chunks chunks)
 moved_so_far chunks chunk now next some is next_is =
-    let rest = joined (drop 1 chunks) in
+    let rest = words_of_chunks (drop 1 chunks) in
     ap (λ (s : List Bool). s ++ bits_of_words rest) next_is ∙ append_assoc now (bits_of_words chunk.items) (bits_of_words rest) ∙ ap (λ (s : List Bool). now ++ s) (sym (ap bits_of_words (first_chunk chunks chunk some is) ∙ words-append chunk.items rest))
 
-pub chunk_fits : (chunks : List (Vec ℕ)) (chunk : Vec ℕ) → 0 < length chunks → chunk ≡ get_or chunks 0 chunk → length chunk.items ≤ length (joined chunks)
-chunk_fits chunks chunk some is = omega (arith, ap length (first_chunk chunks chunk some is), length-append chunk.items (joined (drop 1 chunks)))
+pub chunk_fits : (chunks : List (Vec ℕ)) (chunk : Vec ℕ) → 0 < length chunks → chunk ≡ get_or chunks 0 chunk → length chunk.items ≤ length (words_of_chunks chunks)
+chunk_fits chunks chunk some is = omega (arith, ap length (first_chunk chunks chunk some is), length-append chunk.items (words_of_chunks (drop 1 chunks)))
 
 -- ---- numbers
 
 -- the number at a place comes next
-pub value-next : (vs : List ℕ) (i : ℕ) → i < length vs → values_text (drop i vs) ≡ shortest 6 (get_or vs i 0) ++ values_text (drop (i + 1) vs)
-value-next vs i lt = rw add-one (ap values_text (drop-cons vs i 0 lt))
+pub value-next : (vs : List ℕ) (i : ℕ) → i < length vs → values_bits (drop i vs) ≡ shortest 6 (get_or vs i 0) ++ values_bits (drop (i + 1) vs)
+value-next vs i lt = rw add-one (ap values_bits (drop-cons vs i 0 lt))

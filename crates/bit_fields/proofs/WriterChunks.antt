@@ -5,12 +5,12 @@ use Rattle.std.proofs.Math.Pow.{pow_mono, shr_lt}
 use Rattle.std.proofs.lemmas.Nat.{and_mask, one_shl, mod_below, pow_pos}
 use Rattle.std.proofs.lemmas.Bool.{lt-ltb, le-ltb, cases_lt}
 use Rattle.bit_grammar.specs.Bits.{bits_of}
-use Rattle.bit_grammar.specs.Fields.{chunk_limit}
-use Rattle.bit_grammar.specs.FormatFields.{chunked, shortest_payloads, shortest}
+use Rattle.bit_grammar.specs.Terms.{chunk_limit}
+use Rattle.bit_grammar.specs.FormatFields.{chunk_spelling, shortest_payloads, shortest}
 use Rattle.bit_fields.specs.Writer.{Writer, Wrote, Writes}
 use Rattle.bit_fields.specs.declared.fault.Fault.{Fault}
 use Rattle.std.proofs.lemmas.List.{length-append}
-use Rattle.bit_grammar.proofs.Numbers.{length-bits_of}
+use Rattle.bit_grammar.proofs.Bits.Numbers.{length-bits_of}
 use Rattle.bit_fields.proofs.BitLaws.{bits_of-above, bits_of-mod}
 use Rattle.bit_fields.proofs.WriterLaws.{wrote_nothing, wrote_then_wrote, wrote_then, not_written}
 
@@ -43,7 +43,7 @@ last_bits n rest some lt =
 
 -- the chunks that spell what is left of a value, of which so many are permitted
 abbrev pub tail : (payload permitted rest : ℕ) → List Bool
-tail payload permitted rest = chunked (shortest_payloads payload permitted rest)
+tail payload permitted rest = chunk_spelling (shortest_payloads payload permitted rest)
 
 -- chunks of a value: one, or more than one
 tail_last : (payload permitted rest : ℕ) → rest < 2 ^ payload → tail payload (suc permitted) rest ≡ bits_of payload rest ++ false ∷ []

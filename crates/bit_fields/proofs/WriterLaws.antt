@@ -6,7 +6,7 @@ use Rattle.std.proofs.lemmas.Bool.{cases_lt}
 use Rattle.std.proofs.lemmas.List.{append-nil, append_cancel_left, take-append-drop}
 use Rattle.bit_grammar.specs.Bits.{bits_of, bits_of_bytes}
 use Rattle.bit_fields.specs.Devices.{Outgoing, IsSpent, Accepted, Declined, known_bytes}
-use Rattle.bit_fields.specs.Writer.{Writer, TellsBytes, taken, written, Gained, Grows, Wrote, Lost, Writes}
+use Rattle.bit_fields.specs.Writer.{Writer, TellsTaken, taken_bits, written_bits, GainedBytes, Grows, Wrote, LostBits, Writes}
 use Rattle.bit_fields.specs.declared.fault.Fault.{Fault}
 use Rattle.bit_fields.specs.declared.fault.Fault.TheVariants.{Refused, Read, Write, Memory, OutputTooLong, Failed}
 use Rattle.bit_fields.proofs.BitLaws.{bits_of_bytes-append}
@@ -26,7 +26,7 @@ stayed (Some xs) (Some ys) a known = (refl, a)
 pub wrote_some : (w : Writer) (o : Outgoing) (count : ℕ) (from : List ℕ) (held : List Bool) → w.live ≡ true → Accepted w.outgoing o count from → (count ≡ 0 → ⊥) → bits_of_bytes (take count from) ≡ take (8 * count) w.held → held ≡ drop (8 * count) w.held
     → Wrote w [] (record w { held = held; outgoing = o })
 wrote_some w o count from held live put some front rest =
-    let after : TellsBytes w → known_bytes o.bytes ≡ known_bytes w.outgoing.bytes ++ take count from = λ k. (appended w.outgoing.bytes o.bytes (take count from) put.bytes k).1 in
+    let after : TellsTaken w → known_bytes o.bytes ≡ known_bytes w.outgoing.bytes ++ take count from = λ k. (appended w.outgoing.bytes o.bytes (take count from) put.bytes k).1 in
     record {
       was_live = live;
       live = live;
@@ -40,39 +40,39 @@ wrote_some w o count from held live put some front rest =
           ∙ ap (λ (s : List Bool). s ++ drop (8 * count) w.held) (bits_of_bytes-append (known_bytes w.outgoing.bytes) (take count from))
           ∙ append_assoc (bits_of_bytes (known_bytes w.outgoing.bytes)) (bits_of_bytes (take count from)) (drop (8 * count) w.held)
           ∙ ap (λ (s : List Bool). bits_of_bytes (known_bytes w.outgoing.bytes) ++ s) (ap (λ (s : List Bool). s ++ drop (8 * count) w.held) front ∙ take-append-drop (8 * count) w.held)
-          ∙ sym (append-nil (written w));
+          ∙ sym (append-nil (written_bits w));
     }
 
-lost_nothing : (w : Writer) (o : Outgoing) → w.live ≡ true → (w.outgoing.failures < o.failures) ⊎ IsSpent w.outgoing → (TellsBytes w → IsSome o.bytes × (known_bytes o.bytes ≡ known_bytes w.outgoing.bytes)) → Lost w [] (record w { live = false; outgoing = o })
+lost_nothing : (w : Writer) (o : Outgoing) → w.live ≡ true → (w.outgoing.failures < o.failures) ⊎ IsSpent w.outgoing → (TellsTaken w → IsSome o.bytes × (known_bytes o.bytes ≡ known_bytes w.outgoing.bytes)) → LostBits w [] (record w { live = false; outgoing = o })
 lost_nothing w o live why same = record {
   was_live = live;
   failed = refl;
   why = why;
   tells = λ k. (same k).0;
   kept = λ k. ([], (same k).1 ∙ sym (append-nil (known_bytes w.outgoing.bytes)));
-  front = λ k. (w.held, ap (λ (b : List ℕ). bits_of_bytes b ++ w.held) (same k).1 ∙ sym (append-nil (written w)));
+  front = λ k. (w.held, ap (λ (b : List ℕ). bits_of_bytes b ++ w.held) (same k).1 ∙ sym (append-nil (written_bits w)));
 }
 
-pub took_no_byte : (w : Writer) (o : Outgoing) (count : ℕ) (from : List ℕ) → w.live ≡ true → Accepted w.outgoing o count from → count ≡ 0 → 0 < length from → Lost w [] (record w { live = false; outgoing = o })
+pub took_no_byte : (w : Writer) (o : Outgoing) (count : ℕ) (from : List ℕ) → w.live ≡ true → Accepted w.outgoing o count from → count ≡ 0 → 0 < length from → LostBits w [] (record w { live = false; outgoing = o })
 took_no_byte w o count from live put none some =
     let nothing : take count from ≡ [] = rw none refl in
     lost_nothing w o live (inl (omega (arith, put.failed none some)))
     (λ k. let a = appended w.outgoing.bytes o.bytes (take count from) put.bytes k in (a.0, a.1 ∙ ap (λ (b : List ℕ). known_bytes w.outgoing.bytes ++ b) nothing ∙ append-nil (known_bytes w.outgoing.bytes)))
 
 -- what is held does not matter once something was lost
-pub lost_held : (a b : Writer) (s held : List Bool) → Lost a s b → Lost a s (record b { held = held })
+pub lost_held : (a b : Writer) (s held : List Bool) → LostBits a s b → LostBits a s (record b { held = held })
 lost_held a b s held p = record { was_live = p.was_live; failed = p.failed; why = p.why; tells = p.tells; kept = p.kept; front = p.front }
 
 why_declined : (old new : Outgoing) → Declined old new → (old.failures < new.failures) ⊎ IsSpent old
 why_declined old new declined = elim (cases_lt old.failures (2 ^ 64 - 1)) [ inl fresh ↦ inl (omega (arith, declined.counted fresh)) | inr worn ↦ inr worn ]
 
-pub took_none : (w : Writer) (o : Outgoing) → w.live ≡ true → Declined w.outgoing o → Lost w [] (record w { live = false; outgoing = o })
+pub took_none : (w : Writer) (o : Outgoing) → w.live ≡ true → Declined w.outgoing o → LostBits w [] (record w { live = false; outgoing = o })
 took_none w o live declined = lost_nothing w o live (why_declined w.outgoing o declined) (stayed w.outgoing.bytes o.bytes declined.bytes)
 
 -- ---- one thing written, and another after it
 
 pub wrote_nothing : (w : Writer) → w.live ≡ true → Wrote w [] w
-wrote_nothing w live = record { was_live = live; live = live; position = omega arith; failures = refl; tells = λ k. k; kept = λ k. ([], sym (append-nil (known_bytes w.outgoing.bytes))); written = λ k. sym (append-nil (written w)) }
+wrote_nothing w live = record { was_live = live; live = live; position = omega arith; failures = refl; tells = λ k. k; kept = λ k. ([], sym (append-nil (known_bytes w.outgoing.bytes))); written = λ k. sym (append-nil (written_bits w)) }
 
 both_kept : (a b c : Writer) → Grows a b → Grows b c → Grows a c
 both_kept a b c p q = (p.0 ++ q.0, q.1 ∙ ap (λ (x : List ℕ). x ++ q.0) p.1 ∙ append_assoc (known_bytes a.outgoing.bytes) p.0 q.0)
@@ -85,35 +85,35 @@ wrote_then_wrote a b c s t p q = record {
   failures = q.failures ∙ p.failures;
   tells = λ k. q.tells (p.tells k);
   kept = λ k. both_kept a b c (p.kept k) (q.kept (p.tells k));
-  written = λ k. q.written (p.tells k) ∙ ap (λ (x : List Bool). x ++ t) (p.written k) ∙ append_assoc (written a) s t;
+  written = λ k. q.written (p.tells k) ∙ ap (λ (x : List Bool). x ++ t) (p.written k) ∙ append_assoc (written_bits a) s t;
 }
 
-pub wrote_then_lost : (a b c : Writer) (s t : List Bool) → Wrote a s b → Lost b t c → Lost a (s ++ t) c
+pub wrote_then_lost : (a b c : Writer) (s t : List Bool) → Wrote a s b → LostBits b t c → LostBits a (s ++ t) c
 wrote_then_lost a b c s t p q = record {
   was_live = p.was_live;
   failed = q.failed;
   why = elim q.why [ inl more ↦ inl (omega (arith, p.failures, more)) | inr spent ↦ inr (omega (arith, p.failures, spent)) ];
   tells = λ k. q.tells (p.tells k);
   kept = λ k. both_kept a b c (p.kept k) (q.kept (p.tells k));
-  front = λ k. let f = q.front (p.tells k) in (f.0, f.1 ∙ ap (λ (x : List Bool). x ++ t) (p.written k) ∙ append_assoc (written a) s t);
+  front = λ k. let f = q.front (p.tells k) in (f.0, f.1 ∙ ap (λ (x : List Bool). x ++ t) (p.written k) ∙ append_assoc (written_bits a) s t);
 }
 
-lost_more : (a b : Writer) (s t : List Bool) → Lost a s b → Lost a (s ++ t) b
+lost_more : (a b : Writer) (s t : List Bool) → LostBits a s b → LostBits a (s ++ t) b
 lost_more a b s t p = record {
   was_live = p.was_live;
   failed = p.failed;
   why = p.why;
   tells = p.tells;
   kept = p.kept;
-  front = λ k. let f = p.front k in (f.0 ++ t, sym (append_assoc (bits_of_bytes (known_bytes b.outgoing.bytes)) f.0 t) ∙ ap (λ (x : List Bool). x ++ t) f.1 ∙ append_assoc (written a) s t);
+  front = λ k. let f = p.front k in (f.0 ++ t, sym (append_assoc (bits_of_bytes (known_bytes b.outgoing.bytes)) f.0 t) ∙ ap (λ (x : List Bool). x ++ t) f.1 ∙ append_assoc (written_bits a) s t);
 }
 
 -- what is held goes to the sink, or is lost, behind some of what is to be written
 pub wrote_no_more : (a b c : Writer) (s : List Bool) → Wrote a s b → Wrote b [] c → Wrote a s c
 wrote_no_more a b c s p q = subst (λ (x : List Bool). Wrote a x c) (append-nil s) (wrote_then_wrote a b c s [] p q)
 
-pub lost_between : (a b c : Writer) (s t all : List Bool) → s ++ t ≡ all → Wrote a s b → Lost b [] c → Lost a all c
-lost_between a b c s t all is p q = subst (λ (x : List Bool). Lost a x c) (ap (λ (x : List Bool). x ++ t) (append-nil s) ∙ is) (lost_more a c (s ++ []) t (wrote_then_lost a b c s [] p q))
+pub lost_between : (a b c : Writer) (s t all : List Bool) → s ++ t ≡ all → Wrote a s b → LostBits b [] c → LostBits a all c
+lost_between a b c s t all is p q = subst (λ (x : List Bool). LostBits a x c) (ap (λ (x : List Bool). x ++ t) (append-nil s) ∙ is) (lost_more a c (s ++ []) t (wrote_then_lost a b c s [] p q))
 
 pub wrote_in_parts : (a b c : Writer) (s t all : List Bool) → s ++ t ≡ all → Wrote a s b → Wrote b t c → Wrote a all c
 wrote_in_parts a b c s t all is p q = subst (λ (x : List Bool). Wrote a x c) is (wrote_then_wrote a b c s t p q)
@@ -160,23 +160,23 @@ padded_before n w none live = subst (λ (k : ℕ). Wrote w (replicate k false) w
 
 -- ---- the bytes that a sink took
 
-nothing_held : (w : Writer) → w.held ≡ [] → written w ≡ taken w
-nothing_held w none = ap (λ (s : List Bool). taken w ++ s) none ∙ append-nil (taken w)
+nothing_held : (w : Writer) → w.held ≡ [] → written_bits w ≡ taken_bits w
+nothing_held w none = ap (λ (s : List Bool). taken_bits w ++ s) none ∙ append-nil (taken_bits w)
 
-gained_bits : (a b : Writer) (more : List ℕ) → Gained a more b → taken b ≡ taken a ++ bits_of_bytes more
+gained_bits : (a b : Writer) (more : List ℕ) → GainedBytes a more b → taken_bits b ≡ taken_bits a ++ bits_of_bytes more
 gained_bits a b more g = ap bits_of_bytes g ∙ bits_of_bytes-append (known_bytes a.outgoing.bytes) more
 
-pub gained_all : (a b : Writer) (s : List Bool) → Wrote a s b → TellsBytes a → a.held ≡ [] → b.held ≡ [] → (more : List ℕ) × Gained a more b × (bits_of_bytes more ≡ s)
+pub gained_all : (a b : Writer) (s : List Bool) → Wrote a s b → TellsTaken a → a.held ≡ [] → b.held ≡ [] → (more : List ℕ) × GainedBytes a more b × (bits_of_bytes more ≡ s)
 gained_all a b s p k none_before none_after =
     let more : List ℕ = (p.kept k).0 in
-    let same : taken a ++ bits_of_bytes more ≡ taken a ++ s =
+    let same : taken_bits a ++ bits_of_bytes more ≡ taken_bits a ++ s =
     sym (gained_bits a b more (p.kept k).1) ∙ sym (nothing_held b none_after) ∙ p.written k ∙ ap (λ (x : List Bool). x ++ s) (nothing_held a none_before) in
-    (more, (p.kept k).1, append_cancel_left (taken a) (bits_of_bytes more) s same)
+    (more, (p.kept k).1, append_cancel_left (taken_bits a) (bits_of_bytes more) s same)
 
-pub gained_front : (a b : Writer) (s : List Bool) → Lost a s b → TellsBytes a → a.held ≡ [] → (more : List ℕ) × (rest : List Bool) × Gained a more b × (bits_of_bytes more ++ rest ≡ s)
+pub gained_front : (a b : Writer) (s : List Bool) → LostBits a s b → TellsTaken a → a.held ≡ [] → (more : List ℕ) × (rest : List Bool) × GainedBytes a more b × (bits_of_bytes more ++ rest ≡ s)
 gained_front a b s p k none_before =
     let more : List ℕ = (p.kept k).0 in
     let f = p.front k in
-    let same : taken a ++ (bits_of_bytes more ++ f.0) ≡ taken a ++ s =
-    sym (append_assoc (taken a) (bits_of_bytes more) f.0) ∙ ap (λ (x : List Bool). x ++ f.0) (sym (gained_bits a b more (p.kept k).1)) ∙ f.1 ∙ ap (λ (x : List Bool). x ++ s) (nothing_held a none_before) in
-    (more, f.0, (p.kept k).1, append_cancel_left (taken a) (bits_of_bytes more ++ f.0) s same)
+    let same : taken_bits a ++ (bits_of_bytes more ++ f.0) ≡ taken_bits a ++ s =
+    sym (append_assoc (taken_bits a) (bits_of_bytes more) f.0) ∙ ap (λ (x : List Bool). x ++ f.0) (sym (gained_bits a b more (p.kept k).1)) ∙ f.1 ∙ ap (λ (x : List Bool). x ++ s) (nothing_held a none_before) in
+    (more, f.0, (p.kept k).1, append_cancel_left (taken_bits a) (bits_of_bytes more ++ f.0) s same)

@@ -12,7 +12,8 @@ pub record InSight : Type 0 where
 -- The rule reads this value from the bits in sight, and this is what is left of them. It reads the same whatever follows
 -- them, and so no refusal comes of what is in sight.
 abbrev pub Glimpsed : {A : Type 0} → Grammar A → InSight → A → InSight → Type 0
-Glimpsed rule old value new = reading rule old.position old.bits ≡ Ok (value, new.position, new.bits)
+Glimpsed rule old value new = reading rule old.position old.bits
+    ≡ Ok (value, new.position, new.bits)
 
 -- what is left in sight after so many bits
 abbrev pub beyond : InSight → ℕ → InSight
@@ -25,8 +26,8 @@ pub record Sees (r : Reader) (sight : InSight) : Type 0 where
   pub front : TellsBytes r → (rest : List Bool) × (r.left ≡ sight.bits ++ rest)
 
 -- a reader that has taken so many bits more
-abbrev pub advanced : Reader → ℕ → Reader
-advanced r count = record r { position = r.position + count; left = drop count r.left }
+abbrev pub reader_further : Reader → ℕ → Reader
+reader_further r count = record r { position = r.position + count; left = drop count r.left }
 
 -- a reader with nothing left but what is in sight
 abbrev pub reader_at : InSight → Reader

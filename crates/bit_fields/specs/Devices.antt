@@ -134,7 +134,8 @@ pub record Spends (old : Incoming) (before : ℕ) (new : Incoming) (after : ℕ)
   pub pulls : new.pulls + after ≤ old.pulls + before
   pub failures : new.failures ≡ old.failures
   pub tells : IsSome old.to_come → IsSome new.to_come
-  pub bytes : IsSome old.to_come → length (known_bytes old.to_come) + after ≤ length (known_bytes new.to_come) + before
+  pub bytes : IsSome old.to_come → length (known_bytes old.to_come) + after
+      ≤ length (known_bytes new.to_come) + before
   pub accounts : (n : ℕ) (all : List ℕ) → SaysOf old.accounts n all → SaysOf new.accounts n all
 
 -- the same, but that the source failed: one failure was counted, or it was worn, and counts no more
@@ -142,14 +143,18 @@ pub record Fails (old : Incoming) (before : ℕ) (new : Incoming) (after : ℕ) 
   pub pulls : new.pulls + after ≤ old.pulls + before
   pub failed : (new.failures ≡ old.failures + 1) ⊎ ((new.failures ≡ old.failures) × IsWorn new)
   pub tells : IsSome old.to_come → IsSome new.to_come
-  pub bytes : IsSome old.to_come → length (known_bytes old.to_come) + after ≤ length (known_bytes new.to_come) + before
+  pub bytes : IsSome old.to_come → length (known_bytes old.to_come) + after
+      ≤ length (known_bytes new.to_come) + before
   pub accounts : (n : ℕ) (all : List ℕ) → SaysOf old.accounts n all → SaysOf new.accounts n all
 
 -- ---- a source that keeps what it gives
 
 -- it gives what another one gives, and has kept these bytes, which are all that it gave, or not all
 abbrev pub keeps_of : (is_whole : Bool) → (bytes : List ℕ) → Incoming → Incoming
-keeps_of is_whole bytes i = record i { accounts = (record { kept = is_whole; whole = prepend_known bytes i.to_come }) ∷ i.accounts }
+keeps_of is_whole bytes i = record i {
+  accounts = (record
+      { kept = is_whole; whole = prepend_known bytes i.to_come }) ∷ i.accounts;
+}
 
 -- ---- sinks
 

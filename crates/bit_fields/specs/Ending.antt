@@ -6,7 +6,7 @@ use Rattle.bit_grammar.specs.Grammar.{at}
 use Rattle.bit_fields.specs.declared.fault.Fault.{Fault}
 use Rattle.bit_fields.specs.declared.fault.Fault.TheVariants.{Refused, Read, Write, Memory, OutputTooLong, Failed}
 use Rattle.bit_fields.specs.Devices.{known_bytes}
-use Rattle.bit_fields.specs.Reader.{Reader, Extent, TellsBytes, GoesOn, Stops, Loses}
+use Rattle.bit_fields.specs.Reader.{Reader, Extent, TellsBytes, GoesOn, StopsReading, Loses}
 
 -- the bit behind the last one of a stream
 abbrev pub stream_end : Extent → ℕ
@@ -32,15 +32,20 @@ pub record Stays (old new : Reader) : Type 0 where
   pub left : TellsBytes old → new.left ≡ old.left
 
 -- Yes, at the end of the stream; no, before it; or the limit on bytes stands here, and the stream goes on.
-abbrev pub Looks : Reader → Result Bool Fault → Reader → Type 0
-Looks old (Ok true) new = Stays old new × (TellsBytes old → (old.position ≡ stream_end old.extent) × (old.left ≡ []))
-Looks old (Ok false) new = Stays old new × (TellsBytes old → (old.position < stream_end old.extent) × (0 < length old.left))
-Looks old (Err (Refused reason bit)) new = Stops old new × ((reason ≡ TooLong) × (bit ≡ 8 * old.extent.limit)) × (TellsBytes old → (old.position ≡ 8 * old.extent.limit) × (8 * old.extent.limit < stream_end old.extent))
-Looks old (Err Read) new = Loses old new
-Looks old (Err Failed) new = (old.live ≡ false) × (new ≡ old)
-Looks old (Err Memory) new = ⊥
-Looks old (Err Write) new = ⊥
-Looks old (Err OutputTooLong) new = ⊥
+abbrev pub LooksForEnd : Reader → Result Bool Fault → Reader → Type 0
+LooksForEnd old (Ok true) new = Stays old new
+    × (TellsBytes old → (old.position ≡ stream_end old.extent) × (old.left ≡ []))
+LooksForEnd old (Ok false) new = Stays old new
+    × (TellsBytes old → (old.position < stream_end old.extent) × (0 < length old.left))
+LooksForEnd old (Err (Refused reason bit)) new = StopsReading old new
+    × ((reason ≡ TooLong) × (bit ≡ 8 * old.extent.limit))
+    × (TellsBytes old → (old.position ≡ 8 * old.extent.limit)
+    × (8 * old.extent.limit < stream_end old.extent))
+LooksForEnd old (Err Read) new = Loses old new
+LooksForEnd old (Err Failed) new = (old.live ≡ false) × (new ≡ old)
+LooksForEnd old (Err Memory) new = ⊥
+LooksForEnd old (Err Write) new = ⊥
+LooksForEnd old (Err OutputTooLong) new = ⊥
 
 -- ---- the end of the input
 
@@ -50,18 +55,20 @@ is_in_wrapper e = nat_lt e.end (2 ^ 64 - 1)
 
 -- what is said of an input whose stream has no byte left
 abbrev pub verdict : Extent → Result (Unit {0}) grammar.Fault
-verdict e = if is_in_wrapper e && nat_lt e.total e.end then Err (at WrapperSize 96) else (if nat_lt e.limit e.total then Err (at TooLong (8 * e.limit)) else Ok tt)
+verdict e = if is_in_wrapper e && nat_lt e.total e.end then Err (at WrapperSize 96)
+    else (if nat_lt e.limit e.total then Err (at TooLong (8 * e.limit)) else Ok tt)
 
 -- the input is whole and within the limit, and its source has no byte left
 pub record Closed (old new : Reader) : Type 0 where
-  pub stops : Stops old new
+  pub stops : StopsReading old new
   pub whole : TellsBytes old → verdict old.extent ≡ Ok tt
   pub none : TellsBytes old → known_bytes new.incoming.to_come ≡ []
 
 -- what closing does
 abbrev pub Closes : Reader → Result (Unit {0}) Fault → Reader → Type 0
 Closes old (Ok _) new = Closed old new
-Closes old (Err (Refused reason bit)) new = Stops old new × (TellsBytes old → verdict old.extent ≡ Err (at reason bit))
+Closes old (Err (Refused reason bit)) new = StopsReading old new
+    × (TellsBytes old → verdict old.extent ≡ Err (at reason bit))
 Closes old (Err Read) new = Loses old new
 Closes old (Err Failed) new = (old.live ≡ false) × (new ≡ old)
 Closes old (Err Memory) new = ⊥

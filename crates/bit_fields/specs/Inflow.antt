@@ -28,16 +28,17 @@ abbrev pub stop_of : Flow → ℕ
 stop_of f = min f.end f.limit
 
 -- the bits of the stream that are left, up to the limit
-abbrev pub left_of : Flow → List Bool
-left_of f = f.window ++ bits_of_bytes (take (stop_of f - f.loaded) (known_bytes f.incoming.to_come))
+abbrev pub flow_bits : Flow → List Bool
+flow_bits f = f.window ++ bits_of_bytes (take (stop_of f - f.loaded)
+    (known_bytes f.incoming.to_come))
 
 -- how many bytes the whole input has
 abbrev pub total_of : Flow → ℕ
 total_of f = f.loaded + length (known_bytes f.incoming.to_come)
 
 -- the bits that are left end because of the limit
-abbrev pub is_cut : Flow → Bool
-is_cut f = nat_lt f.limit (total_of f) && nat_lt f.limit f.end
+abbrev pub is_flow_cut : Flow → Bool
+is_flow_cut f = nat_lt f.limit (total_of f) && nat_lt f.limit f.end
 
 -- how many pulls may still be made, and bytes taken
 abbrev pub budget_of : Flow → ℕ
@@ -55,28 +56,29 @@ pub record IsFlow (f : Flow) : Type 0 where
 -- the bits that came and were read, within the stream and the limit, are so many as before
 pub record SamePlace (old new : Flow) : Type 0 where
   pub loaded : 8 * old.loaded + length new.window ≤ 8 * new.loaded + length old.window
-  pub exact : 8 * min old.loaded (stop_of old) + length new.window ≡ 8 * min new.loaded (stop_of new) + length old.window
+  pub exact : 8 * min old.loaded (stop_of old) + length new.window
+      ≡ 8 * min new.loaded (stop_of new) + length old.window
 
 -- what is kept where bytes came, or none are left
-pub record Keeps (old new : Flow) : Type 0 where
+pub record KeepsFlow (old new : Flow) : Type 0 where
   pub end : new.end ≡ old.end
   pub limit : new.limit ≡ old.limit
   pub place : SamePlace old new
   pub spends : Spends old.incoming (budget_of old) new.incoming (budget_of new)
-  pub left : IsKnown old → left_of new ≡ left_of old
+  pub left : IsKnown old → flow_bits new ≡ flow_bits old
   pub total : IsKnown old → total_of new ≡ total_of old
 
 -- nothing more came within the limit
 pub record NoMore (old new : Flow) (by_limit : Bool) : Type 0 where
-  pub keeps : Keeps old new
+  pub keeps : KeepsFlow old new
   pub window : new.window ≡ old.window
-  pub left : IsKnown old → left_of old ≡ old.window
-  pub cut : IsKnown old → is_cut old ≡ by_limit
-  pub left_now : left_of new ≡ new.window
-  pub cut_now : is_cut new ≡ by_limit
+  pub left : IsKnown old → flow_bits old ≡ old.window
+  pub cut : IsKnown old → is_flow_cut old ≡ by_limit
+  pub left_now : flow_bits new ≡ new.window
+  pub cut_now : is_flow_cut new ≡ by_limit
 
 -- the source failed
-pub record Lost (old new : Flow) : Type 0 where
+pub record LostFlow (old new : Flow) : Type 0 where
   pub place : SamePlace old new
   pub fails : Fails old.incoming (budget_of old) new.incoming 0
 
@@ -84,34 +86,38 @@ pub record Lost (old new : Flow) : Type 0 where
 abbrev pub Misses : Flow → Flow → Missing → Type 0
 Misses old new End = NoMore old new false
 Misses old new Limit = NoMore old new true
-Misses old new Read = Lost old new
+Misses old new Read = LostFlow old new
 
 -- what taking bytes in leaves
 abbrev pub Brings : Flow → Flow → Result (Unit {0}) Missing → Type 0
-Brings old new (Ok _) = Keeps old new × (length old.window < length new.window)
+Brings old new (Ok _) = KeepsFlow old new × (length old.window < length new.window)
 Brings old new (Err missing) = Misses old new missing
 
 -- the stream has fewer bits left
 pub record RunsOut (old new : Flow) (n : ℕ) (by_limit : Bool) : Type 0 where
-  pub keeps : Keeps old new
-  pub left : IsKnown old → length (left_of old) < n
-  pub cut : IsKnown old → is_cut old ≡ by_limit
-  pub left_now : length (left_of new) < n
-  pub cut_now : is_cut new ≡ by_limit
+  pub keeps : KeepsFlow old new
+  pub left : IsKnown old → length (flow_bits old) < n
+  pub cut : IsKnown old → is_flow_cut old ≡ by_limit
+  pub left_now : length (flow_bits new) < n
+  pub cut_now : is_flow_cut new ≡ by_limit
 
 -- what making sure of n bits leaves
 abbrev pub Fills : ℕ → Flow → Flow → Result (Unit {0}) Missing → Type 0
-Fills n old new (Ok _) = Keeps old new × (n ≤ length new.window)
+Fills n old new (Ok _) = KeepsFlow old new × (n ≤ length new.window)
 Fills n old new (Err End) = RunsOut old new n false
 Fills n old new (Err Limit) = RunsOut old new n true
-Fills n old new (Err Read) = Lost old new
+Fills n old new (Err Read) = LostFlow old new
 
 -- the stream ends at a byte: the bits of the window that stand past it are away
-abbrev pub shortened : Flow → ℕ → Flow
-shortened f end = record f { window = take (length f.window - 8 * (min f.loaded f.limit - end)) f.window; end = end }
+abbrev pub flow_ended_at : Flow → ℕ → Flow
+flow_ended_at f end = record f {
+  window = take (length f.window - 8 * (min f.loaded f.limit - end))
+      f.window;
+  end = end;
+}
 
 -- bytes of the stream were passed that nobody reads
-pub record Passes (old new : Flow) (count : ℕ) : Type 0 where
+pub record PassesBytes (old new : Flow) (count : ℕ) : Type 0 where
   pub some : 0 < count
   pub window : new.window ≡ []
   pub end : new.end ≡ old.end
@@ -119,14 +125,14 @@ pub record Passes (old new : Flow) (count : ℕ) : Type 0 where
   pub loaded : new.loaded ≡ old.loaded + count
   pub within : old.loaded + count ≤ stop_of old
   pub spends : Spends old.incoming (budget_of old) new.incoming (budget_of new)
-  pub there : IsKnown old → 8 * count ≤ length (left_of old)
-  pub left : IsKnown old → left_of new ≡ drop (8 * count) (left_of old)
+  pub there : IsKnown old → 8 * count ≤ length (flow_bits old)
+  pub left : IsKnown old → flow_bits new ≡ drop (8 * count) (flow_bits old)
   pub total : IsKnown old → total_of new ≡ total_of old
 
 -- what passing bytes of the stream leaves, at most so many
-abbrev pub Steps : ℕ → Flow → Flow → Result ℕ Missing → Type 0
-Steps most old new (Ok count) = Passes old new count × (count ≤ most)
-Steps most old new (Err missing) = Misses old new missing
+abbrev pub StepsBytes : ℕ → Flow → Flow → Result ℕ Missing → Type 0
+StepsBytes most old new (Ok count) = PassesBytes old new count × (count ≤ most)
+StepsBytes most old new (Err missing) = Misses old new missing
 
 -- bits of the stream were taken that nobody reads
 pub record Skips (old new : Flow) (count : ℕ) : Type 0 where
@@ -134,10 +140,11 @@ pub record Skips (old new : Flow) (count : ℕ) : Type 0 where
   pub end : new.end ≡ old.end
   pub limit : new.limit ≡ old.limit
   pub loaded : 8 * old.loaded + length new.window + count ≤ 8 * new.loaded + length old.window
-  pub exact : 8 * min old.loaded (stop_of old) + length new.window + count ≡ 8 * min new.loaded (stop_of new) + length old.window
+  pub exact : 8 * min old.loaded (stop_of old) + length new.window + count
+      ≡ 8 * min new.loaded (stop_of new) + length old.window
   pub spends : Spends old.incoming (budget_of old) new.incoming (budget_of new)
-  pub there : IsKnown old → count ≤ length (left_of old)
-  pub left : IsKnown old → left_of new ≡ drop count (left_of old)
+  pub there : IsKnown old → count ≤ length (flow_bits old)
+  pub left : IsKnown old → flow_bits new ≡ drop count (flow_bits old)
   pub total : IsKnown old → total_of new ≡ total_of old
 
 -- what skipping bits of the stream leaves, at most so many; where it fails there was not one
@@ -156,16 +163,17 @@ SkipsAtHand bits old new (Ok true) = Skips old new bits
 SkipsAtHand bits old new (Ok false) = LooksOn old new
 SkipsAtHand bits old new (Err End) = ⊥
 SkipsAtHand bits old new (Err Limit) = ⊥
-SkipsAtHand bits old new (Err Read) = Lost old new
+SkipsAtHand bits old new (Err Read) = LostFlow old new
 
 -- what looking for bytes behind the window does
 abbrev pub LooksOver : Flow → Result Bool SourceFailed → Flow → Type 0
 LooksOver old (Ok some) new = LooksOn old new
-LooksOver old (Err e) new = Lost old new
+LooksOver old (Err e) new = LostFlow old new
 
 -- these bytes come next in the stream behind the window
 abbrev pub LiesBehind : Flow → List ℕ → Type 0
-LiesBehind f bytes = IsKnown f → (rest : List Bool) × (left_of f ≡ (f.window ++ bits_of_bytes bytes) ++ rest)
+LiesBehind f bytes = IsKnown f → (rest : List Bool)
+    × (flow_bits f ≡ (f.window ++ bits_of_bytes bytes) ++ rest)
 
 -- ---- all that is left, which nobody reads
 

@@ -9,27 +9,27 @@ use Rattle.bit_fields.specs.declared.fault.Fault.TheVariants.{Refused, Read}
 use Rattle.bit_fields.specs.declared.inflow.Missing.{Missing}
 use Rattle.bit_fields.specs.declared.inflow.Missing.TheVariants.{End, Limit}
 use Rattle.bit_fields.specs.declared.inflow.Missing.TheVariants as missing
-use Rattle.bit_fields.specs.Inflow.{Flow, left_of, total_of, budget_of, stop_of}
+use Rattle.bit_fields.specs.Inflow.{Flow, flow_bits, total_of, budget_of, stop_of}
 use Rattle.bit_fields.specs.Reader.{Reader, Took}
 
--- a number of so many bits, which are a part of a field that began at start
+-- a number of so many bits, which are a part of a field that began at first
 abbrev pub part_of : ℕ → ℕ → Grammar ℕ
-part_of start n = next_of start n >>= λ s. gives (number s)
+part_of first n = next_of first n >>= λ s. gives (number s)
 
--- so many bits, whatever they are, of a gap that began at start
+-- so many bits, whatever they are, of a gap that began at first
 abbrev pub gap_of : ℕ → ℕ → Grammar (Unit {0})
-gap_of start n = next_of start n >>= λ s. gives tt
+gap_of first n = next_of first n >>= λ s. gives tt
 
 -- a number below, with what a rule gives above it, from a place on
-abbrev pub above : (low place : ℕ) → Grammar ℕ → Grammar ℕ
-above low place rule = rule >>= λ high. gives (low + 2 ^ place * high)
+abbrev pub number_above : (low place : ℕ) → Grammar ℕ → Grammar ℕ
+number_above low place rule = rule >>= λ high. gives (low + 2 ^ place * high)
 
 -- what a reader stands for, by its parts
 abbrev pub reader_of : Bool → ℕ → Flow → Reader
 reader_of live position f = record {
   live = live;
   position = position;
-  left = if live then left_of f else [];
+  left = if live then flow_bits f else [];
   extent = record { total = total_of f; end = f.end; limit = f.limit };
   incoming = f.incoming;
   budget = if live then budget_of f else 0;
@@ -40,27 +40,27 @@ pub record IsReader (live : Bool) (position : ℕ) (f : Flow) : Type 0 where
   pub exact : live ≡ true → position + length f.window ≡ 8 * min f.loaded (stop_of f)
   pub empty : live ≡ false → f.window ≡ []
 
--- the fault of a field that began at start, where bits are missing
-abbrev pub fault_of : Missing → ℕ → ℕ → Fault
-fault_of End start limit = Refused Truncated start
-fault_of Limit start limit = Refused TooLong (8 * limit)
-fault_of missing.Read start limit = Read
+-- the fault of a field that began at first, where bits are missing
+abbrev pub fault_of_missing : Missing → ℕ → ℕ → Fault
+fault_of_missing End first limit = Refused Truncated first
+fault_of_missing Limit first limit = Refused TooLong (8 * limit)
+fault_of_missing missing.Read first limit = Read
 
 -- the numbers of so many fields of n bits
 abbrev pub numbers : (n count : ℕ) → List Bool → List ℕ
 numbers n zero r = []
 numbers n (suc count) r = number (take n r) ∷ numbers n count (drop n r)
 
--- zeros of a padding that began at start were taken, at least one and at most so many
-pub record TookZeros (start most count : ℕ) (old new : Reader) : Type 0 where
+-- zeros of a padding that began at first were taken, at least one and at most so many
+pub record TookZeros (first most count : ℕ) (old new : Reader) : Type 0 where
   pub some : 0 < count
   pub few : count ≤ most
-  pub took : Took (zeros start count) old tt new
+  pub took : Took (zeros first count) old tt new
   pub moves : new.position ≡ old.position + count
 
--- bits of a gap that began at start were taken, whatever they are, at least one and at most so many
-pub record TookGap (start most count : ℕ) (old new : Reader) : Type 0 where
+-- bits of a gap that began at first were taken, whatever they are, at least one and at most so many
+pub record TookGap (first most count : ℕ) (old new : Reader) : Type 0 where
   pub some : 0 < count
   pub few : count ≤ most
-  pub took : Took (gap_of start count) old tt new
+  pub took : Took (gap_of first count) old tt new
   pub moves : new.position ≡ old.position + count

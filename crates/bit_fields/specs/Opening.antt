@@ -6,7 +6,7 @@ use Rattle.bit_grammar.specs.Grammar.{Grammar, reading, ◌and_then◌}
 use Rattle.bit_grammar.specs.Fields.{fixed}
 use Rattle.bit_grammar.specs.Blocks.{Limits}
 use Rattle.bit_grammar.specs.Normal.{most_bytes, most_depth, most_values}
-use Rattle.bit_grammar.specs.Input as input
+use Rattle.bit_grammar.specs.Terms as terms
 use Rattle.bit_grammar.specs.Input.{wrapper_and_gap, inner_magic, outer_wrapper, is_wrapped}
 use Rattle.bit_fields.specs.declared.fault.Fault.{Fault}
 use Rattle.bit_fields.specs.declared.fault.Fault.TheVariants.{Refused, Read, Write, Memory, OutputTooLong, Failed}
@@ -21,10 +21,10 @@ PassCaps l = (most_bytes < l.bytes) ⊎ ((most_depth < l.depth) ⊎ (most_values
 
 -- ---- heads, as the code and as the rules have them
 
-abbrev pub wrapper_told : Wrapper → input.Wrapper
+abbrev pub wrapper_told : Wrapper → terms.Wrapper
 wrapper_told w = record { offset = w.offset; size = w.size; cpu = w.cpu }
 
-abbrev pub wrapper_if_any : Option Wrapper → Option input.Wrapper
+abbrev pub wrapper_if_any : Option Wrapper → Option terms.Wrapper
 wrapper_if_any None = None
 wrapper_if_any (Some w) = Some (wrapper_told w)
 
@@ -32,38 +32,43 @@ wrapper_if_any (Some w) = Some (wrapper_told w)
 abbrev pub magic_number : List ℕ → ℕ
 magic_number bytes = number (bits_of_bytes bytes)
 
-abbrev pub head_told : Head → input.Head
+abbrev pub head_told : Head → terms.Head
 head_told head = record { magic = magic_number head.magic; wrapper = wrapper_if_any head.wrapper }
 
 -- ---- the beginning
 
 -- what is read before the blocks
 abbrev pub Beginning : Type 0
-Beginning = Result (input.Head × ℕ × List Bool) grammar.Fault
+Beginning = Result (terms.Head × ℕ × List Bool) grammar.Fault
 
-abbrev pub with_magic : Option input.Wrapper → Result (ℕ × ℕ × List Bool) grammar.Fault → Beginning
-with_magic wrapper read = read and_then λ x. Ok (record { magic = x.0; wrapper = wrapper }, x.1, x.2)
+abbrev pub with_magic : Option terms.Wrapper → Result (ℕ × ℕ × List Bool) grammar.Fault → Beginning
+with_magic wrapper read = read and_then λ x. Ok
+    (record { magic = x.0; wrapper = wrapper }, x.1, x.2)
 
 -- the stream of a wrapper: its bytes, as many as there are, begin with its magic
-abbrev pub in_wrapper : Result (input.Wrapper × ℕ × List Bool) grammar.Fault → Beginning
-in_wrapper read = read and_then λ x. with_magic (Some x.0) (reading inner_magic x.1 (take (8 * x.0.size) x.2))
+abbrev pub in_wrapper : Result (terms.Wrapper × ℕ × List Bool) grammar.Fault → Beginning
+in_wrapper read = read and_then λ x. with_magic (Some x.0)
+    (reading inner_magic x.1 (take (8 * x.0.size) x.2))
 
 -- all that stands before the blocks of an input with these bits
 unfoldable pub beginning : List Bool → Beginning
-beginning r = reading (fixed 32) 0 r and_then λ x. if is_wrapped x.0 then in_wrapper (reading wrapper_and_gap x.1 x.2) else Ok (record { magic = x.0; wrapper = None }, x.1, x.2)
+beginning r = reading (fixed 32) 0 r and_then λ x. if is_wrapped x.0
+    then in_wrapper (reading wrapper_and_gap x.1 x.2)
+    else Ok (record { magic = x.0; wrapper = None }, x.1, x.2)
 
 -- the wrapper of an input with these bits, if there is one and its header is whole and holds
-abbrev pub wrapper_read : Result (Option input.Wrapper × ℕ × List Bool) grammar.Fault → Option input.Wrapper
+abbrev pub wrapper_read : Result (Option terms.Wrapper × ℕ × List Bool) grammar.Fault
+    → Option terms.Wrapper
 wrapper_read (Ok x) = x.0
 wrapper_read (Err fault) = None
 
-unfoldable pub wrapper_of : List Bool → Option input.Wrapper
+unfoldable pub wrapper_of : List Bool → Option terms.Wrapper
 wrapper_of r = wrapper_read (reading outer_wrapper 0 r)
 
 -- the byte at which a stream ends by its wrapper
-abbrev pub end_of : Option input.Wrapper → ℕ
-end_of None = 2 ^ 64 - 1
-end_of (Some w) = w.offset + w.size
+abbrev pub end_of_stream : Option terms.Wrapper → ℕ
+end_of_stream None = 2 ^ 64 - 1
+end_of_stream (Some w) = w.offset + w.size
 
 -- ---- the call
 
@@ -79,19 +84,22 @@ fresh i limit = record {
 }
 
 -- an input was begun: what is left is the stream behind its magic
-pub record Opened (old : Reader) (head : Head) (new : Reader) : Type 0 where
+pub record OpenedInput (old : Reader) (head : Head) (new : Reader) : Type 0 where
   pub live : new.live ≡ true
   pub goes_on : GoesOn old new
-  pub extent : TellsBytes old → new.extent ≡ record old.extent { end = end_of (wrapper_if_any head.wrapper) }
+  pub extent : TellsBytes old → new.extent ≡ record old.extent
+      { end = end_of_stream (wrapper_if_any head.wrapper) }
   pub reads : TellsBytes old → beginning old.left ≡ Ok (head_told head, new.position, new.left)
 
 -- an input was not begun, and the source is handed back
-abbrev pub Leaves : Reader → Incoming → Type 0
-Leaves old now = Spends old.incoming old.budget now 0
+abbrev pub LeavesSource : Reader → Incoming → Type 0
+LeavesSource old now = Spends old.incoming old.budget now 0
 
 -- why an input was not begun: its beginning breaks so, or the source failed
 abbrev pub Declines : Reader → Fault → Incoming → Type 0
-Declines old (Refused reason bit) now = Leaves old now × (TellsBytes old → Breaks (record old.extent { end = end_of (wrapper_of old.left) }) (beginning old.left) reason bit)
+Declines old (Refused reason bit) now = LeavesSource old now
+    × (TellsBytes old → Breaks (record old.extent { end = end_of_stream (wrapper_of old.left) })
+    (beginning old.left) reason bit)
 Declines old Read now = Fails old.incoming old.budget now 0
 Declines old Memory now = ⊥
 Declines old Failed now = ⊥
@@ -100,5 +108,5 @@ Declines old OutputTooLong now = ⊥
 
 -- what beginning an input does
 abbrev pub Opens : Reader → Result Head Fault → Reader → Type 0
-Opens old (Ok head) new = Opened old head new
+Opens old (Ok head) new = OpenedInput old head new
 Opens old (Err fault) new = Declines old fault new.incoming

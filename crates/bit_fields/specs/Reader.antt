@@ -42,7 +42,8 @@ within e Truncated bit = if is_cut e then at TooLong (8 * e.limit) else at Trunc
 within e reason bit = at reason bit
 
 -- what was read breaks, which is refused for this reason at this bit
-abbrev pub Breaks : {A : Type 0} → Extent → Result (A × ℕ × List Bool) grammar.Fault → Reason → ℕ → Type 0
+abbrev pub Breaks : {A : Type 0} → Extent → Result (A × ℕ × List Bool) grammar.Fault → Reason → ℕ
+    → Type 0
 Breaks e (Ok x) reason bit = ⊥
 Breaks e (Err fault) reason bit = within e fault.reason fault.bit ≡ at reason bit
 
@@ -51,7 +52,8 @@ abbrev pub GoesOn : Reader → Reader → Type 0
 GoesOn old new = Spends old.incoming old.budget new.incoming new.budget
 
 -- a call that succeeded took what the rule reads, and gave its value
-pub record Took {A : Type 0} (rule : Grammar A) (old : Reader) (value : A) (new : Reader) : Type 0 where
+pub record Took {A : Type 0} (rule : Grammar A) (old : Reader) (value : A)
+    (new : Reader) : Type 0 where
   pub was_live : old.live ≡ true
   pub live : new.live ≡ true
   pub goes_on : GoesOn old new
@@ -59,10 +61,11 @@ pub record Took {A : Type 0} (rule : Grammar A) (old : Reader) (value : A) (new 
   pub end : new.extent.end ≡ old.extent.end
   pub limit : new.extent.limit ≡ old.extent.limit
   pub extent : TellsBytes old → new.extent ≡ old.extent
-  pub reads : TellsBytes old → reading rule old.position old.left ≡ Ok (value, new.position, new.left)
+  pub reads : TellsBytes old → reading rule old.position old.left
+      ≡ Ok (value, new.position, new.left)
 
 -- a call after which the reader has failed, or is closed, and in which the source did not fail
-pub record Stops (old new : Reader) : Type 0 where
+pub record StopsReading (old new : Reader) : Type 0 where
   pub was_live : old.live ≡ true
   pub failed : new.live ≡ false
   pub goes_on : GoesOn old new
@@ -76,9 +79,10 @@ pub record Loses (old new : Reader) : Type 0 where
 -- Why a call did not succeed: the rule breaks so; the source failed; no memory; or the reader had failed before, and
 -- nothing changed.
 abbrev pub Why : {A : Type 0} → Grammar A → Reader → Fault → Reader → Type 0
-Why rule old (Refused reason bit) new = Stops old new × (TellsBytes old → Breaks old.extent (reading rule old.position old.left) reason bit)
+Why rule old (Refused reason bit) new = StopsReading old new
+    × (TellsBytes old → Breaks old.extent (reading rule old.position old.left) reason bit)
 Why rule old Read new = Loses old new
-Why rule old Memory new = Stops old new
+Why rule old Memory new = StopsReading old new
 Why rule old Failed new = (old.live ≡ false) × (new ≡ old)
 Why rule old Write new = ⊥
 Why rule old OutputTooLong new = ⊥
@@ -102,14 +106,17 @@ NeedsNoMemory (Err fault) = Unit {0}
 -- After a success no other bits at the front of what is left, whatever follows it, spell a value of the rule; after a
 -- refusal no bits at the front of what is left up to the limit on bytes do.
 abbrev pub IsOnly : {A : Type 0} → Grammar A → Reader → Result A Fault → Reader → Type 0
-IsOnly {A} rule old (Ok value) new = TellsBytes old → (more s rest : List Bool) (v : A) → old.left ++ more ≡ s ++ rest → Spells rule old.position s v → (new.position ≡ old.position + length s) × (v ≡ value)
-IsOnly {A} rule old (Err (Refused reason bit)) new = TellsBytes old → (s rest : List Bool) (v : A) → old.left ≡ s ++ rest → Spells rule old.position s v → ⊥
+IsOnly {A} rule old (Ok value) new = TellsBytes old → (more s rest : List Bool) (v : A)
+    → old.left ++ more ≡ s ++ rest → Spells rule old.position s v
+    → (new.position ≡ old.position + length s) × (v ≡ value)
+IsOnly {A} rule old (Err (Refused reason bit)) new = TellsBytes old → (s rest : List Bool) (v : A)
+    → old.left ≡ s ++ rest → Spells rule old.position s v → ⊥
 IsOnly rule old (Err fault) new = Unit {0}
 
 -- what a reader is once it has failed: it stays where it stands
-abbrev pub stopped : Reader → Reader
-stopped r = record r { live = false; left = []; budget = 0 }
+abbrev pub failed_reader : Reader → Reader
+failed_reader r = record r { live = false; left = []; budget = 0 }
 
 -- what it is once it has failed in a call that began at a bit
 abbrev pub stopped_at : Reader → ℕ → Reader
-stopped_at r start = record r { live = false; position = start; left = []; budget = 0 }
+stopped_at r first = record r { live = false; position = first; left = []; budget = 0 }

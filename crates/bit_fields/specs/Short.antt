@@ -5,19 +5,21 @@ use Rattle.bit_grammar.specs.Grammar.{gives}
 use Rattle.bit_fields.specs.Reader.{Reader, Took}
 
 -- the number at the low end of a word takes so many chunks
-abbrev pub Ends : (payload count word : ℕ) → Type 0
-Ends payload zero word = ⊥
-Ends payload (suc zero) word = word / 2 ^ payload % 2 ≡ 0
-Ends payload (suc (suc count)) word = (word / 2 ^ payload % 2 ≡ 1) × Ends payload (suc count) (word / 2 ^ suc payload)
+abbrev pub EndsChunks : (payload count word : ℕ) → Type 0
+EndsChunks payload zero word = ⊥
+EndsChunks payload (suc zero) word = word / 2 ^ payload % 2 ≡ 0
+EndsChunks payload (suc (suc count)) word = (word / 2 ^ payload % 2 ≡ 1)
+    × EndsChunks payload (suc count) (word / 2 ^ suc payload)
 
 -- the number at the low end of a word takes so many bits, which are at most four chunks
 abbrev pub EndsAt : (n bits word : ℕ) → Type 0
-EndsAt n bits word = (count : ℕ) × (count ≤ 4) × (bits ≡ n * count) × Ends (n - 1) count word
+EndsAt n bits word = (count : ℕ) × (count ≤ 4) × (bits ≡ n * count) × EndsChunks (n - 1) count word
 
 -- the payloads of so many chunks, one above the other
-abbrev pub gathered : (payload count word : ℕ) → ℕ
-gathered payload zero word = 0
-gathered payload (suc count) word = word % 2 ^ payload + 2 ^ payload * gathered payload count (word / 2 ^ suc payload)
+abbrev pub payload_number : (payload count word : ℕ) → ℕ
+payload_number payload zero word = 0
+payload_number payload (suc count) word = word % 2 ^ payload
+    + 2 ^ payload * payload_number payload count (word / 2 ^ suc payload)
 
 -- a call that succeeded and took nothing
 abbrev pub TookNothing : Reader → Reader → Type 0

@@ -9,8 +9,11 @@ use Rattle.bit_fields.specs.Short.{TookNothing}
 use Rattle.bit_fields.specs.Ahead.{InSight, Sees}
 
 -- the bits that were lent
-abbrev pub told : Sight → InSight
-told s = record { position = s.position; bits = bits_of s.held s.word ++ bits_of_bytes s.bytes.now }
+abbrev pub sight_lent : Sight → InSight
+sight_lent s = record {
+  position = s.position;
+  bits = bits_of s.held s.word ++ bits_of_bytes s.bytes.now;
+}
 
 -- what holds of what a reader lends
 pub record IsSight (s : Sight) : Type 0 where
@@ -22,9 +25,9 @@ pub record IsSight (s : Sight) : Type 0 where
 pub record Shown (old : Reader) (sight : Sight) (new : Reader) : Type 0 where
   pub nothing : TookNothing old new
   pub stays : new.position ≡ old.position
-  pub sees : Sees old (told sight)
+  pub sees : Sees old (sight_lent sight)
 
 -- what asking a reader for what is in sight does
-abbrev pub Shows : Reader → Result Sight Fault → Reader → Type 0
-Shows old (Ok sight) new = Shown old sight new
-Shows old (Err fault) new = Why (gives (tt {0})) old fault new
+abbrev pub ShowsSight : Reader → Result Sight Fault → Reader → Type 0
+ShowsSight old (Ok sight) new = Shown old sight new
+ShowsSight old (Err fault) new = Why (gives (tt {0})) old fault new

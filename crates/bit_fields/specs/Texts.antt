@@ -5,9 +5,9 @@ use Rattle.std.specs.List.{flat_map}
 use Rattle.bit_grammar.specs.Bits.{bits_of}
 
 -- the words of chunks
-abbrev pub joined : List (Vec ℕ) → List ℕ
-joined [] = []
-joined (chunk ∷ chunks) = chunk.items ++ joined chunks
+abbrev pub words_of_chunks : List (Vec ℕ) → List ℕ
+words_of_chunks [] = []
+words_of_chunks (chunk ∷ chunks) = chunk.items ++ words_of_chunks chunks
 
 -- each chunk has all the words that it can have
 abbrev pub AreFull : List (Vec ℕ) → Type 0
@@ -20,4 +20,5 @@ bits_of_words words = flat_map (bits_of 32) words
 
 -- a text with another word in place of one
 abbrev pub with_word : (place word : ℕ) → List Bool → List Bool
-with_word place word text = take (32 * place) text ++ (bits_of 32 word ++ drop (32 * place + 32) text)
+with_word place word text = take (32 * place) text
+    ++ (bits_of 32 word ++ drop (32 * place + 32) text)

@@ -20,24 +20,24 @@ pub record IsWriter (w : Writer) : Type 0 where
   pub whole : w.live ≡ true → length w.held % 8 ≡ w.position % 8
 
 -- the sink tells which bytes it took
-abbrev pub TellsBytes : Writer → Type 0
-TellsBytes w = IsSome w.outgoing.bytes
+abbrev pub TellsTaken : Writer → Type 0
+TellsTaken w = IsSome w.outgoing.bytes
 
 -- the bits of what the sink took
-abbrev pub taken : Writer → List Bool
-taken w = bits_of_bytes (known_bytes w.outgoing.bytes)
+abbrev pub taken_bits : Writer → List Bool
+taken_bits w = bits_of_bytes (known_bytes w.outgoing.bytes)
 
 -- those, and the bits that it has not got yet
-abbrev pub written : Writer → List Bool
-written w = taken w ++ w.held
+abbrev pub written_bits : Writer → List Bool
+written_bits w = taken_bits w ++ w.held
 
 -- the sink took these bytes
-abbrev pub Gained : Writer → List ℕ → Writer → Type 0
-Gained old more new = known_bytes new.outgoing.bytes ≡ known_bytes old.outgoing.bytes ++ more
+abbrev pub GainedBytes : Writer → List ℕ → Writer → Type 0
+GainedBytes old more new = known_bytes new.outgoing.bytes ≡ known_bytes old.outgoing.bytes ++ more
 
 -- the sink has all the bytes that it had, and possibly more
 abbrev pub Grows : Writer → Writer → Type 0
-Grows old new = (more : List ℕ) × Gained old more new
+Grows old new = (more : List ℕ) × GainedBytes old more new
 
 -- bits were written: they stand behind what was written before
 pub record Wrote (old : Writer) (spelling : List Bool) (new : Writer) : Type 0 where
@@ -45,28 +45,29 @@ pub record Wrote (old : Writer) (spelling : List Bool) (new : Writer) : Type 0 w
   pub live : new.live ≡ true
   pub position : new.position ≡ old.position + length spelling
   pub failures : new.outgoing.failures ≡ old.outgoing.failures
-  pub tells : TellsBytes old → TellsBytes new
-  pub kept : TellsBytes old → Grows old new
-  pub written : TellsBytes old → written new ≡ written old ++ spelling
+  pub tells : TellsTaken old → TellsTaken new
+  pub kept : TellsTaken old → Grows old new
+  pub written : TellsTaken old → written_bits new ≡ written_bits old ++ spelling
 
 -- the sink failed, or was worn, while bits were written: it has a front of what was to stand there, with all that it had
 -- before
-pub record Lost (old : Writer) (spelling : List Bool) (new : Writer) : Type 0 where
+pub record LostBits (old : Writer) (spelling : List Bool) (new : Writer) : Type 0 where
   pub was_live : old.live ≡ true
   pub failed : new.live ≡ false
   pub why : (old.outgoing.failures < new.outgoing.failures) ⊎ IsSpent old.outgoing
-  pub tells : TellsBytes old → TellsBytes new
-  pub kept : TellsBytes old → Grows old new
-  pub front : TellsBytes old → (rest : List Bool) × (taken new ++ rest ≡ written old ++ spelling)
+  pub tells : TellsTaken old → TellsTaken new
+  pub kept : TellsTaken old → Grows old new
+  pub front : TellsTaken old → (rest : List Bool)
+      × (taken_bits new ++ rest ≡ written_bits old ++ spelling)
 
 -- a writer that holds the bits of these bytes
-abbrev pub holding : Writer → List ℕ → Writer
-holding w bytes = record w { held = bits_of_bytes bytes }
+abbrev pub writer_holding : Writer → List ℕ → Writer
+writer_holding w bytes = record w { held = bits_of_bytes bytes }
 
 -- one call, or several in turn, that write these bits; after a failure nothing more is written
 abbrev pub Writes : List Bool → Writer → Result (Unit {0}) Fault → Writer → Type 0
 Writes spelling old (Ok _) new = Wrote old spelling new
-Writes spelling old (Err Write) new = Lost old spelling new
+Writes spelling old (Err Write) new = LostBits old spelling new
 Writes spelling old (Err Failed) new = (old.live ≡ false) × (new ≡ old)
 Writes spelling old (Err (Refused reason bit)) new = ⊥
 Writes spelling old (Err Read) new = ⊥

@@ -4,7 +4,7 @@ ghost use Rattle.bit_grammar.specs.Grammar.{repeat};
 ghost use Rattle.bit_grammar.specs.Fields.{fixed, vbr, char6};
 ghost use Rattle.bit_fields.specs.Inside.{part_of, numbers};
 ghost use Rattle.bit_fields.specs.Ahead.{Glimpsed, beyond};
-ghost use Rattle.bit_fields.specs.Sight.{told, IsSight};
+ghost use Rattle.bit_fields.specs.Sight.{sight_lent, IsSight};
 
 use crate::numbers::{MOST_SHORT, character, payload_of, placed};
 use crate::window::Window;
@@ -42,7 +42,10 @@ impl<'a> Model for Ahead<'a> {
 
     ghost Value = { InSight };
 
-    ghost view = { λ a. record { position = a.end - (length a.window + 8 * length a.bytes.now); bits = a.window ++ bits_of_bytes a.bytes.now } };
+    ghost view = { λ a. record {
+      position = a.end - (length a.window + 8 * length a.bytes.now);
+      bits = a.window ++ bits_of_bytes a.bytes.now;
+    } };
 
     ghost invariant = { λ a. length a.window + 8 * length a.bytes.now ≤ a.end };
 }
@@ -52,7 +55,7 @@ impl<'a> Ahead<'a> {
     #[inline(always)]
     pub fn new(sight: Sight<'a>) -> Ahead<'a>
         requires { IsSight sight }
-        ensures { result ≡ told sight.entry }
+        ensures { result ≡ sight_lent sight.entry }
     {
         let end = sight.position + (u64::from(sight.held) + 8 * sight.bytes.len() as u64);
         Ahead {
@@ -86,7 +89,8 @@ impl<'a> Ahead<'a> {
     #[inline(always)]
     fn part(&mut self, n: u32) -> Option<u64>
         requires { n ≤ 32 }
-        ensures glimpsed { IfSome result (λ value. (start : ℕ) → Glimpsed (part_of start n) self.old value self.new) }
+        ensures glimpsed { IfSome result (λ value. (first : ℕ)
+            → Glimpsed (part_of first n) self.old value self.new) }
         ensures below { IfSome result (λ value. value < 2 ^ n) }
         ensures moves { OnSome result (self.new.position ≡ self.old.position + n) }
     {
@@ -98,7 +102,8 @@ impl<'a> Ahead<'a> {
     #[inline(always)]
     fn held_part(&mut self, n: u32) -> Option<u64>
         requires { n ≤ 32 }
-        ensures glimpsed { IfSome result (λ value. (start : ℕ) → Glimpsed (part_of start n) self.old value self.new) }
+        ensures glimpsed { IfSome result (λ value. (first : ℕ)
+            → Glimpsed (part_of first n) self.old value self.new) }
         ensures below { IfSome result (λ value. value < 2 ^ n) }
         ensures moves { OnSome result (self.new.position ≡ self.old.position + n) }
     {
@@ -183,7 +188,8 @@ impl<'a> Ahead<'a> {
     fn one_chunk(&mut self, n: u32) -> Option<u64>
         requires some { 2 ≤ n }
         requires few { n ≤ 32 }
-        ensures glimpsed { MatchOption result (self.new ≡ self.old) (λ value. Glimpsed (vbr n) self.old value self.new) }
+        ensures glimpsed { MatchOption result (self.new ≡ self.old)
+            (λ value. Glimpsed (vbr n) self.old value self.new) }
         ensures moves { OnSome result (self.new.position ≡ self.old.position + n) }
     {
         if self.window.len() < n || self.window.peek(n) >= 1 << (n - 1) {
@@ -197,7 +203,8 @@ impl<'a> Ahead<'a> {
     fn few_chunks(&mut self, n: u32) -> Option<u64>
         requires some { 2 ≤ n }
         requires few { n ≤ 32 }
-        ensures glimpsed { MatchOption result (self.new ≡ self.old) (λ value. Glimpsed (vbr n) self.old value self.new) }
+        ensures glimpsed { MatchOption result (self.new ≡ self.old)
+            (λ value. Glimpsed (vbr n) self.old value self.new) }
         ensures moves { OnSome result (self.old.position + n ≤ self.new.position) }
     {
         if n > MOST_SHORT {
@@ -218,13 +225,14 @@ impl<'a> Ahead<'a> {
     fn far_vbr(self, n: u32) -> (u64, u64)
         requires some { 2 ≤ n }
         requires few { n ≤ 32 }
-        ensures glimpsed { 0 < result.1 → Glimpsed (vbr n) self.entry result.0 (beyond self.entry result.1) }
+        ensures glimpsed { 0 < result.1 → Glimpsed (vbr n) self.entry result.0
+            (beyond self.entry result.1) }
         ensures moves { 0 < result.1 → n ≤ result.1 }
     {
         let mut ahead = self;
-        let start = ahead.position();
+        let first = ahead.position();
         match ahead.chunk_by_chunk(n) {
-            Some(value) => (value, ahead.position() - start),
+            Some(value) => (value, ahead.position() - first),
             None => (0, 0),
         }
     }
@@ -259,7 +267,8 @@ impl<'a> Ahead<'a> {
         requires some { 0 < n }
         requires few { n ≤ 32 }
         requires fits { count < 2 ^ 32 }
-        ensures glimpsed { OnSome result (Glimpsed (repeat count (fixed n)) self.old (numbers n count self.old.bits) self.new) }
+        ensures glimpsed { OnSome result (Glimpsed (repeat count (fixed n)) self.old
+            (numbers n count self.old.bits) self.new) }
         ensures moves { OnSome result (self.new.position ≡ self.old.position + n * count) }
     {
         self.skip(count * u64::from(n))?;
@@ -306,7 +315,8 @@ impl<'a> Ahead<'a> {
 #[inline(always)]
 fn load<'a>(window: &mut Window, bytes: &'a [u8]) -> Option<&'a [u8]>
     requires { length window.old ≤ 32 }
-    ensures same { IfSome result (λ rest. window.new ++ bits_of_bytes rest.now ≡ window.old ++ bits_of_bytes bytes.now) }
+    ensures same { IfSome result (λ rest. window.new ++ bits_of_bytes rest.now
+        ≡ window.old ++ bits_of_bytes bytes.now) }
     ensures longer { OnSome result (length window.new ≡ length window.old + 32) }
     ensures fewer { IfSome result (λ rest. length bytes.now ≡ 4 + length rest.now) }
     ensures none { IfNone result (window.new ≡ window.old) }

@@ -1,7 +1,7 @@
 ghost use Rattle.std.specs.Prelude.{ℕ, ◌≡◌, ◌+◌, ◌*◌, ◌-◌, ◌<◌, ◌≤◌, ◌^◌, length, true, false, take, drop, [], OnOk, IfOk};
 ghost use Rattle.bit_grammar.specs.Bits.{number, bits_of};
-ghost use Rattle.bit_fields.specs.Short.{EndsAt, gathered};
-ghost use Rattle.bit_fields.specs.Inflow.{Brings, Misses, Fills, Steps, SkipsSome, SkipsAtHand, Drains, DrainsSome, LooksOn, LooksOver, LiesBehind, stop_of, shortened, to_drain};
+ghost use Rattle.bit_fields.specs.Short.{EndsAt, payload_number};
+ghost use Rattle.bit_fields.specs.Inflow.{Brings, Misses, Fills, StepsBytes, SkipsSome, SkipsAtHand, Drains, DrainsSome, LooksOn, LooksOver, LiesBehind, stop_of, flow_ended_at, to_drain};
 ghost use Rattle.std.specs.Borrow.{sem};
 ghost use Rattle.bit_fields.specs.Devices.{IsFresh};
 ghost use Rattle.std.specs.Io.BufRead.{Rests};
@@ -37,9 +37,23 @@ impl<S: Source> Model for Inflow<S> {
 
     ghost Value = { Flow };
 
-    ghost view = { λ f. record { window = f.window; incoming = S.incoming f.source; loaded = f.loaded; end = f.end; limit = f.limit; ended = f.ended } };
+    ghost view = { λ f. record {
+      window = f.window;
+      incoming = S.incoming f.source;
+      loaded = f.loaded;
+      end = f.end;
+      limit = f.limit;
+      ended = f.ended;
+    } };
 
-    ghost invariant = { λ f. IsFlow (record { window = f.window; incoming = S.incoming f.source; loaded = f.loaded; end = f.end; limit = f.limit; ended = f.ended }) };
+    ghost invariant = { λ f. IsFlow (record {
+      window = f.window;
+      incoming = S.incoming f.source;
+      loaded = f.loaded;
+      end = f.end;
+      limit = f.limit;
+      ended = f.ended;
+    }) };
 }
 
 impl<S: Source> Inflow<S> {
@@ -48,7 +62,14 @@ impl<S: Source> Inflow<S> {
     /// The whole of what a source has, up to a limit on bytes.
     pub fn new(source: S, limit: u64) -> Inflow<S>
         requires { limit < 2 ^ 35 }
-        ensures { result ≡ record { window = []; incoming = S.incoming source; loaded = 0; end = u64.MAX; limit = limit; ended = false } }
+        ensures { result ≡ record {
+          window = [];
+          incoming = S.incoming source;
+          loaded = 0;
+          end = u64.MAX;
+          limit = limit;
+          ended = false;
+        } }
     {
         Inflow {
             window: Window::new(),
@@ -134,7 +155,8 @@ impl<S: Source> Inflow<S> {
     /// Whether eight bytes at least are left of the stream, as far as is known.
     #[inline(always)]
     fn has_eight(&self) -> bool
-        ensures { result ≡ true → (self.now.ended ≡ false) × (self.now.loaded + 8 ≤ stop_of self.now) }
+        ensures { result ≡ true → (self.now.ended ≡ false)
+            × (self.now.loaded + 8 ≤ stop_of self.now) }
     {
         !self.ended && self.loaded + 8 <= self.end.min(self.limit)
     }
@@ -213,7 +235,8 @@ impl<S: Source> Inflow<S> {
         requires few { n ≤ 14 }
         requires most { bits ≤ 56 }
         requires there { bits ≤ length self.old.window }
-        ensures value { (count : ℕ) → count ≤ 4 → bits ≡ n * count → result ≡ gathered (n - 1) count (number self.old.window) }
+        ensures value { (count : ℕ) → count ≤ 4 → bits ≡ n * count
+            → result ≡ payload_number (n - 1) count (number self.old.window) }
         ensures rest { self.new ≡ record self.old { window = drop bits self.old.window } }
         ensures loaded { self.old.loaded ≤ 2 ^ 35 }
     {
@@ -250,7 +273,8 @@ impl<S: Source> Inflow<S> {
         requires { IsFresh self.old.incoming }
         ensures front { LiesBehind self.old result.now }
         ensures few { length result.now ≤ 2 ^ 35 }
-        ensures* rests { sem 𝓛 (Rests (the_row S.row S.Source) self.entry (λ new. LooksOn self.old new)) }
+        ensures* rests { sem 𝓛 (Rests (the_row S.row S.Source) self.entry
+            (λ new. LooksOn self.old new)) }
     {
         if self.ended {
             return &[];
@@ -270,7 +294,7 @@ impl<S: Source> Inflow<S> {
     /// Ends the stream at a byte.
     pub fn shorten(&mut self, end: u64)
         requires { end < 2 ^ 60 }
-        ensures shortened { self.new ≡ shortened self.old end }
+        ensures shortened { self.new ≡ flow_ended_at self.old end }
         ensures limit { self.old.limit < 2 ^ 35 }
     {
         let over = 8 * self.loaded.min(self.limit).saturating_sub(end);
@@ -285,7 +309,7 @@ impl<S: Source> Inflow<S> {
     pub fn pass(&mut self, most: u64) -> Result<u64, Missing>
         requires some { 0 < most }
         requires empty { self.old.window ≡ [] }
-        ensures { Steps most self.old self.new result }
+        ensures { StepsBytes most self.old self.new result }
     {
         if self.ended {
             return Err(Missing::End);

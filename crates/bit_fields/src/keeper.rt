@@ -17,7 +17,8 @@ pub trait ValueKeeper: ValueTaker + Drop {
 
     ghost took_kept: { (keeper : Self) → Self.took keeper (kept keeper) };
 
-    ghost kept_took: { (keeper : Self) (values : List ℕ) → Self.took keeper values → kept keeper ≡ values };
+    ghost kept_took: { (keeper : Self) (values : List ℕ) → Self.took keeper values
+        → kept keeper ≡ values };
 }
 
 /// As numbers.

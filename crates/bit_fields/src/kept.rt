@@ -72,7 +72,8 @@ pub struct KeptSource<S> {
 impl<S: Source> KeptSource<S> {
     /// A source that has kept nothing yet.
     pub fn new(alloc: Global, source: S) -> KeptSource<S>
-        ensures { ⟦<KeptSource<S> as Source>⟧.incoming result ≡ keeps_of true [] (S.incoming source) }
+        ensures { ⟦<KeptSource<S> as Source>⟧.incoming result
+            ≡ keeps_of true [] (S.incoming source) }
     {
         KeptSource {
             source,
@@ -85,7 +86,10 @@ impl<S: Source> KeptSource<S> {
 
     /// All bytes that it gave, or that memory for them was refused; and the other source as it stands.
     pub fn into_parts(self) -> (Result<Vec<u8>, AllocError>, S)
-        ensures { MatchResult result.0 (λ bytes. ⟦<KeptSource<S> as Source>⟧.incoming self ≡ keeps_of true bytes.items (S.incoming result.1)) (λ _. (bytes : List ℕ) × (⟦<KeptSource<S> as Source>⟧.incoming self ≡ keeps_of false bytes (S.incoming result.1))) }
+        ensures { MatchResult result.0 (λ bytes. ⟦<KeptSource<S> as Source>⟧.incoming self
+            ≡ keeps_of true bytes.items (S.incoming result.1))
+            (λ _. (bytes : List ℕ) × (⟦<KeptSource<S> as Source>⟧.incoming self
+            ≡ keeps_of false bytes (S.incoming result.1))) }
     {
         if !self.kept.whole {
             return (Err(AllocError), self.source);
@@ -97,7 +101,9 @@ impl<S: Source> KeptSource<S> {
     #[inline]
     fn keep_ahead(&mut self, count: usize) -> Result<bool, SourceFailed>
         ensures looks { Looks (S.incoming self.old.source) result (S.incoming self.new.source) }
-        ensures ahead { IfOk result (λ did. did ≡ true → IsFresh (S.incoming self.new.source) × KeptAhead count (S.incoming self.old.source).to_come self.old.kept self.new.kept) }
+        ensures ahead { IfOk result (λ did. did ≡ true
+            → IsFresh (S.incoming self.new.source)
+            × KeptAhead count (S.incoming self.old.source).to_come self.old.kept self.new.kept) }
         ensures none { IfOk result (λ did. did ≡ false → self.new.kept ≡ self.old.kept) }
         ensures failed { OnErr result (self.new.kept ≡ self.old.kept) }
     {

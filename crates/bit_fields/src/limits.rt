@@ -22,11 +22,26 @@ impl Model for Limits {
 
     ghost Value = { Told };
 
-    ghost view = { λ l. record { bytes = l.bytes; depth = l.depth; values = l.values; shapes = l.shapes } };
+    ghost view = { λ l. record {
+      bytes = l.bytes;
+      depth = l.depth;
+      values = l.values;
+      shapes = l.shapes;
+    } };
 
-    ghost invariant = { λ l. Capped (record { bytes = l.bytes; depth = l.depth; values = l.values; shapes = l.shapes }) };
+    ghost invariant = { λ l. Capped (record {
+      bytes = l.bytes;
+      depth = l.depth;
+      values = l.values;
+      shapes = l.shapes;
+    }) };
 
-    ghost inverse = { λ l. record { bytes = l.bytes; depth = l.depth; values = l.values; shapes = l.shapes } };
+    ghost inverse = { λ l. record {
+      bytes = l.bytes;
+      depth = l.depth;
+      values = l.values;
+      shapes = l.shapes;
+    } };
 }
 
 impl Limits {
@@ -34,7 +49,14 @@ impl Limits {
     /// depth 1, and on the values of all records. `None` where one is past its cap: 17,179,869,180 bytes, depth 255,
     /// 4,294,967,295 values. Shapes are judged at the definition.
     pub fn new(bytes: u64, depth: u32, values: u64) -> Option<Limits>
-        ensures { MatchOption result (PassCaps (record { bytes = bytes; depth = depth; values = values; shapes = AtDefinition })) (λ limits. (limits ≡ record { bytes = bytes; depth = depth; values = values; shapes = AtDefinition }) × Capped limits) }
+        ensures { MatchOption result (PassCaps
+            (record { bytes = bytes; depth = depth; values = values; shapes = AtDefinition }))
+            (λ limits. (limits ≡ record {
+              bytes = bytes;
+              depth = depth;
+              values = values;
+              shapes = AtDefinition;
+            }) × Capped limits) }
     {
         if bytes <= MOST_BYTES && depth <= MOST_DEPTH && values <= MOST_VALUES {
             Some(Limits {

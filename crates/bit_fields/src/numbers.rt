@@ -1,7 +1,7 @@
 //! Parts of fields, as numbers.
 
 ghost use Rattle.std.specs.Prelude.{◌≡◌, ◌*◌, ◌-◌, ◌<◌, ◌≤◌, ◌^◌, ◌%◌, MatchOption, ◌&&◌, ◌==◌, nat_le};
-ghost use Rattle.bit_grammar.specs.Fields.{character};
+ghost use Rattle.bit_grammar.specs.Terms.{character};
 
 /// The greatest width of chunks of which four are read at once.
 pub const MOST_SHORT: u32 = 14;
@@ -26,7 +26,8 @@ pub fn payload_of(chunk: u64, n: u32) -> u64
 pub fn placed(payload: u64, place: u32) -> Option<u64>
     requires some { 0 < place }
     requires few { place < 64 }
-    ensures { MatchOption result (2 ^ (64 - place) ≤ payload) (λ worth. (worth ≡ payload * 2 ^ place) × (payload < 2 ^ (64 - place))) }
+    ensures { MatchOption result (2 ^ (64 - place) ≤ payload)
+        (λ worth. (worth ≡ payload * 2 ^ place) × (payload < 2 ^ (64 - place))) }
 {
     if payload >> (64 - place) == 0 {
         Some(payload << place)

@@ -2,16 +2,17 @@ ghost use Rattle.std.specs.Prelude.{◌≡◌, ◌+◌, ◌*◌, ◌-◌, ◌<�
 ghost use Rattle.std.specs.Borrow.{sem};
 ghost use Rattle.bit_fields.specs.Devices.{IsFresh};
 ghost use Rattle.std.specs.Io.BufRead.{Rests};
-ghost use Rattle.bit_grammar.specs.Fields.{fixed, vbr, align32, chunks, chunk_limit, zeros};
+ghost use Rattle.bit_grammar.specs.Fields.{fixed, vbr, align32, chunks, zeros};
+ghost use Rattle.bit_grammar.specs.Terms.{chunk_limit};
 ghost use Rattle.bit_grammar.specs.Grammar.{at, gives, test, repeat};
 ghost use Rattle.bit_grammar.specs.Input.{version, offset, wrapper, any_bits, inner_magic};
-ghost use Rattle.bit_fields.specs.Reader.{Extent, Takes, Took, Why, IsOnly, NeedsNoMemory, within, told_by, stopped, stopped_at};
+ghost use Rattle.bit_fields.specs.Reader.{Extent, Takes, Took, Why, IsOnly, NeedsNoMemory, within, told_by, failed_reader, stopped_at};
 ghost use Rattle.bit_fields.specs.Short.{TookNothing};
 ghost use Rattle.bit_fields.specs.Ahead.{Sees};
-ghost use Rattle.bit_fields.specs.Sight.{told, IsSight, Shown, Shows};
-ghost use Rattle.bit_fields.specs.Opening.{fresh, Opened, Declines, Opens, wrapper_told};
-ghost use Rattle.bit_fields.specs.Ending.{reach_of, Looks, Closes, IsThrough};
-ghost use Rattle.bit_fields.specs.Inside.{part_of, gap_of, above, fault_of, numbers, TookZeros, TookGap};
+ghost use Rattle.bit_fields.specs.Sight.{sight_lent, IsSight, Shown, ShowsSight};
+ghost use Rattle.bit_fields.specs.Opening.{fresh, OpenedInput, Declines, Opens, wrapper_told};
+ghost use Rattle.bit_fields.specs.Ending.{reach_of, LooksForEnd, Closes, IsThrough};
+ghost use Rattle.bit_fields.specs.Inside.{part_of, gap_of, number_above, fault_of_missing, numbers, TookZeros, TookGap};
 
 use crate::ahead::Sight;
 use crate::fault::Fault;
@@ -58,9 +59,11 @@ impl<S: Source> BitReader<S> {
     /// the magic of a wrapper, `Truncated` or `WrapperNested` at its first bit. Where only the limit on bytes ends the
     /// input or the stream, `TooLong` at 8 times the limit stands for `Truncated`.
     pub fn start(source: S, limits: Limits) -> Result<(BitReader<S>, Head), (Fault, S)>
-        ensures begun { IfOk result (λ begun. Opened (fresh (S.incoming source) limits.bytes) begun.1 begun.0) }
+        ensures begun { IfOk result (λ begun. OpenedInput (fresh (S.incoming source) limits.bytes)
+            begun.1 begun.0) }
         ensures place { IfOk result (λ begun. begun.0.position % 32 ≡ 0) }
-        ensures refused { IfErr result (λ refused. Declines (fresh (S.incoming source) limits.bytes) refused.0 (S.incoming refused.1)) }
+        ensures refused { IfErr result (λ refused. Declines (fresh (S.incoming source) limits.bytes)
+            refused.0 (S.incoming refused.1)) }
     {
         let mut reader = BitReader {
             inflow: Inflow::new(source, limits.bytes()),
@@ -127,9 +130,9 @@ impl<S: Source> BitReader<S> {
         ensures memory { NeedsNoMemory result }
         ensures place { OnOk result (self.new.position ≡ self.old.position + 32) }
     {
-        let start = self.position;
+        let first = self.position;
         let version = self.fixed(32)?;
-        self.judge(version == 0, Reason::WrapperVersion, start)
+        self.judge(version == 0, Reason::WrapperVersion, first)
     }
 
     /// Reads the byte at which the stream of a wrapper begins.
@@ -140,9 +143,9 @@ impl<S: Source> BitReader<S> {
         ensures lawful { IfOk result (λ offset. (20 ≤ offset) × (offset % 4 ≡ 0)) }
         ensures fits { IfOk result (λ offset. offset < 2 ^ 32) }
     {
-        let start = self.position;
+        let first = self.position;
         let offset = self.fixed(32)?;
-        self.judge(is_lawful(offset), Reason::WrapperOffset, start)?;
+        self.judge(is_lawful(offset), Reason::WrapperOffset, first)?;
         Ok(offset)
     }
 
@@ -160,14 +163,14 @@ impl<S: Source> BitReader<S> {
 
     /// Skips bits of what began at a bit, at least one and at most so many, and answers how many. Where not one is left it
     /// fails, at the first bit of the field to which the next one belongs.
-    fn skip_some(&mut self, start: u64, field: u64, most: u64) -> Result<u64, Fault>
+    fn skip_some(&mut self, first: u64, field: u64, most: u64) -> Result<u64, Fault>
         requires live { self.old.live ≡ true }
-        requires start { start ≤ self.old.position }
+        requires first { first ≤ self.old.position }
         requires some { 0 < most }
         ensures takes { IfOk result (λ count. TookGap field most count self.old self.new) }
         ensures misses { IfErr result (λ fault. Why (gap_of field 1) self.old fault self.new) }
         ensures memory { NeedsNoMemory result }
-        ensures stays { OnErr result (self.new.position ≡ start) }
+        ensures stays { OnErr result (self.new.position ≡ first) }
     {
         match self.inflow.skip(most) {
             Ok(count) => {
@@ -176,7 +179,7 @@ impl<S: Source> BitReader<S> {
             }
             Err(missing) => {
                 let fault = self.fault_of(missing, field);
-                Err(self.fail_at(fault, start))
+                Err(self.fail_at(fault, first))
             }
         }
     }
@@ -187,7 +190,8 @@ impl<S: Source> BitReader<S> {
     #[inline(always)]
     pub fn sight(&mut self) -> Result<Sight<'_>, Fault>
         ensures lawful { IfOk result (λ sight. IsSight sight) }
-        ensures* shows { sem 𝓛 (Rests (the_row S.row S.Source) self.entry (λ new. Shows self.old result new)) }
+        ensures* shows { sem 𝓛 (Rests (the_row S.row S.Source) self.entry
+            (λ new. ShowsSight self.old result new)) }
     {
         if self.look()? {
             Ok(self.in_sight())
@@ -207,10 +211,10 @@ impl<S: Source> BitReader<S> {
         if !self.live {
             return Err(Fault::Failed);
         }
-        let start = self.position;
+        let first = self.position;
         match self.inflow.look() {
             Ok(some) => Ok(some),
-            Err(SourceFailed) => Err(self.fail_at(Fault::Read, start)),
+            Err(SourceFailed) => Err(self.fail_at(Fault::Read, first)),
         }
     }
 
@@ -220,7 +224,8 @@ impl<S: Source> BitReader<S> {
         requires live { self.old.live ≡ true }
         requires fresh { IsFresh self.old.incoming }
         ensures lawful { IsSight result }
-        ensures* shown { sem 𝓛 (Rests (the_row S.row S.Source) self.entry (λ new. Shown self.old result new)) }
+        ensures* shown { sem 𝓛 (Rests (the_row S.row S.Source) self.entry
+            (λ new. Shown self.old result new)) }
     {
         let (word, held) = self.inflow.window();
         let position = self.position;
@@ -238,7 +243,7 @@ impl<S: Source> BitReader<S> {
     fn at_hand(&self) -> Sight<'_>
         requires { self.now.live ≡ true }
         ensures lawful { IsSight result }
-        ensures sees { Sees self.now (told result) }
+        ensures sees { Sees self.now (sight_lent result) }
     {
         let (word, held) = self.inflow.window();
         Sight {
@@ -270,20 +275,24 @@ impl<S: Source> BitReader<S> {
     fn skip_at_hand(&mut self, bits: u64) -> Result<bool, Fault>
         requires live { self.old.live ≡ true }
         requires some { 0 < bits }
-        ensures skips { IfOk result (λ done. (done ≡ true → Took (any_bits bits) self.old tt self.new) × (done ≡ false → TookNothing self.old self.new)) }
+        ensures skips { IfOk result (λ done. (done ≡ true
+            → Took (any_bits bits) self.old tt self.new)
+            × (done ≡ false → TookNothing self.old self.new)) }
         ensures missed { IfErr result (λ fault. Why (gives (tt {0})) self.old fault self.new) }
         ensures memory { NeedsNoMemory result }
         ensures stays { OnErr result (self.new.position ≡ self.old.position) }
-        ensures moves { IfOk result (λ done. (done ≡ true → self.new.position ≡ self.old.position + bits) × (done ≡ false → self.new.position ≡ self.old.position)) }
+        ensures moves { IfOk result (λ done. (done ≡ true
+            → self.new.position ≡ self.old.position + bits)
+            × (done ≡ false → self.new.position ≡ self.old.position)) }
     {
-        let start = self.position;
+        let first = self.position;
         match self.inflow.skip_at_hand(bits) {
             Ok(true) => {
-                self.position = start + bits;
+                self.position = first + bits;
                 Ok(true)
             }
             Ok(false) => Ok(false),
-            Err(missing) => Err(self.miss(missing, start)),
+            Err(missing) => Err(self.miss(missing, first)),
         }
     }
 
@@ -298,10 +307,10 @@ impl<S: Source> BitReader<S> {
         if !self.live {
             return Err(Fault::Failed);
         }
-        let start = self.position;
+        let first = self.position;
         let mut left = bits;
         while left > 0 {
-            let count = self.skip_some(start, start, left)?;
+            let count = self.skip_some(first, first, left)?;
             left -= count;
         }
         Ok(())
@@ -314,7 +323,8 @@ impl<S: Source> BitReader<S> {
         requires some { 0 < n }
         requires few { n ≤ 32 }
         requires fits { count < 2 ^ 32 }
-        ensures takes { Takes (repeat count (fixed n)) self.old (told_by (λ _. numbers n count self.old.left) result) self.new }
+        ensures takes { Takes (repeat count (fixed n)) self.old
+            (told_by (λ _. numbers n count self.old.left) result) self.new }
         ensures memory { NeedsNoMemory result }
         ensures stays { OnErr result (self.new.position ≡ self.old.position) }
         ensures moves { OnOk result (self.new.position ≡ self.old.position + n * count) }
@@ -322,12 +332,12 @@ impl<S: Source> BitReader<S> {
         if !self.live {
             return Err(Fault::Failed);
         }
-        let start = self.position;
+        let first = self.position;
         let bits = count * u64::from(n);
         let mut left = bits;
         while left > 0 {
             let field = self.position - (bits - left) % u64::from(n);
-            let skipped = self.skip_some(start, field, left)?;
+            let skipped = self.skip_some(first, field, left)?;
             left -= skipped;
         }
         Ok(())
@@ -338,7 +348,10 @@ impl<S: Source> BitReader<S> {
         requires live { self.old.live ≡ true }
         requires position { self.old.position ≡ 8 * offset }
         requires end { self.old.extent.end ≡ 2 ^ 64 - 1 }
-        ensures { self.new ≡ record self.old { left = take (8 * size) self.old.left; extent = record self.old.extent { end = offset + size } } }
+        ensures { self.new ≡ record self.old {
+          left = take (8 * size) self.old.left;
+          extent = record self.old.extent { end = offset + size };
+        } }
     {
         self.inflow.shorten(u64::from(offset) + u64::from(size));
     }
@@ -350,9 +363,9 @@ impl<S: Source> BitReader<S> {
         ensures place { OnOk result (self.new.position ≡ self.old.position + 32) }
         ensures below { IfOk result (λ magic. magic < 2 ^ 32) }
     {
-        let start = self.position;
+        let first = self.position;
         let magic = self.fixed(32)?;
-        self.judge(magic != WRAPPER_MAGIC, Reason::WrapperNested, start)?;
+        self.judge(magic != WRAPPER_MAGIC, Reason::WrapperNested, first)?;
         Ok(magic)
     }
 
@@ -385,7 +398,8 @@ impl<S: Source> BitReader<S> {
     /// The bit at which what is left of the stream begins, counted from the first bit of the input.
     pub fn position(&self) -> u64
         ensures position { result ≡ self.now.position }
-        ensures reach { self.now.live ≡ true → result + length self.now.left ≡ reach_of self.now.extent }
+        ensures reach { self.now.live ≡ true → result + length self.now.left
+            ≡ reach_of self.now.extent }
     {
         self.position
     }
@@ -401,29 +415,29 @@ impl<S: Source> BitReader<S> {
     /// nothing, so that no fault is laid out in them where none comes.
     #[cold]
     #[inline(never)]
-    fn halt(&mut self, start: u64)
-        ensures failed { self.new ≡ stopped_at self.old start }
-        ensures moved { self.old.live ≡ false → self.new ≡ record self.old { position = start } }
+    fn halt(&mut self, first: u64)
+        ensures failed { self.new ≡ stopped_at self.old first }
+        ensures moved { self.old.live ≡ false → self.new ≡ record self.old { position = first } }
     {
         self.live = false;
-        self.position = start;
+        self.position = first;
         self.inflow.clear();
     }
 
     /// Fails where bits are missing of a field that began at a bit.
     #[inline(always)]
-    fn miss(&mut self, missing: Missing, start: u64) -> Fault
-        ensures fault { result ≡ fault_of missing start self.old.extent.limit }
-        ensures stopped { self.new ≡ stopped_at self.old start }
+    fn miss(&mut self, missing: Missing, first: u64) -> Fault
+        ensures fault { result ≡ fault_of_missing missing first self.old.extent.limit }
+        ensures stopped { self.new ≡ stopped_at self.old first }
     {
-        let fault = self.fault_of(missing, start);
-        self.fail_at(fault, start)
+        let fault = self.fault_of(missing, first);
+        self.fail_at(fault, first)
     }
 
     /// The fault of a field that begins at a bit, where bits of it are missing.
     #[inline(always)]
     fn fault_of(&self, missing: Missing, field: u64) -> Fault
-        ensures { result ≡ fault_of missing field self.now.extent.limit }
+        ensures { result ≡ fault_of_missing missing field self.now.extent.limit }
     {
         match missing {
             Missing::End => Fault::Refused {
@@ -440,14 +454,14 @@ impl<S: Source> BitReader<S> {
 
     /// Takes n bits, which are a part of a field that began at a bit.
     #[inline(always)]
-    fn part(&mut self, n: u32, start: u64) -> Result<u64, Fault>
+    fn part(&mut self, n: u32, first: u64) -> Result<u64, Fault>
         requires some { 0 < n }
         requires few { n ≤ 32 }
-        requires start { start ≤ self.old.position }
-        ensures takes { Takes (part_of start n) self.old result self.new }
+        requires first { first ≤ self.old.position }
+        ensures takes { Takes (part_of first n) self.old result self.new }
         ensures memory { NeedsNoMemory result }
         ensures below { IfOk result (λ value. value < 2 ^ n) }
-        ensures stays { self.old.live ≡ true → OnErr result (self.new.position ≡ start) }
+        ensures stays { self.old.live ≡ true → OnErr result (self.new.position ≡ first) }
         ensures moves { OnOk result (self.new.position ≡ self.old.position + n) }
     {
         if self.inflow.held() < n {
@@ -456,7 +470,7 @@ impl<S: Source> BitReader<S> {
             }
             match self.inflow.fill(n) {
                 Ok(()) => {}
-                Err(missing) => return Err(self.miss(missing, start)),
+                Err(missing) => return Err(self.miss(missing, first)),
             }
         }
         let value = self.inflow.take(n);
@@ -477,8 +491,8 @@ impl<S: Source> BitReader<S> {
         ensures stays { OnErr result (self.new.position ≡ self.old.position) }
         ensures moves { OnOk result (self.new.position ≡ self.old.position + n) }
     {
-        let start = self.position;
-        self.part(n, start)
+        let first = self.position;
+        self.part(n, first)
     }
 
     /// Reads a number in chunks of n bits, n from 2 to 32: of each chunk the top bit says whether another one follows, and
@@ -506,7 +520,8 @@ impl<S: Source> BitReader<S> {
     #[inline(always)]
     fn short_vbr(&mut self, n: u32) -> Option<u64>
         requires some { 2 ≤ n }
-        ensures { MatchOption result (self.new ≡ self.old) (λ value. Took (vbr n) self.old value self.new) }
+        ensures { MatchOption result (self.new ≡ self.old)
+            (λ value. Took (vbr n) self.old value self.new) }
     {
         if n > MOST_SHORT {
             return None;
@@ -522,7 +537,8 @@ impl<S: Source> BitReader<S> {
     fn one_chunk(&mut self, n: u32) -> Option<u64>
         requires some { 2 ≤ n }
         requires few { n ≤ 14 }
-        ensures { MatchOption result (self.new ≡ self.old) (λ value. Took (vbr n) self.old value self.new) }
+        ensures { MatchOption result (self.new ≡ self.old)
+            (λ value. Took (vbr n) self.old value self.new) }
     {
         if self.inflow.held() < n || self.inflow.peek(n) >= 1 << (n - 1) {
             return None;
@@ -538,7 +554,8 @@ impl<S: Source> BitReader<S> {
     fn few_chunks(&mut self, n: u32) -> Option<u64>
         requires some { 2 ≤ n }
         requires few { n ≤ 14 }
-        ensures { MatchOption result (self.new ≡ self.old) (λ value. Took (vbr n) self.old value self.new) }
+        ensures { MatchOption result (self.new ≡ self.old)
+            (λ value. Took (vbr n) self.old value self.new) }
     {
         let bits = self.inflow.number_bits(n);
         if bits > self.inflow.held() {
@@ -597,10 +614,10 @@ impl<S: Source> BitReader<S> {
         if bits > 64 {
             return Ok(());
         }
-        let start = self.position;
+        let first = self.position;
         match self.inflow.fill(bits) {
             Ok(()) => Ok(()),
-            Err(missing) => Err(self.miss(missing, start)),
+            Err(missing) => Err(self.miss(missing, first)),
         }
     }
 
@@ -614,43 +631,45 @@ impl<S: Source> BitReader<S> {
         ensures memory { NeedsNoMemory result }
         ensures stays { OnErr result (self.new.position ≡ self.old.position) }
     {
-        let start = self.position;
-        let chunk = self.part(n, start)?;
+        let first = self.position;
+        let chunk = self.part(n, first)?;
         if chunk < 1 << (n - 1) {
             return Ok(chunk);
         }
-        self.later_chunks(n, start, payload_of(chunk, n))
+        self.later_chunks(n, first, payload_of(chunk, n))
     }
 
     /// Reads the chunks after the first one of a number that began at a bit.
-    fn later_chunks(&mut self, n: u32, start: u64, first: u64) -> Result<u64, Fault>
+    fn later_chunks(&mut self, n: u32, first: u64, low: u64) -> Result<u64, Fault>
         requires some { 2 ≤ n }
         requires few { n ≤ 32 }
-        requires first { first < 2 ^ (n - 1) }
+        requires low { low < 2 ^ (n - 1) }
         requires live { self.old.live ≡ true }
-        requires start { start ≤ self.old.position }
-        ensures takes { Takes (above first (n - 1) (chunks (n - 1) start (chunk_limit (n - 1) - 1) (64 - (n - 1)))) self.old result self.new }
+        requires first { first ≤ self.old.position }
+        ensures takes { Takes (number_above low (n - 1)
+            (chunks (n - 1) first (chunk_limit (n - 1) - 1) (64 - (n - 1)))) self.old result
+            self.new }
         ensures memory { NeedsNoMemory result }
-        ensures stays { OnErr result (self.new.position ≡ start) }
+        ensures stays { OnErr result (self.new.position ≡ first) }
     {
         let too_wide = Fault::Refused {
             reason: Reason::ValueTooWide,
-            bit: start,
+            bit: first,
         };
-        let mut value = first;
+        let mut value = low;
         let mut place = n - 1;
         while place < 64 {
-            let chunk = self.part(n, start)?;
+            let chunk = self.part(n, first)?;
             match placed(payload_of(chunk, n), place) {
                 Some(worth) => value += worth,
-                None => return Err(self.fail_at(too_wide, start)),
+                None => return Err(self.fail_at(too_wide, first)),
             }
             if chunk < 1 << (n - 1) {
                 return Ok(value);
             }
             place += n - 1;
         }
-        Err(self.fail_at(too_wide, start))
+        Err(self.fail_at(too_wide, first))
     }
 
     /// Reads zeros up to the next position that is a multiple of 32, possibly none. Source: "Abbreviation IDs", align32.
@@ -666,29 +685,29 @@ impl<S: Source> BitReader<S> {
         if !self.live {
             return Err(Fault::Failed);
         }
-        let start = self.position;
-        let mut left = ((32 - start % 32) % 32) as u32;
+        let first = self.position;
+        let mut left = ((32 - first % 32) % 32) as u32;
         while left > 0 {
-            let count = self.some_zeros(start, left)?;
+            let count = self.some_zeros(first, left)?;
             left -= count;
         }
         Ok(())
     }
 
     /// Takes zeros of a padding that began at a bit, at least one and at most so many, and answers how many.
-    fn some_zeros(&mut self, start: u64, most: u32) -> Result<u32, Fault>
+    fn some_zeros(&mut self, first: u64, most: u32) -> Result<u32, Fault>
         requires some { 0 < most }
         requires few { most < 32 }
-        requires start { start ≤ self.old.position }
+        requires first { first ≤ self.old.position }
         requires live { self.old.live ≡ true }
-        ensures takes { IfOk result (λ count. TookZeros start most count self.old self.new) }
-        ensures misses { IfErr result (λ fault. Why (zeros start most) self.old fault self.new) }
+        ensures takes { IfOk result (λ count. TookZeros first most count self.old self.new) }
+        ensures misses { IfErr result (λ fault. Why (zeros first most) self.old fault self.new) }
         ensures memory { NeedsNoMemory result }
-        ensures stays { OnErr result (self.new.position ≡ start) }
+        ensures stays { OnErr result (self.new.position ≡ first) }
     {
         let count = self.inflow.held().min(most);
         if count == 0 || self.inflow.peek(count) != 0 {
-            self.one_zero(start)?;
+            self.one_zero(first)?;
             return Ok(1);
         }
         self.inflow.take(count);
@@ -697,22 +716,22 @@ impl<S: Source> BitReader<S> {
     }
 
     /// Takes a zero of a padding that began at a bit.
-    fn one_zero(&mut self, start: u64) -> Result<(), Fault>
-        requires start { start ≤ self.old.position }
+    fn one_zero(&mut self, first: u64) -> Result<(), Fault>
+        requires first { first ≤ self.old.position }
         requires live { self.old.live ≡ true }
-        ensures takes { Takes (zeros start 1) self.old result self.new }
+        ensures takes { Takes (zeros first 1) self.old result self.new }
         ensures memory { NeedsNoMemory result }
-        ensures stays { OnErr result (self.new.position ≡ start) }
+        ensures stays { OnErr result (self.new.position ≡ first) }
         ensures moves { OnOk result (self.new.position ≡ self.old.position + 1) }
     {
         let place = self.position;
-        let bit = self.part(1, start)?;
+        let bit = self.part(1, first)?;
         if bit != 0 {
             let dirty = Fault::Refused {
                 reason: Reason::DirtyPadding,
                 bit: place,
             };
-            return Err(self.fail_at(dirty, start));
+            return Err(self.fail_at(dirty, first));
         }
         Ok(())
     }
@@ -722,7 +741,7 @@ impl<S: Source> BitReader<S> {
     /// `TooLong` where the position is 8 times the limit on bytes and the stream goes on.
     pub fn at_end(&mut self) -> Result<bool, Fault>
         requires { self.old.position % 8 ≡ 0 }
-        ensures looks { Looks self.old result self.new }
+        ensures looks { LooksForEnd self.old result self.new }
         ensures through { IfOk result (λ end. end ≡ true → IsThrough self.new) }
         ensures stays { self.new.position ≡ self.old.position }
     {
@@ -776,7 +795,7 @@ impl<S: Source> BitReader<S> {
     /// Marks the reader as failed, for a judgement of the caller's, and hands the fault back.
     pub fn fail(&mut self, fault: Fault) -> Fault
         ensures fault { result ≡ fault }
-        ensures failed { self.new ≡ stopped self.old }
+        ensures failed { self.new ≡ failed_reader self.old }
     {
         self.fail_at(fault, self.position)
     }
@@ -784,12 +803,12 @@ impl<S: Source> BitReader<S> {
     /// Marks the reader as failed, at the bit where a call of the caller's began, and hands the fault back. One that has
     /// failed before is put there.
     #[inline(always)]
-    pub fn fail_at(&mut self, fault: Fault, start: u64) -> Fault
+    pub fn fail_at(&mut self, fault: Fault, first: u64) -> Fault
         ensures fault { result ≡ fault }
-        ensures failed { self.new ≡ stopped_at self.old start }
-        ensures moved { self.old.live ≡ false → self.new ≡ record self.old { position = start } }
+        ensures failed { self.new ≡ stopped_at self.old first }
+        ensures moved { self.old.live ≡ false → self.new ≡ record self.old { position = first } }
     {
-        self.halt(start);
+        self.halt(first);
         fault
     }
 }

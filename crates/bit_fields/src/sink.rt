@@ -58,7 +58,8 @@ impl Sink for VecSink {
 
     /// Takes all bytes of a slice, or none.
     fn put(&mut self, from: &[u8]) -> Result<usize, SinkFailed>
-        ensures puts { Puts (⟦<VecSink as Sink>⟧.outgoing self.old) (⟦<VecSink as Sink>⟧.outgoing self.new) result from.now }
+        ensures puts { Puts (⟦<VecSink as Sink>⟧.outgoing self.old)
+            (⟦<VecSink as Sink>⟧.outgoing self.new) result from.now }
         ensures whole { IfOk result (λ count. count ≡ length from.now) }
     {
         if self.failures == u64::MAX {
@@ -84,7 +85,8 @@ pub struct WriteSink<W> {
 impl<W: Write> WriteSink<W> {
     /// A sink over a writer as it stands.
     pub fn new(writer: W) -> WriteSink<W>
-        ensures { ⟦<WriteSink<W> as Sink>⟧.outgoing result ≡ record { bytes = W.contents writer; failures = 0 } }
+        ensures { ⟦<WriteSink<W> as Sink>⟧.outgoing result
+            ≡ record { bytes = W.contents writer; failures = 0 } }
     {
         WriteSink {
             writer,
@@ -94,7 +96,8 @@ impl<W: Write> WriteSink<W> {
 
     /// Has the writer hand on what it holds back. `SinkFailed` is counted as a failure unless the sink was worn.
     pub fn flush(&mut self) -> Result<(), SinkFailed>
-        ensures { Flushes (⟦<WriteSink<W> as Sink>⟧.outgoing self.old) (⟦<WriteSink<W> as Sink>⟧.outgoing self.new) result }
+        ensures { Flushes (⟦<WriteSink<W> as Sink>⟧.outgoing self.old)
+            (⟦<WriteSink<W> as Sink>⟧.outgoing self.new) result }
     {
         if self.failures == u64::MAX {
             return Err(SinkFailed);

@@ -99,7 +99,8 @@ pub trait Source {
     fn lend(&mut self) -> &[u8]
         requires { IsFresh (incoming self.old) }
         ensures front { Begins (incoming self.old).to_come result.now }
-        ensures* rests { sem 𝓛 (Rests Self.row self.entry (λ new. Looked (incoming self.old) (incoming new))) }
+        ensures* rests { sem 𝓛 (Rests Self.row self.entry
+            (λ new. Looked (incoming self.old) (incoming new))) }
     {
         &[]
     }
@@ -126,7 +127,8 @@ pub struct SliceSource<'a> {
 impl<'a> SliceSource<'a> {
     /// A source of all bytes of a slice.
     pub fn new(bytes: &'a [u8]) -> SliceSource<'a>
-        ensures { ⟦<SliceSource<'a> as Source>⟧.incoming result ≡ record { to_come = Some bytes.now; pulls = 0; failures = 0; accounts = [] } }
+        ensures { ⟦<SliceSource<'a> as Source>⟧.incoming result
+            ≡ record { to_come = Some bytes.now; pulls = 0; failures = 0; accounts = [] } }
     {
         SliceSource {
             rest: bytes,
@@ -138,11 +140,17 @@ impl<'a> SliceSource<'a> {
 impl<'a> Source for SliceSource<'a> {
     ghost use Rattle.bit_fields.specs.Devices.{Pulls, PullsUnseen, Looks, IsWorn};
 
-    ghost incoming = { λ s. record { to_come = Some s.rest.now; pulls = s.pulls; failures = 0; accounts = [] } };
+    ghost incoming = { λ s. record {
+      to_come = Some s.rest.now;
+      pulls = s.pulls;
+      failures = 0;
+      accounts = [];
+    } };
 
     #[inline]
     fn pull(&mut self, into: &mut [u8]) -> Result<usize, SourceFailed>
-        ensures pulls { Pulls (⟦<SliceSource<'a> as Source>⟧.incoming self.old) (⟦<SliceSource<'a> as Source>⟧.incoming self.new) result into.new }
+        ensures pulls { Pulls (⟦<SliceSource<'a> as Source>⟧.incoming self.old)
+            (⟦<SliceSource<'a> as Source>⟧.incoming self.new) result into.new }
         ensures worn { OnErr result (IsWorn (⟦<SliceSource<'a> as Source>⟧.incoming self.old)) }
     {
         if self.pulls == u64::MAX {
@@ -187,7 +195,8 @@ impl<'a> Source for SliceSource<'a> {
     #[inline(always)]
     fn pass(&mut self, most: usize) -> Result<usize, SourceFailed>
         requires { 0 < most }
-        ensures passes { PullsUnseen most (⟦<SliceSource<'a> as Source>⟧.incoming self.old) (⟦<SliceSource<'a> as Source>⟧.incoming self.new) result }
+        ensures passes { PullsUnseen most (⟦<SliceSource<'a> as Source>⟧.incoming self.old)
+            (⟦<SliceSource<'a> as Source>⟧.incoming self.new) result }
         ensures worn { OnErr result (IsWorn (⟦<SliceSource<'a> as Source>⟧.incoming self.old)) }
     {
         if self.pulls == u64::MAX {
@@ -211,7 +220,8 @@ pub struct ReadSource<R> {
 impl<R: Read> ReadSource<R> {
     /// A source of all that a reader still has.
     pub fn new(reader: R) -> ReadSource<R>
-        ensures { ⟦<ReadSource<R> as Source>⟧.incoming result ≡ record { to_come = R.remaining reader; pulls = 0; failures = 0; accounts = [] } }
+        ensures { ⟦<ReadSource<R> as Source>⟧.incoming result
+            ≡ record { to_come = R.remaining reader; pulls = 0; failures = 0; accounts = [] } }
     {
         ReadSource {
             reader,
@@ -236,7 +246,9 @@ impl<R: BufRead> ReadSource<R> {
     fn lend(&mut self) -> &[u8]
         requires { IsFresh (⟦<ReadSource<R> as Source>⟧.incoming self.old) }
         ensures front { Begins (⟦<ReadSource<R> as Source>⟧.incoming self.old).to_come result.now }
-        ensures* rests { sem 𝓛 (Rests (the_row R.row) self.entry (λ new. Looked (⟦<ReadSource<R> as Source>⟧.incoming self.old) (⟦<ReadSource<R> as Source>⟧.incoming new))) }
+        ensures* rests { sem 𝓛 (Rests (the_row R.row) self.entry
+            (λ new. Looked (⟦<ReadSource<R> as Source>⟧.incoming self.old)
+            (⟦<ReadSource<R> as Source>⟧.incoming new))) }
     {
         match self.reader.fill_buf() {
             Ok(bytes) => bytes,
@@ -246,7 +258,12 @@ impl<R: BufRead> ReadSource<R> {
 }
 
 impl<R: Read> Source for ReadSource<R> {
-    ghost incoming = { λ s. record { to_come = R.remaining s.reader; pulls = s.pulls; failures = s.failures; accounts = [] } };
+    ghost incoming = { λ s. record {
+      to_come = R.remaining s.reader;
+      pulls = s.pulls;
+      failures = s.failures;
+      accounts = [];
+    } };
 
     #[inline]
     fn pull(&mut self, into: &mut [u8]) -> Result<usize, SourceFailed> {
@@ -274,7 +291,8 @@ pub struct BufSource<R> {
 impl<R: BufRead> BufSource<R> {
     /// A source of all that a reader still has.
     pub fn new(reader: R) -> BufSource<R>
-        ensures { ⟦<BufSource<R> as Source>⟧.incoming result ≡ record { to_come = R.remaining reader; pulls = 0; failures = 0; accounts = [] } }
+        ensures { ⟦<BufSource<R> as Source>⟧.incoming result
+            ≡ record { to_come = R.remaining reader; pulls = 0; failures = 0; accounts = [] } }
     {
         BufSource {
             source: ReadSource::new(reader),
@@ -290,7 +308,12 @@ impl<R: BufRead> BufSource<R> {
 }
 
 impl<R: BufRead> Source for BufSource<R> {
-    ghost incoming = { λ s. record { to_come = R.remaining s.source.reader; pulls = s.source.pulls; failures = s.source.failures; accounts = [] } };
+    ghost incoming = { λ s. record {
+      to_come = R.remaining s.source.reader;
+      pulls = s.source.pulls;
+      failures = s.source.failures;
+      accounts = [];
+    } };
 
     #[inline]
     fn pull(&mut self, into: &mut [u8]) -> Result<usize, SourceFailed> {

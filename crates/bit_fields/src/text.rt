@@ -3,7 +3,7 @@
 ghost use Rattle.std.specs.Prelude.{◌≡◌, ◌+◌, ◌*◌, ◌%◌, ◌^◌, ◌<◌, ◌≤◌, ◌++◌, [], length, true, OnOk, OnErr};
 ghost use Rattle.bit_grammar.specs.Bits.{bits_of};
 ghost use Rattle.bit_grammar.specs.FormatFields.{shortest};
-ghost use Rattle.bit_grammar.specs.Normal.{padding, values_text};
+ghost use Rattle.bit_grammar.specs.Normal.{padding, values_bits};
 ghost use Rattle.bit_fields.specs.Texts.{bits_of_words, with_word};
 ghost use Rattle.bit_fields.specs.Writer.{Writes};
 
@@ -94,8 +94,8 @@ impl BitText {
     /// Adds numbers in chunks of six bits, each in as few as it takes.
     #[inline]
     pub fn numbers(&mut self, values: &[u64]) -> Result<(), AllocError>
-        requires { length self.old + length (values_text values.now) < 2 ^ 62 }
-        ensures { OnOk result (self.new ≡ self.old ++ values_text values.now) }
+        requires { length self.old + length (values_bits values.now) < 2 ^ 62 }
+        ensures { OnOk result (self.new ≡ self.old ++ values_bits values.now) }
     {
         if let Err(AllocError) = add_numbers(&mut self.words, &mut self.window, values) {
             self.words.clear();
@@ -230,8 +230,10 @@ fn settle(words: &mut Words, window: &mut Window) -> Result<(), AllocError>
 fn add_field(words: &mut Words, window: &mut Window, n: u32, value: u64) -> Result<(), AllocError>
     requires few { n ≤ 32 }
     requires fits { value < 2 ^ n }
-    ensures ok { OnOk result (bits_of_words words.new ++ window.new ≡ (bits_of_words words.old ++ window.old) ++ bits_of n value) }
-    ensures err { OnErr result (bits_of_words words.new ++ window.new ≡ bits_of_words words.old ++ window.old) }
+    ensures ok { OnOk result (bits_of_words words.new ++ window.new
+        ≡ (bits_of_words words.old ++ window.old) ++ bits_of n value) }
+    ensures err { OnErr result (bits_of_words words.new ++ window.new
+        ≡ bits_of_words words.old ++ window.old) }
 {
     make_room(words, window)?;
     window.push(value, n);
@@ -255,7 +257,8 @@ fn short_chunks(value: u64) -> Window
 #[inline(always)]
 fn add_number(words: &mut Words, window: &mut Window, value: u64) -> Result<(), AllocError>
     requires { length (bits_of_words words.old ++ window.old) < 2 ^ 62 }
-    ensures { OnOk result (bits_of_words words.new ++ window.new ≡ (bits_of_words words.old ++ window.old) ++ shortest 6 value) }
+    ensures { OnOk result (bits_of_words words.new ++ window.new
+        ≡ (bits_of_words words.old ++ window.old) ++ shortest 6 value) }
 {
     if value < 1024 {
         make_room(words, window)?;
@@ -274,8 +277,10 @@ fn add_number(words: &mut Words, window: &mut Window, value: u64) -> Result<(), 
 /// the bits are any.
 #[inline(always)]
 fn add_numbers(words: &mut Words, window: &mut Window, values: &[u64]) -> Result<(), AllocError>
-    requires { length (bits_of_words words.old ++ window.old) + length (values_text values.now) < 2 ^ 62 }
-    ensures { OnOk result (bits_of_words words.new ++ window.new ≡ (bits_of_words words.old ++ window.old) ++ values_text values.now) }
+    requires { length (bits_of_words words.old ++ window.old) + length (values_bits values.now)
+        < 2 ^ 62 }
+    ensures { OnOk result (bits_of_words words.new ++ window.new
+        ≡ (bits_of_words words.old ++ window.old) ++ values_bits values.now) }
 {
     let mut pen = window.copy();
     for value in values {

@@ -14,30 +14,37 @@ pub trait ValueTaker {
 
     /// Takes a value. Where memory is refused it has what it had.
     fn take(&mut self, value: u64) -> Result<(), AllocError>
-        ensures ok { OnOk result ((values : List ℕ) → took self.old values → took self.new (values ++ value ∷ [])) }
+        ensures ok { OnOk result ((values : List ℕ) → took self.old values
+            → took self.new (values ++ value ∷ [])) }
         ensures err { OnErr result ((values : List ℕ) → took self.old values → took self.new values) };
 
     /// Takes so many values without seeing them, where it need not know them, and answers whether it did. Where it did not, it
     /// has what it had.
     fn pass(&mut self, count: u64) -> bool
-        ensures yes { result ≡ true → (values others : List ℕ) → took self.old values → length others ≡ count → took self.new (values ++ others) }
-        ensures no { result ≡ false → (values : List ℕ) → took self.old values → took self.new values };
+        ensures yes { result ≡ true → (values others : List ℕ) → took self.old values
+            → length others ≡ count → took self.new (values ++ others) }
+        ensures no { result ≡ false → (values : List ℕ) → took self.old values
+            → took self.new values };
 
     /// Takes so many zeros at once, where it can, and answers whether it did. Where it did not, it has what it had.
     fn pass_zeros(&mut self, count: u64) -> bool
-        ensures yes { result ≡ true → (values : List ℕ) → took self.old values → took self.new (values ++ replicate count 0) }
-        ensures no { result ≡ false → (values : List ℕ) → took self.old values → took self.new values }
+        ensures yes { result ≡ true → (values : List ℕ) → took self.old values
+            → took self.new (values ++ replicate count 0) }
+        ensures no { result ≡ false → (values : List ℕ) → took self.old values
+            → took self.new values }
     {
         self.pass(count)
     }
 
     /// Drops the values behind the first ones, of which there are so many as `count` told.
     fn truncate(&mut self, count: u64)
-        ensures { (values others : List ℕ) → took self.old (values ++ others) → count ≡ min (length values) (2 ^ 64 - 1) → took self.new values };
+        ensures { (values others : List ℕ) → took self.old (values ++ others)
+            → count ≡ min (length values) (2 ^ 64 - 1) → took self.new values };
 
     /// How many values it took; `u64::MAX` where there are more.
     fn count(&self) -> u64
-        ensures { (values : List ℕ) → took self.now values → result ≡ min (length values) (2 ^ 64 - 1) };
+        ensures { (values : List ℕ) → took self.now values
+            → result ≡ min (length values) (2 ^ 64 - 1) };
 }
 
 /// It keeps the values.

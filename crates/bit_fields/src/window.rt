@@ -1,6 +1,6 @@
 ghost use Rattle.std.specs.Prelude.{ℕ, ◌≡◌, ◌+◌, ◌*◌, ◌/◌, ◌%◌, ◌-◌, ◌<◌, ◌≤◌, ◌^◌, ◌++◌, [], length, take, drop};
 ghost use Rattle.bit_grammar.specs.Bits.{bits_of, number, bits_of_bytes};
-ghost use Rattle.bit_fields.specs.Short.{EndsAt, gathered};
+ghost use Rattle.bit_fields.specs.Short.{EndsAt, payload_number};
 
 use std::marker::Model;
 
@@ -134,7 +134,8 @@ impl Window {
         requires few { n ≤ 14 }
         requires most { bits ≤ 56 }
         requires there { bits ≤ length self.old }
-        ensures value { (count : ℕ) → count ≤ 4 → bits ≡ n * count → result ≡ gathered (n - 1) count (number self.old) }
+        ensures value { (count : ℕ) → count ≤ 4 → bits ≡ n * count
+            → result ≡ payload_number (n - 1) count (number self.old) }
         ensures rest { self.new ≡ drop bits self.old }
     {
         let chunks = self.word & ((1 << bits) - 1);
@@ -167,7 +168,8 @@ impl Window {
 
     /// The bytes of the bits, the first eight bits as the first byte, with zeros behind.
     pub fn bytes(&self) -> [u8; 8]
-        ensures front { (k : ℕ) → 8 * k ≤ length self.now → bits_of_bytes (take k result) ≡ take (8 * k) self.now }
+        ensures front { (k : ℕ) → 8 * k ≤ length self.now
+            → bits_of_bytes (take k result) ≡ take (8 * k) self.now }
         ensures length { length result ≡ 8 }
     {
         self.word.to_le_bytes()
@@ -229,7 +231,7 @@ impl Window {
 fn four_payloads(word: u64, n: u32) -> u64
     requires some { 2 ≤ n }
     requires few { n ≤ 14 }
-    ensures { result ≡ gathered (n - 1) 4 word }
+    ensures { result ≡ payload_number (n - 1) 4 word }
 {
     let place = n - 1;
     let mask = (1 << place) - 1;

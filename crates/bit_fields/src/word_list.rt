@@ -4,7 +4,7 @@ ghost use Rattle.std.specs.Prelude.{◌≡◌, ◌+◌, ◌*◌, ◌%◌, ◌^�
 ghost use Rattle.std.specs.Int.{w32, to_le_bytes};
 ghost use Rattle.bit_grammar.specs.Bits.{bits_of_bytes};
 ghost use Rattle.std.proofs.Math.ListN.{set};
-ghost use Rattle.bit_fields.specs.Texts.{bits_of_words, joined, AreFull};
+ghost use Rattle.bit_fields.specs.Texts.{bits_of_words, words_of_chunks, AreFull};
 ghost use Rattle.bit_fields.specs.Writer.{Writes};
 
 use crate::fault::Fault;
@@ -31,11 +31,11 @@ pub(crate) struct Words {
 
 impl Model for Words {
     ghost use Rattle.std.specs.Prelude.{ℕ, List, ◌++◌, ◌≤◌, length};
-    ghost use Rattle.bit_fields.specs.Texts.{joined, AreFull};
+    ghost use Rattle.bit_fields.specs.Texts.{words_of_chunks, AreFull};
 
     ghost Value = { List ℕ };
 
-    ghost view = { λ w. joined w.full.items ++ w.last.items };
+    ghost view = { λ w. words_of_chunks w.full.items ++ w.last.items };
 
     ghost invariant = { λ w. AreFull w.full.items };
 }
@@ -51,7 +51,8 @@ fn next_chunk(
     requires last { length last.old.items ≡ 262144 }
     requires full { AreFull full.old.items }
     ensures full { AreFull full.new.items }
-    ensures same { joined full.new.items ++ last.new.items ≡ joined full.old.items ++ last.old.items }
+    ensures same { words_of_chunks full.new.items ++ last.new.items
+        ≡ words_of_chunks full.old.items ++ last.old.items }
 {
     let chunk = Vec::with_capacity(alloc, CHUNK)?;
     full.push(chunk)?;
@@ -141,8 +142,9 @@ impl Words {
 /// Moves the words of chunks behind a text. The loop is kept out of the callers, since there is seldom a whole chunk.
 #[inline(always)]
 fn move_chunks(chunks: &mut Vec<Vec<u32>>, text: &mut BitText) -> Result<(), AllocError>
-    requires { length text.old + 32 * length (joined chunks.old.items) < 2 ^ 62 }
-    ensures moved { OnOk result (text.new ≡ text.old ++ bits_of_words (joined chunks.old.items)) }
+    requires { length text.old + 32 * length (words_of_chunks chunks.old.items) < 2 ^ 62 }
+    ensures moved { OnOk result (text.new ≡ text.old
+        ++ bits_of_words (words_of_chunks chunks.old.items)) }
     ensures none { OnOk result (chunks.new.items ≡ []) }
     ensures full { AreFull chunks.old.items → AreFull chunks.new.items }
 {
@@ -156,8 +158,9 @@ fn move_chunks(chunks: &mut Vec<Vec<u32>>, text: &mut BitText) -> Result<(), All
 #[cold]
 #[inline(never)]
 fn move_each(chunks: &mut Vec<Vec<u32>>, text: &mut BitText) -> Result<(), AllocError>
-    requires { length text.old + 32 * length (joined chunks.old.items) < 2 ^ 62 }
-    ensures moved { OnOk result (text.new ≡ text.old ++ bits_of_words (joined chunks.old.items)) }
+    requires { length text.old + 32 * length (words_of_chunks chunks.old.items) < 2 ^ 62 }
+    ensures moved { OnOk result (text.new ≡ text.old
+        ++ bits_of_words (words_of_chunks chunks.old.items)) }
     ensures none { OnOk result (chunks.new.items ≡ []) }
     ensures full { AreFull chunks.old.items → AreFull chunks.new.items }
 {

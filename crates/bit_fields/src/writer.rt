@@ -2,7 +2,7 @@ ghost use Rattle.std.specs.Prelude.{◌≡◌, ◌+◌, ◌-◌, ◌*◌, ◌%�
 ghost use Rattle.bit_grammar.specs.Bits.{bits_of, bits_of_bytes};
 ghost use Rattle.bit_grammar.specs.FormatFields.{shortest};
 ghost use Rattle.bit_grammar.specs.Normal.{padding};
-ghost use Rattle.bit_fields.specs.Writer.{Wrote, Lost, Writes, holding};
+ghost use Rattle.bit_fields.specs.Writer.{Wrote, LostBits, Writes, writer_holding};
 
 use crate::fault::Fault;
 use crate::sink::{Sink, SinkFailed};
@@ -23,15 +23,26 @@ impl<K: Sink> Model for BitWriter<K> {
 
     ghost Value = { Writer };
 
-    ghost view = { λ w. record { live = w.live; position = w.position; held = w.window; outgoing = K.outgoing w.sink } };
+    ghost view = { λ w. record {
+      live = w.live;
+      position = w.position;
+      held = w.window;
+      outgoing = K.outgoing w.sink;
+    } };
 
-    ghost invariant = { λ w. IsWriter (record { live = w.live; position = w.position; held = w.window; outgoing = K.outgoing w.sink }) };
+    ghost invariant = { λ w. IsWriter (record
+        { live = w.live; position = w.position; held = w.window; outgoing = K.outgoing w.sink }) };
 }
 
 impl<K: Sink> BitWriter<K> {
     /// A writer that puts its bytes behind those that the sink took before.
     pub fn new(sink: K) -> BitWriter<K>
-        ensures { result ≡ record { live = true; position = 0; held = []; outgoing = K.outgoing sink } }
+        ensures { result ≡ record {
+          live = true;
+          position = 0;
+          held = [];
+          outgoing = K.outgoing sink;
+        } }
     {
         BitWriter {
             window: Window::new(),
@@ -62,7 +73,7 @@ impl<K: Sink> BitWriter<K> {
         requires some { 0 < count }
         requires held { 8 * count ≤ length self.old.held }
         ensures wrote { OnOk result (Wrote self.old [] self.new) }
-        ensures lost { OnErr result (Lost self.old [] self.new) }
+        ensures lost { OnErr result (LostBits self.old [] self.new) }
         ensures fewer { OnOk result (length self.new.held < length self.old.held) }
         ensures stays { OnErr result (self.new.position ≡ self.old.position) }
     {
@@ -88,7 +99,7 @@ impl<K: Sink> BitWriter<K> {
         requires live { self.old.live ≡ true }
         requires whole { self.old.position % 8 ≡ 0 }
         ensures wrote { OnOk result (Wrote self.old [] self.new) }
-        ensures lost { OnErr result (Lost self.old [] self.new) }
+        ensures lost { OnErr result (LostBits self.old [] self.new) }
         ensures all { OnOk result (self.new.held ≡ []) }
         ensures stays { OnErr result (self.new.position ≡ self.old.position) }
     {
@@ -141,7 +152,7 @@ impl<K: Sink> BitWriter<K> {
         requires more { 64 < length self.old.held + length bits }
         requires position { self.old.position + length bits < 2 ^ 64 }
         ensures wrote { OnOk result (Wrote self.old bits self.new) }
-        ensures lost { OnErr result (Lost self.old bits self.new) }
+        ensures lost { OnErr result (LostBits self.old bits self.new) }
     {
         let rest = self.hold_front(bits);
         self.put(8)?;
@@ -160,14 +171,14 @@ impl<K: Sink> BitWriter<K> {
         requires more { 64 < length self.old.held + length bits }
         requires position { self.old.position + length bits < 2 ^ 64 }
         ensures wrote { OnOk result (Wrote self.old bits self.new) }
-        ensures lost { OnErr result (Lost self.old bits self.new) }
+        ensures lost { OnErr result (LostBits self.old bits self.new) }
         ensures stays { OnErr result (self.new.position ≡ self.old.position) }
     {
-        let start = self.position;
+        let first = self.position;
         match self.hold_in_parts(bits) {
             Ok(()) => Ok(()),
             Err(SinkFailed) => {
-                self.position = start;
+                self.position = first;
                 Err(SinkFailed)
             }
         }
@@ -180,7 +191,7 @@ impl<K: Sink> BitWriter<K> {
         requires some { 0 < length bits }
         requires position { self.old.position + length bits < 2 ^ 64 }
         ensures wrote { OnOk result (Wrote self.old bits self.new) }
-        ensures lost { OnErr result (Lost self.old bits self.new) }
+        ensures lost { OnErr result (LostBits self.old bits self.new) }
         ensures stays { OnErr result (self.new.position ≡ self.old.position) }
     {
         if self.window.len() + bits.len() > 64 {
@@ -229,7 +240,7 @@ impl<K: Sink> BitWriter<K> {
         requires few { n ≤ 32 }
         requires position { self.old.position < 2 ^ 63 }
         ensures wrote { OnOk result (Wrote self.old (shortest n value) self.new) }
-        ensures lost { OnErr result (Lost self.old (shortest n value) self.new) }
+        ensures lost { OnErr result (LostBits self.old (shortest n value) self.new) }
     {
         let more = 1 << (n - 1);
         let mut rest = value;
@@ -250,14 +261,14 @@ impl<K: Sink> BitWriter<K> {
         requires few { n ≤ 32 }
         requires position { self.old.position < 2 ^ 63 }
         ensures wrote { OnOk result (Wrote self.old (shortest n value) self.new) }
-        ensures lost { OnErr result (Lost self.old (shortest n value) self.new) }
+        ensures lost { OnErr result (LostBits self.old (shortest n value) self.new) }
         ensures stays { OnErr result (self.new.position ≡ self.old.position) }
     {
-        let start = self.position;
+        let first = self.position;
         match self.chunks(n, value) {
             Ok(()) => Ok(()),
             Err(SinkFailed) => {
-                self.position = start;
+                self.position = first;
                 Err(SinkFailed)
             }
         }
@@ -271,7 +282,7 @@ impl<K: Sink> BitWriter<K> {
         requires few { n ≤ 32 }
         requires position { self.old.position < 2 ^ 63 }
         ensures wrote { OnOk result (Wrote self.old (shortest n value) self.new) }
-        ensures lost { OnErr result (Lost self.old (shortest n value) self.new) }
+        ensures lost { OnErr result (LostBits self.old (shortest n value) self.new) }
         ensures stays { OnErr result (self.new.position ≡ self.old.position) }
     {
         if value >= 1 << 32 {
@@ -303,8 +314,9 @@ impl<K: Sink> BitWriter<K> {
         requires live { self.old.live ≡ true }
         requires none { self.old.held ≡ [] }
         requires some { 0 < length bytes.now }
-        ensures wrote { IfOk result (λ count. Wrote (holding self.old bytes.now) [] (holding self.new (drop count bytes.now))) }
-        ensures lost { OnErr result (Lost (holding self.old bytes.now) [] self.new) }
+        ensures wrote { IfOk result (λ count. Wrote (writer_holding self.old bytes.now) []
+            (writer_holding self.new (drop count bytes.now))) }
+        ensures lost { OnErr result (LostBits (writer_holding self.old bytes.now) [] self.new) }
         ensures few { IfOk result (λ count. count ≤ length bytes.now) }
         ensures some { IfOk result (λ count. 0 < count) }
         ensures none { OnOk result (self.new.held ≡ []) }
@@ -329,7 +341,7 @@ impl<K: Sink> BitWriter<K> {
         requires whole { self.old.position % 8 ≡ 0 }
         requires position { self.old.position + 8 * length bytes.now < 2 ^ 64 }
         ensures wrote { OnOk result (Wrote self.old (bits_of_bytes bytes.now) self.new) }
-        ensures lost { OnErr result (Lost self.old (bits_of_bytes bytes.now) self.new) }
+        ensures lost { OnErr result (LostBits self.old (bits_of_bytes bytes.now) self.new) }
     {
         self.position += 8 * bytes.len() as u64;
         let mut rest = bytes;
@@ -346,7 +358,7 @@ impl<K: Sink> BitWriter<K> {
         requires whole { self.old.position % 8 ≡ 0 }
         requires position { self.old.position + 8 * length bytes.now < 2 ^ 64 }
         ensures wrote { OnOk result (Wrote self.old (bits_of_bytes bytes.now) self.new) }
-        ensures lost { OnErr result (Lost self.old (bits_of_bytes bytes.now) self.new) }
+        ensures lost { OnErr result (LostBits self.old (bits_of_bytes bytes.now) self.new) }
     {
         self.put_all()?;
         self.put_bytes(bytes)

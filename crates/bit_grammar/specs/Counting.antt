@@ -6,9 +6,11 @@ use Rattle.bit_grammar.specs.Machine.{Event, enters, defines, notes, leaves}
 use Rattle.bit_grammar.specs.Tally.{CodeTally, BlockTally, record_bits, is_abbreviated}
 
 -- rows where the one with a key is changed; where there is none, a fresh one at their end
-abbrev pub changed : {Row : Type 0} → (key : Row → ℕ) → (fresh : ℕ → Row) → (Row → Row) → ℕ → List Row → List Row
-changed key fresh change k [] = change (fresh k) ∷ []
-changed key fresh change k (row ∷ rows) = if key row == k then change row ∷ rows else row ∷ changed key fresh change k rows
+abbrev pub rows_with : {Row : Type 0} → (key : Row → ℕ) → (fresh : ℕ → Row) → (Row → Row) → ℕ
+    → List Row → List Row
+rows_with key fresh change k [] = change (fresh k) ∷ []
+rows_with key fresh change k (row ∷ rows) = if key row
+    == k then change row ∷ rows else row ∷ rows_with key fresh change k rows
 
 -- a code with no use yet
 abbrev pub fresh_code : ℕ → CodeTally
@@ -16,13 +18,26 @@ fresh_code code = record { code = code; count = 0; bits = 0 }
 
 -- an id with no block yet
 abbrev pub fresh_row : ℕ → BlockTally
-fresh_row id = record { id = id; blocks = 0; bits = 0; definitions = 0; records = 0; abbreviated = 0; values = 0; codes = [] }
+fresh_row id = record {
+  id = id;
+  blocks = 0;
+  bits = 0;
+  definitions = 0;
+  records = 0;
+  abbreviated = 0;
+  values = 0;
+  codes = [];
+}
 
 -- ---- what an event adds to its row
 
 -- a record to the row of its code
 abbrev pub one_use : RecordMark → CodeTally → CodeTally
-one_use mark row = record { code = row.code; count = row.count + 1; bits = row.bits + record_bits mark }
+one_use mark row = record {
+  code = row.code;
+  count = row.count + 1;
+  bits = row.bits + record_bits mark;
+}
 
 -- a block that begins
 abbrev pub one_block : BlockTally → BlockTally
@@ -42,7 +57,7 @@ one_record mark row = record row {
   records = row.records + 1;
   abbreviated = row.abbreviated + (if is_abbreviated mark then 1 else 0);
   values = row.values + length mark.values;
-  codes = changed (λ (x : CodeTally). x.code) fresh_code (one_use mark) mark.code row.codes;
+  codes = rows_with (λ (x : CodeTally). x.code) fresh_code (one_use mark) mark.code row.codes;
 }
 
 -- ---- the pass
@@ -64,28 +79,43 @@ no_counts = record { rows = []; around = [] }
 
 -- the rows with that of an id changed
 abbrev pub with_row : (BlockTally → BlockTally) → ℕ → List BlockTally → List BlockTally
-with_row change id rows = changed (λ (x : BlockTally). x.id) fresh_row change id rows
+with_row change id rows = rows_with (λ (x : BlockTally). x.id) fresh_row change id rows
 
 -- the rows with that of the innermost open block changed
-abbrev pub count_here : (BlockTally → BlockTally) → List OpenCount → List BlockTally → List BlockTally
+abbrev pub count_here : (BlockTally → BlockTally) → List OpenCount → List BlockTally
+    → List BlockTally
 count_here change [] rows = rows
 count_here change (b ∷ around) rows = with_row change b.id rows
 
 -- the open blocks with more bits in the innermost
 abbrev pub more_inside : ℕ → List OpenCount → List OpenCount
 more_inside bits [] = []
-more_inside bits (b ∷ around) = record { id = b.id; first = b.first; inside = b.inside + bits } ∷ around
+more_inside bits (b ∷ around) = record { id = b.id; first = b.first; inside = b.inside + bits }
+    ∷ around
 
 -- the innermost block ends: its own bits go to its row, and all its bits to the block around it
 abbrev pub count_end : (after : ℕ) → List OpenCount → List BlockTally → Counts
 count_end after [] rows = record { rows = rows; around = [] }
-count_end after (b ∷ around) rows = record { rows = with_row (more_bits (after - b.first - b.inside)) b.id rows; around = more_inside (after - b.first) around }
+count_end after (b ∷ around) rows = record {
+  rows = with_row
+      (more_bits (after - b.first - b.inside)) b.id rows;
+  around = more_inside (after - b.first) around;
+}
 
 -- the counts after an event
 abbrev pub count_event : Event → Counts → Counts
-count_event (enters o) c = record { rows = with_row one_block o.id c.rows; around = record { id = o.id; first = o.first; inside = 0 } ∷ c.around }
-count_event (defines mark) c = record { rows = count_here one_definition c.around c.rows; around = c.around }
-count_event (notes mark) c = record { rows = count_here (one_record mark) c.around c.rows; around = c.around }
+count_event (enters o) c = record {
+  rows = with_row one_block o.id c.rows;
+  around = record { id = o.id; first = o.first; inside = 0 } ∷ c.around;
+}
+count_event (defines mark) c = record {
+  rows = count_here one_definition c.around c.rows;
+  around = c.around;
+}
+count_event (notes mark) c = record {
+  rows = count_here (one_record mark) c.around c.rows;
+  around = c.around;
+}
 count_event (leaves after) c = count_end after c.around c.rows
 
 -- the counts after events in order

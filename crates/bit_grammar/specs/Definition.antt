@@ -76,9 +76,9 @@ valued blob = gives Blob
 
 unfoldable pub operand : Shapes → Place → (after : ℕ) → Grammar Op
 operand shapes place after = do
-  start ← position
+  first_bit ← position
   k ← kind
-  judge (passes shapes (fits place after k)) AbbrevShape start
+  judge (passes shapes (fits place after k)) AbbrevShape first_bit
   valued k
 
 -- the place after an operand
@@ -96,9 +96,9 @@ operands shapes (suc after) place = do
 -- the number of operands, and the operands
 unfoldable pub definition : Shapes → Grammar (List Op)
 definition shapes = do
-  start ← position
+  first_bit ← position
   count ← vbr 5
-  judge (nat_lt 0 count) AbbrevEmpty start
+  judge (nat_lt 0 count) AbbrevEmpty first_bit
   operands shapes count first
 
 -- ---- the shape of a whole list
@@ -114,7 +114,8 @@ kind_of Blob = blob
 -- whether operands, of which the first stands at this place, are in a lawful order: each may stand where it does
 abbrev pub in_order : Place → List Op → Bool
 in_order place [] = true
-in_order place (op ∷ others) = fits place (length others) (kind_of op) && in_order (place_after op) others
+in_order place (op ∷ others) = fits place (length others) (kind_of op)
+    && in_order (place_after op) others
 
 -- whether a record may go by these operands
 abbrev pub has_shape : List Op → Bool

@@ -5,7 +5,7 @@ use Rattle.bit_grammar.specs.declared.op.Op.{Op}
 use Rattle.bit_grammar.specs.declared.op.Op.TheVariants.{Literal, Fixed, Vbr, Array, Char6, Blob}
 use Rattle.bit_grammar.specs.declared.values.Values.{Values}
 use Rattle.bit_grammar.specs.declared.values.Values.TheVariants.{Shown, LeftOut}
-use Rattle.bit_grammar.specs.Input.{Head}
+use Rattle.bit_grammar.specs.Terms.{Head}
 use Rattle.bit_grammar.specs.Machine.{Event, enters, defines, notes, leaves, Ending, broke}
 use Rattle.bit_grammar.specs.Outlook.{Outlook}
 use Rattle.bit_grammar.specs.Steps.{open_after}
@@ -37,24 +37,30 @@ shown_values LeftOut values = []
 
 -- a block's beginning: its id, the width of the ids in it, and the first bit of its body
 abbrev pub opened_text : (id width body : ℕ) → List ℕ
-opened_text id width body = codes "block " ++ decimal id ++ codes " width " ++ decimal width ++ codes " body " ++ decimal body
+opened_text id width body = codes "block " ++ decimal id ++ codes " width " ++ decimal width
+    ++ codes " body " ++ decimal body
 
 -- a record: its code, its abbreviation id, the number of its values, and these
 abbrev pub noted_text : Values → (code abbreviation : ℕ) → List ℕ → List ℕ
-noted_text values code abbreviation listed = codes "record " ++ decimal code ++ codes " by " ++ decimal abbreviation ++ codes " count " ++ decimal (length listed) ++ shown_values values listed
+noted_text values code abbreviation listed = codes "record " ++ decimal code ++ codes " by "
+    ++ decimal abbreviation ++ codes " count " ++ decimal (length listed)
+    ++ shown_values values listed
 
 -- The line of an event, with so many blocks open before it. It tells the first bit of what begins there, and of a block's end
 -- the bit behind the block. An end stands under the line of its own block.
 abbrev pub event_line : Values → (around : ℕ) → Event → List ℕ
 event_line values around (enters o) = line_at o.first around (opened_text o.id o.width o.body)
-event_line values around (defines mark) = line_at mark.first around (codes "define " ++ ops_text mark.ops)
-event_line values around (notes mark) = line_at mark.first around (noted_text values mark.code mark.abbreviation mark.values)
+event_line values around (defines mark) = line_at mark.first around
+    (codes "define " ++ ops_text mark.ops)
+event_line values around (notes mark) = line_at mark.first around
+    (noted_text values mark.code mark.abbreviation mark.values)
 event_line values around (leaves after) = line_at after (around - 1) (codes "end")
 
 -- the lines of events in order, with so many blocks open before the first
 abbrev pub event_lines : Values → (around : ℕ) → List Event → List ℕ
 event_lines values around [] = []
-event_lines values around (event ∷ events) = event_line values around event ++ event_lines values (open_after event around) events
+event_lines values around (event ∷ events) = event_line values around event
+    ++ event_lines values (open_after event around) events
 
 -- the line of the magic, at the bit where the stream begins; a wrapper has no line
 abbrev pub head_line : Head → List ℕ

@@ -50,15 +50,16 @@ pub record Lawful (ops : List Op) : Type 0 where
   pub values : AllByRecursion HasLawfulValue ops
 
 -- what is asked of the order where the operands are defined
-abbrev pub Passes : Shapes → List Op → Type 0
-Passes AtDefinition ops = InOrder ops
-Passes AtUse ops = Unit {0}
+abbrev pub PassesShape : Shapes → List Op → Type 0
+PassesShape AtDefinition ops = InOrder ops
+PassesShape AtUse ops = Unit {0}
 
 -- ---- how it is spelled
 
 -- an encoding: a zero bit, three bits of its number, and the bits after them
 abbrev pub IsEncoding : (number : ℕ) → (List Bool → Type 0) → List Bool → Type 0
-IsEncoding number Value s = (code value : List Bool) × (s ≡ false ∷ (code ++ value)) × IsFixed 3 number code × Value value
+IsEncoding number Value s = (code value : List Bool) × (s ≡ false ∷ (code ++ value))
+    × IsFixed 3 number code × Value value
 
 abbrev pub IsNothing : List Bool → Type 0
 IsNothing s = s ≡ []
@@ -75,7 +76,8 @@ IsOperand Blob s = IsEncoding 5 IsNothing s
 -- operands, one after the other
 abbrev pub AreOperands : List Op → List Bool → Type 0
 AreOperands [] s = s ≡ []
-AreOperands (op ∷ ops) s = (first others : List Bool) × (s ≡ first ++ others) × IsOperand op first × AreOperands ops others
+AreOperands (op ∷ ops) s = (first others : List Bool) × (s ≡ first ++ others) × IsOperand op first
+    × AreOperands ops others
 
 -- a definition, after its abbreviation id: the number of operands in VBR 5, and the operands, in any order
 pub record IsDefinition (ops : List Op) (s : List Bool) : Type 0 where

@@ -8,7 +8,7 @@ use Rattle.bit_grammar.specs.FormatFields.{IsFixed}
 use Rattle.bit_grammar.specs.Forest.{wrapper_magic}
 use Rattle.bit_grammar.specs.Marks.{Marks, no_marks, marked_block, marked_record, marked_definition}
 use Rattle.bit_grammar.specs.FormatBlocks.{Context, top_context, AreItems}
-use Rattle.bit_grammar.specs.Input.{Wrapper, Marked}
+use Rattle.bit_grammar.specs.Terms.{Wrapper, Marked}
 
 -- blocks only
 abbrev pub AreMarkedBlocks : Marks → Type 0

@@ -5,7 +5,7 @@ use Rattle.std.specs.Prelude.{◌≡◌, ℕ, zero, suc, ◌+◌, Bool, List, []
 use Rattle.bit_grammar.specs.declared.op.Op.{Op}
 use Rattle.bit_grammar.specs.declared.op.Op.TheVariants.{Literal, Fixed, Vbr, Array, Char6, Blob}
 use Rattle.bit_grammar.specs.FormatFields.{IsFixed, IsVbr, IsChar6, IsPadding}
-use Rattle.bit_grammar.specs.Record.{Entry}
+use Rattle.bit_grammar.specs.Terms.{CodeAndValues}
 
 -- The field of an operand that stands for one value. A literal, and a field of width 0, take no bits.
 abbrev pub IsScalar : Op → ℕ → List Bool → Type 0
@@ -20,11 +20,13 @@ IsScalar Blob v s = ⊥
 -- fields of one operand, one after the other, with these values
 abbrev pub AreFields : Op → List ℕ → List Bool → Type 0
 AreFields op [] s = s ≡ []
-AreFields op (v ∷ vs) s = (first others : List Bool) × (s ≡ first ++ others) × IsScalar op v first × AreFields op vs others
+AreFields op (v ∷ vs) s = (first others : List Bool) × (s ≡ first ++ others) × IsScalar op v first
+    × AreFields op vs others
 
 -- an array: its length in VBR 6, and as many fields of the element
 abbrev pub IsArray : (element : Op) → List ℕ → List Bool → Type 0
-IsArray element vs s = (count fields : List Bool) × (s ≡ count ++ fields) × IsVbr 6 (length vs) count × AreFields element vs fields
+IsArray element vs s = (count fields : List Bool) × (s ≡ count ++ fields)
+    × IsVbr 6 (length vs) count × AreFields element vs fields
 
 -- a blob that begins at bit p: its length in VBR 6, padding, as many bytes, and padding
 pub record IsBlob (p : ℕ) (vs : List ℕ) (s : List Bool) : Type 0 where
@@ -44,10 +46,12 @@ AreValues [] p vs s = (vs ≡ []) × (s ≡ [])
 AreValues (Array ∷ []) p vs s = ⊥
 AreValues (Array ∷ element ∷ others) p vs s = IsArray element vs s
 AreValues (Blob ∷ others) p vs s = IsBlob p vs s
-AreValues (op ∷ others) p vs s = (v : ℕ) × (rest : List ℕ) × (first behind : List Bool) × (vs ≡ v ∷ rest) × (s ≡ first ++ behind) × IsScalar op v first × AreValues others (p + length first) rest behind
+AreValues (op ∷ others) p vs s = (v : ℕ) × (rest : List ℕ) × (first behind : List Bool)
+    × (vs ≡ v ∷ rest) × (s ≡ first ++ behind) × IsScalar op v first
+    × AreValues others (p + length first) rest behind
 
 -- an unabbreviated record, after its abbreviation id: the code, the number of values and each value, in VBR 6
-pub record IsUnabbreviated (e : Entry) (s : List Bool) : Type 0 where
+pub record IsUnabbreviated (e : CodeAndValues) (s : List Bool) : Type 0 where
   pub code : List Bool
   pub count : List Bool
   pub values : List Bool
@@ -57,6 +61,7 @@ pub record IsUnabbreviated (e : Entry) (s : List Bool) : Type 0 where
   pub are_values : AreFields (Vbr 6) e.values values
 
 -- a record by a lawful list of operands, which begins at bit p after its abbreviation id: the first gives the code, the others the values
-abbrev pub IsAbbreviated : List Op → ℕ → Entry → List Bool → Type 0
+abbrev pub IsAbbreviated : List Op → ℕ → CodeAndValues → List Bool → Type 0
 IsAbbreviated [] p e s = ⊥
-IsAbbreviated (op ∷ others) p e s = (code values : List Bool) × (s ≡ code ++ values) × IsScalar op e.code code × AreValues others (p + length code) e.values values
+IsAbbreviated (op ∷ others) p e s = (code values : List Bool) × (s ≡ code ++ values)
+    × IsScalar op e.code code × AreValues others (p + length code) e.values values

@@ -9,6 +9,7 @@ pub mod Record
 pub mod FormatRecord
 pub mod Forest
 pub mod Marks
+pub mod Terms
 pub mod Setting
 pub mod Under
 pub mod Blocks

@@ -9,7 +9,8 @@ use Rattle.bit_grammar.specs.Setting.{Setting}
 use Rattle.bit_grammar.specs.Under.{under}
 use Rattle.bit_grammar.specs.Blocks.{Limits}
 use Rattle.bit_grammar.specs.declared.shapes.Shapes.TheVariants.{AtDefinition}
-use Rattle.bit_grammar.specs.Input.{Marked, tree_of, SpellsInput}
+use Rattle.bit_grammar.specs.Input.{tree_of, SpellsInput}
+use Rattle.bit_grammar.specs.Terms.{Marked}
 
 -- bits that go by the position of the first of them
 abbrev pub Text : Type 0
@@ -27,21 +28,23 @@ chain a b p = (let s = a p in s ++ b (p + length s))
 abbrev pub padding : Text
 padding p = replicate (padding_length p) false
 
-abbrev pub values_text : List ℕ → List Bool
-values_text [] = []
-values_text (v ∷ vs) = shortest 6 v ++ values_text vs
+abbrev pub values_bits : List ℕ → List Bool
+values_bits [] = []
+values_bits (v ∷ vs) = shortest 6 v ++ values_bits vs
 
 -- a record after its abbreviation id: the code, the number of values, and each value
 abbrev pub entry_text : ℕ → List ℕ → List Bool
-entry_text code values = shortest 6 code ++ (shortest 6 (length values) ++ values_text values)
+entry_text code values = shortest 6 code ++ (shortest 6 (length values) ++ values_bits values)
 
 -- a block after its abbreviation id, up to its body: its id, the width 2, padding, and its length in words
 abbrev pub head_text : (id words : ℕ) → Text
-head_text id words = chain (put (shortest 8 id)) (chain (put (shortest 4 2)) (chain padding (put (bits_of 32 words))))
+head_text id words = chain (put (shortest 8 id))
+    (chain (put (shortest 4 2)) (chain padding (put (bits_of 32 words))))
 
 -- a block after its abbreviation id: the length is that of its own body
 abbrev pub block_text : ℕ → Text → Text
-block_text id body p = (let b = body (p + length (head_text id 0 p)) in head_text id (length b / 32) p ++ b)
+block_text id body p = (let b = body (p + length (head_text id 0 p))
+    in head_text id (length b / 32) p ++ b)
 
 abbrev pub end_text : Text
 end_text = chain (put (bits_of 2 0)) padding
@@ -49,8 +52,10 @@ end_text = chain (put (bits_of 2 0)) padding
 -- items in order
 unfoldable pub normal : Forest → Text
 normal empty = put []
-normal (a_block id inner rest) = chain (chain (put (bits_of 2 1)) (block_text id (chain (normal inner) end_text))) (normal rest)
-normal (a_record code values rest) = chain (chain (put (bits_of 2 3)) (put (entry_text code values))) (normal rest)
+normal (a_block id inner rest) = chain (chain (put (bits_of 2 1))
+    (block_text id (chain (normal inner) end_text))) (normal rest)
+normal (a_record code values rest) = chain (chain (put (bits_of 2 3))
+    (put (entry_text code values))) (normal rest)
 
 -- the magic, and the blocks
 unfoldable pub normal_form : Tree → List Bool
@@ -78,4 +83,5 @@ pub record Capped (limits : Limits) : Type 0 where
 
 -- these bytes spell a marked tree with this tree under a setting
 abbrev pub HasTree : Setting → Limits → List ℕ → Tree → Type 0
-HasTree setting limits bytes tree = (m : Marked) × SpellsInput limits bytes m × (under setting (tree_of m) ≡ tree)
+HasTree setting limits bytes tree = (m : Marked) × SpellsInput limits bytes m
+    × (under setting (tree_of m) ≡ tree)

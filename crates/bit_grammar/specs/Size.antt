@@ -1,13 +1,15 @@
 -- The size of a normal form, as sums over the tree.
 -- This project's own.
 use Rattle.std.specs.Prelude.{ℕ, zero, suc, ◌+◌, ◌-◌, ◌*◌, ◌/◌, ◌^◌, List, [], ◌∷◌, length, nat_lt, if◌then◌else◌}
-use Rattle.bit_grammar.specs.Fields.{chunk_limit, padding_length}
+use Rattle.bit_grammar.specs.Fields.{padding_length}
+use Rattle.bit_grammar.specs.Terms.{chunk_limit}
 use Rattle.bit_grammar.specs.Forest.{Forest, empty, a_block, a_record, Tree}
 
 -- how many chunks the shortest VBR of a number has, of at most so many
 abbrev pub chunk_count : (payload permitted : ℕ) → ℕ → ℕ
 chunk_count payload zero v = 0
-chunk_count payload (suc permitted) v = suc (if nat_lt v (2 ^ payload) then 0 else chunk_count payload permitted (v / 2 ^ payload))
+chunk_count payload (suc permitted) v = suc (if nat_lt v (2 ^ payload) then 0
+    else chunk_count payload permitted (v / 2 ^ payload))
 
 -- how many bits the shortest VBR of width n has
 unfoldable pub shortest_length : (n v : ℕ) → ℕ
@@ -19,7 +21,8 @@ values_length (v ∷ vs) = shortest_length 6 v + values_length vs
 
 -- how many bits a record has: its abbreviation id, its code, the number of values, and each value
 abbrev pub record_length : (code : ℕ) → List ℕ → ℕ
-record_length code values = 2 + shortest_length 6 code + shortest_length 6 (length values) + values_length values
+record_length code values = 2 + shortest_length 6 code + shortest_length 6 (length values)
+    + values_length values
 
 -- the next multiple of 32
 abbrev pub aligned : ℕ → ℕ

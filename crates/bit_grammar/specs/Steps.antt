@@ -24,12 +24,16 @@ EndsThere limits m p r (broke fault) = (IsOver m r → ⊥) × Stops (step limit
 -- events; and where no more of them hold, such an end.
 abbrev pub Steps : Limits → Machine → ℕ → List Bool → List Event → Ending → Type 0
 Steps limits m p r [] ending = EndsThere limits m p r ending
-Steps limits m p r (event ∷ events) ending = (first others : List Bool) × (new : Machine) × (r ≡ first ++ others) × (0 < length first) × Spells (step limits m) p first (event, new) × Steps limits new (p + length first) others events ending
+Steps limits m p r (event ∷ events) ending = (first others : List Bool) × (new : Machine)
+    × (r ≡ first ++ others) × (0 < length first) × Spells (step limits m) p first (event, new)
+    × Steps limits new (p + length first) others events ending
 
 -- the bits s, from position p on, are steps of the machine, each of some bits, with these events, and lead to another machine
 abbrev pub Leads : Limits → Machine → ℕ → List Bool → List Event → Machine → Type 0
 Leads limits m p s [] new = (s ≡ []) × (new ≡ m)
-Leads limits m p s (event ∷ events) new = (first others : List Bool) × (mid : Machine) × (s ≡ first ++ others) × (0 < length first) × Spells (step limits m) p first (event, mid) × Leads limits mid (p + length first) others events new
+Leads limits m p s (event ∷ events) new = (first others : List Bool) × (mid : Machine)
+    × (s ≡ first ++ others) × (0 < length first) × Spells (step limits m) p first (event, mid)
+    × Leads limits mid (p + length first) others events new
 
 -- ---- open blocks
 
@@ -51,12 +55,14 @@ MayStand deepest (leaves after) count = 0 < count
 -- block, and an end only of a block that is open
 abbrev pub IsNested : (deepest count : ℕ) → List Event → (left : ℕ) → Type 0
 IsNested deepest count [] left = left ≡ count
-IsNested deepest count (event ∷ events) left = MayStand deepest event count × IsNested deepest (open_after event count) events left
+IsNested deepest count (event ∷ events) left = MayStand deepest event count
+    × IsNested deepest (open_after event count) events left
 
 -- Such a run as it ends: in the end no block is open where it is accepted.
 abbrev pub EndsNested : (deepest count : ℕ) → List Event → Ending → Type 0
 EndsNested deepest count events (accepted q) = IsNested deepest count events 0
-EndsNested deepest count events (broke fault) = (left : ℕ) × (left ≤ deepest) × IsNested deepest count events left
+EndsNested deepest count events (broke fault) = (left : ℕ) × (left ≤ deepest)
+    × IsNested deepest count events left
 
 -- ---- values
 

@@ -2,7 +2,7 @@
 -- This project's own.
 use Rattle.std.specs.Prelude.{ℕ, ◌+◌, ◌-◌, ◌*◌, Bool, not, List, [], ◌∷◌, ◌++◌, length, map, filter, sum_by, count_by, Option, Some, None, nat_le, ◌==◌}
 use Rattle.bit_grammar.specs.Marks.{BlockMark, RecordMark, DefinitionMark, Marks, no_marks, marked_block, marked_record, marked_definition}
-use Rattle.bit_grammar.specs.Input.{Wrapper, Marked}
+use Rattle.bit_grammar.specs.Terms.{Wrapper, Marked}
 
 -- ---- what stands in a tree
 
@@ -19,7 +19,8 @@ pub record Placed (Mark : Type 0) : Type 0 where
 -- the blocks to any depth, in the order in which they begin
 abbrev pub blocks_in : Marks → List FullBlock
 blocks_in no_marks = []
-blocks_in (marked_block mark inner rest) = record { mark = mark; inner = inner } ∷ (blocks_in inner ++ blocks_in rest)
+blocks_in (marked_block mark inner rest) = record { mark = mark; inner = inner }
+    ∷ (blocks_in inner ++ blocks_in rest)
 blocks_in (marked_record mark rest) = blocks_in rest
 blocks_in (marked_definition mark rest) = blocks_in rest
 
@@ -27,15 +28,18 @@ blocks_in (marked_definition mark rest) = blocks_in rest
 abbrev pub records_in : (block : ℕ) → Marks → List (Placed RecordMark)
 records_in block no_marks = []
 records_in block (marked_block mark inner rest) = records_in mark.id inner ++ records_in block rest
-records_in block (marked_record mark rest) = record { block = block; mark = mark } ∷ records_in block rest
+records_in block (marked_record mark rest) = record { block = block; mark = mark }
+    ∷ records_in block rest
 records_in block (marked_definition mark rest) = records_in block rest
 
 -- the definitions likewise
 abbrev pub definitions_in : (block : ℕ) → Marks → List (Placed DefinitionMark)
 definitions_in block no_marks = []
-definitions_in block (marked_block mark inner rest) = definitions_in mark.id inner ++ definitions_in block rest
+definitions_in block (marked_block mark inner rest) = definitions_in mark.id inner
+    ++ definitions_in block rest
 definitions_in block (marked_record mark rest) = definitions_in block rest
-definitions_in block (marked_definition mark rest) = record { block = block; mark = mark } ∷ definitions_in block rest
+definitions_in block (marked_definition mark rest) = record { block = block; mark = mark }
+    ∷ definitions_in block rest
 
 -- those that stand in blocks with this id
 abbrev pub placed_in : {Mark : Type 0} → ℕ → List (Placed Mark) → List Mark
@@ -100,7 +104,11 @@ with_code code records = filter (λ r. r.code == code) records
 
 -- the row of a code among records
 abbrev pub code_row : List RecordMark → ℕ → CodeTally
-code_row records code = record { code = code; count = length (with_code code records); bits = sum_by record_bits (with_code code records) }
+code_row records code = record {
+  code = code;
+  count = length (with_code code records);
+  bits = sum_by record_bits (with_code code records);
+}
 
 -- a row for each code that they use
 abbrev pub code_rows : List RecordMark → List CodeTally
@@ -129,7 +137,8 @@ with_id id blocks = filter (λ b. b.mark.id == id) blocks
 
 -- The row of an id. At the top stand blocks only, so the 0 is the id of no record or definition there.
 abbrev pub row_of : Marks → ℕ → BlockTally
-row_of marks id = row_by id (with_id id (blocks_in marks)) (placed_in id (records_in 0 marks)) (placed_in id (definitions_in 0 marks))
+row_of marks id = row_by id (with_id id (blocks_in marks)) (placed_in id (records_in 0 marks))
+    (placed_in id (definitions_in 0 marks))
 
 -- a row for each id of a block
 abbrev pub rows_of : Marks → List BlockTally

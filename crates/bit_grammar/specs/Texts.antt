@@ -17,7 +17,8 @@ hex_text byte = digit_glyph false (byte / 16) ∷ digit_glyph false (byte % 16) 
 
 -- the four bytes of a magic, the low byte first
 abbrev pub magic_bytes : ℕ → List ℕ
-magic_bytes magic = magic % 0x100 ∷ magic / 0x100 % 0x100 ∷ magic / 0x10000 % 0x100 ∷ magic / 0x1000000 % 0x100 ∷ []
+magic_bytes magic = magic % 0x100 ∷ magic / 0x100 % 0x100 ∷ magic / 0x10000 % 0x100
+    ∷ magic / 0x1000000 % 0x100 ∷ []
 
 -- the word, and the magic byte by byte
 abbrev pub magic_text : ℕ → List ℕ
@@ -27,18 +28,22 @@ magic_text magic = codes "magic " ++ flat_map hex_text (magic_bytes magic)
 
 -- the line of a code
 abbrev pub code_text : CodeTally → List ℕ
-code_text row = line 1 (codes "record " ++ decimal row.code ++ codes " count " ++ decimal row.count ++ codes " bits " ++ decimal row.bits)
+code_text row = line 1 (codes "record " ++ decimal row.code ++ codes " count " ++ decimal row.count
+    ++ codes " bits " ++ decimal row.bits)
 
 -- the line of a block id, and those of its codes
 abbrev pub row_text : BlockTally → List ℕ
 row_text row =
-    line 0 (codes "block " ++ decimal row.id ++ codes " count " ++ decimal row.blocks ++ codes " bits " ++ decimal row.bits ++ codes " definitions " ++ decimal row.definitions
-    ++ codes " records " ++ decimal row.records ++ codes " abbreviated " ++ decimal row.abbreviated ++ codes " values " ++ decimal row.values)
+    line 0 (codes "block " ++ decimal row.id ++ codes " count " ++ decimal row.blocks
+    ++ codes " bits " ++ decimal row.bits ++ codes " definitions " ++ decimal row.definitions
+    ++ codes " records " ++ decimal row.records ++ codes " abbreviated " ++ decimal row.abbreviated
+    ++ codes " values " ++ decimal row.values)
     ++ flat_map code_text row.codes
 
 -- a line for the stream, and for each row a line and one for each of its codes
 abbrev pub report_of : Tally → List ℕ
-report_of tally = line 0 (magic_text tally.magic ++ codes " bits " ++ decimal tally.bits) ++ flat_map row_text tally.rows
+report_of tally = line 0 (magic_text tally.magic ++ codes " bits " ++ decimal tally.bits)
+    ++ flat_map row_text tally.rows
 
 -- ---- the listing
 
@@ -57,7 +62,8 @@ record_line around code values = line around (codes "record " ++ decimal code ++
 -- the items in order, with so many blocks around them
 abbrev pub lines_of : (around : ℕ) → Forest → List ℕ
 lines_of around empty = []
-lines_of around (a_block id inner rest) = block_line around id ++ (lines_of (suc around) inner ++ lines_of around rest)
+lines_of around (a_block id inner rest) = block_line around id
+    ++ (lines_of (suc around) inner ++ lines_of around rest)
 lines_of around (a_record code values rest) = record_line around code values ++ lines_of around rest
 
 -- a line for the magic, and one for each block and record
@@ -76,4 +82,5 @@ event_text around (leaves after) = []
 -- the lines of events in order, with so many blocks around the first
 abbrev pub events_text : (around : ℕ) → List Event → List ℕ
 events_text around [] = []
-events_text around (event ∷ events) = event_text around event ++ events_text (open_after event around) events
+events_text around (event ∷ events) = event_text around event
+    ++ events_text (open_after event around) events

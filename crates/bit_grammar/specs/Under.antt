@@ -12,9 +12,11 @@ use Rattle.bit_grammar.specs.Machine.{Event, enters, defines, notes, leaves}
 abbrev pub items_under : Setting → (around : ℕ) → Forest → Forest
 items_under setting around empty = empty
 items_under setting around (a_block id inner rest) =
-    if keeps setting id then a_block id (items_under setting id inner) (items_under setting around rest) else items_under setting around rest
+    if keeps setting id then a_block id (items_under setting id inner)
+    (items_under setting around rest) else items_under setting around rest
 items_under setting around (a_record code values rest) =
-    if keeps_record setting around code then a_record code values (items_under setting around rest) else items_under setting around rest
+    if keeps_record setting around code then a_record code values (items_under setting around rest)
+    else items_under setting around rest
 
 -- what is left of a tree
 abbrev pub under : Setting → Tree → Tree
@@ -24,16 +26,21 @@ under setting tree = record tree { blocks = items_under setting 0 tree.blocks }
 abbrev pub marks_under : Setting → (around : ℕ) → Marks → Marks
 marks_under setting around no_marks = no_marks
 marks_under setting around (marked_block mark inner rest) =
-    if keeps setting mark.id then marked_block mark (marks_under setting mark.id inner) (marks_under setting around rest) else marks_under setting around rest
+    if keeps setting mark.id then marked_block mark (marks_under setting mark.id inner)
+    (marks_under setting around rest) else marks_under setting around rest
 marks_under setting around (marked_record mark rest) =
-    if keeps_record setting around mark.code then marked_record mark (marks_under setting around rest) else marks_under setting around rest
-marks_under setting around (marked_definition mark rest) = marked_definition mark (marks_under setting around rest)
+    if keeps_record setting around mark.code then marked_record mark
+    (marks_under setting around rest) else marks_under setting around rest
+marks_under setting around (marked_definition mark rest) = marked_definition mark
+    (marks_under setting around rest)
 
 -- no item of a block with this id is named, at any depth
 abbrev pub HasNoneNamed : Setting → (around : ℕ) → Forest → Type 0
 HasNoneNamed setting around empty = Unit {0}
-HasNoneNamed setting around (a_block id inner rest) = (keeps setting id ≡ true) × HasNoneNamed setting id inner × HasNoneNamed setting around rest
-HasNoneNamed setting around (a_record code values rest) = (keeps_record setting around code ≡ true) × HasNoneNamed setting around rest
+HasNoneNamed setting around (a_block id inner rest) = (keeps setting id ≡ true)
+    × HasNoneNamed setting id inner × HasNoneNamed setting around rest
+HasNoneNamed setting around (a_record code values rest) = (keeps_record setting around code ≡ true)
+    × HasNoneNamed setting around rest
 
 -- ---- events
 
@@ -59,10 +66,12 @@ innermost (id ∷ ids) = id
 abbrev pub is_left : Setting → (ids : List ℕ) → Event → Bool
 is_left setting ids (enters o) = list_all (keeps setting) (o.id ∷ ids)
 is_left setting ids (defines mark) = list_all (keeps setting) ids
-is_left setting ids (notes mark) = list_all (keeps setting) ids && keeps_record setting (innermost ids) mark.code
+is_left setting ids (notes mark) = list_all (keeps setting) ids
+    && keeps_record setting (innermost ids) mark.code
 is_left setting ids (leaves after) = list_all (keeps setting) ids
 
 -- what is left of events in order, where these blocks are open before the first
 abbrev pub events_under : Setting → (ids : List ℕ) → List Event → List Event
 events_under setting ids [] = []
-events_under setting ids (event ∷ events) = (let others = events_under setting (ids_after event ids) events in if is_left setting ids event then event ∷ others else others)
+events_under setting ids (event ∷ events) = (let others = events_under setting (ids_after event ids)
+    events in if is_left setting ids event then event ∷ others else others)

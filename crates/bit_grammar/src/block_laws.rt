@@ -8,7 +8,8 @@ ghost use Rattle.bit_grammar.specs.FormatBlocks.{top_with, HoldsDefinable, IsBlo
 
 /// A stream has one front that is a block, with all that stands in it.
 pub fn one_block()
-    ensures { (limits : Limits) (handed : Handed) (p : ℕ) (s t x y : List Bool) (v w : Item × Handed)
+    ensures { (limits : Limits) (handed : Handed) (p : ℕ) (s t x y : List Bool)
+        (v w : Item × Handed)
         → s ++ x ≡ t ++ y → Spells (top_block limits handed) p s v → Spells (top_block limits handed) p t w
         → (s ≡ t) × (v ≡ w) }
 {}
@@ -25,7 +26,8 @@ pub fn block_or_fault()
 /// were used before than the limit permits, it is a block in the words of the format that keeps to the limits, and each
 /// such block is spelled. The table after the block holds what can be defined too.
 pub fn block_in_words()
-    ensures words { (limits : Limits) (handed new : Handed) (p : ℕ) (s : List Bool) (mark : BlockMark)
+    ensures words { (limits : Limits) (handed new : Handed) (p : ℕ) (s : List Bool)
+        (mark : BlockMark)
         (inner : Marks) → handed.used ≤ limits.values → HoldsDefinable handed.table
         → (Spells (top_block limits handed) p s (block_item mark inner, new)
         ↔ (IsBlock (AreItems inner) (top_with handed.table) p mark s (top_with new.table)
@@ -46,12 +48,15 @@ pub fn no_idle_round()
         → Spells (item shapes (block shapes depth limit) h limit scope) p [] x → ⊥ }
     ensures block { (limits : Limits) (handed : Handed) (p : ℕ) (v : Item × Handed)
         → Spells (top_block limits handed) p [] v → ⊥ }
-    ensures width { (p : ℕ) (s : List Bool) (h : BlockHead) → Spells block_head p s h → 1 ≤ h.width }
-    ensures body { (idle other : Fault) (shapes : Shapes) (depth limit : ℕ) (h : BlockHead) (scope : Scope) (p : ℕ)
+    ensures width { (p : ℕ) (s : List Bool) (h : BlockHead) → Spells block_head p s h
+        → 1 ≤ h.width }
+    ensures body { (idle other : Fault) (shapes : Shapes) (depth limit : ℕ) (h : BlockHead)
+        (scope : Scope) (p : ℕ)
         (r : List Bool) (fault : Fault) → 1 ≤ h.width
         → Stops (rounds idle (item shapes (block shapes depth limit) h limit) scope) p r fault
         → Stops (rounds other (item shapes (block shapes depth limit) h limit) scope) p r fault }
-    ensures stream { (idle other : Fault) (limits : Limits) (handed : Handed) (p : ℕ) (r : List Bool)
+    ensures stream { (idle other : Fault) (limits : Limits) (handed : Handed) (p : ℕ)
+        (r : List Bool)
         (fault : Fault) → StopsAll (until_end idle (top_block limits) handed) p r fault
         → StopsAll (until_end other (top_block limits) handed) p r fault }
 {}

@@ -1,6 +1,7 @@
 ghost use Rattle.std.specs.Prelude.{◌≡◌, ℕ, ◌^◌, ◌<◌, ◌≤◌, ◌↔◌, Bool, List, [], length, ◌*◌, slice_index};
 ghost use Rattle.bit_grammar.specs.Grammar.{Spells};
-ghost use Rattle.bit_grammar.specs.Fields.{fixed, vbr, align32, chunk_limit, character, char6, byte};
+ghost use Rattle.bit_grammar.specs.Fields.{fixed, vbr, align32, char6, byte};
+ghost use Rattle.bit_grammar.specs.Terms.{chunk_limit, character};
 ghost use Rattle.bit_grammar.specs.FormatFields.{IsFixed, IsVbr, IsPadding, shortest, IsChar6, characters};
 
 /// A field of fixed width is so many bits, and its value is the number that they spell.

@@ -6,7 +6,8 @@ ghost use Rattle.bit_grammar.specs.Grammar.{Fault};
 ghost use Rattle.bit_grammar.specs.Marks.{depth_in, values_in};
 ghost use Rattle.bit_grammar.specs.Blocks.{Limits, judged_at};
 ghost use Rattle.bit_grammar.specs.FormatBlocks.{PassIn};
-ghost use Rattle.bit_grammar.specs.Input.{is_closed, EndsWithin, Marked, SpellsInput, BreaksInput};
+ghost use Rattle.bit_grammar.specs.Input.{is_closed, EndsWithin, SpellsInput, BreaksInput};
+ghost use Rattle.bit_grammar.specs.Terms.{Marked};
 ghost use Rattle.bit_grammar.specs.FormatInput.{IsInput};
 
 /// An input spells one marked tree.
@@ -23,7 +24,8 @@ pub fn one_fault()
 
 /// An input that breaks spells no tree.
 pub fn not_both()
-    ensures { (limits : Limits) (bytes : List ℕ) (m : Marked) (f : Fault) → SpellsInput limits bytes m
+    ensures { (limits : Limits) (bytes : List ℕ) (m : Marked) (f : Fault)
+        → SpellsInput limits bytes m
         → BreaksInput limits bytes f → ⊥ }
 {}
 

@@ -2,11 +2,12 @@ ghost use Rattle.std.specs.Prelude.{◌≡◌, ℕ, ◌<◌, ◌≤◌, List, le
 ghost use Rattle.bit_grammar.specs.Bits.{bits_of_bytes};
 ghost use Rattle.bit_grammar.specs.Forest.{Tree, forest_depth, forest_values, Fit, Forest, AreBlocks};
 ghost use Rattle.bit_grammar.specs.Normal.{normal_form, most_bytes, Capped, HasTree, chain, normal, end_text};
-ghost use Rattle.bit_grammar.specs.Fields.{vbr, chunk_limit};
+ghost use Rattle.bit_grammar.specs.Fields.{vbr};
+ghost use Rattle.bit_grammar.specs.Terms.{chunk_limit, Marked};
 ghost use Rattle.bit_grammar.specs.FormatFields.{shortest};
 ghost use Rattle.bit_grammar.specs.Blocks.{Limits, block};
 ghost use Rattle.bit_grammar.specs.Setting.{Setting, keep};
-ghost use Rattle.bit_grammar.specs.Input.{tree_of, Marked, SpellsInput};
+ghost use Rattle.bit_grammar.specs.Input.{tree_of, SpellsInput};
 ghost use Rattle.std.specs.List.{All};
 ghost use Rattle.bit_grammar.specs.Under.{under};
 ghost use Rattle.bit_grammar.specs.Size.{shortest_length, end_of, body_length, size_of};
@@ -32,27 +33,33 @@ pub fn one_tree_of_normal()
 /// Fit trees with the same normal form are the same, where the form is no longer than the cap on bytes, so that each length
 /// in it fits its field.
 pub fn one_tree_of_form()
-    ensures { (a b : Tree) → Fit a → Fit b → size_of a ≤ most_bytes → normal_form a ≡ normal_form b → a ≡ b }
+    ensures { (a b : Tree) → Fit a → Fit b → size_of a ≤ most_bytes → normal_form a ≡ normal_form b
+        → a ≡ b }
 {}
 
 /// Under each setting and limits within their caps, where the normal form of what is left of what an input spells fits the
 /// limit on bytes: it is spelled under the same limits; all that it spells is what is left, of which nothing is left out under
 /// the setting, so that it is its own normal form; and inputs whose normal forms are the same bytes have the same tree.
 pub fn normal_once()
-    ensures spelled { (setting : Setting) (limits : Limits) (bytes out : List ℕ) (m : Marked) → Capped limits
+    ensures spelled { (setting : Setting) (limits : Limits) (bytes out : List ℕ) (m : Marked)
+        → Capped limits
         → SpellsInput limits bytes m → bits_of_bytes out ≡ normal_form (under setting (tree_of m))
         → length out ≤ limits.bytes → HasTree setting limits out (under setting (tree_of m)) }
-    ensures whole { (setting : Setting) (limits : Limits) (bytes out : List ℕ) (m n : Marked) → Capped limits
+    ensures whole { (setting : Setting) (limits : Limits) (bytes out : List ℕ) (m n : Marked)
+        → Capped limits
         → SpellsInput limits bytes m → bits_of_bytes out ≡ normal_form (under setting (tree_of m))
         → length out ≤ limits.bytes → SpellsInput limits out n → tree_of n ≡ under setting (tree_of m) }
-    ensures once { (setting : Setting) (limits : Limits) (bytes out : List ℕ) (m n : Marked) → Capped limits
+    ensures once { (setting : Setting) (limits : Limits) (bytes out : List ℕ) (m n : Marked)
+        → Capped limits
         → SpellsInput limits bytes m → bits_of_bytes out ≡ normal_form (under setting (tree_of m))
         → length out ≤ limits.bytes → SpellsInput limits out n → under setting (tree_of n) ≡ under setting (tree_of m) }
-    ensures again { (setting : Setting) (limits : Limits) (bytes out : List ℕ) (m n : Marked) → Capped limits
+    ensures again { (setting : Setting) (limits : Limits) (bytes out : List ℕ) (m n : Marked)
+        → Capped limits
         → SpellsInput limits bytes m → bits_of_bytes out ≡ normal_form (under setting (tree_of m))
         → length out ≤ limits.bytes → SpellsInput limits out n
         → bits_of_bytes out ≡ normal_form (under setting (tree_of n)) }
-    ensures same { (setting : Setting) (limits : Limits) (bytes bytes' out : List ℕ) (m n : Marked) → Capped limits
+    ensures same { (setting : Setting) (limits : Limits) (bytes bytes' out : List ℕ) (m n : Marked)
+        → Capped limits
         → SpellsInput limits bytes m → SpellsInput limits bytes' n
         → bits_of_bytes out ≡ normal_form (under setting (tree_of m)) → bits_of_bytes out ≡ normal_form (under setting (tree_of n))
         → length out ≤ limits.bytes → under setting (tree_of m) ≡ under setting (tree_of n) }
@@ -76,7 +83,8 @@ pub fn normal_size()
     ensures body { (inner : Forest) (k : ℕ)
         → length (chain (normal inner) end_text (32 * k)) ≡ body_length inner }
     ensures form { (tree : Tree) → length (normal_form tree) ≡ end_of tree.blocks 32 }
-    ensures tree { (tree : Tree) → AreBlocks tree.blocks → length (normal_form tree) ≡ 8 * size_of tree }
+    ensures tree { (tree : Tree) → AreBlocks tree.blocks
+        → length (normal_form tree) ≡ 8 * size_of tree }
 {}
 
 /// The normal form of items goes by its position modulo 32 only, and so does its length; bodies are whole words.
@@ -90,7 +98,8 @@ pub fn normal_at()
 pub fn size_order()
     ensures grows { (f : Forest) (p : ℕ) → p ≤ end_of f p }
     ensures later { (f : Forest) (p q : ℕ) → p ≤ q → end_of f p ≤ end_of f q }
-    ensures under { (setting : Setting) (tree : Tree) → size_of (under setting tree) ≤ size_of tree }
+    ensures under { (setting : Setting) (tree : Tree)
+        → size_of (under setting tree) ≤ size_of tree }
 {}
 
 /// The normal form of blocks is bytes, as many as its size, which is a multiple of four.

@@ -4,8 +4,9 @@ ghost use Rattle.bit_grammar.specs.Grammar.{Fault, Spells, Stops};
 ghost use Rattle.bit_grammar.specs.declared.shapes.Shapes.{Shapes};
 ghost use Rattle.bit_grammar.specs.declared.shapes.Shapes.TheVariants.{AtDefinition};
 ghost use Rattle.bit_grammar.specs.Definition.{definition, has_shape};
-ghost use Rattle.bit_grammar.specs.FormatDefinition.{Definable, InOrder, Lawful, Passes, IsDefinition};
-ghost use Rattle.bit_grammar.specs.Record.{Entry, abbreviated, unabbreviated};
+ghost use Rattle.bit_grammar.specs.FormatDefinition.{Definable, InOrder, Lawful, PassesShape, IsDefinition};
+ghost use Rattle.bit_grammar.specs.Record.{abbreviated, unabbreviated};
+ghost use Rattle.bit_grammar.specs.Terms.{CodeAndValues};
 ghost use Rattle.bit_grammar.specs.FormatRecord.{IsUnabbreviated, IsAbbreviated};
 
 /// A stream has one front that is a definition, and it defines one list of operands.
@@ -16,18 +17,20 @@ pub fn one_definition()
 
 /// A definition whose shape is judged has a lawful list of operands.
 pub fn lawful_definition()
-    ensures { (p : ℕ) (s : List Bool) (ops : List Op) → Spells (definition AtDefinition) p s ops → Lawful ops }
+    ensures { (p : ℕ) (s : List Bool) (ops : List Op) → Spells (definition AtDefinition) p s ops
+        → Lawful ops }
 {}
 
 /// A definition is the number of its operands, and each of them; and where their order is judged it is lawful.
 pub fn definition_in_words()
     ensures { (shapes : Shapes) (p : ℕ) (s : List Bool) (ops : List Op)
-        → (Spells (definition shapes) p s ops ↔ (IsDefinition ops s × Passes shapes ops)) }
+        → (Spells (definition shapes) p s ops ↔ (IsDefinition ops s × PassesShape shapes ops)) }
 {}
 
 /// Each list of operands with lawful values whose number a VBR can spell has a definition.
 pub fn every_definable_list()
-    ensures { (ops : List Op) → Definable ops → length ops < 2 ^ 64 → (s : List Bool) × IsDefinition ops s }
+    ensures { (ops : List Op) → Definable ops → length ops < 2 ^ 64
+        → (s : List Bool) × IsDefinition ops s }
 {}
 
 /// Operands have the shape that is judged just where they are in order, each by its index.
@@ -37,7 +40,8 @@ pub fn shape_in_order()
 
 /// A stream has one front that is a record by given operands.
 pub fn one_record()
-    ensures { (start room : ℕ) (ops : List Op) (p : ℕ) (s t x y : List Bool) (v w : Entry) → s ++ x ≡ t ++ y
+    ensures { (start room : ℕ) (ops : List Op) (p : ℕ) (s t x y : List Bool) (v w : CodeAndValues)
+        → s ++ x ≡ t ++ y
         → Spells (abbreviated start room ops) p s v → Spells (abbreviated start room ops) p t w
         → (s ≡ t) × (v ≡ w) }
 {}
@@ -45,18 +49,19 @@ pub fn one_record()
 /// A stream has a front that is a record by given operands, or breaks with a fault.
 pub fn record_or_fault()
     ensures { (start room : ℕ) (ops : List Op) (p : ℕ) (r : List Bool)
-        → ((s rest : List Bool) × (v : Entry) × (r ≡ s ++ rest) × Spells (abbreviated start room ops) p s v)
+        → ((s rest : List Bool) × (v : CodeAndValues) × (r ≡ s ++ rest) × Spells (abbreviated start room ops) p s v)
         ⊎ ((fault : Fault) × Stops (abbreviated start room ops) p r fault) }
 {}
 
 /// An unabbreviated record is the code, the number of its values and each value, no more values than there is room for.
 pub fn unabbreviated_in_words()
-    ensures { (room p : ℕ) (s : List Bool) (e : Entry)
+    ensures { (room p : ℕ) (s : List Bool) (e : CodeAndValues)
         → (Spells (unabbreviated room) p s e ↔ (IsUnabbreviated e s × (length e.values ≤ room))) }
 {}
 
 /// A record by a lawful list of operands is the fields of the operands, no more values than there is room for.
 pub fn abbreviated_in_words()
-    ensures { (start room : ℕ) (ops : List Op) (p : ℕ) (s : List Bool) (e : Entry) → Lawful ops
+    ensures { (start room : ℕ) (ops : List Op) (p : ℕ) (s : List Bool) (e : CodeAndValues)
+        → Lawful ops
         → (Spells (abbreviated start room ops) p s e ↔ (IsAbbreviated ops p e s × (length e.values ≤ room))) }
 {}

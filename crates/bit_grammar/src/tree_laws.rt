@@ -6,7 +6,8 @@ ghost use Rattle.bit_grammar.specs.Normal.{Capped, HasTree};
 ghost use Rattle.bit_grammar.specs.Machine.{flat};
 ghost use Rattle.bit_grammar.specs.Marks.{Marks, forest_of};
 ghost use Rattle.bit_grammar.specs.Blocks.{Limits};
-ghost use Rattle.bit_grammar.specs.Input.{tree_of, Marked, SpellsInput};
+ghost use Rattle.bit_grammar.specs.Input.{tree_of, SpellsInput};
+ghost use Rattle.bit_grammar.specs.Terms.{Marked};
 ghost use Rattle.bit_grammar.specs.Under.{items_under, under, HasNoneNamed, events_under};
 
 /// Under limits within their caps, the tree of what an input spells is fit under each setting.
@@ -35,7 +36,8 @@ pub fn reading_stays()
 /// more. A setting keeps a tree fit, and adds no depth and no values.
 pub fn tree_under()
     ensures kept { (tree : Tree) → under keep tree ≡ tree }
-    ensures again { (setting : Setting) (tree : Tree) → under setting (under setting tree) ≡ under setting tree }
+    ensures again { (setting : Setting) (tree : Tree)
+        → under setting (under setting tree) ≡ under setting tree }
     ensures fit { (setting : Setting) (tree : Tree) → Fit tree → Fit (under setting tree) }
     ensures fit_items { (setting : Setting) (around : ℕ) (f : Forest) → FitForest f
         → FitForest (items_under setting around f) }

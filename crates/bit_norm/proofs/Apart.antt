@@ -3,7 +3,8 @@ use Rattle.std.proofs.Common.{◌≡◌, List, [], ◌∷◌, ◌++◌, sym, ap,
 use Rattle.bit_grammar.specs.Setting.{Setting}
 use Rattle.bit_grammar.specs.Under.{under}
 use Rattle.bit_grammar.specs.Forest.{Tree}
-use Rattle.bit_grammar.specs.Input.{Marked, tree_of}
+use Rattle.bit_grammar.specs.Input.{tree_of}
+use Rattle.bit_grammar.specs.Terms.{Marked}
 use Rattle.bit_norm.specs.Entries.{Sign, Entry, signs_in, FirstApart, Seen, behind_magic, all_entries, FirstDifference, in_magic, behind}
 use Rattle.bit_norm.proofs.Signs.{signs_in-append, same_signs}
 

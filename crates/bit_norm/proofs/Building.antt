@@ -5,20 +5,20 @@ use Rattle.std.specs.List.{list_all}
 use Rattle.std.proofs.lemmas.List.{append-nil}
 use Rattle.bit_grammar.specs.Setting.{keeps, keeps_record}
 use Rattle.bit_grammar.specs.Under.{ids_after, ids_behind, innermost, is_left}
-use Rattle.bit_grammar.proofs.Under.{ids_behind-push}
+use Rattle.bit_grammar.proofs.NormalForms.Under.{ids_behind-push}
 use Rattle.bit_grammar.specs.Bits.{bits_of}
 use Rattle.bit_grammar.specs.FormatFields.{shortest}
 use Rattle.bit_grammar.specs.Forest.{Forest, empty, a_block, a_record}
 use Rattle.bit_grammar.specs.Machine.{Event, Opened, enters, defines, notes, leaves}
 use Rattle.bit_grammar.specs.Marks.{RecordMark, DefinitionMark}
-use Rattle.bit_grammar.specs.Normal.{chain, padding, values_text, head_text, block_text, end_text, normal}
+use Rattle.bit_grammar.specs.Normal.{chain, padding, values_bits, head_text, block_text, end_text, normal}
 use Rattle.bit_grammar.specs.Size.{end_of}
 use Rattle.bit_grammar.specs.Steps.{open_after}
-use Rattle.bit_grammar.proofs.Numbers.{length-bits_of}
-use Rattle.bit_grammar.proofs.Sizes.{items_end, padding_again, short_length}
-use Rattle.bit_grammar.proofs.Texts.{pad_length}
+use Rattle.bit_grammar.proofs.Bits.Numbers.{length-bits_of}
+use Rattle.bit_grammar.proofs.NormalForms.Sizes.{items_end, padding_again, short_length}
+use Rattle.bit_grammar.proofs.NormalForms.Texts.{pad_length}
 use Rattle.bit_events.specs.Gathering.{left_open}
-use Rattle.bit_events.specs.Standing.{Standing}
+use Rattle.bit_events.specs.Standing.{OpenUnder}
 use Rattle.bit_events.proofs.Standings.{left_as_many, left_closed, left_push}
 use Rattle.bit_events.proofs.Folds.{open_behind-push}
 use Rattle.bit_grammar.specs.Blocks.{Limits}
@@ -27,8 +27,8 @@ use Rattle.bit_fields.proofs.BitLaws.{bits_of-above}
 use Rattle.bit_fields.proofs.Texts.{with_word_between}
 use Rattle.bit_fields.proofs.WriterChunks.{short_spelled}
 use Rattle.bit_norm.specs.Told.{told_at_level}
-use Rattle.bit_norm.specs.Building.{written, begins, closed, completed, form_with, holes_of, AreWords, Builds, PassesLimit, Forms, HasForm, record_left, left, IsFormOf}
-use Rattle.bit_norm.specs.Writing.{record_head, record_text, open_text}
+use Rattle.bit_norm.specs.Building.{form_so_far, begins, length_and_body, whole_form, form_with, holes_of, AreWords, Builds, PassesLimit, Forms, HasForm, record_left, left_events, IsFormOf}
+use Rattle.bit_norm.specs.Writing.{record_front, record_text, enter_text}
 use Rattle.bit_norm.proofs.ChunkCounting.{short_few}
 use Rattle.bit_norm.specs.declared.form_builder.FormBuilder.{FormBuilder}
 
@@ -49,8 +49,8 @@ unfolding normal
 nothing p = refl
 
 -- a block is what stands before its length, and its length and body
-block_first : (id : ℕ) (inner rest : Forest) (q b : ℕ) → b ≡ q + length (open_text id q) + 32
-    → normal (a_block id inner rest) q ≡ (open_text id q ++ closed b (normal inner b)) ++ normal rest (q + length (open_text id q ++ closed b (normal inner b)))
+block_first : (id : ℕ) (inner rest : Forest) (q b : ℕ) → b ≡ q + length (enter_text id q) + 32
+    → normal (a_block id inner rest) q ≡ (enter_text id q ++ length_and_body b (normal inner b)) ++ normal rest (q + length (enter_text id q ++ length_and_body b (normal inner b)))
 unfolding normal
 block_first id inner rest q b is =
     let two = bits_of 2 1 in
@@ -60,57 +60,57 @@ block_first id inner rest q b is =
     let z = padding (p + length x + length y) in
     let body = chain (normal inner) end_text in
     let at_body = p + length (head_text id 0 p) in
-    let lengths : length (open_text id q) ≡ length two + (length x + (length y + length z)) = omega (arith, length-append two (x ++ (y ++ z)), length-append x (y ++ z), length-append y z) in
+    let lengths : length (enter_text id q) ≡ length two + (length x + (length y + length z)) = omega (arith, length-append two (x ++ (y ++ z)), length-append x (y ++ z), length-append y z) in
     let place : at_body ≡ b = omega (arith, is, lengths, length-append x (y ++ (z ++ bits_of 32 0)), length-append y (z ++ bits_of 32 0), length-append z (bits_of 32 0), length-bits_of 32 0) in
     let parts : (w : List Bool) (s : List Bool) → two ++ ((x ++ (y ++ (z ++ w))) ++ s) ≡ (two ++ (x ++ (y ++ z))) ++ (w ++ s) = λ (w : List Bool) (s : List Bool).
     ap (λ (t : List Bool). two ++ (t ++ s)) (ap (λ (t : List Bool). x ++ t) (sym (append_assoc y z w)) ∙ sym (append_assoc x (y ++ z) w))
     ∙ ap (λ (t : List Bool). two ++ t) (append_assoc (x ++ (y ++ z)) w s)
     ∙ sym (append_assoc two (x ++ (y ++ z)) (w ++ s)) in
-    let same : two ++ block_text id body p ≡ open_text id q ++ closed b (normal inner b) = parts (bits_of 32 (length (body at_body) / 32)) (body at_body) ∙ ap (λ (k : ℕ). open_text id q ++ (bits_of 32 (length (body k) / 32) ++ body k)) place in
+    let same : two ++ block_text id body p ≡ enter_text id q ++ length_and_body b (normal inner b) = parts (bits_of 32 (length (body at_body) / 32)) (body at_body) ∙ ap (λ (k : ℕ). enter_text id q ++ (bits_of 32 (length (body k) / 32) ++ body k)) place in
     ap (λ (s : List Bool). s ++ normal rest (q + length s)) same
 
 -- ---- what becomes of a text
 
 -- the whole is no shorter than what there is
-pub longer : (outer : List (List Bool)) (full : List Bool) (coming : ℕ → Forest) → length (written outer) + length full ≤ length (completed outer full coming)
+pub longer : (outer : List (List Bool)) (full : List Bool) (coming : ℕ → Forest) → length (form_so_far outer) + length full ≤ length (whole_form outer full coming)
 longer [] full coming = omega arith
 longer (s ∷ outer) full coming =
     let p = begins (s ∷ outer) in
     let end = end_text (p + length full) in
     let body = full ++ end in
-    let now = s ++ closed p full in
+    let now = s ++ length_and_body p full in
     let others = normal (coming 0) (begins outer + length now) in
     omega (
       arith,
       longer outer (now ++ others) (λ level. coming (suc level)),
       length-append now others,
-      length-append s (closed p full),
+      length-append s (length_and_body p full),
       length-append (bits_of 32 (length body / 32)) body,
       length-append full end,
       length-bits_of 32 (length body / 32),
-      length-append (written outer ++ s) (bits_of 32 0),
-      length-append (written outer) s,
+      length-append (form_so_far outer ++ s) (bits_of 32 0),
+      length-append (form_so_far outer) s,
       length-bits_of 32 0,
     )
 
 -- a record is added
 pub form_record : (outer : List (List Bool)) (inner : List Bool) (code : ℕ) (values : List ℕ) (rest : Forest) (coming : ℕ → Forest) →
-    completed outer (inner ++ normal (a_record code values rest) (begins outer + length inner)) coming
-    ≡ completed outer ((inner ++ record_text code values (begins outer + length inner)) ++ normal rest (begins outer + length (inner ++ record_text code values (begins outer + length inner)))) coming
+    whole_form outer (inner ++ normal (a_record code values rest) (begins outer + length inner)) coming
+    ≡ whole_form outer ((inner ++ record_text code values (begins outer + length inner)) ++ normal rest (begins outer + length (inner ++ record_text code values (begins outer + length inner)))) coming
 form_record outer inner code values rest coming =
-    ap (λ (s : List Bool). completed outer s coming) (added inner (record_text code values (begins outer + length inner)) (begins outer) (a_record code values rest) rest (record_first code values rest (begins outer + length inner)))
+    ap (λ (s : List Bool). whole_form outer s coming) (added inner (record_text code values (begins outer + length inner)) (begins outer) (a_record code values rest) rest (record_first code values rest (begins outer + length inner)))
 
 -- a block is opened
-pub form_enters : (outer : List (List Bool)) (inner : List Bool) (id : ℕ) (first rest : Forest) (coming : ℕ → Forest) (head : List Bool) → head ≡ open_text id (begins outer + length inner) →
-    completed outer (inner ++ normal (a_block id first rest) (begins outer + length inner)) coming
-    ≡ (let now = (inner ++ head) ++ closed (begins ((inner ++ head) ∷ outer)) (normal first (begins ((inner ++ head) ∷ outer))) in completed outer (now ++ normal rest (begins outer + length now)) coming)
+pub form_enters : (outer : List (List Bool)) (inner : List Bool) (id : ℕ) (first rest : Forest) (coming : ℕ → Forest) (head : List Bool) → head ≡ enter_text id (begins outer + length inner) →
+    whole_form outer (inner ++ normal (a_block id first rest) (begins outer + length inner)) coming
+    ≡ (let now = (inner ++ head) ++ length_and_body (begins ((inner ++ head) ∷ outer)) (normal first (begins ((inner ++ head) ∷ outer))) in whole_form outer (now ++ normal rest (begins outer + length now)) coming)
 form_enters outer inner id first rest coming head head_is =
     let q = begins outer + length inner in
     let b = begins ((inner ++ head) ∷ outer) in
-    let there : b ≡ q + length (open_text id q) + 32 = omega (arith, length-append (written outer ++ (inner ++ head)) (bits_of 32 0), length-append (written outer) (inner ++ head), length-append inner head, length-bits_of 32 0, ap length head_is) in
-    let t = open_text id q ++ closed b (normal first b) in
-    let same : inner ++ t ≡ (inner ++ head) ++ closed b (normal first b) = sym (append_assoc inner (open_text id q) (closed b (normal first b))) ∙ ap (λ (s : List Bool). (inner ++ s) ++ closed b (normal first b)) (sym head_is) in
-    ap (λ (s : List Bool). completed outer s coming) (added inner t (begins outer) (a_block id first rest) rest (block_first id first rest q b there) ∙ ap (λ (now : List Bool). now ++ normal rest (begins outer + length now)) same)
+    let there : b ≡ q + length (enter_text id q) + 32 = omega (arith, length-append (form_so_far outer ++ (inner ++ head)) (bits_of 32 0), length-append (form_so_far outer) (inner ++ head), length-append inner head, length-bits_of 32 0, ap length head_is) in
+    let t = enter_text id q ++ length_and_body b (normal first b) in
+    let same : inner ++ t ≡ (inner ++ head) ++ length_and_body b (normal first b) = sym (append_assoc inner (enter_text id q) (length_and_body b (normal first b))) ∙ ap (λ (s : List Bool). (inner ++ s) ++ length_and_body b (normal first b)) (sym head_is) in
+    ap (λ (s : List Bool). whole_form outer s coming) (added inner t (begins outer) (a_block id first rest) rest (block_first id first rest q b there) ∙ ap (λ (now : List Bool). now ++ normal rest (begins outer + length now)) same)
 
 -- it doesn't matter whether the magic stands before an end
 pub end_again : (p : ℕ) → end_text (32 + p) ≡ end_text p
@@ -119,7 +119,7 @@ end_again p =
     let place : 32 + p + length two ≡ (p + length two) + 32 * 1 = omega arith in
     ap (λ (n : ℕ). two ++ padding n) place ∙ ap (λ (n : ℕ). two ++ replicate n false) (padding_again (p + length two) 1)
 
-pub open_again : (id p : ℕ) → open_text id (32 + p) ≡ open_text id p
+pub open_again : (id p : ℕ) → enter_text id (32 + p) ≡ enter_text id p
 open_again id p =
     let two = bits_of 2 1 in
     let x = shortest 8 id in
@@ -129,7 +129,7 @@ open_again id p =
     ap (λ (n : ℕ). two ++ (x ++ (y ++ padding n))) place ∙ ap (λ (n : ℕ). two ++ (x ++ (y ++ replicate n false))) (padding_again q 1)
 
 -- what stands before a block's length ends at a word, and so does its end
-pub open_ends : (id p : ℕ) → (p + length (open_text id p)) % 32 ≡ 0
+pub open_ends : (id p : ℕ) → (p + length (enter_text id p)) % 32 ≡ 0
 open_ends id p =
     let two = bits_of 2 1 in
     let x = shortest 8 id in
@@ -158,8 +158,8 @@ module _ (events : List Event) (text : List Bool) (holes : List ℕ) (was : Buil
   next_depth event = ap (open_after event) was.depth ∙ sym (open_behind-push events event 0)
 
   -- the text has so many bits
-  text_length : length text ≡ length (written was.outer) + length was.inner
-  text_length = ap length was.is ∙ length-append (written was.outer) was.inner
+  text_length : length text ≡ length (form_so_far was.outer) + length was.inner
+  text_length = ap length was.is ∙ length-append (form_so_far was.outer) was.inner
 
   here_is : begins was.outer + length was.inner ≡ 32 + length text
   here_is = omega (arith, text_length)
@@ -174,7 +174,7 @@ module _ (events : List Event) (text : List Bool) (holes : List ℕ) (was : Buil
       record {
         outer = was.outer;
         inner = was.inner ++ t;
-        is = adds ∙ ap (λ (s : List Bool). s ++ t) was.is ∙ append_assoc (written was.outer) was.inner t;
+        is = adds ∙ ap (λ (s : List Bool). s ++ t) was.is ∙ append_assoc (form_so_far was.outer) was.inner t;
         places = was.places;
         words = was.words;
         top = λ outside. absurd (omega (arith, outside, some, was.depth));
@@ -182,30 +182,30 @@ module _ (events : List Event) (text : List Bool) (holes : List ℕ) (was : Buil
         depth = next_depth (notes mark);
       }
 
-  pub builds_block : (opened : Opened) (new : List Bool) (more : List ℕ) → new ≡ (text ++ open_text opened.id (length text)) ++ bits_of 32 0 → more ≡ holes ++ (length (text ++ open_text opened.id (length text)) / 32) ∷ [] → Builds (events ++ enters opened ∷ []) new more
+  pub builds_block : (opened : Opened) (new : List Bool) (more : List ℕ) → new ≡ (text ++ enter_text opened.id (length text)) ++ bits_of 32 0 → more ≡ holes ++ (length (text ++ enter_text opened.id (length text)) / 32) ∷ [] → Builds (events ++ enters opened ∷ []) new more
   builds_block opened new more adds pushes =
-      let head = open_text opened.id (length text) in
-      let there : head ≡ open_text opened.id (begins was.outer + length was.inner) = sym (open_again opened.id (length text)) ∙ ap (open_text opened.id) (sym here_is) in
-      let before : text ++ head ≡ written was.outer ++ (was.inner ++ head) = ap (λ (s : List Bool). s ++ head) was.is ∙ append_assoc (written was.outer) was.inner head in
+      let head = enter_text opened.id (length text) in
+      let there : head ≡ enter_text opened.id (begins was.outer + length was.inner) = sym (open_again opened.id (length text)) ∙ ap (enter_text opened.id) (sym here_is) in
+      let before : text ++ head ≡ form_so_far was.outer ++ (was.inner ++ head) = ap (λ (s : List Bool). s ++ head) was.is ∙ append_assoc (form_so_far was.outer) was.inner head in
       record {
         outer = (was.inner ++ head) ∷ was.outer;
         inner = [];
-        is = adds ∙ ap (λ (s : List Bool). s ++ bits_of 32 0) before ∙ sym (append-nil ((written was.outer ++ (was.inner ++ head)) ++ bits_of 32 0));
+        is = adds ∙ ap (λ (s : List Bool). s ++ bits_of 32 0) before ∙ sym (append-nil ((form_so_far was.outer ++ (was.inner ++ head)) ++ bits_of 32 0));
         places = pushes ∙ ap (λ (ns : List ℕ). ns ++ (length (text ++ head) / 32) ∷ []) was.places ∙ ap (λ (s : List Bool). holes_of was.outer ++ (length s / 32) ∷ []) before;
         words = (omega (arith, open_ends opened.id (length text), ap length before, length-append text head), was.words);
         top = λ outside. absurd (omega (arith, outside));
         whole = λ following.
             next_whole (enters opened) following
             ∙ form_enters was.outer was.inner opened.id (told_at_level following 0) (told_at_level following 1) (λ level. told_at_level following (suc (suc level))) head there
-            ∙ ap (λ (k : ℕ). completed ((was.inner ++ head) ∷ was.outer) (normal (told_at_level following 0) k) (λ level. told_at_level following (suc level))) (zero_more (begins ((was.inner ++ head) ∷ was.outer)));
+            ∙ ap (λ (k : ℕ). whole_form ((was.inner ++ head) ∷ was.outer) (normal (told_at_level following 0) k) (λ level. told_at_level following (suc level))) (zero_more (begins ((was.inner ++ head) ∷ was.outer)));
         depth = next_depth (enters opened);
       }
 
 -- where the innermost block ends, its length is put in its place
-with_length : (outer : List (List Bool)) (s inner text : List Bool) (hole words : ℕ) → text ≡ written (s ∷ outer) ++ inner → 32 * hole ≡ length (written outer ++ s) → words ≡ length (inner ++ end_text (begins (s ∷ outer) + length inner)) / 32
-    → with_word hole words (text ++ end_text (length text)) ≡ written outer ++ (s ++ closed (begins (s ∷ outer)) inner)
+with_length : (outer : List (List Bool)) (s inner text : List Bool) (hole words : ℕ) → text ≡ form_so_far (s ∷ outer) ++ inner → 32 * hole ≡ length (form_so_far outer ++ s) → words ≡ length (inner ++ end_text (begins (s ∷ outer) + length inner)) / 32
+    → with_word hole words (text ++ end_text (length text)) ≡ form_so_far outer ++ (s ++ length_and_body (begins (s ∷ outer)) inner)
 with_length outer s inner text hole words text_is hole_is words_is =
-    let front = written outer ++ s in
+    let front = form_so_far outer ++ s in
     let zeros = bits_of 32 0 in
     let p = begins (s ∷ outer) in
     let place : p + length inner ≡ 32 + length text = omega (arith, ap length text_is, length-append (front ++ zeros) inner) in
@@ -216,9 +216,9 @@ with_length outer s inner text hole words text_is hole_is words_is =
     ap (with_word hole words) parted
     ∙ with_word_between front zeros body hole words (sym hole_is) (length-bits_of 32 0)
     ∙ ap (λ (k : ℕ). front ++ (bits_of 32 k ++ body)) words_is
-    ∙ append_assoc (written outer) s (closed p inner)
+    ∙ append_assoc (form_so_far outer) s (length_and_body p inner)
 
-outside_only : (outer : List (List Bool)) (s : List Bool) → length outer ≡ 0 → length (written outer ++ s) ≡ length s
+outside_only : (outer : List (List Bool)) (s : List Bool) → length outer ≡ 0 → length (form_so_far outer ++ s) ≡ length s
 outside_only [] s none = refl
 outside_only (t ∷ outer) s none = absurd (omega (arith, none))
 
@@ -239,10 +239,10 @@ pub record Ending (text : List Bool) (hole : ℕ) : Type 0 where
   pub counted : 32 * (hole + 1 + words) ≡ length text + length (end_text (length text))
 
 module _ (events : List Event) (text : List Bool) (holes others : List ℕ) (after hole : ℕ) (some : 0 < left_open events) (popped : holes ≡ others ++ hole ∷ []) where
-  ending_in : (outers : List (List Bool)) (inner : List Bool) → text ≡ written outers ++ inner → holes ≡ holes_of outers → AreWords outers → length outers ≡ left_open events → Ending text hole
+  ending_in : (outers : List (List Bool)) (inner : List Bool) → text ≡ form_so_far outers ++ inner → holes ≡ holes_of outers → AreWords outers → length outers ≡ left_open events → Ending text hole
   ending_in [] inner is places words depth = absurd (omega (arith, depth, some))
   ending_in (s ∷ outer) inner is places words depth =
-      let front = written outer ++ s in
+      let front = form_so_far outer ++ s in
       let body = inner ++ end_text (begins (s ∷ outer) + length inner) in
       let place : hole ≡ length front / 32 = (push_same others (holes_of outer) hole (length front / 32) (sym popped ∙ places)).1 in
       let lengths : length text ≡ length front + 32 + length inner = omega (arith, ap length is, length-append (front ++ bits_of 32 0) inner, length-append front (bits_of 32 0), length-bits_of 32 0) in
@@ -257,13 +257,13 @@ module _ (events : List Event) (text : List Bool) (holes others : List ℕ) (aft
   pub ending : Builds events text holes → Ending text hole
   ending was = ending_in was.outer was.inner was.is was.places was.words was.depth
 
-  ends_in : (outers : List (List Bool)) (inner new : List Bool) → text ≡ written outers ++ inner → holes ≡ holes_of outers → AreWords outers → length outers ≡ left_open events
+  ends_in : (outers : List (List Bool)) (inner new : List Bool) → text ≡ form_so_far outers ++ inner → holes ≡ holes_of outers → AreWords outers → length outers ≡ left_open events
       → ((following : List Event) → normal (told_at_level ((events ++ leaves after ∷ []) ++ following) 0) 32 ≡ form_with outers inner (told_at_level (leaves after ∷ following)))
       → ((words : ℕ) → 32 * (hole + 1 + words) ≡ length text + length (end_text (length text)) → new ≡ with_word hole words (text ++ end_text (length text)))
       → Builds (events ++ leaves after ∷ []) new others
   ends_in [] inner new is places words depth whole put_in = absurd (omega (arith, depth, some))
   ends_in (s ∷ outer) inner new is places words depth whole put_in =
-      let front = written outer ++ s in
+      let front = form_so_far outer ++ s in
       let p = begins (s ∷ outer) in
       let body = inner ++ end_text (p + length inner) in
       let n = length body / 32 in
@@ -275,12 +275,12 @@ module _ (events : List Event) (text : List Bool) (holes others : List ℕ) (aft
       let len : length body ≡ length inner + length (end_text (p + length inner)) = length-append inner (end_text (p + length inner)) in
       record {
         outer = outer;
-        inner = s ++ closed p inner;
+        inner = s ++ length_and_body p inner;
         is = put_in n (omega (arith, here.1, words.0, lengths, end_ends (length text), same, len)) ∙ with_length outer s inner text hole n is (omega (arith, here.1, words.0)) refl;
         places = here.0;
         words = words.1;
-        top = λ outside. omega (arith, outside_only outer s outside, words.0, lengths, end_ends (length text), same, len, length-append s (closed p inner), length-append (bits_of 32 n) body, length-bits_of 32 n);
-        whole = λ following. whole following ∙ ap (λ (t : List Bool). completed (s ∷ outer) t (λ level. told_at_level following level)) (ap (λ (t : List Bool). inner ++ t) (nothing (p + length inner)) ∙ append-nil inner);
+        top = λ outside. omega (arith, outside_only outer s outside, words.0, lengths, end_ends (length text), same, len, length-append s (length_and_body p inner), length-append (bits_of 32 n) body, length-bits_of 32 n);
+        whole = λ following. whole following ∙ ap (λ (t : List Bool). whole_form (s ∷ outer) t (λ level. told_at_level following level)) (ap (λ (t : List Bool). inner ++ t) (nothing (p + length inner)) ∙ append-nil inner);
         depth = omega (arith, depth, open_behind-push events (leaves after) 0);
       }
 
@@ -289,7 +289,7 @@ module _ (events : List Event) (text : List Bool) (holes others : List ℕ) (aft
 
 -- ---- a form that passes the limit
 
-pub passes_by : (limit : ℕ) (events : List Event) (outer : List (List Bool)) (inner : List Bool) → ((following : List Event) → normal (told_at_level (events ++ following) 0) 32 ≡ form_with outer inner (told_at_level following)) → limit < length (written outer ++ inner) / 8 → PassesLimit limit events
+pub passes_by : (limit : ℕ) (events : List Event) (outer : List (List Bool)) (inner : List Bool) → ((following : List Event) → normal (told_at_level (events ++ following) 0) 32 ≡ form_with outer inner (told_at_level following)) → limit < length (form_so_far outer ++ inner) / 8 → PassesLimit limit events
 passes_by limit events outer inner whole long following =
     let f = told_at_level (events ++ following) 0 in
     let rest = normal (told_at_level following 0) (begins outer + length inner) in
@@ -300,7 +300,7 @@ passes_by limit events outer inner whole long following =
       ap length (whole following),
       longer outer (inner ++ rest) (λ level. told_at_level following (suc level)),
       length-append inner rest,
-      length-append (written outer) inner,
+      length-append (form_so_far outer) inner,
     )
 
 pub passes_more : (limit : ℕ) (events : List Event) (event : Event) → PassesLimit limit events → PassesLimit limit (events ++ event ∷ [])
@@ -329,15 +329,15 @@ now_passed old new done event was short over limits long =
     (passes_more new.limits.bytes done event (passes_now new.limits.bytes done old.text old.holes.items (was.builds short) (subst (λ (l : Limits). l.bytes < length old.text / 8) (sym limits) over)))
 
 -- a record whose values alone pass the limit
-pub record_passes : (old new : FormBuilder) (done : List Event) (mark : RecordMark) → HasForm done old → old.long ≡ false → old.limits.bytes < length (values_text mark.values) / 8 → new.limits ≡ old.limits → new.long ≡ true → HasForm (done ++ notes mark ∷ []) new
+pub record_passes : (old new : FormBuilder) (done : List Event) (mark : RecordMark) → HasForm done old → old.long ≡ false → old.limits.bytes < length (values_bits mark.values) / 8 → new.limits ≡ old.limits → new.long ≡ true → HasForm (done ++ notes mark ∷ []) new
 record_passes old new done mark was short over limits long =
     let b = was.builds short in
     let t = record_text mark.code mark.values 0 in
-    let values = values_text mark.values in
+    let values = values_bits mark.values in
     let x = shortest 6 mark.code in
     let y = shortest 6 (length mark.values) in
-    let lengths : length values ≤ length (written b.outer ++ (b.inner ++ t)) =
-    omega (arith, length-append (written b.outer) (b.inner ++ t), length-append b.inner t, length-append (bits_of 2 3) (x ++ (y ++ values)), length-append x (y ++ values), length-append y values) in
+    let lengths : length values ≤ length (form_so_far b.outer ++ (b.inner ++ t)) =
+    omega (arith, length-append (form_so_far b.outer) (b.inner ++ t), length-append b.inner t, length-append (bits_of 2 3) (x ++ (y ++ values)), length-append x (y ++ values), length-append y values) in
     let bytes : new.limits.bytes ≡ old.limits.bytes = ap (λ (l : Limits). l.bytes) limits in
     passed new.limits.bytes (done ++ notes mark ∷ []) new.text new.holes.items new.long long
     (passes_by new.limits.bytes (done ++ notes mark ∷ []) b.outer (b.inner ++ t)
@@ -352,14 +352,14 @@ module _ (first old new : FormBuilder) (done : List Event) (event : Event) (was 
 
   stands_on : new.standing ≡ record old.standing { ids = ids_after event old.standing.ids } → new.standing ≡ record { setting = first.standing.setting; ids = ids_behind (done ++ event ∷ []) [] }
   stands_on moved =
-      moved ∙ ap (λ (st : Standing). record st { ids = ids_after event st.ids }) here
+      moved ∙ ap (λ (st : OpenUnder). record st { ids = ids_after event st.ids }) here
       ∙ ap (λ (ids : List ℕ). record { setting = first.standing.setting; ids = ids }) (sym (ids_behind-push done event []))
 
   judged : (b : Bool) → is_left old.standing.setting old.standing.ids event ≡ b → is_left first.standing.setting (ids_behind done []) event ≡ b
-  judged b is = ap (λ (st : Standing). is_left st.setting st.ids event) (sym here) ∙ is
+  judged b is = ap (λ (st : OpenUnder). is_left st.setting st.ids event) (sym here) ∙ is
 
   -- one that is left
-  pub event_taken : is_left old.standing.setting old.standing.ids event ≡ true → (new.long ≡ false → new.standing ≡ record old.standing { ids = ids_after event old.standing.ids }) → new.limits ≡ old.limits → HasForm (left first done ++ event ∷ []) new → IsFormOf first (done ++ event ∷ []) new
+  pub event_taken : is_left old.standing.setting old.standing.ids event ≡ true → (new.long ≡ false → new.standing ≡ record old.standing { ids = ids_after event old.standing.ids }) → new.limits ≡ old.limits → HasForm (left_events first done ++ event ∷ []) new → IsFormOf first (done ++ event ∷ []) new
   event_taken is moved limits form = record {
     limits = limits ∙ was.limits;
     stands = λ still. stands_on (moved still);
@@ -367,17 +367,17 @@ module _ (first old new : FormBuilder) (done : List Event) (event : Event) (was 
   }
 
   -- one that is not
-  pub event_left_out : is_left old.standing.setting old.standing.ids event ≡ false → new.standing ≡ record old.standing { ids = ids_after event old.standing.ids } → new.limits ≡ old.limits → HasForm (left first done) new → IsFormOf first (done ++ event ∷ []) new
+  pub event_left_out : is_left old.standing.setting old.standing.ids event ≡ false → new.standing ≡ record old.standing { ids = ids_after event old.standing.ids } → new.limits ≡ old.limits → HasForm (left_events first done) new → IsFormOf first (done ++ event ∷ []) new
   event_left_out is moved limits form = record {
     limits = limits ∙ was.limits;
     stands = λ still. stands_on moved;
-    form = subst (λ (es : List Event). HasForm es new) (sym (left_push first.standing.setting done event [] false (judged false is) ∙ append-nil (left first done))) form;
+    form = subst (λ (es : List Event). HasForm es new) (sym (left_push first.standing.setting done event [] false (judged false is) ∙ append-nil (left_events first done))) form;
   }
 
   -- as many blocks are open by the events that are left
-  pub some_left : list_all (keeps old.standing.setting) old.standing.ids ≡ true → 0 < left_open done → 0 < left_open (left first done)
+  pub some_left : list_all (keeps old.standing.setting) old.standing.ids ≡ true → 0 < left_open done → 0 < left_open (left_events first done)
   some_left all some =
-      let same : list_all (keeps first.standing.setting) (ids_behind done []) ≡ true = ap (λ (st : Standing). list_all (keeps st.setting) st.ids) (sym here) ∙ all in
+      let same : list_all (keeps first.standing.setting) (ids_behind done []) ≡ true = ap (λ (st : OpenUnder). list_all (keeps st.setting) st.ids) (sym here) ∙ all in
       omega (arith, left_as_many first.standing.setting done same, some)
 
 -- what passed the limit stays so
@@ -385,12 +385,12 @@ pub still_passed : (first old : FormBuilder) (done : List Event) (event : Event)
 still_passed first old done event was long = record {
   limits = was.limits;
   stands = λ short. absurd (both old.long short long);
-  form = passed old.limits.bytes (left first (done ++ event ∷ [])) old.text old.holes.items old.long long (go (is_left first.standing.setting (ids_behind done []) event) refl);
+  form = passed old.limits.bytes (left_events first (done ++ event ∷ [])) old.text old.holes.items old.long long (go (is_left first.standing.setting (ids_behind done []) event) refl);
 }
   where
-    go : (b : Bool) → is_left first.standing.setting (ids_behind done []) event ≡ b → PassesLimit old.limits.bytes (left first (done ++ event ∷ []))
-    go true is = subst (PassesLimit old.limits.bytes) (sym (left_push first.standing.setting done event [] true is)) (passes_more old.limits.bytes (left first done) event (was.form.passes long))
-    go false is = subst (PassesLimit old.limits.bytes) (sym (left_push first.standing.setting done event [] false is ∙ append-nil (left first done))) (was.form.passes long)
+    go : (b : Bool) → is_left first.standing.setting (ids_behind done []) event ≡ b → PassesLimit old.limits.bytes (left_events first (done ++ event ∷ []))
+    go true is = subst (PassesLimit old.limits.bytes) (sym (left_push first.standing.setting done event [] true is)) (passes_more old.limits.bytes (left_events first done) event (was.form.passes long))
+    go false is = subst (PassesLimit old.limits.bytes) (sym (left_push first.standing.setting done event [] false is ∙ append-nil (left_events first done))) (was.form.passes long)
 
 -- a definition
 pub defines_more : (first old : FormBuilder) (done : List Event) (mark : DefinitionMark) → IsFormOf first done old → IsFormOf first (done ++ defines mark ∷ []) old
@@ -400,7 +400,7 @@ defines_more first old done mark was = go old.long refl (list_all (keeps old.sta
     go true long b is = still_passed first old done (defines mark) was long
     go false short true is =
         event_taken first old old done (defines mark) was short is (λ _. refl) refl
-        (formed old.limits.bytes (left first done ++ defines mark ∷ []) old.text old.holes.items old.long short (builds_definition (left first done) old.text old.holes.items (was.form.builds short) mark))
+        (formed old.limits.bytes (left_events first done ++ defines mark ∷ []) old.text old.holes.items old.long short (builds_definition (left_events first done) old.text old.holes.items (was.form.builds short) mark))
     go false short false is = event_left_out first old old done (defines mark) was short is refl refl was.form
 
 -- no event yet
@@ -412,29 +412,29 @@ starts b text holes none short = record {
 }
 
 -- all blocks are closed, and nothing follows
-pub whole_text : (first last : FormBuilder) (events : List Event) → IsFormOf first events last → left_open events ≡ 0 → last.long ≡ false → (last.text ≡ normal (told_at_level (left first events) 0) 32) × (length last.text % 32 ≡ 0)
+pub whole_text : (first last : FormBuilder) (events : List Event) → IsFormOf first events last → left_open events ≡ 0 → last.long ≡ false → (last.text ≡ normal (told_at_level (left_events first events) 0) 32) × (length last.text % 32 ≡ 0)
 whole_text first last events was closed_all short =
     let b = was.form.builds short in
     go b.outer b.inner b.is b.top (b.depth ∙ left_closed first.standing.setting events closed_all) b.whole
   where
-    go : (outer : List (List Bool)) (inner : List Bool) → last.text ≡ written outer ++ inner → (length outer ≡ 0 → length inner % 32 ≡ 0) → length outer ≡ 0
-        → ((following : List Event) → normal (told_at_level (left first events ++ following) 0) 32 ≡ form_with outer inner (told_at_level following)) → (last.text ≡ normal (told_at_level (left first events) 0) 32) × (length last.text % 32 ≡ 0)
+    go : (outer : List (List Bool)) (inner : List Bool) → last.text ≡ form_so_far outer ++ inner → (length outer ≡ 0 → length inner % 32 ≡ 0) → length outer ≡ 0
+        → ((following : List Event) → normal (told_at_level (left_events first events ++ following) 0) 32 ≡ form_with outer inner (told_at_level following)) → (last.text ≡ normal (told_at_level (left_events first events) 0) 32) × (length last.text % 32 ≡ 0)
     go [] inner text top outside whole =
-        let form : normal (told_at_level (left first events) 0) 32 ≡ inner =
-        ap (λ (es : List Event). normal (told_at_level es 0) 32) (sym (append-nil (left first events))) ∙ whole [] ∙ ap (λ (s : List Bool). inner ++ s) (nothing (32 + length inner)) ∙ append-nil inner in
+        let form : normal (told_at_level (left_events first events) 0) 32 ≡ inner =
+        ap (λ (es : List Event). normal (told_at_level es 0) 32) (sym (append-nil (left_events first events))) ∙ whole [] ∙ ap (λ (s : List Bool). inner ++ s) (nothing (32 + length inner)) ∙ append-nil inner in
         (text ∙ sym form, ap (λ (s : List Bool). length s % 32) text ∙ top outside)
     go (s ∷ outer) inner text top outside whole = absurd (omega (arith, outside))
 
-pub passes_whole : (first last : FormBuilder) (events : List Event) → IsFormOf first events last → last.long ≡ true → first.limits.bytes < 4 + length (normal (told_at_level (left first events) 0) 32) / 8
+pub passes_whole : (first last : FormBuilder) (events : List Event) → IsFormOf first events last → last.long ≡ true → first.limits.bytes < 4 + length (normal (told_at_level (left_events first events) 0) 32) / 8
 passes_whole first last events was long =
-    let f = told_at_level (left first events) 0 in
-    let over : last.limits.bytes < end_of f 32 / 8 = subst (λ (es : List Event). last.limits.bytes < end_of (told_at_level es 0) 32 / 8) (append-nil (left first events)) (was.form.passes long []) in
+    let f = told_at_level (left_events first events) 0 in
+    let over : last.limits.bytes < end_of f 32 / 8 = subst (λ (es : List Event). last.limits.bytes < end_of (told_at_level es 0) 32 / 8) (append-nil (left_events first events)) (was.form.passes long []) in
     omega (arith, over, items_end f 32, ap (λ (l : Limits). l.bytes) was.limits)
 
 -- ---- what is added, in parts
 
 -- what stands before the values, field by field, or at once
-pub record_head_parts : (text a b d : List Bool) (code count : ℕ) → a ≡ text ++ bits_of 2 3 → b ≡ a ++ shortest 6 code → d ≡ b ++ shortest 6 count → d ≡ text ++ record_head code count
+pub record_head_parts : (text a b d : List Bool) (code count : ℕ) → a ≡ text ++ bits_of 2 3 → b ≡ a ++ shortest 6 code → d ≡ b ++ shortest 6 count → d ≡ text ++ record_front code count
 record_head_parts text a b d code count a_is b_is d_is =
     let x = bits_of 2 3 in
     let y = shortest 6 code in
@@ -444,7 +444,7 @@ record_head_parts text a b d code count a_is b_is d_is =
 six_bits : (value : ℕ) → value < 32 → bits_of 6 value ≡ shortest 6 value
 six_bits value lt = short_spelled value 0 value (omega (arith, lt)) (omega (arith, lt)) (omega (arith, lt))
 
-pub record_head_at_once : (code count word : ℕ) → code < 32 → count < 32 → word ≡ 3 + 4 * code + 256 * count → bits_of 14 word ≡ record_head code count
+pub record_head_at_once : (code count word : ℕ) → code < 32 → count < 32 → word ≡ 3 + 4 * code + 256 * count → bits_of 14 word ≡ record_front code count
 record_head_at_once code count word few short word_is =
     let above : word ≡ 3 + (code + count * 64) * 4 = omega (arith, word_is) in
     let three : 3 < 2 ^ 2 = omega arith in
@@ -454,18 +454,18 @@ record_head_at_once code count word few short word_is =
     ∙ ap (λ (s : List Bool). bits_of 2 3 ++ s) (bits_of-above 6 6 code count six ∙ ap (λ (s : List Bool). s ++ bits_of 6 count) (six_bits code few) ∙ ap (λ (s : List Bool). shortest 6 code ++ s) (six_bits count short))
 
 -- a record, behind what stands before its values
-pub record_joined : (text a e : List Bool) (code count : ℕ) (list : List ℕ) → a ≡ text ++ record_head code count → count ≡ length list → e ≡ a ++ values_text list → e ≡ text ++ record_text code list (length text)
+pub record_joined : (text a e : List Bool) (code count : ℕ) (list : List ℕ) → a ≡ text ++ record_front code count → count ≡ length list → e ≡ a ++ values_bits list → e ≡ text ++ record_text code list (length text)
 record_joined text a e code count list a_is count_is e_is =
     let x = bits_of 2 3 in
     let y = shortest 6 code in
     let z = shortest 6 (length list) in
-    let v = values_text list in
+    let v = values_bits list in
     e_is
-    ∙ ap (λ (s : List Bool). s ++ v) (a_is ∙ ap (λ (n : ℕ). text ++ record_head code n) count_is)
+    ∙ ap (λ (s : List Bool). s ++ v) (a_is ∙ ap (λ (n : ℕ). text ++ record_front code n) count_is)
     ∙ append_assoc text (x ++ (y ++ z)) v
     ∙ ap (λ (s : List Bool). text ++ s) (append_assoc x (y ++ z) v ∙ ap (λ (s : List Bool). x ++ s) (append_assoc y z v))
 
-pub head_parts : (text a b d e : List Bool) (id : ℕ) → a ≡ text ++ bits_of 2 1 → b ≡ a ++ shortest 8 id → d ≡ b ++ shortest 4 2 → e ≡ d ++ padding (length d) → e ≡ text ++ open_text id (length text)
+pub head_parts : (text a b d e : List Bool) (id : ℕ) → a ≡ text ++ bits_of 2 1 → b ≡ a ++ shortest 8 id → d ≡ b ++ shortest 4 2 → e ≡ d ++ padding (length d) → e ≡ text ++ enter_text id (length text)
 head_parts text a b d e id a_is b_is d_is e_is =
     let x = bits_of 2 1 in
     let y = shortest 8 id in
@@ -492,7 +492,7 @@ vbr_adds n value old new some few is = omega (arith, ap length is, length-append
 
 length-holes : (outer : List (List Bool)) → length (holes_of outer) ≡ length outer
 length-holes [] = refl
-length-holes (s ∷ outer) = omega (arith, length-append (holes_of outer) ((length (written outer ++ s) / 32) ∷ []), length-holes outer)
+length-holes (s ∷ outer) = omega (arith, length-append (holes_of outer) ((length (form_so_far outer ++ s) / 32) ∷ []), length-holes outer)
 
 -- a block that is open has a place for its length
 pub some_hole : (events : List Event) (b : FormBuilder) → Builds events b.text b.holes.items → 0 < left_open events → 0 < vec_len b.holes
@@ -512,7 +512,7 @@ first_of_two false b e = e
 
 -- a record that is left
 pub record_taken : (first old new : FormBuilder) (done : List Event) (mark : RecordMark) → IsFormOf first done old → old.long ≡ false → record_left old.standing mark.code ≡ true → 0 < left_open done → (new.standing ≡ old.standing) × (new.limits ≡ old.limits)
-    → (HasForm (left first done) old → old.long ≡ false → 0 < left_open (left first done) → HasForm (left first done ++ notes mark ∷ []) new) → IsFormOf first (done ++ notes mark ∷ []) new
+    → (HasForm (left_events first done) old → old.long ≡ false → 0 < left_open (left_events first done) → HasForm (left_events first done ++ notes mark ∷ []) new) → IsFormOf first (done ++ notes mark ∷ []) new
 record_taken first old new done mark was short is some stays adds =
     event_taken first old new done (notes mark) was short is (λ _. stays.0) stays.1
     (adds was.form short (some_left first old new done (notes mark) was short (first_of_two (list_all (keeps old.standing.setting) old.standing.ids) (keeps_record old.standing.setting (innermost old.standing.ids) mark.code) is) some))

@@ -4,9 +4,9 @@ use Rattle.std.proofs.Math.Nat.{div-add-mod, div-le_of_le-mul, mul-le-mul_left, 
 use Rattle.std.proofs.Math.Pow.{pow_mono, shr_lt}
 use Rattle.std.proofs.lemmas.Nat.{mod_below, pow_pos, pow-add, le-div}
 use Rattle.std.proofs.lemmas.Bool.{lt-ltb, le-ltb}
-use Rattle.bit_grammar.specs.Fields.{chunk_limit}
+use Rattle.bit_grammar.specs.Terms.{chunk_limit}
 use Rattle.bit_grammar.specs.Size.{chunk_count, shortest_length}
-use Rattle.bit_grammar.proofs.Sizes.{short_range}
+use Rattle.bit_grammar.proofs.NormalForms.Sizes.{short_range}
 
 -- the payloads of the permitted chunks hold every value of 64 bits
 limit_is_enough : (payload : ℕ) → 0 < payload → 64 ≤ payload * chunk_limit payload

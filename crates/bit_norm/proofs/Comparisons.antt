@@ -7,7 +7,8 @@ use Rattle.bit_events.specs.Standing as blocks
 use Rattle.bit_grammar.specs.Forest.{empty, Tree}
 use Rattle.bit_grammar.specs.Marks.{no_marks}
 use Rattle.bit_grammar.specs.Blocks.{Limits}
-use Rattle.bit_grammar.specs.Input.{Head, Marked, SpellsInput, tree_of}
+use Rattle.bit_grammar.specs.Input.{SpellsInput, tree_of}
+use Rattle.bit_grammar.specs.Terms.{Head, Marked}
 use Rattle.bit_grammar.specs.Machine.{flat, accepted, Told}
 use Rattle.bit_grammar.specs.Grammar as grammar
 use Rattle.bit_grammar.specs.Normal.{Capped}
@@ -16,17 +17,17 @@ use Rattle.bit_fields.specs.declared.fault.Fault.{Fault}
 use Rattle.bit_fields.specs.declared.fault.Fault.TheVariants.{Refused, Read, Write, Memory, OutputTooLong, Failed}
 use Rattle.bit_events.specs.Reading.{Spent, ReadsWhole}
 use Rattle.bit_tree.specs.Reading.{HasFit}
-use Rattle.bit_grammar.proofs.Settings.{fit_of_setting}
-use Rattle.bit_grammar.proofs.Telling.{told_if_spelled}
+use Rattle.bit_grammar.proofs.NormalForms.Settings.{fit_of_setting}
+use Rattle.bit_grammar.proofs.Events.Telling.{told_if_spelled}
 use Rattle.bit_fields.specs.Devices.{Incoming, known_bytes}
-use Rattle.bit_events.specs.Coming.{Coming, Tells}
+use Rattle.bit_events.specs.Coming.{Coming, TellsComing}
 use Rattle.bit_norm.specs.declared.differences.Difference.{Difference}
 use Rattle.bit_norm.specs.declared.differences.Standing as bit
 use Rattle.bit_norm.specs.declared.differences.Place.TheVariants as place
 use Rattle.bit_norm.specs.declared.in_step.Found.{Found}
-use Rattle.bit_norm.specs.Entries.{Sign, Entry, over, signs_in, Seen, Standing, at_magic, standing_shown, difference_shown, magic_standing, behind_magic, all_entries, magics_apart, apart, in_magic, behind, Differs}
+use Rattle.bit_norm.specs.Entries.{Sign, Entry, over, signs_in, Seen, Standing, at_magic, standing_shown, difference_shown, magic_standing, behind_magic, all_entries, magics_apart, apart_at, in_magic, behind, Differs}
 use Rattle.bit_norm.specs.Whole.{ReadsTree, ReadsMarked, Misreads, Compares, source_of, FindsDifference, FindsInBytes, SaysNone}
-use Rattle.bit_norm.specs.InStep.{Said, entry_of, Compared, here, left, right, second_end, seen_of, TakesSign, Alike, ApartAt, Tallied, Answers, Finishes, Concludes, other_magic, same_magic, ReadBeside, NotRead, ComparesWith}
+use Rattle.bit_norm.specs.InStep.{Said, entry_at, Compared, here, entries_of_first, entries_of_second, second_end, seen_of, TakesSign, Alike, ApartAt, Tallied, AnswersFound, Finishes, Concludes, other_magic, same_magic, ReadBeside, NotRead, ComparesWith}
 use Rattle.bit_norm.specs.declared.comparing.Which.{Which}
 use Rattle.bit_norm.specs.declared.comparing.Which.TheVariants.{First, Second}
 use Rattle.bit_norm.specs.declared.comparing.SameFault.{SameFault}
@@ -76,29 +77,29 @@ abbrev over_said : ℕ → Said
 over_said bit = record { sign = over; bit = bit; ended = bit }
 
 -- no difference was found before, and none or one at the end
-at_end : (a b : List Entry) (p : ℕ) (last end : Compared) (o : Option Found) (answer : Option Difference) → Tells last.first → last.found ≡ None → end.found ≡ o → Alike a b (left last) (right p last [])
-    → TakesSign last over (second_end p last) (second_end p last) end → Answers end answer → AnswersLists a b answer
+at_end : (a b : List Entry) (p : ℕ) (last end : Compared) (o : Option Found) (answer : Option Difference) → TellsComing last.first → last.found ≡ None → end.found ≡ o → Alike a b (entries_of_first last) (entries_of_second p last [])
+    → TakesSign last over (second_end p last) (second_end p last) end → AnswersFound end answer → AnswersLists a b answer
 at_end a b p last end None None tells none is was takes answers =
     let one = (takes.same none is).takes tells in
-    ended_alike a b _ _ (entry_of (here last last.first_ended) one.0) (entry_of (here last (second_end p last)) (over_said (second_end p last))) was one.2 refl one.1
+    ended_alike a b _ _ (entry_at (here last last.first_ended) one.0) (entry_at (here last (second_end p last)) (over_said (second_end p last))) was one.2 refl one.1
 at_end a b p last end None (Some d) tells none is was takes answers = let no = answers.1 in absurd cc
 at_end a b p last end (Some g) None tells none is was takes answers = absurd cc
 at_end a b p last end (Some g) (Some d) tells none is was takes answers =
     let departs = takes.other none answers.0 answers.1 in
-    subst (ApartAt a b) (sym answers.2) (departs_there a b (left last) (right p last []) last end (over_said (second_end p last)) (second_end p last) answers.0 [] was refl departs (departs.takes tells))
+    subst (ApartAt a b) (sym answers.2) (departs_there a b (entries_of_first last) (entries_of_second p last []) last end (over_said (second_end p last)) (second_end p last) answers.0 [] was refl departs (departs.takes tells))
 
-found_before : (a b : List Entry) (last end : Compared) (f : Found) (answer : Option Difference) → last.found ≡ Some f → end ≡ last → ((g : Found) → last.found ≡ Some g → ApartAt a b (seen_of last g)) → Answers end answer → AnswersLists a b answer
-found_before a b last end f None some is apart answers = let none = ap (λ (c : Compared). c.found) (sym is) ∙ answers in absurd cc
-found_before a b last end f (Some d) some is apart answers =
-    subst (ApartAt a b) (sym (answers.2 ∙ ap (λ (c : Compared). seen_of c answers.0) is)) (apart answers.0 (ap (λ (c : Compared). c.found) (sym is) ∙ answers.1))
+found_before : (a b : List Entry) (last end : Compared) (f : Found) (answer : Option Difference) → last.found ≡ Some f → end ≡ last → ((g : Found) → last.found ≡ Some g → ApartAt a b (seen_of last g)) → AnswersFound end answer → AnswersLists a b answer
+found_before a b last end f None some is apart_at answers = let none = ap (λ (c : Compared). c.found) (sym is) ∙ answers in absurd cc
+found_before a b last end f (Some d) some is apart_at answers =
+    subst (ApartAt a b) (sym (answers.2 ∙ ap (λ (c : Compared). seen_of c answers.0) is)) (apart_at answers.0 (ap (λ (c : Compared). c.found) (sym is) ∙ answers.1))
 
-by_found : (a b : List Entry) (p : ℕ) (last end : Compared) (o : Option Found) (answer : Option Difference) → last.found ≡ o → Tells last.first → (last.found ≡ None → Alike a b (left last) (right p last [])) → ((g : Found) → last.found ≡ Some g → ApartAt a b (seen_of last g))
-    → TakesSign last over (second_end p last) (second_end p last) end → Answers end answer → AnswersLists a b answer
-by_found a b p last end None answer is tells alike apart takes answers = at_end a b p last end end.found answer tells is refl (alike is) takes answers
-by_found a b p last end (Some f) answer is tells alike apart takes answers = found_before a b last end f answer is (takes.stays f is) apart answers
+by_found : (a b : List Entry) (p : ℕ) (last end : Compared) (o : Option Found) (answer : Option Difference) → last.found ≡ o → TellsComing last.first → (last.found ≡ None → Alike a b (entries_of_first last) (entries_of_second p last [])) → ((g : Found) → last.found ≡ Some g → ApartAt a b (seen_of last g))
+    → TakesSign last over (second_end p last) (second_end p last) end → AnswersFound end answer → AnswersLists a b answer
+by_found a b p last end None answer is tells alike apart_at takes answers = at_end a b p last end end.found answer tells is refl (alike is) takes answers
+by_found a b p last end (Some f) answer is tells alike apart_at takes answers = found_before a b last end f answer is (takes.stays f is) apart_at answers
 
 -- a setting before any block is open
-abbrev pub outside : Setting → blocks.Standing
+abbrev pub outside : Setting → blocks.OpenUnder
 outside setting = record { setting = setting; ids = [] }
 
 -- what the comparison begins with
@@ -109,13 +110,13 @@ pub record Begins (setting : Setting) (head : Head) (c : Compared) : Type 0 wher
   pub items : c.items ≡ 0
   pub ended : c.first_ended ≡ behind_magic head
 
-left_is : (setting : Setting) (head : Head) (c : Compared) (m : Marked) → Begins setting head c → head ≡ m.head → c.first.told.0 ≡ flat m.blocks [] → left c ≡ all_entries setting m
+left_is : (setting : Setting) (head : Head) (c : Compared) (m : Marked) → Begins setting head c → head ≡ m.head → c.first.told.0 ≡ flat m.blocks [] → entries_of_first c ≡ all_entries setting m
 left_is setting head c m is same told = rw (is.first, is.within, is.items, is.ended, same, told) (entries_told setting m.blocks (behind_magic m.head))
 
-right_is : (setting : Setting) (head : Head) (c : Compared) (m : Marked) → Begins setting head c → right (behind_magic m.head) c (flat m.blocks []) ≡ all_entries setting m
+right_is : (setting : Setting) (head : Head) (c : Compared) (m : Marked) → Begins setting head c → entries_of_second (behind_magic m.head) c (flat m.blocks []) ≡ all_entries setting m
 right_is setting head c m is = rw (is.second, is.within, is.items) (entries_told setting m.blocks (behind_magic m.head))
 
-pub concluded : (setting : Setting) (limits : Limits) (bytes : List ℕ) (begun last : Compared) (m : Marked) (second : Head) (answer : Option Difference) → outlook limits bytes ≡ Ok (begun.first.head, begun.first.told) → Tells begun.first → Begins setting begun.first.head begun
+pub concluded : (setting : Setting) (limits : Limits) (bytes : List ℕ) (begun last : Compared) (m : Marked) (second : Head) (answer : Option Difference) → outlook limits bytes ≡ Ok (begun.first.head, begun.first.told) → TellsComing begun.first → Begins setting begun.first.head begun
     → m.head ≡ second → Tallied begun (flat m.blocks []) last → Concludes begun.first.head second last answer → (other : Marked) → SpellsInput limits bytes other → Differs setting other m answer
 concluded setting limits bytes begun last m second answer told tells begins is was (other_magic unlike d some seen) other spelled =
     let head = (told_is limits bytes begun.first other told spelled).0 in
@@ -126,10 +127,10 @@ concluded setting limits bytes begun last m second answer told tells begins is w
     let p = behind_magic m.head in
     let finish = subst (λ (h : Head). Finishes (behind_magic h) last answer) (sym is) finishes in
     let first = left_is setting begun.first.head begun other begins parts.0 parts.1 in
-    let all : right p begun (flat m.blocks [] ++ []) ≡ all_entries setting m = ap (right p begun) (append-nil (flat m.blocks [])) ∙ right_is setting begun.first.head begun m begins in
-    let lists : AnswersLists (left begun) (right p begun (flat m.blocks [] ++ [])) answer =
-    by_found (left begun) (right p begun (flat m.blocks [] ++ [])) p last finish.0 last.found answer refl (was.tells tells) (λ none. was.alike tells none p []) (λ g some. was.apart tells g some p []) finish.1 finish.2 in
-    differs setting other m answer (ap (λ (h : Head). h.magic) (sym parts.0) ∙ same ∙ ap (λ (h : Head). h.magic) (sym is)) (subst (λ (l : List Entry). AnswersLists l (all_entries setting m) answer) first (subst (λ (l : List Entry). AnswersLists (left begun) l answer) all lists))
+    let all : entries_of_second p begun (flat m.blocks [] ++ []) ≡ all_entries setting m = ap (entries_of_second p begun) (append-nil (flat m.blocks [])) ∙ right_is setting begun.first.head begun m begins in
+    let lists : AnswersLists (entries_of_first begun) (entries_of_second p begun (flat m.blocks [] ++ [])) answer =
+    by_found (entries_of_first begun) (entries_of_second p begun (flat m.blocks [] ++ [])) p last finish.0 last.found answer refl (was.tells tells) (λ none. was.alike tells none p []) (λ g some. was.apart tells g some p []) finish.1 finish.2 in
+    differs setting other m answer (ap (λ (h : Head). h.magic) (sym parts.0) ∙ same ∙ ap (λ (h : Head). h.magic) (sym is)) (subst (λ (l : List Entry). AnswersLists l (all_entries setting m) answer) first (subst (λ (l : List Entry). AnswersLists (entries_of_first begun) l answer) all lists))
 
 -- ---- both inputs
 

@@ -4,7 +4,7 @@ use Rattle.std.proofs.lemmas.Bool.{cases_lt}
 use Rattle.std.proofs.lemmas.List.{drop_all}
 use Rattle.bit_grammar.specs.Forest.{Forest, empty, a_block, Tree}
 use Rattle.bit_grammar.specs.Size.{record_length, aligned, body_at, body_length, end_of, size_of}
-use Rattle.bit_grammar.proofs.Sizes.{end_grows}
+use Rattle.bit_grammar.proofs.NormalForms.Sizes.{end_grows}
 use Rattle.bit_tree.specs.TreeView.{put_item, forest_of_items, forest_of_blocks}
 use Rattle.bit_tree.specs.declared.tree.Block.{Block}
 use Rattle.bit_tree.specs.declared.tree.Item.{Item}

@@ -4,18 +4,19 @@ use Rattle.bit_grammar.specs.Bits.{bits_of}
 use Rattle.bit_grammar.specs.Forest.{Forest, Tree}
 use Rattle.bit_grammar.specs.Normal.{normal, normal_form}
 use Rattle.bit_grammar.specs.Size.{size_of}
-use Rattle.bit_grammar.proofs.Sizes.{items_end}
-use Rattle.bit_grammar.proofs.Numbers.{length-bits_of}
+use Rattle.bit_grammar.proofs.NormalForms.Sizes.{items_end}
+use Rattle.bit_grammar.proofs.Bits.Numbers.{length-bits_of}
 use Rattle.std.specs.Prelude.{IsSome}
 use Rattle.bit_grammar.specs.Setting.{Setting}
 use Rattle.bit_grammar.specs.Under.{items_under, under}
-use Rattle.bit_grammar.proofs.Under.{marks_left}
+use Rattle.bit_grammar.proofs.NormalForms.Under.{marks_left}
 use Rattle.bit_grammar.specs.Blocks.{Limits}
 use Rattle.bit_grammar.specs.Forest.{Fit}
-use Rattle.bit_grammar.specs.Input.{Head, tree_of}
+use Rattle.bit_grammar.specs.Input.{tree_of}
+use Rattle.bit_grammar.specs.Terms.{Head}
 use Rattle.bit_grammar.specs.Machine.{Event, flat}
 use Rattle.bit_grammar.specs.Marks.{forest_of}
-use Rattle.bit_grammar.proofs.Settings.{fit_of_setting}
+use Rattle.bit_grammar.proofs.NormalForms.Settings.{fit_of_setting}
 use Rattle.bit_fields.specs.Devices.{Incoming, Outgoing, known_bytes}
 use Rattle.bit_fields.specs.declared.fault.Fault.{Fault}
 use Rattle.bit_fields.specs.declared.fault.Fault.TheVariants.{Refused, Read, Write, Memory, OutputTooLong, Failed}
@@ -26,7 +27,7 @@ use Rattle.bit_tree.specs.Reading.{HasFit}
 use Rattle.bit_norm.specs.Told.{told_at_level}
 use Rattle.bit_tree.proofs.Gathered.{open_behind-flat}
 use Rattle.bit_norm.proofs.Told.{told_flat}
-use Rattle.bit_norm.specs.Building.{left, IsFormOf}
+use Rattle.bit_norm.specs.Building.{left_events, IsFormOf}
 use Rattle.bit_norm.specs.Whole.{ReadsTree, Normalises}
 use Rattle.bit_norm.specs.Writing.{WritesForm}
 use Rattle.bit_norm.specs.declared.form_builder.FormBuilder.{FormBuilder}
@@ -50,7 +51,7 @@ pub record Found (s : Setting) (limits : Limits) (to_come : Option (List ℕ)) (
   pub events : List Event
   pub form : IsFormOf first events last
   pub closed : left_open events ≡ 0
-  pub fit : IsSome to_come → HasFit s limits (known_bytes to_come) (record { magic = magic; blocks = told_at_level (left first events) 0 })
+  pub fit : IsSome to_come → HasFit s limits (known_bytes to_come) (record { magic = magic; blocks = told_at_level (left_events first events) 0 })
 
 pub found : (s : Setting) (limits : Limits) (to_come : Option (List ℕ)) (first last : FormBuilder) (head : Head) (after magic : ℕ) → GatheredSome IsFormOf first last → (IsSome to_come → Gathered IsFormOf limits (known_bytes to_come) first head last after)
     → first.standing.setting ≡ s → magic ≡ head.magic → Found s limits to_come first last magic
@@ -60,9 +61,9 @@ found s limits (Some bytes) first last head after magic some all setting_is magi
     let m = it.marked in
     let number : m.head.magic ≡ magic = ap (λ (h : Head). h.magic) it.is_head ∙ sym magic_is in
     let n = marks_left first.standing.setting m.blocks in
-    let blocks : items_under s 0 (forest_of m.blocks) ≡ told_at_level (left first (flat m.blocks [])) 0 =
+    let blocks : items_under s 0 (forest_of m.blocks) ≡ told_at_level (left_events first (flat m.blocks [])) 0 =
     sym (ap (λ (es : List Event). told_at_level es 0) n.1 ∙ told_flat n.0 ∙ n.2 ∙ ap (λ (t : Setting). items_under t 0 (forest_of m.blocks)) setting_is) in
-    let same : under s (tree_of m) ≡ record { magic = magic; blocks = told_at_level (left first (flat m.blocks [])) 0 } =
+    let same : under s (tree_of m) ≡ record { magic = magic; blocks = told_at_level (left_events first (flat m.blocks [])) 0 } =
     ap (λ (k : ℕ). record { magic = k; blocks = items_under s 0 (forest_of m.blocks) }) number ∙ ap (λ (x : Forest). record { magic = magic; blocks = x }) blocks in
     record {
       events = flat m.blocks [];
@@ -86,7 +87,7 @@ wrote_form s limits i o (Err Failed) now new tree read wrote = wrote
 
 -- it was read, whatever is known of it
 pub read_tree : (s : Setting) (limits : Limits) (i now : Incoming) (first last : FormBuilder) (head : Head) (after magic : ℕ) (f : Found s limits i.to_come first last magic) → Spent limits i now × (IsSome i.to_come → Gathered IsFormOf limits (known_bytes i.to_come) first head last after × (known_bytes now.to_come ≡ []))
-    → ReadsTree s limits i (Ok (record { magic = magic; blocks = told_at_level (left first f.events) 0 })) now
+    → ReadsTree s limits i (Ok (record { magic = magic; blocks = told_at_level (left_events first f.events) 0 })) now
 read_tree s limits i now first last head after magic f all = (all.0, λ known. (f.fit known, (all.1 known).1))
 
 -- what was not read as one thing was not read as another

@@ -6,30 +6,30 @@ use Rattle.bit_grammar.specs.Forest.{Tree}
 use Rattle.bit_grammar.specs.Normal.{normal_form}
 use Rattle.bit_grammar.specs.Size.{size_of}
 use Rattle.bit_fields.specs.Devices.{Outgoing, known_bytes}
-use Rattle.bit_fields.specs.Writer.{Writer, taken, written, Wrote, Lost, Writes}
+use Rattle.bit_fields.specs.Writer.{Writer, taken_bits, written_bits, Wrote, LostBits, Writes}
 use Rattle.bit_fields.specs.declared.fault.Fault.{Fault}
 use Rattle.bit_fields.specs.declared.fault.Fault.TheVariants.{Refused, Read, Write, Memory, OutputTooLong, Failed}
 use Rattle.bit_fields.proofs.BitLaws.{bits_of_bytes-append}
-use Rattle.bit_norm.specs.Writing.{Gained, GainedFront, WritesForm}
+use Rattle.bit_norm.specs.Writing.{GainedBits, GainedFront, WritesForm}
 
 -- a writer that holds nothing wrote what its sink took
-all_taken : (w : Writer) → w.held ≡ [] → written w ≡ taken w
-all_taken w none = ap (λ (s : List Bool). taken w ++ s) none ∙ append-nil (taken w)
+all_taken : (w : Writer) → w.held ≡ [] → written_bits w ≡ taken_bits w
+all_taken w none = ap (λ (s : List Bool). taken_bits w ++ s) none ∙ append-nil (taken_bits w)
 
 -- the bits of what a sink took in between
-took_more : (a b : Writer) (more : List ℕ) → known_bytes b.outgoing.bytes ≡ known_bytes a.outgoing.bytes ++ more → taken a ++ bits_of_bytes more ≡ taken b
+took_more : (a b : Writer) (more : List ℕ) → known_bytes b.outgoing.bytes ≡ known_bytes a.outgoing.bytes ++ more → taken_bits a ++ bits_of_bytes more ≡ taken_bits b
 took_more a b more is = sym (bits_of_bytes-append (known_bytes a.outgoing.bytes) more) ∙ ap bits_of_bytes (sym is)
 
-gained : (bits : List Bool) (a b : Writer) → a.held ≡ [] → b.held ≡ [] → Wrote a bits b → Gained bits a.outgoing b.outgoing
+gained : (bits : List Bool) (a b : Writer) → a.held ≡ [] → b.held ≡ [] → Wrote a bits b → GainedBits bits a.outgoing b.outgoing
 gained bits a b none all w = record {
   failures = w.failures;
   tells = w.tells;
   bytes = λ k.
       let more = w.kept k in
-      (more.0, more.1, append_cancel_left (taken a) (bits_of_bytes more.0) bits (took_more a b more.0 more.1 ∙ sym (all_taken b all) ∙ w.written k ∙ ap (λ (s : List Bool). s ++ bits) (all_taken a none)));
+      (more.0, more.1, append_cancel_left (taken_bits a) (bits_of_bytes more.0) bits (took_more a b more.0 more.1 ∙ sym (all_taken b all) ∙ w.written k ∙ ap (λ (s : List Bool). s ++ bits) (all_taken a none)));
 }
 
-gained_front : (bits : List Bool) (a b : Writer) → a.held ≡ [] → Lost a bits b → GainedFront bits a.outgoing b.outgoing
+gained_front : (bits : List Bool) (a b : Writer) → a.held ≡ [] → LostBits a bits b → GainedFront bits a.outgoing b.outgoing
 gained_front bits a b none l = record {
   why = l.why;
   tells = l.tells;
@@ -39,8 +39,8 @@ gained_front bits a b none l = record {
         more.0,
         rest.0,
         more.1,
-        append_cancel_left (taken a) (bits_of_bytes more.0 ++ rest.0) bits
-            (sym (append_assoc (taken a) (bits_of_bytes more.0) rest.0) ∙ ap (λ (s : List Bool). s ++ rest.0) (took_more a b more.0 more.1) ∙ rest.1 ∙ ap (λ (s : List Bool). s ++ bits) (all_taken a none)),
+        append_cancel_left (taken_bits a) (bits_of_bytes more.0 ++ rest.0) bits
+            (sym (append_assoc (taken_bits a) (bits_of_bytes more.0) rest.0) ∙ ap (λ (s : List Bool). s ++ rest.0) (took_more a b more.0 more.1) ∙ rest.1 ∙ ap (λ (s : List Bool). s ++ bits) (all_taken a none)),
       );
 }
 

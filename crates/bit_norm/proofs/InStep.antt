@@ -5,70 +5,70 @@ use Rattle.std.proofs.lemmas.List.{append-nil}
 use Rattle.std.specs.List.{list_all}
 use Rattle.bit_grammar.specs.Setting.{keeps}
 use Rattle.bit_grammar.specs.Under.{is_left, ids_behind, events_under}
-use Rattle.bit_grammar.proofs.Under.{ids_behind-push}
+use Rattle.bit_grammar.proofs.NormalForms.Under.{ids_behind-push}
 use Rattle.bit_grammar.specs.Marks.{RecordMark, DefinitionMark}
 use Rattle.bit_grammar.specs.Machine.{Opened, Event, enters, defines, notes, leaves}
 use Rattle.bit_grammar.specs.Steps.{open_after}
 use Rattle.bit_grammar.specs.Machine.{Told}
 use Rattle.bit_fields.specs.Packed.{first_apart}
-use Rattle.bit_events.specs.Coming.{Coming, Tells, Ends}
+use Rattle.bit_events.specs.Coming.{Coming, TellsComing, EndsEvents}
 use Rattle.bit_events.specs.Gathering.{left_open}
 use Rattle.bit_events.proofs.Folds.{open_behind-push}
 use Rattle.bit_events.specs.Standing as blocks
 use Rattle.bit_events.proofs.Standings.{left_as_many, left_push}
-use Rattle.bit_norm.specs.Entries.{Sign, begins, has_record, ends, over, Entry, signs_in, open_block, Seen, Standing, at_item, standing, standing_shown, apart, first_unlike, what_of}
+use Rattle.bit_norm.specs.Entries.{Sign, begins, has_record, ends, over, Entry, signs_in, open_block_with, Seen, Standing, at_item, standing, standing_shown, apart_at, first_unlike, what_of}
 use Rattle.bit_norm.specs.declared.differences.OpenBlock.{OpenBlock}
 use Rattle.bit_norm.specs.declared.differences.ValueDifference.{ValueDifference}
 use Rattle.bit_norm.specs.declared.in_step.Beside.{Beside}
 use Rattle.bit_norm.specs.declared.in_step.Beside.TheVariants.{Other}
 use Rattle.bit_norm.specs.declared.in_step.Found.{Found}
-use Rattle.bit_norm.specs.InStep.{Stand, Said, said, said_left, closing, moved, entry_of, stand_after, put_entry, told_entries, behind_sign, IsOther, StandsBeside, SaysBeside, Took, Compared, here, left, ended_from, second_end, right, seen_of, Departs, TakesSign, Alike, ApartAt, Tallied}
+use Rattle.bit_norm.specs.InStep.{Stand, Said, said_of, said_left, stand_behind_block, stand_behind, entry_at, stand_after, put_entry, told_entries, behind_sign, IsOther, StandsBeside, SaysBeside, Took, Compared, here, entries_of_first, ended_from, second_end, entries_of_second, seen_of, Departs, TakesSign, Alike, ApartAt, Tallied}
 
 -- ---- one event
 
-pub begin_says : (o : Opened) (ended : ℕ) (sign : Sign) (b : Beside) → StandsBeside (record { sign = begins o.id; bit = o.first; ended = o.body }) sign b → SaysBeside (said ended (enters o)) sign b
+pub begin_says : (o : Opened) (ended : ℕ) (sign : Sign) (b : Beside) → StandsBeside (record { sign = begins o.id; bit = o.first; ended = o.body }) sign b → SaysBeside (said_of ended (enters o)) sign b
 begin_says o ended sign b is = record { found = record { sign = begins o.id; bit = o.first; ended = o.body }; is = refl; beside = is }
 
-pub record_says : (mark : RecordMark) (ended : ℕ) (sign : Sign) (b : Beside) → StandsBeside (record { sign = has_record mark.code mark.values; bit = mark.first; ended = mark.after }) sign b → SaysBeside (said ended (notes mark)) sign b
+pub record_says : (mark : RecordMark) (ended : ℕ) (sign : Sign) (b : Beside) → StandsBeside (record { sign = has_record mark.code mark.values; bit = mark.first; ended = mark.after }) sign b → SaysBeside (said_of ended (notes mark)) sign b
 record_says mark ended sign b is = record { found = record { sign = has_record mark.code mark.values; bit = mark.first; ended = mark.after }; is = refl; beside = is }
 
-pub end_says : (after ended : ℕ) (sign : Sign) (b : Beside) → StandsBeside (record { sign = ends; bit = ended; ended = after }) sign b → SaysBeside (said ended (leaves after)) sign b
+pub end_says : (after ended : ℕ) (sign : Sign) (b : Beside) → StandsBeside (record { sign = ends; bit = ended; ended = after }) sign b → SaysBeside (said_of ended (leaves after)) sign b
 end_says after ended sign b is = record { found = record { sign = ends; bit = ended; ended = after }; is = refl; beside = is }
 
 -- an event that is not left says nothing, and one that is left what it says
-pub left_out_says : (stands : blocks.Standing) (ended : ℕ) (event : Event) → is_left stands.setting stands.ids event ≡ false → said_left stands ended event ≡ None
-left_out_says stands ended event out = ap (λ (b : Bool). if b then said ended event else None) out
+pub left_out_says : (stands : blocks.OpenUnder) (ended : ℕ) (event : Event) → is_left stands.setting stands.ids event ≡ false → said_left stands ended event ≡ None
+left_out_says stands ended event out = ap (λ (b : Bool). if b then said_of ended event else None) out
 
-pub left_says : (stands : blocks.Standing) (ended : ℕ) (event : Event) → is_left stands.setting stands.ids event ≡ true → said_left stands ended event ≡ said ended event
-left_says stands ended event left = ap (λ (b : Bool). if b then said ended event else None) left
+pub left_says : (stands : blocks.OpenUnder) (ended : ℕ) (event : Event) → is_left stands.setting stands.ids event ≡ true → said_left stands ended event ≡ said_of ended event
+left_says stands ended event entries_of_first = ap (λ (b : Bool). if b then said_of ended event else None) entries_of_first
 
 -- what an event says stands before what the others tell
-pub entries_first : (stands : blocks.Standing) (s : Stand) (event : Event) (events : List Event)
+pub entries_first : (stands : blocks.OpenUnder) (s : Stand) (event : Event) (events : List Event)
     → told_entries s (blocks.left_of stands (event ∷ events)) ≡ put_entry s (said_left stands s.ended event) (told_entries (stand_after s (said_left stands s.ended event)) (blocks.left_of (blocks.stands_after event stands) events))
 entries_first stands s event events = go (is_left stands.setting stands.ids event)
   where
     others : List Event
     others = blocks.left_of (blocks.stands_after event stands) events
 
-    go : (b : Bool) → told_entries s (if b then event ∷ others else others) ≡ put_entry s (if b then said s.ended event else None) (told_entries (stand_after s (if b then said s.ended event else None)) others)
+    go : (b : Bool) → told_entries s (if b then event ∷ others else others) ≡ put_entry s (if b then said_of s.ended event else None) (told_entries (stand_after s (if b then said_of s.ended event else None)) others)
     go true = refl
     go false = refl
 
 -- nothing is said
-pub entries_silent : (stands next : blocks.Standing) (s : Stand) (event : Event) (events : List Event) → said_left stands s.ended event ≡ None → next ≡ blocks.stands_after event stands
+pub entries_silent : (stands next : blocks.OpenUnder) (s : Stand) (event : Event) (events : List Event) → said_left stands s.ended event ≡ None → next ≡ blocks.stands_after event stands
     → told_entries s (blocks.left_of stands (event ∷ events)) ≡ told_entries s (blocks.left_of next events)
 entries_silent stands next s event events none is =
     entries_first stands s event events
     ∙ ap (λ (o : Option Said). put_entry s o (told_entries (stand_after s o) (blocks.left_of (blocks.stands_after event stands) events))) none
-    ∙ ap (λ (st : blocks.Standing). told_entries s (blocks.left_of st events)) (sym is)
+    ∙ ap (λ (st : blocks.OpenUnder). told_entries s (blocks.left_of st events)) (sym is)
 
 -- this is said
-pub entries_said : (stands next : blocks.Standing) (s : Stand) (event : Event) (x : Said) (events : List Event) → said_left stands s.ended event ≡ Some x → next ≡ blocks.stands_after event stands
-    → told_entries s (blocks.left_of stands (event ∷ events)) ≡ entry_of s x ∷ told_entries (moved s x.sign x.ended) (blocks.left_of next events)
+pub entries_said : (stands next : blocks.OpenUnder) (s : Stand) (event : Event) (x : Said) (events : List Event) → said_left stands s.ended event ≡ Some x → next ≡ blocks.stands_after event stands
+    → told_entries s (blocks.left_of stands (event ∷ events)) ≡ entry_at s x ∷ told_entries (stand_behind s x.sign x.ended) (blocks.left_of next events)
 entries_said stands next s event x events found is =
     entries_first stands s event events
     ∙ ap (λ (o : Option Said). put_entry s o (told_entries (stand_after s o) (blocks.left_of (blocks.stands_after event stands) events))) found
-    ∙ ap (λ (st : blocks.Standing). entry_of s x ∷ told_entries (moved s x.sign x.ended) (blocks.left_of st events)) (sym is)
+    ∙ ap (λ (st : blocks.OpenUnder). entry_at s x ∷ told_entries (stand_behind s x.sign x.ended) (blocks.left_of st events)) (sym is)
 
 -- ---- values
 
@@ -102,7 +102,7 @@ somewhere_apart k place (x ∷ a) (y ∷ b) e = go (somewhere_apart (suc k) plac
     later same u = record { behind = suc u.behind; first = u.first; second = u.second; at = omega (arith, u.at); in_first = u.in_first; in_second = u.in_second; is = rw same u.is }
 
     here : eqb x y ≡ false → k ≡ place → Unlike k place (x ∷ a) (y ∷ b)
-    here apart at = record { behind = 0; first = x; second = y; at = omega (arith, at); in_first = refl; in_second = refl; is = rw (apart, at) refl }
+    here apart_at at = record { behind = 0; first = x; second = y; at = omega (arith, at); in_first = refl; in_second = refl; is = rw (apart_at, at) refl }
 
     go : (first_apart (suc k) a b ≡ Some place → Unlike (suc k) place a b) → (t : Bool) → eqb x y ≡ t → cond t (first_apart (suc k) a b) (Some k) ≡ Some place → Unlike k place (x ∷ a) (y ∷ b)
     go rest true is e = later is (rest e)
@@ -115,9 +115,9 @@ unlike_at place x y a b e first second =
     let at : u.behind ≡ place = omega (arith, u.at) in
     let same_first : slice_get a place ≡ Some u.first = ap (slice_get a) (sym at) ∙ u.in_first in
     let same_second : slice_get b place ≡ Some u.second = ap (slice_get b) (sym at) ∙ u.in_second in
-    let left : u.first ≡ x = cc in
-    let right : u.second ≡ y = cc in
-    rw (← left, ← right) u.is
+    let entries_of_first : u.first ≡ x = cc in
+    let entries_of_second : u.second ≡ y = cc in
+    rw (← entries_of_first, ← entries_of_second) u.is
 
 -- both are known there
 pub has_both : (place : ℕ) (a b : List ℕ) → first_apart 0 a b ≡ Some place → (slice_get a place ≡ None → ⊥) × (slice_get b place ≡ None → ⊥)
@@ -131,16 +131,16 @@ has_both place a b e =
 -- ---- places
 
 -- behind the innermost open block, this one
-pub closing_last : (l : List OpenBlock) (b : OpenBlock) (items ended : ℕ) → closing (l ++ b ∷ []) items ended ≡ record { within = l; items = suc b.items; ended = ended }
+pub closing_last : (l : List OpenBlock) (b : OpenBlock) (items ended : ℕ) → stand_behind_block (l ++ b ∷ []) items ended ≡ record { within = l; items = suc b.items; ended = ended }
 closing_last [] b items ended = refl
 closing_last (x ∷ []) b items ended = refl
 closing_last (x ∷ y ∷ l) b items ended = ap (λ (s : Stand). let t : Stand = record { within = x ∷ s.within; items = s.items; ended = s.ended } in t) (closing_last (y ∷ l) b items ended)
 
-pub closes : (within rest : List OpenBlock) (b : OpenBlock) (items now ended : ℕ) → within ≡ rest ++ b ∷ [] → now ≡ b.items + 1 → (let s : Stand = record { within = rest; items = now; ended = ended } in (s ≡ closing within items ended))
+pub closes : (within rest : List OpenBlock) (b : OpenBlock) (items now ended : ℕ) → within ≡ rest ++ b ∷ [] → now ≡ b.items + 1 → (let s : Stand = record { within = rest; items = now; ended = ended } in (s ≡ stand_behind_block within items ended))
 closes within rest b items now ended is one =
     let make : ℕ → Stand = λ n. record { within = rest; items = n; ended = ended } in
     let same : now ≡ suc b.items = omega (arith, one) in
-    ap make same ∙ sym (ap (λ (l : List OpenBlock). closing l items ended) is ∙ closing_last rest b items ended)
+    ap make same ∙ sym (ap (λ (l : List OpenBlock). stand_behind_block l items ended) is ∙ closing_last rest b items ended)
 
 ended_inside : (p : ℕ) (l : List OpenBlock) (b : OpenBlock) (items ended : ℕ) → ended_from p (l ++ b ∷ []) items ended ≡ ended
 ended_inside p [] b items ended = refl
@@ -175,43 +175,43 @@ alike_along a b c l m n o e f g was = rw (sym e, sym f, sym g) was
 
 -- ---- the open blocks of the second
 
-abbrev pub with_blocks : Compared → blocks.Standing → Compared
+abbrev pub with_blocks : Compared → blocks.OpenUnder → Compared
 with_blocks c next = record { first = c.first; first_blocks = c.first_blocks; second_blocks = next; within = c.within; items = c.items; first_ended = c.first_ended; second_ended = c.second_ended; found = c.found }
 
 module _ (begun old : Compared) (done : List Event) (event : Event) (was : Tallied begun done old) where
   judged : (b : Bool) → is_left old.second_blocks.setting old.second_blocks.ids event ≡ b → is_left begun.second_blocks.setting (ids_behind done []) event ≡ b
-  judged b is = ap (λ (st : blocks.Standing). is_left st.setting st.ids event) (sym was.stands) ∙ is
+  judged b is = ap (λ (st : blocks.OpenUnder). is_left st.setting st.ids event) (sym was.stands) ∙ is
 
   -- the events that are left
   pub left_more : (b : Bool) → is_left old.second_blocks.setting old.second_blocks.ids event ≡ b → events_under begun.second_blocks.setting [] (done ++ event ∷ []) ≡ events_under begun.second_blocks.setting [] done ++ (if b then event ∷ [] else [])
   left_more b is = left_push begun.second_blocks.setting done event [] b (judged b is)
 
-  pub stands_on : (next : blocks.Standing) → next ≡ blocks.stands_after event old.second_blocks → next ≡ record { setting = begun.second_blocks.setting; ids = ids_behind (done ++ event ∷ []) [] }
+  pub stands_on : (next : blocks.OpenUnder) → next ≡ blocks.stands_after event old.second_blocks → next ≡ record { setting = begun.second_blocks.setting; ids = ids_behind (done ++ event ∷ []) [] }
   stands_on next is =
-      is ∙ ap (blocks.stands_after event) was.stands ∙ ap (λ (ids : List ℕ). let st : blocks.Standing = record { setting = begun.second_blocks.setting; ids = ids } in st) (sym (ids_behind-push done event []))
+      is ∙ ap (blocks.stands_after event) was.stands ∙ ap (λ (ids : List ℕ). let st : blocks.OpenUnder = record { setting = begun.second_blocks.setting; ids = ids } in st) (sym (ids_behind-push done event []))
 
   -- as many blocks are open in what is left, where each is left
   pub some_left : list_all (keeps old.second_blocks.setting) old.second_blocks.ids ≡ true → 0 < left_open done → 0 < left_open (events_under begun.second_blocks.setting [] done)
   some_left all some =
-      let same : list_all (keeps begun.second_blocks.setting) (ids_behind done []) ≡ true = ap (λ (st : blocks.Standing). list_all (keeps st.setting) st.ids) (sym was.stands) ∙ all in
+      let same : list_all (keeps begun.second_blocks.setting) (ids_behind done []) ≡ true = ap (λ (st : blocks.OpenUnder). list_all (keeps st.setting) st.ids) (sym was.stands) ∙ all in
       omega (arith, left_as_many begun.second_blocks.setting done same, some)
 
 -- ---- an event that says nothing
 
-pub tally_silent : (begun old : Compared) (done : List Event) (event : Event) (next : blocks.Standing) → Tallied begun done old → next ≡ blocks.stands_after event old.second_blocks → ((ended : ℕ) → said_left old.second_blocks ended event ≡ None)
+pub tally_silent : (begun old : Compared) (done : List Event) (event : Event) (next : blocks.OpenUnder) → Tallied begun done old → next ≡ blocks.stands_after event old.second_blocks → ((ended : ℕ) → said_left old.second_blocks ended event ≡ None)
     → left_open (events_under begun.second_blocks.setting [] (done ++ event ∷ [])) ≡ left_open (events_under begun.second_blocks.setting [] done) → Tallied begun (done ++ event ∷ []) (with_blocks old next)
 tally_silent begun old done event next was is none deep = record {
   stands = stands_on begun old done event was next is;
   tells = was.tells;
   depth = λ found. was.depth found ∙ sym deep;
   alike = λ tells found p following.
-      alike_along (left begun) _ _ (left old) (left old) _ _ (ap (right p begun) (sym (append_assoc done (event ∷ []) following))) refl (entries_silent old.second_blocks next (here old (second_end p old)) event following (none (second_end p old)) is) (was.alike tells found p (event ∷ following));
+      alike_along (entries_of_first begun) _ _ (entries_of_first old) (entries_of_first old) _ _ (ap (entries_of_second p begun) (sym (append_assoc done (event ∷ []) following))) refl (entries_silent old.second_blocks next (here old (second_end p old)) event following (none (second_end p old)) is) (was.alike tells found p (event ∷ following));
   apart = λ tells f found p following.
-      subst (λ (events : List Event). ApartAt (left begun) (right p begun events) (seen_of old f)) (sym (append_assoc done (event ∷ []) following)) (was.apart tells f found p (event ∷ following));
+      subst (λ (events : List Event). ApartAt (entries_of_first begun) (entries_of_second p begun events) (seen_of old f)) (sym (append_assoc done (event ∷ []) following)) (was.apart tells f found p (event ∷ following));
 }
 
 -- one that is not left
-pub tally_left_out : (begun old : Compared) (done : List Event) (event : Event) (next : blocks.Standing) → Tallied begun done old → next ≡ blocks.stands_after event old.second_blocks → is_left old.second_blocks.setting old.second_blocks.ids event ≡ false → Tallied begun (done ++ event ∷ []) (with_blocks old next)
+pub tally_left_out : (begun old : Compared) (done : List Event) (event : Event) (next : blocks.OpenUnder) → Tallied begun done old → next ≡ blocks.stands_after event old.second_blocks → is_left old.second_blocks.setting old.second_blocks.ids event ≡ false → Tallied begun (done ++ event ∷ []) (with_blocks old next)
 tally_left_out begun old done event next was is out =
     tally_silent begun old done event next was is (λ ended. left_out_says old.second_blocks ended event out)
     (ap left_open (left_more begun old done event was false out ∙ append-nil (events_under begun.second_blocks.setting [] done)))
@@ -236,16 +236,16 @@ tally_stays begun old done event f was found = record {
   depth = λ none. absurd cc;
   alike = λ tells none p following. absurd cc;
   apart = λ tells g is p following.
-      subst (λ (events : List Event). ApartAt (left begun) (right p begun events) (seen_of old g)) (sym (append_assoc done (event ∷ []) following)) (was.apart tells g is p (event ∷ following));
+      subst (λ (events : List Event). ApartAt (entries_of_first begun) (entries_of_second p begun events) (seen_of old g)) (sym (append_assoc done (event ∷ []) following)) (was.apart tells g is p (event ∷ following));
 }
 
 -- what an event says that is left, and what this does to the place
 pub record IsSigned (old : Compared) (event : Event) (x : Said) : Type 0 where
   pub kept : is_left old.second_blocks.setting old.second_blocks.ids event ≡ true
-  pub says : old.found ≡ None → (p : ℕ) → said (second_end p old) event ≡ Some x
+  pub says : old.found ≡ None → (p : ℕ) → said_of (second_end p old) event ≡ Some x
   pub item : (entries : List Entry) → behind_sign x.sign entries ≡ entries
-  pub ended : old.found ≡ None → (p before : ℕ) → (let s = moved (here old before) x.sign x.ended in (ended_from p s.within s.items s.ended ≡ s.ended))
-  pub deep : old.found ≡ None → (before : ℕ) → length (moved (here old before) x.sign x.ended).within ≡ open_after event (length old.within)
+  pub ended : old.found ≡ None → (p before : ℕ) → (let s = stand_behind (here old before) x.sign x.ended in (ended_from p s.within s.items s.ended ≡ s.ended))
+  pub deep : old.found ≡ None → (before : ℕ) → length (stand_behind (here old before) x.sign x.ended).within ≡ open_after event (length old.within)
 
 -- the comparison when the sign of an event is taken
 abbrev pub at_sign : Compared → Event → Compared
@@ -253,14 +253,14 @@ at_sign old event = with_blocks old (blocks.stands_after event old.second_blocks
 
 -- what is told of the second from there on
 signed : (old : Compared) (event : Event) (x : Said) (p : ℕ) (following : List Event) → IsSigned old event x → old.found ≡ None
-    → right p old (event ∷ following) ≡ entry_of (here old (second_end p old)) x ∷ told_entries (moved (here old (second_end p old)) x.sign x.ended) (blocks.left_of (blocks.stands_after event old.second_blocks) following)
+    → entries_of_second p old (event ∷ following) ≡ entry_at (here old (second_end p old)) x ∷ told_entries (stand_behind (here old (second_end p old)) x.sign x.ended) (blocks.left_of (blocks.stands_after event old.second_blocks) following)
 signed old event x p following is none =
     entries_said old.second_blocks (blocks.stands_after event old.second_blocks) (here old (second_end p old)) event x following (left_says old.second_blocks (second_end p old) event is.kept ∙ is.says none p) refl
 
 -- what is told then of the place behind
 behind_place : (old new : Compared) (event : Event) (x : Said) (p : ℕ) (following : List Event) → IsSigned old event x → old.found ≡ None → new.second_blocks ≡ blocks.stands_after event old.second_blocks
-    → ((before : ℕ) → here new new.second_ended ≡ moved (here old before) x.sign x.ended)
-    → told_entries (moved (here old (second_end p old)) x.sign x.ended) (blocks.left_of (blocks.stands_after event old.second_blocks) following) ≡ right p new following
+    → ((before : ℕ) → here new new.second_ended ≡ stand_behind (here old before) x.sign x.ended)
+    → told_entries (stand_behind (here old (second_end p old)) x.sign x.ended) (blocks.left_of (blocks.stands_after event old.second_blocks) following) ≡ entries_of_second p new following
 behind_place old new event x p following is none stands moves =
     let place = moves (second_end p old) in
     let end : ended_from p new.within new.items new.second_ended ≡ new.second_ended =
@@ -268,7 +268,7 @@ behind_place old new event x p following is none stands moves =
     let others = blocks.left_of (blocks.stands_after event old.second_blocks) following in
     ap (λ (s : Stand). told_entries s others) (sym place)
     ∙ ap (λ (e : ℕ). told_entries (here new e) others) (sym end)
-    ∙ ap (λ (st : blocks.Standing). told_entries (here new (second_end p new)) (blocks.left_of st following)) (sym stands)
+    ∙ ap (λ (st : blocks.OpenUnder). told_entries (here new (second_end p new)) (blocks.left_of st following)) (sym stands)
 
 tally_agrees : (begun old new : Compared) (done : List Event) (event : Event) (x : Said) → Tallied begun done old → IsSigned old event x → TakesSign (at_sign old event) x.sign x.bit x.ended new → old.found ≡ None → new.found ≡ None → Tallied begun (done ++ event ∷ []) new
 tally_agrees begun old new done event x was is takes none found =
@@ -280,32 +280,32 @@ tally_agrees begun old new done event x was is takes none found =
           deep ∙ ap (open_after event) (was.depth none) ∙ sym (ap left_open (left_more begun old done event was true is.kept) ∙ open_behind-push (events_under begun.second_blocks.setting [] done) event 0);
       alike = λ tells _ p following.
           let one = agrees.takes (was.tells tells) in
-          alike_more (left begun) _ (left new) (right p new following) (entry_of (here old old.first_ended) one.0) (entry_of (here old (second_end p old)) x)
-          (alike_along (left begun) _ _ (left old) _ _ _ (ap (right p begun) (sym (append_assoc done (event ∷ []) following)))
-          (one.2 ∙ ap (λ (l : List Entry). entry_of (here old old.first_ended) one.0 ∷ l) (is.item (left new)))
-          (signed old event x p following is none ∙ ap (λ (l : List Entry). entry_of (here old (second_end p old)) x ∷ l) (behind_place old new event x p following is none takes.second_blocks agrees.moves))
+          alike_more (entries_of_first begun) _ (entries_of_first new) (entries_of_second p new following) (entry_at (here old old.first_ended) one.0) (entry_at (here old (second_end p old)) x)
+          (alike_along (entries_of_first begun) _ _ (entries_of_first old) _ _ _ (ap (entries_of_second p begun) (sym (append_assoc done (event ∷ []) following)))
+          (one.2 ∙ ap (λ (l : List Entry). entry_at (here old old.first_ended) one.0 ∷ l) (is.item (entries_of_first new)))
+          (signed old event x p following is none ∙ ap (λ (l : List Entry). entry_at (here old (second_end p old)) x ∷ l) (behind_place old new event x p following is none takes.second_blocks agrees.moves))
           (was.alike tells none p (event ∷ following)))
           one.1;
       apart = λ tells f some p following. absurd cc;
     }
 
-seen_apart : (old new : Compared) (x y : Said) (ended : ℕ) (f : Found) → Departs old y.sign y.bit f new → IsOther x y.sign f.first f.value → seen_of new f ≡ apart (entry_of (here old old.first_ended) x) (entry_of (here old ended) y)
+seen_apart : (old new : Compared) (x y : Said) (ended : ℕ) (f : Found) → Departs old y.sign y.bit f new → IsOther x y.sign f.first f.value → seen_of new f ≡ apart_at (entry_at (here old old.first_ended) x) (entry_at (here old ended) y)
 seen_apart old new x y ended f departs other =
     let make : List OpenBlock → ℕ → Standing → Standing → Option ValueDifference → Seen = λ within items first second value. record { place = at_item within items; first = first; second = second; value = value } in
-    let here_first : standing_shown f.first ≡ standing (entry_of (here old old.first_ended) x) = other.first in
-    let here_second : standing_shown f.second ≡ standing (entry_of (here old ended) y) = departs.second in
+    let here_first : standing_shown f.first ≡ standing (entry_at (here old old.first_ended) x) = other.first in
+    let here_second : standing_shown f.second ≡ standing (entry_at (here old ended) y) = departs.second in
     ap (λ (w : List OpenBlock). make w new.items (standing_shown f.first) (standing_shown f.second) f.value) departs.within
     ∙ ap (λ (n : ℕ). make old.within n (standing_shown f.first) (standing_shown f.second) f.value) departs.items
     ∙ ap (λ (s : Standing). make old.within old.items s (standing_shown f.second) f.value) here_first
-    ∙ ap (λ (s : Standing). make old.within old.items (standing (entry_of (here old old.first_ended) x)) s f.value) here_second
-    ∙ ap (λ (v : Option ValueDifference). make old.within old.items (standing (entry_of (here old old.first_ended) x)) (standing (entry_of (here old ended) y)) v) other.value
+    ∙ ap (λ (s : Standing). make old.within old.items (standing (entry_at (here old old.first_ended) x)) s f.value) here_second
+    ∙ ap (λ (v : Option ValueDifference). make old.within old.items (standing (entry_at (here old old.first_ended) x)) (standing (entry_at (here old ended) y)) v) other.value
 
 -- where the lists first differ
-pub departs_there : (a b l m : List Entry) (old new : Compared) (y : Said) (ended : ℕ) (f : Found) (others : List Entry) → Alike a b l m → m ≡ entry_of (here old ended) y ∷ others → Departs old y.sign y.bit f new
-    → ((x : Said) × (rest : List Entry) × (l ≡ entry_of (here old old.first_ended) x ∷ rest) × IsOther x y.sign f.first f.value) → ApartAt a b (seen_of new f)
+pub departs_there : (a b l m : List Entry) (old new : Compared) (y : Said) (ended : ℕ) (f : Found) (others : List Entry) → Alike a b l m → m ≡ entry_at (here old ended) y ∷ others → Departs old y.sign y.bit f new
+    → ((x : Said) × (rest : List Entry) × (l ≡ entry_at (here old old.first_ended) x ∷ rest) × IsOther x y.sign f.first f.value) → ApartAt a b (seen_of new f)
 departs_there a b l m old new y ended f others was stands departs one = (
-  entry_of (here old old.first_ended) one.0,
-  entry_of (here old ended) y,
+  entry_at (here old old.first_ended) one.0,
+  entry_at (here old ended) y,
   record {
     front = was.front;
     rest = one.1;
@@ -329,8 +329,8 @@ tally_departs begun old new done event x g was is takes none found = record {
   alike = λ tells no p following. absurd cc;
   apart = λ tells f some p following.
       let departs = takes.other none f some in
-      departs_there (left begun) _ (left old) _ (at_sign old event) new x (second_end p old) f _
-      (alike_along (left begun) _ _ (left old) (left old) _ _ (ap (right p begun) (sym (append_assoc done (event ∷ []) following))) refl refl (was.alike tells none p (event ∷ following)))
+      departs_there (entries_of_first begun) _ (entries_of_first old) _ (at_sign old event) new x (second_end p old) f _
+      (alike_along (entries_of_first begun) _ _ (entries_of_first old) (entries_of_first old) _ _ (ap (entries_of_second p begun) (sym (append_assoc done (event ∷ []) following))) refl refl (was.alike tells none p (event ∷ following)))
       (signed old event x p following is none)
       departs
       (departs.takes (was.tells tells));
@@ -345,15 +345,15 @@ by_old begun old new done event x None was is takes found = by_new begun old new
 by_old begun old new done event x (Some f) was is takes found = subst (λ (c : Compared). Tallied begun (done ++ event ∷ []) c) (sym (takes.stays f found)) (tally_stays begun old done event f was found)
 
 -- an event with a sign was taken
-pub tally_sign : (begun old new : Compared) (next : blocks.Standing) (done : List Event) (event : Event) (x : Said) → Tallied begun done old → next ≡ blocks.stands_after event old.second_blocks → IsSigned old event x → TakesSign (with_blocks old next) x.sign x.bit x.ended new
+pub tally_sign : (begun old new : Compared) (next : blocks.OpenUnder) (done : List Event) (event : Event) (x : Said) → Tallied begun done old → next ≡ blocks.stands_after event old.second_blocks → IsSigned old event x → TakesSign (with_blocks old next) x.sign x.bit x.ended new
     → Tallied begun (done ++ event ∷ []) new
-tally_sign begun old new next done event x was stands is takes = by_old begun old new done event x old.found was is (subst (λ (st : blocks.Standing). TakesSign (with_blocks old st) x.sign x.bit x.ended new) stands takes) refl
+tally_sign begun old new next done event x was stands is takes = by_old begun old new done event x old.found was is (subst (λ (st : blocks.OpenUnder). TakesSign (with_blocks old st) x.sign x.bit x.ended new) stands takes) refl
 
 -- ---- the comparison begins
 
 pub tally_begun : (c : Compared) → c.within ≡ [] → c.second_blocks.ids ≡ [] → c.found ≡ None → Tallied c [] c
 tally_begun c top outside found = record {
-  stands = ap (λ (ids : List ℕ). let st : blocks.Standing = record { setting = c.second_blocks.setting; ids = ids } in st) outside;
+  stands = ap (λ (ids : List ℕ). let st : blocks.OpenUnder = record { setting = c.second_blocks.setting; ids = ids } in st) outside;
   tells = λ tells. tells;
   depth = λ _. ap length top;
   alike = λ tells _ p following. record { front = []; other_front = []; first = refl; second = refl; same = refl };
@@ -363,8 +363,8 @@ tally_begun c top outside found = record {
 -- ---- one sign is taken
 
 -- no event was left
-pub took_end : (stands now : blocks.Standing) (s : Stand) (old mid new : Coming) (sign : Sign) (b : Beside) → (Tells old → Tells mid × (told_entries s (blocks.left_of stands old.told.0) ≡ told_entries s (blocks.left_of now mid.told.0))) → Ends mid new
-    → StandsBeside (record { sign = over; bit = s.ended; ended = s.ended }) sign b → Tells old → Took stands s old sign b now new
+pub took_end : (stands now : blocks.OpenUnder) (s : Stand) (old mid new : Coming) (sign : Sign) (b : Beside) → (TellsComing old → TellsComing mid × (told_entries s (blocks.left_of stands old.told.0) ≡ told_entries s (blocks.left_of now mid.told.0))) → EndsEvents mid new
+    → StandsBeside (record { sign = over; bit = s.ended; ended = s.ended }) sign b → TellsComing old → Took stands s old sign b now new
 took_end stands now s old mid new sign b so_far stop beside tells =
     let at = so_far tells in
     let none : mid.told.0 ≡ [] = ap (λ (t : Told). t.0) (stop.told at.0).0 in
@@ -375,7 +375,7 @@ took_end stands now s old mid new sign b so_far stop beside tells =
       beside = beside;
     }
 
-pub departed : (old : Compared) (coming : Coming) (now : blocks.Standing) (sign : Sign) (bit ended : ℕ) (f : Found) → old.found ≡ None → (Tells old.first → Took old.first_blocks (here old old.first_ended) old.first sign (Other f.first f.value) now coming)
+pub departed : (old : Compared) (coming : Coming) (now : blocks.OpenUnder) (sign : Sign) (bit ended : ℕ) (f : Found) → old.found ≡ None → (TellsComing old.first → Took old.first_blocks (here old old.first_ended) old.first sign (Other f.first f.value) now coming)
     → (let s : Standing = record { bit = bit; what = what_of sign } in (standing_shown f.second ≡ s))
     → TakesSign old sign bit ended (record { first = coming; first_blocks = now; second_blocks = old.second_blocks; within = old.within; items = old.items; first_ended = old.first_ended; second_ended = old.second_ended; found = Some f })
 departed old coming now sign bit ended f none took second = record {
@@ -389,7 +389,7 @@ departed old coming now sign bit ended f none took second = record {
         within = refl;
         items = refl;
         second = ap (λ (h : Found). standing_shown h.second) (sym is) ∙ second;
-        takes = λ tells. let one = took tells in (one.found, behind_sign one.found.sign (told_entries (moved (here old old.first_ended) one.found.sign one.found.ended) (blocks.left_of now coming.told.0)), one.is, subst (λ (h : Found). IsOther one.found sign h.first h.value) is one.beside);
+        takes = λ tells. let one = took tells in (one.found, behind_sign one.found.sign (told_entries (stand_behind (here old old.first_ended) one.found.sign one.found.ended) (blocks.left_of now coming.told.0)), one.is, subst (λ (h : Found). IsOther one.found sign h.first h.value) is one.beside);
       };
 }
 
@@ -400,8 +400,8 @@ begin_signed old o kept = record {
   kept = kept;
   says = λ found p. refl;
   item = λ entries. refl;
-  ended = λ found p before. ended_inside p old.within (open_block o.id old.items) 0 o.body;
-  deep = λ found before. omega (arith, length-append old.within (open_block o.id old.items ∷ []));
+  ended = λ found p before. ended_inside p old.within (open_block_with o.id old.items) 0 o.body;
+  deep = λ found before. omega (arith, length-append old.within (open_block_with o.id old.items ∷ []));
 }
 
 pub record_signed : (old : Compared) (mark : RecordMark) → is_left old.second_blocks.setting old.second_blocks.ids (notes mark) ≡ true → IsSigned old (notes mark) (record { sign = has_record mark.code mark.values; bit = mark.first; ended = mark.after })
@@ -413,7 +413,7 @@ record_signed old mark kept = record {
   deep = λ found before. refl;
 }
 
-closed_ends : (p : ℕ) (l : List OpenBlock) (items ended : ℕ) → 0 < length l → (let s = closing l items ended in ((ended_from p s.within s.items s.ended ≡ s.ended) × (length s.within ≡ length l - 1)))
+closed_ends : (p : ℕ) (l : List OpenBlock) (items ended : ℕ) → 0 < length l → (let s = stand_behind_block l items ended in ((ended_from p s.within s.items s.ended ≡ s.ended) × (length s.within ≡ length l - 1)))
 closed_ends p [] items ended some = absurd (omega arith)
 closed_ends p (b ∷ []) items ended some = (refl, refl)
 closed_ends p (b ∷ c ∷ l) items ended some = let rest = closed_ends p (c ∷ l) items ended (omega arith) in (refl, omega (arith, rest.1))

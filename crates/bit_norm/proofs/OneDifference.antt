@@ -3,11 +3,12 @@ use Rattle.std.proofs.Common.{◌≡◌, ℕ, zero, suc, ◌⊎◌, inl, inr, Li
 use Rattle.std.specs.Prelude.{◌≢◌}
 use Rattle.bit_grammar.specs.Setting.{Setting}
 use Rattle.bit_grammar.specs.Under.{under, events_under}
-use Rattle.bit_grammar.specs.Input.{Marked, tree_of}
+use Rattle.bit_grammar.specs.Input.{tree_of}
+use Rattle.bit_grammar.specs.Terms.{Marked}
 use Rattle.bit_grammar.specs.Machine.{Event, enters, defines, notes, leaves, flat}
 use Rattle.bit_norm.specs.declared.differences.OpenBlock.{OpenBlock}
-use Rattle.bit_norm.specs.Entries.{Sign, begins, has_record, ends, over, Entry, signs_in, FirstApart, Seen, apart, behind_magic, all_entries, magics_apart, FirstDifference, in_magic, behind}
-use Rattle.bit_norm.specs.InStep.{Stand, Said, said, closing, moved, entry_of, stand_after, put_entry, told_entries}
+use Rattle.bit_norm.specs.Entries.{Sign, begins, has_record, ends, over, Entry, signs_in, FirstApart, Seen, apart_at, behind_magic, all_entries, magics_apart, FirstDifference, in_magic, behind}
+use Rattle.bit_norm.specs.InStep.{Stand, Said, said_of, stand_behind_block, stand_behind, entry_at, stand_after, put_entry, told_entries}
 use Rattle.bit_norm.proofs.Signs.{same_signs, tree_is}
 use Rattle.bit_norm.proofs.EventEntries.{entries_told}
 
@@ -37,11 +38,11 @@ one_place (a ∷ f) (b ∷ g) (c ∷ h) [] r s t u x y v w first second same oth
 -- two places where trees first differ are one
 pub one_difference : (s : Setting) (a b : Marked) (seen other : Seen) → FirstDifference s a b seen → FirstDifference s a b other → seen ≡ other
 one_difference s a b seen other (in_magic unlike is) (in_magic again so) = is ∙ sym so
-one_difference s a b seen other (in_magic unlike is) (behind same x y apart so) = absurd (unlike same)
+one_difference s a b seen other (in_magic unlike is) (behind same x y apart_at so) = absurd (unlike same)
 one_difference s a b seen other (behind same x y first is) (in_magic unlike so) = absurd (unlike same)
 one_difference s a b seen other (behind same x y first is) (behind again v w second so) =
     let place = one_place first.front first.other_front second.front second.other_front first.rest first.other_rest second.rest second.other_rest x y v w (sym first.first ∙ second.first) (sym first.second ∙ second.second) first.same second.same first.unlike second.unlike in
-    is ∙ ap (λ (e : Entry). apart e y) place.0 ∙ ap (apart v) place.1 ∙ sym so
+    is ∙ ap (λ (e : Entry). apart_at e y) place.0 ∙ ap (apart_at v) place.1 ∙ sym so
 
 -- ---- one place where they are not the same
 
@@ -92,14 +93,14 @@ sign_same over over = inl refl
 -- what follows stands where it has to, by the signs before it
 abbrev Placed : List OpenBlock → ℕ → List Entry → Type 0
 Placed within items [] = Unit {0}
-Placed within items (x ∷ rest) = (x.within ≡ within) × (x.items ≡ items) × (let s = moved (record { within = within; items = items; ended = 0 }) x.sign 0 in Placed s.within s.items rest)
+Placed within items (x ∷ rest) = (x.within ≡ within) × (x.items ≡ items) × (let s = stand_behind (record { within = within; items = items; ended = 0 }) x.sign 0 in Placed s.within s.items rest)
 
-closing_same : (l : List OpenBlock) (items ended other : ℕ) → ((closing l items ended).within ≡ (closing l items other).within) × ((closing l items ended).items ≡ (closing l items other).items)
+closing_same : (l : List OpenBlock) (items ended other : ℕ) → ((stand_behind_block l items ended).within ≡ (stand_behind_block l items other).within) × ((stand_behind_block l items ended).items ≡ (stand_behind_block l items other).items)
 closing_same [] items ended other = (refl, refl)
 closing_same (b ∷ []) items ended other = (refl, refl)
 closing_same (b ∷ c ∷ l) items ended other = let rest = closing_same (c ∷ l) items ended other in (ap (λ (w : List OpenBlock). b ∷ w) rest.0, rest.1)
 
-moved_same : (s : Stand) (sign : Sign) (ended : ℕ) → (let t = moved (record { within = s.within; items = s.items; ended = 0 }) sign 0 in (((moved s sign ended).within ≡ t.within) × ((moved s sign ended).items ≡ t.items)))
+moved_same : (s : Stand) (sign : Sign) (ended : ℕ) → (let t = stand_behind (record { within = s.within; items = s.items; ended = 0 }) sign 0 in (((stand_behind s sign ended).within ≡ t.within) × ((stand_behind s sign ended).items ≡ t.items)))
 moved_same s (begins id) ended = (refl, refl)
 moved_same s (has_record code values) ended = (refl, refl)
 moved_same s ends ended = closing_same s.within s.items ended 0
@@ -109,12 +110,12 @@ put_placed : (s : Stand) (o : Option Said) (rest : List Entry) → Placed (stand
 put_placed s None rest placed = placed
 put_placed s (Some x) rest placed =
     let same = moved_same s x.sign x.ended in
-    let t = moved (record { within = s.within; items = s.items; ended = 0 }) x.sign 0 in
-    (refl, refl, subst (λ (n : ℕ). Placed t.within n rest) same.1 (subst (λ (w : List OpenBlock). Placed w (moved s x.sign x.ended).items rest) same.0 placed))
+    let t = stand_behind (record { within = s.within; items = s.items; ended = 0 }) x.sign 0 in
+    (refl, refl, subst (λ (n : ℕ). Placed t.within n rest) same.1 (subst (λ (w : List OpenBlock). Placed w (stand_behind s x.sign x.ended).items rest) same.0 placed))
 
 told_placed : (s : Stand) (events : List Event) → Placed s.within s.items (told_entries s events)
 told_placed s [] = (refl, refl, tt)
-told_placed s (event ∷ events) = put_placed s (said s.ended event) _ (told_placed (stand_after s (said s.ended event)) events)
+told_placed s (event ∷ events) = put_placed s (said_of s.ended event) _ (told_placed (stand_after s (said_of s.ended event)) events)
 
 -- the end of the stream stands last, and nowhere else
 abbrev EndsOnce : List Entry → Type 0
@@ -126,7 +127,7 @@ more_end : (x : Entry) (rest : List Entry) → x.sign ≢ over → EndsOnce rest
 more_end x [] other once = absurd once
 more_end x (y ∷ rest) other once = (other, once)
 
-never_over : (ended : ℕ) (event : Event) (x : Said) → said ended event ≡ Some x → x.sign ≢ over
+never_over : (ended : ℕ) (event : Event) (x : Said) → said_of ended event ≡ Some x → x.sign ≢ over
 never_over ended (defines mark) x is e = absurd cc
 never_over ended (notes mark) x is e = let own : ◌≡◌ {A = Said} (record { sign = has_record mark.code mark.values; bit = mark.first; ended = mark.after }) x = cc in let sign = ap (λ (y : Said). y.sign) own ∙ e in absurd cc
 never_over ended (leaves after) x is e = let own : ◌≡◌ {A = Said} (record { sign = ends; bit = ended; ended = after }) x = cc in let sign = ap (λ (y : Said). y.sign) own ∙ e in absurd cc
@@ -134,11 +135,11 @@ never_over ended (enters o) x is e = let own : ◌≡◌ {A = Said} (record { si
 
 put_end : (s : Stand) (o : Option Said) (rest : List Entry) → ((x : Said) → o ≡ Some x → x.sign ≢ over) → EndsOnce rest → EndsOnce (put_entry s o rest)
 put_end s None rest other once = once
-put_end s (Some x) rest other once = more_end (entry_of s x) rest (other x refl) once
+put_end s (Some x) rest other once = more_end (entry_at s x) rest (other x refl) once
 
 told_end : (s : Stand) (events : List Event) → EndsOnce (told_entries s events)
 told_end s [] = refl
-told_end s (event ∷ events) = put_end s (said s.ended event) _ (never_over s.ended event) (told_end (stand_after s (said s.ended event)) events)
+told_end s (event ∷ events) = put_end s (said_of s.ended event) _ (never_over s.ended event) (told_end (stand_after s (said_of s.ended event)) events)
 
 -- one entry more with the same sign before both
 apart_more : (v w : Entry) (a b : List Entry) (x y : Entry) → v.sign ≡ w.sign → FirstApart a b x y → FirstApart (v ∷ a) (w ∷ b) x y
@@ -175,8 +176,8 @@ compared within items (v ∷ c ∷ a) (w ∷ d ∷ b) p q once again =
     elim (sign_same v.sign w.sign) [
       | inr unlike ↦ apart_here v w (c ∷ a) (d ∷ b) unlike (p.0 ∙ sym q.0) (p.1 ∙ sym q.1)
       | inl same ↦
-          let s = moved (record { within = within; items = items; ended = 0 }) v.sign 0 in
-          let q' : Placed s.within s.items (d ∷ b) = subst (λ (n : Sign). let t = moved (record { within = within; items = items; ended = 0 }) n 0 in Placed t.within t.items (d ∷ b)) (sym same) q.2 in
+          let s = stand_behind (record { within = within; items = items; ended = 0 }) v.sign 0 in
+          let q' : Placed s.within s.items (d ∷ b) = subst (λ (n : Sign). let t = stand_behind (record { within = within; items = items; ended = 0 }) n 0 in Placed t.within t.items (d ∷ b)) (sym same) q.2 in
           compare_more v w (c ∷ a) (d ∷ b) same (compared s.within s.items (c ∷ a) (d ∷ b) p.2 q' once.1 again.1)
     ]
 
@@ -197,6 +198,6 @@ some_difference s a b =
       | inr unlike ↦ inr (magics_apart a.head b.head, in_magic unlike refl)
       | inl same ↦ elim (of_marks s a b) [
         | inl e ↦ inl (tree_is s a b same ((same_signs s (behind_magic a.head) (behind_magic b.head) a.blocks b.blocks).0 e))
-        | inr is ↦ inr (apart is.0 is.1, behind same is.0 is.1 is.2 refl)
+        | inr is ↦ inr (apart_at is.0 is.1, behind same is.0 is.1 is.2 refl)
       ]
     ]

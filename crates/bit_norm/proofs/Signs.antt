@@ -3,12 +3,13 @@ use Rattle.std.proofs.Common.{◌≡◌, ℕ, suc, List, [], ◌∷◌, ◌++◌
 use Rattle.std.specs.Prelude.{◌↔◌}
 use Rattle.bit_grammar.specs.Setting.{Setting}
 use Rattle.bit_grammar.specs.Under.{items_under, under, marks_under}
-use Rattle.bit_grammar.proofs.Under.{forest_left}
+use Rattle.bit_grammar.proofs.NormalForms.Under.{forest_left}
 use Rattle.bit_grammar.specs.Forest.{Forest, Tree, empty, a_block, a_record}
-use Rattle.bit_grammar.specs.Input.{Marked, tree_of}
+use Rattle.bit_grammar.specs.Input.{tree_of}
+use Rattle.bit_grammar.specs.Terms.{Marked}
 use Rattle.bit_grammar.specs.Marks.{Marks, no_marks, marked_block, marked_record, marked_definition, forest_of}
 use Rattle.bit_norm.specs.declared.differences.OpenBlock.{OpenBlock}
-use Rattle.bit_norm.specs.Entries.{Sign, begins, has_record, ends, over, Entry, open_block, entries, signs_in}
+use Rattle.bit_norm.specs.Entries.{Sign, begins, has_record, ends, over, Entry, open_block_with, entries, signs_in}
 
 -- ---- the signs of a forest
 
@@ -74,11 +75,11 @@ signs_of-append (a_record code values rest) a b = ap (λ (s : List Sign). has_re
 signs_of_entries : (end : Sign) (within : List OpenBlock) (items ended : ℕ) (m : Marks) → signs_in (entries end within items ended m) ≡ signs_of (forest_of m) (end ∷ [])
 signs_of_entries end within items ended no_marks = refl
 signs_of_entries end within items ended (marked_block mark inner rest) =
-    let inside = entries ends (within ++ open_block mark.id items ∷ []) 0 mark.body inner in
+    let inside = entries ends (within ++ open_block_with mark.id items ∷ []) 0 mark.body inner in
     let after = entries end within (suc items) mark.after rest in
     ap (λ (s : List Sign). begins mark.id ∷ s)
     (signs_in-append inside after
-    ∙ ap (λ (s : List Sign). s ++ signs_in after) (signs_of_entries ends (within ++ open_block mark.id items ∷ []) 0 mark.body inner)
+    ∙ ap (λ (s : List Sign). s ++ signs_in after) (signs_of_entries ends (within ++ open_block_with mark.id items ∷ []) 0 mark.body inner)
     ∙ sym (signs_of-append (forest_of inner) (ends ∷ []) (signs_in after))
     ∙ ap (λ (s : List Sign). signs_of (forest_of inner) (ends ∷ s)) (signs_of_entries end within (suc items) mark.after rest))
 signs_of_entries end within items ended (marked_record mark rest) = ap (λ (s : List Sign). has_record mark.code mark.values ∷ s) (signs_of_entries end within (suc items) mark.after rest)

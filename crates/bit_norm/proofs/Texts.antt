@@ -4,10 +4,10 @@ use Rattle.std.proofs.lemmas.List.{drop_all, append-nil}
 use Rattle.bit_grammar.specs.Bits.{bits_of}
 use Rattle.bit_grammar.specs.FormatFields.{shortest}
 use Rattle.bit_grammar.specs.Forest.{Forest, empty, Tree, AreBlocks}
-use Rattle.bit_grammar.specs.Normal.{Text, put, chain, values_text, head_text, end_text, normal, normal_form}
+use Rattle.bit_grammar.specs.Normal.{Text, put, chain, values_bits, head_text, end_text, normal, normal_form}
 use Rattle.bit_grammar.specs.Size.{body_length, size_of}
-use Rattle.bit_grammar.proofs.Sizes.{body_is, form_end, size_is}
-use Rattle.bit_grammar.proofs.Texts.{head_length, body_aligned}
+use Rattle.bit_grammar.proofs.NormalForms.Sizes.{body_is, form_end, size_is}
+use Rattle.bit_grammar.proofs.NormalForms.Texts.{head_length, body_aligned}
 use Rattle.bit_fields.specs.declared.fault.Fault.{Fault}
 use Rattle.bit_fields.specs.Writer.{Writer, Wrote, Writes}
 use Rattle.bit_tree.specs.TreeView.{put_item, put_block, forest_of_items, forest_of_blocks}
@@ -21,15 +21,15 @@ use Rattle.bit_norm.proofs.Going.{Goes, goes_starts, goes_as, goes_on, goes_wron
 
 -- ---- values
 
-values_next : (vs : List ℕ) (i : ℕ) → i < length vs → values_text (drop i vs) ≡ shortest 6 (get_or vs i 0) ++ values_text (drop (i + 1) vs)
-values_next vs i h = rw add-one (ap values_text (drop-cons vs i 0 h))
+values_next : (vs : List ℕ) (i : ℕ) → i < length vs → values_bits (drop i vs) ≡ shortest 6 (get_or vs i 0) ++ values_bits (drop (i + 1) vs)
+values_next vs i h = rw add-one (ap values_bits (drop-cons vs i 0 h))
 
 -- the values from a place on are the one there and those after it
-pub next_value : (whole : List Bool) (old now : Writer) (vs : List ℕ) (i : ℕ) → i < length vs → Goes whole old (put (values_text (drop i vs))) now → Goes whole old (chain (put (shortest 6 (get_or vs i 0))) (put (values_text (drop (i + 1) vs)))) now
-next_value whole old now vs i h g = goes_as whole old (put (values_text (drop i vs))) _ now (values_next vs i h) g
+pub next_value : (whole : List Bool) (old now : Writer) (vs : List ℕ) (i : ℕ) → i < length vs → Goes whole old (put (values_bits (drop i vs))) now → Goes whole old (chain (put (shortest 6 (get_or vs i 0))) (put (values_bits (drop (i + 1) vs)))) now
+next_value whole old now vs i h g = goes_as whole old (put (values_bits (drop i vs))) _ now (values_next vs i h) g
 
-pub no_value : (vs : List ℕ) (i : ℕ) → length vs ≤ i → values_text (drop i vs) ≡ []
-no_value vs i h = ap values_text (drop_all i vs h)
+pub no_value : (vs : List ℕ) (i : ℕ) → length vs ≤ i → values_bits (drop i vs) ≡ []
+no_value vs i h = ap values_bits (drop_all i vs h)
 
 -- ---- items
 

@@ -7,11 +7,11 @@ use Rattle.bit_grammar.specs.Bits.{bits_of}
 use Rattle.bit_grammar.specs.Forest.{Forest}
 use Rattle.bit_grammar.specs.Machine.{Event, Opened, enters, notes, leaves}
 use Rattle.bit_grammar.specs.Marks.{RecordMark}
-use Rattle.bit_grammar.specs.Normal.{values_text, end_text, normal}
+use Rattle.bit_grammar.specs.Normal.{values_bits, end_text, normal}
 use Rattle.bit_grammar.specs.Size.{end_of}
 use Rattle.bit_events.specs.Gathering.{left_open}
 use Rattle.bit_norm.specs.Told.{told_at_level}
-use Rattle.bit_events.specs.Standing.{Standing}
+use Rattle.bit_events.specs.Standing.{OpenUnder}
 use Rattle.bit_norm.specs.declared.form_values.Holding.{Holding}
 use Rattle.bit_norm.specs.declared.form_values.Holding.TheVariants.{All, TooLong, Unknown}
 use Rattle.bit_norm.specs.declared.form_values.FormValues.{FormValues}
@@ -21,8 +21,8 @@ use Rattle.bit_norm.specs.declared.form_builder.FormBuilder.{FormBuilder}
 
 -- what is held of the text of values: all of it; nothing, since it is longer than the limit on bytes; or what nobody knows
 abbrev pub HoldsText : Holding → (text : List Bool) → (limit : ℕ) → List ℕ → Type 0
-HoldsText All text limit values = text ≡ values_text values
-HoldsText TooLong text limit values = limit < length (values_text values) / 8
+HoldsText All text limit values = text ≡ values_bits values
+HoldsText TooLong text limit values = limit < length (values_bits values) / 8
 HoldsText Unknown text limit values = Unit {0}
 
 -- these are the values that were taken: some in front, of whose text this much is held, and those that are held as numbers
@@ -38,36 +38,40 @@ pub record HasTaken (t : FormValues) (values : List ℕ) : Type 0 where
 
 -- The text so far, behind the magic: what stands in each open block round the innermost one, and at the top, the nearest first.
 -- Each ends where the length of the block inside it stands, which is 0 until that block ends.
-abbrev pub written : List (List Bool) → List Bool
-written [] = []
-written (s ∷ outer) = (written outer ++ s) ++ bits_of 32 0
+abbrev pub form_so_far : List (List Bool) → List Bool
+form_so_far [] = []
+form_so_far (s ∷ outer) = (form_so_far outer ++ s) ++ bits_of 32 0
 
 -- the first bit of what stands in the innermost block, or at the top behind the magic
 abbrev pub begins : List (List Bool) → ℕ
-begins outer = 32 + length (written outer)
+begins outer = 32 + length (form_so_far outer)
 
 -- a block's length in words and its body, where its items have these bits, and the body begins at bit p
-abbrev pub closed : ℕ → List Bool → List Bool
-closed p items = (let body = items ++ end_text (p + length items) in bits_of 32 (length body / 32) ++ body)
+abbrev pub length_and_body : ℕ → List Bool → List Bool
+length_and_body p items = (let body = items ++ end_text (p + length items)
+    in bits_of 32 (length body / 32) ++ body)
 
 -- the whole, where this is all that the innermost block has, and these are the items to come in those round it
-abbrev pub completed : List (List Bool) → List Bool → (ℕ → Forest) → List Bool
-completed [] full coming = full
-completed (s ∷ outer) full coming = (let now = s ++ closed (begins (s ∷ outer)) full in completed outer (now ++ normal (coming 0) (begins outer + length now)) (λ level. coming (suc level)))
+abbrev pub whole_form : List (List Bool) → List Bool → (ℕ → Forest) → List Bool
+whole_form [] full coming = full
+whole_form (s ∷ outer) full coming = (let now = s ++ length_and_body (begins (s ∷ outer)) full
+    in whole_form outer (now ++ normal (coming 0) (begins outer + length now))
+    (λ level. coming (suc level)))
 
 -- the whole, where the innermost block has this so far, and these are the items to come at each level
 abbrev pub form_with : List (List Bool) → List Bool → (ℕ → Forest) → List Bool
-form_with outer inner coming = completed outer (inner ++ normal (coming 0) (begins outer + length inner)) (λ level. coming (suc level))
+form_with outer inner coming = whole_form outer
+    (inner ++ normal (coming 0) (begins outer + length inner)) (λ level. coming (suc level))
 
 -- the words where the lengths of the open blocks stand, the outermost first
 abbrev pub holes_of : List (List Bool) → List ℕ
 holes_of [] = []
-holes_of (s ∷ outer) = holes_of outer ++ (length (written outer ++ s) / 32) ∷ []
+holes_of (s ∷ outer) = holes_of outer ++ (length (form_so_far outer ++ s) / 32) ∷ []
 
 -- each of them is a word
 abbrev pub AreWords : List (List Bool) → Type 0
 AreWords [] = Unit {0}
-AreWords (s ∷ outer) = (length (written outer ++ s) % 32 ≡ 0) × AreWords outer
+AreWords (s ∷ outer) = (length (form_so_far outer ++ s) % 32 ≡ 0) × AreWords outer
 
 -- ---- the builder
 
@@ -75,19 +79,22 @@ AreWords (s ∷ outer) = (length (written outer ++ s) % 32 ≡ 0) × AreWords ou
 pub record Builds (events : List Event) (text : List Bool) (holes : List ℕ) : Type 0 where
   pub outer : List (List Bool)
   pub inner : List Bool
-  pub is : text ≡ written outer ++ inner
+  pub is : text ≡ form_so_far outer ++ inner
   pub places : holes ≡ holes_of outer
   pub words : AreWords outer
   pub top : length outer ≡ 0 → length inner % 32 ≡ 0
-  pub whole : (following : List Event) → normal (told_at_level (events ++ following) 0) 32 ≡ form_with outer inner (told_at_level following)
+  pub whole : (following : List Event) → normal (told_at_level (events ++ following) 0) 32
+      ≡ form_with outer inner (told_at_level following)
   pub depth : length outer ≡ left_open events
 
 -- whatever follows, the normal form has more bytes than the limit
 abbrev pub PassesLimit : (limit : ℕ) → List Event → Type 0
-PassesLimit limit events = (following : List Event) → limit < end_of (told_at_level (events ++ following) 0) 32 / 8
+PassesLimit limit events = (following : List Event)
+    → limit < end_of (told_at_level (events ++ following) 0) 32 / 8
 
 -- the form of these events, as long as it doesn't pass the limit on bytes
-pub record Forms (limit : ℕ) (events : List Event) (text : List Bool) (holes : List ℕ) (long : Bool) : Type 0 where
+pub record Forms (limit : ℕ) (events : List Event) (text : List Bool) (holes : List ℕ)
+    (long : Bool) : Type 0 where
   pub builds : long ≡ false → Builds events text holes
   pub passes : long ≡ true → PassesLimit limit events
 
@@ -114,26 +121,31 @@ BuildsEnd old new =
 -- the same of a record with this code and the values that were taken, in a block that is open
 abbrev pub BuildsRecord : (code : ℕ) → FormValues → (old new : FormBuilder) → Type 0
 BuildsRecord code taken old new =
-    (done : List Event) (mark : RecordMark) → mark.code ≡ code → HasTaken taken mark.values → HasForm done old
+    (done : List Event) (mark : RecordMark) → mark.code ≡ code → HasTaken taken mark.values
+    → HasForm done old
     → old.long ≡ false → 0 < left_open done → HasForm (done ++ notes mark ∷ []) new
 
 -- whether a record with this code is left in the innermost open block
-abbrev pub record_left : Standing → (code : ℕ) → Bool
-record_left standing code = list_all (keeps standing.setting) standing.ids && keeps_record standing.setting (innermost standing.ids) code
+abbrev pub record_left : OpenUnder → (code : ℕ) → Bool
+record_left standing code = list_all (keeps standing.setting) standing.ids
+    && keeps_record standing.setting (innermost standing.ids) code
 
 -- what is left of events under the setting of a builder
-abbrev pub left : FormBuilder → List Event → List Event
-left b events = events_under b.standing.setting [] events
+abbrev pub left_events : FormBuilder → List Event → List Event
+left_events b events = events_under b.standing.setting [] events
 
 -- the form of what is left of these events was built
 pub record IsFormOf (first : FormBuilder) (events : List Event) (b : FormBuilder) : Type 0 where
   pub limits : b.limits ≡ first.limits
-  pub stands : b.long ≡ false → b.standing ≡ record { setting = first.standing.setting; ids = ids_behind events [] }
-  pub form : HasForm (left first events) b
+  pub stands : b.long ≡ false → b.standing ≡ record {
+    setting = first.standing.setting;
+    ids = ids_behind events [];
+  }
+  pub form : HasForm (left_events first events) b
 
 -- the normal form of what is left of these events, behind the magic
 abbrev pub form_of : FormBuilder → List Event → List Bool
-form_of first events = normal (told_at_level (left first events) 0) 32
+form_of first events = normal (told_at_level (left_events first events) 0) 32
 
 -- it has more bytes than the limit, the magic among them
 abbrev pub IsTooLong : FormBuilder → List Event → Type 0
@@ -142,4 +154,5 @@ IsTooLong first events = first.limits.bytes < 4 + length (form_of first events) 
 -- a text is that, which is whole words and within the limit
 abbrev pub IsWholeForm : FormBuilder → List Event → List Bool → Type 0
 IsWholeForm first events text =
-    (text ≡ form_of first events) × (length text % 32 ≡ 0) × (4 + length text / 8 ≤ first.limits.bytes)
+    (text ≡ form_of first events) × (length text % 32 ≡ 0)
+    × (4 + length text / 8 ≤ first.limits.bytes)

@@ -3,7 +3,8 @@
 use Rattle.std.specs.Prelude.{◌≡◌, ◌≢◌, ℕ, suc, ◌+◌, ◌*◌, List, [], ◌∷◌, ◌++◌, length, map, Option, Some, None, ◌==◌, if◌then◌else◌}
 use Rattle.bit_grammar.specs.Setting.{Setting}
 use Rattle.bit_grammar.specs.Under.{under, marks_under}
-use Rattle.bit_grammar.specs.Input.{Wrapper, Head, Marked, tree_of}
+use Rattle.bit_grammar.specs.Input.{tree_of}
+use Rattle.bit_grammar.specs.Terms.{Wrapper, Head, Marked}
 use Rattle.bit_grammar.specs.Marks.{Marks, no_marks, marked_block, marked_record, marked_definition}
 use Rattle.bit_fields.specs.Opening.{magic_number}
 use Rattle.bit_norm.specs.declared.differences.OpenBlock.{OpenBlock}
@@ -34,19 +35,23 @@ pub record Entry : Type 0 where
   -- where it begins, counted from the first bit of the input; of an end, where what stands before it ended
   pub bit : ℕ
 
-abbrev pub entry : List OpenBlock → ℕ → Sign → ℕ → Entry
-entry within items sign bit = record { within = within; items = items; sign = sign; bit = bit }
+abbrev pub entry_with : List OpenBlock → ℕ → Sign → ℕ → Entry
+entry_with within items sign bit = record { within = within; items = items; sign = sign; bit = bit }
 
-abbrev pub open_block : (id items : ℕ) → OpenBlock
-open_block id items = record { id = id; items = items }
+abbrev pub open_block_with : (id items : ℕ) → OpenBlock
+open_block_with id items = record { id = id; items = items }
 
 -- Items within these blocks, with what they hold, and behind them this end. So many items stand before them, and what stands
 -- before them ended at this bit. A definition is no item and ends nothing.
-abbrev pub entries : (end : Sign) → (within : List OpenBlock) → (items ended : ℕ) → Marks → List Entry
-entries end within items ended no_marks = entry within items end ended ∷ []
+abbrev pub entries : (end : Sign) → (within : List OpenBlock) → (items ended : ℕ) → Marks
+    → List Entry
+entries end within items ended no_marks = entry_with within items end ended ∷ []
 entries end within items ended (marked_block mark inner rest) =
-    entry within items (begins mark.id) mark.first ∷ (entries ends (within ++ open_block mark.id items ∷ []) 0 mark.body inner ++ entries end within (suc items) mark.after rest)
-entries end within items ended (marked_record mark rest) = entry within items (has_record mark.code mark.values) mark.first ∷ entries end within (suc items) mark.after rest
+    entry_with within items (begins mark.id) mark.first
+    ∷ (entries ends (within ++ open_block_with mark.id items ∷ []) 0 mark.body inner
+    ++ entries end within (suc items) mark.after rest)
+entries end within items ended (marked_record mark rest) = entry_with within items
+    (has_record mark.code mark.values) mark.first ∷ entries end within (suc items) mark.after rest
 entries end within items ended (marked_definition mark rest) = entries end within items ended rest
 
 -- the first byte of the stream
@@ -116,13 +121,16 @@ standing e = record { bit = e.bit; what = what_of e.sign }
 
 -- the first place, counted from this one, at which two lists have different values, and these
 abbrev pub first_unlike : ℕ → List ℕ → List ℕ → Option ValueDifference
-first_unlike index (a ∷ first) (b ∷ second) = if a == b then first_unlike (suc index) first second else Some (record { index = index; first = a; second = b })
+first_unlike index (a ∷ first) (b ∷ second) = if a
+    == b then first_unlike (suc index) first second
+    else Some (record { index = index; first = a; second = b })
 first_unlike index [] second = None
 first_unlike index (a ∷ first) [] = None
 
 -- of two records with the same code
 abbrev pub value_apart : Sign → Sign → Option ValueDifference
-value_apart (has_record code first) (has_record other second) = if code == other then first_unlike 0 first second else None
+value_apart (has_record code first) (has_record other second) = if code
+    == other then first_unlike 0 first second else None
 value_apart (has_record code first) (begins id) = None
 value_apart (has_record code first) ends = None
 value_apart (has_record code first) over = None
@@ -131,20 +139,33 @@ value_apart ends sign = None
 value_apart over sign = None
 
 -- these entries differ
-abbrev pub apart : Entry → Entry → Seen
-apart x y = record { place = at_item x.within x.items; first = standing x; second = standing y; value = value_apart x.sign y.sign }
+abbrev pub apart_at : Entry → Entry → Seen
+apart_at x y = record {
+  place = at_item x.within x.items;
+  first = standing x;
+  second = standing y;
+  value = value_apart x.sign y.sign;
+}
 
 abbrev pub magic_standing : Head → Standing
 magic_standing head = record { bit = magic_bit head; what = the_magic head.magic }
 
 -- these magics do
 abbrev pub magics_apart : Head → Head → Seen
-magics_apart a b = record { place = at_magic; first = magic_standing a; second = magic_standing b; value = None }
+magics_apart a b = record {
+  place = at_magic;
+  first = magic_standing a;
+  second = magic_standing b;
+  value = None;
+}
 
 -- where the trees of two inputs first differ under a setting: in the magics, or else in what stands behind them
 pub data FirstDifference (setting : Setting) (a b : Marked) (seen : Seen) : Type 0 where
-  in_magic : a.head.magic ≢ b.head.magic → seen ≡ magics_apart a.head b.head → FirstDifference setting a b seen
-  behind : a.head.magic ≡ b.head.magic → (x y : Entry) → FirstApart (all_entries setting a) (all_entries setting b) x y → seen ≡ apart x y → FirstDifference setting a b seen
+  in_magic : a.head.magic ≢ b.head.magic → seen ≡ magics_apart a.head b.head
+      → FirstDifference setting a b seen
+  behind : a.head.magic ≡ b.head.magic → (x y : Entry)
+      → FirstApart (all_entries setting a) (all_entries setting b) x y → seen ≡ apart_at x y
+      → FirstDifference setting a b seen
 
 -- ---- what is seen of the program's own types
 
@@ -162,7 +183,12 @@ abbrev pub standing_shown : bit.Standing → Standing
 standing_shown s = record { bit = s.bit; what = what_shown s.what }
 
 abbrev pub difference_shown : Difference → Seen
-difference_shown d = record { place = place_shown d.place; first = standing_shown d.first; second = standing_shown d.second; value = d.value }
+difference_shown d = record {
+  place = place_shown d.place;
+  first = standing_shown d.first;
+  second = standing_shown d.second;
+  value = d.value;
+}
 
 -- the first difference, or none, and then the trees are the same
 abbrev pub Differs : Setting → Marked → Marked → Option Difference → Type 0

@@ -3,17 +3,18 @@ use Rattle.std.specs.Prelude.{◌≡◌, ◌≢◌, ⊤, ℕ, zero, suc, List, [
 use Rattle.bit_grammar.specs.Setting.{Setting}
 use Rattle.bit_grammar.specs.Under.{is_left, ids_behind, events_under}
 use Rattle.bit_grammar.specs.Blocks.{Limits}
-use Rattle.bit_grammar.specs.Input.{Head, Marked, SpellsInput}
+use Rattle.bit_grammar.specs.Input.{SpellsInput}
+use Rattle.bit_grammar.specs.Terms.{Head, Marked}
 use Rattle.bit_grammar.specs.Machine.{Event, enters, defines, notes, leaves}
 use Rattle.bit_fields.specs.declared.fault.Fault.{Fault}
 use Rattle.bit_fields.specs.declared.fault.Fault.TheVariants.{Memory}
 use Rattle.bit_fields.specs.Devices.{Incoming, known_bytes}
-use Rattle.bit_events.specs.Coming.{Coming, Tells}
+use Rattle.bit_events.specs.Coming.{Coming, TellsComing}
 use Rattle.bit_events.specs.Gathering.{left_open}
 use Rattle.bit_events.specs.Standing as blocks
 use Rattle.bit_events.specs.Reading.{Spent}
 use Rattle.bit_norm.specs.Entries as tree
-use Rattle.bit_norm.specs.Entries.{begins, has_record, ends, over, Entry, entry, open_block, signs_in, FirstApart, Seen, at_item, what_of, value_apart, apart, standing_shown, difference_shown, behind_magic, magics_apart, Differs}
+use Rattle.bit_norm.specs.Entries.{begins, has_record, ends, over, Entry, entry_with, open_block_with, signs_in, FirstApart, Seen, at_item, what_of, value_apart, apart_at, standing_shown, difference_shown, behind_magic, magics_apart, Differs}
 use Rattle.bit_norm.specs.Whole.{ReadsTree}
 use Rattle.bit_norm.specs.declared.differences.OpenBlock.{OpenBlock}
 use Rattle.bit_norm.specs.declared.differences.Standing.{Standing}
@@ -46,44 +47,59 @@ pub record Said : Type 0 where
   pub ended : ℕ
 
 -- of an event, where what stands before it ended at a bit
-abbrev pub said : (ended : ℕ) → Event → Option Said
-said ended (enters o) = Some (record { sign = begins o.id; bit = o.first; ended = o.body })
-said ended (defines mark) = None
-said ended (notes mark) = Some (record { sign = has_record mark.code mark.values; bit = mark.first; ended = mark.after })
-said ended (leaves after) = Some (record { sign = ends; bit = ended; ended = after })
+abbrev pub said_of : (ended : ℕ) → Event → Option Said
+said_of ended (enters o) = Some (record { sign = begins o.id; bit = o.first; ended = o.body })
+said_of ended (defines mark) = None
+said_of ended (notes mark) = Some (record {
+  sign = has_record mark.code mark.values;
+  bit = mark.first;
+  ended = mark.after;
+})
+said_of ended (leaves after) = Some (record { sign = ends; bit = ended; ended = after })
 
 -- the same, if it is left where these blocks are open before it
-abbrev pub said_left : blocks.Standing → (ended : ℕ) → Event → Option Said
-said_left stands ended event = if is_left stands.setting stands.ids event then said ended event else None
+abbrev pub said_left : blocks.OpenUnder → (ended : ℕ) → Event → Option Said
+said_left stands ended event = if is_left stands.setting stands.ids event then said_of ended event
+    else None
 
 -- the place behind the innermost open block
-abbrev pub closing : List OpenBlock → (items ended : ℕ) → Stand
-closing [] items ended = record { within = []; items = items; ended = ended }
-closing (b ∷ []) items ended = record { within = []; items = suc b.items; ended = ended }
-closing (b ∷ c ∷ rest) items ended = (let s = closing (c ∷ rest) items ended in record { within = b ∷ s.within; items = s.items; ended = s.ended })
+abbrev pub stand_behind_block : List OpenBlock → (items ended : ℕ) → Stand
+stand_behind_block [] items ended = record { within = []; items = items; ended = ended }
+stand_behind_block (b ∷ []) items ended = record { within = []; items = suc b.items; ended = ended }
+stand_behind_block (b ∷ c ∷ rest) items ended = (let s = stand_behind_block (c ∷ rest) items ended
+    in record { within = b ∷ s.within; items = s.items; ended = s.ended })
 
 -- the place behind a sign
-abbrev pub moved : Stand → tree.Sign → (ended : ℕ) → Stand
-moved s (begins id) ended = record { within = s.within ++ open_block id s.items ∷ []; items = 0; ended = ended }
-moved s (has_record code values) ended = record { within = s.within; items = suc s.items; ended = ended }
-moved s ends ended = closing s.within s.items ended
-moved s over ended = record { within = s.within; items = s.items; ended = ended }
+abbrev pub stand_behind : Stand → tree.Sign → (ended : ℕ) → Stand
+stand_behind s (begins id) ended = record {
+  within = s.within ++ open_block_with id s.items ∷ [];
+  items = 0;
+  ended = ended;
+}
+stand_behind s (has_record code values) ended = record {
+  within = s.within;
+  items = suc s.items;
+  ended = ended;
+}
+stand_behind s ends ended = stand_behind_block s.within s.items ended
+stand_behind s over ended = record { within = s.within; items = s.items; ended = ended }
 
-abbrev pub entry_of : Stand → Said → Entry
-entry_of s x = entry s.within s.items x.sign x.bit
+abbrev pub entry_at : Stand → Said → Entry
+entry_at s x = entry_with s.within s.items x.sign x.bit
 
 abbrev pub stand_after : Stand → Option Said → Stand
 stand_after s None = s
-stand_after s (Some x) = moved s x.sign x.ended
+stand_after s (Some x) = stand_behind s x.sign x.ended
 
 abbrev pub put_entry : Stand → Option Said → List Entry → List Entry
 put_entry s None entries = entries
-put_entry s (Some x) entries = entry_of s x ∷ entries
+put_entry s (Some x) entries = entry_at s x ∷ entries
 
 -- the entries of events in order, and behind them the end of the stream
 abbrev pub told_entries : Stand → List Event → List Entry
-told_entries s [] = entry s.within s.items over s.ended ∷ []
-told_entries s (event ∷ events) = put_entry s (said s.ended event) (told_entries (stand_after s (said s.ended event)) events)
+told_entries s [] = entry_with s.within s.items over s.ended ∷ []
+told_entries s (event ∷ events) = put_entry s (said_of s.ended event)
+    (told_entries (stand_after s (said_of s.ended event)) events)
 
 -- nothing stands behind the end of the stream
 abbrev pub behind_sign : tree.Sign → List Entry → List Entry
@@ -108,7 +124,8 @@ stand_of walk ended = record { within = walk.open.items; items = walk.items; end
 -- ---- one event of the first input beside a sign of the second
 
 -- another sign than this one
-pub record IsOther (x : Said) (sign : tree.Sign) (s : Standing) (v : Option ValueDifference) : Type 0 where
+pub record IsOther (x : Said) (sign : tree.Sign) (s : Standing)
+    (v : Option ValueDifference) : Type 0 where
   pub unlike : x.sign ≢ sign
   pub first : standing_shown s ≡ record { bit = x.bit; what = what_of x.sign }
   pub value : v ≡ value_apart x.sign sign
@@ -130,18 +147,23 @@ IsBeside o sign weighed.Passed = o ≡ None
 IsBeside o sign (weighed.Stands beside) = SaysBeside o sign beside
 
 -- what an event says that is left
-abbrev pub Weighs : blocks.Standing → (ended : ℕ) → Event → tree.Sign → Weighed → Type 0
+abbrev pub Weighs : blocks.OpenUnder → (ended : ℕ) → Event → tree.Sign → Weighed → Type 0
 Weighs stands ended event sign answer = IsBeside (said_left stands ended event) sign answer
 
 -- The next entry of what is left of the events to come, or the end of the stream, was taken, and this is how it is beside a sign.
-pub record Took (stands : blocks.Standing) (s : Stand) (old : Coming) (sign : tree.Sign) (b : Beside) (now : blocks.Standing) (new : Coming) : Type 0 where
-  pub tells : Tells new
+pub record Took (stands : blocks.OpenUnder) (s : Stand) (old : Coming) (sign : tree.Sign)
+    (b : Beside) (now : blocks.OpenUnder) (new : Coming) : Type 0 where
+  pub tells : TellsComing new
   pub found : Said
-  pub is : told_entries s (blocks.left_of stands old.told.0) ≡ entry_of s found ∷ behind_sign found.sign (told_entries (moved s found.sign found.ended) (blocks.left_of now new.told.0))
+  pub is : told_entries s (blocks.left_of stands old.told.0)
+      ≡ entry_at s found ∷ behind_sign found.sign
+      (told_entries (stand_behind s found.sign found.ended) (blocks.left_of now new.told.0))
   pub beside : StandsBeside found sign b
 
-abbrev pub Meets : blocks.Standing → Stand → Coming → tree.Sign → Result Beside Fault → blocks.Standing → Coming → Type 0
-Meets stands s old sign (Ok beside) now new = Tells old → Took stands s old sign beside now new
+abbrev pub Meets : blocks.OpenUnder → Stand → Coming → tree.Sign → Result Beside Fault
+    → blocks.OpenUnder → Coming → Type 0
+Meets stands s old sign (Ok beside) now new = TellsComing old
+    → Took stands s old sign beside now new
 Meets stands s old sign (Err fault) now new = ⊤
 
 -- ---- the comparison
@@ -150,8 +172,8 @@ Meets stands s old sign (Err fault) now new = ⊤
 -- stands there before ended in each, and the difference that was found.
 pub record Compared : Type 0 where
   pub first : Coming
-  pub first_blocks : blocks.Standing
-  pub second_blocks : blocks.Standing
+  pub first_blocks : blocks.OpenUnder
+  pub second_blocks : blocks.OpenUnder
   pub within : List OpenBlock
   pub items : ℕ
   pub first_ended : ℕ
@@ -162,8 +184,9 @@ abbrev pub here : Compared → (ended : ℕ) → Stand
 here c ended = record { within = c.within; items = c.items; ended = ended }
 
 -- what is left of the first
-abbrev pub left : Compared → List Entry
-left c = told_entries (here c c.first_ended) (blocks.left_of c.first_blocks c.first.told.0)
+abbrev pub entries_of_first : Compared → List Entry
+entries_of_first c = told_entries (here c c.first_ended)
+    (blocks.left_of c.first_blocks c.first.told.0)
 
 -- where what stands before a place ended: before all items at the top, that is the magic
 abbrev pub ended_from : (behind_magic : ℕ) → List OpenBlock → (items ended : ℕ) → ℕ
@@ -175,29 +198,41 @@ abbrev pub second_end : (behind_magic : ℕ) → Compared → ℕ
 second_end behind_magic c = ended_from behind_magic c.within c.items c.second_ended
 
 -- what these events tell of the second, whose magic ends at this bit
-abbrev pub right : (behind_magic : ℕ) → Compared → List Event → List Entry
-right behind_magic c events = told_entries (here c (second_end behind_magic c)) (blocks.left_of c.second_blocks events)
+abbrev pub entries_of_second : (behind_magic : ℕ) → Compared → List Event → List Entry
+entries_of_second behind_magic c events = told_entries (here c (second_end behind_magic c))
+    (blocks.left_of c.second_blocks events)
 
 abbrev pub seen_of : Compared → Found → Seen
-seen_of c f = record { place = at_item c.within c.items; first = standing_shown f.first; second = standing_shown f.second; value = f.value }
+seen_of c f = record {
+  place = at_item c.within c.items;
+  first = standing_shown f.first;
+  second = standing_shown f.second;
+  value = f.value;
+}
 
 -- the next entry of the first has this sign too
 pub record Agrees (old : Compared) (sign : tree.Sign) (ended : ℕ) (new : Compared) : Type 0 where
-  pub moves : (before : ℕ) → here new new.second_ended ≡ moved (here old before) sign ended
-  pub takes : Tells old.first → (x : Said) × (x.sign ≡ sign) × (left old ≡ entry_of (here old old.first_ended) x ∷ behind_sign sign (left new))
+  pub moves : (before : ℕ) → here new new.second_ended ≡ stand_behind (here old before) sign ended
+  pub takes : TellsComing old.first → (x : Said) × (x.sign ≡ sign)
+      × (entries_of_first old ≡ entry_at (here old old.first_ended) x
+      ∷ behind_sign sign (entries_of_first new))
 
 -- it has another one
-pub record Departs (old : Compared) (sign : tree.Sign) (bit : ℕ) (f : Found) (new : Compared) : Type 0 where
+pub record Departs (old : Compared) (sign : tree.Sign) (bit : ℕ) (f : Found)
+    (new : Compared) : Type 0 where
   pub within : new.within ≡ old.within
   pub items : new.items ≡ old.items
   pub second : standing_shown f.second ≡ record { bit = bit; what = what_of sign }
-  pub takes : Tells old.first → (x : Said) × (rest : List Entry) × (left old ≡ entry_of (here old old.first_ended) x ∷ rest) × IsOther x sign f.first f.value
+  pub takes : TellsComing old.first → (x : Said) × (rest : List Entry)
+      × (entries_of_first old ≡ entry_at (here old old.first_ended) x ∷ rest)
+      × IsOther x sign f.first f.value
 
 -- A sign of the second, which begins and ends at these bits, was held against the next entry of the first, unless a difference
 -- was found before.
-pub record TakesSign (old : Compared) (sign : tree.Sign) (bit ended : ℕ) (new : Compared) : Type 0 where
+pub record TakesSign (old : Compared) (sign : tree.Sign) (bit ended : ℕ)
+    (new : Compared) : Type 0 where
   pub second_blocks : new.second_blocks ≡ old.second_blocks
-  pub tells : Tells old.first → Tells new.first
+  pub tells : TellsComing old.first → TellsComing new.first
   pub stays : (f : Found) → old.found ≡ Some f → new ≡ old
   pub same : old.found ≡ None → new.found ≡ None → Agrees old sign ended new
   pub other : old.found ≡ None → (f : Found) → new.found ≡ Some f → Departs old sign bit f new
@@ -212,35 +247,52 @@ pub record Alike (a b left_of_a left_of_b : List Entry) : Type 0 where
 
 -- this is seen where they first differ
 abbrev pub ApartAt : List Entry → List Entry → Seen → Type 0
-ApartAt a b seen = (x y : Entry) × FirstApart a b x y × (seen ≡ apart x y)
+ApartAt a b seen = (x y : Entry) × FirstApart a b x y × (seen ≡ apart_at x y)
 
 -- Of the second input these events came. Where no difference was found, what all events tell, whatever follows, and what is told
 -- of the first begin with the same signs. Where one was found it is their first.
 pub record Tallied (begun : Compared) (events : List Event) (last : Compared) : Type 0 where
-  pub stands : last.second_blocks ≡ record { setting = begun.second_blocks.setting; ids = ids_behind events [] }
-  pub tells : Tells begun.first → Tells last.first
-  pub depth : last.found ≡ None → length last.within ≡ left_open (events_under begun.second_blocks.setting [] events)
-  pub alike : Tells begun.first → last.found ≡ None → (behind_magic : ℕ) (following : List Event) → Alike (left begun) (right behind_magic begun (events ++ following)) (left last) (right behind_magic last following)
-  pub apart : Tells begun.first → (f : Found) → last.found ≡ Some f → (behind_magic : ℕ) (following : List Event) → ApartAt (left begun) (right behind_magic begun (events ++ following)) (seen_of last f)
+  pub stands : last.second_blocks ≡ record {
+    setting = begun.second_blocks.setting;
+    ids = ids_behind events [];
+  }
+  pub tells : TellsComing begun.first → TellsComing last.first
+  pub depth : last.found ≡ None → length last.within
+      ≡ left_open (events_under begun.second_blocks.setting [] events)
+  pub alike : TellsComing begun.first → last.found ≡ None
+      → (behind_magic : ℕ) (following : List Event)
+      → Alike (entries_of_first begun) (entries_of_second behind_magic begun (events ++ following))
+      (entries_of_first last) (entries_of_second behind_magic last following)
+  pub apart : TellsComing begun.first → (f : Found) → last.found ≡ Some f
+      → (behind_magic : ℕ) (following : List Event)
+      → ApartAt (entries_of_first begun) (entries_of_second behind_magic begun
+      (events ++ following)) (seen_of last f)
 
 -- the answer is the difference that was found, if one was
-abbrev pub Answers : Compared → Option Difference → Type 0
-Answers c None = c.found ≡ None
-Answers c (Some difference) = (f : Found) × (c.found ≡ Some f) × (difference_shown difference ≡ seen_of c f)
+abbrev pub AnswersFound : Compared → Option Difference → Type 0
+AnswersFound c None = c.found ≡ None
+AnswersFound c (Some difference) = (f : Found) × (c.found ≡ Some f)
+    × (difference_shown difference ≡ seen_of c f)
 
 -- the end of the second, whose magic ends at this bit, was held against the first as well
 abbrev pub Finishes : (behind_magic : ℕ) → Compared → Option Difference → Type 0
-Finishes behind_magic c answer = (let bit = second_end behind_magic c in (last : Compared) × TakesSign c over bit bit last × Answers last answer)
+Finishes behind_magic c answer = (let bit = second_end behind_magic c in (last : Compared)
+    × TakesSign c over bit bit last × AnswersFound last answer)
 
 -- the answer of two inputs with these heads: that their magics differ, or else what the comparison ends with
 pub data Concludes (first second : Head) (c : Compared) (answer : Option Difference) : Type 0 where
-  other_magic : first.magic ≢ second.magic → (difference : Difference) → answer ≡ Some difference → difference_shown difference ≡ magics_apart first second → Concludes first second c answer
-  same_magic : first.magic ≡ second.magic → Finishes (behind_magic second) c answer → Concludes first second c answer
+  other_magic : first.magic ≢ second.magic → (difference : Difference) → answer ≡ Some difference
+      → difference_shown difference ≡ magics_apart first second → Concludes first second c answer
+  same_magic : first.magic ≡ second.magic → Finishes (behind_magic second) c answer
+      → Concludes first second c answer
 
 -- an input was read, and has a marked tree, if it is known, and the answer says where its tree and that of the other bytes differ
-abbrev pub ReadBeside : Setting → Limits → (bytes : List ℕ) → Incoming → Option Difference → Incoming → Type 0
+abbrev pub ReadBeside : Setting → Limits → (bytes : List ℕ) → Incoming → Option Difference
+    → Incoming → Type 0
 ReadBeside setting limits bytes j answer later =
-    Spent limits j later × (IsSome j.to_come → (m : Marked) × SpellsInput limits (known_bytes j.to_come) m × (known_bytes later.to_come ≡ []) × ((other : Marked) → SpellsInput limits bytes other → Differs setting other m answer))
+    Spent limits j later × (IsSome j.to_come → (m : Marked)
+    × SpellsInput limits (known_bytes j.to_come) m × (known_bytes later.to_come ≡ [])
+    × ((other : Marked) → SpellsInput limits bytes other → Differs setting other m answer))
 
 -- why it was not: before it was asked for anything memory was refused, or it was not read
 abbrev pub NotRead : Setting → Limits → Which → Fault → Incoming → Incoming → Type 0
@@ -248,6 +300,8 @@ NotRead setting limits First fault j later = (fault ≡ Memory) × (later ≡ j)
 NotRead setting limits Second fault j later = ReadsTree setting limits j (Err fault) later
 
 -- what reading an input in step with bytes does
-abbrev pub ComparesWith : Setting → Limits → (bytes : List ℕ) → Incoming → Result (Option Difference) SameFault → Incoming → Type 0
-ComparesWith setting limits bytes j (Ok answer) later = ReadBeside setting limits bytes j answer later
+abbrev pub ComparesWith : Setting → Limits → (bytes : List ℕ) → Incoming
+    → Result (Option Difference) SameFault → Incoming → Type 0
+ComparesWith setting limits bytes j (Ok answer) later = ReadBeside setting limits bytes j answer
+    later
 ComparesWith setting limits bytes j (Err e) later = NotRead setting limits e.which e.fault j later

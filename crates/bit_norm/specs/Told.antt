@@ -7,7 +7,8 @@ use Rattle.bit_grammar.specs.Machine.{Event, enters, defines, notes, leaves}
 -- round it (level 1), and so on
 abbrev pub told_at_level : List Event → (level : ℕ) → Forest
 told_at_level [] level = empty
-told_at_level (enters opened ∷ events) zero = a_block opened.id (told_at_level events 0) (told_at_level events 1)
+told_at_level (enters opened ∷ events) zero = a_block opened.id (told_at_level events 0)
+    (told_at_level events 1)
 told_at_level (enters opened ∷ events) (suc level) = told_at_level events (suc (suc level))
 told_at_level (defines mark ∷ events) level = told_at_level events level
 told_at_level (notes mark ∷ events) zero = a_record mark.code mark.values (told_at_level events 0)

@@ -7,7 +7,8 @@ use Rattle.bit_fields.specs.declared.fault.Fault.{Fault}
 use Rattle.bit_fields.specs.declared.fault.Fault.TheVariants.{Refused, Read, Write, Memory, OutputTooLong, Failed}
 use Rattle.bit_fields.specs.Devices.{Incoming, Outgoing}
 use Rattle.bit_events.specs.Reading.{ReadsWhole}
-use Rattle.bit_grammar.specs.Input.{Marked, SpellsInput}
+use Rattle.bit_grammar.specs.Input.{SpellsInput}
+use Rattle.bit_grammar.specs.Terms.{Marked}
 use Rattle.bit_tree.specs.Reading.{HasFit}
 use Rattle.bit_norm.specs.Entries.{Differs}
 use Rattle.bit_norm.specs.declared.differences.Difference.{Difference}
@@ -24,22 +25,32 @@ ReadsTree setting limits = ReadsWhole (HasFit setting limits) limits
 -- ---- normal forms
 
 -- an input was read as a tree, and this was done with the normal form of it
-abbrev pub ReadsAndWrites : Setting → Limits → Incoming → Outgoing → Result ℕ Fault → Incoming → Outgoing → Type 0
-ReadsAndWrites setting limits i old answer now new = (tree : Tree) × ReadsTree setting limits i (Ok tree) now × WritesForm tree limits.bytes old answer new
+abbrev pub ReadsAndWrites : Setting → Limits → Incoming → Outgoing → Result ℕ Fault → Incoming
+    → Outgoing → Type 0
+ReadsAndWrites setting limits i old answer now new = (tree : Tree)
+    × ReadsTree setting limits i (Ok tree) now × WritesForm tree limits.bytes old answer new
 
 -- an input was not read, and nothing was written
-abbrev pub WritesNothing : Setting → Limits → Incoming → Outgoing → Fault → Incoming → Outgoing → Type 0
-WritesNothing setting limits i old fault now new = ReadsTree setting limits i (Err fault) now × (new ≡ old)
+abbrev pub WritesNothing : Setting → Limits → Incoming → Outgoing → Fault → Incoming → Outgoing
+    → Type 0
+WritesNothing setting limits i old fault now new = ReadsTree setting limits i (Err fault) now
+    × (new ≡ old)
 
 -- The sink took the normal form of the tree that the input has, and the answer is the number of bytes; or a front of it; or
 -- nothing, since it has more bytes than the limit; or the input was not read, and the sink took nothing.
-abbrev pub Normalises : Setting → Limits → Incoming → Outgoing → Result ℕ Fault → Incoming → Outgoing → Type 0
-Normalises setting limits i old (Ok count) now new = ReadsAndWrites setting limits i old (Ok count) now new
-Normalises setting limits i old (Err Write) now new = ReadsAndWrites setting limits i old (Err Write) now new
-Normalises setting limits i old (Err OutputTooLong) now new = ReadsAndWrites setting limits i old (Err OutputTooLong) now new
-Normalises setting limits i old (Err (Refused reason bit)) now new = WritesNothing setting limits i old (Refused reason bit) now new
+abbrev pub Normalises : Setting → Limits → Incoming → Outgoing → Result ℕ Fault → Incoming
+    → Outgoing → Type 0
+Normalises setting limits i old (Ok count) now new = ReadsAndWrites setting limits i old (Ok count)
+    now new
+Normalises setting limits i old (Err Write) now new = ReadsAndWrites setting limits i old
+    (Err Write) now new
+Normalises setting limits i old (Err OutputTooLong) now new = ReadsAndWrites setting limits i old
+    (Err OutputTooLong) now new
+Normalises setting limits i old (Err (Refused reason bit)) now new = WritesNothing setting limits i
+    old (Refused reason bit) now new
 Normalises setting limits i old (Err Read) now new = WritesNothing setting limits i old Read now new
-Normalises setting limits i old (Err Memory) now new = WritesNothing setting limits i old Memory now new
+Normalises setting limits i old (Err Memory) now new = WritesNothing setting limits i old Memory now
+    new
 Normalises setting limits i old (Err Failed) now new = ⊥
 
 -- ---- two inputs
@@ -51,22 +62,33 @@ which_text Second = codes "second"
 
 -- an input that was not read: the first, and the second was asked for nothing; or the second, after the first
 abbrev pub Misreads : Setting → Limits → Which → Fault → (i j now later : Incoming) → Type 0
-Misreads setting limits First fault i j now later = ReadsTree setting limits i (Err fault) now × (later ≡ j)
-Misreads setting limits Second fault i j now later = (a : Tree) × ReadsTree setting limits i (Ok a) now × ReadsTree setting limits j (Err fault) later
+Misreads setting limits First fault i j now later = ReadsTree setting limits i (Err fault) now
+    × (later ≡ j)
+Misreads setting limits Second fault i j now later = (a : Tree)
+    × ReadsTree setting limits i (Ok a) now × ReadsTree setting limits j (Err fault) later
 
 -- Both inputs were read, and the answer says whether their trees are the same; or one was not.
-abbrev pub Compares : Setting → Limits → (i j : Incoming) → Result Bool SameFault → (now later : Incoming) → Type 0
-Compares setting limits i j (Ok answer) now later = (a : Tree) × (b : Tree) × ReadsTree setting limits i (Ok a) now × ReadsTree setting limits j (Ok b) later × (IsTrue answer ↔ (a ≡ b))
-Compares setting limits i j (Err e) now later = Misreads setting limits e.which e.fault i j now later
+abbrev pub Compares : Setting → Limits → (i j : Incoming) → Result Bool SameFault
+    → (now later : Incoming) → Type 0
+Compares setting limits i j (Ok answer) now later = (a : Tree) × (b : Tree)
+    × ReadsTree setting limits i (Ok a) now × ReadsTree setting limits j (Ok b) later
+    × (IsTrue answer ↔ (a ≡ b))
+Compares setting limits i j (Err e) now later = Misreads setting limits e.which e.fault i j now
+    later
 
 -- an input was read as its marked tree
 abbrev pub ReadsMarked : Limits → Incoming → Marked → Incoming → Type 0
-ReadsMarked limits i m now = ReadsWhole (λ (bytes : List ℕ) (m : Marked). SpellsInput limits bytes m) limits i (Ok m) now
+ReadsMarked limits i m now = ReadsWhole (λ (bytes : List ℕ) (m : Marked). SpellsInput limits bytes
+    m) limits i (Ok m) now
 
 -- Both inputs were read, and the answer says where their trees first differ, if they do and are known; or one was not.
-abbrev pub FindsDifference : Setting → Limits → (i j : Incoming) → Result (Option Difference) SameFault → (now later : Incoming) → Type 0
-FindsDifference setting limits i j (Ok answer) now later = (a b : Marked) × ReadsMarked limits i a now × ReadsMarked limits j b later × (IsSome i.to_come → IsSome j.to_come → Differs setting a b answer)
-FindsDifference setting limits i j (Err e) now later = Misreads setting limits e.which e.fault i j now later
+abbrev pub FindsDifference : Setting → Limits → (i j : Incoming)
+    → Result (Option Difference) SameFault → (now later : Incoming) → Type 0
+FindsDifference setting limits i j (Ok answer) now later = (a b : Marked)
+    × ReadsMarked limits i a now × ReadsMarked limits j b later
+    × (IsSome i.to_come → IsSome j.to_come → Differs setting a b answer)
+FindsDifference setting limits i j (Err e) now later = Misreads setting limits e.which e.fault i j
+    now later
 
 -- the answer to whether there is no difference, or the same fault
 abbrev pub SaysNone : Result (Option Difference) SameFault → Result Bool SameFault → Type 0
@@ -79,9 +101,13 @@ abbrev pub source_of : List ℕ → Incoming
 source_of bytes = record { to_come = Some bytes; pulls = 0; failures = 0; accounts = [] }
 
 -- the same of such a source, which never failed, and another one
-abbrev pub FindsInBytes : Setting → Limits → (bytes : List ℕ) → (j : Incoming) → Result (Option Difference) SameFault → (later : Incoming) → Type 0
-FindsInBytes setting limits bytes j answer later = (now : Incoming) × (now.failures ≡ 0) × FindsDifference setting limits (source_of bytes) j answer now later
+abbrev pub FindsInBytes : Setting → Limits → (bytes : List ℕ) → (j : Incoming)
+    → Result (Option Difference) SameFault → (later : Incoming) → Type 0
+FindsInBytes setting limits bytes j answer later = (now : Incoming) × (now.failures ≡ 0)
+    × FindsDifference setting limits (source_of bytes) j answer now later
 
 -- such a source, which never failed, and another one were compared
-abbrev pub ComparesBytes : Setting → Limits → (bytes : List ℕ) → (j : Incoming) → Result Bool SameFault → (later : Incoming) → Type 0
-ComparesBytes setting limits bytes j answer later = (now : Incoming) × (now.failures ≡ 0) × Compares setting limits (source_of bytes) j answer now later
+abbrev pub ComparesBytes : Setting → Limits → (bytes : List ℕ) → (j : Incoming)
+    → Result Bool SameFault → (later : Incoming) → Type 0
+ComparesBytes setting limits bytes j answer later = (now : Incoming) × (now.failures ≡ 0)
+    × Compares setting limits (source_of bytes) j answer now later

@@ -13,8 +13,8 @@ use Rattle.bit_fields.specs.declared.fault.Fault.TheVariants.{Refused, Read, Wri
 -- ---- parts of a normal form
 
 -- what stands in a record before its values
-abbrev pub record_head : (code count : ℕ) → List Bool
-record_head code count = bits_of 2 3 ++ (shortest 6 code ++ shortest 6 count)
+abbrev pub record_front : (code count : ℕ) → List Bool
+record_front code count = bits_of 2 3 ++ (shortest 6 code ++ shortest 6 count)
 
 -- a record
 abbrev pub record_text : (code : ℕ) → List ℕ → Text
@@ -25,8 +25,9 @@ abbrev pub whole_block : (id : ℕ) → Forest → Text
 whole_block id inner = chain (put (bits_of 2 1)) (block_text id (chain (normal inner) end_text))
 
 -- what stands in a block before its length
-abbrev pub open_text : (id : ℕ) → Text
-open_text id = chain (put (bits_of 2 1)) (chain (put (shortest 8 id)) (chain (put (shortest 4 2)) padding))
+abbrev pub enter_text : (id : ℕ) → Text
+enter_text id = chain (put (bits_of 2 1)) (chain (put (shortest 8 id))
+    (chain (put (shortest 4 2)) padding))
 
 -- a writer has not failed, and what it is to write ends so early that the words of each block fit 32 bits
 pub record HasRoom (w : Writer) (bits : List Bool) : Type 0 where
@@ -36,22 +37,27 @@ pub record HasRoom (w : Writer) (bits : List Bool) : Type 0 where
 -- ---- the whole
 
 -- a sink took bytes with these bits, and nothing else
-pub record Gained (bits : List Bool) (old new : Outgoing) : Type 0 where
+pub record GainedBits (bits : List Bool) (old new : Outgoing) : Type 0 where
   pub failures : new.failures ≡ old.failures
   pub tells : IsSome old.bytes → IsSome new.bytes
-  pub bytes : IsSome old.bytes → (more : List ℕ) × (known_bytes new.bytes ≡ known_bytes old.bytes ++ more) × (bits_of_bytes more ≡ bits)
+  pub bytes : IsSome old.bytes → (more : List ℕ)
+      × (known_bytes new.bytes ≡ known_bytes old.bytes ++ more) × (bits_of_bytes more ≡ bits)
 
 -- a sink failed, or was worn: it took a front of the bytes with these bits, and nothing else
 pub record GainedFront (bits : List Bool) (old new : Outgoing) : Type 0 where
   pub why : (old.failures < new.failures) ⊎ IsSpent old
   pub tells : IsSome old.bytes → IsSome new.bytes
-  pub bytes : IsSome old.bytes → (more : List ℕ) × (rest : List Bool) × (known_bytes new.bytes ≡ known_bytes old.bytes ++ more) × (bits_of_bytes more ++ rest ≡ bits)
+  pub bytes : IsSome old.bytes → (more : List ℕ) × (rest : List Bool)
+      × (known_bytes new.bytes ≡ known_bytes old.bytes ++ more)
+      × (bits_of_bytes more ++ rest ≡ bits)
 
 -- A sink took the normal form of a tree, and the answer is the number of bytes; or a front of it; or nothing, since it has
 -- more bytes than the limit.
 abbrev pub WritesForm : Tree → (limit : ℕ) → Outgoing → Result ℕ Fault → Outgoing → Type 0
-WritesForm tree limit old (Ok count) new = (size_of tree ≤ limit) × (count ≡ size_of tree) × Gained (normal_form tree) old new
-WritesForm tree limit old (Err Write) new = (size_of tree ≤ limit) × GainedFront (normal_form tree) old new
+WritesForm tree limit old (Ok count) new = (size_of tree ≤ limit) × (count ≡ size_of tree)
+    × GainedBits (normal_form tree) old new
+WritesForm tree limit old (Err Write) new = (size_of tree ≤ limit)
+    × GainedFront (normal_form tree) old new
 WritesForm tree limit old (Err OutputTooLong) new = (limit < size_of tree) × (new ≡ old)
 WritesForm tree limit old (Err (Refused reason bit)) new = ⊥
 WritesForm tree limit old (Err Read) new = ⊥

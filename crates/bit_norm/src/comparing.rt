@@ -60,7 +60,8 @@ pub fn first_difference<A: Source, B: Source>(
     limits: Limits,
     info: Info<'_>,
 ) -> (Result<Option<Difference>, SameFault>, A, B)
-    ensures { FindsDifference (setting_of info.entry) limits (A.incoming a) (B.incoming b) result.0 (A.incoming result.1) (B.incoming result.2) }
+    ensures { FindsDifference (setting_of info.entry) limits (A.incoming a) (B.incoming b) result.0
+        (A.incoming result.1) (B.incoming result.2) }
 {
     // Trees are fit since limits are within their caps.
     let _bytes = limits.bytes();
@@ -81,7 +82,8 @@ pub fn first_difference_from<B: Source>(
     limits: Limits,
     info: Info<'_>,
 ) -> (Result<Option<Difference>, SameFault>, B)
-    ensures { FindsInBytes (setting_of info.entry) limits first.now (B.incoming b) result.0 (B.incoming result.1) }
+    ensures { FindsInBytes (setting_of info.entry) limits first.now (B.incoming b) result.0
+        (B.incoming result.1) }
 {
     // Trees are fit since limits are within their caps.
     let _bytes = limits.bytes();
@@ -107,7 +109,8 @@ pub fn same<A: Source, B: Source>(
     limits: Limits,
     info: Info<'_>,
 ) -> (Result<bool, SameFault>, A, B)
-    ensures { Compares (setting_of info.entry) limits (A.incoming a) (B.incoming b) result.0 (A.incoming result.1) (B.incoming result.2) }
+    ensures { Compares (setting_of info.entry) limits (A.incoming a) (B.incoming b) result.0
+        (A.incoming result.1) (B.incoming result.2) }
 {
     // Trees are fit since limits are within their caps.
     let _bytes = limits.bytes();
@@ -123,7 +126,8 @@ pub fn same_as<B: Source>(
     limits: Limits,
     info: Info<'_>,
 ) -> (Result<bool, SameFault>, B)
-    ensures { ComparesBytes (setting_of info.entry) limits first.now (B.incoming b) result.0 (B.incoming result.1) }
+    ensures { ComparesBytes (setting_of info.entry) limits first.now (B.incoming b) result.0
+        (B.incoming result.1) }
 {
     // Trees are fit since limits are within their caps.
     let _bytes = limits.bytes();

@@ -1,12 +1,12 @@
 ghost use Rattle.std.specs.Prelude.{◌≡◌, ◌+◌, ◌*◌, ◌/◌, ◌%◌, ◌^◌, ◌<◌, ◌≤◌, ℕ, List, [], ◌∷◌, ◌++◌, length, true, false, IfSome, MatchOption, OnOk};
 ghost use Rattle.bit_grammar.specs.Machine.{Event};
 ghost use Rattle.bit_grammar.specs.Setting.{setting_of};
-ghost use Rattle.bit_grammar.specs.Normal.{most_bytes, values_text, end_text};
+ghost use Rattle.bit_grammar.specs.Normal.{most_bytes, values_bits, end_text};
 ghost use Rattle.bit_events.specs.Gathering.{left_open};
 ghost use Rattle.bit_fields.specs.Texts.{with_word};
 ghost use Rattle.bit_events.specs.MachineView.{TookSome};
 ghost use Rattle.bit_norm.specs.Building.{HasTaken, record_left, IsFormOf, StaysAs, BuildsBlock, BuildsEnd, BuildsRecord, IsTooLong, IsWholeForm};
-ghost use Rattle.bit_norm.specs.Writing.{record_head, record_text, open_text};
+ghost use Rattle.bit_norm.specs.Writing.{record_front, record_text, enter_text};
 
 use crate::form_values::{FormValues, is_long};
 use bit_abbrev::Abbrev;
@@ -18,7 +18,7 @@ use std::alloc::{AllocError, Global};
 /// Adds what stands in a block before its length.
 fn add_head(text: &mut BitText, id: u32) -> Result<(), AllocError>
     requires { length text.old < 2 ^ 38 }
-    ensures { OnOk result (text.new ≡ text.old ++ open_text id (length text.old)) }
+    ensures { OnOk result (text.new ≡ text.old ++ enter_text id (length text.old)) }
 {
     text.fixed(2, 1)?;
     text.vbr(8, u64::from(id))?;
@@ -30,7 +30,9 @@ fn add_head(text: &mut BitText, id: u32) -> Result<(), AllocError>
 fn close_block(text: &mut BitText, hole: u64) -> Result<(), AllocError>
     requires few { length text.old / 8 ≤ most_bytes }
     requires there { 32 * hole + 32 ≤ length text.old }
-    ensures { OnOk result ((words : ℕ) → 32 * (hole + 1 + words) ≡ length text.old + length (end_text (length text.old)) → text.new ≡ with_word hole words (text.old ++ end_text (length text.old))) }
+    ensures { OnOk result ((words : ℕ) → 32 * (hole + 1 + words)
+        ≡ length text.old + length (end_text (length text.old))
+        → text.new ≡ with_word hole words (text.old ++ end_text (length text.old))) }
 {
     text.fixed(2, 0)?;
     text.pad()?;
@@ -41,7 +43,7 @@ fn close_block(text: &mut BitText, hole: u64) -> Result<(), AllocError>
 /// Adds what stands in a record before its values, field by field.
 fn add_long_head(text: &mut BitText, code: u64, count: u64) -> Result<(), AllocError>
     requires { length text.old < 2 ^ 38 }
-    ensures ok { OnOk result (text.new ≡ text.old ++ record_head code count) }
+    ensures ok { OnOk result (text.new ≡ text.old ++ record_front code count) }
     ensures few { OnOk result (length text.new ≤ length text.old + 4098) }
 {
     text.fixed(2, 3)?;
@@ -53,7 +55,7 @@ fn add_long_head(text: &mut BitText, code: u64, count: u64) -> Result<(), AllocE
 #[inline(always)]
 fn add_record_head(text: &mut BitText, code: u64, count: u64) -> Result<(), AllocError>
     requires { length text.old < 2 ^ 38 }
-    ensures ok { OnOk result (text.new ≡ text.old ++ record_head code count) }
+    ensures ok { OnOk result (text.new ≡ text.old ++ record_front code count) }
     ensures few { OnOk result (length text.new ≤ length text.old + 4098) }
 {
     if code < 32 && count < 32 {
@@ -82,7 +84,8 @@ fn add_record(
 ) -> Result<(), AllocError>
     requires few { length text.old < 2 ^ 38 }
     requires short { length values.old < 2 ^ 38 }
-    ensures { OnOk result ((list : List ℕ) → count ≡ length list → values.old ≡ values_text list → text.new ≡ text.old ++ record_text code list (length text.old)) }
+    ensures { OnOk result ((list : List ℕ) → count ≡ length list → values.old ≡ values_bits list
+        → text.new ≡ text.old ++ record_text code list (length text.old)) }
 {
     add_record_head(text, code, count)?;
     text.append(values)
@@ -131,7 +134,8 @@ impl<'a> FormBuilder<'a> {
 
     /// The text, or `None` where the form is longer than the limit on bytes.
     pub(crate) fn finish(self) -> Option<BitText>
-        ensures form { (first : FormBuilder) (events : List Event) → IsFormOf first events self.entry → left_open events ≡ 0
+        ensures form { (first : FormBuilder) (events : List Event)
+            → IsFormOf first events self.entry → left_open events ≡ 0
             → MatchOption result (IsTooLong first events) (IsWholeForm first events) }
         ensures capped { IfSome result (λ text. length text < 2 ^ 38) }
     {
@@ -155,7 +159,8 @@ impl<'a> FormBuilder<'a> {
     /// Whether nothing is done for a record with this code, since it is left out, or the form is too long.
     #[inline(always)]
     fn is_idle(&self, code: u64) -> bool
-        ensures yes { result ≡ true → self.now.long ≡ false → record_left self.now.standing code ≡ false }
+        ensures yes { result ≡ true → self.now.long ≡ false
+            → record_left self.now.standing code ≡ false }
         ensures short { result ≡ false → self.now.long ≡ false }
         ensures inside { result ≡ false → record_left self.now.standing code ≡ true }
     {

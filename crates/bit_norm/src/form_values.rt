@@ -1,7 +1,7 @@
 ghost use Rattle.std.specs.Prelude.{◌≡◌, ◌+◌, ◌*◌, ◌/◌, ◌^◌, ◌<◌, ◌≤◌, ℕ, List, [], ◌∷◌, ◌++◌, length, min, take, true, false, IfSome, OnOk, OnErr};
 ghost use Rattle.bit_norm.specs.Building.{HoldsText, HasTaken};
 ghost use Rattle.bit_norm.specs.declared.form_values.Holding.TheVariants.{All, Unknown};
-ghost use Rattle.bit_grammar.specs.Normal.{most_bytes, values_text};
+ghost use Rattle.bit_grammar.specs.Normal.{most_bytes, values_bits};
 
 use bit_fields::{BitText, Limits, ValueTaker};
 use std::alloc::{AllocError, Global};
@@ -53,7 +53,8 @@ fn add_values(
     values: &[u64],
 ) -> Result<(), AllocError>
     requires { length values.now ≤ 64 }
-    ensures ok { OnOk result ((others : List ℕ) → HoldsText holding.old text.old limits.bytes others → HoldsText holding.new text.new limits.bytes (others ++ values.now)) }
+    ensures ok { OnOk result ((others : List ℕ) → HoldsText holding.old text.old limits.bytes others
+        → HoldsText holding.new text.new limits.bytes (others ++ values.now)) }
     ensures err { OnErr result (holding.new ≡ Unknown) }
 {
     if let Holding::All = *holding {
@@ -96,7 +97,8 @@ impl FormValues {
     /// The values, where all are held as numbers.
     #[inline(always)]
     pub(crate) fn all(&self) -> Option<&[u64]>
-        ensures are { IfSome result (λ all. (values : List ℕ) → HasTaken self.now values → values ≡ all.now) }
+        ensures are { IfSome result (λ all. (values : List ℕ) → HasTaken self.now values
+            → values ≡ all.now) }
         ensures few { IfSome result (λ all. length all.now ≤ 64) }
     {
         if self.before > 0 {
@@ -134,7 +136,8 @@ impl FormValues {
     /// Whether the text of the values is known to have more bytes than a limit. None is held as a number.
     #[inline(always)]
     pub(crate) fn is_past(&self, limits: Limits) -> bool
-        ensures yes { result ≡ true → (values : List ℕ) → HasTaken self.now values → limits.bytes < length (values_text values) / 8 }
+        ensures yes { result ≡ true → (values : List ℕ) → HasTaken self.now values
+            → limits.bytes < length (values_bits values) / 8 }
         ensures few { result ≡ false → self.now.holding ≡ All → length self.now.text < 2 ^ 38 }
     {
         match self.holding {

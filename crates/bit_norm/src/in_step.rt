@@ -3,10 +3,10 @@
 ghost use Rattle.std.specs.Prelude.{◌≡◌, ◌*◌, ◌<◌, ◌^◌, IfOk, OnOk};
 ghost use Rattle.bit_grammar.specs.Setting.{setting_of};
 ghost use Rattle.bit_norm.specs.Entries as tree;
-ghost use Rattle.bit_events.specs.EventView.{shown};
+ghost use Rattle.bit_events.specs.EventView.{event_shown};
 ghost use Rattle.bit_events.specs.Standing.{stands_after};
 ghost use Rattle.bit_fields.specs.Opening.{head_told};
-ghost use Rattle.bit_norm.specs.InStep.{said, sign_shown, stand_of, IsBeside, Weighs, StandsBeside, Meets, Concludes, ComparesWith};
+ghost use Rattle.bit_norm.specs.InStep.{said_of, sign_shown, stand_of, IsBeside, Weighs, StandsBeside, Meets, Concludes, ComparesWith};
 
 use crate::comparing::{SameFault, Which, faulty};
 use crate::differences::{Difference, Place, Standing, ValueDifference, What};
@@ -38,7 +38,8 @@ pub(crate) enum Weighed {
 /// How a sign of the first input, which begins and ends at these bits, is beside one of the second.
 #[inline]
 fn held_beside(own: Sign<'_>, bit: u64, ended: u64, sign: Sign<'_>) -> Beside
-    ensures { StandsBeside (record { sign = sign_shown own.entry; bit = bit; ended = ended }) (sign_shown sign.entry) result }
+    ensures { StandsBeside (record { sign = sign_shown own.entry; bit = bit; ended = ended })
+        (sign_shown sign.entry) result }
 {
     if own.is(sign) {
         return Beside::Same(ended);
@@ -52,7 +53,7 @@ fn held_beside(own: Sign<'_>, bit: u64, ended: u64, sign: Sign<'_>) -> Beside
 
 /// How an event that is left is beside a sign, where what stands before it ended at this bit.
 fn weigh_left(event: PackedEvent<'_>, sign: Sign<'_>, ended: u64) -> Weighed
-    ensures { IsBeside (said ended (shown event.entry)) (sign_shown sign.entry) result }
+    ensures { IsBeside (said_of ended (event_shown event.entry)) (sign_shown sign.entry) result }
 {
     match event {
         Event::Enter {
@@ -80,8 +81,9 @@ fn weigh(
     blocks: &mut OpenBlocks<'_>,
     ended: u64,
 ) -> Result<Weighed, AllocError>
-    ensures weighs { IfOk result (λ weighed. Weighs blocks.old ended (shown event.entry) (sign_shown sign.entry) weighed) }
-    ensures stands { OnOk result (blocks.new ≡ stands_after (shown event.entry) blocks.old) }
+    ensures weighs { IfOk result (λ weighed. Weighs blocks.old ended (event_shown event.entry)
+        (sign_shown sign.entry) weighed) }
+    ensures stands { OnOk result (blocks.new ≡ stands_after (event_shown event.entry) blocks.old) }
 {
     if !blocks.take(event)? {
         return Ok(Weighed::Passed);
@@ -98,7 +100,8 @@ fn next_beside<S: Source>(
     ended: u64,
     sign: Sign<'_>,
 ) -> Result<Beside, Fault>
-    ensures { Meets blocks.old (stand_of walk.now ended) events.old (sign_shown sign.entry) result blocks.new events.new }
+    ensures { Meets blocks.old (stand_of walk.now ended) events.old (sign_shown sign.entry) result
+        blocks.new events.new }
 {
     'events: loop {
         match events.next()? {
@@ -142,11 +145,20 @@ impl<'a> Model for Comparer<'a> {
 
     ghost Value = { Compared };
 
-    ghost view = { λ c. record { first = c.first; first_blocks = c.first_blocks; second_blocks = c.second_blocks; within = c.walk.open.items; items = c.walk.items; first_ended = c.first_ended; second_ended = c.second_ended; found = c.found } };
+    ghost view = { λ c. record {
+      first = c.first;
+      first_blocks = c.first_blocks;
+      second_blocks = c.second_blocks;
+      within = c.walk.open.items;
+      items = c.walk.items;
+      first_ended = c.first_ended;
+      second_ended = c.second_ended;
+      found = c.found;
+    } };
 }
 
 impl<'a> Comparer<'a> {
-    ghost use Rattle.bit_norm.specs.InStep.{TakesSign, Answers, Finishes};
+    ghost use Rattle.bit_norm.specs.InStep.{TakesSign, AnswersFound, Finishes};
 
     /// Holds a sign of the second input, which begins and ends at these bits, against the next entry of the first. After a
     /// difference no more is asked of the first.
@@ -189,7 +201,7 @@ impl<'a> Comparer<'a> {
 
     /// The difference that was found, if one was.
     fn difference(self) -> Option<Difference>
-        ensures { Answers self.entry result }
+        ensures { AnswersFound self.entry result }
     {
         let Comparer {
             alloc: _,
@@ -303,7 +315,8 @@ fn magic_standing(head: &Head) -> Standing
 
 /// The first difference of two inputs that were read, of which the first has this head.
 fn conclude(first: &Head, folded: Folded<Comparer<'_>>) -> Result<Option<Difference>, AllocError>
-    ensures { IfOk result (λ answer. Concludes (head_told first.now) (head_told folded.entry.head) folded.entry.gatherer answer) }
+    ensures { IfOk result (λ answer. Concludes (head_told first.now) (head_told folded.entry.head)
+        folded.entry.gatherer answer) }
 {
     let second = folded.head;
     if number_of_magic(first.magic) != number_of_magic(second.magic) {
@@ -329,7 +342,8 @@ pub(crate) fn compare_with<S: Source>(
     limits: Limits,
     info: Info<'_>,
 ) -> (Result<Option<Difference>, SameFault>, S)
-    ensures { ComparesWith (setting_of info.entry) limits first.now (S.incoming source) result.0 (S.incoming result.1) }
+    ensures { ComparesWith (setting_of info.entry) limits first.now (S.incoming source) result.0
+        (S.incoming result.1) }
 {
     let events = match PackedEvents::start(alloc, SliceSource::new(first), limits) {
         Ok(events) => events,

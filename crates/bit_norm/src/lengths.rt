@@ -116,7 +116,9 @@ pub(crate) fn body_words(items: &Items) -> u64
 
 /// How many bytes the normal form of a tree with these blocks has, or `None` where they pass the limit on bytes.
 pub(crate) fn form_len(blocks: &[Block], limits: Limits) -> Option<u64>
-    ensures len { (tree : Tree) → tree.blocks ≡ forest_of_blocks blocks.now → MatchOption result (limits.bytes < size_of tree) (λ bytes. (bytes ≡ size_of tree) × (bytes ≤ limits.bytes)) }
+    ensures len { (tree : Tree) → tree.blocks ≡ forest_of_blocks blocks.now
+        → MatchOption result (limits.bytes < size_of tree)
+        (λ bytes. (bytes ≡ size_of tree) × (bytes ≤ limits.bytes)) }
     ensures capped { IfSome result (λ bytes. bytes ≤ most_bytes) }
 {
     let bytes = end_of_blocks(blocks, 32) / 8;
@@ -129,7 +131,8 @@ pub(crate) fn form_len(blocks: &[Block], limits: Limits) -> Option<u64>
 
 /// How many bytes the normal form of a document has, or `None` where they pass the limit on bytes. It takes no memory.
 pub fn normal_len(doc: &Document, limits: Limits) -> Option<u64>
-    ensures len { MatchOption result (limits.bytes < size_of doc.now) (λ bytes. (bytes ≡ size_of doc.now) × (bytes ≤ limits.bytes)) }
+    ensures len { MatchOption result (limits.bytes < size_of doc.now)
+        (λ bytes. (bytes ≡ size_of doc.now) × (bytes ≤ limits.bytes)) }
     ensures capped { IfSome result (λ bytes. bytes ≤ most_bytes) }
 {
     form_len(doc.blocks(), limits)

@@ -37,7 +37,9 @@ fn write_text<K: Sink>(
 fn give<K: Sink>(magic: [u8; 4], text: BitText, sink: K) -> (Result<u64, Fault>, K)
     requires whole { length text % 32 ≡ 0 }
     requires few { length text < 2 ^ 38 }
-    ensures { (tree : Tree) (limit : ℕ) → tree.magic ≡ magic_number magic → normal tree.blocks 32 ≡ text → 4 + length text / 8 ≤ limit → WritesForm tree limit (K.outgoing sink) result.0 (K.outgoing result.1) }
+    ensures { (tree : Tree) (limit : ℕ) → tree.magic ≡ magic_number magic
+        → normal tree.blocks 32 ≡ text → 4 + length text / 8 ≤ limit
+        → WritesForm tree limit (K.outgoing sink) result.0 (K.outgoing result.1) }
 {
     let bytes = 4 + text.len() / 8;
     let mut writer = BitWriter::new(sink);
@@ -60,7 +62,8 @@ pub fn normalise<S: Source, K: Sink>(
     limits: Limits,
     info: Info<'_>,
 ) -> (Result<u64, Fault>, S, K)
-    ensures { Normalises (setting_of info.entry) limits (S.incoming source) (K.outgoing sink) result.0 (S.incoming result.1) (K.outgoing result.2) }
+    ensures { Normalises (setting_of info.entry) limits (S.incoming source) (K.outgoing sink)
+        result.0 (S.incoming result.1) (K.outgoing result.2) }
 {
     let builder = FormBuilder::new(alloc, info, limits);
     let (answer, source) = fold(alloc, source, limits, builder);

@@ -1,7 +1,7 @@
 //! Where two trees stand that are gone through while nothing differs.
 
 ghost use Rattle.std.specs.Prelude.{◌≡◌, ◌+◌, ℕ, [], IfOk, OnOk};
-ghost use Rattle.bit_norm.specs.InStep.{ended_from, moved, sign_shown, stand_of};
+ghost use Rattle.bit_norm.specs.InStep.{ended_from, stand_behind, sign_shown, stand_of};
 
 use crate::differences::OpenBlock;
 use crate::sign::Sign;
@@ -45,7 +45,9 @@ impl Walk {
 
     /// Goes on behind a sign.
     pub(crate) fn pass(&mut self, sign: Sign<'_>) -> Result<(), AllocError>
-        ensures { OnOk result ((before ended : ℕ) → stand_of self.new ended ≡ moved (stand_of self.old before) (sign_shown sign.entry) ended) }
+        ensures { OnOk result ((before ended : ℕ)
+            → stand_of self.new ended ≡ stand_behind (stand_of self.old before)
+            (sign_shown sign.entry) ended) }
     {
         match sign {
             Sign::Begins(id) => {

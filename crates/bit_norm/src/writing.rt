@@ -1,6 +1,6 @@
 ghost use Rattle.std.specs.Prelude.{◌≡◌, ◌<◌, ◌^◌, [], OnOk};
 ghost use Rattle.bit_grammar.specs.Bits.{bits_of};
-ghost use Rattle.bit_grammar.specs.Normal.{put, chain, head_text, end_text, values_text, normal, normal_form};
+ghost use Rattle.bit_grammar.specs.Normal.{put, chain, head_text, end_text, values_bits, normal, normal_form};
 ghost use Rattle.bit_fields.specs.Writer.{Writes};
 ghost use Rattle.bit_fields.specs.Opening.{magic_number};
 ghost use Rattle.bit_tree.specs.TreeView.{forest_of_blocks, tree_with};
@@ -12,8 +12,8 @@ use bit_tree::{Block, Document, Item, Items};
 
 /// Writes the values of a record.
 fn write_values<K: Sink>(writer: &mut BitWriter<K>, values: &[u64]) -> Result<(), Fault>
-    requires { HasRoom writer.old (values_text values.now) }
-    ensures { Writes (values_text values.now) writer.old result writer.new }
+    requires { HasRoom writer.old (values_bits values.now) }
+    ensures { Writes (values_bits values.now) writer.old result writer.new }
 {
     for value in values {
         writer.vbr(6, *value)?;
@@ -34,9 +34,11 @@ fn write_record<K: Sink>(writer: &mut BitWriter<K>, code: u64, values: &[u64]) -
 
 /// Writes what stands before the body of a block.
 fn write_head<K: Sink>(writer: &mut BitWriter<K>, id: u32, words: u64) -> Result<(), Fault>
-    requires room { HasRoom writer.old (chain (put (bits_of 2 1)) (head_text id words) writer.old.position) }
+    requires room { HasRoom writer.old (chain (put (bits_of 2 1)) (head_text id words)
+        writer.old.position) }
     requires words { words < 2 ^ 32 }
-    ensures { Writes (chain (put (bits_of 2 1)) (head_text id words) writer.old.position) writer.old result writer.new }
+    ensures { Writes (chain (put (bits_of 2 1)) (head_text id words) writer.old.position) writer.old
+        result writer.new }
 {
     writer.fixed(2, 1)?;
     writer.vbr(8, u64::from(id))?;
@@ -58,7 +60,8 @@ fn write_end<K: Sink>(writer: &mut BitWriter<K>) -> Result<(), Fault>
 #[cycle(write)]
 fn write_block<K: Sink>(writer: &mut BitWriter<K>, block: &Block) -> Result<(), Fault>
     requires { HasRoom writer.old (whole_block block.now.id block.now.items writer.old.position) }
-    ensures { Writes (whole_block block.now.id block.now.items writer.old.position) writer.old result writer.new }
+    ensures { Writes (whole_block block.now.id block.now.items writer.old.position) writer.old
+        result writer.new }
 {
     write_head(writer, block.id, body_words(&block.items))?;
     write_items(writer, &block.items)?;
@@ -83,7 +86,8 @@ fn write_items<K: Sink>(writer: &mut BitWriter<K>, items: &Items) -> Result<(), 
 /// Writes the blocks at the top.
 fn write_blocks<K: Sink>(writer: &mut BitWriter<K>, blocks: &[Block]) -> Result<(), Fault>
     requires { HasRoom writer.old (normal (forest_of_blocks blocks.now) writer.old.position) }
-    ensures { Writes (normal (forest_of_blocks blocks.now) writer.old.position) writer.old result writer.new }
+    ensures { Writes (normal (forest_of_blocks blocks.now) writer.old.position) writer.old result
+        writer.new }
 {
     for block in blocks {
         write_block(writer, block)?;
@@ -122,7 +126,8 @@ pub(crate) fn write_form<K: Sink>(
     sink: K,
     limits: Limits,
 ) -> (Result<u64, Fault>, K)
-    ensures { WritesForm (tree_with magic blocks.now) limits.bytes (K.outgoing sink) result.0 (K.outgoing result.1) }
+    ensures { WritesForm (tree_with magic blocks.now) limits.bytes (K.outgoing sink) result.0
+        (K.outgoing result.1) }
 {
     match form_len(blocks, limits) {
         None => (Err(Fault::OutputTooLong), sink),

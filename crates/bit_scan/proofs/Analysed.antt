@@ -1,13 +1,13 @@
 -- The analysis of a whole input.
 use Rattle.std.proofs.Common.{◌≡◌, ℕ, ◌+◌, ◌-◌, List, [], sym, ap, subst, ◌∙◌}
 use Rattle.bit_grammar.specs.Blocks.{Limits}
-use Rattle.bit_grammar.specs.Input.{Head, Marked}
+use Rattle.bit_grammar.specs.Terms.{Head, Marked}
 use Rattle.bit_grammar.specs.Machine.{Event, flat}
 use Rattle.bit_grammar.specs.Counting.{Counts, no_counts, count_events}
 use Rattle.bit_grammar.specs.Tally.{BlockTally, Tally, tally_of, stream_begin, stream_bits, bits_of_rows}
-use Rattle.bit_grammar.proofs.Tallies.{bits_add_up, rows_by_events}
+use Rattle.bit_grammar.proofs.Tallying.Tallies.{bits_add_up, rows_by_events}
 use Rattle.bit_events.specs.Folding.{Gathered}
-use Rattle.bit_scan.specs.Cut.{cut}
+use Rattle.bit_scan.specs.Cut.{capped_counts}
 use Rattle.bit_scan.specs.Analysing.{HasTally}
 use Rattle.bit_scan.proofs.Exact.{numbers_fit, rows_stay}
 
@@ -18,7 +18,7 @@ is_tally m head p tally is_head is_after magic bits rows =
     ap (λ (n : ℕ). record { magic = n; bits = tally.bits; rows = tally.rows }) magic_of ∙ ap (λ (n : ℕ). record { magic = m.head.magic; bits = n; rows = tally.rows }) bits_of ∙ ap (λ (x : List BlockTally). record { magic = m.head.magic; bits = stream_bits m; rows = x }) rows
 
 -- the analysis of an input
-pub has_tally : (limits : Limits) (bytes : List ℕ) (first last : Counts) (head : Head) (tally : Tally) (after : ℕ) → Gathered (λ (first : Counts) (events : List Event) (last : Counts). last ≡ cut (count_events events no_counts)) limits bytes first head last after
+pub has_tally : (limits : Limits) (bytes : List ℕ) (first last : Counts) (head : Head) (tally : Tally) (after : ℕ) → Gathered (λ (first : Counts) (events : List Event) (last : Counts). last ≡ capped_counts (count_events events no_counts)) limits bytes first head last after
     → tally.magic ≡ head.magic → tally.bits ≡ after - stream_begin head.wrapper → tally.rows ≡ last.rows → HasTally limits bytes tally
 has_tally limits bytes first last head tally after found magic bits counted =
     let m = found.marked in

@@ -6,7 +6,7 @@ use Rattle.bit_grammar.specs.Machine.{Event, enters, defines, notes, leaves}
 use Rattle.bit_grammar.specs.Marks.{RecordMark}
 use Rattle.bit_grammar.specs.Steps.{values_told, all_values_told}
 use Rattle.bit_grammar.specs.Tally.{CodeTally, BlockTally, record_bits, is_abbreviated}
-use Rattle.bit_grammar.specs.Counting.{changed, fresh_code, fresh_row, one_use, one_block, more_bits, one_definition, one_record, OpenCount, Counts, with_row, count_here, count_end, count_event, count_events}
+use Rattle.bit_grammar.specs.Counting.{rows_with, fresh_code, fresh_row, one_use, one_block, more_bits, one_definition, one_record, OpenCount, Counts, with_row, count_here, count_end, count_event, count_events}
 use Rattle.bit_scan.proofs.Spans.{bits_told, all_bits_told}
 
 -- what holds of rows holds, weaker, of rows with one of them changed
@@ -15,11 +15,11 @@ all_weaker P Q weaker [] all = tt
 all_weaker P Q weaker (row ∷ rows) all = (weaker row all.0, all_weaker P Q weaker rows all.1)
 
 all_changed : {Row : Type 0} (P Q : Row → Type 0) (key : Row → ℕ) (fresh : ℕ → Row) (change : Row → Row) (k : ℕ) → ((row : Row) → P row → Q row) → ((row : Row) → P row → Q (change row)) → Q (change (fresh k))
-    → (rows : List Row) → AllByRecursion P rows → AllByRecursion Q (changed key fresh change k rows)
+    → (rows : List Row) → AllByRecursion P rows → AllByRecursion Q (rows_with key fresh change k rows)
 all_changed P Q key fresh change k weaker step first [] all = (first, tt)
 all_changed P Q key fresh change k weaker step first (row ∷ rows) all = go (eqb (key row) k) (all_changed P Q key fresh change k weaker step first rows all.1)
   where
-    go : (b : Bool) → AllByRecursion Q (changed key fresh change k rows) → AllByRecursion Q (if b then change row ∷ rows else row ∷ changed key fresh change k rows)
+    go : (b : Bool) → AllByRecursion Q (rows_with key fresh change k rows) → AllByRecursion Q (if b then change row ∷ rows else row ∷ rows_with key fresh change k rows)
     go true more = (step row all.0, all_weaker P Q weaker rows all.1)
     go false more = (weaker row all.0, more)
 

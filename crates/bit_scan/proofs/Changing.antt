@@ -3,7 +3,7 @@ use Rattle.std.proofs.Common.{◌≡◌, ℕ, zero, suc, List, [], ◌∷◌, �
 use Rattle.std.proofs.Math.ListN.{set}
 use Rattle.std.proofs.lemmas.Bool.{eq-eqb, ne_eqb}
 use Rattle.std.specs.Map.{keys_of}
-use Rattle.bit_grammar.specs.Counting.{changed}
+use Rattle.bit_grammar.specs.Counting.{rows_with}
 use Rattle.bit_scan.specs.Indexed.{IsAbsent, AreDistinct}
 
 -- entries are shown as rows, each cut, and both have the same keys
@@ -24,7 +24,7 @@ differs (y ∷ keys) j (suc i) k none at = differs keys j i k none.1 at
 pub changed_at : {V Row : Type 0} (show : ℕ × V → Row) (key : Row → ℕ) (cut : Row → Row) (fresh : ℕ → Row) (change : Row → Row) → AreShown show key cut
     → (k j : ℕ) (old new : V) → ((row : Row) → show (k, old) ≡ cut row → show (k, new) ≡ cut (change row))
     → (es : List (ℕ × V)) (rows : List Row) (i : ℕ) → map show es ≡ map cut rows → AreDistinct (keys_of es) → slice_get es i ≡ Some (j, old) → slice_get (keys_of es) i ≡ Some k
-    → map show (set es i (j, new)) ≡ map cut (changed key fresh change k rows)
+    → map show (set es i (j, new)) ≡ map cut (rows_with key fresh change k rows)
 changed_at show key cut fresh change shown k j old new step [] rows i same distinct found at = absurd cc
 changed_at show key cut fresh change shown k j old new step (e ∷ es) [] i same distinct found at = absurd cc
 changed_at {V} {Row} show key cut fresh change shown k j old new step (e ∷ es) (row ∷ rows) zero same distinct found at =
@@ -41,7 +41,7 @@ changed_at {V} {Row} show key cut fresh change shown k j old new step (e ∷ es)
     let tail : map show es ≡ map cut rows = cc in
     let other = differs (keys_of es) e.0 i k distinct.0 at in
     let more = changed_at show key cut fresh change shown k j old new step es rows i tail distinct.1 found at in
-    rw (ne_eqb (key row) k (λ x. other (sym (key_is show key cut shown e row head) ∙ x))) (let joined : show e ∷ map show (set es i (j, new)) ≡ cut row ∷ map cut (changed key fresh change k rows) = cc in joined)
+    rw (ne_eqb (key row) k (λ x. other (sym (key_is show key cut shown e row head) ∙ x))) (let joined : show e ∷ map show (set es i (j, new)) ≡ cut row ∷ map cut (rows_with key fresh change k rows) = cc in joined)
 
 -- the keys stay
 pub keys_set : {V : Type 0} (es : List (ℕ × V)) (i j : ℕ) (old new : V) → slice_get es i ≡ Some (j, old) → keys_of (set es i (j, new)) ≡ keys_of es
@@ -55,7 +55,7 @@ keys_set (e ∷ es) (suc i) j old new found = ap (λ (ks : List ℕ). e.0 ∷ ks
 pub changed_absent : {V Row : Type 0} (show : ℕ × V → Row) (key : Row → ℕ) (cut : Row → Row) (fresh : ℕ → Row) (change : Row → Row) → AreShown show key cut
     → (k : ℕ) (new : V) → show (k, new) ≡ cut (change (fresh k))
     → (es : List (ℕ × V)) (rows : List Row) → map show es ≡ map cut rows → IsAbsent k (keys_of es)
-    → map show (es ++ (k, new) ∷ []) ≡ map cut (changed key fresh change k rows)
+    → map show (es ++ (k, new) ∷ []) ≡ map cut (rows_with key fresh change k rows)
 changed_absent show key cut fresh change shown k new one [] [] same none = rw one refl
 changed_absent show key cut fresh change shown k new one [] (row ∷ rows) same none = absurd cc
 changed_absent show key cut fresh change shown k new one (e ∷ es) [] same none = absurd cc
@@ -64,7 +64,7 @@ changed_absent {V} {Row} show key cut fresh change shown k new one (e ∷ es) (r
     let tail : map show es ≡ map cut rows = cc in
     let more = changed_absent show key cut fresh change shown k new one es rows tail none.1 in
     rw (ne_eqb (key row) k (λ x. none.0 (sym x ∙ key_is show key cut shown e row head)))
-    (let joined : show e ∷ map show (es ++ (k, new) ∷ []) ≡ cut row ∷ map cut (changed key fresh change k rows) = cc in joined)
+    (let joined : show e ∷ map show (es ++ (k, new) ∷ []) ≡ cut row ∷ map cut (rows_with key fresh change k rows) = cc in joined)
 
 -- the keys with that of one more
 pub keys_push : {V : Type 0} (es : List (ℕ × V)) (k : ℕ) (new : V) → keys_of (es ++ (k, new) ∷ []) ≡ keys_of es ++ k ∷ []

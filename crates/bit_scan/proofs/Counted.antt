@@ -9,7 +9,7 @@ use Rattle.bit_events.specs.Gathering.{left_open}
 use Rattle.bit_grammar.specs.Counting.{OpenCount, Counts, no_counts, fresh_row, with_row, count_here, count_event, count_events}
 use Rattle.bit_scan.specs.Additions.{with_added}
 use Rattle.bit_scan.specs.Counting.{added_here}
-use Rattle.bit_scan.specs.Cut.{cut, cut_row, cut_rows}
+use Rattle.bit_scan.specs.Cut.{capped_counts, cut_row, cut_rows}
 use Rattle.bit_grammar.specs.Bits.{saturated}
 use Rattle.bit_scan.specs.declared.rows.Addition.TheVariants as addition
 
@@ -19,9 +19,9 @@ count_then [] event c = refl
 count_then (first ∷ done) event c = count_then done event (count_event first c)
 
 -- what counts an event gathers it
-pub gathers_counts : (old new : Counts) (event : Event) (result : Result (Unit {0}) AllocError) → ((counts : Counts) → old ≡ cut counts → OnOk result (new ≡ cut (count_event event counts)))
-    → OnOk result ((first : Counts) (done : List Event) (deepest : ℕ) → old ≡ cut (count_events done no_counts) → MayStand deepest event (left_open done) → new ≡ cut (count_events (done ++ event ∷ []) no_counts))
-gathers_counts old new event (Ok x) counted = λ first done deepest was stands. counted (count_events done no_counts) was ∙ ap cut (sym (count_then done event no_counts))
+pub gathers_counts : (old new : Counts) (event : Event) (result : Result (Unit {0}) AllocError) → ((counts : Counts) → old ≡ capped_counts counts → OnOk result (new ≡ capped_counts (count_event event counts)))
+    → OnOk result ((first : Counts) (done : List Event) (deepest : ℕ) → old ≡ capped_counts (count_events done no_counts) → MayStand deepest event (left_open done) → new ≡ capped_counts (count_events (done ++ event ∷ []) no_counts))
+gathers_counts old new event (Ok x) counted = λ first done deepest was stands. counted (count_events done no_counts) was ∙ ap capped_counts (sym (count_then done event no_counts))
 gathers_counts old new event (Err e) counted = tt
 
 pub then_same : {A : Type 0} (result : Result (Unit {0}) AllocError) (x y z : A) → OnOk result (x ≡ y) → y ≡ z → OnOk result (x ≡ z)
@@ -46,9 +46,9 @@ same_here change other same (b ∷ around) rows = same_rows change other same b.
 cut_before : (a n : ℕ) → saturated (a + min n (2 ^ 64 - 1)) ≡ saturated (a + n)
 cut_before a n = omega arith
 
-pub same_values : (code : ℕ) (abbreviated : Bool) (told many bits : ℕ) (c : Counts) → told ≡ min many (2 ^ 64 - 1) → cut (added_here (addition.Record code abbreviated told bits) c) ≡ cut (added_here (addition.Record code abbreviated many bits) c)
+pub same_values : (code : ℕ) (abbreviated : Bool) (told many bits : ℕ) (c : Counts) → told ≡ min many (2 ^ 64 - 1) → capped_counts (added_here (addition.Record code abbreviated told bits) c) ≡ capped_counts (added_here (addition.Record code abbreviated many bits) c)
 same_values code abbreviated told many bits c is =
-    ap (λ (rows : List BlockTally). record { rows = rows; around = (cut c).around })
+    ap (λ (rows : List BlockTally). record { rows = rows; around = (capped_counts c).around })
     (same_here (with_added (addition.Record code abbreviated told bits)) (with_added (addition.Record code abbreviated many bits)) (λ row. same row) c.around c.rows)
   where
     same : (row : BlockTally) → cut_row (with_added (addition.Record code abbreviated told bits) row) ≡ cut_row (with_added (addition.Record code abbreviated many bits) row)

@@ -4,15 +4,16 @@ use Rattle.std.specs.Prelude.{sum_by}
 use Rattle.std.specs.List.{AllByRecursion}
 use Rattle.std.proofs.lemmas.List.Sums.{sum_by-cons}
 use Rattle.bit_grammar.specs.Blocks.{Limits}
-use Rattle.bit_grammar.specs.Input.{Marked, SpellsInput}
+use Rattle.bit_grammar.specs.Input.{SpellsInput}
+use Rattle.bit_grammar.specs.Terms.{Marked}
 use Rattle.bit_grammar.specs.Machine.{flat}
 use Rattle.bit_grammar.specs.Normal.{Capped}
 use Rattle.bit_grammar.specs.Steps.{all_values_told}
 use Rattle.bit_grammar.specs.Tally.{CodeTally, BlockTally, stream_bits, tally_of, bits_of_rows}
 use Rattle.bit_grammar.specs.Counting.{no_counts, count_events}
-use Rattle.bit_grammar.proofs.Nesting.{values_of_marks}
-use Rattle.bit_grammar.proofs.Limits.{limits_judged}
-use Rattle.bit_grammar.proofs.Tallies.{bits_add_up, rows_by_events}
+use Rattle.bit_grammar.proofs.Events.Nesting.{values_of_marks}
+use Rattle.bit_grammar.proofs.WholeInputs.Limits.{limits_judged}
+use Rattle.bit_grammar.proofs.Tallying.Tallies.{bits_add_up, rows_by_events}
 use Rattle.bit_scan.specs.Cut.{cut_code, cut_row, cut_rows}
 use Rattle.bit_scan.specs.Fitting.{CodeFits, RowFits, RowsFit}
 use Rattle.bit_scan.proofs.Bounds.{CodeWithin, AreWithin, events_within}

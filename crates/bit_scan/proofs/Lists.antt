@@ -8,10 +8,10 @@ use Rattle.bit_grammar.specs.Under.{ids_after, is_left}
 use Rattle.bit_grammar.specs.Machine.{Event, enters, defines, notes, leaves, Told}
 use Rattle.bit_grammar.specs.Steps.{open_after}
 use Rattle.bit_grammar.specs.Texts.{event_text, events_text}
-use Rattle.bit_grammar.proofs.Nesting.{open_within}
-use Rattle.bit_events.specs.Standing.{Standing, leaves as leaves_event, stands_after, left_of}
+use Rattle.bit_grammar.proofs.Events.Nesting.{open_within}
+use Rattle.bit_events.specs.Standing.{OpenUnder, leaves as leaves_event, stands_after, left_of}
 use Rattle.bit_events.proofs.Standings.{kept_count, counted_few}
-use Rattle.bit_events.specs.Coming.{Coming, Tells, Gives, Ends}
+use Rattle.bit_events.specs.Coming.{Coming, TellsComing, GivesEvent, EndsEvents}
 use Rattle.bit_fields.specs.declared.fault.Fault.{Fault}
 use Rattle.bit_scan.specs.Lines.{listing_head}
 use Rattle.bit_scan.specs.Listing.{left_text, PrintsOne}
@@ -21,13 +21,13 @@ use Rattle.bit_scan.proofs.Prints.{Goes, goes_starts, goes_as, goes_on, goes_wro
 -- ---- events
 
 -- the line of an event, with so many blocks that are left around it, if it is left; and how many stand around what follows
-abbrev pub line_left : Standing → (around : ℕ) → Event → List ℕ
+abbrev pub line_left : OpenUnder → (around : ℕ) → Event → List ℕ
 line_left stood around event = if leaves_event stood event then event_text around event else []
 
-abbrev pub around_after : Standing → (around : ℕ) → Event → ℕ
+abbrev pub around_after : OpenUnder → (around : ℕ) → Event → ℕ
 around_after stood around event = if leaves_event stood event then open_after event around else around
 
-left_first : (stood : Standing) (around : ℕ) (event : Event) (events : List Event) → left_text around stood (event ∷ events) ≡ line_left stood around event ++ left_text (around_after stood around event) (stands_after event stood) events
+left_first : (stood : OpenUnder) (around : ℕ) (event : Event) (events : List Event) → left_text around stood (event ∷ events) ≡ line_left stood around event ++ left_text (around_after stood around event) (stands_after event stood) events
 left_first stood around event events = go (leaves_event stood event)
   where
     others : List Event
@@ -65,7 +65,7 @@ length_after [] (leaves after) = refl
 length_after (id ∷ ids) (leaves after) = omega arith
 
 -- a line that was not printed, or not all of it
-pub line_stops : (around : ℕ) (stood : Standing) (old new : Coming) (p q : Printing) (event : Event) (fault : Fault) → Gives old event new → Prints (line_left stood around event) p (Err fault) q → Tells old → Prints (left_text around stood old.told.0) p (Err fault) q
+pub line_stops : (around : ℕ) (stood : OpenUnder) (old new : Coming) (p q : Printing) (event : Event) (fault : Fault) → GivesEvent old event new → Prints (line_left stood around event) p (Err fault) q → TellsComing old → Prints (left_text around stood old.told.0) p (Err fault) q
 line_stops around stood old new p q event fault gives prints tells =
     let line = line_left stood around event in
     let rest = left_text (around_after stood around event) (stands_after event stood) new.told.0 in
@@ -73,8 +73,8 @@ line_stops around stood old new p q event fault gives prints tells =
     subst (λ (l : List ℕ). Prints l p (Err fault) q) (sym whole) (goes_wrong (line ++ rest) p line rest p q fault (goes_starts (line ++ rest) p) prints)
 
 -- of a text, the lines of the events to come that are left are to be printed, with so many blocks around the first
-pub record Listing (text : List ℕ) (first : Printing) (around : ℕ) (stood : Standing) (now : Coming) (p : Printing) : Type 0 where
-  pub tells : Tells now
+pub record Listing (text : List ℕ) (first : Printing) (around : ℕ) (stood : OpenUnder) (now : Coming) (p : Printing) : Type 0 where
+  pub tells : TellsComing now
   pub deepest : now.deepest ≤ 255
   pub inside : now.depth ≤ now.deepest
   pub ids : length stood.ids ≡ now.depth
@@ -82,7 +82,7 @@ pub record Listing (text : List ℕ) (first : Printing) (around : ℕ) (stood : 
   pub few : around ≤ 255
   pub goes : Goes text first (left_text around stood now.told.0) p
 
-pub listing_begins : (start : Coming) (stood : Standing) (p : Printing) → Tells start → start.depth ≡ 0 → start.deepest ≤ 255 → stood.ids ≡ [] → Listing (left_text 0 stood start.told.0) p 0 stood start p
+pub listing_begins : (start : Coming) (stood : OpenUnder) (p : Printing) → TellsComing start → start.depth ≡ 0 → start.deepest ≤ 255 → stood.ids ≡ [] → Listing (left_text 0 stood start.told.0) p 0 stood start p
 listing_begins start stood p tells outside deepest none = record {
   tells = tells;
   deepest = deepest;
@@ -93,20 +93,20 @@ listing_begins start stood p tells outside deepest none = record {
   goes = goes_starts (left_text 0 stood start.told.0) p;
 }
 
-pub listing_goes_on : (text : List ℕ) (first : Printing) (around next : ℕ) (stood stands : Standing) (old new : Coming) (p q : Printing) → Listing text first around stood old p → PrintsOne around stood old p next stands new q → Listing text first next stands new q
+pub listing_goes_on : (text : List ℕ) (first : Printing) (around next : ℕ) (stood stands : OpenUnder) (old new : Coming) (p q : Printing) → Listing text first around stood old p → PrintsOne around stood old p next stands new q → Listing text first next stands new q
 listing_goes_on text first around next stood stands old new p q l one =
     let event = one.event in
     let gives = one.gives in
     let after = stands_after event stood in
-    let ids : length stands.ids ≡ new.depth = ap (λ (st : Standing). length st.ids) one.stands_is ∙ length_after stood.ids event ∙ ap (open_after event) l.ids ∙ sym gives.depth in
+    let ids : length stands.ids ≡ new.depth = ap (λ (st : OpenUnder). length st.ids) one.stands_is ∙ length_after stood.ids event ∙ ap (open_after event) l.ids ∙ sym gives.depth in
     let around_is : next ≡ kept_count stands.setting stands.ids =
-    one.next_is ∙ ap (λ (n : ℕ). around_after stood n event) l.around_is ∙ sym (kept_after stood.setting stood.ids event) ∙ ap (λ (st : Standing). kept_count st.setting st.ids) (sym one.stands_is) in
+    one.next_is ∙ ap (λ (n : ℕ). around_after stood n event) l.around_is ∙ sym (kept_after stood.setting stood.ids event) ∙ ap (λ (st : OpenUnder). kept_count st.setting st.ids) (sym one.stands_is) in
     let inside : new.depth ≤ new.deepest = omega (arith, gives.deepest, gives.depth, open_within old.deepest event old.depth gives.stands l.inside) in
     let deepest : new.deepest ≤ 255 = omega (arith, gives.deepest, l.deepest) in
     let whole : left_text around stood old.told.0 ≡ line_left stood around event ++ left_text next stands new.told.0 =
     ap (λ (t : Told). left_text around stood t.0) (gives.told l.tells) ∙ left_first stood around event new.told.0
     ∙ ap (λ (n : ℕ). line_left stood around event ++ left_text n after new.told.0) (sym one.next_is)
-    ∙ ap (λ (st : Standing). line_left stood around event ++ left_text next st new.told.0) (sym one.stands_is) in
+    ∙ ap (λ (st : OpenUnder). line_left stood around event ++ left_text next st new.told.0) (sym one.stands_is) in
     record {
       tells = gives.pays.tells l.tells;
       deepest = deepest;
@@ -117,12 +117,12 @@ listing_goes_on text first around next stood stands old new p q l one =
       goes = goes_on text first (line_left stood around event) (left_text next stands new.told.0) p q (goes_as text first (left_text around stood old.told.0) _ p whole l.goes) one.printed;
     }
 
-pub listing_is_whole : (text : List ℕ) (first : Printing) (around : ℕ) (stood : Standing) (old new : Coming) (p q : Printing) → Listing text first around stood old p → Ends old new × (q ≡ p) → Printed text first q
+pub listing_is_whole : (text : List ℕ) (first : Printing) (around : ℕ) (stood : OpenUnder) (old new : Coming) (p q : Printing) → Listing text first around stood old p → EndsEvents old new × (q ≡ p) → Printed text first q
 listing_is_whole text first around stood old new p q l ends =
     let none : left_text around stood old.told.0 ≡ [] = ap (λ (t : Told). left_text around stood t.0) (ends.0.told l.tells).0 in
     rw ends.1 (goes_ends text first p (goes_as text first (left_text around stood old.told.0) [] p none l.goes))
 
-pub listing_stops : (text : List ℕ) (first : Printing) (around : ℕ) (stood : Standing) (old : Coming) (p q : Printing) (fault : Fault) → Listing text first around stood old p → (Tells old → Prints (left_text around stood old.told.0) p (Err fault) q) → Prints text first (Err fault) q
+pub listing_stops : (text : List ℕ) (first : Printing) (around : ℕ) (stood : OpenUnder) (old : Coming) (p q : Printing) (fault : Fault) → Listing text first around stood old p → (TellsComing old → Prints (left_text around stood old.told.0) p (Err fault) q) → Prints text first (Err fault) q
 listing_stops text first around stood old p q fault l stops = goes_last text first (left_text around stood old.told.0) p (Err fault) q l.goes (stops l.tells)
 
 -- ---- the whole

@@ -7,8 +7,8 @@ use Rattle.bit_grammar.specs.Tally.{BlockTally}
 use Rattle.bit_grammar.specs.Machine.{Opened, enters}
 use Rattle.bit_grammar.specs.Counting.{OpenCount, Counts, with_row, more_inside, count_event}
 use Rattle.bit_scan.specs.Additions.{with_added}
-use Rattle.bit_scan.specs.Counting.{open_count, open_onto, open_counts, added_here, Closes}
-use Rattle.bit_scan.specs.Cut.{cut_open, cut_rows, cut}
+use Rattle.bit_scan.specs.Counting.{open_count, open_onto, open_counts, added_here, ClosesCount}
+use Rattle.bit_scan.specs.Cut.{cut_open, cut_rows, capped_counts}
 use Rattle.bit_grammar.specs.Bits.{saturated}
 use Rattle.bit_scan.specs.declared.counter.OpenBlock.{OpenBlock}
 use Rattle.bit_scan.specs.declared.rows.Addition.{Addition}
@@ -24,7 +24,7 @@ open_push (x ∷ xs) b outer = open_push xs b (open_count x ∷ outer)
 
 pub entered : (counts : Counts) (opened : Opened) (id place first : ℕ) (rows : List BlockTally) (before after : List OpenBlock) → opened.id ≡ id → opened.first ≡ first
     → rows ≡ cut_rows (with_row (with_added addition.Block) id counts.rows) → open_counts before ≡ map cut_open counts.around → after ≡ before ++ record { id = id; place = place; first = first; inside = 0 } ∷ []
-    → ◌≡◌ {A = Counts} (record { rows = rows; around = open_counts after }) (cut (count_event (enters opened) counts))
+    → ◌≡◌ {A = Counts} (record { rows = rows; around = open_counts after }) (capped_counts (count_event (enters opened) counts))
 entered counts opened id place first rows before after id_is first_is counted shown pushed =
     rw (id_is, first_is, counted, pushed, open_push before (record { id = id; place = place; first = first; inside = 0 }) [], shown) refl
 
@@ -44,7 +44,7 @@ the_last (y ∷ z ∷ ys) x found =
     record { front = y ∷ more.front; is = ap (λ (l : List OpenBlock). y ∷ l) more.is }
 
 counted_in : (rows : List BlockTally) (counted : List BlockTally) (around : List OpenCount) (blocks : List OpenBlock) (x : OpenBlock) (addition : Addition) → Last blocks x → open_counts blocks ≡ map cut_open around
-    → counted ≡ cut_rows (with_row (with_added addition) x.id rows) → ◌≡◌ {A = Counts} (record { rows = counted; around = open_counts blocks }) (cut (added_here addition (record { rows = rows; around = around })))
+    → counted ≡ cut_rows (with_row (with_added addition) x.id rows) → ◌≡◌ {A = Counts} (record { rows = counted; around = open_counts blocks }) (capped_counts (added_here addition (record { rows = rows; around = around })))
 counted_in rows counted [] blocks x addition last shown is =
     let pushed : open_count x ∷ open_counts last.front ≡ [] = sym (ap open_counts last.is ∙ open_push last.front x []) ∙ shown in
     absurd cc
@@ -55,7 +55,7 @@ counted_in rows counted (b ∷ around) blocks x addition last shown is =
     rw (is, same, shown) refl
 
 pub counted_here : (result : Result (Unit {0}) AllocError) (rows : List BlockTally) (counts : Counts) (blocks : List OpenBlock) (x : OpenBlock) (addition : Addition) → Some x ≡ slice_get blocks (length blocks - 1) → open_counts blocks ≡ map cut_open counts.around
-    → OnOk result (rows ≡ cut_rows (with_row (with_added addition) x.id counts.rows)) → OnOk result (◌≡◌ {A = Counts} (record { rows = rows; around = open_counts blocks }) (cut (added_here addition counts)))
+    → OnOk result (rows ≡ cut_rows (with_row (with_added addition) x.id counts.rows)) → OnOk result (◌≡◌ {A = Counts} (record { rows = rows; around = open_counts blocks }) (capped_counts (added_here addition counts)))
 counted_here (Ok v) rows counts blocks x addition found shown is = counted_in counts.rows rows counts.around blocks x addition (the_last blocks x found) shown is
 counted_here (Err e) rows counts blocks x addition found shown is = tt
 
@@ -105,7 +105,7 @@ gained_inside bits (b ∷ around) xs ys (last_block front o sum before after is)
     rw (after, open_push front (record { id = o.id; place = o.place; first = o.first; inside = sum }) [], others, inside, id, begins) refl
 
 pub closed : (around : List OpenCount) (after bits own : ℕ) (all xs ys : List OpenBlock) (block : OpenBlock) → after < 18446744073709551616 → bits ≡ after - block.first → own ≡ bits - block.inside → all ≡ xs ++ block ∷ []
-    → Gained bits xs ys → open_counts all ≡ map cut_open around → Closes around after (Some (block, own)) (open_counts ys)
+    → Gained bits xs ys → open_counts all ≡ map cut_open around → ClosesCount around after (Some (block, own)) (open_counts ys)
 closed [] after bits own all xs ys block fits bits_is own_is popped gained shown =
     let some : open_count block ∷ open_counts xs ≡ [] = sym (ap open_counts popped ∙ open_push xs block []) ∙ shown in
     absurd cc

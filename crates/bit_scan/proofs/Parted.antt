@@ -8,7 +8,7 @@ use Rattle.bit_grammar.specs.declared.values.Values.{Values}
 use Rattle.bit_grammar.specs.EventTexts.{line_at, op_text, ops_text, noted_text, shown_values}
 use Rattle.bit_grammar.specs.Texts.{record_line, values_text}
 use Rattle.bit_fields.specs.declared.fault.Fault.{Fault}
-use Rattle.bit_scan.specs.Lines.{definition_head, noted_head, record_head}
+use Rattle.bit_scan.specs.Lines.{definition_head, noted_head, record_line_front}
 use Rattle.bit_scan.specs.Printing.{Printing, Printed, Prints}
 use Rattle.bit_scan.proofs.Prints.{Goes, goes_starts, goes_as, goes_on, goes_wrong, goes_last, goes_ends}
 use Rattle.bit_scan.proofs.Reports.{drop_first}
@@ -68,7 +68,7 @@ last_zero whole old now count i le g = goes_ends whole old now (goes_as whole ol
     none = omega arith
 
 -- the line of a record in a listing: up to its values, these, and its end
-pub record_parts : (around code : ℕ) (vs : List ℕ) → Parts (record_line around code vs) (record_head around code) (values_text vs) (10 ∷ [])
+pub record_parts : (around code : ℕ) (vs : List ℕ) → Parts (record_line around code vs) (record_line_front around code) (values_text vs) (10 ∷ [])
 record_parts around code vs = record { are = regrouped (replicate (2 * around) 32) (codes "record ") (decimal code) (values_text vs) (10 ∷ []) }
   where
     regrouped : (a b c d e : List ℕ) → a ++ ((b ++ c ++ d) ++ e) ≡ (a ++ (b ++ c)) ++ (d ++ e)

@@ -8,14 +8,15 @@ use Rattle.bit_grammar.specs.Blocks.{Limits}
 use Rattle.bit_grammar.specs.Setting.{Setting}
 use Rattle.bit_grammar.specs.Under.{under, events_under}
 use Rattle.bit_grammar.specs.Grammar as grammar
-use Rattle.bit_grammar.specs.Input.{Head, Marked, tree_of, SpellsInput}
+use Rattle.bit_grammar.specs.Input.{tree_of, SpellsInput}
+use Rattle.bit_grammar.specs.Terms.{Head, Marked}
 use Rattle.bit_grammar.specs.Machine.{Told, flat, accepted}
 use Rattle.bit_grammar.specs.Normal.{Capped}
 use Rattle.bit_grammar.specs.Outlook.{outlook}
 use Rattle.bit_grammar.specs.Texts.{listing_of}
-use Rattle.bit_grammar.proofs.Listings.{lines_by_events}
-use Rattle.bit_grammar.proofs.Settings.{fit_of_setting}
-use Rattle.bit_grammar.proofs.Telling.{told_if_spelled}
+use Rattle.bit_grammar.proofs.Tallying.Listings.{lines_by_events}
+use Rattle.bit_grammar.proofs.NormalForms.Settings.{fit_of_setting}
+use Rattle.bit_grammar.proofs.Events.Telling.{told_if_spelled}
 use Rattle.bit_fields.specs.declared.fault.Fault.{Fault}
 use Rattle.bit_fields.specs.declared.fault.Fault.TheVariants.{Refused, Read, Write, Memory, OutputTooLong, Failed}
 use Rattle.bit_fields.specs.Devices.{Incoming, Outgoing, known_bytes}

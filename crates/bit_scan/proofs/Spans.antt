@@ -6,13 +6,14 @@ use Rattle.bit_grammar.specs.Grammar.{Spells}
 use Rattle.bit_grammar.specs.Marks.{RecordMark}
 use Rattle.bit_grammar.specs.Blocks.{Limits, Handed, Scope, BlockHead, nothing_handed, define, record_after}
 use Rattle.bit_grammar.specs.Whole.{SpellsAll}
-use Rattle.bit_grammar.specs.Input.{Head, Marked, top_blocks, stream, wrapped, input, SpellsInput}
+use Rattle.bit_grammar.specs.Input.{top_blocks, stream, wrapped, input, SpellsInput}
+use Rattle.bit_grammar.specs.Terms.{Head, Marked}
 use Rattle.bit_grammar.specs.Machine.{Event, enters, defines, notes, leaves, flat, Frame, Machine, at_start, frame_of, scope_of, open_block, open_nested, step_after, step_in, step_top, step_of, Ending, accepted}
 use Rattle.bit_grammar.specs.Steps.{Steps}
 use Rattle.bit_grammar.specs.Tally.{record_bits}
-use Rattle.bit_grammar.proofs.Bytes.{bytes_length}
-use Rattle.bit_grammar.proofs.Places.{blocks_placed}
-use Rattle.bit_grammar.proofs.Steps.{spelled_steps}
+use Rattle.bit_grammar.proofs.Bits.Bytes.{bytes_length}
+use Rattle.bit_grammar.proofs.Tallying.Places.{blocks_placed}
+use Rattle.bit_grammar.proofs.Events.Steps.{spelled_steps}
 
 -- the bits of the record of an event
 abbrev pub bits_told : Event → ℕ

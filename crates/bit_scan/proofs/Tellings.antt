@@ -8,19 +8,19 @@ use Rattle.bit_grammar.specs.declared.values.Values.{Values}
 use Rattle.bit_grammar.specs.Grammar.{at}
 use Rattle.bit_grammar.specs.Blocks.{Limits}
 use Rattle.bit_grammar.specs.EventTexts.{line_at, event_line, event_lines, head_line, outlook_text, outlook_end}
-use Rattle.bit_grammar.specs.Input.{Head}
+use Rattle.bit_grammar.specs.Terms.{Head}
 use Rattle.bit_grammar.specs.Machine.{Event, Ending, accepted, broke, Told}
 use Rattle.bit_grammar.specs.Outlook.{Outlook, outlook}
 use Rattle.bit_grammar.specs.Steps.{MayStand, open_after}
 use Rattle.bit_grammar.specs.Tally.{stream_begin}
 use Rattle.bit_grammar.specs.Texts.{magic_text}
-use Rattle.bit_grammar.proofs.Nesting.{open_within}
+use Rattle.bit_grammar.proofs.Events.Nesting.{open_within}
 use Rattle.bit_fields.specs.declared.fault.Fault.{Fault}
 use Rattle.bit_fields.specs.declared.fault.Fault.TheVariants.{Refused, Read, Write, Memory, OutputTooLong, Failed}
 use Rattle.bit_fields.specs.Devices.{Incoming, Outgoing, Spends, Fails, known_bytes}
 use Rattle.bit_fields.proofs.InflowLaws.{Spends-refl, Spends-trans, Spends-none, Fails-none, fails_later}
-use Rattle.bit_events.specs.Coming.{Coming, going, over, failed, Tells, before, Gives, Ends, Stops, Breaks}
-use Rattle.bit_events.specs.Events.{Begun, Declines}
+use Rattle.bit_events.specs.Coming.{Coming, going, over, failed, TellsComing, event_before, GivesEvent, EndsEvents, StopsEvents, BreaksOff}
+use Rattle.bit_events.specs.Events.{Begun, DeclinesEvents}
 use Rattle.bit_scan.specs.Printing.{Printing, Printed, PrintedFront, Prints}
 use Rattle.bit_scan.specs.Telling.{IsAccepted, WritesToEnd, PaidBy, IsTold, TellsInput, PrintedAll, PrintsToEnd, TellsBy, TellsRest, TellsAll, TellsOne, TellsNext}
 use Rattle.bit_scan.specs.Written.{TookText, TookFront, HasFailed}
@@ -92,27 +92,27 @@ line_then_rest values around next old new last p q s answer one rest =
     let told = rest.1 in
     let whole : event_line values around event ++ event_lines values (open_after event around) told.0 ≡ event_line values around event ++ event_lines values next told.0 = ap (λ (n : ℕ). event_line values around event ++ event_lines values n told.0) (sym one.next_is) in (
       paid_later answer old.incoming new.incoming last.incoming old.budget new.budget last.budget gives.pays rest.0,
-      before event told,
-      λ tells. gives.told tells ∙ ap (before event) (rest.2 (gives.pays.tells tells)),
+      event_before event told,
+      λ tells. gives.told tells ∙ ap (event_before event) (rest.2 (gives.pays.tells tells)),
       printed_to_end _ (event_line values around event) (event_lines values next told.0) told.1 old.incoming new.incoming last.incoming old.budget new.budget p q s answer whole gives.pays one.printed rest.3,
     )
 
 -- its line was not printed, or not all of it
-pub line_wrong : (values : Values) (around : ℕ) (old new : Coming) (p q : Printing) (event : Event) (fault : Fault) → Gives old event new → Prints (event_line values around event) p (Err fault) q → TellsRest values around old p (Err fault) new q
+pub line_wrong : (values : Values) (around : ℕ) (old new : Coming) (p q : Printing) (event : Event) (fault : Fault) → GivesEvent old event new → Prints (event_line values around event) p (Err fault) q → TellsRest values around old p (Err fault) new q
 line_wrong values around old new p q event fault gives prints =
     let line = event_line values around event in
     let others = event_lines values (open_after event around) new.told.0 in (
       paid_wrong line p q fault old.incoming new.incoming old.budget new.budget prints (inl gives.pays),
-      before event new.told,
+      event_before event new.told,
       gives.told,
       printed_wrong (line ++ others) new.told.1 old.incoming new.incoming p q fault (goes_wrong (line ++ others) p line others p q fault (goes_starts (line ++ others) p) prints),
     )
 
 -- the events have ended, and what was held is put, or not
-pub events_over : (values : Values) (around : ℕ) (old new : Coming) (p q : Printing) → old.stage ≡ going → Ends old new → Printed [] p q → q.held ≡ [] → TellsRest values around old p (Ok tt) new q
+pub events_over : (values : Values) (around : ℕ) (old new : Coming) (p q : Printing) → old.stage ≡ going → EndsEvents old new → Printed [] p q → q.held ≡ [] → TellsRest values around old p (Ok tt) new q
 events_over values around old new p q goes ends printed all = (ends.pays, ([], accepted new.position), λ tells. (ends.told tells).0, ((printed, all), (new.position, refl), ends.none goes))
 
-pub over_wrong : (values : Values) (around : ℕ) (old new : Coming) (p q : Printing) (fault : Fault) → Ends old new → Prints [] p (Err fault) q → TellsRest values around old p (Err fault) new q
+pub over_wrong : (values : Values) (around : ℕ) (old new : Coming) (p q : Printing) (fault : Fault) → EndsEvents old new → Prints [] p (Err fault) q → TellsRest values around old p (Err fault) new q
 over_wrong values around old new p q fault ends prints = (paid_wrong [] p q fault old.incoming new.incoming old.budget new.budget prints (inl ends.pays), ([], accepted new.position), λ tells. (ends.told tells).0, printed_wrong [] (accepted new.position) old.incoming new.incoming p q fault prints)
 
 -- what was printed is a front of what follows too
@@ -120,7 +120,7 @@ front_of_more : (text : List ℕ) (p q : Printing) → Printed [] p q → Prints
 front_of_more text p q printed = goes_wrong text p [] text p q Memory (goes_starts text p) (record { front = printed.part; rest = q.held; split = printed.split; bytes = printed.bytes }, printed.failures)
 
 -- a call for the next event failed, and what was held is put
-pub events_broke : (values : Values) (around : ℕ) (old new : Coming) (p q : Printing) (fault : Fault) → old.stage ≡ going → Breaks old fault new → Printed [] p q → q.held ≡ [] → TellsRest values around old p (Err fault) new q
+pub events_broke : (values : Values) (around : ℕ) (old new : Coming) (p q : Printing) (fault : Fault) → old.stage ≡ going → BreaksOff old fault new → Printed [] p q → q.held ≡ [] → TellsRest values around old p (Err fault) new q
 events_broke values around old new p q (Refused reason bit) goes breaks printed all = (breaks.0.pays, ([], broke (at reason bit)), breaks.1, ((printed, all), refl))
 events_broke values around old new p q Read goes breaks printed all = (breaks.fails, old.told, λ tells. refl, front_of_more (event_lines values around old.told.0) p q printed)
 events_broke values around old new p q Memory goes breaks printed all = (inl breaks.pays, old.told, λ tells. refl, front_of_more (event_lines values around old.told.0) p q printed)
@@ -129,12 +129,12 @@ events_broke values around old new p q Write goes breaks printed all = absurd br
 events_broke values around old new p q OutputTooLong goes breaks printed all = absurd breaks
 
 -- or not
-pub broke_wrong : (values : Values) (around : ℕ) (old new : Coming) (p q : Printing) (fault wrong : Fault) → old.stage ≡ going → Breaks old fault new → Prints [] p (Err wrong) q → TellsRest values around old p (Err wrong) new q
+pub broke_wrong : (values : Values) (around : ℕ) (old new : Coming) (p q : Printing) (fault wrong : Fault) → old.stage ≡ going → BreaksOff old fault new → Prints [] p (Err wrong) q → TellsRest values around old p (Err wrong) new q
 broke_wrong values around old new p q fault wrong goes breaks prints =
     let text = event_lines values around old.told.0 in
     (paid_wrong [] p q wrong old.incoming new.incoming old.budget new.budget prints (paid fault breaks), old.told, λ tells. refl, printed_wrong text old.told.1 old.incoming new.incoming p q wrong (goes_wrong text p [] text p q wrong (goes_starts text p) prints))
   where
-    paid : (fault : Fault) → Breaks old fault new → Spends old.incoming old.budget new.incoming new.budget ⊎ Fails old.incoming old.budget new.incoming new.budget
+    paid : (fault : Fault) → BreaksOff old fault new → Spends old.incoming old.budget new.incoming new.budget ⊎ Fails old.incoming old.budget new.incoming new.budget
     paid (Refused reason bit) b = inl b.0.pays
     paid Read b = inr b.fails
     paid Memory b = inl b.pays
@@ -209,7 +209,7 @@ input_told values limits i old c last s answer begun all = (
 )
 
 -- one that was not begun
-pub input_declined : (values : Values) (limits : Limits) (i now : Incoming) (o : Outgoing) (fault : Fault) → Declines limits i fault now → TellsInput values limits i o (Err fault) now o
+pub input_declined : (values : Values) (limits : Limits) (i now : Incoming) (o : Outgoing) (fault : Fault) → DeclinesEvents limits i fault now → TellsInput values limits i o (Err fault) now o
 input_declined values limits i now o (Refused reason bit) d = (d.0, Err (at reason bit), d.1, (record { bytes = Appends-nil o.bytes; failures = refl }, refl))
 input_declined values limits i now o Read d = (
   d,

@@ -1,7 +1,7 @@
 -- What is seen of the rows of codes.
 use Rattle.std.specs.Prelude.{◌≡◌, ℕ, ◌+◌, List, map, Result, OnOk}
 use Rattle.bit_grammar.specs.Tally.{CodeTally}
-use Rattle.bit_grammar.specs.Counting.{changed, fresh_code}
+use Rattle.bit_grammar.specs.Counting.{rows_with, fresh_code}
 use Rattle.bit_scan.specs.Cut.{cut_code}
 use Rattle.bit_scan.specs.declared.rows.CodeRow.{CodeRow}
 
@@ -18,8 +18,11 @@ one_more bits row = record { code = row.code; count = row.count + 1; bits = row.
 
 -- the rows with one more record of a code
 abbrev pub with_use : (code bits : ℕ) → List CodeTally → List CodeTally
-with_use code bits rows = changed (λ (x : CodeTally). x.code) fresh_code (one_more bits) code rows
+with_use code bits rows = rows_with (λ (x : CodeTally). x.code) fresh_code (one_more bits) code rows
 
 -- on success, rows that told of some tallies tell of these with one more record of a code
-abbrev pub CountsUse : {T E : Type 0} → (code bits : ℕ) → List (ℕ × CodeRow) → Result T E → List (ℕ × CodeRow) → Type 0
-CountsUse code bits old result new = (tallies : List CodeTally) → code_tallies old ≡ map cut_code tallies → OnOk result (code_tallies new ≡ map cut_code (with_use code bits tallies))
+abbrev pub CountsUse : {T E : Type 0} → (code bits : ℕ) → List (ℕ × CodeRow) → Result T E
+    → List (ℕ × CodeRow) → Type 0
+CountsUse code bits old result new = (tallies : List CodeTally)
+    → code_tallies old ≡ map cut_code tallies
+    → OnOk result (code_tallies new ≡ map cut_code (with_use code bits tallies))

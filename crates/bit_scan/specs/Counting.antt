@@ -20,12 +20,17 @@ open_counts blocks = open_onto blocks []
 
 -- something added to the row of the innermost open block
 abbrev pub added_here : Addition → Counts → Counts
-added_here addition c = record { rows = count_here (with_added addition) c.around c.rows; around = c.around }
+added_here addition c = record {
+  rows = count_here (with_added addition) c.around c.rows;
+  around = c.around;
+}
 
 -- The innermost of the open blocks was closed before a bit, with its own bits; its bits went to the block round
 -- it. Or there was none.
-abbrev pub Closes : List OpenCount → (after : ℕ) → Option (OpenBlock × ℕ) → List OpenCount → Type 0
-Closes [] after None new = new ≡ []
-Closes [] after (Some x) new = ⊥
-Closes (b ∷ around) after None new = ⊥
-Closes (b ∷ around) after (Some x) new = (x.0.id ≡ b.id) × (x.1 ≡ after - b.first - b.inside) × (new ≡ map cut_open (more_inside (after - b.first) around))
+abbrev pub ClosesCount : List OpenCount → (after : ℕ) → Option (OpenBlock × ℕ) → List OpenCount
+    → Type 0
+ClosesCount [] after None new = new ≡ []
+ClosesCount [] after (Some x) new = ⊥
+ClosesCount (b ∷ around) after None new = ⊥
+ClosesCount (b ∷ around) after (Some x) new = (x.0.id ≡ b.id) × (x.1 ≡ after - b.first - b.inside)
+    × (new ≡ map cut_open (more_inside (after - b.first) around))

@@ -27,5 +27,5 @@ cut_rows rows = map cut_row rows
 abbrev pub cut_open : OpenCount → OpenCount
 cut_open b = record { id = b.id; first = b.first; inside = saturated b.inside }
 
-abbrev pub cut : Counts → Counts
-cut c = record { rows = cut_rows c.rows; around = map cut_open c.around }
+abbrev pub capped_counts : Counts → Counts
+capped_counts c = record { rows = cut_rows c.rows; around = map cut_open c.around }

@@ -16,35 +16,42 @@ listing_head magic = line 0 (magic_text magic)
 -- the line of a block id, without those of its codes
 abbrev pub block_row_text : ℕ × BlockRow → List ℕ
 block_row_text e =
-    line 0 (codes "block " ++ decimal e.0 ++ codes " count " ++ decimal e.1.blocks ++ codes " bits " ++ decimal e.1.bits ++ codes " definitions " ++ decimal e.1.definitions
-    ++ codes " records " ++ decimal e.1.records ++ codes " abbreviated " ++ decimal e.1.abbreviated ++ codes " values " ++ decimal e.1.values)
+    line 0 (codes "block " ++ decimal e.0 ++ codes " count " ++ decimal e.1.blocks ++ codes " bits "
+    ++ decimal e.1.bits ++ codes " definitions " ++ decimal e.1.definitions
+    ++ codes " records " ++ decimal e.1.records ++ codes " abbreviated " ++ decimal e.1.abbreviated
+    ++ codes " values " ++ decimal e.1.values)
 
 -- its parts
 abbrev pub block_start : ℕ × BlockRow → List ℕ
-block_start e = codes "block " ++ decimal e.0 ++ codes " count " ++ decimal e.1.blocks ++ codes " bits " ++ decimal e.1.bits
+block_start e = codes "block " ++ decimal e.0 ++ codes " count " ++ decimal e.1.blocks
+    ++ codes " bits " ++ decimal e.1.bits
 
 abbrev pub block_middle : ℕ × BlockRow → List ℕ
-block_middle e = codes " definitions " ++ decimal e.1.definitions ++ codes " records " ++ decimal e.1.records
+block_middle e = codes " definitions " ++ decimal e.1.definitions ++ codes " records "
+    ++ decimal e.1.records
 
 abbrev pub block_end : ℕ × BlockRow → List ℕ
-block_end e = codes " abbreviated " ++ decimal e.1.abbreviated ++ codes " values " ++ decimal e.1.values ++ codes "\n"
+block_end e = codes " abbreviated " ++ decimal e.1.abbreviated ++ codes " values "
+    ++ decimal e.1.values ++ codes "\n"
 
 -- the line of a code
 abbrev pub code_row_text : ℕ × CodeRow → List ℕ
 code_row_text e = code_text (code_tally e)
 
 -- the line of a record up to its values
-abbrev pub record_head : (around code : ℕ) → List ℕ
-record_head around code = replicate (2 * around) 32 ++ (codes "record " ++ decimal code)
+abbrev pub record_line_front : (around code : ℕ) → List ℕ
+record_line_front around code = replicate (2 * around) 32 ++ (codes "record " ++ decimal code)
 
 -- a bit, a space, and the spaces before what stands there
-abbrev pub place_text : (bit around : ℕ) → List ℕ
-place_text bit around = decimal bit ++ (32 ∷ replicate (2 * around) 32)
+abbrev pub line_front : (bit around : ℕ) → List ℕ
+line_front bit around = decimal bit ++ (32 ∷ replicate (2 * around) 32)
 
 -- the line of a definition up to its operands
 abbrev pub definition_head : (around first : ℕ) → List ℕ
-definition_head around first = place_text first around ++ codes "define "
+definition_head around first = line_front first around ++ codes "define "
 
 -- the line of a record among events up to its values
 abbrev pub noted_head : (around first code abbreviation count : ℕ) → List ℕ
-noted_head around first code abbreviation count = place_text first around ++ (codes "record " ++ decimal code ++ codes " by " ++ decimal abbreviation ++ codes " count " ++ decimal count)
+noted_head around first code abbreviation count = line_front first around
+    ++ (codes "record " ++ decimal code ++ codes " by " ++ decimal abbreviation ++ codes " count "
+    ++ decimal count)

@@ -1,7 +1,7 @@
 -- The listing of an input, event by event.
 use Rattle.std.specs.Prelude.{◌≡◌, ◌⊎◌, ℕ, List, [], ◌++◌, if◌then◌else◌, Option, Some, None, Result, Ok, Err}
 use Rattle.bit_grammar.specs.Blocks.{Limits}
-use Rattle.bit_grammar.specs.Input.{Head}
+use Rattle.bit_grammar.specs.Terms.{Head}
 use Rattle.bit_grammar.specs.Machine.{Event, Told}
 use Rattle.bit_grammar.specs.Normal.{Capped}
 use Rattle.bit_grammar.specs.Outlook.{outlook}
@@ -12,41 +12,53 @@ use Rattle.bit_grammar.specs.Texts.{event_text, events_text}
 use Rattle.bit_fields.specs.declared.fault.Fault.{Fault}
 use Rattle.bit_fields.specs.declared.fault.Fault.TheVariants.{Memory}
 use Rattle.bit_fields.specs.Devices.{Outgoing}
-use Rattle.bit_events.specs.Standing.{Standing, leaves, stands_after, left_of}
-use Rattle.bit_events.specs.Coming.{Coming, Tells, Gives, Ends}
+use Rattle.bit_events.specs.Standing.{OpenUnder, leaves, stands_after, left_of}
+use Rattle.bit_events.specs.Coming.{Coming, TellsComing, GivesEvent, EndsEvents}
 use Rattle.bit_scan.specs.Lines.{listing_head}
 use Rattle.bit_scan.specs.Printing.{Printing, Printed, Prints}
 use Rattle.bit_scan.specs.Written.{WritesText}
 
 -- the line of a head's magic, and those of what is left of the events that are told
 abbrev pub told_text : Setting → Head → Told → List ℕ
-told_text setting head told = listing_head head.magic ++ events_text 0 (events_under setting [] told.0)
+told_text setting head told = listing_head head.magic
+    ++ events_text 0 (events_under setting [] told.0)
 
 -- the lines of what is left of events, with so many blocks that are left around the first
-abbrev pub left_text : (around : ℕ) → Standing → List Event → List ℕ
+abbrev pub left_text : (around : ℕ) → OpenUnder → List Event → List ℕ
 left_text around standing events = events_text around (left_of standing events)
 
 -- an event came, and its line was printed if it is left; so many blocks that are left stand around what follows
-pub record PrintsOne (around : ℕ) (stood : Standing) (old : Coming) (before : Printing) (next : ℕ) (stands : Standing) (new : Coming) (after : Printing) : Type 0 where
+pub record PrintsOne (around : ℕ) (stood : OpenUnder) (old : Coming) (before : Printing) (next : ℕ)
+    (stands : OpenUnder) (new : Coming) (after : Printing) : Type 0 where
   pub event : Event
-  pub gives : Gives old event new
+  pub gives : GivesEvent old event new
   pub stands_is : stands ≡ stands_after event stood
   pub next_is : next ≡ (if leaves stood event then open_after event around else around)
   pub printed : Printed (if leaves stood event then event_text around event else []) before after
 
 -- What is printed of an event, with so many blocks that are left around it: its line, if it is left; and so many stand around
 -- what follows. Or memory was refused, and nothing was printed; or the line was not, or not all of it.
-abbrev pub WritesLeft : (around : ℕ) → Standing → Event → Printing → Result ℕ Fault → Standing → Printing → Type 0
-WritesLeft around stood event before (Ok next) stands after = (stands ≡ stands_after event stood) × (next ≡ (if leaves stood event then open_after event around else around)) × Printed (if leaves stood event then event_text around event else []) before after
-WritesLeft around stood event before (Err fault) stands after = Prints (if leaves stood event then event_text around event else []) before (Err fault) after
+abbrev pub WritesLeft : (around : ℕ) → OpenUnder → Event → Printing → Result ℕ Fault → OpenUnder
+    → Printing → Type 0
+WritesLeft around stood event before (Ok next) stands after = (stands ≡ stands_after event stood)
+    × (next ≡ (if leaves stood event then open_after event around else around))
+    × Printed (if leaves stood event then event_text around event else []) before after
+WritesLeft around stood event before (Err fault) stands after = Prints
+    (if leaves stood event then event_text around event else []) before (Err fault) after
 
 -- The line of the next event was printed, if it has one; or no event was left; or the text of the events to come was not
 -- printed, or not all of it.
-abbrev pub Continues : (around : ℕ) → Standing → Coming → Printing → Result (Option ℕ) Fault → Standing → Coming → Printing → Type 0
-Continues around stood old before (Ok (Some next)) stands new after = PrintsOne around stood old before next stands new after
-Continues around stood old before (Ok None) stands new after = Ends old new × (after ≡ before)
-Continues around stood old before (Err fault) stands new after = Tells old → Prints (left_text around stood old.told.0) before (Err fault) after
+abbrev pub Continues : (around : ℕ) → OpenUnder → Coming → Printing → Result (Option ℕ) Fault
+    → OpenUnder → Coming → Printing → Type 0
+Continues around stood old before (Ok (Some next)) stands new after = PrintsOne around stood old
+    before next stands new after
+Continues around stood old before (Ok None) stands new after = EndsEvents old new × (after ≡ before)
+Continues around stood old before (Err fault) stands new after = TellsComing old
+    → Prints (left_text around stood old.told.0) before (Err fault) after
 
 -- A sink took the text of what is left of what is told of bytes, or a front of it; or memory was refused, and it took nothing.
-abbrev pub ListsBytes : Setting → Limits → List ℕ → Outgoing → Result (Unit {0}) Fault → Outgoing → Type 0
-ListsBytes setting limits bytes old answer new = (Capped limits × (x : Head × Told) × (outlook limits bytes ≡ Ok x) × WritesText (told_text setting x.0 x.1) old answer new) ⊎ ((answer ≡ Err Memory) × (new ≡ old))
+abbrev pub ListsBytes : Setting → Limits → List ℕ → Outgoing → Result (Unit {0}) Fault → Outgoing
+    → Type 0
+ListsBytes setting limits bytes old answer new = (Capped limits × (x : Head × Told)
+    × (outlook limits bytes ≡ Ok x) × WritesText (told_text setting x.0 x.1) old answer new)
+    ⊎ ((answer ≡ Err Memory) × (new ≡ old))

@@ -29,7 +29,8 @@ pub record PrintedFront (text : List ℕ) (old new : Printing) : Type 0 where
 abbrev pub Prints : List ℕ → Printing → Result (Unit {0}) Fault → Printing → Type 0
 Prints text old (Ok _) new = Printed text old new
 Prints text old (Err Write) new = PrintedFront text old new × HasFailed old.outgoing new.outgoing
-Prints text old (Err Memory) new = PrintedFront text old new × (new.outgoing.failures ≡ old.outgoing.failures)
+Prints text old (Err Memory) new = PrintedFront text old new
+    × (new.outgoing.failures ≡ old.outgoing.failures)
 Prints text old (Err (Refused reason bit)) new = ⊥
 Prints text old (Err Read) new = ⊥
 Prints text old (Err OutputTooLong) new = ⊥

@@ -15,8 +15,10 @@ abbrev pub ReadsTally : Limits → Incoming → Result Tally Fault → Incoming 
 ReadsTally limits = ReadsWhole (HasTally limits) limits
 
 -- an input was analysed, and this was done with its report
-abbrev pub ReadsAndReports : Limits → Incoming → Outgoing → Result (Unit {0}) Fault → Incoming → Outgoing → Type 0
-ReadsAndReports limits i old answer now new = (tally : Tally) × ReadsTally limits i (Ok tally) now × WritesText (report_of tally) old answer new
+abbrev pub ReadsAndReports : Limits → Incoming → Outgoing → Result (Unit {0}) Fault → Incoming
+    → Outgoing → Type 0
+ReadsAndReports limits i old answer now new = (tally : Tally) × ReadsTally limits i (Ok tally) now
+    × WritesText (report_of tally) old answer new
 
 -- an input was not analysed, and nothing was written
 abbrev pub ReportsNothing : Limits → Incoming → Outgoing → Fault → Incoming → Outgoing → Type 0
@@ -24,11 +26,14 @@ ReportsNothing limits i old fault now new = ReadsTally limits i (Err fault) now 
 
 -- The sink took the report of the analysis that the input has, or a front of it; or the input was not analysed, and the sink took
 -- nothing.
-abbrev pub Reports : Limits → Incoming → Outgoing → Result (Unit {0}) Fault → Incoming → Outgoing → Type 0
+abbrev pub Reports : Limits → Incoming → Outgoing → Result (Unit {0}) Fault → Incoming → Outgoing
+    → Type 0
 Reports limits i old (Ok _) now new = ReadsAndReports limits i old (Ok tt) now new
 Reports limits i old (Err Write) now new = ReadsAndReports limits i old (Err Write) now new
-Reports limits i old (Err Memory) now new = ReportsNothing limits i old Memory now new ⊎ ReadsAndReports limits i old (Err Memory) now new
-Reports limits i old (Err (Refused reason bit)) now new = ReportsNothing limits i old (Refused reason bit) now new
+Reports limits i old (Err Memory) now new = ReportsNothing limits i old Memory now new
+    ⊎ ReadsAndReports limits i old (Err Memory) now new
+Reports limits i old (Err (Refused reason bit)) now new = ReportsNothing limits i old
+    (Refused reason bit) now new
 Reports limits i old (Err Read) now new = ReportsNothing limits i old Read now new
 Reports limits i old (Err OutputTooLong) now new = ⊥
 Reports limits i old (Err Failed) now new = ⊥

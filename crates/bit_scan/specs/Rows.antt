@@ -25,5 +25,8 @@ abbrev pub block_tallies : List (ℕ × BlockRow) → List BlockTally
 block_tallies rows = map block_tally rows
 
 -- on success, rows that told of some tallies tell of these with something added to the row of an id
-abbrev pub AddsToRow : {T E : Type 0} → Addition → (id : ℕ) → List (ℕ × BlockRow) → Result T E → List (ℕ × BlockRow) → Type 0
-AddsToRow addition id old result new = (tallies : List BlockTally) → block_tallies old ≡ cut_rows tallies → OnOk result (block_tallies new ≡ cut_rows (with_row (with_added addition) id tallies))
+abbrev pub AddsToRow : {T E : Type 0} → Addition → (id : ℕ) → List (ℕ × BlockRow) → Result T E
+    → List (ℕ × BlockRow) → Type 0
+AddsToRow addition id old result new = (tallies : List BlockTally)
+    → block_tallies old ≡ cut_rows tallies → OnOk result
+    (block_tallies new ≡ cut_rows (with_row (with_added addition) id tallies))

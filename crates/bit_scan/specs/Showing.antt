@@ -16,20 +16,28 @@ abbrev pub ReadsLeft : Setting → Limits → Incoming → Result Tree Fault →
 ReadsLeft setting limits = ReadsWhole (HasFit setting limits) limits
 
 -- an input was read, and this was done with the listing of what is left of it
-abbrev pub ReadsAndLists : Setting → Limits → Incoming → Outgoing → Result (Unit {0}) Fault → Incoming → Outgoing → Type 0
-ReadsAndLists setting limits i old answer now new = (tree : Tree) × ReadsLeft setting limits i (Ok tree) now × WritesText (listing_of tree) old answer new
+abbrev pub ReadsAndLists : Setting → Limits → Incoming → Outgoing → Result (Unit {0}) Fault
+    → Incoming → Outgoing → Type 0
+ReadsAndLists setting limits i old answer now new = (tree : Tree)
+    × ReadsLeft setting limits i (Ok tree) now × WritesText (listing_of tree) old answer new
 
 -- an input was not read, and nothing was written
-abbrev pub ListsNothing : Setting → Limits → Incoming → Outgoing → Fault → Incoming → Outgoing → Type 0
-ListsNothing setting limits i old fault now new = ReadsLeft setting limits i (Err fault) now × (new ≡ old)
+abbrev pub ListsNothing : Setting → Limits → Incoming → Outgoing → Fault → Incoming → Outgoing
+    → Type 0
+ListsNothing setting limits i old fault now new = ReadsLeft setting limits i (Err fault) now
+    × (new ≡ old)
 
 -- The sink took the listing of what is left of the input, or a front of it; or the input was not read, and the sink took
 -- nothing.
-abbrev pub Shows : Setting → Limits → Incoming → Outgoing → Result (Unit {0}) Fault → Incoming → Outgoing → Type 0
+abbrev pub Shows : Setting → Limits → Incoming → Outgoing → Result (Unit {0}) Fault → Incoming
+    → Outgoing → Type 0
 Shows setting limits i old (Ok _) now new = ReadsAndLists setting limits i old (Ok tt) now new
-Shows setting limits i old (Err Write) now new = ReadsAndLists setting limits i old (Err Write) now new
-Shows setting limits i old (Err Memory) now new = ListsNothing setting limits i old Memory now new ⊎ ReadsAndLists setting limits i old (Err Memory) now new
-Shows setting limits i old (Err (Refused reason bit)) now new = ListsNothing setting limits i old (Refused reason bit) now new
+Shows setting limits i old (Err Write) now new = ReadsAndLists setting limits i old (Err Write) now
+    new
+Shows setting limits i old (Err Memory) now new = ListsNothing setting limits i old Memory now new
+    ⊎ ReadsAndLists setting limits i old (Err Memory) now new
+Shows setting limits i old (Err (Refused reason bit)) now new = ListsNothing setting limits i old
+    (Refused reason bit) now new
 Shows setting limits i old (Err Read) now new = ListsNothing setting limits i old Read now new
 Shows setting limits i old (Err OutputTooLong) now new = ⊥
 Shows setting limits i old (Err Failed) now new = ⊥

@@ -29,7 +29,11 @@ impl Model for Analysis {
     ghost use Rattle.bit_fields.specs.Opening.{magic_number};
     ghost use Rattle.bit_scan.specs.Rows.{block_tallies};
 
-    ghost view = { λ analysis. record { magic = magic_number analysis.magic; bits = analysis.bits; rows = block_tallies analysis.rows.items } };
+    ghost view = { λ analysis. record {
+      magic = magic_number analysis.magic;
+      bits = analysis.bits;
+      rows = block_tallies analysis.rows.items;
+    } };
 }
 
 /// Writes the lines of codes.
@@ -68,7 +72,11 @@ impl Analysis {
         bits: u64,
         rows: Vec<(u32, BlockRow)>,
     ) -> Analysis
-        ensures { result ≡ record { magic = magic_number magic; bits = bits; rows = block_tallies rows.items } }
+        ensures { result ≡ record {
+          magic = magic_number magic;
+          bits = bits;
+          rows = block_tallies rows.items;
+        } }
     {
         Analysis {
             alloc,

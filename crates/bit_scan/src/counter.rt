@@ -1,8 +1,8 @@
 ghost use Rattle.std.specs.Prelude.{◌≡◌, List, map, OnOk};
 ghost use Rattle.bit_grammar.specs.Machine.{Opened, enters, leaves};
 ghost use Rattle.bit_grammar.specs.Counting.{OpenCount, Counts, no_counts, count_event};
-ghost use Rattle.bit_scan.specs.Counting.{open_counts, added_here, Closes};
-ghost use Rattle.bit_scan.specs.Cut.{cut, cut_open};
+ghost use Rattle.bit_scan.specs.Counting.{open_counts, added_here, ClosesCount};
+ghost use Rattle.bit_scan.specs.Cut.{capped_counts, cut_open};
 ghost use Rattle.bit_scan.specs.Rows.{block_tallies};
 
 use crate::rows::{Addition, BlockRow, BlockRows};
@@ -32,7 +32,8 @@ pub(crate) struct Counter {
 /// Takes the innermost open block off, which ends before a bit. All its bits go to the block round it.
 /// Answers it and the bits that are its own.
 fn close_block(blocks: &mut Vec<OpenBlock>, after: u64) -> Option<(OpenBlock, u64)>
-    ensures { (around : List OpenCount) → open_counts blocks.old.items ≡ map cut_open around → Closes around after result (open_counts blocks.new.items) }
+    ensures { (around : List OpenCount) → open_counts blocks.old.items ≡ map cut_open around
+        → ClosesCount around after result (open_counts blocks.new.items) }
 {
     let block = blocks.pop()?;
     let bits = after.saturating_sub(block.first);
@@ -50,7 +51,10 @@ impl Model for Counter {
     ghost use Rattle.bit_scan.specs.Counting.{open_counts};
     ghost use Rattle.bit_scan.specs.Rows.{block_tallies};
 
-    ghost view = { λ counter. record { rows = block_tallies counter.rows; around = open_counts counter.open.items } };
+    ghost view = { λ counter. record {
+      rows = block_tallies counter.rows;
+      around = open_counts counter.open.items;
+    } };
 }
 
 impl Counter {
@@ -66,7 +70,9 @@ impl Counter {
 
     /// A block with this id begins at a bit.
     fn open_block(&mut self, id: u32, first: u64) -> Result<(), AllocError>
-        ensures { (counts : Counts) (opened : Opened) → opened.id ≡ id → opened.first ≡ first → self.old ≡ cut counts → OnOk result (self.new ≡ cut (count_event (enters opened) counts)) }
+        ensures { (counts : Counts) (opened : Opened) → opened.id ≡ id → opened.first ≡ first
+            → self.old ≡ capped_counts counts
+            → OnOk result (self.new ≡ capped_counts (count_event (enters opened) counts)) }
     {
         let place = self.rows.add_by_id(id, Addition::Block)?;
         self.open.push(OpenBlock {
@@ -80,7 +86,8 @@ impl Counter {
 
     /// The innermost block ends before a bit.
     fn end_block(&mut self, after: u64) -> Result<(), AllocError>
-        ensures { (counts : Counts) → self.old ≡ cut counts → OnOk result (self.new ≡ cut (count_event (leaves after) counts)) }
+        ensures { (counts : Counts) → self.old ≡ capped_counts counts
+            → OnOk result (self.new ≡ capped_counts (count_event (leaves after) counts)) }
     {
         match close_block(&mut self.open, after) {
             Some((block, bits)) => {
@@ -94,7 +101,8 @@ impl Counter {
     /// Counts what stands in the innermost open block.
     #[inline(always)]
     fn count_here(&mut self, addition: Addition) -> Result<(), AllocError>
-        ensures { (counts : Counts) → self.old ≡ cut counts → OnOk result (self.new ≡ cut (added_here addition counts)) }
+        ensures { (counts : Counts) → self.old ≡ capped_counts counts
+            → OnOk result (self.new ≡ capped_counts (added_here addition counts)) }
     {
         match self.open.last() {
             Some(block) => self.rows.add(block.id, block.place, addition),
@@ -113,12 +121,12 @@ impl Counter {
 impl Gatherer for Counter {
     ghost use Rattle.std.specs.Prelude.{◌≡◌};
     ghost use Rattle.bit_grammar.specs.Counting.{no_counts, count_events};
-    ghost use Rattle.bit_scan.specs.Cut.{cut};
+    ghost use Rattle.bit_scan.specs.Cut.{capped_counts};
 
     type Values = ValueCount;
 
     // A number that would pass the greatest of 64 bits stays there.
-    ghost gathered = { λ first events last. last ≡ cut (count_events events no_counts) };
+    ghost gathered = { λ first events last. last ≡ capped_counts (count_events events no_counts) };
 
     #[inline]
     fn values(&self) -> ValueCount {

@@ -2,8 +2,8 @@ ghost use Rattle.std.specs.Prelude.{◌≡◌, ℕ, ◌*◌, ◌-◌, ◌++◌, 
 ghost use Rattle.bit_grammar.specs.EventTexts.{line_at, op_text, opened_text};
 ghost use Rattle.bit_grammar.specs.Texts.{hex_text, magic_text, block_line};
 ghost use Rattle.bit_fields.specs.Opening.{magic_number};
-ghost use Rattle.bit_scan.specs.Lines.{report_head, listing_head, block_row_text, block_start, block_middle, block_end, code_row_text, record_head};
-ghost use Rattle.bit_scan.specs.Lines.{place_text, definition_head, noted_head};
+ghost use Rattle.bit_scan.specs.Lines.{report_head, listing_head, block_row_text, block_start, block_middle, block_end, code_row_text, record_line_front};
+ghost use Rattle.bit_scan.specs.Lines.{line_front, definition_head, noted_head};
 
 use crate::rows::{BlockRow, CodeRow};
 use bit_grammar::Op;
@@ -19,7 +19,8 @@ fn push_byte(text: &mut String, byte: u8) -> Result<(), AllocError>
 
 /// Appends two digits for each byte.
 fn push_bytes(text: &mut String, bytes: &[u8]) -> Result<(), AllocError>
-    ensures { OnOk result (string_bytes text.new ≡ string_bytes text.old ++ flat_map hex_text bytes.now) }
+    ensures { OnOk result (string_bytes text.new
+        ≡ string_bytes text.old ++ flat_map hex_text bytes.now) }
 {
     for byte in bytes {
         push_byte(text, *byte)?;
@@ -30,7 +31,8 @@ fn push_bytes(text: &mut String, bytes: &[u8]) -> Result<(), AllocError>
 /// Appends the word magic and the eight hexadecimal digits of a magic, its first byte first. Where memory is refused the text
 /// may have a part of it.
 pub fn push_magic(text: &mut String, magic: [u8; 4]) -> Result<(), AllocError>
-    ensures { OnOk result (string_bytes text.new ≡ string_bytes text.old ++ magic_text (magic_number magic)) }
+    ensures { OnOk result (string_bytes text.new
+        ≡ string_bytes text.old ++ magic_text (magic_number magic)) }
 {
     text.push_str("magic ")?;
     push_bytes(text, &magic)
@@ -42,7 +44,8 @@ pub(crate) fn push_report_head(
     magic: [u8; 4],
     bits: u64,
 ) -> Result<(), AllocError>
-    ensures { OnOk result (string_bytes text.new ≡ string_bytes text.old ++ report_head (magic_number magic) bits) }
+    ensures { OnOk result (string_bytes text.new
+        ≡ string_bytes text.old ++ report_head (magic_number magic) bits) }
 {
     push_magic(text, magic)?;
     writeln!(text, " bits {bits}")
@@ -50,7 +53,8 @@ pub(crate) fn push_report_head(
 
 /// Appends the first line of a listing.
 pub(crate) fn push_listing_head(text: &mut String, magic: [u8; 4]) -> Result<(), AllocError>
-    ensures { OnOk result (string_bytes text.new ≡ string_bytes text.old ++ listing_head (magic_number magic)) }
+    ensures { OnOk result (string_bytes text.new
+        ≡ string_bytes text.old ++ listing_head (magic_number magic)) }
 {
     push_magic(text, magic)?;
     text.push_str("\n")
@@ -58,7 +62,8 @@ pub(crate) fn push_listing_head(text: &mut String, magic: [u8; 4]) -> Result<(),
 
 /// Appends the first part of the line of a block id in a report.
 fn push_block_start(text: &mut String, id: u32, row: &BlockRow) -> Result<(), AllocError>
-    ensures { OnOk result (string_bytes text.new ≡ string_bytes text.old ++ block_start (id, row.now)) }
+    ensures { OnOk result (string_bytes text.new
+        ≡ string_bytes text.old ++ block_start (id, row.now)) }
 {
     let (blocks, bits) = (row.blocks, row.bits);
     write!(text, "block {id} count {blocks} bits {bits}")
@@ -66,7 +71,8 @@ fn push_block_start(text: &mut String, id: u32, row: &BlockRow) -> Result<(), Al
 
 /// Appends the second part.
 fn push_block_middle(text: &mut String, row: &BlockRow) -> Result<(), AllocError>
-    ensures { (id : ℕ) → OnOk result (string_bytes text.new ≡ string_bytes text.old ++ block_middle (id, row.now)) }
+    ensures { (id : ℕ) → OnOk result (string_bytes text.new
+        ≡ string_bytes text.old ++ block_middle (id, row.now)) }
 {
     let (definitions, records) = (row.definitions, row.records);
     write!(text, " definitions {definitions} records {records}")
@@ -74,7 +80,8 @@ fn push_block_middle(text: &mut String, row: &BlockRow) -> Result<(), AllocError
 
 /// Appends the last part.
 fn push_block_end(text: &mut String, row: &BlockRow) -> Result<(), AllocError>
-    ensures { (id : ℕ) → OnOk result (string_bytes text.new ≡ string_bytes text.old ++ block_end (id, row.now)) }
+    ensures { (id : ℕ) → OnOk result (string_bytes text.new
+        ≡ string_bytes text.old ++ block_end (id, row.now)) }
 {
     let (abbreviated, values) = (row.abbreviated, row.values);
     writeln!(text, " abbreviated {abbreviated} values {values}")
@@ -82,7 +89,8 @@ fn push_block_end(text: &mut String, row: &BlockRow) -> Result<(), AllocError>
 
 /// Appends the line of a block id in a report, without those of its codes.
 pub(crate) fn push_block_row(text: &mut String, id: u32, row: &BlockRow) -> Result<(), AllocError>
-    ensures { OnOk result (string_bytes text.new ≡ string_bytes text.old ++ block_row_text (id, row.now)) }
+    ensures { OnOk result (string_bytes text.new
+        ≡ string_bytes text.old ++ block_row_text (id, row.now)) }
 {
     push_block_start(text, id, row)?;
     push_block_middle(text, row)?;
@@ -91,7 +99,8 @@ pub(crate) fn push_block_row(text: &mut String, id: u32, row: &BlockRow) -> Resu
 
 /// Appends the line of a code in a report.
 pub(crate) fn push_code_row(text: &mut String, code: u64, row: CodeRow) -> Result<(), AllocError>
-    ensures { OnOk result (string_bytes text.new ≡ string_bytes text.old ++ code_row_text (code, row)) }
+    ensures { OnOk result (string_bytes text.new
+        ≡ string_bytes text.old ++ code_row_text (code, row)) }
 {
     let CodeRow { count, bits } = row;
     writeln!(text, "  record {code} count {count} bits {bits}")
@@ -111,7 +120,8 @@ fn push_number(text: &mut String, number: u64) -> Result<(), AllocError>
 
 /// Appends two spaces for each block around.
 fn push_indent(text: &mut String, around: u32) -> Result<(), AllocError>
-    ensures { OnOk result (string_bytes text.new ≡ string_bytes text.old ++ replicate (2 * around) 32) }
+    ensures { OnOk result (string_bytes text.new
+        ≡ string_bytes text.old ++ replicate (2 * around) 32) }
 {
     for _ in 0..around {
         text.push_str("  ")?;
@@ -129,7 +139,8 @@ pub(crate) fn push_block_line(text: &mut String, around: u32, id: u32) -> Result
 
 /// Appends the line of a record in a listing, up to its values.
 pub(crate) fn push_record_head(text: &mut String, around: u32, code: u64) -> Result<(), AllocError>
-    ensures { OnOk result (string_bytes text.new ≡ string_bytes text.old ++ record_head around code) }
+    ensures { OnOk result (string_bytes text.new
+        ≡ string_bytes text.old ++ record_line_front around code) }
 {
     push_indent(text, around)?;
     text.push_str("record ")?;
@@ -146,7 +157,7 @@ pub(crate) fn push_value(text: &mut String, value: u64) -> Result<(), AllocError
 
 /// Appends a bit, a space, and two spaces for each block around.
 fn push_place(text: &mut String, bit: u64, around: u32) -> Result<(), AllocError>
-    ensures { OnOk result (string_bytes text.new ≡ string_bytes text.old ++ place_text bit around) }
+    ensures { OnOk result (string_bytes text.new ≡ string_bytes text.old ++ line_front bit around) }
 {
     push_number(text, bit)?;
     text.push(' ')?;
@@ -159,7 +170,8 @@ pub(crate) fn push_head_line(
     begin: u64,
     magic: [u8; 4],
 ) -> Result<(), AllocError>
-    ensures { OnOk result (string_bytes text.new ≡ string_bytes text.old ++ line_at begin 0 (magic_text (magic_number magic))) }
+    ensures { OnOk result (string_bytes text.new
+        ≡ string_bytes text.old ++ line_at begin 0 (magic_text (magic_number magic))) }
 {
     push_place(text, begin, 0)?;
     push_listing_head(text, magic)
@@ -174,7 +186,8 @@ pub(crate) fn push_opened_line(
     first: u64,
     body: u64,
 ) -> Result<(), AllocError>
-    ensures { OnOk result (string_bytes text.new ≡ string_bytes text.old ++ line_at first around (opened_text id width body)) }
+    ensures { OnOk result (string_bytes text.new
+        ≡ string_bytes text.old ++ line_at first around (opened_text id width body)) }
 {
     push_place(text, first, around)?;
     writeln!(text, "block {id} width {width} body {body}")
@@ -186,7 +199,8 @@ pub(crate) fn push_definition_head(
     around: u32,
     first: u64,
 ) -> Result<(), AllocError>
-    ensures { OnOk result (string_bytes text.new ≡ string_bytes text.old ++ definition_head around first) }
+    ensures { OnOk result (string_bytes text.new
+        ≡ string_bytes text.old ++ definition_head around first) }
 {
     push_place(text, first, around)?;
     text.push_str("define ")
@@ -208,7 +222,8 @@ pub(crate) fn push_operand(text: &mut String, op: Op) -> Result<(), AllocError>
 
 /// Appends an operand that stands behind another one.
 pub(crate) fn push_further_operand(text: &mut String, op: Op) -> Result<(), AllocError>
-    ensures { OnOk result (string_bytes text.new ≡ string_bytes text.old ++ (codes ", " ++ op_text op)) }
+    ensures { OnOk result (string_bytes text.new
+        ≡ string_bytes text.old ++ (codes ", " ++ op_text op)) }
 {
     text.push_str(", ")?;
     push_operand(text, op)
@@ -223,7 +238,8 @@ pub(crate) fn push_noted_head(
     abbreviation: u32,
     count: u64,
 ) -> Result<(), AllocError>
-    ensures { OnOk result (string_bytes text.new ≡ string_bytes text.old ++ noted_head around first code abbreviation count) }
+    ensures { OnOk result (string_bytes text.new
+        ≡ string_bytes text.old ++ noted_head around first code abbreviation count) }
 {
     push_place(text, first, around)?;
     write!(text, "record {code} by {abbreviation} count {count}")
@@ -231,7 +247,8 @@ pub(crate) fn push_noted_head(
 
 /// Appends the line of a block's end, with so many blocks open before it.
 pub(crate) fn push_end_line(text: &mut String, around: u32, after: u64) -> Result<(), AllocError>
-    ensures { OnOk result (string_bytes text.new ≡ string_bytes text.old ++ line_at after (around - 1) (codes "end")) }
+    ensures { OnOk result (string_bytes text.new
+        ≡ string_bytes text.old ++ line_at after (around - 1) (codes "end")) }
 {
     push_place(text, after, around.saturating_sub(1))?;
     text.push_str("end\n")

@@ -3,8 +3,8 @@ ghost use Rattle.std.proofs.Math.ListN.{replicate};
 ghost use Rattle.bit_grammar.specs.Steps.{open_after};
 ghost use Rattle.bit_grammar.specs.Setting.{setting_of};
 ghost use Rattle.bit_grammar.specs.Texts.{values_text, record_line, event_text};
-ghost use Rattle.bit_events.specs.Coming.{Tells};
-ghost use Rattle.bit_events.specs.EventView.{shown};
+ghost use Rattle.bit_events.specs.Coming.{TellsComing};
+ghost use Rattle.bit_events.specs.EventView.{event_shown};
 ghost use Rattle.bit_scan.specs.Lines.{listing_head};
 ghost use Rattle.bit_scan.specs.Listing.{left_text, WritesLeft, Continues, ListsBytes};
 ghost use Rattle.bit_scan.specs.Printing.{Prints};
@@ -79,7 +79,7 @@ fn write_event<K: Sink>(
     around: u32,
     event: &PackedEvent<'_>,
 ) -> Result<(), Fault>
-    ensures { Prints (event_text around (shown event.now)) printer.old result printer.new }
+    ensures { Prints (event_text around (event_shown event.now)) printer.old result printer.new }
 {
     match event {
         Event::Enter { id, .. } => printer.block_line(around, *id),
@@ -91,7 +91,7 @@ fn write_event<K: Sink>(
 /// How many blocks stand around what follows an event.
 pub(crate) fn around_after(around: u32, event: &PackedEvent<'_>) -> u32
     requires { around ≤ 255 }
-    ensures { result ≡ open_after (shown event.now) around }
+    ensures { result ≡ open_after (event_shown event.now) around }
 {
     match event {
         Event::Enter { .. } => around + 1,
@@ -109,7 +109,8 @@ fn write_left<K: Sink>(
     event: PackedEvent<'_>,
 ) -> Result<u32, Fault>
     requires { around ≤ 255 }
-    ensures { WritesLeft around standing.old (shown event.entry) printer.old result standing.new printer.new }
+    ensures { WritesLeft around standing.old (event_shown event.entry) printer.old result
+        standing.new printer.new }
 {
     let Ok(is_left) = standing.take(event) else {
         return Err(Fault::Memory);
@@ -130,7 +131,8 @@ fn write_next<S: Source, K: Sink>(
     around: u32,
 ) -> Result<Option<u32>, Fault>
     requires { around ≤ 255 }
-    ensures { Continues around standing.old events.old printer.old result standing.new events.new printer.new }
+    ensures { Continues around standing.old events.old printer.old result standing.new events.new
+        printer.new }
 {
     match events.next() {
         Ok(Some(event)) => {
@@ -149,7 +151,7 @@ fn write_events<S: Source, K: Sink>(
     printer: &mut Printer<K>,
     standing: &mut OpenBlocks<'_>,
 ) -> Result<(), Fault>
-    requires tells { Tells events.old }
+    requires tells { TellsComing events.old }
     requires outside { events.old.depth ≡ 0 }
     requires deepest { events.old.deepest ≤ 255 }
     requires none { standing.old.ids ≡ [] }
@@ -168,11 +170,12 @@ fn write_told<S: Source, K: Sink>(
     printer: &mut Printer<K>,
     standing: &mut OpenBlocks<'_>,
 ) -> Result<(), Fault>
-    requires tells { Tells events.old }
+    requires tells { TellsComing events.old }
     requires outside { events.old.depth ≡ 0 }
     requires deepest { events.old.deepest ≤ 255 }
     requires none { standing.old.ids ≡ [] }
-    ensures prints { Prints (listing_head events.old.head.magic ++ left_text 0 standing.old events.old.told.0) printer.old result printer.new }
+    ensures prints { Prints (listing_head events.old.head.magic
+        ++ left_text 0 standing.old events.old.told.0) printer.old result printer.new }
     ensures all { OnOk result (printer.new.held ≡ []) }
 {
     printer.listing_head(events.head().magic)?;
@@ -191,7 +194,8 @@ pub(crate) fn write_listing<K: Sink>(
     info: Info<'_>,
     sink: K,
 ) -> (Result<(), Fault>, K)
-    ensures { ListsBytes (setting_of info.entry) limits bytes.now (K.outgoing sink) result.0 (K.outgoing result.1) }
+    ensures { ListsBytes (setting_of info.entry) limits bytes.now (K.outgoing sink) result.0
+        (K.outgoing result.1) }
 {
     let mut events = match PackedEvents::start(alloc, SliceSource::new(bytes), limits) {
         Ok(events) => events,

@@ -2,7 +2,7 @@ ghost use Rattle.std.specs.Prelude.{◌≡◌, ◌-◌, ◌∷◌, ◌++◌, [],
 ghost use Rattle.bit_grammar.specs.EventTexts.{line_at, op_text, opened_text};
 ghost use Rattle.bit_grammar.specs.Texts.{magic_text, block_line};
 ghost use Rattle.bit_fields.specs.Opening.{magic_number};
-ghost use Rattle.bit_scan.specs.Lines.{report_head, listing_head, block_row_text, code_row_text, record_head, definition_head, noted_head};
+ghost use Rattle.bit_scan.specs.Lines.{report_head, listing_head, block_row_text, code_row_text, record_line_front, definition_head, noted_head};
 ghost use Rattle.bit_scan.specs.Printing.{Prints};
 ghost use Rattle.bit_scan.specs.Written.{WritesText};
 
@@ -48,7 +48,10 @@ impl<K: Sink> Model for Printer<K> {
 
     ghost Value = { Printing };
 
-    ghost view = { λ printer. record { outgoing = K.outgoing printer.sink; held = string_bytes printer.held } };
+    ghost view = { λ printer. record {
+      outgoing = K.outgoing printer.sink;
+      held = string_bytes printer.held;
+    } };
 }
 
 impl<K: Sink> Printer<K> {
@@ -141,7 +144,7 @@ impl<K: Sink> Printer<K> {
 
     /// The line of a record in a listing, up to its values.
     pub(crate) fn record_head(&mut self, around: u32, code: u64) -> Result<(), Fault>
-        ensures { Prints (record_head around code) self.old result self.new }
+        ensures { Prints (record_line_front around code) self.old result self.new }
     {
         match push_record_head(&mut self.held, around, code) {
             Ok(()) => self.settle(),
@@ -172,7 +175,8 @@ impl<K: Sink> Printer<K> {
 
     /// The line of a magic among events, behind the bit where its stream begins.
     pub(crate) fn head_line(&mut self, begin: u64, magic: [u8; 4]) -> Result<(), Fault>
-        ensures { Prints (line_at begin 0 (magic_text (magic_number magic))) self.old result self.new }
+        ensures { Prints (line_at begin 0 (magic_text (magic_number magic))) self.old result
+            self.new }
     {
         match push_head_line(&mut self.held, begin, magic) {
             Ok(()) => self.settle(),

@@ -16,7 +16,8 @@ pub fn write_report<S: Source, K: Sink>(
     sink: K,
     limits: Limits,
 ) -> (Result<(), Fault>, S, K)
-    ensures { Reports limits (S.incoming source) (K.outgoing sink) result.0 (S.incoming result.1) (K.outgoing result.2) }
+    ensures { Reports limits (S.incoming source) (K.outgoing sink) result.0 (S.incoming result.1)
+        (K.outgoing result.2) }
 {
     let (answer, source) = analyse(alloc, source, limits);
     match answer {

@@ -64,7 +64,8 @@ fn is_code_at(rows: &[(u64, CodeRow)], place: usize, code: u64) -> bool
 fn count_at(rows: &mut [(u64, CodeRow)], place: usize, bits: u64)
     requires { place < length rows.old }
     ensures keys { keys_of rows.new ≡ keys_of rows.old }
-    ensures counts { (code : ℕ) (tallies : List CodeTally) → AreDistinct (keys_of rows.old) → slice_get (keys_of rows.old) place ≡ Some code
+    ensures counts { (code : ℕ) (tallies : List CodeTally) → AreDistinct (keys_of rows.old)
+        → slice_get (keys_of rows.old) place ≡ Some code
         → code_tallies rows.old ≡ map cut_code tallies → code_tallies rows.new ≡ map cut_code (with_use code bits tallies) }
 {
     let (_, row) = &mut rows[place];
@@ -261,7 +262,8 @@ fn is_id_at(rows: &[(u32, BlockRow)], place: usize, id: u32) -> bool
 fn add_at(rows: &mut [(u32, BlockRow)], place: usize, addition: Addition) -> Result<(), AllocError>
     requires { place < length rows.old }
     ensures keys { keys_of rows.new ≡ keys_of rows.old }
-    ensures adds { (id : ℕ) (tallies : List BlockTally) → AreDistinct (keys_of rows.old) → slice_get (keys_of rows.old) place ≡ Some id
+    ensures adds { (id : ℕ) (tallies : List BlockTally) → AreDistinct (keys_of rows.old)
+        → slice_get (keys_of rows.old) place ≡ Some id
         → block_tallies rows.old ≡ cut_rows tallies → OnOk result (block_tallies rows.new ≡ cut_rows (with_row (with_added addition) id tallies)) }
 {
     let (_, row) = &mut rows[place];

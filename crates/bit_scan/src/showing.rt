@@ -21,7 +21,8 @@ pub fn write_show<S: Source, K: Sink>(
     limits: Limits,
     info: Info<'_>,
 ) -> (Result<(), Fault>, S, K)
-    ensures { Shows (setting_of info.entry) limits (S.incoming source) (K.outgoing sink) result.0 (S.incoming result.1) (K.outgoing result.2) }
+    ensures { Shows (setting_of info.entry) limits (S.incoming source) (K.outgoing sink) result.0
+        (S.incoming result.1) (K.outgoing result.2) }
 {
     let (kept, source) = check_keeping(alloc, source, limits);
     match kept {

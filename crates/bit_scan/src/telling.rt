@@ -4,7 +4,7 @@ ghost use Rattle.std.specs.Prelude.{◌≡◌, ◌≤◌, ◌++◌, codes, flat_
 ghost use Rattle.bit_grammar.specs.EventTexts.{line_at, op_text, ops_text, shown_values, noted_text, event_line};
 ghost use Rattle.bit_grammar.specs.declared.op.Op.{Op};
 ghost use Rattle.bit_events.specs.Coming.{going};
-ghost use Rattle.bit_events.specs.EventView.{shown};
+ghost use Rattle.bit_events.specs.EventView.{event_shown};
 ghost use Rattle.bit_scan.specs.Printing.{Prints};
 ghost use Rattle.bit_scan.specs.Telling.{TellsNext, TellsRest, TellsAll, TellsInput};
 
@@ -18,7 +18,8 @@ use std::alloc::Global;
 
 /// Writes operands, a comma before each.
 fn write_further_operands<K: Sink>(printer: &mut Printer<K>, ops: &[Op]) -> Result<(), Fault>
-    ensures { Prints (flat_map (λ (op : Op). codes ", " ++ op_text op) ops.now) printer.old result printer.new }
+    ensures { Prints (flat_map (λ (op : Op). codes ", " ++ op_text op) ops.now) printer.old result
+        printer.new }
 {
     for op in ops {
         printer.further_operand(*op)?;
@@ -46,7 +47,8 @@ fn write_definition<K: Sink>(
     first: u64,
     ops: &[Op],
 ) -> Result<(), Fault>
-    ensures { Prints (line_at first around (codes "define " ++ ops_text ops.now)) printer.old result printer.new }
+    ensures { Prints (line_at first around (codes "define " ++ ops_text ops.now)) printer.old result
+        printer.new }
 {
     printer.definition_head(around, first)?;
     write_operands(printer, ops)?;
@@ -83,7 +85,8 @@ fn write_noted<K: Sink>(
     values: Values,
     listed: &PackedValues,
 ) -> Result<(), Fault>
-    ensures { Prints (line_at noted.first around (noted_text values noted.code noted.abbreviation listed.now)) printer.old result printer.new }
+    ensures { Prints (line_at noted.first around
+        (noted_text values noted.code noted.abbreviation listed.now)) printer.old result printer.new }
 {
     printer.noted_head(
         around,
@@ -103,7 +106,8 @@ fn write_line<K: Sink>(
     event: &PackedEvent<'_>,
     values: Values,
 ) -> Result<(), Fault>
-    ensures { Prints (event_line values around (shown event.now)) printer.old result printer.new }
+    ensures { Prints (event_line values around (event_shown event.now)) printer.old result
+        printer.new }
 {
     match *event {
         Event::Enter {
@@ -210,7 +214,8 @@ pub fn write_events<S: Source, K: Sink>(
     limits: Limits,
     values: Values,
 ) -> (Result<(), Fault>, S, K)
-    ensures { TellsInput values limits (S.incoming source) (K.outgoing sink) result.0 (S.incoming result.1) (K.outgoing result.2) }
+    ensures { TellsInput values limits (S.incoming source) (K.outgoing sink) result.0
+        (S.incoming result.1) (K.outgoing result.2) }
 {
     let mut events = match PackedEvents::start(alloc, source, limits) {
         Ok(events) => events,

@@ -6,12 +6,13 @@ use Rattle.std.specs.Prelude.{OnOk}
 use Rattle.std.specs.declared.alloc.AllocError.{AllocError}
 use Rattle.bit_grammar.specs.Forest.{Fit}
 use Rattle.bit_grammar.specs.Blocks.{Limits}
-use Rattle.bit_grammar.specs.Input.{Head, Marked, SpellsInput}
-use Rattle.bit_grammar.proofs.Fits.{fit_of_spelled}
+use Rattle.bit_grammar.specs.Input.{SpellsInput}
+use Rattle.bit_grammar.specs.Terms.{Head, Marked}
+use Rattle.bit_grammar.proofs.NormalForms.Fits.{fit_of_spelled}
 use Rattle.bit_grammar.specs.Machine.{Event, leaves, flat}
 use Rattle.bit_grammar.specs.Marks.{Marks, no_marks, marked_block, marked_record, marked_definition}
 use Rattle.bit_grammar.specs.Steps.{open_after}
-use Rattle.bit_grammar.proofs.Telling.{flat_only}
+use Rattle.bit_grammar.proofs.Events.Telling.{flat_only}
 use Rattle.bit_events.specs.Folding.{Gathered}
 use Rattle.bit_events.specs.Gathering.{open_behind, left_open}
 use Rattle.bit_events.proofs.Folds.{open_behind-push}

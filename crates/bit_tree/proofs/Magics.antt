@@ -2,7 +2,7 @@
 use Rattle.std.proofs.Common.{◌≡◌, ℕ, ◌+◌, ◌*◌, ◌<◌, List, [], ◌∷◌, length, get_or, arith}
 use Rattle.std.specs.Int.{w32, from_le_bytes}
 use Rattle.bit_grammar.specs.Bits.{bits_of, bits_of_bytes}
-use Rattle.bit_grammar.proofs.Numbers.{number-append, number-bits_of, length-bits_of}
+use Rattle.bit_grammar.proofs.Bits.Numbers.{number-append, number-bits_of, length-bits_of}
 use Rattle.bit_fields.specs.Opening.{magic_number}
 
 byte_first : (b : ℕ) (bytes : List ℕ) → b < 256 → magic_number (b ∷ bytes) ≡ b + 256 * magic_number bytes

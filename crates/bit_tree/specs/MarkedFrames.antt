@@ -15,11 +15,14 @@ flat_item item following = flat (put_marked item no_marks) following
 -- the events of open blocks, the outermost first, before those that follow
 abbrev pub flat_frames : List MarkedFrame → List Event → List Event
 flat_frames [] following = following
-flat_frames (f ∷ frames) following = enters (record { id = f.id; width = f.width; first = f.first; body = f.body }) ∷ flat (marks_of_items f.items.items) (flat_frames frames following)
+flat_frames (f ∷ frames) following = enters (record
+    { id = f.id; width = f.width; first = f.first; body = f.body })
+    ∷ flat (marks_of_items f.items.items) (flat_frames frames following)
 
 -- the events that were built from, before those that follow
 abbrev pub built_from : MarkedBuilder → List Event → List Event
-built_from b following = flat (marks_of_blocks b.blocks.items) (flat_frames b.frames.items following)
+built_from b following = flat (marks_of_blocks b.blocks.items)
+    (flat_frames b.frames.items following)
 
 -- it was built from these events
 pub record IsBuiltFrom (events : List Event) (b : MarkedBuilder) : Type 0 where

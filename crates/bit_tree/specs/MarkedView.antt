@@ -8,10 +8,22 @@ use Rattle.bit_tree.specs.declared.marked.MarkedItem.{MarkedItem}
 use Rattle.bit_tree.specs.declared.marked.MarkedItem.TheVariants.{Block, Record, Define}
 
 abbrev pub block_mark : MarkedBlock → BlockMark
-block_mark b = record { id = b.id; width = b.width; first = b.first; body = b.body; after = b.after }
+block_mark b = record {
+  id = b.id;
+  width = b.width;
+  first = b.first;
+  body = b.body;
+  after = b.after;
+}
 
 abbrev pub record_mark : MarkedRecord → RecordMark
-record_mark r = record { abbreviation = r.«abbrev»; code = r.code; values = r.values; first = r.first; after = r.after }
+record_mark r = record {
+  abbreviation = r.«abbrev»;
+  code = r.code;
+  values = r.values;
+  first = r.first;
+  after = r.after;
+}
 
 abbrev pub definition_mark : MarkedDefine → DefinitionMark
 definition_mark d = record { ops = d.«abbrev»; first = d.first; after = d.after }

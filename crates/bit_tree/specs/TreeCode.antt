@@ -27,17 +27,22 @@ abbrev pub first_of : List Forest → Forest
 first_of [] = empty
 first_of (f ∷ _) = f
 
-pub forests_of_words-words : (f : Forest) (after : List (List ℕ)) → forests_of_words (words f after) ≡ f ∷ forests_of_words after
+pub forests_of_words-words : (f : Forest) (after : List (List ℕ))
+    → forests_of_words (words f after) ≡ f ∷ forests_of_words after
 forests_of_words-words empty after = refl
 forests_of_words-words (a_block id inner rest) after =
-    ap (join (0 ∷ id ∷ [])) (forests_of_words-words inner (words rest after) ∙ ap (λ (fs : List Forest). inner ∷ fs) (forests_of_words-words rest after))
-forests_of_words-words (a_record code values rest) after = ap (join (1 ∷ code ∷ values)) (forests_of_words-words rest after)
+    ap (join (0 ∷ id ∷ [])) (forests_of_words-words inner (words rest after) ∙ ap
+    (λ (fs : List Forest). inner ∷ fs) (forests_of_words-words rest after))
+forests_of_words-words (a_record code values rest) after = ap (join (1 ∷ code ∷ values))
+    (forests_of_words-words rest after)
 
 -- a forest is stored as the list of its words
 abbrev pub forest_code : Coded Forest
 forest_code =
-    code_by (List (List ℕ)) (coded_list (coded_list coded_ℕ)) (λ f. words f []) (λ ws. first_of (forests_of_words ws)) (λ f. ap first_of (forests_of_words-words f []))
+    code_by (List (List ℕ)) (coded_list (coded_list coded_ℕ)) (λ f. words f [])
+    (λ ws. first_of (forests_of_words ws)) (λ f. ap first_of (forests_of_words-words f []))
 
 -- a tree is stored as the pair of its parts
 abbrev pub tree_code : Coded Tree
-tree_code = code_by (ℕ × Forest) (coded× coded_ℕ forest_code) (λ t. (t.magic, t.blocks)) (λ p. record { magic = p.0; blocks = p.1 }) (λ _. refl)
+tree_code = code_by (ℕ × Forest) (coded× coded_ℕ forest_code) (λ t. (t.magic, t.blocks))
+    (λ p. record { magic = p.0; blocks = p.1 }) (λ _. refl)

@@ -8,7 +8,8 @@ use Rattle.bit_tree.specs.declared.tree.Item.{Item}
 use Rattle.bit_tree.specs.declared.tree.Item.TheVariants.{Block, Record}
 use Rattle.bit_tree.specs.declared.tree.Items.TheDeep.{deep-Item}
 
-pub most_le-forest_size : (items : List Item) → max (most deep-Item items) 0 ≤ forest_size (forest_of_items items)
+pub most_le-forest_size : (items : List Item)
+    → max (most deep-Item items) 0 ≤ forest_size (forest_of_items items)
 most_le-forest_size [] = omega arith
 most_le-forest_size (Block b ∷ rest) = omega (arith, most_le-forest_size rest)
 most_le-forest_size (Record r ∷ rest) = omega (arith, most_le-forest_size rest)

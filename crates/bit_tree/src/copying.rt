@@ -24,7 +24,8 @@ pub fn tree_of(alloc: Global, marked: &Marked) -> Result<Document, AllocError>
 /// What is left of the tree of a marked tree under a setting.
 pub fn tree_with(alloc: Global, marked: &Marked, info: Info<'_>) -> Result<Document, AllocError>
     requires { Fit (under (setting_of info) (input.tree_of marked.now)) }
-    ensures { IfOk result (λ document. document ≡ under (setting_of info.entry) (input.tree_of marked.now)) }
+    ensures { IfOk result (λ document. document
+        ≡ under (setting_of info.entry) (input.tree_of marked.now)) }
 {
     let blocks = blocks_of(alloc, &marked.blocks.0, info)?;
     Ok(Document::of(marked.head.magic, blocks))
@@ -57,7 +58,8 @@ fn items_of(
     marked: &MarkedItems,
     info: Info<'_>,
 ) -> Result<Items, AllocError>
-    ensures { IfOk result (λ items. items ≡ items_under (setting_of info.entry) around (forest_of marked.now)) }
+    ensures { IfOk result (λ items. items ≡ items_under (setting_of info.entry) around
+        (forest_of marked.now)) }
 {
     let count = marked
         .0
@@ -94,7 +96,8 @@ pub(crate) fn blocks_of(
     marked: &[MarkedBlock],
     info: Info<'_>,
 ) -> Result<Vec<Block>, AllocError>
-    ensures { IfOk result (λ blocks. forest_of_blocks blocks.items ≡ items_under (setting_of info.entry) 0 (forest_of (marks_of_blocks marked.now))) }
+    ensures { IfOk result (λ blocks. forest_of_blocks blocks.items
+        ≡ items_under (setting_of info.entry) 0 (forest_of (marks_of_blocks marked.now))) }
 {
     let count = marked.iter().filter(|block| info.keeps(block.id)).count();
     let mut blocks = Vec::with_capacity(alloc, count)?;

@@ -73,7 +73,8 @@ impl Document {
         ensures fit { IsOk result ↔ Fit (tree_with magic blocks.items) }
         ensures ok { IfOk result (λ document. document ≡ tree_with magic blocks.items) }
         ensures back { IfErr result (λ bad. bad.blocks ≡ blocks) }
-        ensures reason { IfErr result (λ bad. IsFirstReason (tree_with magic blocks.items) bad.reason) }
+        ensures reason { IfErr result (λ bad. IsFirstReason (tree_with magic blocks.items)
+            bad.reason) }
     {
         match first_reason(magic, &blocks) {
             Some(reason) => Err(BadDocument { blocks, reason }),

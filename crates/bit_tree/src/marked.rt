@@ -96,9 +96,10 @@ pub struct Marked {
 
 impl Model for Marked {
     ghost use Rattle.bit_grammar.specs.Input as input;
+    ghost use Rattle.bit_grammar.specs.Terms as terms;
     ghost use Rattle.bit_tree.specs.MarksCode.{marked_code};
 
-    ghost Value = { input.Marked };
+    ghost Value = { terms.Marked };
 
     ghost coded = { marked_code };
 

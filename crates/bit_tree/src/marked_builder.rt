@@ -24,7 +24,9 @@ struct MarkedFrame {
 
 /// Adds an item to the innermost open block.
 fn add_marked(frames: &mut Vec<MarkedFrame>, item: MarkedItem) -> Result<(), AllocError>
-    ensures items { OnOk result (0 < vec_len frames.old → (following : List machine.Event) → flat_frames frames.new.items following ≡ flat_frames frames.old.items (flat_item item following)) }
+    ensures items { OnOk result (0 < vec_len frames.old → (following : List machine.Event)
+        → flat_frames frames.new.items following
+        ≡ flat_frames frames.old.items (flat_item item following)) }
     ensures len { OnOk result (vec_len frames.new ≡ vec_len frames.old) }
 {
     if let Some(frame) = frames.last_mut() {

@@ -14,7 +14,8 @@ use std::alloc::Global;
 /// It takes no byte past the one behind the limit on bytes. `Refused` names the one reason and bit at which the input breaks
 /// the rules. The source is handed back as it stands.
 pub fn read<S: Source>(alloc: Global, source: S, limits: Limits) -> (Result<Marked, Fault>, S)
-    ensures { ReadsWhole (SpellsFit limits) limits (S.incoming source) result.0 (S.incoming result.1) }
+    ensures { ReadsWhole (SpellsFit limits) limits (S.incoming source) result.0
+        (S.incoming result.1) }
 {
     let (answer, source) = fold(alloc, source, limits, MarkedBuilder::new(alloc));
     match answer {

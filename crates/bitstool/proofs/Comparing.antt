@@ -9,12 +9,13 @@ use Rattle.bit_grammar.specs.Under.{under}
 use Rattle.bit_grammar.specs.Bits.{bits_of_bytes}
 use Rattle.bit_grammar.specs.Grammar.{Fault, at}
 use Rattle.bit_grammar.specs.Blocks.{Limits}
-use Rattle.bit_grammar.specs.Input.{BreaksInput, Cut, Marked, SpellsInput, front_broken, front_spelled, tree_of}
+use Rattle.bit_grammar.specs.Input.{BreaksInput, Cut, SpellsInput, front_broken, front_spelled, tree_of}
+use Rattle.bit_grammar.specs.Terms.{Marked}
 use Rattle.bit_grammar.specs.Normal.{HasTree}
 use Rattle.bit_fields.specs.declared.fault.Fault as code
 use Rattle.bit_fields.specs.declared.fault.Fault.TheVariants as fault
 use Rattle.bit_fields.specs.Devices.{Incoming, Spends, Fails, known_bytes}
-use Rattle.bit_events.specs.Reading.{Spent, Lost}
+use Rattle.bit_events.specs.Reading.{Spent, LostInput}
 use Rattle.bit_norm.specs.declared.comparing.Which.{Which}
 use Rattle.bit_norm.specs.declared.comparing.Which.TheVariants.{First, Second}
 use Rattle.bit_norm.specs.declared.differences.Difference.{Difference}
@@ -25,8 +26,8 @@ use Rattle.bitstool.specs.declared.outcome.Outcome.TheVariants.{Done, Different,
 use Rattle.bitstool.specs.declared.task.LeftOut.{LeftOut}
 use Rattle.bitstool.specs.declared.task.Task.TheVariants.{Same, Where}
 use Rattle.bitstool.specs.LeftOut.{setting_for}
-use Rattle.bitstool.specs.Performing.{AreFirst, ComparesWhere, ComparesWith, Finds, FindsWhere, Found, IsNoAnswer, Judges, TakesFirst, TakesRest, outcome_found, outcome_in, outcome_of}
-use Rattle.bitstool.specs.Runs.{IsDrained, Takes, Told}
+use Rattle.bitstool.specs.Performing.{AreFirst, ComparesWhere, ComparesTold, FindsForTask, FindsWhere, Found, IsNoAnswer, Judges, TakesFirst, TakesRest, outcome_found, outcome_in, outcome_of}
+use Rattle.bitstool.specs.Runs.{IsDrained, TakesInput, ToldBytes}
 use Rattle.bitstool.proofs.Taking.{drained, fails_more, fails_then, spends_more, spends_none, spends_then}
 use Rattle.bitstool.proofs.Known.{if_told}
 
@@ -34,10 +35,10 @@ use Rattle.bitstool.proofs.Known.{if_told}
 
 -- a fact of an input that is known
 known_first : (i : Incoming) (first : List ℕ) (P : List ℕ → Type 0) → i.to_come ≡ Some first → (IsSome i.to_come → P (known_bytes i.to_come)) → P first
-known_first i first P is h = subst (λ (o : Told). (IsSome o → P (known_bytes o)) → P first) (sym is) (λ of_first. of_first refl) h
+known_first i first P is h = subst (λ (o : ToldBytes). (IsSome o → P (known_bytes o)) → P first) (sym is) (λ of_first. of_first refl) h
 
 -- one was not read
-pub found_fault : (setting : Setting) (limits : Limits) (first : List ℕ) (i j now later : Incoming) (which : Which) (why : code.Fault) → i.to_come ≡ Some first → Misreads setting limits which why i j now later → ComparesWith setting limits first j.to_come (outcome_in which limits.bytes why)
+pub found_fault : (setting : Setting) (limits : Limits) (first : List ℕ) (i j now later : Incoming) (which : Which) (why : code.Fault) → i.to_come ≡ Some first → Misreads setting limits which why i j now later → ComparesTold setting limits first j.to_come (outcome_in which limits.bytes why)
 found_fault setting limits first i j now later First (fault.Refused reason bit) is h = known_first i first (λ bytes. BreaksInput limits bytes (at reason bit)) is h.0.1
 found_fault setting limits first i j now later Second (fault.Refused reason bit) is h =
     let has : HasTree setting limits first h.0 = known_first i first (λ bytes. HasTree setting limits bytes h.0) is (λ tells. (h.1.1 tells).0.0) in
@@ -59,7 +60,7 @@ found_fault setting limits first i j now later Second fault.Failed is h = absurd
 abbrev pub IsSlice : Incoming → Type 0
 IsSlice i = i.failures ≡ 0
 
-never_fails : (limits : Limits) (i now : Incoming) → limits.bytes < 2 ^ 60 → i.pulls ≡ 0 → IsSlice now → Lost limits i now → ⊥
+never_fails : (limits : Limits) (i now : Incoming) → limits.bytes < 2 ^ 60 → i.pulls ≡ 0 → IsSlice now → LostInput limits i now → ⊥
 never_fails limits i now capped fresh slice lost = elim lost.failed [
   | inl rose ↦ omega (arith, slice, rose)
   | inr worn ↦ omega (arith, slice, worn.1, lost.pulls, fresh, capped)
@@ -90,24 +91,24 @@ drained_then i mid later most h all = drained i later (λ t. (left (h.tells t)).
     left : IsSome mid.to_come → IsSome later.to_come × (known_bytes later.to_come ≡ [])
     left told = go mid.to_come told all
       where
-        go : (o : Told) → IsSome o → IfSome o (λ bytes. later.to_come ≡ Some []) → IsSome later.to_come × (known_bytes later.to_come ≡ [])
+        go : (o : ToldBytes) → IsSome o → IfSome o (λ bytes. later.to_come ≡ Some []) → IsSome later.to_come × (known_bytes later.to_come ≡ [])
         go None told all = absurd (cc)
         go (Some bytes) told all = rw all (refl, refl)
 
 -- what was taken of both
-pub both_taken : (out : LeftOut) (limits : Limits) (first count : ℕ) (i mid later : Incoming) (outcome : Outcome) → count ≡ min first (limits.bytes + 1) → Spends i count mid 0 → TakesRest limits mid later outcome → Takes (Same first limits out) i later outcome
+pub both_taken : (out : LeftOut) (limits : Limits) (first count : ℕ) (i mid later : Incoming) (outcome : Outcome) → count ≡ min first (limits.bytes + 1) → Spends i count mid 0 → TakesRest limits mid later outcome → TakesInput (Same first limits out) i later outcome
 both_taken out limits first count i mid later outcome counted h rest = go outcome rest
   where
     both : Spent limits mid later → Spends i (min first (limits.bytes + 1) + (limits.bytes + 1)) later 0
     both k = subst (λ (n : ℕ). Spends i (n + (limits.bytes + 1)) later 0) counted (spends_then i mid later count (limits.bytes + 1) h k)
 
-    lost : Lost limits mid later → Fails i (min first (limits.bytes + 1) + (limits.bytes + 1)) later 0
+    lost : LostInput limits mid later → Fails i (min first (limits.bytes + 1) + (limits.bytes + 1)) later 0
     lost k = subst (λ (n : ℕ). Fails i (n + (limits.bytes + 1)) later 0) counted (fails_then i mid later count (limits.bytes + 1) h k)
 
-    either : Spent limits mid later ⊎ Lost limits mid later → Spends i (min first (limits.bytes + 1) + (limits.bytes + 1)) later 0 ⊎ Fails i (min first (limits.bytes + 1) + (limits.bytes + 1)) later 0
+    either : Spent limits mid later ⊎ LostInput limits mid later → Spends i (min first (limits.bytes + 1) + (limits.bytes + 1)) later 0 ⊎ Fails i (min first (limits.bytes + 1) + (limits.bytes + 1)) later 0
     either p = elim p [ inl spends ↦ inl (both spends) | inr fails ↦ inr (lost fails) ]
 
-    go : (o : Outcome) → TakesRest limits mid later o → Takes (Same first limits out) i later o
+    go : (o : Outcome) → TakesRest limits mid later o → TakesInput (Same first limits out) i later o
     go (RefusedOf First reason bit) r = (subst (λ (n : Incoming). Spends i (min first (limits.bytes + 1)) n 0) (sym r) (subst (λ (n : ℕ). Spends i n mid 0) counted h), tt)
     go (RefusedOf Second reason bit) r = (both r.0, tt)
     go Done r = (both r.0, drained_then i mid later count h r.1)
@@ -161,7 +162,7 @@ taken limits first count input bytes rest counted is few ended =
     ]
 
 -- what was found of the bytes that were taken and of the rest is so of the first bytes and the others
-of_whole : (out : LeftOut) (limits : Limits) (first : ℕ) (input bytes rest : List ℕ) (outcome : Outcome) → bytes ≡ take first input → rest ≡ drop first input → ComparesWith (setting_for out) limits bytes (Some rest) outcome → Finds (Same first limits out) (Some input) outcome
+of_whole : (out : LeftOut) (limits : Limits) (first : ℕ) (input bytes rest : List ℕ) (outcome : Outcome) → bytes ≡ take first input → rest ≡ drop first input → ComparesTold (setting_for out) limits bytes (Some rest) outcome → FindsForTask (Same first limits out) (Some input) outcome
 of_whole out limits first input bytes rest Done is left h = (bits_of_bytes (codes "same\n"), (refl, (h.0, rw (← is) h.1, rw (← left) h.2)))
 of_whole out limits first input bytes rest Different is left h = (bits_of_bytes (codes "different\n"), (refl, (h.0, h.1, rw (← is) h.2, rw (← left) h.3, h.4)))
 of_whole out limits first input bytes rest (RefusedOf First reason bit) is left h = rw (← is) h
@@ -174,7 +175,7 @@ of_whole out limits first input bytes rest Usage is left h = absurd h
 of_whole out limits first input bytes rest Write is left h = absurd h
 
 of_past : (out : LeftOut) (limits : Limits) (first : ℕ) (input bytes rest : List ℕ) (outcome : Outcome) → limits.bytes < length bytes → limits.bytes < length (take first input) → take limits.bytes bytes ≡ take limits.bytes (take first input)
-    → ComparesWith (setting_for out) limits bytes (Some rest) outcome → Finds (Same first limits out) (Some input) outcome
+    → ComparesTold (setting_for out) limits bytes (Some rest) outcome → FindsForTask (Same first limits out) (Some input) outcome
 of_past out limits first input bytes rest Done long also same h = absurd (omega (arith, h.1.1.fits))
 of_past out limits first input bytes rest Different long also same h = absurd (omega (arith, h.2.1.fits))
 of_past out limits first input bytes rest (RefusedOf First reason bit) long also same h = breaks_alike limits bytes (take first input) (at reason bit) long also same h
@@ -187,7 +188,7 @@ of_past out limits first input bytes rest Usage long also same h = absurd h
 of_past out limits first input bytes rest Write long also same h = absurd h
 
 -- nothing is said of an input that does not tell its bytes
-of_none : (out : LeftOut) (limits : Limits) (first : ℕ) (bytes : List ℕ) (rest : Told) (outcome : Outcome) → ComparesWith (setting_for out) limits bytes rest outcome → Finds (Same first limits out) None outcome
+of_none : (out : LeftOut) (limits : Limits) (first : ℕ) (bytes : List ℕ) (rest : ToldBytes) (outcome : Outcome) → ComparesTold (setting_for out) limits bytes rest outcome → FindsForTask (Same first limits out) None outcome
 of_none out limits first bytes rest Done h = (bits_of_bytes (codes "same\n"), (refl, tt))
 of_none out limits first bytes rest Different h = (bits_of_bytes (codes "different\n"), (refl, tt))
 of_none out limits first bytes rest (RefusedOf First reason bit) h = tt
@@ -200,13 +201,13 @@ of_none out limits first bytes rest Usage h = absurd h
 of_none out limits first bytes rest Write h = absurd h
 
 -- the comparison of what was taken is that of the first bytes and the others
-pub compared : (out : LeftOut) (limits : Limits) (first count : ℕ) (told left : Told) (bytes : List ℕ) (outcome : Outcome) → count ≡ min first (limits.bytes + 1)
-    → (IsSome told → AreFirst count told bytes left) → ComparesWith (setting_for out) limits bytes left outcome → Finds (Same first limits out) told outcome
+pub compared : (out : LeftOut) (limits : Limits) (first count : ℕ) (told left : ToldBytes) (bytes : List ℕ) (outcome : Outcome) → count ≡ min first (limits.bytes + 1)
+    → (IsSome told → AreFirst count told bytes left) → ComparesTold (setting_for out) limits bytes left outcome → FindsForTask (Same first limits out) told outcome
 compared out limits first count None left bytes outcome counted are h = of_none out limits first bytes left outcome h
 compared out limits first count (Some input) None bytes outcome counted are h = absurd (are refl).0
 compared out limits first count (Some input) (Some rest) bytes outcome counted are h = go (taken limits first count input bytes rest counted (are refl).0 (are refl).1 (are refl).2)
   where
-    go : Taken limits first input bytes rest → Finds (Same first limits out) (Some input) outcome
+    go : Taken limits first input bytes rest → FindsForTask (Same first limits out) (Some input) outcome
     go (whole is rest_is) = of_whole out limits first input bytes rest outcome is rest_is h
     go (past long also same) = of_past out limits first input bytes rest outcome long also same h
 
@@ -225,11 +226,11 @@ not_taken out limits first count i now (fault.Refused reason bit) counted h = ab
 pub found_where : (setting : Setting) (limits : Limits) (first : List ℕ) (i j now later : Incoming) (found : Option Difference) → i.to_come ≡ Some first → FindsDifference setting limits i j (Ok found) now later → ComparesWhere setting limits first j.to_come (Ok found)
 found_where setting limits first i j now later None is h =
     let spells : SpellsInput limits first h.0 = known_first i first (λ bytes. SpellsInput limits bytes h.0) is (λ tells. (h.2.1 tells).0) in
-    let some : IsSome i.to_come = subst (λ (o : Told). IsSome o) (sym is) refl in
+    let some : IsSome i.to_come = subst (λ (o : ToldBytes). IsSome o) (sym is) refl in
     (under setting (tree_of h.0), (h.0, spells, refl), if_told j.to_come (λ bytes. HasTree setting limits bytes (under setting (tree_of h.0))) (λ tells. (h.1, (h.3.1 tells).0, sym (h.4 some tells))))
 found_where setting limits first i j now later (Some difference) is h =
     let spells : SpellsInput limits first h.0 = known_first i first (λ bytes. SpellsInput limits bytes h.0) is (λ tells. (h.2.1 tells).0) in
-    let some : IsSome i.to_come = subst (λ (o : Told). IsSome o) (sym is) refl in
+    let some : IsSome i.to_come = subst (λ (o : ToldBytes). IsSome o) (sym is) refl in
     (h.0, spells, if_told j.to_come (λ bytes. (b : Marked) × SpellsInput limits bytes b × FirstDifference setting h.0 b (difference_shown difference)) (λ tells. (h.1, (h.3.1 tells).0, h.4 some tells)))
 
 -- and what was taken of the input for that
@@ -255,7 +256,7 @@ no_answer_in which limit fault.OutputTooLong = (λ e. absurd (cc), λ e. absurd 
 no_answer_in which limit fault.Failed = (λ e. absurd (cc), λ e. absurd (cc))
 
 -- as much is taken as for the word alone
-pub takes_where : (out : LeftOut) (limits : Limits) (first : ℕ) (i now : Incoming) (outcome : Outcome) → Takes (Same first limits out) i now outcome → Takes (Where first limits out) i now outcome
+pub takes_where : (out : LeftOut) (limits : Limits) (first : ℕ) (i now : Incoming) (outcome : Outcome) → TakesInput (Same first limits out) i now outcome → TakesInput (Where first limits out) i now outcome
 takes_where out limits first i now Done h = h
 takes_where out limits first i now Different h = h
 takes_where out limits first i now (Refused reason bit) h = h
@@ -268,7 +269,7 @@ takes_where out limits first i now Write h = h
 takes_where out limits first i now Memory h = h
 
 -- and the same found, but where they differ
-pub finds_where : (out : LeftOut) (limits : Limits) (first : ℕ) (input : Told) (outcome : Outcome) → IsNoAnswer outcome → Finds (Same first limits out) input outcome → Finds (Where first limits out) input outcome
+pub finds_where : (out : LeftOut) (limits : Limits) (first : ℕ) (input : ToldBytes) (outcome : Outcome) → IsNoAnswer outcome → FindsForTask (Same first limits out) input outcome → FindsForTask (Where first limits out) input outcome
 finds_where out limits first input Done none h = absurd (none.0 refl)
 finds_where out limits first input Different none h = absurd (none.1 refl)
 finds_where out limits first input (Refused reason bit) none h = h
@@ -281,7 +282,7 @@ finds_where out limits first input Write none h = h
 finds_where out limits first input Memory none h = h
 
 -- where the first bytes and the others first differ
-differ_told : (out : LeftOut) (limits : Limits) (first count : ℕ) (told left : Told) (bytes : List ℕ) (difference : Difference) → count ≡ min first (limits.bytes + 1)
+differ_told : (out : LeftOut) (limits : Limits) (first count : ℕ) (told left : ToldBytes) (bytes : List ℕ) (difference : Difference) → count ≡ min first (limits.bytes + 1)
     → (IsSome told → AreFirst count told bytes left) → ComparesWhere (setting_for out) limits bytes left (Ok (Some difference)) → FindsWhere (Where first limits out) told (Ok (Some difference))
 differ_told out limits first count None left bytes difference counted are h = (difference_shown difference, refl, tt)
 differ_told out limits first count (Some input) None bytes difference counted are h = absurd (are refl).0
@@ -291,7 +292,7 @@ differ_told out limits first count (Some input) (Some rest) bytes difference cou
     go (whole is rest_is) = (difference_shown difference, refl, (h.0, h.2.0, rw (← is) h.1, rw (← rest_is) h.2.1, h.2.2))
     go (past long also same) = absurd (omega (arith, h.1.fits))
 
-pub compared_where : (out : LeftOut) (limits : Limits) (first count : ℕ) (told left : Told) (bytes : List ℕ) (found : Found) → count ≡ min first (limits.bytes + 1)
+pub compared_where : (out : LeftOut) (limits : Limits) (first count : ℕ) (told left : ToldBytes) (bytes : List ℕ) (found : Found) → count ≡ min first (limits.bytes + 1)
     → (IsSome told → AreFirst count told bytes left) → ComparesWhere (setting_for out) limits bytes left found → FindsWhere (Where first limits out) told found
 compared_where out limits first count told left bytes (Ok None) counted are h = compared out limits first count told left bytes Done counted are h
 compared_where out limits first count told left bytes (Ok (Some difference)) counted are h = differ_told out limits first count told left bytes difference counted are h

@@ -34,21 +34,21 @@ use Rattle.bitstool.specs.declared.outcome.Outcome.TheVariants.{Done, Different,
 use Rattle.bitstool.specs.declared.task.LeftOut.{LeftOut}
 use Rattle.bitstool.specs.declared.task.Task.{Task}
 use Rattle.bitstool.specs.declared.task.Task.TheVariants.{Check, Normal, Same, Where, Analyse, Show, Events}
-use Rattle.bitstool.specs.Performing.{Finds, FindsWhere, Found, Judges, Settles, TellsDifference, TellsFound, TellsLine, ended, outcome_found, outcome_of}
+use Rattle.bitstool.specs.Performing.{FindsForTask, FindsWhere, Found, Judges, Settles, TellsDifference, TellsFound, TellsLine, outcome_of_writing, outcome_found, outcome_of}
 use Rattle.bitstool.specs.Differences.{difference_text}
 use Rattle.bitstool.specs.LeftOut.{setting_for}
-use Rattle.bitstool.specs.Runs.{Told, Answers, Refuses, StopsShort, LacksMemory, LeavesRefused, LeavesUnread, Stays, Takes, Leaves, Does, most_taken, Pays}
+use Rattle.bitstool.specs.Runs.{ToldBytes, Answers, Refuses, StopsShort, LacksMemory, LeavesRefused, LeavesUnread, StaysOutput, TakesInput, LeavesOutput, Does, most_taken, PaysForRun}
 use Rattle.bitstool.proofs.Known.{gained, gained_front, gains_front, gains_text, gains_part, gains_kept, front_kept, if_told}
 use Rattle.bitstool.proofs.Taking.{drained, fails_more, spends_more, takes_done, takes_fault, takes_long, takes_memory, takes_write}
 
 -- an output that is as it was
-pub stays_same : (old new : Outgoing) → new ≡ old → Stays old new
-stays_same old new same = subst (λ (o : Outgoing). Stays old o) (sym same) (Keeps-refl old.bytes, refl)
+pub stays_same : (old new : Outgoing) → new ≡ old → StaysOutput old new
+stays_same old new same = subst (λ (o : Outgoing). StaysOutput old o) (sym same) (Keeps-refl old.bytes, refl)
 
 -- ---- want of memory
 
 -- an output that is as it was
-memory_kept : (task : Task) (input old new : Told) → Keeps old new → LacksMemory task input old new
+memory_kept : (task : Task) (input old new : ToldBytes) → Keeps old new → LacksMemory task input old new
 memory_kept (Check limits) input old new k = k
 memory_kept (Normal limits out) input old new k = k
 memory_kept (Same first limits out) input old new k = k
@@ -58,7 +58,7 @@ memory_kept (Show limits out) input old new k = inl k
 memory_kept (Events limits values) input old new k = inl k
 
 -- it is a kind of stopping short
-memory_stops : (task : Task) (input old new : Told) → LacksMemory task input old new → StopsShort task input old new
+memory_stops : (task : Task) (input old new : ToldBytes) → LacksMemory task input old new → StopsShort task input old new
 memory_stops (Check limits) input old new k = inl k
 memory_stops (Normal limits out) input old new k = inl k
 memory_stops (Same first limits out) input old new k = inl k
@@ -68,11 +68,11 @@ memory_stops (Show limits out) input old new h = h
 memory_stops (Events limits values) input old new h = h
 
 -- an output that stays as it is then
-stopped_then : (task : Task) (input old new last : Told) → StopsShort task input old new → Keeps new last → StopsShort task input old last
+stopped_then : (task : Task) (input old new last : ToldBytes) → StopsShort task input old new → Keeps new last → StopsShort task input old last
 stopped_then task input old new last (inl k) keeps = inl (Keeps-trans old new last k keeps)
 stopped_then task input old new last (inr d) keeps = inr (d.0, d.1, d.2, front_kept d.0 old new last d.3 keeps)
 
-memory_then : (task : Task) (input old new last : Told) → LacksMemory task input old new → Keeps new last → LacksMemory task input old last
+memory_then : (task : Task) (input old new last : ToldBytes) → LacksMemory task input old new → Keeps new last → LacksMemory task input old last
 memory_then (Check limits) input old new last k keeps = Keeps-trans old new last k keeps
 memory_then (Normal limits out) input old new last k keeps = Keeps-trans old new last k keeps
 memory_then (Same first limits out) input old new last k keeps = Keeps-trans old new last k keeps
@@ -84,7 +84,7 @@ memory_then (Events limits values) input old new last h keeps = stopped_then (Ev
 -- ---- inputs that were not accepted
 
 -- an output that is as it was, where the input could not be read
-unread_kept : (task : Task) (input : Told) (old new : Outgoing) → Stays old new → LeavesUnread task input old new
+unread_kept : (task : Task) (input : ToldBytes) (old new : Outgoing) → StaysOutput old new → LeavesUnread task input old new
 unread_kept (Check limits) input old new stays = stays
 unread_kept (Normal limits out) input old new stays = stays
 unread_kept (Same first limits out) input old new stays = stays
@@ -94,7 +94,7 @@ unread_kept (Show limits out) input old new stays = stays
 unread_kept (Events limits values) input old new stays = (inl stays.0, stays.1)
 
 -- it is a kind of stopping short
-unread_stops : (task : Task) (input : Told) (old new : Outgoing) → LeavesUnread task input old new → StopsShort task input old.bytes new.bytes × (new.failures ≡ old.failures)
+unread_stops : (task : Task) (input : ToldBytes) (old new : Outgoing) → LeavesUnread task input old new → StopsShort task input old.bytes new.bytes × (new.failures ≡ old.failures)
 unread_stops (Check limits) input old new stays = (inl stays.0, stays.1)
 unread_stops (Normal limits out) input old new stays = (inl stays.0, stays.1)
 unread_stops (Same first limits out) input old new stays = (inl stays.0, stays.1)
@@ -103,7 +103,7 @@ unread_stops (Analyse limits) input old new stays = (inl stays.0, stays.1)
 unread_stops (Show limits out) input old new stays = (inl stays.0, stays.1)
 unread_stops (Events limits values) input old new h = h
 
-refused_stops : (task : Task) (input : Told) (reason : Reason) (bit : ℕ) (old new : Outgoing) → LeavesRefused task input reason bit old new → StopsShort task input old.bytes new.bytes × (new.failures ≡ old.failures)
+refused_stops : (task : Task) (input : ToldBytes) (reason : Reason) (bit : ℕ) (old new : Outgoing) → LeavesRefused task input reason bit old new → StopsShort task input old.bytes new.bytes × (new.failures ≡ old.failures)
 refused_stops (Check limits) input reason bit old new h = (inl h.1.0, h.1.1)
 refused_stops (Normal limits out) input reason bit old new h = (inl h.1.0, h.1.1)
 refused_stops (Same first limits out) input reason bit old new h = (inl h.1.0, h.1.1)
@@ -113,10 +113,10 @@ refused_stops (Show limits out) input reason bit old new h = (inl h.1.0, h.1.1)
 refused_stops (Events limits values) input reason bit old new h = (inr (h.0, Refused reason bit, h.1, gains_front h.0 old.bytes new.bytes h.2), h.3)
 
 -- an output that stays as it is then
-stays_then : (old new last : Outgoing) → Stays old new → Stays new last → Stays old last
+stays_then : (old new last : Outgoing) → StaysOutput old new → StaysOutput new last → StaysOutput old last
 stays_then old new last h k = (Keeps-trans old.bytes new.bytes last.bytes h.0 k.0, k.1 ∙ h.1)
 
-unread_then : (task : Task) (input : Told) (old new last : Outgoing) → LeavesUnread task input old new → Stays new last → LeavesUnread task input old last
+unread_then : (task : Task) (input : ToldBytes) (old new last : Outgoing) → LeavesUnread task input old new → StaysOutput new last → LeavesUnread task input old last
 unread_then (Check limits) input old new last h stays = stays_then old new last h stays
 unread_then (Normal limits out) input old new last h stays = stays_then old new last h stays
 unread_then (Same first limits out) input old new last h stays = stays_then old new last h stays
@@ -125,7 +125,7 @@ unread_then (Analyse limits) input old new last h stays = stays_then old new las
 unread_then (Show limits out) input old new last h stays = stays_then old new last h stays
 unread_then (Events limits values) input old new last h stays = (stopped_then (Events limits values) input old.bytes new.bytes last.bytes h.0 stays.0, stays.1 ∙ h.1)
 
-refused_then : (task : Task) (input : Told) (reason : Reason) (bit : ℕ) (old new last : Outgoing) → LeavesRefused task input reason bit old new → Stays new last → LeavesRefused task input reason bit old last
+refused_then : (task : Task) (input : ToldBytes) (reason : Reason) (bit : ℕ) (old new last : Outgoing) → LeavesRefused task input reason bit old new → StaysOutput new last → LeavesRefused task input reason bit old last
 refused_then (Check limits) input reason bit old new last h stays = (h.0, stays_then old new last h.1 stays)
 refused_then (Normal limits out) input reason bit old new last h stays = (h.0, stays_then old new last h.1 stays)
 refused_then (Same first limits out) input reason bit old new last h stays = (h.0, stays_then old new last h.1 stays)
@@ -144,7 +144,7 @@ accepted_here limits i now h =
     let takes = takes_done {A = Unit {0}} (λ bytes done. Accepts limits bytes) (Check limits) limits (λ o. refl) i now (tt {0}) h in
     (takes, (bits_of_bytes (codes "accepted\n"), (refl, if_told i.to_come (Accepts limits) (λ tells. (h.1 tells).0))))
 
-check_refuses : (limits : Limits) (i now : Incoming) (why : Fault) → Checks limits i (Err why) now → Finds (Check limits) i.to_come (outcome_of limits.bytes why)
+check_refuses : (limits : Limits) (i now : Incoming) (why : Fault) → Checks limits i (Err why) now → FindsForTask (Check limits) i.to_come (outcome_of limits.bytes why)
 check_refuses limits i now (fault.Refused reason bit) h = if_told i.to_come (λ bytes. BreaksInput limits bytes (at reason bit)) h.1
 check_refuses limits i now fault.Read h = tt
 check_refuses limits i now fault.Memory h = tt
@@ -187,7 +187,7 @@ form_not_done out limits i now old new fault.Failed h = absurd h
 -- an input that was not read
 module _ {A : Type 0} (Holds : List ℕ → A → Type 0) (task : Task) (limits : Limits) (most : (o : Outcome) → most_taken task o ≡ limits.bytes + 1) (i now : Incoming) (old new : Outgoing) where
   not_accepted : (why : Fault) → ((reason : Reason) (bit : ℕ) → IfSome i.to_come (λ bytes. BreaksInput limits bytes (at reason bit)) → LeavesRefused task i.to_come reason bit old new)
-      → Stays old new → ReadsWhole Holds limits i (Err why) now → Does task i now old new (outcome_of limits.bytes why)
+      → StaysOutput old new → ReadsWhole Holds limits i (Err why) now → Does task i now old new (outcome_of limits.bytes why)
   not_accepted (fault.Refused reason bit) refuses stays h =
       (takes_fault Holds task limits most i now (fault.Refused reason bit) h, refuses reason bit (if_told i.to_come (λ bytes. BreaksInput limits bytes (at reason bit)) h.1))
   not_accepted fault.Read refuses stays h = (takes_fault Holds task limits most i now fault.Read h, unread_kept task i.to_come old new stays)
@@ -198,7 +198,7 @@ module _ {A : Type 0} (Holds : List ℕ → A → Type 0) (task : Task) (limits 
 
   -- the text of an answer was written, or a front of it
   text_written : (a : A) (text : List ℕ) (answer : Result (Unit {0}) Fault) → (StopsShort task i.to_come old.bytes new.bytes → LacksMemory task i.to_come old.bytes new.bytes)
-      → Answers task i.to_come Done (bits_of_bytes text) → ReadsWhole Holds limits i (Ok a) now → WritesText text old answer new → Does task i now old new (ended limits.bytes answer)
+      → Answers task i.to_come Done (bits_of_bytes text) → ReadsWhole Holds limits i (Ok a) now → WritesText text old answer new → Does task i now old new (outcome_of_writing limits.bytes answer)
   text_written a text (Ok _) stops answers h w = (takes_done Holds task limits most i now a h, (bits_of_bytes text, answers, gains_text old.bytes new.bytes text w.bytes, w.failures))
   text_written a text (Err fault.Write) stops answers h w =
       (takes_write Holds task limits most i now a h, (inr (bits_of_bytes text, Done, answers, gains_part old.bytes new.bytes text w.0.front w.0.rest w.0.split w.0.bytes), w.1))
@@ -210,7 +210,7 @@ module _ {A : Type 0} (Holds : List ℕ → A → Type 0) (task : Task) (limits 
   text_written a text (Err fault.Failed) stops answers h w = absurd w
 
 -- the input was analysed
-reported : (limits : Limits) (i now : Incoming) (old new : Outgoing) (answer : Result (Unit {0}) Fault) → ReadsAndReports limits i old answer now new → Does (Analyse limits) i now old new (ended limits.bytes answer)
+reported : (limits : Limits) (i now : Incoming) (old new : Outgoing) (answer : Result (Unit {0}) Fault) → ReadsAndReports limits i old answer now new → Does (Analyse limits) i now old new (outcome_of_writing limits.bytes answer)
 reported limits i now old new answer h =
     text_written (HasTally limits) (Analyse limits) limits (λ o. refl) i now old new h.0 (report_of h.0) answer (λ s. s) (h.0, refl, if_told i.to_come (λ bytes. HasTally limits bytes h.0) (λ tells. (h.1.1 tells).0)) h.1 h.2
 
@@ -218,7 +218,7 @@ reported limits i now old new answer h =
 not_reported : (limits : Limits) (i now : Incoming) (old new : Outgoing) (why : Fault) → ReportsNothing limits i old why now new → Does (Analyse limits) i now old new (outcome_of limits.bytes why)
 not_reported limits i now old new why h = not_accepted (HasTally limits) (Analyse limits) limits (λ o. refl) i now old new why (λ reason bit breaks. (breaks, stays_same old new h.1)) (stays_same old new h.1) h.0
 
-pub told_report : (limits : Limits) (i now : Incoming) (old new : Outgoing) (answer : Result (Unit {0}) Fault) → Reports limits i old answer now new → Does (Analyse limits) i now old new (ended limits.bytes answer)
+pub told_report : (limits : Limits) (i now : Incoming) (old new : Outgoing) (answer : Result (Unit {0}) Fault) → Reports limits i old answer now new → Does (Analyse limits) i now old new (outcome_of_writing limits.bytes answer)
 told_report limits i now old new (Ok _) h = reported limits i now old new (Ok tt) h
 told_report limits i now old new (Err fault.Write) h = reported limits i now old new (Err fault.Write) h
 told_report limits i now old new (Err fault.Memory) (inl h) = not_reported limits i now old new fault.Memory h
@@ -229,7 +229,7 @@ told_report limits i now old new (Err fault.OutputTooLong) h = absurd h
 told_report limits i now old new (Err fault.Failed) h = absurd h
 
 -- the tree was read
-listed : (out : LeftOut) (limits : Limits) (i now : Incoming) (old new : Outgoing) (answer : Result (Unit {0}) Fault) → ReadsAndLists (setting_for out) limits i old answer now new → Does (Show limits out) i now old new (ended limits.bytes answer)
+listed : (out : LeftOut) (limits : Limits) (i now : Incoming) (old new : Outgoing) (answer : Result (Unit {0}) Fault) → ReadsAndLists (setting_for out) limits i old answer now new → Does (Show limits out) i now old new (outcome_of_writing limits.bytes answer)
 listed out limits i now old new answer h =
     text_written (HasFit (setting_for out) limits) (Show limits out) limits (λ o. refl) i now old new h.0 (listing_of h.0) answer (λ s. s) (h.0, refl, if_told i.to_come (λ bytes. HasTree (setting_for out) limits bytes h.0) (λ tells. (h.1.1 tells).0.0)) h.1 h.2
 
@@ -237,7 +237,7 @@ listed out limits i now old new answer h =
 not_listed : (out : LeftOut) (limits : Limits) (i now : Incoming) (old new : Outgoing) (why : Fault) → ListsNothing (setting_for out) limits i old why now new → Does (Show limits out) i now old new (outcome_of limits.bytes why)
 not_listed out limits i now old new why h = not_accepted (HasFit (setting_for out) limits) (Show limits out) limits (λ o. refl) i now old new why (λ reason bit breaks. (breaks, stays_same old new h.1)) (stays_same old new h.1) h.0
 
-pub showed : (out : LeftOut) (limits : Limits) (i now : Incoming) (old new : Outgoing) (answer : Result (Unit {0}) Fault) → Shows (setting_for out) limits i old answer now new → Does (Show limits out) i now old new (ended limits.bytes answer)
+pub showed : (out : LeftOut) (limits : Limits) (i now : Incoming) (old new : Outgoing) (answer : Result (Unit {0}) Fault) → Shows (setting_for out) limits i old answer now new → Does (Show limits out) i now old new (outcome_of_writing limits.bytes answer)
 showed out limits i now old new (Ok _) h = listed out limits i now old new (Ok tt) h
 showed out limits i now old new (Err fault.Write) h = listed out limits i now old new (Err fault.Write) h
 showed out limits i now old new (Err fault.Memory) (inl h) = not_listed out limits i now old new fault.Memory h
@@ -266,7 +266,7 @@ events_stop limits values i old new told is_told w =
     let answers = told_answers limits values i told is_told in
     inr (bits_of_bytes (outlook_text values told), answers.0, answers.1, gains_part old.bytes new.bytes (outlook_text values told) w.front w.rest w.split w.bytes)
 
-pub told_events : (limits : Limits) (values : Values) (i now : Incoming) (old new : Outgoing) (answer : Result (Unit {0}) Fault) → TellsInput values limits i old answer now new → Does (Events limits values) i now old new (ended limits.bytes answer)
+pub told_events : (limits : Limits) (values : Values) (i now : Incoming) (old new : Outgoing) (answer : Result (Unit {0}) Fault) → TellsInput values limits i old answer now new → Does (Events limits values) i now old new (outcome_of_writing limits.bytes answer)
 told_events limits values i now old new (Ok _) h =
     let known = if_told i.to_come (λ bytes. outlook limits bytes ≡ h.1) h.2 in
     let text = outlook_text values h.1 in (
@@ -286,24 +286,24 @@ told_events limits values i now old new (Err fault.Failed) h = absurd h.3
 -- ---- lines
 
 -- a line was told of an input that was drained
-pub done_told : (task : Task) (i now : Incoming) (old new : Outgoing) (line : List ℕ) (after : Outcome) → most_taken task Write ≡ most_taken task Done → Takes task i now Done
+pub done_told : (task : Task) (i now : Incoming) (old new : Outgoing) (line : List ℕ) (after : Outcome) → most_taken task Write ≡ most_taken task Done → TakesInput task i now Done
     → Answers task i.to_come Done (bits_of_bytes line) → TellsLine Done line old after new → Does task i now old new after
 done_told task i now old new line after most takes answers (inl h) = rw (h.0) (takes, (bits_of_bytes line, answers, gains_text old.bytes new.bytes line h.1.bytes, h.1.failures))
 done_told task i now old new line after most takes answers (inr h) =
     rw (h.0) ((inl (rw most takes.0), tt), (inr (bits_of_bytes line, Done, answers, gains_part old.bytes new.bytes line h.1.front h.1.rest h.1.split h.1.bytes), h.2))
 
-pub different_told : (task : Task) (i now : Incoming) (old new : Outgoing) (line : List ℕ) (after : Outcome) → most_taken task Write ≡ most_taken task Different → Takes task i now Different
+pub different_told : (task : Task) (i now : Incoming) (old new : Outgoing) (line : List ℕ) (after : Outcome) → most_taken task Write ≡ most_taken task Different → TakesInput task i now Different
     → Answers task i.to_come Different (bits_of_bytes line) → TellsLine Different line old after new → Does task i now old new after
 different_told task i now old new line after most takes answers (inl h) = rw (h.0) (takes, (bits_of_bytes line, answers, gains_text old.bytes new.bytes line h.1.bytes, h.1.failures))
 different_told task i now old new line after most takes answers (inr h) =
     rw (h.0) ((inl (rw most takes.0), tt), (inr (bits_of_bytes line, Different, answers, gains_part old.bytes new.bytes line h.1.front h.1.rest h.1.split h.1.bytes), h.2))
 
 -- an outcome that is no answer writes no line
-pub no_line : (task : Task) (i now : Incoming) (old new : Outgoing) (outcome : Outcome) → (outcome ≡ Done → ⊥) → (outcome ≡ Different → ⊥) → Stays old new
+pub no_line : (task : Task) (i now : Incoming) (old new : Outgoing) (outcome : Outcome) → (outcome ≡ Done → ⊥) → (outcome ≡ Different → ⊥) → StaysOutput old new
     → ((reason : Reason) (bit : ℕ) → Refuses task i.to_come (Refused reason bit) → LeavesRefused task i.to_come reason bit old new) → Judges task i now outcome → Does task i now old new outcome
 no_line task i now old new outcome not_done not_different stays refuses judged = (judged.0, go outcome not_done not_different judged.1)
   where
-    go : (o : Outcome) → (o ≡ Done → ⊥) → (o ≡ Different → ⊥) → Finds task i.to_come o → Leaves task i.to_come old new o
+    go : (o : Outcome) → (o ≡ Done → ⊥) → (o ≡ Different → ⊥) → FindsForTask task i.to_come o → LeavesOutput task i.to_come old new o
     go Done not_done not_different found = absurd (not_done refl)
     go Different not_done not_different found = absurd (not_different refl)
     go (Refused reason bit) not_done not_different found = refuses reason bit found
@@ -315,13 +315,13 @@ no_line task i now old new outcome not_done not_different stays refuses judged =
     go Memory not_done not_different found = (memory_kept task i.to_come old.bytes new.bytes stays.0, stays.1)
 
 -- the lines of a difference were told
-difference_told : (out : LeftOut) (limits : Limits) (first : ℕ) (i now : Incoming) (old new : Outgoing) (lines : List ℕ) (after : Outcome) → Takes (Where first limits out) i now Different
+difference_told : (out : LeftOut) (limits : Limits) (first : ℕ) (i now : Incoming) (old new : Outgoing) (lines : List ℕ) (after : Outcome) → TakesInput (Where first limits out) i now Different
     → Answers (Where first limits out) i.to_come Different (bits_of_bytes lines) → TellsDifference lines old after new → Does (Where first limits out) i now old new after
 difference_told out limits first i now old new lines after takes answers (inl told) = different_told (Where first limits out) i now old new lines after refl takes answers told
 difference_told out limits first i now old new lines after takes answers (inr none) = rw (none.0) ((inl takes.0, tt), stays_same old new none.1)
 
 -- what two inputs were found to be was told
-pub told_where : (out : LeftOut) (limits : Limits) (first : ℕ) (i now : Incoming) (old new : Outgoing) (found : Found) (after : Outcome) → Takes (Where first limits out) i now (outcome_found found)
+pub told_where : (out : LeftOut) (limits : Limits) (first : ℕ) (i now : Incoming) (old new : Outgoing) (found : Found) (after : Outcome) → TakesInput (Where first limits out) i now (outcome_found found)
     → FindsWhere (Where first limits out) i.to_come found → TellsFound found old after new → Does (Where first limits out) i now old new after
 told_where out limits first i now old new (Ok None) after takes finds tells = done_told (Where first limits out) i now old new (codes "same\n") after refl takes (refl, finds.1.1) tells
 told_where out limits first i now old new (Ok (Some difference)) after takes finds tells = difference_told out limits first i now old new (difference_text (difference_shown difference)) after takes finds tells
@@ -330,7 +330,7 @@ told_where out limits first i now old new (Err outcome) after takes finds tells 
 
 -- a check never finds two inputs different
 pub never_different : (limits : Limits) (i now : Incoming) (outcome : Outcome) → Judges (Check limits) i now outcome → outcome ≡ Different → ⊥
-never_different limits i now outcome judged is = let it : Finds (Check limits) i.to_come Different = subst (λ (o : Outcome). Finds (Check limits) i.to_come o) is judged.1 in absurd it.1
+never_different limits i now outcome judged is = let it : FindsForTask (Check limits) i.to_come Different = subst (λ (o : Outcome). FindsForTask (Check limits) i.to_come o) is judged.1 in absurd it.1
 
 -- ---- flushing
 
@@ -375,10 +375,10 @@ failed_still old new last (inr spent) more = inr spent
 pub settled : (task : Task) (i now : Incoming) (old new last : Outgoing) (outcome after : Outcome) → Does task i now old new outcome → Settles outcome new after last → Does task i now old last after
 settled task i now old new last outcome after does (inl same) = rw (same.0) (does.0, kept outcome does.1)
   where
-    stays : Stays new last
+    stays : StaysOutput new last
     stays = same.1
 
-    kept : (o : Outcome) → Leaves task i.to_come old new o → Leaves task i.to_come old last o
+    kept : (o : Outcome) → LeavesOutput task i.to_come old new o → LeavesOutput task i.to_come old last o
     kept Done d = (d.0, d.1, gains_kept d.0 old.bytes new.bytes last.bytes d.2 stays.0, stays.1 ∙ d.3)
     kept Different d = (d.0, d.1, gains_kept d.0 old.bytes new.bytes last.bytes d.2 stays.0, stays.1 ∙ d.3)
     kept (Refused reason bit) d = refused_then task i.to_come reason bit old new last d stays
@@ -391,13 +391,13 @@ settled task i now old new last outcome after does (inl same) = rw (same.0) (doe
 settled task i now old new last outcome after does (inr failed) =
     rw (failed.0) ((paid outcome does.0.0, tt), lost outcome does.1)
   where
-    more : (o : Outcome) → Spends i (most_taken task o) now 0 → Pays Write i (most_taken task Write) now
+    more : (o : Outcome) → Spends i (most_taken task o) now 0 → PaysForRun Write i (most_taken task Write) now
     more o p = inl (spends_more i now (most_taken task o) (most_taken task Write) (most_write task o) p)
 
-    lost_more : (o : Outcome) → Fails i (most_taken task o) now 0 → Pays Write i (most_taken task Write) now
+    lost_more : (o : Outcome) → Fails i (most_taken task o) now 0 → PaysForRun Write i (most_taken task Write) now
     lost_more o p = inr (fails_more i now (most_taken task o) (most_taken task Write) (most_write task o) p)
 
-    paid : (o : Outcome) → Pays o i (most_taken task o) now → Pays Write i (most_taken task Write) now
+    paid : (o : Outcome) → PaysForRun o i (most_taken task o) now → PaysForRun Write i (most_taken task Write) now
     paid Done p = more Done p
     paid Different p = more Different p
     paid (Refused reason bit) p = more (Refused reason bit) p
@@ -411,10 +411,10 @@ settled task i now old new last outcome after does (inr failed) =
     keeps : Keeps new.bytes last.bytes
     keeps = failed.1
 
-    short : StopsShort task i.to_come old.bytes new.bytes × (new.failures ≡ old.failures) → Leaves task i.to_come old last Write
+    short : StopsShort task i.to_come old.bytes new.bytes × (new.failures ≡ old.failures) → LeavesOutput task i.to_come old last Write
     short h = (stopped_then task i.to_come old.bytes new.bytes last.bytes h.0 keeps, failed_then old new last h.1 failed.3)
 
-    lost : (o : Outcome) → Leaves task i.to_come old new o → Leaves task i.to_come old last Write
+    lost : (o : Outcome) → LeavesOutput task i.to_come old new o → LeavesOutput task i.to_come old last Write
     lost Done d = (inr (d.0, Done, d.1, gains_front d.0 old.bytes last.bytes (gains_kept d.0 old.bytes new.bytes last.bytes d.2 keeps)), failed_then old new last d.3 failed.3)
     lost Different d = (inr (d.0, Different, d.1, gains_front d.0 old.bytes last.bytes (gains_kept d.0 old.bytes new.bytes last.bytes d.2 keeps)), failed_then old new last d.3 failed.3)
     lost (Refused reason bit) d = short (refused_stops task i.to_come reason bit old new d)

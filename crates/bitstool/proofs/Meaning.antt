@@ -9,7 +9,7 @@ use Rattle.clap.specs.declared.error.kind.ErrorKind.TheVariants.{OutOfMemory}
 use Rattle.bitstool.specs.declared.names.Unnamed.{Unnamed}
 use Rattle.bitstool.specs.declared.task.Task.{Task}
 use Rattle.bitstool.specs.declared.task.Parsed.TheVariants as Parsed
-use Rattle.bitstool.specs.Words.{Fails, FindsAll, Means, MisnamedIn, MisnamesIn, Says, bitstool, faults_of, named_by}
+use Rattle.bitstool.specs.Words.{GivesNoTask, FindsAll, Means, MisnamedIn, MisnamesIn, Says, bitstool, faults_of, named_by}
 use Rattle.bitstool.proofs.Given.{all_found}
 
 pub faultless : (app : App) (words : List Text) → app ≡ bitstool → (is_simple_and_free app ≡ true → fault_of app words ≡ []) → faults_of words ≡ []
@@ -21,11 +21,11 @@ pub meant : (app : App) (words : List Text) (rows : Option (Text × List Row)) (
 unfolding named_by
 meant app words rows P is found holds = subst P (found (ap is_simple is) ∙ ap (λ (a : App). subcommand_of a words) is) holds
 
-pub faulty : (app : App) (words : List Text) (kind : ErrorKind) → app ≡ bitstool → (is_simple_and_free app ≡ true → (kind ≡ OutOfMemory) ⊎ IsAmong kind (fault_of app words)) → Fails words kind
+pub faulty : (app : App) (words : List Text) (kind : ErrorKind) → app ≡ bitstool → (is_simple_and_free app ≡ true → (kind ≡ OutOfMemory) ⊎ IsAmong kind (fault_of app words)) → GivesNoTask words kind
 unfolding faults_of
 faulty app words kind is why = go (why (ap is_simple_and_free is))
   where
-    go : (kind ≡ OutOfMemory) ⊎ IsAmong kind (fault_of app words) → Fails words kind
+    go : (kind ≡ OutOfMemory) ⊎ IsAmong kind (fault_of app words) → GivesNoTask words kind
     go (inl memory) = inl memory
     go (inr among) = inr (subst (λ (a : App). IsAmong kind (fault_of a words)) is among)
 

@@ -16,7 +16,7 @@ use Rattle.bitstool.specs.declared.outcome.Outcome.{Outcome}
 use Rattle.bitstool.specs.declared.outcome.Outcome.TheVariants.{Done, TooLong, Write, Memory}
 use Rattle.bitstool.specs.declared.task.Task.{Task}
 use Rattle.bitstool.specs.Performing.{AreFirst, PullsFirst, TakesFirst, outcome_of}
-use Rattle.bitstool.specs.Runs.{IsDrained, Takes, Told, most_taken}
+use Rattle.bitstool.specs.Runs.{IsDrained, TakesInput, ToldBytes, most_taken}
 use Rattle.bitstool.proofs.Known.{if_told}
 
 -- ---- what is paid for
@@ -57,7 +57,7 @@ fails_then i mid now a b h k = record {
 
 -- ---- pulls
 
-known_after : (a b : Told) (bytes : List ℕ) → Consumes a b bytes → IsSome a → IsSome b × (length (known_bytes a) ≡ length bytes + length (known_bytes b))
+known_after : (a b : ToldBytes) (bytes : List ℕ) → Consumes a b bytes → IsSome a → IsSome b × (length (known_bytes a) ≡ length bytes + length (known_bytes b))
 known_after None b bytes h told = absurd (cc)
 known_after (Some xs) None bytes h told = absurd h
 known_after (Some xs) (Some ys) bytes h told = (refl, ap length h ∙ length-append bytes ys)
@@ -91,12 +91,12 @@ says_whole : (a b : Account) (old new : List Account) (all : List ℕ) → ((n :
 unfolding SaysOf
 says_whole a b old new all more told kept = more 0 all (λ h. told) kept
 
-kept_are : (o left : Told) (bytes gone : List ℕ) → ((all : List ℕ) → prepend_known [] o ≡ Some all → prepend_known bytes left ≡ Some all) → Consumes o left gone → IsSome o → gone ≡ bytes
+kept_are : (o left : ToldBytes) (bytes gone : List ℕ) → ((all : List ℕ) → prepend_known [] o ≡ Some all → prepend_known bytes left ≡ Some all) → Consumes o left gone → IsSome o → gone ≡ bytes
 kept_are None left bytes gone says takes told = absurd (cc)
 kept_are (Some all) None bytes gone says takes told = absurd takes
 kept_are (Some all) (Some rest) bytes gone says takes told =
     let same : Some (bytes ++ rest) ≡ Some all = says all refl in
-    append_cancel_right gone bytes rest (sym takes ∙ sym (ap (λ (o : Told). known_bytes o) same))
+    append_cancel_right gone bytes rest (sym takes ∙ sym (ap (λ (o : ToldBytes). known_bytes o) same))
 
 -- it has kept what was pulled, where it tells its bytes
 pub first_kept : (i p q now : Incoming) (count : ℕ) (bytes : List ℕ) → p ≡ keeps_of true [] i → q ≡ keeps_of true bytes now → PullsFirst count p (Ok tt) q → TakesFirst count i (Ok bytes) now
@@ -120,7 +120,7 @@ first_unread i p q now count e begun s pulls = fails_within true s.is [] s.bytes
 
 -- ---- what is left
 
-none_left : (o : Told) → IsSome o → known_bytes o ≡ [] → o ≡ Some []
+none_left : (o : ToldBytes) → IsSome o → known_bytes o ≡ [] → o ≡ Some []
 none_left None told empty = absurd (cc)
 none_left (Some bytes) told empty = rw empty refl
 
@@ -136,19 +136,19 @@ module _ {A : Type 0} (Holds : List ℕ → A → Type 0) (task : Task) (limits 
   all_read : (a : A) → ReadsWhole Holds limits i (Ok a) now → IsDrained i now
   all_read a h = drained i now h.0.tells (λ t. (h.1 t).1)
 
-  pub takes_done : (a : A) → ReadsWhole Holds limits i (Ok a) now → Takes task i now Done
+  pub takes_done : (a : A) → ReadsWhole Holds limits i (Ok a) now → TakesInput task i now Done
   takes_done a h = (spent Done h.0, all_read a h)
 
-  pub takes_long : (a : A) (limit : ℕ) → ReadsWhole Holds limits i (Ok a) now → Takes task i now (TooLong limit)
+  pub takes_long : (a : A) (limit : ℕ) → ReadsWhole Holds limits i (Ok a) now → TakesInput task i now (TooLong limit)
   takes_long a limit h = (spent (TooLong limit) h.0, all_read a h)
 
-  pub takes_write : (a : A) → ReadsWhole Holds limits i (Ok a) now → Takes task i now Write
+  pub takes_write : (a : A) → ReadsWhole Holds limits i (Ok a) now → TakesInput task i now Write
   takes_write a h = (inl (spent Write h.0), tt)
 
-  pub takes_memory : (a : A) → ReadsWhole Holds limits i (Ok a) now → Takes task i now Memory
+  pub takes_memory : (a : A) → ReadsWhole Holds limits i (Ok a) now → TakesInput task i now Memory
   takes_memory a h = (inl (spent Memory h.0), tt)
 
-  pub takes_fault : (why : Fault) → ReadsWhole Holds limits i (Err why) now → Takes task i now (outcome_of limits.bytes why)
+  pub takes_fault : (why : Fault) → ReadsWhole Holds limits i (Err why) now → TakesInput task i now (outcome_of limits.bytes why)
   takes_fault (fault.Refused reason bit) h = (spent _ h.0, tt)
   takes_fault fault.Read h = (subst (λ (n : ℕ). Fails i n now 0) (sym (most _)) h, tt)
   takes_fault fault.Memory h = (inl (spent Memory h), tt)

@@ -7,7 +7,8 @@ use Rattle.bit_norm.specs.Entries.{Place, at_magic, at_item, What, the_magic, th
 
 -- an open block
 abbrev pub open_text : OpenBlock → List ℕ
-open_text block = codes "block " ++ decimal block.id ++ codes " item " ++ decimal block.items ++ codes ", "
+open_text block = codes "block " ++ decimal block.id ++ codes " item " ++ decimal block.items
+    ++ codes ", "
 
 -- the open blocks from the outermost one, and how many items stand before the place
 abbrev pub place_text : Place → List ℕ
@@ -18,7 +19,8 @@ place_text (at_item within items) = flat_map open_text within ++ (codes "item " 
 abbrev pub what_text : What → List ℕ
 what_text (the_magic magic) = magic_text magic
 what_text (the_block id) = codes "block " ++ decimal id
-what_text (the_record code count) = codes "record " ++ decimal code ++ codes " count " ++ decimal count
+what_text (the_record code count) = codes "record " ++ decimal code ++ codes " count "
+    ++ decimal count
 what_text the_end = codes "end"
 
 -- a value of a record, by its index
@@ -36,10 +38,12 @@ second_value (Some value) = value_text value.index value.second
 
 -- the line of one input, up to the value
 abbrev pub standing_text : List ℕ → Standing → List ℕ
-standing_text which standing = which ++ (codes " bit " ++ decimal standing.bit ++ codes ": ") ++ what_text standing.what
+standing_text which standing = which ++ (codes " bit " ++ decimal standing.bit ++ codes ": ")
+    ++ what_text standing.what
 
 -- the lines: that they differ, where, and what stands there in each
 abbrev pub difference_text : Seen → List ℕ
 difference_text seen =
-    codes "different\nat " ++ place_text seen.place ++ codes "\n" ++ standing_text (codes "first") seen.first ++ first_value seen.value ++ codes "\n"
+    codes "different\nat " ++ place_text seen.place ++ codes "\n"
+    ++ standing_text (codes "first") seen.first ++ first_value seen.value ++ codes "\n"
     ++ standing_text (codes "second") seen.second ++ second_value seen.value ++ codes "\n"

@@ -9,7 +9,8 @@ use Rattle.bit_grammar.specs.declared.info.RecordName.{RecordName}
 
 -- the text is a numeral of this number, with or without a plus before it
 abbrev pub IsNumeralOf : Text → ℕ → Type 0
-IsNumeralOf text n = IsNumeral 10 (without_leading_plus text) × (digits_value 10 (without_leading_plus text) ≡ n)
+IsNumeralOf text n = IsNumeral 10 (without_leading_plus text)
+    × (digits_value 10 (without_leading_plus text) ≡ n)
 
 -- the text names the blocks with this id
 abbrev pub NamesBlock : Text → ℕ → Type 0

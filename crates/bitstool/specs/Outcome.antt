@@ -28,7 +28,8 @@ line_of Different = []
 line_of (Refused reason bit) = codes "refused: " ++ reason_text reason bit
 line_of (RefusedOf First reason bit) = codes "refused: first: " ++ reason_text reason bit
 line_of (RefusedOf Second reason bit) = codes "refused: second: " ++ reason_text reason bit
-line_of (TooLong limit) = codes "refused: normal form longer than " ++ (decimal limit ++ codes " bytes\n")
+line_of (TooLong limit) = codes "refused: normal form longer than "
+    ++ (decimal limit ++ codes " bytes\n")
 line_of Usage = []
 line_of Read = codes "fault: read failed\n"
 line_of Write = codes "fault: write failed\n"

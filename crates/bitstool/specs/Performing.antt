@@ -6,7 +6,8 @@ use Rattle.bit_grammar.specs.Grammar.{at}
 use Rattle.bit_grammar.specs.Forest.{Tree}
 use Rattle.bit_grammar.specs.Blocks.{Limits}
 use Rattle.bit_grammar.specs.Bits.{bits_of_bytes}
-use Rattle.bit_grammar.specs.Input.{BreaksInput, Marked, SpellsInput, Accepts}
+use Rattle.bit_grammar.specs.Input.{BreaksInput, SpellsInput, Accepts}
+use Rattle.bit_grammar.specs.Terms.{Marked}
 use Rattle.bit_grammar.specs.Normal.{HasTree}
 use Rattle.bit_fields.specs.declared.fault.Fault.{Fault}
 use Rattle.bit_fields.specs.declared.fault.Fault.TheVariants as fault
@@ -22,7 +23,7 @@ use Rattle.bitstool.specs.declared.outcome.Outcome.{Outcome}
 use Rattle.bitstool.specs.declared.outcome.Outcome.TheVariants.{Done, Different, Refused, RefusedOf, TooLong, Usage, Read, Write, Memory}
 use Rattle.bitstool.specs.declared.task.Task.{Task}
 use Rattle.bitstool.specs.Differences.{difference_text}
-use Rattle.bitstool.specs.Runs.{Told, Answers, Refuses, EndsAs, Takes, Stays, Pays}
+use Rattle.bitstool.specs.Runs.{ToldBytes, Answers, Refuses, EndsAs, TakesInput, StaysOutput, PaysForRun}
 
 -- a sink took all of a text; or a front of it, since it failed
 abbrev pub PutsAll : List ℕ → Outgoing → Result (Unit {0}) SinkFailed → Outgoing → Type 0
@@ -30,17 +31,20 @@ PutsAll text old (Ok _) new = TookText text old new
 PutsAll text old (Err e) new = TookFront text old new × HasFailed old new
 
 -- these bytes were pulled out of a source: so many, or all where it had fewer
-abbrev pub AreFirst : ℕ → Told → List ℕ → Told → Type 0
-AreFirst count told bytes left = Consumes told left bytes × (length bytes ≤ count) × (length bytes < count → IsAtEnd left)
+abbrev pub AreFirst : ℕ → ToldBytes → List ℕ → ToldBytes → Type 0
+AreFirst count told bytes left = Consumes told left bytes × (length bytes ≤ count)
+    × (length bytes < count → IsAtEnd left)
 
 -- so were some, or it failed
 abbrev pub PullsFirst : ℕ → Incoming → Result (Unit {0}) SourceFailed → Incoming → Type 0
-PullsFirst count i (Ok _) now = Spends i count now 0 × ((bytes : List ℕ) × AreFirst count i.to_come bytes now.to_come)
+PullsFirst count i (Ok _) now = Spends i count now 0
+    × ((bytes : List ℕ) × AreFirst count i.to_come bytes now.to_come)
 PullsFirst count i (Err e) now = Fails i count now 0
 
 -- These were taken into memory, where the source tells its bytes; or it failed, or no memory.
 abbrev pub TakesFirst : ℕ → Incoming → Result (List ℕ) Fault → Incoming → Type 0
-TakesFirst count i (Ok bytes) now = Spends i count now 0 × (IsSome i.to_come → AreFirst count i.to_come bytes now.to_come)
+TakesFirst count i (Ok bytes) now = Spends i count now 0
+    × (IsSome i.to_come → AreFirst count i.to_come bytes now.to_come)
 TakesFirst count i (Err fault.Read) now = Fails i count now 0
 TakesFirst count i (Err fault.Memory) now = Spends i count now 0
 TakesFirst count i (Err fault) now = ⊥
@@ -64,41 +68,48 @@ outcome_in which limit fault.OutputTooLong = TooLong limit
 outcome_in which limit fault.Failed = Read
 
 -- the outcome of a text's writing, under this limit on bytes
-abbrev pub ended : ℕ → Result (Unit {0}) Fault → Outcome
-ended limit (Ok _) = Done
-ended limit (Err fault) = outcome_of limit fault
+abbrev pub outcome_of_writing : ℕ → Result (Unit {0}) Fault → Outcome
+outcome_of_writing limit (Ok _) = Done
+outcome_of_writing limit (Err fault) = outcome_of limit fault
 
 -- what a command has found before it writes
-abbrev pub Finds : Task → Told → Outcome → Type 0
-Finds task input Done = (bits : List Bool) × Answers task input Done bits
-Finds task input Different = (bits : List Bool) × Answers task input Different bits
-Finds task input (Refused reason bit) = Refuses task input (Refused reason bit)
-Finds task input (RefusedOf which reason bit) = Refuses task input (RefusedOf which reason bit)
-Finds task input (TooLong limit) = Refuses task input (TooLong limit)
-Finds task input Usage = ⊥
-Finds task input Read = ⊤
-Finds task input Write = ⊥
-Finds task input Memory = ⊤
+abbrev pub FindsForTask : Task → ToldBytes → Outcome → Type 0
+FindsForTask task input Done = (bits : List Bool) × Answers task input Done bits
+FindsForTask task input Different = (bits : List Bool) × Answers task input Different bits
+FindsForTask task input (Refused reason bit) = Refuses task input (Refused reason bit)
+FindsForTask task input (RefusedOf which reason bit) = Refuses task input
+    (RefusedOf which reason bit)
+FindsForTask task input (TooLong limit) = Refuses task input (TooLong limit)
+FindsForTask task input Usage = ⊥
+FindsForTask task input Read = ⊤
+FindsForTask task input Write = ⊥
+FindsForTask task input Memory = ⊤
 
 -- and what it took of its input for that
 abbrev pub Judges : Task → Incoming → Incoming → Outcome → Type 0
-Judges task i now outcome = Takes task i now outcome × Finds task i.to_come outcome
+Judges task i now outcome = TakesInput task i now outcome × FindsForTask task i.to_come outcome
 
 -- Two inputs were compared, of which the first is known: both have this tree; or they have these two; or one breaks so, the
 -- second after the first was accepted; or the source failed, or no memory.
-abbrev pub ComparesWith : Setting → Limits → List ℕ → Told → Outcome → Type 0
-ComparesWith setting limits first rest Done = (tree : Tree) × HasTree setting limits first tree × IfSome rest (λ bytes. HasTree setting limits bytes tree)
-ComparesWith setting limits first rest Different = (a : Tree) × (b : Tree) × HasTree setting limits first a × IfSome rest (λ bytes. HasTree setting limits bytes b) × (a ≢ b)
-ComparesWith setting limits first rest (RefusedOf First reason bit) = BreaksInput limits first (at reason bit)
-ComparesWith setting limits first rest (RefusedOf Second reason bit) = Accepts limits first × IfSome rest (λ bytes. BreaksInput limits bytes (at reason bit))
-ComparesWith setting limits first rest Read = ⊤
-ComparesWith setting limits first rest Memory = ⊤
-ComparesWith setting limits first rest outcome = ⊥
+abbrev pub ComparesTold : Setting → Limits → List ℕ → ToldBytes → Outcome → Type 0
+ComparesTold setting limits first rest Done = (tree : Tree) × HasTree setting limits first tree
+    × IfSome rest (λ bytes. HasTree setting limits bytes tree)
+ComparesTold setting limits first rest Different = (a : Tree) × (b : Tree)
+    × HasTree setting limits first a × IfSome rest (λ bytes. HasTree setting limits bytes b)
+    × (a ≢ b)
+ComparesTold setting limits first rest (RefusedOf First reason bit) = BreaksInput limits first
+    (at reason bit)
+ComparesTold setting limits first rest (RefusedOf Second reason bit) = Accepts limits first
+    × IfSome rest (λ bytes. BreaksInput limits bytes (at reason bit))
+ComparesTold setting limits first rest Read = ⊤
+ComparesTold setting limits first rest Memory = ⊤
+ComparesTold setting limits first rest outcome = ⊥
 
 -- what was taken of the second for that: nothing where the first is refused
 abbrev pub TakesRest : Limits → Incoming → Incoming → Outcome → Type 0
 TakesRest limits j later (RefusedOf First reason bit) = later ≡ j
-TakesRest limits j later outcome = Pays outcome j (limits.bytes + 1) later × EndsAs outcome j later
+TakesRest limits j later outcome = PaysForRun outcome j (limits.bytes + 1) later
+    × EndsAs outcome j later
 
 -- what two inputs were found to be: this first difference, or none; or another outcome
 abbrev pub Found : Type 0
@@ -115,32 +126,42 @@ abbrev pub IsNoAnswer : Outcome → Type 0
 IsNoAnswer outcome = (outcome ≢ Done) × (outcome ≢ Different)
 
 -- two inputs, of which the first is known, were compared: this is where they first differ, or nowhere; or as above
-abbrev pub ComparesWhere : Setting → Limits → List ℕ → Told → Found → Type 0
-ComparesWhere setting limits first rest (Ok None) = ComparesWith setting limits first rest Done
-ComparesWhere setting limits first rest (Ok (Some difference)) = (a : Marked) × SpellsInput limits first a × IfSome rest (λ bytes. (b : Marked) × SpellsInput limits bytes b × FirstDifference setting a b (difference_shown difference))
-ComparesWhere setting limits first rest (Err outcome) = ComparesWith setting limits first rest outcome × IsNoAnswer outcome
+abbrev pub ComparesWhere : Setting → Limits → List ℕ → ToldBytes → Found → Type 0
+ComparesWhere setting limits first rest (Ok None) = ComparesTold setting limits first rest Done
+ComparesWhere setting limits first rest (Ok (Some difference)) = (a : Marked)
+    × SpellsInput limits first a × IfSome rest
+    (λ bytes. (b : Marked) × SpellsInput limits bytes b
+    × FirstDifference setting a b (difference_shown difference))
+ComparesWhere setting limits first rest (Err outcome) = ComparesTold setting limits first rest
+    outcome × IsNoAnswer outcome
 
 -- the same of the first bytes of an input, and the others
-abbrev pub FindsWhere : Task → Told → Found → Type 0
+abbrev pub FindsWhere : Task → ToldBytes → Found → Type 0
 FindsWhere task input (Ok None) = (bits : List Bool) × Answers task input Done bits
-FindsWhere task input (Ok (Some difference)) = Answers task input Different (bits_of_bytes (difference_text (difference_shown difference)))
-FindsWhere task input (Err outcome) = Finds task input outcome × IsNoAnswer outcome
+FindsWhere task input (Ok (Some difference)) = Answers task input Different
+    (bits_of_bytes (difference_text (difference_shown difference)))
+FindsWhere task input (Err outcome) = FindsForTask task input outcome × IsNoAnswer outcome
 
 -- an answer was written as this line; or the output failed, and took a front of it
 abbrev pub TellsLine : Outcome → List ℕ → Outgoing → Outcome → Outgoing → Type 0
-TellsLine answer line old after new = ((after ≡ answer) × TookText line old new) ⊎ ((after ≡ Write) × TookFront line old new × HasFailed old new)
+TellsLine answer line old after new = ((after ≡ answer) × TookText line old new)
+    ⊎ ((after ≡ Write) × TookFront line old new × HasFailed old new)
 
 -- the lines of a difference were written; or the output failed; or there was no memory for them, and the output is as it was
 abbrev pub TellsDifference : List ℕ → Outgoing → Outcome → Outgoing → Type 0
-TellsDifference lines old after new = TellsLine Different lines old after new ⊎ ((after ≡ Memory) × (new ≡ old))
+TellsDifference lines old after new = TellsLine Different lines old after new
+    ⊎ ((after ≡ Memory) × (new ≡ old))
 
 -- what two inputs were found to be was told
 abbrev pub TellsFound : Found → Outgoing → Outcome → Outgoing → Type 0
 TellsFound (Ok None) old after new = TellsLine Done (codes "same\n") old after new
-TellsFound (Ok (Some difference)) old after new = TellsDifference (difference_text (difference_shown difference)) old after new
+TellsFound (Ok (Some difference)) old after new = TellsDifference
+    (difference_text (difference_shown difference)) old after new
 TellsFound (Err outcome) old after new = (after ≡ outcome) × (new ≡ old)
 
 -- the outcome after a flush: as it was, or the output failed; no byte came or went
 abbrev pub Settles : Outcome → Outgoing → Outcome → Outgoing → Type 0
 Settles outcome old after new =
-    ((after ≡ outcome) × Stays old new) ⊎ ((after ≡ Write) × Keeps old.bytes new.bytes × (old.failures ≤ new.failures) × HasFailed old new)
+    ((after ≡ outcome) × StaysOutput old new)
+    ⊎ ((after ≡ Write) × Keeps old.bytes new.bytes × (old.failures ≤ new.failures)
+    × HasFailed old new)

@@ -28,7 +28,8 @@ use Rattle.bitstool.specs.Names.{IsNumeralOf, IsUnnamed, NameEach, NamesBlock, N
 
 -- an option with a number from 0 to `most`
 abbrev pub number_rule : (name : Text) → (most : ℕ) → Rule
-number_rule name most = record (new_rule name) { long = Some name; value_names = 1; parser = Some (Unsigned 0 most) }
+number_rule name most = record (new_rule name)
+    { long = Some name; value_names = 1; parser = Some (Unsigned 0 most) }
 
 -- such an option, whose number is `usual` where it is not given
 abbrev pub limit_rule : (name usual : Text) → (most : ℕ) → Rule
@@ -67,7 +68,8 @@ limited name = with_rule (numbered name) (flag_rule (codes "shapes-at-use"))
 
 -- a command that may leave out blocks and records too
 abbrev pub leaving : Text → App
-leaving name = with_rule (with_rule (limited name) (name_rule (codes "drop-block"))) (name_rule (codes "drop-record"))
+leaving name = with_rule (with_rule (limited name) (name_rule (codes "drop-block")))
+    (name_rule (codes "drop-record"))
 
 -- and has a flag for BLOCKINFO blocks
 abbrev pub dropping : Text → App
@@ -81,16 +83,26 @@ abbrev pub telling : App
 telling = with_rule (limited (codes "events")) (flag_rule (codes "no-values"))
 
 -- nothing but what goes for all commands
-abbrev pub above : App
-above = record { top = record (new_app (codes "bitstool")).top { has_version = true; no_binary_name = true; disable_help_subcommand = true; subcommand_required = true }; subs = [] }
+abbrev pub for_all_commands : App
+for_all_commands = record {
+  top = record (new_app (codes "bitstool")).top {
+    has_version = true;
+    no_binary_name = true;
+    disable_help_subcommand = true;
+    subcommand_required = true;
+  };
+  subs = [];
+}
 
 -- with the commands that judge, write and compare
 abbrev pub three : App
-three = with_subcommand (with_subcommand (with_subcommand above (limited (codes "check")).top) (dropping (codes "normal")).top) comparing.top
+three = with_subcommand (with_subcommand (with_subcommand for_all_commands
+    (limited (codes "check")).top) (dropping (codes "normal")).top) comparing.top
 
 -- the whole command line, with those that tell what an input holds
 abbrev pub bitstool : App
-bitstool = with_subcommand (with_subcommand (with_subcommand three (limited (codes "analyse")).top) (leaving (codes "show")).top) telling.top
+bitstool = with_subcommand (with_subcommand (with_subcommand three (limited (codes "analyse")).top)
+    (leaving (codes "show")).top) telling.top
 
 -- ---- what was found
 
@@ -108,7 +120,9 @@ HasShapes rows AtDefinition = ¬ (IsGiven (codes "shapes-at-use") rows)
 HasShapes rows AtUse = IsGiven (codes "shapes-at-use") rows
 
 abbrev pub HasLimits : List Row → Limits → Type 0
-HasLimits rows limits = HasNumber (codes "bytes") rows limits.bytes × HasNumber (codes "depth") rows limits.depth × HasNumber (codes "values") rows limits.values × HasShapes rows limits.shapes
+HasLimits rows limits = HasNumber (codes "bytes") rows limits.bytes
+    × HasNumber (codes "depth") rows limits.depth × HasNumber (codes "values") rows limits.values
+    × HasShapes rows limits.shapes
 
 -- the texts that were given for this option, in order
 abbrev pub texts_of : Text → List Row → List Text
@@ -124,7 +138,8 @@ NamesRecords rows = NameEach NamesRecord (texts_of (codes "drop-record") rows)
 -- The blocks with these ids are left out: those that are named, and behind them the BLOCKINFO blocks where that flag was given.
 abbrev pub HasBlocks : List Row → List ℕ → Type 0
 HasBlocks rows ids = (named : List ℕ) × NamesBlocks rows named
-    × ((IsGiven (codes "drop-info") rows × (ids ≡ named ++ 0 ∷ [])) ⊎ (¬ (IsGiven (codes "drop-info") rows) × (ids ≡ named)))
+    × ((IsGiven (codes "drop-info") rows × (ids ≡ named ++ 0 ∷ []))
+    ⊎ (¬ (IsGiven (codes "drop-info") rows) × (ids ≡ named)))
 
 -- and the records that are named
 abbrev pub HasLeftOut : List Row → LeftOut → Type 0
@@ -142,7 +157,8 @@ IsNormal limits rows task = (left : LeftOut) × (task ≡ Normal limits left) ×
 -- a comparison of so many first bytes with the others, which says where they differ exactly where that flag was given
 abbrev pub IsSame : ℕ → Limits → List Row → Task → Type 0
 IsSame first limits rows task = (left : LeftOut) × HasLeftOut rows left
-    × ((IsGiven (codes "where") rows × (task ≡ Where first limits left)) ⊎ (¬ (IsGiven (codes "where") rows) × (task ≡ Same first limits left)))
+    × ((IsGiven (codes "where") rows × (task ≡ Where first limits left))
+    ⊎ (¬ (IsGiven (codes "where") rows) × (task ≡ Same first limits left)))
 
 abbrev pub IsShow : Limits → List Row → Task → Type 0
 IsShow limits rows task = (left : LeftOut) × (task ≡ Show limits left) × HasLeftOut rows left
@@ -150,12 +166,19 @@ IsShow limits rows task = (left : LeftOut) × (task ≡ Show limits left) × Has
 -- a command with what was found for its options asks for this
 abbrev pub Asks : Text → List Row → Task → Type 0
 Asks name rows (Check limits) = (name ≡ codes "check") × HasLimits rows limits
-Asks name rows (Normal limits left) = (name ≡ codes "normal") × HasLimits rows limits × HasLeftOut rows left
-Asks name rows (Same first limits left) = (name ≡ codes "same") × HasNumber (codes "first") rows first × HasLimits rows limits × HasLeftOut rows left × ¬ (IsGiven (codes "where") rows)
-Asks name rows (Where first limits left) = (name ≡ codes "same") × HasNumber (codes "first") rows first × HasLimits rows limits × HasLeftOut rows left × IsGiven (codes "where") rows
+Asks name rows (Normal limits left) = (name ≡ codes "normal") × HasLimits rows limits
+    × HasLeftOut rows left
+Asks name rows (Same first limits left) = (name ≡ codes "same")
+    × HasNumber (codes "first") rows first × HasLimits rows limits × HasLeftOut rows left
+    × ¬ (IsGiven (codes "where") rows)
+Asks name rows (Where first limits left) = (name ≡ codes "same")
+    × HasNumber (codes "first") rows first × HasLimits rows limits × HasLeftOut rows left
+    × IsGiven (codes "where") rows
 Asks name rows (Analyse limits) = (name ≡ codes "analyse") × HasLimits rows limits
-Asks name rows (Show limits left) = (name ≡ codes "show") × HasLimits rows limits × HasLeftOut rows left
-Asks name rows (Events limits values) = (name ≡ codes "events") × HasLimits rows limits × HasValues rows values
+Asks name rows (Show limits left) = (name ≡ codes "show") × HasLimits rows limits
+    × HasLeftOut rows left
+Asks name rows (Events limits values) = (name ≡ codes "events") × HasLimits rows limits
+    × HasValues rows values
 
 abbrev pub Means : Option (Text × List Row) → Task → Type 0
 Means None task = ⊥
@@ -167,13 +190,15 @@ HasWithin id most rows = (n : ℕ) × HasNumber id rows n × (n ≤ most)
 
 -- there is a number for each limit
 abbrev pub HasAllLimits : List Row → Type 0
-HasAllLimits rows = HasWithin (codes "bytes") 17179869180 rows × HasWithin (codes "depth") 255 rows × HasWithin (codes "values") 4294967295 rows
+HasAllLimits rows = HasWithin (codes "bytes") 17179869180 rows × HasWithin (codes "depth") 255 rows
+    × HasWithin (codes "values") 4294967295 rows
 
 -- a command of this name, with what was found for its options, has all that it needs
 pub data IsComplete (rows : List Row) : Text → Type 0 where
   checks : HasAllLimits rows → IsComplete rows (codes "check")
   normalises : HasAllLimits rows → IsComplete rows (codes "normal")
-  compares : HasAllLimits rows → HasWithin (codes "first") 17179869180 rows → IsComplete rows (codes "same")
+  compares : HasAllLimits rows → HasWithin (codes "first") 17179869180 rows
+      → IsComplete rows (codes "same")
   analyses : HasAllLimits rows → IsComplete rows (codes "analyse")
   lists : HasAllLimits rows → IsComplete rows (codes "show")
   tells : HasAllLimits rows → IsComplete rows (codes "events")
@@ -187,17 +212,21 @@ FindsAll (Some found) = IsComplete found.1 found.0
 -- the text of a usage fault: this text does not do for this option, which wants this
 abbrev pub wrong_value : (text option wanted : Text) → Text
 wrong_value text option wanted =
-    codes "error: invalid value '" ++ (text ++ (codes "' for '" ++ (option ++ (codes "': " ++ (wanted ++ codes "\n\nFor more information, try '--help'.\n")))))
+    codes "error: invalid value '" ++ (text ++ (codes "' for '"
+    ++ (option ++ (codes "': " ++ (wanted
+    ++ codes "\n\nFor more information, try '--help'.\n")))))
 
 abbrev pub wrong_block : Text → Text
 wrong_block text = wrong_value text (codes "--drop-block <ID>") (codes "no ID from 0 to 4294967295")
 
 abbrev pub wrong_record : Text → Text
-wrong_record text = wrong_value text (codes "--drop-record <ID:CODE>") (codes "no ID from 1 to 4294967295, colon, and CODE from 0 to 18446744073709551615")
+wrong_record text = wrong_value text (codes "--drop-record <ID:CODE>")
+    (codes "no ID from 1 to 4294967295, colon, and CODE from 0 to 18446744073709551615")
 
 -- the names that were given for what is left out do not all name something, for this reason
 abbrev pub Misnamed : List Row → Unnamed → Type 0
-Misnamed rows why = IsUnnamed (texts_of (codes "drop-block") rows) (texts_of (codes "drop-record") rows) why
+Misnamed rows why = IsUnnamed (texts_of (codes "drop-block") rows)
+    (texts_of (codes "drop-record") rows) why
 
 abbrev pub MisnamedIn : Option (Text × List Row) → Unnamed → Type 0
 MisnamedIn None why = ⊥
@@ -229,15 +258,15 @@ abbrev pub MisnamesIn : List Text → Unnamed → Type 0
 MisnamesIn words why = (faults_of words ≡ []) × MisnamedIn (named_by words) why
 
 -- why no task came of the words: no memory; or clap finds this fault with them
-abbrev pub Fails : List Text → ErrorKind → Type 0
-Fails words kind = (kind ≡ OutOfMemory) ⊎ IsAmong kind (faults_of words)
+abbrev pub GivesNoTask : List Text → ErrorKind → Type 0
+GivesNoTask words kind = (kind ≡ OutOfMemory) ⊎ IsAmong kind (faults_of words)
 
 -- where the text of an error belongs
-abbrev pub Shows : ErrorKind → Parsed → Type 0
-Shows kind (parsed.Task task) = ⊥
-Shows kind (parsed.Help text) = IsHelp kind
-Shows kind (parsed.Usage text) = IsHelp kind → ⊥
-Shows kind parsed.Memory = ⊥
+abbrev pub ShowsError : ErrorKind → Parsed → Type 0
+ShowsError kind (parsed.Task task) = ⊥
+ShowsError kind (parsed.Help text) = IsHelp kind
+ShowsError kind (parsed.Usage text) = IsHelp kind → ⊥
+ShowsError kind parsed.Memory = ⊥
 
 -- What is made of the words: the task that they mean, where clap finds no fault with them; help, where they ask for it; a usage
 -- fault, where clap finds another fault, or where it finds none and a text that is to name blocks or records names none; or there
@@ -245,5 +274,7 @@ Shows kind parsed.Memory = ⊥
 abbrev pub Says : List Text → Parsed → Type 0
 Says words (parsed.Task task) = (faults_of words ≡ []) × Means (named_by words) task
 Says words (parsed.Help text) = (kind : ErrorKind) × IsHelp kind × IsAmong kind (faults_of words)
-Says words (parsed.Usage text) = ((kind : ErrorKind) × (IsHelp kind → ⊥) × IsAmong kind (faults_of words)) ⊎ ((why : Unnamed) × MisnamesIn words why × TellsOf why (parsed.Usage text))
+Says words (parsed.Usage text) = ((kind : ErrorKind) × (IsHelp kind → ⊥)
+    × IsAmong kind (faults_of words)) ⊎ ((why : Unnamed) × MisnamesIn words why
+    × TellsOf why (parsed.Usage text))
 Says words parsed.Memory = ⊤

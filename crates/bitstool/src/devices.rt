@@ -39,7 +39,8 @@ pub fn put_all<K: Sink>(sink: &mut K, text: &[u8]) -> Result<(), SinkFailed>
 
 /// Gives a sink a number in digits, and a text behind it.
 pub fn put_number<K: Sink>(sink: &mut K, number: u64, after: &[u8]) -> Result<(), SinkFailed>
-    ensures { PutsAll (decimal number ++ after.now) (K.outgoing sink.old) result (K.outgoing sink.new) }
+    ensures { PutsAll (decimal number ++ after.now) (K.outgoing sink.old) result
+        (K.outgoing sink.new) }
 {
     let mut digits = Buffer::new();
     put_all(sink, digits.format(number).as_bytes())?;

@@ -18,7 +18,8 @@ fn push_block(text: &mut String, block: OpenBlock) -> Result<(), AllocError>
 
 /// Appends the open blocks, the outermost first.
 fn push_blocks(text: &mut String, open: &[OpenBlock]) -> Result<(), AllocError>
-    ensures { OnOk result (string_bytes text.new ≡ string_bytes text.old ++ flat_map open_text open.now) }
+    ensures { OnOk result (string_bytes text.new
+        ≡ string_bytes text.old ++ flat_map open_text open.now) }
 {
     for block in open {
         push_block(text, *block)?;
@@ -28,7 +29,8 @@ fn push_blocks(text: &mut String, open: &[OpenBlock]) -> Result<(), AllocError>
 
 /// Appends a place.
 fn push_place(text: &mut String, place: &Place) -> Result<(), AllocError>
-    ensures { OnOk result (string_bytes text.new ≡ string_bytes text.old ++ place_text (place_shown place.now)) }
+    ensures { OnOk result (string_bytes text.new
+        ≡ string_bytes text.old ++ place_text (place_shown place.now)) }
 {
     match place {
         Place::Magic => text.push_str("magic"),
@@ -41,7 +43,8 @@ fn push_place(text: &mut String, place: &Place) -> Result<(), AllocError>
 
 /// Appends what stands at a place.
 fn push_what(text: &mut String, what: What) -> Result<(), AllocError>
-    ensures { OnOk result (string_bytes text.new ≡ string_bytes text.old ++ what_text (what_shown what)) }
+    ensures { OnOk result (string_bytes text.new
+        ≡ string_bytes text.old ++ what_text (what_shown what)) }
 {
     match what {
         What::Magic(magic) => push_magic(text, magic),
@@ -53,7 +56,8 @@ fn push_what(text: &mut String, what: What) -> Result<(), AllocError>
 
 /// Appends the line of one input, up to the value.
 fn push_standing(text: &mut String, which: &str, standing: Standing) -> Result<(), AllocError>
-    ensures { OnOk result (string_bytes text.new ≡ string_bytes text.old ++ standing_text which.now (standing_shown standing)) }
+    ensures { OnOk result (string_bytes text.new
+        ≡ string_bytes text.old ++ standing_text which.now (standing_shown standing)) }
 {
     text.push_str(which)?;
     let bit = standing.bit;
@@ -90,7 +94,8 @@ fn push_second_value(text: &mut String, value: Option<ValueDifference>) -> Resul
 
 /// The lines that say that two inputs differ, where, and what stands there in each.
 pub fn text_of(alloc: Global, difference: &Difference) -> Result<String, AllocError>
-    ensures { IfOk result (λ text. string_bytes text ≡ difference_text (difference_shown difference.now)) }
+    ensures { IfOk result (λ text. string_bytes text
+        ≡ difference_text (difference_shown difference.now)) }
 {
     let mut text = String::from_str(alloc, "different\nat ")?;
     push_place(&mut text, &difference.place)?;

@@ -35,7 +35,8 @@ fn code_named(text: &str) -> Option<u64>
 
 /// The records that a text names.
 fn record_named(text: &str) -> Option<RecordName>
-    ensures { MatchOption result ((name : RecordValue) → NamesRecord text.now name → ⊥) (NamesRecord text.now) }
+    ensures { MatchOption result ((name : RecordValue) → NamesRecord text.now name → ⊥)
+        (NamesRecord text.now) }
 {
     let (front, back) = text.split_once(':')?;
     let block = block_named(front)?;
@@ -48,7 +49,8 @@ fn record_named(text: &str) -> Option<RecordName>
 
 /// The ids of the blocks that texts name, in order.
 pub fn blocks_named<'a>(alloc: Global, given: &[&'a str]) -> Result<Vec<u32>, Unnamed<'a>>
-    ensures { MatchResult result (λ ids. NameEach NamesBlock (texts given.now) ids.items) (IsUnnamed (texts given.now) []) }
+    ensures { MatchResult result (λ ids. NameEach NamesBlock (texts given.now) ids.items)
+        (IsUnnamed (texts given.now) []) }
 {
     let mut ids = Vec::new(alloc);
     for text in given {
@@ -66,7 +68,8 @@ pub fn blocks_named<'a>(alloc: Global, given: &[&'a str]) -> Result<Vec<u32>, Un
 
 /// The records that texts name, in order.
 pub fn records_named<'a>(alloc: Global, given: &[&'a str]) -> Result<Vec<RecordName>, Unnamed<'a>>
-    ensures { MatchResult result (λ names. NameEach NamesRecord (texts given.now) names.items) (IsUnnamed [] (texts given.now)) }
+    ensures { MatchResult result (λ names. NameEach NamesRecord (texts given.now) names.items)
+        (IsUnnamed [] (texts given.now)) }
 {
     let mut names = Vec::new(alloc);
     for text in given {

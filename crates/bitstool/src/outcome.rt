@@ -87,7 +87,8 @@ fn put_refusal<K: Sink>(
     reason: Reason,
     bit: u64,
 ) -> Result<(), SinkFailed>
-    ensures { PutsAll (start.now ++ reason_text reason bit) (K.outgoing sink.old) result (K.outgoing sink.new) }
+    ensures { PutsAll (start.now ++ reason_text reason bit) (K.outgoing sink.old) result
+        (K.outgoing sink.new) }
 {
     put_all(sink, start)?;
     put_all(sink, reason.name().as_bytes())?;
@@ -97,7 +98,8 @@ fn put_refusal<K: Sink>(
 
 /// Gives a sink the line of a normal form that has more bytes than this limit.
 fn put_too_long<K: Sink>(sink: &mut K, limit: u64) -> Result<(), SinkFailed>
-    ensures { PutsAll (line_of (Outcome.TooLong limit)) (K.outgoing sink.old) result (K.outgoing sink.new) }
+    ensures { PutsAll (line_of (Outcome.TooLong limit)) (K.outgoing sink.old) result
+        (K.outgoing sink.new) }
 {
     put_all(sink, b"refused: normal form longer than ")?;
     put_number(sink, limit, b" bytes\n")

@@ -3,8 +3,8 @@
 ghost use Rattle.std.specs.Prelude.{◌≡◌, ◌<◌, ◌^◌, ◌↔◌, ℕ, false, map, string_bytes, IfOk, IfErr, IfSome, IsSome, IsTrue, MatchResult, Some};
 ghost use Rattle.bitstool.specs.declared.task.Parsed.{Parsed as ParsedValue};
 ghost use Rattle.clap.specs.Words.{app_of, found_of, kind_of, rows_of, rule_of, subcommand_rows_of};
-ghost use Rattle.bitstool.specs.Words.{numbered, FindsAll, HasAllLimits, HasLimits, HasLeftOut, HasNumber, HasShapes, HasValues, IsGiven, IsNormal, IsSame, IsShow, Means, Misnamed, MisnamedIn, MisnamesIn, Says, Fails, Shows, TellsOf, NamesBlocks, NamesRecords};
-ghost use Rattle.bitstool.specs.Words.{above, bitstool, flag_rule, leaving, limit_rule, limited, name_rule, number_rule, dropping, comparing, telling, wrong_value};
+ghost use Rattle.bitstool.specs.Words.{numbered, FindsAll, HasAllLimits, HasLimits, HasLeftOut, HasNumber, HasShapes, HasValues, IsGiven, IsNormal, IsSame, IsShow, Means, Misnamed, MisnamedIn, MisnamesIn, Says, GivesNoTask, ShowsError, TellsOf, NamesBlocks, NamesRecords};
+ghost use Rattle.bitstool.specs.Words.{for_all_commands, bitstool, flag_rule, leaving, limit_rule, limited, name_rule, number_rule, dropping, comparing, telling, wrong_value};
 
 use crate::names::{Unnamed, blocks_named, records_named};
 use crate::task::{LeftOut, Parsed, Task};
@@ -201,7 +201,7 @@ fn telling<'a>(alloc: Global) -> Result<Command<'a>, AllocError>
 
 /// What goes for all commands.
 fn above<'a>(alloc: Global) -> Result<Command<'a>, AllocError>
-    ensures { IfOk result (λ command. app_of command ≡ above) }
+    ensures { IfOk result (λ command. app_of command ≡ for_all_commands) }
 {
     Command::new(alloc, "bitstool")
         .version(VERSION)
@@ -236,7 +236,8 @@ fn command<'a>(alloc: Global) -> Result<Command<'a>, AllocError>
 /// The number that an option was given.
 fn number(matches: &ArgMatches<'_>, name: &str) -> Option<u64>
     ensures number { IfSome result (λ n. HasNumber name.now (rows_of (found_of matches.now)) n) }
-    ensures found { (n : ℕ) → HasNumber name.now (rows_of (found_of matches.now)) n → n < 2 ^ 64 → result ≡ Some n }
+    ensures found { (n : ℕ) → HasNumber name.now (rows_of (found_of matches.now)) n → n < 2 ^ 64
+        → result ≡ Some n }
 {
     matches.get_one(name)
 }
@@ -280,7 +281,8 @@ fn limits_of(matches: &ArgMatches<'_>) -> Option<Limits>
 
 /// The blocks that a command was told to leave out by their ids.
 fn blocks_of<'a>(alloc: Global, matches: &ArgMatches<'a>) -> Result<Vec<u32>, Unnamed<'a>>
-    ensures { MatchResult result (λ ids. NamesBlocks (rows_of (found_of matches.now)) ids.items) (Misnamed (rows_of (found_of matches.now))) }
+    ensures { MatchResult result (λ ids. NamesBlocks (rows_of (found_of matches.now)) ids.items)
+        (Misnamed (rows_of (found_of matches.now))) }
 {
     match matches.get_strs("drop-block") {
         Some(given) => blocks_named(alloc, given),
@@ -290,7 +292,8 @@ fn blocks_of<'a>(alloc: Global, matches: &ArgMatches<'a>) -> Result<Vec<u32>, Un
 
 /// The records that a command was told to leave out by their names.
 fn records_of<'a>(alloc: Global, matches: &ArgMatches<'a>) -> Result<Vec<RecordName>, Unnamed<'a>>
-    ensures { MatchResult result (λ names. NamesRecords (rows_of (found_of matches.now)) names.items) (Misnamed (rows_of (found_of matches.now))) }
+    ensures { MatchResult result (λ names. NamesRecords (rows_of (found_of matches.now))
+        names.items) (Misnamed (rows_of (found_of matches.now))) }
 {
     match matches.get_strs("drop-record") {
         Some(given) => records_named(alloc, given),
@@ -300,7 +303,8 @@ fn records_of<'a>(alloc: Global, matches: &ArgMatches<'a>) -> Result<Vec<RecordN
 
 /// What a command was told to leave out.
 fn left_out<'a>(alloc: Global, matches: &ArgMatches<'a>) -> Result<LeftOut, Unnamed<'a>>
-    ensures { MatchResult result (HasLeftOut (rows_of (found_of matches.now))) (Misnamed (rows_of (found_of matches.now))) }
+    ensures { MatchResult result (HasLeftOut (rows_of (found_of matches.now)))
+        (Misnamed (rows_of (found_of matches.now))) }
 {
     let mut blocks = blocks_of(alloc, matches)?;
     let records = records_of(alloc, matches)?;
@@ -327,7 +331,8 @@ fn normal_of<'a>(
     limits: Limits,
     matches: &ArgMatches<'a>,
 ) -> Result<Task, Unnamed<'a>>
-    ensures { MatchResult result (IsNormal limits (rows_of (found_of matches.now))) (Misnamed (rows_of (found_of matches.now))) }
+    ensures { MatchResult result (IsNormal limits (rows_of (found_of matches.now)))
+        (Misnamed (rows_of (found_of matches.now))) }
 {
     let left = left_out(alloc, matches)?;
     Ok(Task::Normal { limits, left })
@@ -340,7 +345,8 @@ fn same_of<'a>(
     limits: Limits,
     matches: &ArgMatches<'a>,
 ) -> Result<Task, Unnamed<'a>>
-    ensures { MatchResult result (IsSame first limits (rows_of (found_of matches.now))) (Misnamed (rows_of (found_of matches.now))) }
+    ensures { MatchResult result (IsSame first limits (rows_of (found_of matches.now)))
+        (Misnamed (rows_of (found_of matches.now))) }
 {
     let left = left_out(alloc, matches)?;
     if is_given(matches, "where") {
@@ -360,7 +366,8 @@ fn same_of<'a>(
 
 /// The task of listing.
 fn show_of<'a>(alloc: Global, limits: Limits, matches: &ArgMatches<'a>) -> Result<Task, Unnamed<'a>>
-    ensures { MatchResult result (IsShow limits (rows_of (found_of matches.now))) (Misnamed (rows_of (found_of matches.now))) }
+    ensures { MatchResult result (IsShow limits (rows_of (found_of matches.now)))
+        (Misnamed (rows_of (found_of matches.now))) }
 {
     let left = left_out(alloc, matches)?;
     Ok(Task::Show { limits, left })
@@ -368,7 +375,8 @@ fn show_of<'a>(alloc: Global, limits: Limits, matches: &ArgMatches<'a>) -> Resul
 
 /// The command that was given, or why the names of what it leaves out are none.
 fn task_of<'a>(alloc: Global, matches: &ArgMatches<'a>) -> Option<Result<Task, Unnamed<'a>>>
-    ensures task { IfSome result (λ answer. MatchResult answer (Means (subcommand_rows_of matches.now)) (MisnamedIn (subcommand_rows_of matches.now))) }
+    ensures task { IfSome result (λ answer. MatchResult answer
+        (Means (subcommand_rows_of matches.now)) (MisnamedIn (subcommand_rows_of matches.now))) }
     ensures found { FindsAll (subcommand_rows_of matches.now) → IsSome result }
 {
     let (name, inner) = matches.subcommand()?;
@@ -389,8 +397,11 @@ fn task_of<'a>(alloc: Global, matches: &ArgMatches<'a>) -> Option<Result<Task, U
 
 /// The task that the words mean, or why the names in them are none.
 fn task<'a>(alloc: Global, words: &'a [String]) -> Result<Result<Task, Unnamed<'a>>, Error>
-    ensures ok { IfOk result (λ answer. MatchResult answer (λ task. Says (map string_bytes words.entry.now) (ParsedValue.Task task)) (MisnamesIn (map string_bytes words.entry.now))) }
-    ensures err { IfErr result (λ error. Fails (map string_bytes words.entry.now) (kind_of error)) }
+    ensures ok { IfOk result (λ answer. MatchResult answer
+        (λ task. Says (map string_bytes words.entry.now) (ParsedValue.Task task))
+        (MisnamesIn (map string_bytes words.entry.now))) }
+    ensures err { IfErr result (λ error. GivesNoTask (map string_bytes words.entry.now)
+        (kind_of error)) }
 {
     let mut command = command(alloc)?;
     let matches = command.try_get_matches_from_mut(words)?;
@@ -435,7 +446,7 @@ fn misnamed(alloc: Global, why: Unnamed<'_>) -> Parsed
 
 /// The text of an error, and where it belongs.
 fn text_of_error(alloc: Global, error: &Error) -> Result<Parsed, AllocError>
-    ensures { IfOk result (λ parsed. Shows (kind_of error.now) parsed) }
+    ensures { IfOk result (λ parsed. ShowsError (kind_of error.now) parsed) }
 {
     let mut text = error.to_string(alloc)?;
     if matches!(error.kind(), ErrorKind::InvalidSubcommand) {

@@ -4,10 +4,10 @@ ghost use Rattle.std.specs.Prelude.{◌≡◌, ◌<◌, ◌^◌, vec_items};
 ghost use Rattle.bit_grammar.specs.Setting.{setting_of};
 ghost use Rattle.bit_fields.specs.Reader.{told_by};
 ghost use Rattle.bitstool.specs.declared.task.Task.{Task as TaskValue};
-ghost use Rattle.bitstool.specs.Performing.{ComparesWhere, ComparesWith, FindsWhere, Judges, PullsFirst, TellsDifference, TellsFound, outcome_found, Settles, TakesFirst, TakesRest, TellsLine, ended, outcome_in, outcome_of};
+ghost use Rattle.bitstool.specs.Performing.{ComparesWhere, ComparesTold, FindsWhere, Judges, PullsFirst, TellsDifference, TellsFound, outcome_found, Settles, TakesFirst, TakesRest, TellsLine, outcome_of_writing, outcome_in, outcome_of};
 ghost use Rattle.bit_norm.specs.Entries.{difference_shown};
 ghost use Rattle.bitstool.specs.Differences.{difference_text};
-ghost use Rattle.bitstool.specs.Runs.{Does, Takes};
+ghost use Rattle.bitstool.specs.Runs.{Does, TakesInput};
 
 use crate::devices::{Flush, put_all};
 use crate::differences::text_of;
@@ -50,7 +50,7 @@ fn outcome_in(which: Which, limit: u64, fault: Fault) -> Outcome
 
 /// The outcome of a text's writing, under a limit on bytes.
 fn ended(limit: u64, answer: Result<(), Fault>) -> Outcome
-    ensures { result ≡ ended limit answer }
+    ensures { result ≡ outcome_of_writing limit answer }
 {
     match answer {
         Ok(()) => Outcome::Done,
@@ -80,7 +80,8 @@ fn pull_first<S: Source>(source: &mut S, count: u64) -> Result<(), SourceFailed>
 /// list of a `KeptSource` has unused.
 fn take_first<S: Source>(alloc: Global, source: S, count: u64) -> (Result<Vec<u8>, Fault>, S)
     requires { count < 2 ^ 60 }
-    ensures { TakesFirst count (S.incoming source) (told_by vec_items result.0) (S.incoming result.1) }
+    ensures { TakesFirst count (S.incoming source) (told_by vec_items result.0)
+        (S.incoming result.1) }
 {
     let mut kept = KeptSource::new(alloc, source);
     let pulled = pull_first(&mut kept, count);
@@ -100,7 +101,8 @@ fn compare_with<S: Source>(
     limits: Limits,
     info: Info<'_>,
 ) -> (Outcome, S)
-    ensures found { ComparesWith (setting_of info.entry) limits first.now (S.incoming rest).to_come result.0 }
+    ensures found { ComparesTold (setting_of info.entry) limits first.now (S.incoming rest).to_come
+        result.0 }
     ensures taken { TakesRest limits (S.incoming rest) (S.incoming result.1) result.0 }
 {
     let (answer, rest) = same_as(alloc, first, rest, limits, info);
@@ -122,7 +124,8 @@ fn compare<S: Source>(
     limits: Limits,
     left: &LeftOut,
 ) -> (Outcome, S)
-    ensures { Judges (TaskValue.Same first limits left.now) (S.incoming source) (S.incoming result.1) result.0 }
+    ensures { Judges (TaskValue.Same first limits left.now) (S.incoming source)
+        (S.incoming result.1) result.0 }
 {
     let count = first.min(limits.bytes() + 1);
     let (taken, source) = take_first(alloc, source, count);
@@ -140,8 +143,10 @@ fn compare_where_with<S: Source>(
     limits: Limits,
     info: Info<'_>,
 ) -> (Result<Option<Difference>, Outcome>, S)
-    ensures found { ComparesWhere (setting_of info.entry) limits first.now (S.incoming rest).to_come result.0 }
-    ensures taken { TakesRest limits (S.incoming rest) (S.incoming result.1) (outcome_found result.0) }
+    ensures found { ComparesWhere (setting_of info.entry) limits first.now (S.incoming rest).to_come
+        result.0 }
+    ensures taken { TakesRest limits (S.incoming rest) (S.incoming result.1)
+        (outcome_found result.0) }
 {
     let (answer, rest) = first_difference_from(alloc, first, rest, limits, info);
     match answer {
@@ -161,8 +166,10 @@ fn compare_where<S: Source>(
     limits: Limits,
     left: &LeftOut,
 ) -> (Result<Option<Difference>, Outcome>, S)
-    ensures taken { Takes (TaskValue.Where first limits left.now) (S.incoming source) (S.incoming result.1) (outcome_found result.0) }
-    ensures found { FindsWhere (TaskValue.Where first limits left.now) (S.incoming source).to_come result.0 }
+    ensures taken { TakesInput (TaskValue.Where first limits left.now) (S.incoming source)
+        (S.incoming result.1) (outcome_found result.0) }
+    ensures found { FindsWhere (TaskValue.Where first limits left.now) (S.incoming source).to_come
+        result.0 }
 {
     let most = first.min(limits.bytes() + 1);
     let (taken, source) = take_first(alloc, source, most);
@@ -200,7 +207,8 @@ fn perform_check<S: Source, K: Sink>(
     source: S,
     mut sink: K,
 ) -> (Outcome, S, K)
-    ensures { Does (TaskValue.Check limits) (S.incoming source) (S.incoming result.1) (K.outgoing sink) (K.outgoing result.2) result.0 }
+    ensures { Does (TaskValue.Check limits) (S.incoming source) (S.incoming result.1)
+        (K.outgoing sink) (K.outgoing result.2) result.0 }
 {
     let (outcome, source) = judge(alloc, source, limits);
     let outcome = match outcome {
@@ -218,7 +226,8 @@ fn perform_normal<S: Source, K: Sink>(
     source: S,
     sink: K,
 ) -> (Outcome, S, K)
-    ensures { Does (TaskValue.Normal limits left) (S.incoming source) (S.incoming result.1) (K.outgoing sink) (K.outgoing result.2) result.0 }
+    ensures { Does (TaskValue.Normal limits left) (S.incoming source) (S.incoming result.1)
+        (K.outgoing sink) (K.outgoing result.2) result.0 }
 {
     let (answer, source, sink) = normalise(alloc, source, sink, limits, left.info());
     let outcome = match answer {
@@ -237,7 +246,8 @@ fn perform_same<S: Source, K: Sink>(
     source: S,
     mut sink: K,
 ) -> (Outcome, S, K)
-    ensures { Does (TaskValue.Same first limits left) (S.incoming source) (S.incoming result.1) (K.outgoing sink) (K.outgoing result.2) result.0 }
+    ensures { Does (TaskValue.Same first limits left) (S.incoming source) (S.incoming result.1)
+        (K.outgoing sink) (K.outgoing result.2) result.0 }
 {
     let (outcome, source) = compare(alloc, first, source, limits, &left);
     let outcome = match outcome {
@@ -250,7 +260,8 @@ fn perform_same<S: Source, K: Sink>(
 
 /// Says that two inputs differ, and where.
 fn tell_difference<K: Sink>(alloc: Global, difference: &Difference, sink: &mut K) -> Outcome
-    ensures { TellsDifference (difference_text (difference_shown difference.now)) (K.outgoing sink.old) result (K.outgoing sink.new) }
+    ensures { TellsDifference (difference_text (difference_shown difference.now))
+        (K.outgoing sink.old) result (K.outgoing sink.new) }
 {
     match text_of(alloc, difference) {
         Ok(text) => tell(Outcome::Different, text.as_bytes(), sink),
@@ -282,7 +293,8 @@ fn perform_where<S: Source, K: Sink>(
     source: S,
     mut sink: K,
 ) -> (Outcome, S, K)
-    ensures { Does (TaskValue.Where first limits left) (S.incoming source) (S.incoming result.1) (K.outgoing sink) (K.outgoing result.2) result.0 }
+    ensures { Does (TaskValue.Where first limits left) (S.incoming source) (S.incoming result.1)
+        (K.outgoing sink) (K.outgoing result.2) result.0 }
 {
     let (found, source) = compare_where(alloc, first, source, limits, &left);
     let outcome = tell_found(alloc, found, &mut sink);
@@ -296,7 +308,8 @@ fn perform_analyse<S: Source, K: Sink>(
     source: S,
     sink: K,
 ) -> (Outcome, S, K)
-    ensures { Does (TaskValue.Analyse limits) (S.incoming source) (S.incoming result.1) (K.outgoing sink) (K.outgoing result.2) result.0 }
+    ensures { Does (TaskValue.Analyse limits) (S.incoming source) (S.incoming result.1)
+        (K.outgoing sink) (K.outgoing result.2) result.0 }
 {
     let (answer, source, sink) = write_report(alloc, source, sink, limits);
     (ended(limits.bytes(), answer), source, sink)
@@ -310,7 +323,8 @@ fn perform_show<S: Source, K: Sink>(
     source: S,
     sink: K,
 ) -> (Outcome, S, K)
-    ensures { Does (TaskValue.Show limits left) (S.incoming source) (S.incoming result.1) (K.outgoing sink) (K.outgoing result.2) result.0 }
+    ensures { Does (TaskValue.Show limits left) (S.incoming source) (S.incoming result.1)
+        (K.outgoing sink) (K.outgoing result.2) result.0 }
 {
     let (answer, source, sink) = write_show(alloc, source, sink, limits, left.info());
     (ended(limits.bytes(), answer), source, sink)
@@ -324,7 +338,8 @@ fn perform_events<S: Source, K: Sink>(
     source: S,
     sink: K,
 ) -> (Outcome, S, K)
-    ensures { Does (TaskValue.Events limits values) (S.incoming source) (S.incoming result.1) (K.outgoing sink) (K.outgoing result.2) result.0 }
+    ensures { Does (TaskValue.Events limits values) (S.incoming source) (S.incoming result.1)
+        (K.outgoing sink) (K.outgoing result.2) result.0 }
 {
     let (answer, source, sink) = write_events(alloc, source, sink, limits, values);
     (ended(limits.bytes(), answer), source, sink)
@@ -332,7 +347,8 @@ fn perform_events<S: Source, K: Sink>(
 
 /// Carries out a command, up to the flush.
 fn carry_out<S: Source, K: Sink>(alloc: Global, task: Task, source: S, sink: K) -> (Outcome, S, K)
-    ensures { Does task (S.incoming source) (S.incoming result.1) (K.outgoing sink) (K.outgoing result.2) result.0 }
+    ensures { Does task (S.incoming source) (S.incoming result.1) (K.outgoing sink)
+        (K.outgoing result.2) result.0 }
 {
     match task {
         Task::Check { limits } => perform_check(alloc, limits, source, sink),
@@ -373,7 +389,8 @@ pub fn perform<S: Source, K: Flush>(
     source: S,
     sink: K,
 ) -> (Outcome, S, K)
-    ensures { Does task (S.incoming source) (S.incoming result.1) (K.outgoing sink) (K.outgoing result.2) result.0 }
+    ensures { Does task (S.incoming source) (S.incoming result.1) (K.outgoing sink)
+        (K.outgoing result.2) result.0 }
 {
     let (outcome, source, mut sink) = carry_out(alloc, task, source, sink);
     let outcome = settle(outcome, &mut sink);

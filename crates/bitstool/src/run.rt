@@ -8,7 +8,7 @@ ghost use Rattle.bitstool.specs.declared.task.Parsed.{Parsed as ParsedValue};
 ghost use Rattle.bitstool.specs.declared.task.Task.{Task as TaskValue};
 ghost use Rattle.bitstool.specs.LeftOut.{setting_for};
 ghost use Rattle.bitstool.specs.Performing.{PutsAll};
-ghost use Rattle.bitstool.specs.Runs.{Helps, Runs, Tells, Writes};
+ghost use Rattle.bitstool.specs.Runs.{Helps, Runs, TellsOutcome, WritesOutput};
 ghost use Rattle.bitstool.specs.Words.{Says};
 
 use crate::devices::{Flush, put_all};
@@ -47,14 +47,14 @@ fn help<K: Flush>(sink: &mut K, text: &[u8]) -> Outcome
 
 /// Writes a text on errors. What fails there changes nothing.
 fn put_on_errors<K: Sink>(errors: &mut K, text: &[u8])
-    ensures { Writes text.now (K.outgoing errors.old) (K.outgoing errors.new) }
+    ensures { WritesOutput text.now (K.outgoing errors.old) (K.outgoing errors.new) }
 {
     let _ = put_all(errors, text);
 }
 
 /// Says on errors how the run ended, and answers the status. What fails there changes nothing.
 fn tell<K: Sink>(outcome: Outcome, errors: &mut K) -> u8
-    ensures { Tells outcome result (K.outgoing errors.old) (K.outgoing errors.new) }
+    ensures { TellsOutcome outcome result (K.outgoing errors.old) (K.outgoing errors.new) }
 {
     let _ = outcome.report(errors);
     outcome.status()
@@ -68,7 +68,8 @@ fn obey<S: Source, K: Flush, E: Sink>(
     mut sink: K,
     errors: &mut E,
 ) -> Ran<S, K>
-    ensures { Runs parsed (S.incoming source) (S.incoming result.source) (K.outgoing sink) (K.outgoing result.sink)
+    ensures { Runs parsed (S.incoming source) (S.incoming result.source) (K.outgoing sink)
+        (K.outgoing result.sink)
         (E.outgoing errors.old) (E.outgoing errors.new) result.status }
 {
     match parsed {
@@ -127,7 +128,8 @@ pub fn run<S: Source, K: Flush, E: Sink>(
         (S.incoming source) (S.incoming result.source) (K.outgoing sink) (K.outgoing result.sink)
         (E.outgoing errors.old) (E.outgoing errors.new) result.status }
     // With words it does what they say.
-    ensures any { (words.items ≡ [] → ⊥) → (parsed : ParsedValue) × Says (map string_bytes words.items) parsed
+    ensures any { (words.items ≡ [] → ⊥) → (parsed : ParsedValue)
+        × Says (map string_bytes words.items) parsed
         × Runs parsed (S.incoming source) (S.incoming result.source) (K.outgoing sink) (K.outgoing result.sink)
         (E.outgoing errors.old) (E.outgoing errors.new) result.status }
 {

@@ -6,4 +6,4 @@ pub returns-in_err-judge-clause-takes : goal.returns-in_err-judge-clause-takes
 returns-in_err-judge-clause-takes g c =
     let failed = err_from_is_err_and c.from_residual-in_err-judge.result c.from_residual-in_err-judge.ensures.1 in
     let judged = rw (c.passes-passed.ensures, c.fits.ensures) at c.in_err-judge.ensures.takes in
-    rw (failed.1, failed.2) (misplaced c.args.shapes c.args.place c.args.after c.position-start.result c.args.reader.now c.in_ok-kind.kind c.read_kind.new.reader c.in_err-judge.field-0.0 c.judge.new.self c.position-start.ensures.position c.in_ok-kind.ensures judged)
+    rw (failed.1, failed.2) (misplaced c.args.shapes c.args.place c.args.after c.position-first.result c.args.reader.now c.in_ok-kind.kind c.read_kind.new.reader c.in_err-judge.field-0.0 c.judge.new.self c.position-first.ensures.position c.in_ok-kind.ensures judged)

@@ -2,7 +2,7 @@ use Rattle.std.proofs.Common.{◌-◌, ◌∙◌, arith, map}
 use Rattle.std.proofs.lemmas.List.{length-map}
 use Rattle.std.proofs.lemmas.Result.{err_from_is_err_and}
 use Rattle.bit_grammar.specs.Fields.{char6}
-use Rattle.bit_grammar.specs.Fields.{character}
+use Rattle.bit_grammar.specs.Terms.{character}
 use Rattle.bit_fields.specs.Inside.{numbers}
 use Rattle.bit_abbrev.proofs.Taking.{passed_behind, length-numbers, characters_took, far_ends, far_fails, far_goes_on, far_refused}
 use Rattle.bit_abbrev.proofs.elements.read_characters.Goals as goal

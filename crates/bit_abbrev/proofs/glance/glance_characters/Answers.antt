@@ -1,7 +1,8 @@
 use Rattle.std.proofs.Common.{arith, Ok, map, ◌∙◌}
 use Rattle.std.proofs.lemmas.List.{length-map}
 use Rattle.bit_grammar.specs.Grammar.{repeat}
-use Rattle.bit_grammar.specs.Fields.{char6, fixed, character}
+use Rattle.bit_grammar.specs.Fields.{char6, fixed}
+use Rattle.bit_grammar.specs.Terms.{character}
 use Rattle.bit_fields.specs.Ahead.{Glimpsed, reader_at}
 use Rattle.bit_fields.specs.Inside.{numbers}
 use Rattle.bit_abbrev.specs.Values.{AddsAll, Gains}

@@ -1,13 +1,13 @@
 use Rattle.std.proofs.Common.{arith, Ok}
 use Rattle.bit_grammar.specs.Fields.{vbr}
 use Rattle.bit_fields.specs.Ahead.{reader_at}
-use Rattle.bit_abbrev.specs.Values.{AddsAll, Gains, Passes}
+use Rattle.bit_abbrev.specs.Values.{AddsAll, Gains, PassesValues}
 use Rattle.bit_abbrev.proofs.Glancing.{took_at, on_some, past_gained, past_kept}
 use Rattle.bit_abbrev.proofs.Taking.{far_goes_on, far_ends}
 use Rattle.bit_abbrev.proofs.glance.glance_vbrs.Goals as goal
 
 pub returns-then-pass-clause-glimpsed : goal.returns-then-pass-clause-glimpsed
-returns-then-pass-clause-glimpsed g c = on_some c.pass_vbrs.result (Passes (vbr c.args.n) c.args.count (reader_at c.args.ahead.now) (reader_at c.pass_vbrs.new.ahead)) (Gains g.V.ValueTaker.took c.args.values.now c.pass.new.self (AddsAll (vbr c.args.n) c.args.count (reader_at c.args.ahead.now) (Ok tt) (reader_at c.pass_vbrs.new.ahead)))
+returns-then-pass-clause-glimpsed g c = on_some c.pass_vbrs.result (PassesValues (vbr c.args.n) c.args.count (reader_at c.args.ahead.now) (reader_at c.pass_vbrs.new.ahead)) (Gains g.V.ValueTaker.took c.args.values.now c.pass.new.self (AddsAll (vbr c.args.n) c.args.count (reader_at c.args.ahead.now) (Ok tt) (reader_at c.pass_vbrs.new.ahead)))
     (λ p. past_gained g.V.ValueTaker.took c.args.values.now c.pass.new.self (vbr c.args.n) c.args.count (reader_at c.args.ahead.now) (reader_at c.pass_vbrs.new.ahead) (c.pass.ensures.yes c.if-pass.true) p)
     c.pass_vbrs.ensures
 

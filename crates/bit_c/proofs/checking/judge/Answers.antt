@@ -1,5 +1,6 @@
 use Rattle.std.proofs.Common.{List, ℕ, refl, ap}
-use Rattle.bit_grammar.specs.Input.{Marked, SpellsInput}
+use Rattle.bit_grammar.specs.Input.{SpellsInput}
+use Rattle.bit_grammar.specs.Terms.{Marked}
 use Rattle.bit_fields.specs.Devices.{Incoming}
 use Rattle.bit_c.specs.Calls.{Checks}
 use Rattle.bit_c.proofs.Inputs.{not_read}

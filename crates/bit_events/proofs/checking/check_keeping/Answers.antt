@@ -1,6 +1,7 @@
 use Rattle.std.proofs.Common.{◌≡◌, ℕ, List, Vec}
 use Rattle.std.specs.Global.{Global}
-use Rattle.bit_grammar.specs.Input.{Marked, SpellsInput}
+use Rattle.bit_grammar.specs.Input.{SpellsInput}
+use Rattle.bit_grammar.specs.Terms.{Marked}
 use Rattle.bit_events.proofs.Kept.{stands, kept_misread, kept_lost, kept_read}
 use Rattle.bit_events.proofs.checking.check_keeping.Goals as goal
 

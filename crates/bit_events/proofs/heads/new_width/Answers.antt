@@ -9,20 +9,20 @@ pub returns-in_err-width-clause-takes : goal.returns-in_err-width-clause-takes
 unfolding new_width
 returns-in_err-width-clause-takes g c =
     let p = err_from_is_err_and c.from_residual.result c.from_residual.ensures.1 in
-    rw (p.1, p.2) (why new_width c.args.reader.now c.in_err-width.field-0.0 c.vbr.new.self (here _ c.position-start.ensures.position (breaks c.in_err-width.ensures.takes)))
+    rw (p.1, p.2) (why new_width c.args.reader.now c.in_err-width.field-0.0 c.vbr.new.self (here _ c.position-first.ensures.position (breaks c.in_err-width.ensures.takes)))
 
 pub returns-in_err-judge-clause-takes : goal.returns-in_err-judge-clause-takes
 unfolding new_width
 returns-in_err-judge-clause-takes g c =
     let p = err_from_is_err_and c.from_residual-in_err-judge.result c.from_residual-in_err-judge.ensures.1 in
     let judged = rw c.is_width.ensures at c.in_err-judge.ensures.takes in
-    rw (p.1, p.2) (why new_width c.args.reader.now c.in_err-judge.field-0.0 c.judge.new.self (here _ c.position-start.ensures.position (andThen c.in_ok-width.ensures.takes (breaks judged))))
+    rw (p.1, p.2) (why new_width c.args.reader.now c.in_err-judge.field-0.0 c.judge.new.self (here _ c.position-first.ensures.position (andThen c.in_ok-width.ensures.takes (breaks judged))))
 
 pub returns-clause-takes : goal.returns-clause-takes
 unfolding new_width
 returns-clause-takes g c =
     let judged = rw c.is_width.ensures at c.in_ok-judge.ensures.takes in
-    told new_width c.args.reader.now (Ok c.in_ok-width.width) c.judge.new.self (here _ c.position-start.ensures.position (andThen c.in_ok-width.ensures.takes (andThen judged (ends judged.live))))
+    told new_width c.args.reader.now (Ok c.in_ok-width.width) c.judge.new.self (here _ c.position-first.ensures.position (andThen c.in_ok-width.ensures.takes (andThen judged (ends judged.live))))
 
 pub returns-clause-least : goal.returns-clause-least
 returns-clause-least g c =

@@ -1,6 +1,6 @@
 use Rattle.std.proofs.Common.{sym, ◌∙◌}
 use Rattle.bit_grammar.specs.Setting.{setting_of}
-use Rattle.bit_grammar.proofs.Under.{unnamed_kept}
+use Rattle.bit_grammar.proofs.NormalForms.Under.{unnamed_kept}
 use Rattle.bit_events.proofs.open_blocks.judged.Goals as goal
 
 pub returns-then-is_left-clause-whole : goal.returns-then-is_left-clause-whole

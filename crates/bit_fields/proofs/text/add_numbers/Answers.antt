@@ -1,25 +1,25 @@
 use Rattle.std.proofs.Common.{◌≡◌, ◌+◌, Bool, List, [], ◌++◌, length, drop, get_or, ap, sym, ◌∙◌, append_assoc, arith, length-append}
 use Rattle.std.proofs.lemmas.List.{append-nil, drop_all}
 use Rattle.bit_grammar.specs.FormatFields.{shortest}
-use Rattle.bit_grammar.specs.Normal.{values_text}
+use Rattle.bit_grammar.specs.Normal.{values_bits}
 use Rattle.bit_fields.specs.Texts.{bits_of_words}
 use Rattle.bit_fields.proofs.Texts.{value-next}
 use Rattle.bit_fields.proofs.text.add_numbers.Goals as goal
 
 pub loop-value-init : goal.loop-value-init
-loop-value-init c = ap (λ (s : List Bool). (bits_of_words c.args.words.now ++ s) ++ values_text c.args.values.now) c.copy-pen.ensures
+loop-value-init c = ap (λ (s : List Bool). (bits_of_words c.args.words.now ++ s) ++ values_bits c.args.values.now) c.copy-pen.ensures
 
 pub add_number-requires : goal.add_number-requires
 add_number-requires c =
     let vs = c.args.values.now in
     let l = c.loop-value in
-    omega (arith, c.requires, ap length l.invariant, length-append (bits_of_words l.words ++ l.pen) (values_text (drop l.value-index vs)), length-append (bits_of_words c.args.words.now ++ c.args.window.now) (values_text vs))
+    omega (arith, c.requires, ap length l.invariant, length-append (bits_of_words l.words ++ l.pen) (values_bits (drop l.value-index vs)), length-append (bits_of_words c.args.words.now ++ c.args.window.now) (values_bits vs))
 
 pub loop-value-preserved : goal.loop-value-preserved
 loop-value-preserved c =
     let vs = c.args.values.now in
     let l = c.loop-value in
-    let rest = values_text (drop (l.value-index + 1) vs) in
+    let rest = values_bits (drop (l.value-index + 1) vs) in
     let now = bits_of_words l.words ++ l.pen in
     let n = shortest 6 (get_or vs l.value-index 0) in
     ap (λ (s : List Bool). s ++ rest) c.in_ok-add_number.ensures
@@ -31,5 +31,5 @@ pub returns : goal.returns
 returns c =
     let vs = c.args.values.now in
     let l = c.loop-value in
-    let none : values_text (drop l.value-index vs) ≡ [] = ap values_text (drop_all l.value-index vs c.loop-value-test.false) in
+    let none : values_bits (drop l.value-index vs) ≡ [] = ap values_bits (drop_all l.value-index vs c.loop-value-test.false) in
     sym (append-nil (bits_of_words l.words ++ l.pen)) ∙ ap (λ (s : List Bool). (bits_of_words l.words ++ l.pen) ++ s) (sym none) ∙ l.invariant

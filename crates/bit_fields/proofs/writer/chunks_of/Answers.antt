@@ -2,7 +2,7 @@ use Rattle.std.proofs.Common.{◌≤◌, ◌<◌, ◌^◌, ◌-◌, ◌∙◌, B
 use Rattle.std.proofs.lemmas.Nat.{one_shl}
 use Rattle.std.proofs.lemmas.List.{length-append}
 use Rattle.bit_grammar.specs.Bits.{bits_of}
-use Rattle.bit_grammar.proofs.Numbers.{length-bits_of}
+use Rattle.bit_grammar.proofs.Bits.Numbers.{length-bits_of}
 use Rattle.bit_fields.proofs.WriterChunks.{Collecting, collecting_starts, collecting_room, collecting_goes_on, collecting_ends, part_smaller}
 use Rattle.bit_fields.proofs.writer.chunks_of.Goals as goal
 

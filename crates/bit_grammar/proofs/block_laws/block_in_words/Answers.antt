@@ -1,4 +1,4 @@
-use Rattle.bit_grammar.proofs.TopWords.{block_agrees, top_only, block_leaves}
+use Rattle.bit_grammar.proofs.Words.TopWords.{block_agrees, top_only, block_leaves}
 use Rattle.bit_grammar.proofs.block_laws.block_in_words.Goals as goal
 
 pub returns : goal.returns

@@ -1,5 +1,5 @@
 use Rattle.bit_grammar.specs.Blocks.{top_block}
-use Rattle.bit_grammar.proofs.Deciding.{decides}
+use Rattle.bit_grammar.proofs.Readings.Deciding.{decides}
 use Rattle.bit_grammar.proofs.block_laws.block_or_fault.Goals as goal
 
 pub returns : goal.returns

@@ -1,6 +1,6 @@
 use Rattle.bit_grammar.specs.Blocks.{block}
-use Rattle.bit_grammar.proofs.Items.{head_width}
-use Rattle.bit_grammar.proofs.Rounds.{item_some, block_some, body_halts, stream_breaks}
+use Rattle.bit_grammar.proofs.Readings.Items.{head_width}
+use Rattle.bit_grammar.proofs.Readings.Rounds.{item_some, block_some, body_halts, stream_breaks}
 use Rattle.bit_grammar.proofs.block_laws.no_idle_round.Goals as goal
 
 pub returns : goal.returns

@@ -1,5 +1,5 @@
 use Rattle.bit_grammar.specs.Blocks.{top_block}
-use Rattle.bit_grammar.proofs.Deciding.{one_value}
+use Rattle.bit_grammar.proofs.Readings.Deciding.{one_value}
 use Rattle.bit_grammar.proofs.block_laws.one_block.Goals as goal
 
 pub returns : goal.returns

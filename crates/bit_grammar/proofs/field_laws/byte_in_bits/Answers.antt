@@ -1,5 +1,5 @@
 use Rattle.bit_grammar.specs.Fields.{byte}
-use Rattle.bit_grammar.proofs.Fields.{fixed_is, is_fixed}
+use Rattle.bit_grammar.proofs.Words.Fields.{fixed_is, is_fixed}
 use Rattle.bit_grammar.proofs.field_laws.byte_in_bits.Goals as goal
 
 pub returns : goal.returns

@@ -1,4 +1,4 @@
-use Rattle.bit_grammar.proofs.Fields.{char6_is, is_char6}
+use Rattle.bit_grammar.proofs.Words.Fields.{char6_is, is_char6}
 use Rattle.bit_grammar.proofs.field_laws.char6_in_bits.Goals as goal
 
 pub returns : goal.returns

@@ -1,4 +1,4 @@
-use Rattle.bit_grammar.proofs.Fields.{fixed_is, is_fixed}
+use Rattle.bit_grammar.proofs.Words.Fields.{fixed_is, is_fixed}
 use Rattle.bit_grammar.proofs.field_laws.fixed_in_bits.Goals as goal
 
 pub returns : goal.returns

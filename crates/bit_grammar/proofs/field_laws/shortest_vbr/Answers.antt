@@ -1,4 +1,4 @@
-use Rattle.bit_grammar.proofs.Fields.{short_is_vbr, short_is_least}
+use Rattle.bit_grammar.proofs.Words.Fields.{short_is_vbr, short_is_least}
 use Rattle.bit_grammar.proofs.field_laws.shortest_vbr.Goals as goal
 
 pub returns : goal.returns

@@ -1,4 +1,4 @@
-use Rattle.bit_grammar.proofs.Fields.{vbr_is, is_vbr}
+use Rattle.bit_grammar.proofs.Words.Fields.{vbr_is, is_vbr}
 use Rattle.bit_grammar.proofs.field_laws.vbr_in_chunks.Goals as goal
 
 pub returns : goal.returns

@@ -1,4 +1,4 @@
-use Rattle.bit_grammar.proofs.Limits.{limits_judged}
+use Rattle.bit_grammar.proofs.WholeInputs.Limits.{limits_judged}
 use Rattle.bit_grammar.proofs.input_laws.limits_of_tree.Goals as goal
 
 pub returns : goal.returns

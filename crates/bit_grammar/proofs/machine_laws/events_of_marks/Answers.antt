@@ -1,4 +1,4 @@
-use Rattle.bit_grammar.proofs.Nesting.{nested_marks, values_of_marks}
+use Rattle.bit_grammar.proofs.Events.Nesting.{nested_marks, values_of_marks}
 use Rattle.bit_grammar.proofs.machine_laws.events_of_marks.Goals as goal
 
 pub returns : goal.returns

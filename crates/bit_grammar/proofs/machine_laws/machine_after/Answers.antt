@@ -1,5 +1,5 @@
-use Rattle.bit_grammar.proofs.Nesting.{leads_kept}
-use Rattle.bit_grammar.proofs.Steps.{leads_on}
+use Rattle.bit_grammar.proofs.Events.Nesting.{leads_kept}
+use Rattle.bit_grammar.proofs.Events.Steps.{leads_on}
 use Rattle.bit_grammar.proofs.machine_laws.machine_after.Goals as goal
 
 pub returns : goal.returns

@@ -1,4 +1,4 @@
-use Rattle.bit_grammar.proofs.Telling.{flat_only}
+use Rattle.bit_grammar.proofs.Events.Telling.{flat_only}
 use Rattle.bit_grammar.proofs.machine_laws.marks_by_events.Goals as goal
 
 pub returns : goal.returns

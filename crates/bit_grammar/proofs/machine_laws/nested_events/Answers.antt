@@ -1,4 +1,4 @@
-use Rattle.bit_grammar.proofs.Nesting.{nested_from_start}
+use Rattle.bit_grammar.proofs.Events.Nesting.{nested_from_start}
 use Rattle.bit_grammar.proofs.machine_laws.nested_events.Goals as goal
 
 pub returns : goal.returns

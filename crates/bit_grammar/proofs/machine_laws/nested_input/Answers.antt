@@ -1,4 +1,4 @@
-use Rattle.bit_grammar.proofs.Happenings.{input_nested, accepted_nested}
+use Rattle.bit_grammar.proofs.Events.Happenings.{input_nested, accepted_nested}
 use Rattle.bit_grammar.proofs.machine_laws.nested_input.Goals as goal
 
 pub returns : goal.returns

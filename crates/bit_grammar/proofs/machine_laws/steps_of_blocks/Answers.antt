@@ -1,4 +1,4 @@
-use Rattle.bit_grammar.proofs.Steps.{accepted_steps, broken_steps}
+use Rattle.bit_grammar.proofs.Events.Steps.{accepted_steps, broken_steps}
 use Rattle.bit_grammar.proofs.machine_laws.steps_of_blocks.Goals as goal
 
 pub returns : goal.returns

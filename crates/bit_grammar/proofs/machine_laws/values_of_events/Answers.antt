@@ -1,4 +1,4 @@
-use Rattle.bit_grammar.proofs.Nesting.{values_from_start}
+use Rattle.bit_grammar.proofs.Events.Nesting.{values_from_start}
 use Rattle.bit_grammar.proofs.machine_laws.values_of_events.Goals as goal
 
 pub returns : goal.returns

@@ -1,5 +1,5 @@
-use Rattle.bit_grammar.proofs.Sizes.{end_again, body_whole}
-use Rattle.bit_grammar.proofs.Periods.{normal_again}
+use Rattle.bit_grammar.proofs.NormalForms.Sizes.{end_again, body_whole}
+use Rattle.bit_grammar.proofs.NormalForms.Periods.{normal_again}
 use Rattle.bit_grammar.proofs.normal_laws.normal_at.Goals as goal
 
 pub returns : goal.returns

@@ -1,4 +1,4 @@
-use Rattle.bit_grammar.proofs.Sizes.{form_bytes, form_size, size_whole}
+use Rattle.bit_grammar.proofs.NormalForms.Sizes.{form_bytes, form_size, size_whole}
 use Rattle.bit_grammar.proofs.normal_laws.normal_bytes.Goals as goal
 
 pub returns : goal.returns

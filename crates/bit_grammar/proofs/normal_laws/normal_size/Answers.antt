@@ -1,4 +1,4 @@
-use Rattle.bit_grammar.proofs.Sizes.{short_length, short_range, items_end, body_is, form_end, size_is}
+use Rattle.bit_grammar.proofs.NormalForms.Sizes.{short_length, short_range, items_end, body_is, form_end, size_is}
 use Rattle.bit_grammar.proofs.normal_laws.normal_size.Goals as goal
 
 pub returns : goal.returns

@@ -1,4 +1,4 @@
-use Rattle.bit_grammar.proofs.Bytes.{one_list_of_bytes, bytes_length}
+use Rattle.bit_grammar.proofs.Bits.Bytes.{one_list_of_bytes, bytes_length}
 use Rattle.bit_grammar.proofs.normal_laws.one_list_of_bytes.Goals as goal
 
 pub returns : goal.returns

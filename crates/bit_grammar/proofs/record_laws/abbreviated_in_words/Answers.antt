@@ -1,4 +1,4 @@
-use Rattle.bit_grammar.proofs.Spellings.{abbreviated_is, is_abbreviated}
+use Rattle.bit_grammar.proofs.Words.Spellings.{abbreviated_is, is_abbreviated}
 use Rattle.bit_grammar.proofs.record_laws.abbreviated_in_words.Goals as goal
 
 pub returns : goal.returns

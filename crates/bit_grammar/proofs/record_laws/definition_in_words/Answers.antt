@@ -1,4 +1,4 @@
-use Rattle.bit_grammar.proofs.Spellings.{definition_agrees}
+use Rattle.bit_grammar.proofs.Words.Spellings.{definition_agrees}
 use Rattle.bit_grammar.proofs.record_laws.definition_in_words.Goals as goal
 
 pub returns : goal.returns

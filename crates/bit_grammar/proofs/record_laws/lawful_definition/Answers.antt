@@ -1,4 +1,4 @@
-use Rattle.bit_grammar.proofs.Definitions.{definition_lawful}
+use Rattle.bit_grammar.proofs.Words.Definitions.{definition_lawful}
 use Rattle.bit_grammar.proofs.record_laws.lawful_definition.Goals as goal
 
 pub returns : goal.returns

@@ -1,5 +1,5 @@
 use Rattle.bit_grammar.specs.Definition.{definition}
-use Rattle.bit_grammar.proofs.Deciding.{one_value}
+use Rattle.bit_grammar.proofs.Readings.Deciding.{one_value}
 use Rattle.bit_grammar.proofs.record_laws.one_definition.Goals as goal
 
 pub returns : goal.returns

@@ -1,5 +1,5 @@
 use Rattle.bit_grammar.specs.Record.{abbreviated}
-use Rattle.bit_grammar.proofs.Deciding.{decides}
+use Rattle.bit_grammar.proofs.Readings.Deciding.{decides}
 use Rattle.bit_grammar.proofs.record_laws.record_or_fault.Goals as goal
 
 pub returns : goal.returns

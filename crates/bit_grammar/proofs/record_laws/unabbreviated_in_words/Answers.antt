@@ -1,4 +1,4 @@
-use Rattle.bit_grammar.proofs.Spellings.{unabbreviated_is, is_unabbreviated}
+use Rattle.bit_grammar.proofs.Words.Spellings.{unabbreviated_is, is_unabbreviated}
 use Rattle.bit_grammar.proofs.record_laws.unabbreviated_in_words.Goals as goal
 
 pub returns : goal.returns

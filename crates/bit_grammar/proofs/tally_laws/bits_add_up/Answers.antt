@@ -1,4 +1,4 @@
-use Rattle.bit_grammar.proofs.Tallies.{bits_add_up as law}
+use Rattle.bit_grammar.proofs.Tallying.Tallies.{bits_add_up as law}
 use Rattle.bit_grammar.proofs.tally_laws.bits_add_up.Goals as goal
 
 pub returns : goal.returns

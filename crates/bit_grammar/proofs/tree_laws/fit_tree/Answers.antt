@@ -1,4 +1,4 @@
-use Rattle.bit_grammar.proofs.Settings.{fit_of_setting}
+use Rattle.bit_grammar.proofs.NormalForms.Settings.{fit_of_setting}
 use Rattle.bit_grammar.proofs.tree_laws.fit_tree.Goals as goal
 
 pub returns : goal.returns

@@ -1,4 +1,4 @@
-use Rattle.bit_grammar.proofs.Under.{none_left, unnamed_stays}
+use Rattle.bit_grammar.proofs.NormalForms.Under.{none_left, unnamed_stays}
 use Rattle.bit_grammar.proofs.tree_laws.none_named.Goals as goal
 
 pub returns : goal.returns

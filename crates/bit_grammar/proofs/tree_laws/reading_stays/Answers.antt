@@ -1,4 +1,4 @@
-use Rattle.bit_grammar.proofs.Settings.{whole_of, left_of}
+use Rattle.bit_grammar.proofs.NormalForms.Settings.{whole_of, left_of}
 use Rattle.bit_grammar.proofs.tree_laws.reading_stays.Goals as goal
 
 pub returns : goal.returns

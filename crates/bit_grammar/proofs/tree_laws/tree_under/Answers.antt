@@ -1,4 +1,4 @@
-use Rattle.bit_grammar.proofs.Under.{tree_kept, under_again, fit_under, items_fit, items_are_blocks, depth_under, values_under}
+use Rattle.bit_grammar.proofs.NormalForms.Under.{tree_kept, under_again, fit_under, items_fit, items_are_blocks, depth_under, values_under}
 use Rattle.bit_grammar.proofs.tree_laws.tree_under.Goals as goal
 
 pub returns : goal.returns

@@ -1,10 +1,10 @@
 use Rattle.std.proofs.Common.{ℕ, ◌+◌, refl, ap, ◌∙◌, subst}
-use Rattle.bit_grammar.specs.Input.{Head}
+use Rattle.bit_grammar.specs.Terms.{Head}
 use Rattle.bit_fields.specs.Devices.{Incoming}
 use Rattle.bit_fields.specs.Opening.{head_told}
 use Rattle.bit_grammar.specs.Setting.{setting_of}
 use Rattle.bit_events.specs.Events.{Begun}
-use Rattle.bit_events.specs.Standing.{Standing}
+use Rattle.bit_events.specs.Standing.{OpenUnder}
 use Rattle.bit_norm.specs.Entries.{magic_bit}
 use Rattle.bit_norm.specs.InStep.{Concludes}
 use Rattle.bit_norm.proofs.InStep.{tally_begun}
@@ -12,7 +12,7 @@ use Rattle.bit_norm.proofs.Comparisons.{concluded}
 use Rattle.bit_norm.proofs.in_step.compare_with.Goals as goal
 
 pub fold-read-requires : goal.fold-read-requires
-fold-read-requires g c = tally_begun _ c.new-4.ensures.«open» (ap (λ (st : Standing). st.ids) c.new-3.ensures) refl
+fold-read-requires g c = tally_begun _ c.new-4.ensures.«open» (ap (λ (st : OpenUnder). st.ids) c.new-3.ensures) refl
 
 pub returns-in-Ok-conclude : goal.returns-in-Ok-conclude
 returns-in-Ok-conclude g c =

@@ -5,7 +5,7 @@ use Rattle.bit_grammar.specs.Size.{size_of}
 use Rattle.bit_fields.specs.Opening.{head_told, magic_number}
 use Rattle.bit_tree.specs.Reading.{HasFit}
 use Rattle.bit_grammar.specs.Setting.{setting_of}
-use Rattle.bit_norm.specs.Building.{left}
+use Rattle.bit_norm.specs.Building.{left_events}
 use Rattle.bit_norm.specs.Told.{told_at_level}
 use Rattle.bit_norm.proofs.Forms.{Found, found, form_bytes, wrote_form, read_tree, unread}
 use Rattle.bit_norm.proofs.Readings.{not_read}
@@ -30,7 +30,7 @@ returns-in-Some g c =
     let magic = magic_number c.in-Ok.folded.head.magic in
     let f : Found (setting_of c.args.info) c.args.limits i.to_come c.new-builder.result c.in-Ok.folded.gatherer magic = found (setting_of c.args.info) c.args.limits i.to_come c.new-builder.result c.in-Ok.folded.gatherer (head_told c.in-Ok.folded.head) c.in-Ok.folded.after magic some (λ known. (all.1 known).0) c.new-builder.ensures.setting refl in
     let told = c.in-Some.ensures.form c.new-builder.result f.events f.form f.closed in
-    let tree : Tree = record { magic = magic; blocks = told_at_level (left c.new-builder.result f.events) 0 } in
+    let tree : Tree = record { magic = magic; blocks = told_at_level (left_events c.new-builder.result f.events) 0 } in
     let fits : 4 + length c.in-Some.text / 8 ≤ c.args.limits.bytes = omega (arith, told.2, ap (λ (l : Limits). l.bytes) c.new-builder.ensures.limits) in
     wrote_form (setting_of c.args.info) c.args.limits i (g.K.Sink.outgoing c.args.sink) c.give-written.result.0 (g.S.Source.incoming c.fold-answer.result.1) (g.K.Sink.outgoing c.give-written.result.1) tree
     (read_tree (setting_of c.args.info) c.args.limits i (g.S.Source.incoming c.fold-answer.result.1) c.new-builder.result c.in-Ok.folded.gatherer (head_told c.in-Ok.folded.head) c.in-Ok.folded.after magic f all)
@@ -44,6 +44,6 @@ returns-in-None g c =
     let magic = magic_number c.in-Ok.folded.head.magic in
     let f : Found (setting_of c.args.info) c.args.limits i.to_come c.new-builder.result c.in-Ok.folded.gatherer magic = found (setting_of c.args.info) c.args.limits i.to_come c.new-builder.result c.in-Ok.folded.gatherer (head_told c.in-Ok.folded.head) c.in-Ok.folded.after magic some (λ known. (all.1 known).0) c.new-builder.ensures.setting refl in
     let told = c.in-None.ensures.form c.new-builder.result f.events f.form f.closed in
-    let tree : Tree = record { magic = magic; blocks = told_at_level (left c.new-builder.result f.events) 0 } in
+    let tree : Tree = record { magic = magic; blocks = told_at_level (left_events c.new-builder.result f.events) 0 } in
     let over : c.args.limits.bytes < size_of tree = omega (arith, told, ap (λ (l : Limits). l.bytes) c.new-builder.ensures.limits, form_bytes tree _ refl) in
     (tree, read_tree (setting_of c.args.info) c.args.limits i (g.S.Source.incoming c.fold-answer.result.1) c.new-builder.result c.in-Ok.folded.gatherer (head_told c.in-Ok.folded.head) c.in-Ok.folded.after magic f all, (over, refl))

@@ -2,7 +2,7 @@ use Rattle.std.proofs.Common.{◌++◌, inl, refl, subst}
 use Rattle.bit_grammar.specs.Setting.{setting_of}
 use Rattle.bit_fields.specs.Devices.{Incoming}
 use Rattle.bit_events.specs.Events.{Begun}
-use Rattle.bit_events.specs.Standing.{Standing}
+use Rattle.bit_events.specs.Standing.{OpenUnder}
 use Rattle.bit_scan.specs.Listing.{told_text, left_text}
 use Rattle.bit_scan.specs.Lines.{listing_head}
 use Rattle.bit_scan.specs.Printing.{Prints}
@@ -18,5 +18,5 @@ returns g c =
       (events.head, events.told),
       begun.told refl,
       sink_back (told_text (setting_of c.args.info) events.head events.told) c.write_told-answer.result (g.K.Sink.outgoing c.args.sink) (g.K.Sink.outgoing c.into_sink.result) c.new-printer.result c.write_told-answer.new.printer c.new-printer.ensures c.into_sink.ensures
-          (subst (λ (st : Standing). Prints (listing_head events.head.magic ++ left_text 0 st events.told.0) c.new-printer.result c.write_told-answer.result c.write_told-answer.new.printer) c.new-standing.ensures c.write_told-answer.ensures.prints) c.write_told-answer.ensures.all,
+          (subst (λ (st : OpenUnder). Prints (listing_head events.head.magic ++ left_text 0 st events.told.0) c.new-printer.result c.write_told-answer.result c.write_told-answer.new.printer) c.new-standing.ensures c.write_told-answer.ensures.prints) c.write_told-answer.ensures.all,
     )

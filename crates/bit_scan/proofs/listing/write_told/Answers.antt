@@ -1,6 +1,6 @@
 use Rattle.std.proofs.Common.{ℕ, Err, ap, subst}
 use Rattle.std.proofs.lemmas.Result.{err_from_is_err_and}
-use Rattle.bit_grammar.specs.Input.{Head}
+use Rattle.bit_grammar.specs.Terms.{Head}
 use Rattle.bit_scan.specs.Lines.{listing_head}
 use Rattle.bit_scan.specs.Listing.{left_text}
 use Rattle.bit_scan.specs.Printing.{Printed, Prints}

@@ -4,7 +4,7 @@ use Rattle.std.specs.Borrow.{Bor}
 use Rattle.bit_fields.specs.declared.fault.Fault.{Fault}
 use Rattle.bit_events.specs.declared.event.Event.{Event}
 use Rattle.bit_events.specs.Events.{Lends}
-use Rattle.bit_events.specs.EventView.{shown}
+use Rattle.bit_events.specs.EventView.{event_shown}
 use Rattle.bit_scan.proofs.Tellings.{line_wrong, events_over, over_wrong, events_broke, broke_wrong}
 use Rattle.bit_scan.proofs.telling.write_next.Goals as goal
 
@@ -13,7 +13,7 @@ returns-in_err-write_line-in-Ok-Some g c =
     let p = err_from_is_err_and c.from_residual.result c.from_residual.ensures.1 in
     let came = subst (λ (r : Result (Option (Event (Bor (List ℕ)))) Fault). Lends c.args.events.now r c.next.follows.lender-at-none) (c.in-Ok-Some.is ∙ ap (λ (o : Option (Event (Bor (List ℕ)))). Ok o) c.in-Ok-Some.field-0-is) c.next.follows.holds-at-none in
     rw (p.1, p.2)
-    (line_wrong c.args.values c.args.around c.args.events.now c.next.follows.lender-at-none c.args.printer.now c.write_line.new.printer (shown c.in-Ok-Some.event) c.in_err-write_line-in-Ok-Some.field-0.0 came c.in_err-write_line-in-Ok-Some.ensures)
+    (line_wrong c.args.values c.args.around c.args.events.now c.next.follows.lender-at-none c.args.printer.now c.write_line.new.printer (event_shown c.in-Ok-Some.event) c.in_err-write_line-in-Ok-Some.field-0.0 came c.in_err-write_line-in-Ok-Some.ensures)
 
 pub returns-in_err-finish-in-Ok-None : goal.returns-in_err-finish-in-Ok-None
 returns-in_err-finish-in-Ok-None g c =

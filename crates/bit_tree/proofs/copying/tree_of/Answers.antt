@@ -2,7 +2,7 @@ use Rattle.std.proofs.Common.{◌≡◌, subst}
 use Rattle.std.specs.Prelude.{IfOk}
 use Rattle.bit_grammar.specs.Forest.{Tree}
 use Rattle.bit_grammar.specs.Input as input
-use Rattle.bit_grammar.proofs.Under.{tree_kept, kept_fit}
+use Rattle.bit_grammar.proofs.NormalForms.Under.{tree_kept, kept_fit}
 use Rattle.bit_tree.proofs.copying.tree_of.Goals as goal
 
 pub tree_with-requires : goal.tree_with-requires

@@ -1,5 +1,5 @@
 use Rattle.bit_grammar.specs.Input as input
-use Rattle.bit_grammar.proofs.Under.{fit_kept}
+use Rattle.bit_grammar.proofs.NormalForms.Under.{fit_kept}
 use Rattle.bit_tree.proofs.tests.is_whole_fit.Goals as goal
 
 pub returns : goal.returns

@@ -1,13 +1,13 @@
 use Rattle.std.proofs.Common.{◌∙◌, [], ap, refl}
 use Rattle.std.proofs.lemmas.Result.{err_from_is_err_and}
-use Rattle.bit_abbrev.specs.Table.{shown}
+use Rattle.bit_abbrev.specs.Table.{table_shown}
 use Rattle.bit_abbrev.proofs.Table.{found_at, none_at, kept, defined}
 use Rattle.bit_abbrev.proofs.info.InfoTable.define.Goals as goal
 
 pub returns-in_err-push-clause-err : goal.returns-in_err-push-clause-err
 returns-in_err-push-clause-err c =
     let failed = err_from_is_err_and c.from_residual.result c.from_residual.ensures.1 in
-    rw failed.1 (ap shown (c.get_mut.follows.holds c.push.new.self).0 ∙ kept c.self.inside.lists.entries c.args.id c.in-Some.list.now c.push.new.self c.in-Some.ensures.value c.in_err-push.ensures.items ∙ c.self.view_is)
+    rw failed.1 (ap table_shown (c.get_mut.follows.holds c.push.new.self).0 ∙ kept c.self.inside.lists.entries c.args.id c.in-Some.list.now c.push.new.self c.in-Some.ensures.value c.in_err-push.ensures.items ∙ c.self.view_is)
 
 pub returns-in-Some-clause-ok : goal.returns-in-Some-clause-ok
 returns-in-Some-clause-ok c =

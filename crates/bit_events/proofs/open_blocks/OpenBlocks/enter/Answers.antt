@@ -2,7 +2,7 @@ use Rattle.std.proofs.Common.{Bool, ap, ◌∙◌}
 use Rattle.std.specs.Prelude.{reverse, ◌&&◌, ◌∷◌}
 use Rattle.std.specs.List.{list_all}
 use Rattle.bit_grammar.specs.Setting.{keeps, setting_of}
-use Rattle.bit_events.specs.Standing.{Standing}
+use Rattle.bit_events.specs.Standing.{OpenUnder}
 use Rattle.bit_events.proofs.Standings.{left_is, judged_more}
 use Rattle.bit_events.proofs.open_blocks.OpenBlocks.enter.Goals as goal
 
@@ -14,4 +14,4 @@ invariant_of-self-2 c =
 pub returns-clause-left : goal.returns-clause-left
 returns-clause-left c =
     c.judged-inner.ensures.left ∙ ap (λ (b : Bool). keeps (setting_of c.self.inside.info) c.args.id && b) (left_is (setting_of c.self.inside.info) c.self.inside.inner (reverse c.self.inside.outer.items) c.self.invariant)
-    ∙ ap (λ (st : Standing). list_all (keeps st.setting) (c.args.id ∷ st.ids)) c.self.view_is
+    ∙ ap (λ (st : OpenUnder). list_all (keeps st.setting) (c.args.id ∷ st.ids)) c.self.view_is

@@ -1,5 +1,5 @@
 use Rattle.std.proofs.Common.{◌≡◌, ◌<◌, length, min, arith, ap, ◌∙◌}
-use Rattle.bit_fields.specs.Inflow.{Flow, Keeps}
+use Rattle.bit_fields.specs.Inflow.{Flow, KeepsFlow}
 use Rattle.bit_fields.proofs.InflowLaws.{Keeps-refl}
 use Rattle.bit_fields.proofs.Draining.{window_skipped}
 use Rattle.bit_fields.proofs.inflow.Inflow.skip.Goals as goal
@@ -7,7 +7,7 @@ use Rattle.bit_fields.proofs.inflow.Inflow.skip.Goals.{then-len-eq0+else-most-ge
 
 pub returns-clause-skips : goal.returns-clause-skips
 returns-clause-skips g c =
-    let kept : Keeps c.args.self.now c.if-len-eq0.self = elim c.if-len-eq0.branch [
+    let kept : KeepsFlow c.args.self.now c.if-len-eq0.self = elim c.if-len-eq0.branch [
       | then-len-eq0+else-most-ge8+in_ok-fill w ↦ rw w.self-is w.in_ok-fill.ensures.0
       | else-len-eq0 w ↦ rw w.self-is (Keeps-refl c.args.self.now)
     ] in

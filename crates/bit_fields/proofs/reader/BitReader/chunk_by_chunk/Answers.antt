@@ -15,8 +15,8 @@ returns-then-chunk-n-clause-takes g c =
     let last : c.in_ok-chunk.chunk < 2 ^ (c.args.n - 1) = let s = one_shl (c.args.n - 1) 64 (omega arith) in rw s at c.if-chunk-n.true in
     one_chunk c.args.n c.self.inside.position c.args.self.now c.in_ok-chunk.chunk c.part.new.self c.requires.some c.requires.few (ap (λ (r : Reader). r.position) c.self.view_is) last c.in_ok-chunk.ensures.takes
 
-pub later_chunks-requires-clause-start : goal.later_chunks-requires-clause-start
-later_chunks-requires-clause-start g c =
+pub later_chunks-requires-clause-first : goal.later_chunks-requires-clause-first
+later_chunks-requires-clause-first g c =
     let start : c.self.inside.position ≡ c.args.self.now.position = ap (λ (r : Reader). r.position) c.self.view_is in
     omega (arith, c.in_ok-chunk.ensures.takes.forward)
 

@@ -11,4 +11,4 @@ failed_before live p start f g now view dead clear =
     rw (clear, ← view, l) refl
 
 pub returns-clause-moved : goal.returns-clause-moved
-returns-clause-moved g c = λ dead. failed_before c.self.inside.live c.self.inside.position c.args.start c.self.inside.inflow c.clear.new.self c.args.self.now c.self.view_is dead c.clear.ensures
+returns-clause-moved g c = λ dead. failed_before c.self.inside.live c.self.inside.position c.args.first c.self.inside.inflow c.clear.new.self c.args.self.now c.self.view_is dead c.clear.ensures

@@ -1,5 +1,5 @@
 use Rattle.std.proofs.Common.{◌≡◌, true, subst, sym, refl, arith, ap, length, ◌∙◌}
-use Rattle.bit_grammar.proofs.Numbers.{length-bits_of}
+use Rattle.bit_grammar.proofs.Bits.Numbers.{length-bits_of}
 use Rattle.bit_fields.specs.Reader.{Reader}
 use Rattle.bit_fields.proofs.Looking.{looked_as, sees_behind}
 use Rattle.bit_fields.proofs.reader.BitReader.in_sight.Goals as goal

@@ -12,7 +12,7 @@ invariant_of-self g c = record {
 }
 
 pub returns-in-Err-clause-takes : goal.returns-in-Err-clause-takes
-returns-in-Err-clause-takes g c = missed_as c.args.n c.args.start c.self.inside.position c.self.inside.live c.self.inside.inflow c.fill.new.self c.in-Err.missing c.args.self.now c.miss.new.self c.miss.result c.if-not-self.false c.self.view_is c.in-Err.ensures c.miss.ensures.fault c.miss.ensures.stopped
+returns-in-Err-clause-takes g c = missed_as c.args.n c.args.first c.self.inside.position c.self.inside.live c.self.inside.inflow c.fill.new.self c.in-Err.missing c.args.self.now c.miss.new.self c.miss.result c.if-not-self.false c.self.view_is c.in-Err.ensures c.miss.ensures.fault c.miss.ensures.stopped
 
 pub returns-clause-takes : goal.returns-clause-takes
 returns-clause-takes g c =
@@ -25,4 +25,4 @@ returns-clause-takes g c =
       | then-held-n+else-not-self+in-Ok w ↦ w.if-not-self.false
       | else-held-n w ↦ live_from c.self.inside.live c.self.inside.inflow.window c.args.n c.self.invariant.empty c.requires.some (omega arith)
     ] in
-    took_as c.args.n c.args.start c.self.inside.position c.if-held-n.self-inside.position c.take-value.result _ c.self.inside.live c.if-held-n.self-inside.live c.self.inside.inflow c.if-held-n.self-inside.inflow c.take-value.new.self c.args.self.now was c.self.view_is filled c.take-value.ensures.value (omega arith) c.take-value.ensures.rest
+    took_as c.args.n c.args.first c.self.inside.position c.if-held-n.self-inside.position c.take-value.result _ c.self.inside.live c.if-held-n.self-inside.live c.self.inside.inflow c.if-held-n.self-inside.inflow c.take-value.new.self c.args.self.now was c.self.view_is filled c.take-value.ensures.value (omega arith) c.take-value.ensures.rest

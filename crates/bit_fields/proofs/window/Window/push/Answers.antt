@@ -1,7 +1,7 @@
 use Rattle.std.proofs.Common.{◌≡◌, ◌≤◌, ◌^◌, ◌+◌, sym, ap, ◌∙◌, length, arith, ◌++◌, Bool, List}
 use Rattle.std.proofs.Math.Pow.{pow_mono}
 use Rattle.bit_grammar.specs.Bits.{bits_of}
-use Rattle.bit_grammar.proofs.Numbers.{length-bits_of}
+use Rattle.bit_grammar.proofs.Bits.Numbers.{length-bits_of}
 use Rattle.bit_fields.proofs.BitLaws.{bits_of-above, pushed_is, pushed_below}
 use Rattle.bit_fields.proofs.window.Window.push.Goals as goal
 

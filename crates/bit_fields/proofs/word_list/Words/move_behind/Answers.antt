@@ -1,11 +1,11 @@
 use Rattle.std.proofs.Common.{length, ap, arith, length-append}
-use Rattle.bit_fields.specs.Texts.{bits_of_words, joined}
+use Rattle.bit_fields.specs.Texts.{bits_of_words, words_of_chunks}
 use Rattle.bit_fields.proofs.Texts.{words-length}
 use Rattle.bit_fields.proofs.word_list.Words.move_behind.Goals as goal
 
 pub add_words-requires : goal.add_words-requires
 add_words-requires c =
-    let before = joined c.self.inside.full.items in
+    let before = words_of_chunks c.self.inside.full.items in
     omega (
       arith,
       c.requires,

@@ -2,7 +2,7 @@ use Rattle.std.proofs.Common.{◌≡◌, ℕ, ◌+◌, ◌*◌, ◌/◌, ◌%◌
 use Rattle.std.proofs.Math.ListN.{set}
 use Rattle.std.proofs.lemmas.List.{set-append_left, set-append_right}
 use Rattle.std.specs.Prelude.{vec_len}
-use Rattle.bit_fields.specs.Texts.{joined}
+use Rattle.bit_fields.specs.Texts.{words_of_chunks}
 use Rattle.bit_fields.proofs.Texts.{full-at, full-set, joined-set, joined-length, beyond}
 use Rattle.bit_fields.proofs.word_list.Words.set.Goals as goal
 
@@ -26,7 +26,7 @@ pub index_mut-requires-in-None : goal.index_mut-requires-in-None
 index_mut-requires-in-None c =
     let full = c.self.inside.full in
     let last = c.self.inside.last in
-    let whole : length c.args.self.now ≡ 262144 * length full.items + length last.items = omega (arith, ap length c.self.view_is, length-append (joined full.items) last.items, joined-length full.items c.self.invariant) in
+    let whole : length c.args.self.now ≡ 262144 * length full.items + length last.items = omega (arith, ap length c.self.view_is, length-append (words_of_chunks full.items) last.items, joined-length full.items c.self.invariant) in
     let le : c.len.result ≤ c.args.place / 262144 = omega (arith, c.len.ensures, beyond (c.args.place / 262144) (vec_len full) c.in-None.ensures.variant.1) in
     omega (arith, last.ok.0, behind c.len.result (length c.args.self.now) (length full.items) c.args.place (length last.items) (omega (arith, full.ok.0, c.len.ensures)) le whole c.requires)
 
@@ -39,9 +39,9 @@ returns-in-Some c =
     let j = c.args.place % 262144 in
     let place : 262144 * i + j ≡ c.args.place = omega arith in
     let lt : i < length full.items = omega (arith, full.ok.0, c.in-Some.ensures.variant.0 refl) in
-    let here : c.args.place < length (joined full.items) = omega (arith, lt, joined-length full.items c.self.invariant) in
-    ap (λ (ws : List ℕ). ws ++ last.items) (joined-set full.items i j c.args.word chunk _ c.self.invariant lt c.in-Some.ensures.value (omega arith) refl ∙ ap (λ (k : ℕ). set (joined full.items) k c.args.word) place)
-    ∙ sym (set-append_left (joined full.items) last.items c.args.place c.args.word here)
+    let here : c.args.place < length (words_of_chunks full.items) = omega (arith, lt, joined-length full.items c.self.invariant) in
+    ap (λ (ws : List ℕ). ws ++ last.items) (joined-set full.items i j c.args.word chunk _ c.self.invariant lt c.in-Some.ensures.value (omega arith) refl ∙ ap (λ (k : ℕ). set (words_of_chunks full.items) k c.args.word) place)
+    ∙ sym (set-append_left (words_of_chunks full.items) last.items c.args.place c.args.word here)
     ∙ ap (λ (ws : List ℕ). set ws c.args.place c.args.word) c.self.view_is
 
 pub returns-in-None : goal.returns-in-None
@@ -49,5 +49,5 @@ returns-in-None c =
     let full = c.self.inside.full in
     let last = c.self.inside.last in
     let le : c.len.result ≤ c.args.place / 262144 = omega (arith, c.len.ensures, beyond (c.args.place / 262144) (vec_len full) c.in-None.ensures.variant.1) in
-    let count : length (joined full.items) ≡ c.len.result * 262144 = omega (arith, joined-length full.items c.self.invariant, full.ok.0, c.len.ensures) in
-    sym (set-append_right (joined full.items) last.items (c.len.result * 262144) c.args.place c.args.word count (omega arith)) ∙ ap (λ (ws : List ℕ). set ws c.args.place c.args.word) c.self.view_is
+    let count : length (words_of_chunks full.items) ≡ c.len.result * 262144 = omega (arith, joined-length full.items c.self.invariant, full.ok.0, c.len.ensures) in
+    sym (set-append_right (words_of_chunks full.items) last.items (c.len.result * 262144) c.args.place c.args.word count (omega arith)) ∙ ap (λ (ws : List ℕ). set ws c.args.place c.args.word) c.self.view_is

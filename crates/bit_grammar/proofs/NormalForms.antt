@@ -1,0 +1,10 @@
+-- Normal forms, and what is left under a setting.
+pub mod Texts
+pub mod SpelledParts
+pub mod Normals
+pub mod Sizes
+pub mod Periods
+pub mod Fits
+pub mod Under
+pub mod Settings
+pub mod Forms
