@@ -8,7 +8,7 @@ complete -c bitstool -n "not $some $commands" -a same -d "Compare two inputs tha
 complete -c bitstool -n "not $some $commands" -a analyse -d "What the input adds up to"
 complete -c bitstool -n "not $some $commands" -a show -d "The tree of the input"
 complete -c bitstool -n "not $some $commands" -a events -d "What the input says as it is read"
-complete -c bitstool -n "not $some $commands" -l version -d "Print the version"
+complete -c bitstool -n "not $some $commands" -s V -l version -d "Print the version"
 complete -c bitstool -s h -l help -d "Print help"
 complete -c bitstool -n "$some $commands" -l bytes -x -d "The most bytes of an input, and of a normal form"
 complete -c bitstool -n "$some $commands" -l depth -x -d "How deep blocks may stand in one another"
