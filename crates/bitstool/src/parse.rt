@@ -24,15 +24,15 @@ const ABOUT: &str =
 The input is standard input; the output is standard output.
 
 With no arguments it writes the normal form of the input, as `bitstool normal` does. An input that
-breaks the rules is refused with one line on standard error, which names the rule and the bit, and
-nothing is written.
+breaks the rules is refused with one line on standard error, which names the rule and the bit. Then
+`events` has written all that came before the break, and the other commands have written nothing.
 
 Examples:
   bitstool analyse < FILE        which blocks and records it has, and where its bits go
   bitstool show < FILE | less    all of them, in order
   bitstool events < FILE | tail  the last that could be read of a damaged file
   bitstool normal --drop-info < FILE > NORMAL
-  cat FILE OTHER | bitstool same --where --first $(stat -c %s FILE)";
+  cat FILE OTHER | bitstool same --where --first $(wc -c < FILE)";
 
 const USAGE: &str = "bitstool [COMMAND]";
 

@@ -5,24 +5,24 @@ use Rattle.bit_grammar.specs.Texts.{values_text}
 use Rattle.bit_scan.proofs.Parted.{no_first, no_second, third, values_parts}
 use Rattle.bit_scan.proofs.listing.write_values.Goals as goal
 
-pub returns-in_err-write_bytes : goal.returns-in_err-write_bytes
-returns-in_err-write_bytes g c =
-    let vs = c.args.values.now in
-    let parts = c.parts-parts.result in
-    let p = err_from_is_err_and c.from_residual.result c.from_residual.ensures.1 in
-    rw (p.1, p.2)
-    (no_first (values_text vs) (values_text parts.bytes.now) (values_text parts.numbers.now) (values_text (replicate parts.zeros 0)) c.args.printer.now c.write_bytes.new.printer c.in_err-write_bytes.field-0.0 (values_parts vs parts.bytes.now parts.numbers.now parts.zeros c.parts-parts.ensures) c.in_err-write_bytes.ensures)
-
 pub returns-in_err-write_numbers : goal.returns-in_err-write_numbers
 returns-in_err-write_numbers g c =
     let vs = c.args.values.now in
     let parts = c.parts-parts.result in
-    let p = err_from_is_err_and c.from_residual-in_err-write_numbers.result c.from_residual-in_err-write_numbers.ensures.1 in
+    let p = err_from_is_err_and c.from_residual.result c.from_residual.ensures.1 in
     rw (p.1, p.2)
-    (no_second (values_text vs) (values_text parts.bytes.now) (values_text parts.numbers.now) (values_text (replicate parts.zeros 0)) c.args.printer.now c.write_bytes.new.printer c.write_numbers.new.printer c.in_err-write_numbers.field-0.0 (values_parts vs parts.bytes.now parts.numbers.now parts.zeros c.parts-parts.ensures) c.in_ok-write_bytes.ensures c.in_err-write_numbers.ensures)
+    (no_first (values_text vs) (values_text parts.numbers.now) (values_text parts.bytes.now) (values_text (replicate parts.zeros 0)) c.args.printer.now c.write_numbers.new.printer c.in_err-write_numbers.field-0.0 (values_parts vs parts.numbers.now parts.bytes.now parts.zeros c.parts-parts.ensures) c.in_err-write_numbers.ensures)
+
+pub returns-in_err-write_bytes : goal.returns-in_err-write_bytes
+returns-in_err-write_bytes g c =
+    let vs = c.args.values.now in
+    let parts = c.parts-parts.result in
+    let p = err_from_is_err_and c.from_residual-in_err-write_bytes.result c.from_residual-in_err-write_bytes.ensures.1 in
+    rw (p.1, p.2)
+    (no_second (values_text vs) (values_text parts.numbers.now) (values_text parts.bytes.now) (values_text (replicate parts.zeros 0)) c.args.printer.now c.write_numbers.new.printer c.write_bytes.new.printer c.in_err-write_bytes.field-0.0 (values_parts vs parts.numbers.now parts.bytes.now parts.zeros c.parts-parts.ensures) c.in_ok-write_numbers.ensures c.in_err-write_bytes.ensures)
 
 pub returns : goal.returns
 returns g c =
     let vs = c.args.values.now in
     let parts = c.parts-parts.result in
-    third (values_text vs) (values_text parts.bytes.now) (values_text parts.numbers.now) (values_text (replicate parts.zeros 0)) c.args.printer.now c.write_bytes.new.printer c.write_numbers.new.printer c.write_zeros.new.printer c.write_zeros.result (values_parts vs parts.bytes.now parts.numbers.now parts.zeros c.parts-parts.ensures) c.in_ok-write_bytes.ensures c.in_ok-write_numbers.ensures c.write_zeros.ensures
+    third (values_text vs) (values_text parts.numbers.now) (values_text parts.bytes.now) (values_text (replicate parts.zeros 0)) c.args.printer.now c.write_numbers.new.printer c.write_bytes.new.printer c.write_zeros.new.printer c.write_zeros.result (values_parts vs parts.numbers.now parts.bytes.now parts.zeros c.parts-parts.ensures) c.in_ok-write_numbers.ensures c.in_ok-write_bytes.ensures c.write_zeros.ensures
