@@ -11,12 +11,7 @@ use std::marker::Model;
 /// How many numbers may be held by what has room for others; the memory of more is given back.
 const ROOM: usize = 65536;
 
-/// So many numbers behind a great one take eight bytes each, whatever they are: so records with great numbers here and there are
-/// not moved again and again.
-const MANY: usize = 4096;
-
-/// Numbers: a byte for each where all are below 256; else eight for each up to the last that is above 255, and for `MANY` of them at
-/// least, and one for each behind these.
+/// Numbers, of which those behind the last one that is above 255 take a byte each, and the others eight.
 #[derive(Drop)]
 struct Numbers {
     alloc: Global,
@@ -85,8 +80,7 @@ impl Numbers {
         ensures err { OnErr result (self.new ≡ self.old) }
         ensures few { length self.new < 2 ^ 64 }
     {
-        let narrow = self.wide.is_empty() || self.wide.len() >= MANY;
-        if number < 256 && narrow {
+        if number < 256 {
             self.bytes.push(number as u8)?;
             return Ok(());
         }
@@ -153,8 +147,8 @@ pub struct ValueParts<'a> {
     pub zeros: u64,
 }
 
-/// The values of a record in little memory: a byte for each where all are below 256; else eight for each up to the last that is above
-/// 255, and for 4096 of them at least, and one for each behind these, as those of a blob or an array of characters; and none for the zeros at the end that were taken at once, which are counted.
+/// The values of a record in little memory: eight bytes for each one up to the last that is above 255, one for each behind it, as
+/// those of a blob or an array of characters, and none for the zeros at the end that were taken at once, which are counted.
 #[derive(Drop)]
 pub struct PackedValues {
     numbers: Numbers,

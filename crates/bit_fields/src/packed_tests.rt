@@ -41,7 +41,7 @@ fn has_parts(rt: &impl Abort, alloc: Global, count: u64, wanted: &str) {
 #[test]
 fn parts_of_values(rt: HostRuntime) {
     let alloc = rt.alloc();
-    let first = "7 ValueParts { numbers: [1, 255, 256, 0], bytes: [], zeros: 3 }";
+    let first = "7 ValueParts { numbers: [1, 255, 256], bytes: [0], zeros: 3 }";
     assert!(rt;
         parts_told(alloc, 0)
             .expect(&rt, "memory")
@@ -52,13 +52,13 @@ fn parts_of_values(rt: HostRuntime) {
         &rt,
         alloc,
         6,
-        ", 7 ValueParts { numbers: [1, 255, 256, 0, 0, 0, 9], bytes: [], zeros: 0 }",
+        ", 7 ValueParts { numbers: [1, 255, 256], bytes: [0, 0, 0, 9], zeros: 0 }",
     );
     has_parts(
         &rt,
         alloc,
         1,
-        ", 2 ValueParts { numbers: [1, 9], bytes: [], zeros: 0 }",
+        ", 2 ValueParts { numbers: [1], bytes: [9], zeros: 0 }",
     );
     has_parts(
         &rt,
