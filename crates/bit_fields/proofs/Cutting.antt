@@ -7,7 +7,7 @@ use Rattle.bit_grammar.specs.Grammar as grammar
 use Rattle.bit_grammar.specs.Grammar.{at, reading}
 use Rattle.bit_grammar.specs.Blocks.{Limits}
 use Rattle.bit_grammar.specs.Terms as terms
-use Rattle.bit_grammar.specs.Input.{outer_wrapper, ends_by, front_of, is_closed, cut_fault, too_long}
+use Rattle.bit_grammar.specs.Input.{outer_wrapper, ends_by, front_of, is_closed, cut_fault}
 use Rattle.bit_fields.specs.Reader.{Extent, within}
 use Rattle.bit_fields.specs.Opening.{wrapper_read, wrapper_of, end_of_stream}
 

@@ -1,5 +1,5 @@
 -- Where two lists of values differ, of which each ends with zeros.
-use Rattle.std.proofs.Common.{◌≡◌, ◌≢◌, ℕ, zero, suc, ◌+◌, ◌<◌, ◌-◌, ◌≤◌, ◌⊎◌, List, [], ◌∷◌, ◌++◌, length, drop, get_or, slice_get, min, max, Bool, true, false, cond, eqb, not, Option, Some, None, refl, sym, ap, ◌∙◌, subst, inl, inr, arith, add-one, eq-eqb, length-append, length-drop}
+use Rattle.std.proofs.Common.{◌≡◌, ◌≢◌, ℕ, zero, suc, ◌+◌, ◌<◌, ◌-◌, ◌≤◌, ◌⊎◌, List, [], ◌∷◌, ◌++◌, length, drop, get_or, slice_get, min, max, Bool, true, false, cond, eqb, not, Option, Some, None, refl, sym, ap, ◌∙◌, subst, inl, inr, arith, add-one, eq-eqb, length-append}
 use Rattle.std.proofs.Math.ListN.{replicate}
 use Rattle.std.proofs.Math.Seq.{drop-cons, drop-append-add}
 use Rattle.std.proofs.lemmas.Bool.{cases_lt, ne_eqb, eqb-true}

@@ -1,4 +1,4 @@
-ghost use Rattle.std.specs.Prelude.{◌≡◌, ◌≤◌, MatchOption};
+ghost use Rattle.std.specs.Prelude.{◌≡◌, MatchOption};
 ghost use Rattle.bit_grammar.specs.declared.shapes.Shapes.TheVariants.{AtDefinition, AtUse};
 ghost use Rattle.bit_grammar.specs.Blocks.{judged_at};
 ghost use Rattle.bit_grammar.specs.Normal.{usual_limits, Capped};

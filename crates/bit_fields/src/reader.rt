@@ -1,26 +1,22 @@
 ghost use Rattle.std.specs.Prelude.{◌≡◌, ◌+◌, ◌*◌, ◌-◌, ◌<◌, ◌≤◌, ◌^◌, ◌%◌, length, true, false, take, OnErr, OnOk, IfOk, IfErr, MatchOption};
-ghost use Rattle.std.specs.Borrow.{sem};
-ghost use Rattle.bit_fields.specs.Devices.{IsFresh};
-ghost use Rattle.std.specs.Io.BufRead.{Rests};
 ghost use Rattle.bit_grammar.specs.Fields.{fixed, vbr, align32, chunks, zeros};
 ghost use Rattle.bit_grammar.specs.Terms.{chunk_limit};
-ghost use Rattle.bit_grammar.specs.Grammar.{at, gives, test, repeat};
+ghost use Rattle.bit_grammar.specs.Grammar.{at, test};
 ghost use Rattle.bit_grammar.specs.Input.{version, offset, wrapper, any_bits, inner_magic};
 ghost use Rattle.bit_fields.specs.Reader.{Extent, Takes, Took, Why, IsOnly, NeedsNoMemory, within, told_by, failed_reader, stopped_at};
 ghost use Rattle.bit_fields.specs.Short.{TookNothing};
-ghost use Rattle.bit_fields.specs.Ahead.{Sees};
-ghost use Rattle.bit_fields.specs.Sight.{sight_lent, IsSight, Shown, ShowsSight};
 ghost use Rattle.bit_fields.specs.Opening.{fresh, OpenedInput, Declines, Opens, wrapper_told};
 ghost use Rattle.bit_fields.specs.Ending.{reach_of, LooksForEnd, Closes, IsThrough};
-ghost use Rattle.bit_fields.specs.Inside.{part_of, gap_of, number_above, fault_of_missing, numbers, TookZeros, TookGap};
+ghost use Rattle.bit_fields.specs.Inside.{part_of, number_above, fault_of_missing, TookZeros};
 
-use crate::ahead::Sight;
+mod sight;
+
 use crate::fault::Fault;
 use crate::head::{Head, Wrapper};
 use crate::inflow::{Inflow, Missing};
 use crate::limits::Limits;
 use crate::numbers::{MOST_SHORT, is_lawful, payload_of, placed};
-use crate::source::{Source, SourceFailed};
+use crate::source::Source;
 use bit_grammar::{Reason, WRAPPER_MAGIC};
 use std::marker::Model;
 
@@ -47,8 +43,6 @@ impl<S: Source> Model for BitReader<S> {
 }
 
 impl<S: Source> BitReader<S> {
-    ghost use Rattle.bit_fields.specs.contracts.reader.BitReader.{the_row};
-
     /// Begins the stream of a source: reads its wrapper, if there is one, and the magic of the stream, and answers them as
     /// the head. The reader stands behind the magic, at a multiple of 32 bits. Sources: "Magic Numbers", "Bitcode Wrapper
     /// Format".
@@ -159,188 +153,6 @@ impl<S: Source> BitReader<S> {
         ensures place { OnOk result (self.new.position ≡ 8 * offset) }
     {
         self.skip_bits(8 * u64::from(offset - 20))
-    }
-
-    /// Skips bits of what began at a bit, at least one and at most so many, and answers how many. Where not one is left it
-    /// fails, at the first bit of the field to which the next one belongs.
-    fn skip_some(&mut self, first: u64, field: u64, most: u64) -> Result<u64, Fault>
-        requires live { self.old.live ≡ true }
-        requires first { first ≤ self.old.position }
-        requires some { 0 < most }
-        ensures takes { IfOk result (λ count. TookGap field most count self.old self.new) }
-        ensures misses { IfErr result (λ fault. Why (gap_of field 1) self.old fault self.new) }
-        ensures memory { NeedsNoMemory result }
-        ensures stays { OnErr result (self.new.position ≡ first) }
-    {
-        match self.inflow.skip(most) {
-            Ok(count) => {
-                self.position += count;
-                Ok(count)
-            }
-            Err(missing) => {
-                let fault = self.fault_of(missing, field);
-                Err(self.fail_at(fault, first))
-            }
-        }
-    }
-
-    /// Lends bits that come next and lie in memory, for `Ahead` to read, and takes none of them.
-    ///
-    /// It fails only where the source does.
-    #[inline(always)]
-    pub fn sight(&mut self) -> Result<Sight<'_>, Fault>
-        ensures lawful { IfOk result (λ sight. IsSight sight) }
-        ensures* shows { sem 𝓛 (Rests (the_row S.row S.Source) self.entry
-            (λ new. ShowsSight self.old result new)) }
-    {
-        if self.look()? {
-            Ok(self.in_sight())
-        } else {
-            Ok(self.at_hand())
-        }
-    }
-
-    /// Looks for bytes behind the window: whether there are any.
-    #[inline(always)]
-    fn look(&mut self) -> Result<bool, Fault>
-        ensures looks { OnOk result (TookNothing self.old self.new) }
-        ensures fresh { IfOk result (λ some. some ≡ true → IsFresh self.new.incoming) }
-        ensures missed { IfErr result (λ fault. Why (gives (tt {0})) self.old fault self.new) }
-        ensures stays { self.new.position ≡ self.old.position }
-    {
-        if !self.live {
-            return Err(Fault::Failed);
-        }
-        let first = self.position;
-        match self.inflow.look() {
-            Ok(some) => Ok(some),
-            Err(SourceFailed) => Err(self.fail_at(Fault::Read, first)),
-        }
-    }
-
-    /// Lends the bits in the window and those of bytes behind it.
-    #[inline(always)]
-    fn in_sight(&mut self) -> Sight<'_>
-        requires live { self.old.live ≡ true }
-        requires fresh { IsFresh self.old.incoming }
-        ensures lawful { IsSight result }
-        ensures* shown { sem 𝓛 (Rests (the_row S.row S.Source) self.entry
-            (λ new. Shown self.old result new)) }
-    {
-        let (word, held) = self.inflow.window();
-        let position = self.position;
-        let bytes = self.inflow.lend();
-        Sight {
-            word,
-            held,
-            bytes,
-            position,
-        }
-    }
-
-    /// Lends the bits in the window.
-    #[inline(always)]
-    fn at_hand(&self) -> Sight<'_>
-        requires { self.now.live ≡ true }
-        ensures lawful { IsSight result }
-        ensures sees { Sees self.now (sight_lent result) }
-    {
-        let (word, held) = self.inflow.window();
-        Sight {
-            word,
-            held,
-            bytes: &[],
-            position: self.position,
-        }
-    }
-
-    /// Takes so many bits, whatever they are: those that were read from what is in sight.
-    ///
-    /// Fewer bits are `Truncated` at the first of them.
-    #[inline(always)]
-    pub fn catch_up(&mut self, bits: u64) -> Result<(), Fault>
-        ensures takes { Takes (any_bits bits) self.old result self.new }
-        ensures memory { NeedsNoMemory result }
-        ensures stays { OnErr result (self.new.position ≡ self.old.position) }
-        ensures moves { OnOk result (self.new.position ≡ self.old.position + bits) }
-    {
-        if self.live && bits > 0 && self.skip_at_hand(bits)? {
-            return Ok(());
-        }
-        self.skip_bits(bits)
-    }
-
-    /// Skips so many bits where they are at hand: whether it did.
-    #[inline(always)]
-    fn skip_at_hand(&mut self, bits: u64) -> Result<bool, Fault>
-        requires live { self.old.live ≡ true }
-        requires some { 0 < bits }
-        ensures skips { IfOk result (λ done. (done ≡ true
-            → Took (any_bits bits) self.old tt self.new)
-            × (done ≡ false → TookNothing self.old self.new)) }
-        ensures missed { IfErr result (λ fault. Why (gives (tt {0})) self.old fault self.new) }
-        ensures memory { NeedsNoMemory result }
-        ensures stays { OnErr result (self.new.position ≡ self.old.position) }
-        ensures moves { IfOk result (λ done. (done ≡ true
-            → self.new.position ≡ self.old.position + bits)
-            × (done ≡ false → self.new.position ≡ self.old.position)) }
-    {
-        let first = self.position;
-        match self.inflow.skip_at_hand(bits) {
-            Ok(true) => {
-                self.position = first + bits;
-                Ok(true)
-            }
-            Ok(false) => Ok(false),
-            Err(missing) => Err(self.miss(missing, first)),
-        }
-    }
-
-    /// Skips so many bits, whatever they are.
-    #[inline(never)]
-    fn skip_bits(&mut self, bits: u64) -> Result<(), Fault>
-        ensures takes { Takes (any_bits bits) self.old result self.new }
-        ensures memory { NeedsNoMemory result }
-        ensures stays { OnErr result (self.new.position ≡ self.old.position) }
-        ensures moves { OnOk result (self.new.position ≡ self.old.position + bits) }
-    {
-        if !self.live {
-            return Err(Fault::Failed);
-        }
-        let first = self.position;
-        let mut left = bits;
-        while left > 0 {
-            let count = self.skip_some(first, first, left)?;
-            left -= count;
-        }
-        Ok(())
-    }
-
-    /// Skips so many fields of n bits, n from 1 to 32, whatever they are.
-    ///
-    /// Fewer bits are `Truncated` at the first bit of the field that is not whole.
-    pub fn skip_fixed(&mut self, count: u64, n: u32) -> Result<(), Fault>
-        requires some { 0 < n }
-        requires few { n ≤ 32 }
-        requires fits { count < 2 ^ 32 }
-        ensures takes { Takes (repeat count (fixed n)) self.old
-            (told_by (λ _. numbers n count self.old.left) result) self.new }
-        ensures memory { NeedsNoMemory result }
-        ensures stays { OnErr result (self.new.position ≡ self.old.position) }
-        ensures moves { OnOk result (self.new.position ≡ self.old.position + n * count) }
-    {
-        if !self.live {
-            return Err(Fault::Failed);
-        }
-        let first = self.position;
-        let bits = count * u64::from(n);
-        let mut left = bits;
-        while left > 0 {
-            let field = self.position - (bits - left) % u64::from(n);
-            let skipped = self.skip_some(first, field, left)?;
-            left -= skipped;
-        }
-        Ok(())
     }
 
     /// Ends the stream so many bytes behind the byte at which the reader stands.

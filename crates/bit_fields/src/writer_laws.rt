@@ -1,4 +1,4 @@
-ghost use Rattle.std.specs.Prelude.{◌≡◌, ℕ, Bool, true, List, [], ◌++◌, Result, Ok, Err};
+ghost use Rattle.std.specs.Prelude.{◌≡◌, ℕ, Bool, true, List, [], ◌++◌, Result, Err};
 ghost use Rattle.bit_grammar.specs.Bits.{bits_of_bytes};
 ghost use Rattle.bit_fields.specs.Writer.{Writer, TellsTaken, GainedBytes, Wrote, LostBits, Writes};
 ghost use Rattle.bit_fields.specs.declared.fault.Fault.{Fault};
