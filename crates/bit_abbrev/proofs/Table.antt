@@ -1,13 +1,34 @@
--- The table as the list of its entries.
-use Rattle.std.proofs.Common.{◌≡◌, ℕ, Bool, true, false, List, [], ◌∷◌, ◌++◌, Option, Some, None, refl, sym, ap, ◌∙◌, inl, inr, cond, nat_eq, unwrap_or, is_some, slice_get, IfSome, IfNone}
+-- The table as the list of its entries, which a map in the order of ids has.
+use Rattle.std.proofs.Common.{◌≡◌, ℕ, Bool, true, false, List, [], ◌∷◌, ◌++◌, Option, Some, None, refl, sym, ap, ◌∙◌, inl, inr, cond, nat_eq, unwrap_or, ◌<◌, arith}
+use Rattle.std.specs.BTreeMap.{is_at}
+use Rattle.std.specs.Cmp.{nat_cmp_is}
 use Rattle.std.specs.Global.{Vec}
-use Rattle.std.specs.Map.{lookup, set_value, values_of}
-use Rattle.std.specs.Option.{option_map, option_map_or}
-use Rattle.std.proofs.lemmas.Option.{slice_get-map}
-use Rattle.std.proofs.lemmas.Bool.{cases_eq, eq-eqb, ne_eqb}
+use Rattle.std.specs.Map.{lookup, set_value}
+use Rattle.std.specs.Option.{option_map}
+use Rattle.std.specs.Ordering.{nat_cmp, is_eq}
+use Rattle.std.specs.declared.cmp.Ordering.TheVariants.{Less, Equal, Greater}
+use Rattle.std.proofs.lemmas.Bool.{cases_eq, cases_lt, eq-eqb, ne_eqb}
 use Rattle.bit_grammar.specs.declared.op.Op.{Op}
 use Rattle.bit_grammar.specs.Terms.{defined_at}
-use Rattle.bit_abbrev.specs.Table.{definitions_at, list_at, table_shown}
+use Rattle.bit_abbrev.specs.Table.{definitions_at, table_shown}
+
+-- keys that compare as equal are equal
+at_key : (k q : ℕ) → is_at (nat_cmp k) q ≡ nat_eq k q
+at_key k q = elim (cases_eq k q) [
+  | inl same ↦ sym (ap is_eq (nat_cmp_is k q Equal same)) ∙ sym (eq-eqb k q same)
+  | inr differ ↦ apart differ ∙ sym (ne_eqb k q differ)
+]
+  where
+    apart : (k ≡ q → ⊥) → is_at (nat_cmp k) q ≡ false
+    apart differ = elim (cases_lt k q) [
+      | inl below ↦ sym (ap is_eq (nat_cmp_is k q Less below))
+      | inr not ↦ (let above : q < k = omega (arith, differ) in sym (ap is_eq (nat_cmp_is k q Greater above)))
+    ]
+
+-- so the map has at an id what the list of its entries has there
+at_id : {X : Type 0} → (es : List (ℕ × X)) (id : ℕ) → lookup (is_at (nat_cmp id)) es ≡ lookup (nat_eq id) es
+at_id [] id = refl
+at_id {X = X} (e ∷ es) id = rw (at_key id e.0) (ap (λ (found : Option X). cond (nat_eq id e.0) (Some e.1) found) (at_id es id))
 
 -- the definitions of a vector
 abbrev items_of : Vec (List Op) → List (List Op)
@@ -26,19 +47,19 @@ at_lookup : (es : List (ℕ × Vec (List Op))) (id : ℕ) (o : Option (Vec (List
 at_lookup es id o h = ap (λ (x : Option (List (List Op))). unwrap_or x []) (lookup-shown es id ∙ ap (option_map items_of) h)
 
 -- the definitions of a vector that is found
-pub found_at : (es : List (ℕ × Vec (List Op))) (id : ℕ) (list : Vec (List Op)) → Some list ≡ lookup (nat_eq id) es → definitions_at (table_shown es) id ≡ list.items
-found_at es id list h = at_lookup es id (Some list) (sym h)
+pub found_at : (es : List (ℕ × Vec (List Op))) (id : ℕ) (list : Vec (List Op)) → Some list ≡ lookup (is_at (nat_cmp id)) es → definitions_at (table_shown es) id ≡ list.items
+found_at es id list h = at_lookup es id (Some list) (sym (h ∙ at_id es id))
 
 -- and none where none is found
-pub none_at : (es : List (ℕ × Vec (List Op))) (id : ℕ) → None ≡ lookup (nat_eq id) es → definitions_at (table_shown es) id ≡ []
-none_at es id h = at_lookup es id None (sym h)
+pub none_at : (es : List (ℕ × Vec (List Op))) (id : ℕ) → None ≡ lookup (is_at (nat_cmp id)) es → definitions_at (table_shown es) id ≡ []
+none_at es id h = at_lookup es id None (sym (h ∙ at_id es id))
 
 -- a vector with the same definitions in the place of one that is found
-pub kept : (es : List (ℕ × Vec (List Op))) (id : ℕ) (old new : Vec (List Op)) → Some old ≡ lookup (nat_eq id) es → new.items ≡ old.items → table_shown (set_value (nat_eq id) es new) ≡ table_shown es
+pub kept : (es : List (ℕ × Vec (List Op))) (id : ℕ) (old new : Vec (List Op)) → Some old ≡ lookup (is_at (nat_cmp id)) es → new.items ≡ old.items → table_shown (set_value (is_at (nat_cmp id)) es new) ≡ table_shown es
 kept [] id old new h e = refl
-kept (x ∷ es) id old new h e = by (nat_eq id x.0) (λ k. kept es id old new k e) h
+kept (x ∷ es) id old new h e = by (is_at (nat_cmp id) x.0) (λ k. kept es id old new k e) h
   where
-    by : (b : Bool) → (Some old ≡ lookup (nat_eq id) es → table_shown (set_value (nat_eq id) es new) ≡ table_shown es) → Some old ≡ cond b (Some x.1) (lookup (nat_eq id) es) → table_shown (cond b ((x.0, new) ∷ es) (x ∷ set_value (nat_eq id) es new)) ≡ table_shown (x ∷ es)
+    by : (b : Bool) → (Some old ≡ lookup (is_at (nat_cmp id)) es → table_shown (set_value (is_at (nat_cmp id)) es new) ≡ table_shown es) → Some old ≡ cond b (Some x.1) (lookup (is_at (nat_cmp id)) es) → table_shown (cond b ((x.0, new) ∷ es) (x ∷ set_value (is_at (nat_cmp id)) es new)) ≡ table_shown (x ∷ es)
     by true rest h =
         let same : old ≡ x.1 = cc in
         ap (λ (items : List (List Op)). (x.0, items) ∷ table_shown es) (e ∙ ap items_of same)
@@ -46,9 +67,9 @@ kept (x ∷ es) id old new h e = by (nat_eq id x.0) (λ k. kept es id old new k 
 
 -- one more definition at the end of an id's vector
 pub defined : (es more : List (ℕ × Vec (List Op))) (id : ℕ) (ops : List Op) (before : List (List Op)) (list : Vec (List Op))
-    → ((q : ℕ) → lookup (nat_eq q) more ≡ cond (nat_eq id q) (Some list) (lookup (nat_eq q) es)) → definitions_at (table_shown es) id ≡ before → list.items ≡ before ++ ops ∷ []
+    → ((q : ℕ) → lookup (is_at (nat_cmp q)) more ≡ cond (is_at (nat_cmp id) q) (Some list) (lookup (is_at (nat_cmp q)) es)) → definitions_at (table_shown es) id ≡ before → list.items ≡ before ++ ops ∷ []
     → (other : ℕ) → definitions_at (table_shown more) other ≡ defined_at id ops (definitions_at (table_shown es)) other
-defined es more id ops before list puts had has other =
+defined es more id ops before list map_puts had has other =
     elim (cases_eq other id) [
       | inl same ↦
           let there : nat_eq id other ≡ true = eq-eqb id other (sym same) in
@@ -62,23 +83,6 @@ defined es more id ops before list puts had has other =
           let is : lookup (nat_eq other) more ≡ lookup (nat_eq other) es = puts other ∙ ap (λ (b : Bool). cond b (Some list) (lookup (nat_eq other) es)) there in
           rw back (at_lookup more other (lookup (nat_eq other) es) is ∙ sym (at_lookup es other (lookup (nat_eq other) es) refl))
     ]
-
--- the definitions at the place of an id
-pub placed : (es : List (ℕ × Vec (List Op))) (id : ℕ) (o : Option ℕ) → IfSome o (λ place. slice_get (values_of es) place ≡ lookup (nat_eq id) es) → IfSome o (λ place. list_at (table_shown es) place ≡ definitions_at (table_shown es) id)
-placed es id None h = tt
-placed es id (Some place) h =
-    ap (λ (e : Option (ℕ × List (List Op))). option_map_or (λ x. x.1) e []) (slice_get-map (λ (e : ℕ × Vec (List Op)). (e.0, e.1.items)) es place)
-    ∙ (by (slice_get es place) ∙ sym (at_lookup es id (option_map (λ (e : ℕ × Vec (List Op)). e.1) (slice_get es place)) (sym h ∙ slice_get-map (λ (e : ℕ × Vec (List Op)). e.1) es place)))
   where
-    by : (o : Option (ℕ × Vec (List Op))) → option_map_or (λ (x : ℕ × List (List Op)). x.1) (option_map (λ (e : ℕ × Vec (List Op)). (e.0, e.1.items)) o) [] ≡ unwrap_or (option_map items_of (option_map (λ (e : ℕ × Vec (List Op)). e.1) o)) []
-    by None = refl
-    by (Some e) = refl
-
--- an id without a place has no definitions
-pub unplaced : (es : List (ℕ × Vec (List Op))) (id : ℕ) (o : Option ℕ) → is_some o ≡ is_some (lookup (nat_eq id) es) → IfNone o (definitions_at (table_shown es) id ≡ [])
-unplaced es id None h = by (lookup (nat_eq id) es) refl h
-  where
-    by : (found : Option (Vec (List Op))) → lookup (nat_eq id) es ≡ found → false ≡ is_some found → definitions_at (table_shown es) id ≡ []
-    by None is h = none_at es id (sym is)
-    by (Some list) is h = absurd cc
-unplaced es id (Some place) h = tt
+    puts : (q : ℕ) → lookup (nat_eq q) more ≡ cond (nat_eq id q) (Some list) (lookup (nat_eq q) es)
+    puts q = rw (← at_id more q, ← at_id es q, ← at_key id q) (map_puts q)

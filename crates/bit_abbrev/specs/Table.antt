@@ -1,7 +1,6 @@
 -- The table of the definitions that BLOCKINFO blocks make, as the list of its entries.
-use Rattle.std.specs.Prelude.{ℕ, List, [], map, nat_eq, unwrap_or, slice_get}
+use Rattle.std.specs.Prelude.{ℕ, List, [], map, nat_eq, unwrap_or}
 use Rattle.std.specs.Map.{lookup}
-use Rattle.std.specs.Option.{option_map_or}
 use Rattle.std.specs.Global.{Vec}
 use Rattle.bit_grammar.specs.declared.op.Op.{Op}
 
@@ -12,7 +11,3 @@ definitions_at table id = unwrap_or (lookup (nat_eq id) table) []
 -- the entries, with each vector as the list of its definitions
 abbrev pub table_shown : List (ℕ × Vec (List Op)) → List (ℕ × List (List Op))
 table_shown entries = map (λ e. (e.0, e.1.items)) entries
-
--- the definitions of the entry at a place; none past the last
-abbrev pub list_at : List (ℕ × List (List Op)) → ℕ → List (List Op)
-list_at table place = option_map_or (λ e. e.1) (slice_get table place) []

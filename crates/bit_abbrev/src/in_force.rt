@@ -52,11 +52,11 @@ impl SharedInfo {
         let Some(table) = &self.table else {
             return Ok(InForce { shared: None, own });
         };
-        let Some(place) = table.place_of(id) else {
+        if table.for_block(id).is_empty() {
             return Ok(InForce { shared: None, own });
-        };
+        }
         Ok(InForce {
-            shared: Some((table.clone()?, place)),
+            shared: Some((table.clone()?, id)),
             own,
         })
     }
@@ -65,8 +65,8 @@ impl SharedInfo {
 /// The definitions in force in a block: first those that the table had for it, then the block's own.
 #[derive(Drop)]
 pub struct InForce {
-    /// The table, and the place in it of the block's definitions.
-    shared: Option<(Rc<InfoTable>, usize)>,
+    /// The table, and the id of the block.
+    shared: Option<(Rc<InfoTable>, u32)>,
     own: Vec<Abbrev>,
 }
 
@@ -74,11 +74,11 @@ impl Model for InForce {
     ghost use Rattle.std.specs.Prelude.{List, [], ◌++◌};
     ghost use Rattle.std.specs.Option.{option_map_or};
     ghost use Rattle.bit_grammar.specs.declared.op.Op.{Op};
-    ghost use Rattle.bit_abbrev.specs.Table.{list_at};
+    ghost use Rattle.bit_abbrev.specs.Table.{definitions_at};
 
     ghost Value = { List (List Op) };
 
-    ghost view = { λ inside. option_map_or (λ shared. list_at shared.0.value shared.1) inside.shared
+    ghost view = { λ inside. option_map_or (λ shared. definitions_at shared.0.value shared.1) inside.shared
         [] ++ inside.own.items };
 }
 
@@ -138,7 +138,7 @@ impl InForce {
         ensures { result ≡ self.now }
     {
         let shared = match &self.shared {
-            Some((table, place)) => table.list_at(*place),
+            Some((table, id)) => table.for_block(*id),
             None => &[],
         };
         Definitions {
@@ -162,7 +162,7 @@ impl InForce {
             return Some(own);
         }
         match &self.shared {
-            Some((table, place)) => table.list_at(*place).last(),
+            Some((table, id)) => table.for_block(*id).last(),
             None => None,
         }
     }

@@ -1,19 +1,20 @@
 //! The table of the abbreviations that BLOCKINFO blocks define, by block id.
 
-ghost use Rattle.std.specs.Prelude.{◌≡◌, ℕ, [], IfSome, IfNone, OnOk, OnErr};
+ghost use Rattle.std.specs.Prelude.{◌≡◌, ℕ, OnOk, OnErr};
 ghost use Rattle.bit_grammar.specs.Terms.{defined_at, no_definitions};
-ghost use Rattle.bit_abbrev.specs.Table.{definitions_at, list_at};
+ghost use Rattle.bit_abbrev.specs.Table.{definitions_at};
 
 use crate::Abbrev;
-use indexmap::IndexMap;
 use std::alloc::{AllocError, Global};
+use std::collections::BTreeMap;
 use std::marker::Model;
 
-/// The definitions that BLOCKINFO blocks make, for each block id in the order in which they are made.
+/// The definitions that BLOCKINFO blocks make, for each block id in the order in which they are made. The ids are kept in order,
+/// so that no choice of ids makes a look-up slow.
 #[derive(Drop)]
 pub struct InfoTable {
     alloc: Global,
-    lists: IndexMap<u32, Vec<Abbrev>>,
+    lists: BTreeMap<u32, Vec<Abbrev>>,
 }
 
 impl Model for InfoTable {
@@ -34,7 +35,7 @@ impl InfoTable {
     {
         InfoTable {
             alloc,
-            lists: IndexMap::new(alloc),
+            lists: BTreeMap::new(alloc),
         }
     }
 
@@ -44,24 +45,6 @@ impl InfoTable {
     {
         match self.lists.get(&id) {
             Some(list) => list.as_slice(),
-            None => &[],
-        }
-    }
-
-    /// The place of a block id's definitions, if it has some.
-    pub(crate) fn place_of(&self, id: u32) -> Option<usize>
-        ensures there { IfSome result (λ place. list_at self.now place ≡ definitions_at self.now id) }
-        ensures none { IfNone result (definitions_at self.now id ≡ []) }
-    {
-        self.lists.get_index_of(&id)
-    }
-
-    /// The definitions at a place; none past the last.
-    pub(crate) fn list_at(&self, place: usize) -> &[Abbrev]
-        ensures { result.now ≡ list_at self.now place }
-    {
-        match self.lists.get_index(place) {
-            Some((_, list)) => list.as_slice(),
             None => &[],
         }
     }
