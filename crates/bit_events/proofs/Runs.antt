@@ -1,6 +1,6 @@
 -- Records that are in sight, gathered one after the other.
-use Rattle.std.proofs.Common.{◌≡◌, ◌≢◌, ℕ, ◌+◌, ◌-◌, ◌<◌, ◌≤◌, Bool, List, [], ◌∷◌, ◌++◌, length, drop, None, Some, Option, Result, Ok, Err, refl, sym, ap, subst, ◌∙◌, arith, append_assoc, length-append, vec_len}
-use Rattle.std.specs.Prelude.{IfSome}
+use Rattle.std.proofs.Common.{◌≡◌, ◌≢◌, ℕ, ◌+◌, ◌-◌, ◌<◌, ◌≤◌, Bool, List, [], ◌∷◌, ◌++◌, length, drop, None, Some, Option, Result, Ok, Err, refl, sym, ap, subst, ◌∙◌, arith, append_assoc, length-append, vec_len, get_or, suc}
+use Rattle.std.specs.Prelude.{IfSome, IfOk}
 use Rattle.std.proofs.lemmas.List.{drop_at}
 use Rattle.bit_grammar.specs.Grammar as grammar
 use Rattle.bit_grammar.specs.Grammar.{Grammar, gives, ◌>>=◌, reading}
@@ -15,9 +15,9 @@ use Rattle.bit_grammar.specs.Machine as machine
 use Rattle.bit_grammar.specs.Machine.{Event, Told, scope_of, step, step_of}
 use Rattle.bit_fields.specs.Ahead.{InSight, Glimpsed, Sees, reader_further, reader_at}
 use Rattle.bit_fields.specs.declared.fault.Fault.{Fault}
-use Rattle.bit_fields.specs.Reader.{Reader, TellsBytes, Took, Takes}
+use Rattle.bit_fields.specs.Reader.{Reader, TellsBytes, Took, Takes, Why}
 use Rattle.bit_fields.specs.Short.{TookNothing}
-use Rattle.bit_fields.proofs.Composing.{same_reading, took_then}
+use Rattle.bit_fields.proofs.Composing.{same_reading, took_then, fault_then}
 use Rattle.bit_fields.proofs.Gap.{gap_whole}
 use Rattle.bit_fields.proofs.BitLaws.{drop_more}
 use Rattle.bit_fields.proofs.Glimpses.{glimpsed_forward, glimpsed_passed, took_glimpsed, seen_took, not_caught_up}
@@ -26,27 +26,24 @@ use Rattle.bit_abbrev.specs.Values.{AddsWithin}
 use Rattle.bit_abbrev.proofs.Glancing.{took_at}
 use Rattle.bit_events.specs.declared.frame.Frame.{Frame}
 use Rattle.bit_events.specs.declared.machine.Machine.{Machine}
-use Rattle.bit_events.specs.FrameView.{frame_shown, frames_shown}
+use Rattle.bit_events.specs.FrameView.{frame_shown, frames_shown, info_shown}
 use Rattle.bit_events.specs.Folding.{left_to_tell, GathersSome, TakesRun}
 use Rattle.bit_events.specs.Gathering.{Gathers}
-use Rattle.bit_events.specs.MachineView.{machine_shown, record_of, LeavesMachine}
-use Rattle.bit_events.specs.Runs.{HasOps, after_record, Passed, GathersTo, GathersRun}
+use Rattle.bit_events.specs.MachineView.{handed_shown, machine_shown, record_of, record_rule, LeavesMachine}
+use Rattle.bit_events.specs.Runs.{HasOps, ReadsTo, after_record, Passed, GathersTo, GathersRun}
 use Rattle.bit_events.proofs.Folds.{in_block, none_yet, one_event, some_then, step_missed}
 use Rattle.bit_events.proofs.Framing.{none_described, plain_entry, short_entry}
 use Rattle.bit_events.proofs.Framing as framing
-use Rattle.bit_events.proofs.Stepping.{in_then, after_record as record_follows, record_took, other_than, length-frames}
+use Rattle.bit_events.proofs.Stepping.{in_then, innermost, after_record as record_follows, record_took, other_than, length-frames}
 
 -- ---- one record
 
 -- a record of a block that is no BLOCKINFO block, after the id
-pub record_seen : (limits : Limits) (f : machine.Frame) (outer : List machine.Frame) (handed : Handed) (id code : ℕ) (list : List ℕ) (a b c : InSight) → f.info ≡ None → 3 ≤ id → Glimpsed (fixed f.head.width) a id b → Took (entry limits.values a.position id (scope_of f handed)) (reader_at b) (record { code = code; values = list }) (reader_at c)
-    → Glimpsed (step_of limits (f ∷ outer) handed) a (record_of id list a.position (code, c.position), after_record f outer handed list) c
-record_seen limits f outer handed id code list a b c none most seen t =
-    took_glimpsed (step_of limits (f ∷ outer) handed) a (event, new) c
-    (in_then limits f.head outer scope (reader_at a) id (reader_at b) a.position (Ok (event, new)) (reader_at c) refl (took_at (fixed f.head.width) a id b seen)
-    (record_follows limits f outer a.position id handed (reader_at b) (Ok (event, new)) (reader_at c) (other_than id 0 most (omega arith)) (other_than id 1 most (omega arith)) (other_than id 2 most (omega arith))
-    (record_took limits.values f outer a.position id handed (reader_at b) (record { abbreviation = id; code = code; values = list; first = a.position; after = c.position }) (record scope { info = None; handed = more }) (reader_at c) new
-    (framing.record_took limits.values a.position id scope (reader_at b) (record { code = code; values = list }) (reader_at c) c.position None (reader_at c) t refl described) made)))
+pub rule_seen : (limit : ℕ) (f : machine.Frame) (outer : List machine.Frame) (handed : Handed) (first id code : ℕ) (list : List ℕ) (b c : InSight) → f.info ≡ None → Took (entry limit first id (scope_of f handed)) (reader_at b) (record { code = code; values = list }) (reader_at c)
+    → Took (record_rule limit f outer first id handed) (reader_at b) (record_of id list first (code, c.position), after_record f outer handed list) (reader_at c)
+rule_seen limit f outer handed first id code list b c none t =
+    record_took limit f outer first id handed (reader_at b) (record { abbreviation = id; code = code; values = list; first = first; after = c.position }) (record scope { info = None; handed = more }) (reader_at c) new
+    (framing.record_took limit first id scope (reader_at b) (record { code = code; values = list }) (reader_at c) c.position None (reader_at c) t refl described) made
   where
     scope : Scope
     scope = scope_of f handed
@@ -54,17 +51,48 @@ record_seen limits f outer handed id code list a b c none most seen t =
     more : Handed
     more = record { table = handed.table; used = handed.used + length list }
 
+    new : machine.Machine
+    new = after_record f outer handed list
+
+    described : Took (blocks.describe scope.info first (record { code = code; values = list })) (reader_at c) None (reader_at c)
+    described = rw none (none_described first (record { code = code; values = list }) (reader_at c) refl)
+
+    made : new ≡ machine.inside f.head outer (record scope { info = None; handed = more })
+    made = ap (λ (info : Option terms.BlockInfo). record { frames = record { head = f.head; definitions = f.definitions; info = info } ∷ outer; handed = more }) none
+
+-- the same with its id
+pub record_seen : (limits : Limits) (f : machine.Frame) (outer : List machine.Frame) (handed : Handed) (id code : ℕ) (list : List ℕ) (a b c : InSight) → f.info ≡ None → 3 ≤ id → Glimpsed (fixed f.head.width) a id b → Took (entry limits.values a.position id (scope_of f handed)) (reader_at b) (record { code = code; values = list }) (reader_at c)
+    → Glimpsed (step_of limits (f ∷ outer) handed) a (record_of id list a.position (code, c.position), after_record f outer handed list) c
+record_seen limits f outer handed id code list a b c none most seen t =
+    took_glimpsed (step_of limits (f ∷ outer) handed) a (event, new) c
+    (in_then limits f.head outer (scope_of f handed) (reader_at a) id (reader_at b) a.position (Ok (event, new)) (reader_at c) refl (took_at (fixed f.head.width) a id b seen)
+    (record_follows limits f outer a.position id handed (reader_at b) (Ok (event, new)) (reader_at c) (other_than id 0 most (omega arith)) (other_than id 1 most (omega arith)) (other_than id 2 most (omega arith))
+    (rule_seen limits.values f outer handed a.position id code list b c none t)))
+  where
     event : Event
     event = record_of id list a.position (code, c.position)
 
     new : machine.Machine
     new = after_record f outer handed list
 
-    described : Took (blocks.describe scope.info a.position (record { code = code; values = list })) (reader_at c) None (reader_at c)
-    described = rw none (none_described a.position (record { code = code; values = list }) (reader_at c) refl)
+-- a record of the innermost block as it is held
+pub held_seen : (limit : ℕ) (m : Machine) (k : ℕ) (f : Frame) (shown : machine.Frame) (outer : List machine.Frame) (room first id code : ℕ) (list : List ℕ) (after used : ℕ) (a : InSight) → length m.frames.items ≡ suc k → f ≡ get_or m.frames.items k f → frames_shown m.frames.items ≡ shown ∷ outer → f.info ≡ None → limit - m.used ≡ room → used ≡ m.used + length list → (reads : ReadsTo f.definitions room id a code list after)
+    → Glimpsed (record_rule limit shown outer first id (handed_shown m)) a (record_of id list first (code, after), machine_shown (record m { used = used })) reads.0
+held_seen limit m k f shown outer room first id code list after used a n is split none same more reads =
+    let inner = innermost m.frames.items k f shown outer n is split in
+    let read : Took (entry limit first id (scope_of shown (handed_shown m))) (reader_at a) (record { code = code; values = list }) (reader_at reads.0) = subst (λ (x : machine.Frame). Took (entry limit first id (scope_of x (handed_shown m))) (reader_at a) (record { code = code; values = list }) (reader_at reads.0)) inner (reads.2.1 limit first (scope_of (frame_shown f) (handed_shown m)) refl same) in
+    let plain : shown.info ≡ None = subst (λ (x : machine.Frame). x.info ≡ None) inner (ap info_shown none) in
+    rw (more, split, ← reads.1) (took_glimpsed (record_rule limit shown outer first id (handed_shown m)) a (record_of id list first (code, reads.0.position), after_record shown outer (handed_shown m) list) reads.0
+    (rule_seen limit shown outer (handed_shown m) first id code list a reads.0 plain read))
 
-    made : new ≡ machine.inside f.head outer (record scope { info = None; handed = more })
-    made = ap (λ (info : Option terms.BlockInfo). record { frames = record { head = f.head; definitions = f.definitions; info = info } ∷ outer; handed = more }) none
+-- what a call leaves after one that took nothing
+pub leaves_after : (deepest : ℕ) (old : Machine) (a b : Reader) (event : (ℕ × ℕ) → Event) (new : Machine) (c : Reader) (result : Result (ℕ × ℕ) Fault) → TookNothing a b → IfOk result (λ read. LeavesMachine deepest old b (event read) new c) → IfOk result (λ read. LeavesMachine deepest old a (event read) new c)
+leaves_after deepest old a b event new c (Ok read) nothing left = record { stands = left.stands; opens = left.opens; forward = omega (arith, nothing.forward, left.forward); aligned = left.aligned; holds = left.holds }
+leaves_after deepest old a b event new c (Err fault) nothing left = tt
+
+-- what was not asked for a bit did not break a rule
+pub nothing_missed : {A : Type 0} (rule : Grammar A) (a : Reader) (fault : Fault) (b : Reader) → Why (gives (tt {0})) a fault b → Why rule a fault b
+nothing_missed rule a fault b w = same_reading (gives (tt {0}) >>= λ v. rule) rule a (Err fault) b (λ p r. refl) (fault_then (gives (tt {0})) (λ v. rule) a fault b w)
 
 -- the values of a record are those that were taken
 entry_read : (rule : Grammar CodeAndValues) (room : ℕ) (a : Reader) (code : ℕ) (b : Reader) (list : List ℕ) → AddsWithin rule room a (Ok code) b [] list → Took rule a (record { code = code; values = list }) b

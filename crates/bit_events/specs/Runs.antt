@@ -24,6 +24,12 @@ ReadsEntry definitions room id a code values b = (length values ≤ room)
     → limit - scope.handed.used ≡ room → Took (entry limit first id scope) (reader_at a)
     (record { code = code; values = values }) (reader_at b))
 
+-- the same, up to a bit
+abbrev pub ReadsTo : (definitions : List (List Op)) → (room id : ℕ) → InSight → (code : ℕ)
+    → List ℕ → (after : ℕ) → Type 0
+ReadsTo definitions room id a code values after = (b : InSight) × (b.position ≡ after)
+    × ReadsEntry definitions room id a code values b
+
 -- the machine after a record with these values, in the innermost block f, which is no BLOCKINFO block
 abbrev pub after_record : machine.Frame → List machine.Frame → Handed → List ℕ → machine.Machine
 after_record f outer handed values = record {
@@ -47,7 +53,7 @@ pub record GathersTo {G : Type 0} (gathered : G → List Event → G → Type 0)
       (reader_further r (b.position - a.position)) h
       × Sees (reader_further r (b.position - a.position)) b
 
--- the same, up to a bit
+-- this, up to a bit
 abbrev pub GathersRun : {G : Type 0} → (G → List Event → G → Type 0) → Limits → Frame → (used : ℕ)
     → InSight → G → (now_used after : ℕ) → G → Type 0
 GathersRun gathered limits f used a g now_used after h = (b : InSight) × (b.position ≡ after)

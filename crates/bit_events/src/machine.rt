@@ -1,4 +1,4 @@
-ghost use Rattle.std.specs.Prelude.{◌≡◌, ◌<◌, ◌≤◌, ◌+◌, true, [], ℕ, List, OnOk, IfOk, vec_len, is_none, IfSome, IfNone, IsTrue, ◌↔◌};
+ghost use Rattle.std.specs.Prelude.{◌≡◌, ◌<◌, ◌≤◌, ◌+◌, ◌-◌, true, [], ℕ, List, OnOk, IfOk, vec_len, is_none, IfSome, IfNone, IsTrue, ◌↔◌};
 ghost use Rattle.std.specs.Option.{option_copied, option_map};
 ghost use Rattle.bit_grammar.specs.Blocks.{enter, leave};
 ghost use Rattle.bit_grammar.specs.Terms.{info_for};
@@ -15,9 +15,10 @@ use crate::event::Event;
 use crate::frame::{Describing, Frame, define, record_after};
 use crate::head::BlockHead;
 use crate::heads::{block_head, end_of_block, granted};
+use crate::running::glance_one;
 use crate::with_first::WithFirst;
 use bit_abbrev::{Abbrev, InfoTable, SharedInfo};
-use bit_fields::{BitReader, Fault, Limits, Reason, Source, ValueKeeper, ValueTaker};
+use bit_fields::{Ahead, BitReader, Fault, Limits, Reason, Source, ValueKeeper, ValueTaker};
 use std::alloc::{AllocError, Global};
 
 /// An event that is no record. Of a definition, which is the newest one, the machine holds the operands.
@@ -225,6 +226,15 @@ impl Machine {
         Ok(Aside::Define { first, after })
     }
 
+    /// How many values there is still room for.
+    #[inline(always)]
+    fn room(&self, limits: &Limits) -> u64
+        ensures room { result ≡ limits.now.values - self.now.used }
+        ensures capped { limits.now.values ≤ 4294967295 }
+    {
+        limits.values().saturating_sub(self.used)
+    }
+
     /// Reads a record in the innermost block, after its id, which began at a bit; answers its code and the bit after it.
     pub(crate) fn note<S: Source, V: ValueTaker>(
         &mut self,
@@ -246,7 +256,7 @@ impl Machine {
         ensures head { OnOk result (innermost_head (frames_shown self.new.frames.items)
             ≡ innermost_head (frames_shown self.old.frames.items)) }
     {
-        let room = limits.values().saturating_sub(self.used);
+        let room = self.room(limits);
         values.clear();
         let Some(frame) = self.frames.last_mut() else {
             unreachable!();
@@ -254,6 +264,45 @@ impl Machine {
         let (code, after) = record_after(reader, frame, room, values, id, first)?;
         let count = values.taker.count();
         self.used += count;
+        Ok((code, after))
+    }
+
+    /// Does as `note`, but where the record lies in memory whole it is read from there, unless it stands in a BLOCKINFO block.
+    fn note_in_sight<S: Source, V: ValueTaker>(
+        &mut self,
+        reader: &mut BitReader<S>,
+        limits: &Limits,
+        id: u32,
+        first: u64,
+        values: &mut WithFirst<V>,
+    ) -> Result<(u64, u64), Fault>
+        requires live { reader.old.live ≡ true }
+        requires some { 0 < vec_len self.old.frames }
+        requires id { 3 ≤ id }
+        requires took { TookSome V.took values.old.taker }
+        ensures takes { Has V.took values.new.taker (λ list. InBlock self.old (λ f outer.
+            Takes (record_rule limits.now.values f outer first id (handed_shown self.old))
+            reader.old (told_by (λ read. (record_of id list first read, machine_shown self.new)) result) reader.new)) }
+        ensures leaves { (deepest : ℕ) (list : List ℕ)
+            → IfOk result (λ read. LeavesMachine deepest self.old reader.old (record_of id list first read) self.new reader.new) }
+    {
+        let Some(frame) = self.frames.last() else {
+            unreachable!();
+        };
+        if frame.info.is_some() {
+            return self.note(reader, limits, id, first, values);
+        }
+        let room = self.room(limits);
+        values.taker.truncate(0);
+        let ahead = Ahead::new(reader.sight()?);
+        let start = ahead.position();
+        let (code, after) = glance_one(ahead, &frame.definitions, room, id, &mut values.taker);
+        if after == 0 {
+            return self.note(reader, limits, id, first, values);
+        }
+        let count = values.taker.count();
+        self.used += count;
+        reader.catch_up(after - start)?;
         Ok((code, after))
     }
 
@@ -314,7 +363,7 @@ impl Machine {
             return Ok(Found::Aside(aside));
         }
         let abbrev = id as u32;
-        let (code, after) = self.note(reader, limits, abbrev, first, values)?;
+        let (code, after) = self.note_in_sight(reader, limits, abbrev, first, values)?;
         Ok(Found::Record {
             abbrev,
             code,

@@ -10,11 +10,11 @@ ghost use Rattle.bit_fields.specs.Ahead.{Glimpsed};
 ghost use Rattle.bit_abbrev.specs.Values.{Has};
 ghost use Rattle.bit_events.specs.FrameView.{frame_shown};
 ghost use Rattle.bit_events.specs.MachineView.{record_of, TookSome};
-ghost use Rattle.bit_events.specs.Runs.{GathersRun, HasOps, ReadsEntry, after_record};
+ghost use Rattle.bit_events.specs.Runs.{GathersRun, HasOps, ReadsEntry, ReadsTo, after_record};
 
 use crate::frame::Frame;
 use crate::gatherer::Gatherer;
-use bit_abbrev::{Definitions, Op, glance_record, glance_unabbreviated};
+use bit_abbrev::{Definitions, InForce, Op, glance_record, glance_unabbreviated};
 use bit_fields::{Ahead, Limits, ValueTaker};
 use std::alloc::AllocError;
 
@@ -32,26 +32,50 @@ fn ops_for<'a>(definitions: &Definitions<'a>, id: u32) -> Option<&'a [Op]>
     Some(abbrev.lawful_ops())
 }
 
-/// Reads a record after its id, and answers its code. The values are those of the record alone.
+/// Reads a record after its id, and answers its code. The values are those of the record alone. `U` is whom it is compiled for.
 #[inline(always)]
-fn glance_entry<G: Gatherer>(
+fn glance_entry<U, V: ValueTaker>(
     ahead: &mut Ahead<'_>,
     definitions: &Definitions<'_>,
     room: u64,
     id: u32,
-    values: &mut G::Values,
+    values: &mut V,
 ) -> Option<u64>
     requires id { 3 ≤ id }
-    requires none { G.Values.took values.old [] }
-    ensures glimpsed { IfSome result (λ code. Has G.Values.took values.new
+    requires none { V.took values.old [] }
+    ensures glimpsed { IfSome result (λ code. Has V.took values.new
         (λ list. ReadsEntry definitions.now room id ahead.old code list ahead.new)) }
-    ensures took { TookSome G.Values.took values.new }
+    ensures took { TookSome V.took values.new }
 {
     if id == 3 {
         return glance_unabbreviated(ahead, room, values);
     }
     let ops = ops_for(definitions, id)?;
-    glance_record::<G, G::Values>(ahead, ops, room, values)
+    glance_record::<U, V>(ahead, ops, room, values)
+}
+
+/// Reads one record after its id, and answers its code and the bit behind it, or 0 for that bit where it is not to be had. The
+/// values are those of the record alone. It has what is ahead for itself, and answers what fits two registers.
+#[inline(never)]
+pub(crate) fn glance_one<V: ValueTaker>(
+    ahead: Ahead<'_>,
+    definitions: &InForce,
+    room: u64,
+    id: u32,
+    values: &mut V,
+) -> (u64, u64)
+    requires id { 3 ≤ id }
+    requires none { V.took values.old [] }
+    ensures glimpsed { 0 < result.1 → Has V.took values.new (λ list.
+        ReadsTo definitions.now room id ahead.entry result.0 list result.1) }
+    ensures took { TookSome V.took values.new }
+{
+    let mut ahead = ahead;
+    let definitions = definitions.all();
+    match glance_entry::<V, V>(&mut ahead, &definitions, room, id, values) {
+        Some(code) => (code, ahead.position()),
+        None => (0, 0),
+    }
 }
 
 /// Reads a record and its id, where the block is no BLOCKINFO block: the id and the code. The values are those of the record
@@ -82,7 +106,7 @@ fn glance_item<G: Gatherer>(
         return None;
     }
     values.truncate(0);
-    let code = glance_entry::<G>(ahead, definitions, room, id as u32, values)?;
+    let code = glance_entry::<G, G::Values>(ahead, definitions, room, id as u32, values)?;
     Some((id as u32, code))
 }
 

@@ -8,7 +8,7 @@ use Rattle.bit_events.proofs.running.glance_entry.Goals as goal
 
 pub returns-then-id-eq3-clause-glimpsed : goal.returns-then-id-eq3-clause-glimpsed
 returns-then-id-eq3-clause-glimpsed g c =
-    let took = g.G.Values.ValueTaker.took in
+    let took = g.V.ValueTaker.took in
     let room = c.args.room in
     let a = c.args.ahead.now in
     let b = c.glance_unabbreviated.new.ahead in
@@ -19,7 +19,7 @@ returns-then-id-eq3-clause-glimpsed g c =
 
 pub returns-clause-glimpsed : goal.returns-clause-glimpsed
 returns-clause-glimpsed g c =
-    let took = g.G.Values.ValueTaker.took in
+    let took = g.V.ValueTaker.took in
     let room = c.args.room in
     let a = c.args.ahead.now in
     let b = c.glance_record.new.ahead in

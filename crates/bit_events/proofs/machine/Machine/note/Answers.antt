@@ -1,4 +1,4 @@
-use Rattle.std.proofs.Common.{◌≡◌, ◌-◌, ◌+◌, ◌^◌, ◌≤◌, ℕ, length, min, vec_len, arith, refl}
+use Rattle.std.proofs.Common.{◌≡◌, ◌-◌, ◌+◌, ◌^◌, ◌≤◌, ℕ, length, min, vec_len, arith, refl, sym}
 use Rattle.std.proofs.lemmas.Result.{err_from_is_err_and}
 use Rattle.bit_abbrev.specs.Table.{definitions_at}
 use Rattle.bit_events.specs.MachineView.{handed_shown}
@@ -12,13 +12,13 @@ counted count few many is fits same = omega arith
 pub overflow_add-self : goal.overflow_add-self
 overflow_add-self g c =
     let few = c.in_ok-code.ensures.few in
-    omega (arith, c.count-count.ensures few.0 few.1, few.2, c.saturating_sub-room.ensures, c.values.ensures.values, c.values.ensures.capped.values)
+    omega (arith, c.count-count.ensures few.0 few.1, few.2, c.room-room.ensures.capped, c.room-room.ensures.room)
 
 pub returns-in_err-code-clause-takes : goal.returns-in_err-code-clause-takes
 returns-in_err-code-clause-takes g c =
     let read = c.in_err-code.ensures.takes in
     let p = err_from_is_err_and c.from_residual.result c.from_residual.ensures.1 in
-    let room : c.args.limits.now.values - c.args.self.now.used ≡ c.saturating_sub-room.result = omega (arith, c.saturating_sub-room.ensures, c.values.ensures.values) in (
+    let room = sym c.room-room.ensures.room in (
       read.0,
       read.1,
       λ f outer split.
@@ -29,8 +29,8 @@ pub returns-clause-takes : goal.returns-clause-takes
 returns-clause-takes g c =
     let read = c.in_ok-code.ensures.takes in
     let few = c.in_ok-code.ensures.few in
-    let room : c.args.limits.now.values - c.args.self.now.used ≡ c.saturating_sub-room.result = omega (arith, c.saturating_sub-room.ensures, c.values.ensures.values) in
-    let many : c.count-count.result ≡ length read.0 = counted c.count-count.result (length few.0) (length read.0) (c.count-count.ensures few.0 few.1) (omega (arith, few.2, c.saturating_sub-room.ensures, c.values.ensures.values, c.values.ensures.capped.values)) (c.count-count.ensures read.0 read.1) in (
+    let room = sym c.room-room.ensures.room in
+    let many : c.count-count.result ≡ length read.0 = counted c.count-count.result (length few.0) (length read.0) (c.count-count.ensures few.0 few.1) (omega (arith, few.2, c.room-room.ensures.capped, c.room-room.ensures.room)) (c.count-count.ensures read.0 read.1) in (
       read.0,
       read.1,
       λ f outer split.
@@ -39,7 +39,7 @@ returns-clause-takes g c =
 
 pub returns-clause-leaves : goal.returns-clause-leaves
 returns-clause-leaves g c = λ deepest list.
-    let room : c.args.limits.now.values - c.args.self.now.used ≡ c.saturating_sub-room.result = omega (arith, c.saturating_sub-room.ensures, c.values.ensures.values) in
+    let room = sym c.room-room.ensures.room in
     record {
       stands = c.requires.some;
       opens = refl;
