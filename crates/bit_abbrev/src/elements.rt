@@ -30,7 +30,7 @@ pub(crate) fn read_count<S: Source>(reader: &mut BitReader<S>, room: u64) -> Res
 }
 
 /// Hands a value on; where memory is refused the reader fails.
-#[inline]
+#[inline(always)]
 pub(crate) fn take<S: Source, V: ValueTaker>(
     reader: &mut BitReader<S>,
     values: &mut V,

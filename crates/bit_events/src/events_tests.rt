@@ -1,11 +1,11 @@
 //! The events of inputs, with the bits at which they stand.
 
-use crate::{Event, Events};
-use bit_fields::{Fault, Limits, ReadSource, Source};
+use crate::{Event, Events, PackedEvents};
+use bit_fields::{BufSource, Fault, Limits, ReadSource, SliceSource, Source};
 use std::alloc::{AllocError, Global};
 use std::fmt::Write;
 use std::io;
-use std::io::{Error, ErrorKind, Read};
+use std::io::{BufReader, Error, ErrorKind, Read};
 use std::process::Abort;
 
 /// A reader that gives at most so many bytes at a time, counts its reads and fails at one of them.
@@ -250,6 +250,8 @@ fn are_told(rt: &impl Abort, alloc: Global, limits: Limits, text: &str, wanted: 
         let source = in_pieces(&bytes, most, 0);
         agrees(rt, told(rt, alloc, source, limits), wanted, text);
     }
+    let source = SliceSource::new(&bytes);
+    agrees(rt, told(rt, alloc, source, limits), wanted, text);
 }
 
 #[test]
@@ -266,6 +268,89 @@ fn events_with_shapes_at_use(rt: HostRuntime) {
         let limits = Limits::usual().shapes_at_use();
         are_told(&rt, rt.alloc(), limits, text, wanted);
     }
+}
+
+/// A block with a blob, a field without a width and a record that is not abbreviated.
+const MIXED: &str =
+    "M 21 0C 00 00 05 00 00 00 12 03 54 A2 80 00 0E 00 61 62 63 00 DD 21 14 61 00 00 00 00";
+
+/// Its events before the last record.
+const MIXED_FRONT: &str = "32 Enter { id: 8, width: 3, first: 32, body: 96 } \
+    Define { abbrev: Abbrev { ops: [Literal(1), Blob], usable: true }, first: 96, after: 117 } \
+    Define { abbrev: Abbrev { ops: [Literal(2), Fixed(0)], usable: true }, first: 117, after: 143 } \
+    Record { abbrev: 4, code: 1, values: [97, 98, 99], first: 143, after: 192 } \
+    Record { abbrev: 5, code: 2, values: [0], first: 192, after: 195 } ";
+
+/// The most values, and the events behind that front.
+static MIXED_ENDS: [(u64, &str); 2] = [
+    (
+        6,
+        "Record { abbrev: 3, code: 7, values: [5, 33], first: 195, after: 228 } Leave { after: 256 } None None ",
+    ),
+    (5, "refused: TooManyValues at bit 204 used after a fault "),
+];
+
+/// The events of an input, from a reader with a buffer of so many bytes.
+fn told_from_buffer(
+    rt: &impl Abort,
+    alloc: Global,
+    bytes: &[u8],
+    room: usize,
+    limits: Limits,
+) -> Result<String, AllocError> {
+    let pieces = Pieces {
+        rest: bytes,
+        most: room,
+        reads: 0,
+        fails_at: 0,
+    };
+    match BufReader::with_capacity(alloc, room, pieces) {
+        Ok(reader) => told(rt, alloc, BufSource::new(reader), limits),
+        Err(_) => Err(AllocError),
+    }
+}
+
+/// The events of that block are these, wherever a buffer ends.
+fn are_mixed(rt: &impl Abort, alloc: Global, most: u64, end: &str) {
+    let bytes = bytes_of(alloc, MIXED).expect(rt, "memory");
+    let limits = Limits::new(1000, 64, most).expect(rt, "limits within their caps");
+    for room in 1..33 {
+        let text = told_from_buffer(rt, alloc, &bytes, room, limits).expect(rt, "memory");
+        assert!(rt;
+            text.starts_with(MIXED_FRONT) && text.ends_with(end),
+            "{room}: {text}"
+        );
+    }
+}
+
+#[test]
+fn events_that_lie_in_a_buffer(rt: HostRuntime) {
+    for (most, end) in &MIXED_ENDS {
+        are_mixed(&rt, rt.alloc(), *most, end);
+    }
+}
+
+/// The codes and values of the records of an input in memory, as they are packed.
+fn packed(alloc: Global, bytes: &[u8]) -> Result<String, AllocError> {
+    let mut text = String::new(alloc);
+    let Ok(mut events) = PackedEvents::start(alloc, SliceSource::new(bytes), Limits::usual()) else {
+        return Ok(text);
+    };
+    for _ in 0..10 {
+        if let Ok(Some(Event::Record { code, values, .. })) = events.next() {
+            write!(text, "{code} {:?} ", values.parts()).map_err(|_| AllocError)?;
+        }
+    }
+    Ok(text)
+}
+
+#[test]
+fn packed_events(rt: HostRuntime) {
+    let bytes = bytes_of(rt.alloc(), MIXED).expect(&rt, "memory");
+    let wanted = "1 ValueParts { numbers: [], bytes: [97, 98, 99], zeros: 0 } \
+        2 ValueParts { numbers: [], bytes: [0], zeros: 0 } \
+        7 ValueParts { numbers: [], bytes: [5, 33], zeros: 0 } ";
+    agrees(&rt, packed(rt.alloc(), &bytes), wanted, MIXED);
 }
 
 /// The numbers of the pulls of a byte each, up to which these events come.

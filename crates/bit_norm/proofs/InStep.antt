@@ -19,6 +19,7 @@ use Rattle.bit_events.proofs.Standings.{left_as_many, left_push}
 use Rattle.bit_norm.specs.Entries.{Sign, begins, has_record, ends, over, Entry, signs_in, open_block_with, Seen, Standing, at_item, standing, standing_shown, apart_at, first_unlike, what_of}
 use Rattle.bit_norm.specs.declared.differences.OpenBlock.{OpenBlock}
 use Rattle.bit_norm.specs.declared.differences.ValueDifference.{ValueDifference}
+use Rattle.bit_norm.specs.declared.in_step.Apart.{Apart}
 use Rattle.bit_norm.specs.declared.in_step.Beside.{Beside}
 use Rattle.bit_norm.specs.declared.in_step.Beside.TheVariants.{Other}
 use Rattle.bit_norm.specs.declared.in_step.Found.{Found}
@@ -26,14 +27,14 @@ use Rattle.bit_norm.specs.InStep.{Stand, Said, said_of, said_left, stand_behind_
 
 -- ---- one event
 
-pub begin_says : (o : Opened) (ended : ℕ) (sign : Sign) (b : Beside) → StandsBeside (record { sign = begins o.id; bit = o.first; ended = o.body }) sign b → SaysBeside (said_of ended (enters o)) sign b
-begin_says o ended sign b is = record { found = record { sign = begins o.id; bit = o.first; ended = o.body }; is = refl; beside = is }
+pub begin_says : (o : Opened) (ended : ℕ) (sign : Sign) (b : Beside) (p : Apart) → StandsBeside (record { sign = begins o.id; bit = o.first; ended = o.body }) sign b p → SaysBeside (said_of ended (enters o)) sign b p
+begin_says o ended sign b p is = record { found = record { sign = begins o.id; bit = o.first; ended = o.body }; is = refl; beside = is }
 
-pub record_says : (mark : RecordMark) (ended : ℕ) (sign : Sign) (b : Beside) → StandsBeside (record { sign = has_record mark.code mark.values; bit = mark.first; ended = mark.after }) sign b → SaysBeside (said_of ended (notes mark)) sign b
-record_says mark ended sign b is = record { found = record { sign = has_record mark.code mark.values; bit = mark.first; ended = mark.after }; is = refl; beside = is }
+pub record_says : (mark : RecordMark) (ended : ℕ) (sign : Sign) (b : Beside) (p : Apart) → StandsBeside (record { sign = has_record mark.code mark.values; bit = mark.first; ended = mark.after }) sign b p → SaysBeside (said_of ended (notes mark)) sign b p
+record_says mark ended sign b p is = record { found = record { sign = has_record mark.code mark.values; bit = mark.first; ended = mark.after }; is = refl; beside = is }
 
-pub end_says : (after ended : ℕ) (sign : Sign) (b : Beside) → StandsBeside (record { sign = ends; bit = ended; ended = after }) sign b → SaysBeside (said_of ended (leaves after)) sign b
-end_says after ended sign b is = record { found = record { sign = ends; bit = ended; ended = after }; is = refl; beside = is }
+pub end_says : (after ended : ℕ) (sign : Sign) (b : Beside) (p : Apart) → StandsBeside (record { sign = ends; bit = ended; ended = after }) sign b p → SaysBeside (said_of ended (leaves after)) sign b p
+end_says after ended sign b p is = record { found = record { sign = ends; bit = ended; ended = after }; is = refl; beside = is }
 
 -- an event that is not left says nothing, and one that is left what it says
 pub left_out_says : (stands : blocks.OpenUnder) (ended : ℕ) (event : Event) → is_left stands.setting stands.ids event ≡ false → said_left stands ended event ≡ None
@@ -363,9 +364,9 @@ tally_begun c top outside found = record {
 -- ---- one sign is taken
 
 -- no event was left
-pub took_end : (stands now : blocks.OpenUnder) (s : Stand) (old mid new : Coming) (sign : Sign) (b : Beside) → (TellsComing old → TellsComing mid × (told_entries s (blocks.left_of stands old.told.0) ≡ told_entries s (blocks.left_of now mid.told.0))) → EndsEvents mid new
-    → StandsBeside (record { sign = over; bit = s.ended; ended = s.ended }) sign b → TellsComing old → Took stands s old sign b now new
-took_end stands now s old mid new sign b so_far stop beside tells =
+pub took_end : (stands now : blocks.OpenUnder) (s : Stand) (old mid new : Coming) (sign : Sign) (b : Beside) (p : Apart) → (TellsComing old → TellsComing mid × (told_entries s (blocks.left_of stands old.told.0) ≡ told_entries s (blocks.left_of now mid.told.0))) → EndsEvents mid new
+    → StandsBeside (record { sign = over; bit = s.ended; ended = s.ended }) sign b p → TellsComing old → Took stands s old sign b p now new
+took_end stands now s old mid new sign b p so_far stop beside tells =
     let at = so_far tells in
     let none : mid.told.0 ≡ [] = ap (λ (t : Told). t.0) (stop.told at.0).0 in
     record {
@@ -375,10 +376,10 @@ took_end stands now s old mid new sign b so_far stop beside tells =
       beside = beside;
     }
 
-pub departed : (old : Compared) (coming : Coming) (now : blocks.OpenUnder) (sign : Sign) (bit ended : ℕ) (f : Found) → old.found ≡ None → (TellsComing old.first → Took old.first_blocks (here old old.first_ended) old.first sign (Other f.first f.value) now coming)
+pub departed : (old : Compared) (coming : Coming) (now : blocks.OpenUnder) (sign : Sign) (bit ended : ℕ) (f : Found) (p : Apart) → f.first ≡ p.first → f.value ≡ p.value → old.found ≡ None → (TellsComing old.first → Took old.first_blocks (here old old.first_ended) old.first sign Other p now coming)
     → (let s : Standing = record { bit = bit; what = what_of sign } in (standing_shown f.second ≡ s))
     → TakesSign old sign bit ended (record { first = coming; first_blocks = now; second_blocks = old.second_blocks; within = old.within; items = old.items; first_ended = old.first_ended; second_ended = old.second_ended; found = Some f })
-departed old coming now sign bit ended f none took second = record {
+departed old coming now sign bit ended f p first value none took second = record {
   second_blocks = refl;
   tells = λ tells. (took tells).tells;
   stays = λ g some. absurd cc;
@@ -389,7 +390,7 @@ departed old coming now sign bit ended f none took second = record {
         within = refl;
         items = refl;
         second = ap (λ (h : Found). standing_shown h.second) (sym is) ∙ second;
-        takes = λ tells. let one = took tells in (one.found, behind_sign one.found.sign (told_entries (stand_behind (here old old.first_ended) one.found.sign one.found.ended) (blocks.left_of now coming.told.0)), one.is, subst (λ (h : Found). IsOther one.found sign h.first h.value) is one.beside);
+        takes = λ tells. let one = took tells in (one.found, behind_sign one.found.sign (told_entries (stand_behind (here old old.first_ended) one.found.sign one.found.ended) (blocks.left_of now coming.told.0)), one.is, subst (λ (h : Found). IsOther one.found sign h.first h.value) is (rw (first, value) one.beside));
       };
 }
 

@@ -23,6 +23,7 @@ use Rattle.bit_norm.specs.declared.differences.Difference.{Difference}
 use Rattle.bit_norm.specs.declared.sign.Sign.{Sign}
 use Rattle.bit_norm.specs.declared.sign.Sign.TheVariants.{Begins, Record, Ends, Over}
 use Rattle.bit_norm.specs.declared.walk.Walk.{Walk}
+use Rattle.bit_norm.specs.declared.in_step.Apart.{Apart}
 use Rattle.bit_norm.specs.declared.in_step.Beside.{Beside}
 use Rattle.bit_norm.specs.declared.in_step.Beside.TheVariants.{Same, Other}
 use Rattle.bit_norm.specs.declared.in_step.Weighed.{Weighed}
@@ -131,40 +132,47 @@ pub record IsOther (x : Said) (sign : tree.Sign) (s : Standing)
   pub value : v ≡ value_apart x.sign sign
 
 -- what is said is this sign, and ends at this bit; or it is another one
-abbrev pub StandsBeside : Said → tree.Sign → Beside → Type 0
-StandsBeside x sign (Same ended) = (x.sign ≡ sign) × (x.ended ≡ ended)
-StandsBeside x sign (Other first value) = IsOther x sign first value
+abbrev pub StandsBeside : Said → tree.Sign → Beside → Apart → Type 0
+StandsBeside x sign (Same ended) apart = (x.sign ≡ sign) × (x.ended ≡ ended)
+StandsBeside x sign Other apart = IsOther x sign apart.first apart.value
+
+-- this was put down: what stands in the first input, and in the second a sign that begins at a bit
+abbrev pub PutsDown : Apart → tree.Sign → (bit : ℕ) → Option Found → Type 0
+PutsDown apart sign bit found = (f : Found) × (found ≡ Some f) × (f.first ≡ apart.first)
+    × (f.value ≡ apart.value) × (standing_shown f.second ≡ record { bit = bit; what = what_of sign })
 
 -- something is said, and this is how it is beside a sign
-pub record SaysBeside (o : Option Said) (sign : tree.Sign) (b : Beside) : Type 0 where
+pub record SaysBeside (o : Option Said) (sign : tree.Sign) (b : Beside) (apart : Apart)
+    : Type 0 where
   pub found : Said
   pub is : o ≡ Some found
-  pub beside : StandsBeside found sign b
+  pub beside : StandsBeside found sign b apart
 
 -- nothing is said, or this is how it is beside a sign
-abbrev pub IsBeside : Option Said → tree.Sign → Weighed → Type 0
-IsBeside o sign weighed.Passed = o ≡ None
-IsBeside o sign (weighed.Stands beside) = SaysBeside o sign beside
+abbrev pub IsBeside : Option Said → tree.Sign → Weighed → Apart → Type 0
+IsBeside o sign weighed.Passed apart = o ≡ None
+IsBeside o sign (weighed.Stands beside) apart = SaysBeside o sign beside apart
 
 -- what an event says that is left
-abbrev pub Weighs : blocks.OpenUnder → (ended : ℕ) → Event → tree.Sign → Weighed → Type 0
-Weighs stands ended event sign answer = IsBeside (said_left stands ended event) sign answer
+abbrev pub Weighs : blocks.OpenUnder → (ended : ℕ) → Event → tree.Sign → Weighed → Apart → Type 0
+Weighs stands ended event sign answer apart = IsBeside (said_left stands ended event) sign answer
+    apart
 
 -- The next entry of what is left of the events to come, or the end of the stream, was taken, and this is how it is beside a sign.
 pub record Took (stands : blocks.OpenUnder) (s : Stand) (old : Coming) (sign : tree.Sign)
-    (b : Beside) (now : blocks.OpenUnder) (new : Coming) : Type 0 where
+    (b : Beside) (apart : Apart) (now : blocks.OpenUnder) (new : Coming) : Type 0 where
   pub tells : TellsComing new
   pub found : Said
   pub is : told_entries s (blocks.left_of stands old.told.0)
       ≡ entry_at s found ∷ behind_sign found.sign
       (told_entries (stand_behind s found.sign found.ended) (blocks.left_of now new.told.0))
-  pub beside : StandsBeside found sign b
+  pub beside : StandsBeside found sign b apart
 
-abbrev pub Meets : blocks.OpenUnder → Stand → Coming → tree.Sign → Result Beside Fault
+abbrev pub Meets : blocks.OpenUnder → Stand → Coming → tree.Sign → Result Beside Fault → Apart
     → blocks.OpenUnder → Coming → Type 0
-Meets stands s old sign (Ok beside) now new = TellsComing old
-    → Took stands s old sign beside now new
-Meets stands s old sign (Err fault) now new = ⊤
+Meets stands s old sign (Ok beside) apart now new = TellsComing old
+    → Took stands s old sign beside apart now new
+Meets stands s old sign (Err fault) apart now new = ⊤
 
 -- ---- the comparison
 

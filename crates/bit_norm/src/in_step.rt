@@ -3,10 +3,11 @@
 ghost use Rattle.std.specs.Prelude.{◌≡◌, ◌*◌, ◌<◌, ◌^◌, IfOk, OnOk};
 ghost use Rattle.bit_grammar.specs.Setting.{setting_of};
 ghost use Rattle.bit_norm.specs.Entries as tree;
+ghost use Rattle.bit_norm.specs.Entries.{standing_shown, value_apart, what_of};
 ghost use Rattle.bit_events.specs.EventView.{event_shown};
 ghost use Rattle.bit_events.specs.Standing.{stands_after};
 ghost use Rattle.bit_fields.specs.Opening.{head_told};
-ghost use Rattle.bit_norm.specs.InStep.{said_of, sign_shown, stand_of, IsBeside, Weighs, StandsBeside, Meets, Concludes, ComparesWith};
+ghost use Rattle.bit_norm.specs.InStep.{said_of, sign_shown, stand_of, IsBeside, Weighs, PutsDown, StandsBeside, Meets, Concludes, ComparesWith};
 
 use crate::comparing::{SameFault, Which, faulty};
 use crate::differences::{Difference, Place, Standing, ValueDifference, What};
@@ -20,12 +21,21 @@ use bit_tree::Info;
 use std::alloc::{AllocError, Global};
 use std::marker::Model;
 
-/// What stands in the first input beside a sign of the second.
+/// What stands in the first input where another sign stands in the second, and the first value that differs, if both are records
+/// with the same code.
+#[derive(Clone, Copy)]
+pub(crate) struct Apart {
+    first: Standing,
+    value: Option<ValueDifference>,
+}
+
+/// What stands in the first input beside a sign of the second. Since nearly all signs are the same, what is told of another one
+/// stands in a place of its own.
 pub(crate) enum Beside {
     /// The same sign, which ends at this bit; of a block, where its items begin.
     Same(u64),
-    /// Another one, and the first value that differs, if both are records with the same code.
-    Other(Standing, Option<ValueDifference>),
+    /// Another one.
+    Other,
 }
 
 /// What an event of the first input is beside a sign of the second.
@@ -35,25 +45,42 @@ pub(crate) enum Weighed {
     Stands(Beside),
 }
 
+/// Tells a sign of the first input, which begins at this bit, apart from another one of the second.
+#[cold]
+#[inline(never)]
+fn tell_apart(own: Sign<'_>, bit: u64, sign: Sign<'_>, apart: &mut Apart)
+    ensures first { standing_shown apart.new.first ≡ record {
+      bit = bit;
+      what = what_of (sign_shown own.entry);
+    } }
+    ensures value { apart.new.value ≡ value_apart (sign_shown own.entry) (sign_shown sign.entry) }
+{
+    *apart = Apart {
+        first: Standing {
+            bit,
+            what: own.what(),
+        },
+        value: own.value_apart(sign),
+    };
+}
+
 /// How a sign of the first input, which begins and ends at these bits, is beside one of the second.
-#[inline]
-fn held_beside(own: Sign<'_>, bit: u64, ended: u64, sign: Sign<'_>) -> Beside
+#[inline(always)]
+fn held_beside(own: Sign<'_>, bit: u64, ended: u64, sign: Sign<'_>, apart: &mut Apart) -> Beside
     ensures { StandsBeside (record { sign = sign_shown own.entry; bit = bit; ended = ended })
-        (sign_shown sign.entry) result }
+        (sign_shown sign.entry) result apart.new }
 {
     if own.is(sign) {
         return Beside::Same(ended);
     }
-    let first = Standing {
-        bit,
-        what: own.what(),
-    };
-    Beside::Other(first, own.value_apart(sign))
+    tell_apart(own, bit, sign, apart);
+    Beside::Other
 }
 
 /// How an event that is left is beside a sign, where what stands before it ended at this bit.
-fn weigh_left(event: PackedEvent<'_>, sign: Sign<'_>, ended: u64) -> Weighed
-    ensures { IsBeside (said_of ended (event_shown event.entry)) (sign_shown sign.entry) result }
+fn weigh_left(event: PackedEvent<'_>, sign: Sign<'_>, ended: u64, apart: &mut Apart) -> Weighed
+    ensures { IsBeside (said_of ended (event_shown event.entry)) (sign_shown sign.entry) result
+        apart.new }
 {
     match event {
         Event::Enter {
@@ -61,7 +88,7 @@ fn weigh_left(event: PackedEvent<'_>, sign: Sign<'_>, ended: u64) -> Weighed
             first,
             body,
             ..
-        } => Weighed::Stands(held_beside(Sign::Begins(id), first, body, sign)),
+        } => Weighed::Stands(held_beside(Sign::Begins(id), first, body, sign, apart)),
         Event::Define { .. } => Weighed::Passed,
         Event::Record {
             code,
@@ -69,8 +96,14 @@ fn weigh_left(event: PackedEvent<'_>, sign: Sign<'_>, ended: u64) -> Weighed
             first,
             after,
             ..
-        } => Weighed::Stands(held_beside(Sign::Record(code, values), first, after, sign)),
-        Event::Leave { after } => Weighed::Stands(held_beside(Sign::Ends, ended, after, sign)),
+        } => Weighed::Stands(held_beside(Sign::Record(code, values), first, after, sign, apart)),
+        Event::Leave { after } => Weighed::Stands(held_beside(
+            Sign::Ends,
+            ended,
+            after,
+            sign,
+            apart,
+        )),
     }
 }
 
@@ -80,15 +113,16 @@ fn weigh(
     sign: Sign<'_>,
     blocks: &mut OpenBlocks<'_>,
     ended: u64,
+    apart: &mut Apart,
 ) -> Result<Weighed, AllocError>
     ensures weighs { IfOk result (λ weighed. Weighs blocks.old ended (event_shown event.entry)
-        (sign_shown sign.entry) weighed) }
+        (sign_shown sign.entry) weighed apart.new) }
     ensures stands { OnOk result (blocks.new ≡ stands_after (event_shown event.entry) blocks.old) }
 {
     if !blocks.take(event)? {
         return Ok(Weighed::Passed);
     }
-    Ok(weigh_left(event, sign, ended))
+    Ok(weigh_left(event, sign, ended, apart))
 }
 
 /// Takes the next sign of what is left of the events to come, or the end of the stream, and answers how it is beside this one. What
@@ -99,14 +133,15 @@ fn next_beside<S: Source>(
     walk: &Walk,
     ended: u64,
     sign: Sign<'_>,
+    apart: &mut Apart,
 ) -> Result<Beside, Fault>
     ensures { Meets blocks.old (stand_of walk.now ended) events.old (sign_shown sign.entry) result
-        blocks.new events.new }
+        apart.new blocks.new events.new }
 {
     'events: loop {
         match events.next()? {
-            None => return Ok(held_beside(Sign::Over, ended, ended, sign)),
-            Some(event) => match weigh(event, sign, blocks, ended) {
+            None => return Ok(held_beside(Sign::Over, ended, ended, sign, apart)),
+            Some(event) => match weigh(event, sign, blocks, ended, apart) {
                 Ok(Weighed::Passed) => {}
                 Ok(Weighed::Stands(beside)) => return Ok(beside),
                 Err(AllocError) => return Err(Fault::Memory),
@@ -123,6 +158,22 @@ pub(crate) struct Found {
     value: Option<ValueDifference>,
 }
 
+/// Puts down what stands in both inputs where they differ: in the second this sign, which begins at this bit.
+#[cold]
+#[inline(never)]
+fn put_down(apart: &Apart, sign: Sign<'_>, bit: u64, found: &mut Option<Found>)
+    ensures { PutsDown apart.now (sign_shown sign.entry) bit found.new }
+{
+    *found = Some(Found {
+        first: apart.first,
+        second: Standing {
+            bit,
+            what: sign.what(),
+        },
+        value: apart.value,
+    });
+}
+
 /// What compares an input with the first one, entry by entry, up to their first difference.
 #[derive(Drop)]
 pub(crate) struct Comparer<'a> {
@@ -137,6 +188,8 @@ pub(crate) struct Comparer<'a> {
     first_ended: u64,
     /// The same in the second, unless nothing stands before it.
     second_ended: u64,
+    /// What stands in the first where it differs.
+    apart: Apart,
     found: Option<Found>,
 }
 
@@ -176,6 +229,7 @@ impl<'a> Comparer<'a> {
             &self.walk,
             self.first_ended,
             sign,
+            &mut self.apart,
         ) {
             Ok(Beside::Same(first_ended)) => {
                 self.walk.pass(sign)?;
@@ -183,16 +237,8 @@ impl<'a> Comparer<'a> {
                 self.second_ended = ended;
                 Ok(())
             }
-            Ok(Beside::Other(first, value)) => {
-                let second = Standing {
-                    bit,
-                    what: sign.what(),
-                };
-                self.found = Some(Found {
-                    first,
-                    second,
-                    value,
-                });
+            Ok(Beside::Other) => {
+                put_down(&self.apart, sign, bit, &mut self.found);
                 Ok(())
             }
             Err(_) => Err(AllocError),
@@ -211,6 +257,7 @@ impl<'a> Comparer<'a> {
             walk,
             first_ended: _,
             second_ended: _,
+            apart: _,
             found,
         } = self;
         let Walk { open, items } = walk;
@@ -358,6 +405,13 @@ pub(crate) fn compare_with<S: Source>(
         walk: Walk::new(alloc),
         first_ended: magic_bit(&head) + 32,
         second_ended: 0,
+        apart: Apart {
+            first: Standing {
+                bit: 0,
+                what: What::End,
+            },
+            value: None,
+        },
         found: None,
     };
     let (read, source) = fold(alloc, source, limits, comparer);

@@ -10,4 +10,4 @@ returns-then-not-branch-clause-weighs c = left_out_says c.args.blocks.now c.args
 
 pub returns-clause-weighs : goal.returns-clause-weighs
 returns-clause-weighs c =
-    subst (λ (o : Option Said). IsBeside o (sign_shown c.args.sign) c.weigh_left.result) (sym (left_says c.args.blocks.now c.args.ended (event_shown c.args.event) (sym (c.in_ok-take.ensures.left lent) ∙ c.if-not-branch.false))) c.weigh_left.ensures
+    subst (λ (o : Option Said). IsBeside o (sign_shown c.args.sign) c.weigh_left.result c.weigh_left.new.apart) (sym (left_says c.args.blocks.now c.args.ended (event_shown c.args.event) (sym (c.in_ok-take.ensures.left lent) ∙ c.if-not-branch.false))) c.weigh_left.ensures
