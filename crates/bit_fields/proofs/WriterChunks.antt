@@ -304,3 +304,42 @@ short_spelled value more word few more_is word_is = elim (cases_lt value 32) [ i
         ∙ bits_of-above 6 6 (value % 32 + 32) (value / 32) low
         ∙ ap (λ (k : ℕ). bits_of 6 k ++ bits_of 6 (value / 32)) (sym first)
         ∙ spelling_ends 6 value [] (bits_of 6 (chunk 6 value)) (value / 32) (omega arith) (omega (arith, few)) goes
+
+-- ---- numbers of more than two chunks of six bits
+
+one_more : (payload rest : ℕ) → rest < 2 ^ (payload * 1) → rest < 2 ^ payload
+one_more payload rest lt = let e : payload * 1 ≡ payload = omega arith in rw e at lt
+
+-- it does not matter how many chunks are permitted, where they are enough
+tail_same : (payload p q rest : ℕ) → rest < 2 ^ (payload * suc p) → rest < 2 ^ (payload * suc q) → tail payload (suc p) rest ≡ tail payload (suc q) rest
+tail_same payload zero q rest lt also = tail_last payload 0 rest (one_more payload rest lt) ∙ sym (tail_last payload q rest (one_more payload rest lt))
+tail_same payload (suc p) zero rest lt also = tail_last payload (suc p) rest (one_more payload rest also) ∙ sym (tail_last payload 0 rest (one_more payload rest also))
+tail_same payload (suc p) (suc q) rest lt also = elim (cases_lt rest (2 ^ payload)) [
+  | inl one ↦ tail_last payload (suc p) rest one ∙ sym (tail_last payload (suc q) rest one)
+  | inr le ↦
+      tail_more payload p rest le
+      ∙ ap (λ (s : List Bool). (bits_of payload rest ++ true ∷ []) ++ s) (tail_same payload p q (rest / 2 ^ payload) (shr_lt (payload * suc p) payload (next_chunk payload (suc p) p rest refl lt)) (shr_lt (payload * suc q) payload (next_chunk payload (suc q) q rest refl also)))
+      ∙ sym (tail_more payload q rest le)
+]
+
+-- a chunk with others behind it
+six_more : (value : ℕ) → 32 ≤ value → value < 2 ^ 64 → shortest 6 value ≡ bits_of 6 (chunk 6 value) ++ shortest 6 (value / 32)
+six_more value le below =
+    let rest : value / 2 ^ 5 < 2 ^ 59 = shr_lt 59 5 below in
+    tail_more 5 11 value le
+    ∙ ap (λ (s : List Bool). s ++ tail 5 12 (value / 32)) (sym (chunk_bits 6 value (omega arith) (omega arith)))
+    ∙ ap (λ (s : List Bool). bits_of 6 (chunk 6 value) ++ s) (tail_same 5 11 12 (value / 32) (omega (arith, rest)) (omega (arith, rest)))
+
+-- two chunks with others behind them
+pub two_spelled : (value word : ℕ) → 1024 ≤ value → value < 2 ^ 64 → word ≡ value % 32 + 64 * (value / 32 % 32) + 2080 → bits_of 12 word ++ shortest 6 (value / 1024) ≡ shortest 6 value
+two_spelled value word some below word_is =
+    let low : chunk 6 value ≡ value % 32 + 32 = chunk_is 6 value (omega arith) ∙ omega arith in
+    let high : chunk 6 (value / 32) ≡ value / 32 % 32 + 32 = chunk_is 6 (value / 32) (omega arith) ∙ omega arith in
+    let word_of : word ≡ chunk 6 value + chunk 6 (value / 32) * 2 ^ 6 = omega (arith, word_is, low, high) in
+    let few : chunk 6 value < 2 ^ 6 = omega (arith, low) in
+    let others : value / 32 / 32 ≡ value / 1024 = omega arith in
+    ap (λ (s : List Bool). s ++ shortest 6 (value / 1024)) (ap (bits_of 12) word_of ∙ bits_of-above 6 6 (chunk 6 value) (chunk 6 (value / 32)) few)
+    ∙ append_assoc (bits_of 6 (chunk 6 value)) (bits_of 6 (chunk 6 (value / 32))) (shortest 6 (value / 1024))
+    ∙ ap (λ (k : ℕ). bits_of 6 (chunk 6 value) ++ (bits_of 6 (chunk 6 (value / 32)) ++ shortest 6 k)) (sym others)
+    ∙ ap (λ (s : List Bool). bits_of 6 (chunk 6 value) ++ s) (sym (six_more (value / 32) (omega arith) (omega (arith, below))))
+    ∙ sym (six_more value (omega arith) below)

@@ -1,6 +1,6 @@
 //! Bits in memory.
 
-ghost use Rattle.std.specs.Prelude.{◌≡◌, ◌+◌, ◌*◌, ◌%◌, ◌^◌, ◌<◌, ◌≤◌, ◌++◌, [], length, true, OnOk, OnErr};
+ghost use Rattle.std.specs.Prelude.{◌≡◌, ◌+◌, ◌*◌, ◌/◌, ◌%◌, ◌^◌, ◌<◌, ◌≤◌, ◌++◌, [], length, true, OnOk, OnErr};
 ghost use Rattle.bit_grammar.specs.Bits.{bits_of};
 ghost use Rattle.bit_grammar.specs.FormatFields.{shortest};
 ghost use Rattle.bit_grammar.specs.Normal.{padding, values_bits};
@@ -130,8 +130,10 @@ impl BitText {
         requires { length self.old + 32 * length words.now < 2 ^ 63 }
         ensures { OnOk result (self.new ≡ self.old ++ bits_of_words words.now) }
     {
-        for word in words {
-            self.fixed(32, u64::from(*word))?;
+        if let Err(AllocError) = add_each(&mut self.words, &mut self.window, words) {
+            self.words.clear();
+            self.window = Window::new();
+            return Err(AllocError);
         }
         Ok(())
     }
@@ -253,24 +255,59 @@ fn short_chunks(value: u64) -> Window
     Window::of(word, 6 + 6 * more as u32)
 }
 
-/// Adds a number in chunks of six bits behind words and a window.
+/// Two chunks of six bits of a number of more than ten: those of its low ten bits, with others behind them.
 #[inline(always)]
-fn add_number(words: &mut Words, window: &mut Window, value: u64) -> Result<(), AllocError>
-    requires { length (bits_of_words words.old ++ window.old) < 2 ^ 62 }
+fn two_chunks(value: u64) -> u64
+    requires { 1024 ≤ value }
+    ensures spelled { bits_of 12 result ++ shortest 6 (value / 1024) ≡ shortest 6 value }
+    ensures below { result < 4096 }
+{
+    value % 32 + 64 * (value / 32 % 32) + 2080
+}
+
+/// The chunks of six bits of a number of eleven to twenty bits: three, or four.
+#[inline(always)]
+fn more_chunks(value: u64) -> Window
+    requires some { 1024 ≤ value }
+    requires few { value < 2 ^ 20 }
+    ensures spelled { result ≡ shortest 6 value }
+    ensures some { 0 < length result }
+    ensures few { length result ≤ 24 }
+{
+    let mut chunks = Window::of(two_chunks(value), 12);
+    chunks.append(short_chunks(value / 1024));
+    chunks
+}
+
+/// Adds a number of more than ten bits in chunks of six behind words and a window.
+#[inline(always)]
+fn add_great_number(words: &mut Words, window: &mut Window, value: u64) -> Result<(), AllocError>
+    requires { 1024 ≤ value }
     ensures { OnOk result (bits_of_words words.new ++ window.new
         ≡ (bits_of_words words.old ++ window.old) ++ shortest 6 value) }
 {
-    if value < 1024 {
-        make_room(words, window)?;
-        window.append(short_chunks(value));
-        return Ok(());
-    }
     let mut rest = value;
-    while rest >= 32 {
-        add_field(words, window, 6, (rest & 31) + 32)?;
-        rest >>= 5;
+    while rest >= 1 << 20 {
+        add_field(words, window, 12, two_chunks(rest))?;
+        rest >>= 10;
     }
-    add_field(words, window, 6, rest)
+    make_room(words, window)?;
+    window.append(more_chunks(rest));
+    Ok(())
+}
+
+/// Adds a number in chunks of six bits behind words and a window.
+#[inline(always)]
+fn add_number(words: &mut Words, window: &mut Window, value: u64) -> Result<(), AllocError>
+    ensures { OnOk result (bits_of_words words.new ++ window.new
+        ≡ (bits_of_words words.old ++ window.old) ++ shortest 6 value) }
+{
+    if value >= 1024 {
+        return add_great_number(words, window, value);
+    }
+    make_room(words, window)?;
+    window.append(short_chunks(value));
+    Ok(())
 }
 
 /// Adds numbers in chunks of six bits behind words and a window, which is held in registers meanwhile. Where memory is refused
@@ -285,6 +322,19 @@ fn add_numbers(words: &mut Words, window: &mut Window, values: &[u64]) -> Result
     let mut pen = window.copy();
     for value in values {
         add_number(words, &mut pen, *value)?;
+    }
+    *window = pen;
+    Ok(())
+}
+
+/// Adds words behind words and a window, which is held in registers meanwhile. Where memory is refused the bits are any.
+fn add_each(words: &mut Words, window: &mut Window, more: &[u32]) -> Result<(), AllocError>
+    ensures { OnOk result (bits_of_words words.new ++ window.new
+        ≡ (bits_of_words words.old ++ window.old) ++ bits_of_words more.now) }
+{
+    let mut pen = window.copy();
+    for word in more {
+        add_field(words, &mut pen, 32, u64::from(*word))?;
     }
     *window = pen;
     Ok(())

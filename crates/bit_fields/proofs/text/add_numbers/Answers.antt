@@ -1,4 +1,4 @@
-use Rattle.std.proofs.Common.{◌≡◌, ◌+◌, Bool, List, [], ◌++◌, length, drop, get_or, ap, sym, ◌∙◌, append_assoc, arith, length-append}
+use Rattle.std.proofs.Common.{◌≡◌, ◌+◌, Bool, List, [], ◌++◌, drop, get_or, ap, sym, ◌∙◌, append_assoc}
 use Rattle.std.proofs.lemmas.List.{append-nil, drop_all}
 use Rattle.bit_grammar.specs.FormatFields.{shortest}
 use Rattle.bit_grammar.specs.Normal.{values_bits}
@@ -8,12 +8,6 @@ use Rattle.bit_fields.proofs.text.add_numbers.Goals as goal
 
 pub loop-value-init : goal.loop-value-init
 loop-value-init c = ap (λ (s : List Bool). (bits_of_words c.args.words.now ++ s) ++ values_bits c.args.values.now) c.copy-pen.ensures
-
-pub add_number-requires : goal.add_number-requires
-add_number-requires c =
-    let vs = c.args.values.now in
-    let l = c.loop-value in
-    omega (arith, c.requires, ap length l.invariant, length-append (bits_of_words l.words ++ l.pen) (values_bits (drop l.value-index vs)), length-append (bits_of_words c.args.words.now ++ c.args.window.now) (values_bits vs))
 
 pub loop-value-preserved : goal.loop-value-preserved
 loop-value-preserved c =

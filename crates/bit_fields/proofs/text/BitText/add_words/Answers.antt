@@ -1,12 +1,14 @@
-use Rattle.std.proofs.Common.{length, drop, ap, ◌∙◌, arith, length-append}
+use Rattle.std.proofs.Common.{◌++◌, length, ap, arith, length-append}
 use Rattle.bit_fields.specs.Texts.{bits_of_words}
-use Rattle.bit_fields.proofs.Texts.{words-length, added_so_far}
+use Rattle.bit_fields.proofs.Texts.{words-length}
 use Rattle.bit_fields.proofs.text.BitText.add_words.Goals as goal
 
-pub fixed-requires-clause-room : goal.fixed-requires-clause-room
-fixed-requires-clause-room c =
-    let rest = bits_of_words (drop c.loop-word.word-index c.args.words.now) in
-    omega (arith, c.requires, ap length c.loop-word.invariant, length-append c.loop-word.self rest, length-append c.args.self.now (bits_of_words c.args.words.now), words-length c.args.words.now)
+pub invariant_of-self : goal.invariant_of-self
+invariant_of-self c =
+    let ws = c.clear.new.self in
+    omega (arith, length-append (bits_of_words ws) c.new-self-inside.result, words-length ws, ap length c.clear.ensures, ap length c.new-self-inside.ensures)
 
-pub loop-word-preserved : goal.loop-word-preserved
-loop-word-preserved c = added_so_far c.args.words.now c.loop-word.word-index c.loop-word.self c.fixed.new.self c.from.result c.loop-word-test.true c.from.ensures c.in_ok-fixed.ensures ∙ c.loop-word.invariant
+pub invariant_of-self-in_default : goal.invariant_of-self-in_default
+invariant_of-self-in_default c =
+    let ws = c.args.words.now in
+    omega (arith, c.requires, ap length c.in_default.ensures, ap length c.self.view_is, length-append (bits_of_words c.self.inside.words ++ c.self.inside.window) (bits_of_words ws), words-length ws)
