@@ -6,4 +6,5 @@ pub mod Operands
 pub mod Shapes
 pub mod Records
 pub mod Scalars
+mod Several
 pub mod Glancing

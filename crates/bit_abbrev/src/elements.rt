@@ -1,16 +1,17 @@
 //! Reading many values by one rule.
 
-ghost use Rattle.std.specs.Prelude.{◌≡◌, ◌+◌, ◌<◌, ◌≤◌, ◌^◌, ℕ, List, [], ◌∷◌, ◌++◌, IfOk, IfErr, OnOk, length, true, false};
+ghost use Rattle.std.specs.Prelude.{◌≡◌, ◌+◌, ◌<◌, ◌≤◌, ◌^◌, ℕ, List, [], ◌∷◌, ◌++◌, IfOk, IfErr, OnOk, Ok, Err, length, true, false};
 ghost use Rattle.bit_grammar.specs.Grammar.{gives};
 ghost use Rattle.bit_grammar.specs.Fields.{fixed, vbr, char6};
 ghost use Rattle.bit_grammar.specs.Record.{scalar, value_count, values_of};
 ghost use Rattle.bit_grammar.specs.FormatDefinition.{IsElement, HasLawfulValue};
 ghost use Rattle.bit_grammar.specs.declared.op.Op.{Op};
 ghost use Rattle.bit_grammar.specs.declared.op.Op.TheVariants.{Array, Blob};
+ghost use Rattle.bit_fields.specs.Ahead.{reader_at};
 ghost use Rattle.bit_fields.specs.Reader.{Takes, failed_reader};
 ghost use Rattle.bit_abbrev.specs.Values.{Adds, AddsAll, Gains};
 
-use bit_fields::{BitReader, Fault, Source, ValueTaker};
+use bit_fields::{Ahead, BitReader, Fault, Source, ValueTaker};
 use bit_grammar::{Op, Reason};
 
 /// How many fields may be skipped at once.
@@ -82,7 +83,57 @@ pub(crate) fn read_vbrs<S: Source, V: ValueTaker>(
     Ok(())
 }
 
-/// Reads so many fields of n bits, or skips them from where on nobody looks at them.
+/// Reads fields of n bits from what is ahead, at most so many, up to the first one that is not whole or whose value is not
+/// taken: how many.
+#[inline(always)]
+fn glance_some<V: ValueTaker>(ahead: &mut Ahead<'_>, most: u64, n: u32, values: &mut V) -> u64
+    requires some { 0 < n }
+    requires few { n ≤ 32 }
+    ensures glimpsed { Gains V.took values.old values.new
+        (AddsAll (fixed n) result (reader_at ahead.old) (Ok tt) (reader_at ahead.new)) }
+    ensures most { result ≤ most }
+    ensures moves { ahead.old.position ≤ ahead.new.position }
+{
+    for done in 0..most {
+        let mut next = ahead.copy();
+        let Some(value) = next.fixed(n) else {
+            return done;
+        };
+        let Ok(()) = values.take(value) else {
+            return done;
+        };
+        *ahead = next;
+    }
+    most
+}
+
+/// Reads fields of n bits that lie in memory, at most so many: how many.
+fn read_near<S: Source, V: ValueTaker>(
+    reader: &mut BitReader<S>,
+    most: u64,
+    n: u32,
+    values: &mut V,
+) -> Result<u64, Fault>
+    requires some { 0 < n }
+    requires few { n ≤ 32 }
+    requires live { reader.old.live ≡ true }
+    ensures ok { IfOk result (λ count. Gains V.took values.old values.new
+        (AddsAll (fixed n) count reader.old (Ok tt) reader.new)) }
+    ensures most { IfOk result (λ count. count ≤ most) }
+    ensures live { OnOk result (reader.new.live ≡ true) }
+    ensures err { IfErr result (λ fault. Gains V.took values.old values.new
+        (AddsAll (fixed n) most reader.old (Err fault) reader.new)) }
+{
+    let mut ahead = Ahead::new(reader.sight()?);
+    let first = ahead.position();
+    let count = glance_some(&mut ahead, most, n, values);
+    let after = ahead.position();
+    reader.catch_up(after - first)?;
+    Ok(count)
+}
+
+/// Reads so many fields of n bits, or skips them from where on nobody looks at them. Behind the first one those that lie in
+/// memory are read there.
 fn read_fixed<S: Source, V: ValueTaker>(
     reader: &mut BitReader<S>,
     count: u64,
@@ -95,13 +146,19 @@ fn read_fixed<S: Source, V: ValueTaker>(
     ensures { Gains V.took values.old values.new
         (AddsAll (fixed n) count reader.old result reader.new) }
 {
-    for done in 0..count {
-        let left = count - done;
-        if pass_fields(values, left) {
-            return reader.skip_fixed(left, n);
+    let mut done = 0;
+    while done < count {
+        if pass_fields(values, count - done) {
+            return reader.skip_fixed(count - done, n);
         }
-        let value = reader.fixed(n)?;
-        take(reader, values, value)?;
+        if done > 0 {
+            done += read_near(reader, count - done, n, values)?;
+        }
+        if done < count {
+            let value = reader.fixed(n)?;
+            take(reader, values, value)?;
+            done += 1;
+        }
     }
     Ok(())
 }

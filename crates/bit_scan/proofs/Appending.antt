@@ -1,6 +1,7 @@
 -- Texts that grow, and bytes of a magic.
-use Rattle.std.proofs.Common.{◌≡◌, ℕ, zero, suc, ◌+◌, ◌*◌, ◌/◌, ◌%◌, ◌<◌, List, [], ◌∷◌, ◌++◌, length, get_or, replicate, Result, Ok, Err, refl, sym, ap, ◌∙◌, append_assoc, arith}
+use Rattle.std.proofs.Common.{◌≡◌, ℕ, zero, suc, ◌+◌, ◌*◌, ◌/◌, ◌%◌, ◌^◌, ◌<◌, ◌≤◌, List, [], ◌∷◌, ◌++◌, length, get_or, replicate, Result, Ok, Err, refl, sym, ap, ◌∙◌, append_assoc, arith}
 use Rattle.std.specs.Prelude.{OnOk, codes, decimal, flat_map}
+use Rattle.std.proofs.lemmas.Fmt.{decimal_digit, decimal_step}
 use Rattle.std.specs.declared.alloc.AllocError.{AllocError}
 use Rattle.std.specs.Int.{w32, from_le_bytes}
 use Rattle.bit_grammar.specs.Texts.{magic_bytes, hex_text, magic_text}
@@ -78,3 +79,14 @@ line_placed bit text (Ok x) old middle new first second = second ∙ ap (λ (l :
     joined : (a b c : List ℕ) → (a ++ (b ++ (32 ∷ []))) ++ c ≡ a ++ (b ++ (32 ∷ c))
     joined a b c = simp append_assoc
 line_placed bit text (Err x) old middle new first second = tt
+
+-- the last digit of a number behind the others
+pub digit_behind : (number last : ℕ) (r : Result (Unit {0}) AllocError) (old middle new : List ℕ) → 10 ≤ number → number < 2 ^ 64 → last ≡ number % 10 → middle ≡ old ++ decimal (number / 10) → OnOk r (new ≡ middle ++ decimal last) → OnOk r (new ≡ old ++ decimal number)
+digit_behind number last (Ok x) old middle new some below last_is first second =
+    let digit : decimal last ≡ (48 + number % 10) ∷ [] = ap decimal last_is ∙ decimal_digit (number % 10) (omega arith) in
+    second
+    ∙ ap (λ (l : List ℕ). l ++ decimal last) first
+    ∙ append_assoc old (decimal (number / 10)) (decimal last)
+    ∙ ap (λ (l : List ℕ). old ++ (decimal (number / 10) ++ l)) digit
+    ∙ ap (λ (l : List ℕ). old ++ l) (sym (decimal_step number some below))
+digit_behind number last (Err error) old middle new some below last_is first second = tt

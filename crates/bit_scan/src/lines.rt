@@ -1,4 +1,4 @@
-ghost use Rattle.std.specs.Prelude.{◌≡◌, ℕ, ◌*◌, ◌-◌, ◌++◌, ◌∷◌, OnOk, codes, decimal, flat_map, replicate, string_bytes};
+ghost use Rattle.std.specs.Prelude.{◌≡◌, ℕ, ◌*◌, ◌-◌, ◌<◌, ◌++◌, ◌∷◌, OnOk, codes, decimal, flat_map, replicate, string_bytes};
 ghost use Rattle.bit_grammar.specs.EventTexts.{line_at, op_text, opened_text};
 ghost use Rattle.bit_grammar.specs.Texts.{hex_text, magic_text, block_line};
 ghost use Rattle.bit_fields.specs.Opening.{magic_number};
@@ -106,16 +106,59 @@ pub(crate) fn push_code_row(text: &mut String, code: u64, row: CodeRow) -> Resul
     writeln!(text, "  record {code} count {count} bits {bits}")
 }
 
-/// Appends the digits of a number. Of the numbers in a stream many have one digit.
+/// Appends a digit.
+#[inline(always)]
+fn push_digit(text: &mut String, digit: u64) -> Result<(), AllocError>
+    requires { digit < 10 }
+    ensures { OnOk result (string_bytes text.new ≡ string_bytes text.old ++ decimal digit) }
+{
+    text.push(char::from(b'0' + digit as u8))
+}
+
+/// Appends the digits of a number of one or two.
+#[inline(always)]
+fn push_tens(text: &mut String, number: u64) -> Result<(), AllocError>
+    requires { number < 100 }
+    ensures { OnOk result (string_bytes text.new ≡ string_bytes text.old ++ decimal number) }
+{
+    if number < 10 {
+        return push_digit(text, number);
+    }
+    push_digit(text, number / 10)?;
+    push_digit(text, number % 10)
+}
+
+/// Appends the digits of a number of up to three.
+#[inline(always)]
+fn push_hundreds(text: &mut String, number: u64) -> Result<(), AllocError>
+    requires { number < 1000 }
+    ensures { OnOk result (string_bytes text.new ≡ string_bytes text.old ++ decimal number) }
+{
+    if number < 100 {
+        return push_tens(text, number);
+    }
+    push_tens(text, number / 10)?;
+    push_digit(text, number % 10)
+}
+
+/// Appends the digits of a number, by way of a buffer.
+#[inline(never)]
+fn push_formatted(text: &mut String, number: u64) -> Result<(), AllocError>
+    ensures { OnOk result (string_bytes text.new ≡ string_bytes text.old ++ decimal number) }
+{
+    let mut buffer = Buffer::new();
+    text.push_str(buffer.format(number))
+}
+
+/// Appends the digits of a number. Most of the numbers in a stream have few.
 #[inline(always)]
 fn push_number(text: &mut String, number: u64) -> Result<(), AllocError>
     ensures { OnOk result (string_bytes text.new ≡ string_bytes text.old ++ decimal number) }
 {
-    if number < 10 {
-        return text.push(char::from(b'0' + number as u8));
+    if number < 1000 {
+        return push_hundreds(text, number);
     }
-    let mut buffer = Buffer::new();
-    text.push_str(buffer.format(number))
+    push_formatted(text, number)
 }
 
 /// Appends two spaces for each block around.
@@ -148,6 +191,7 @@ pub(crate) fn push_record_head(text: &mut String, around: u32, code: u64) -> Res
 }
 
 /// Appends a value of a record in a listing.
+#[inline(always)]
 pub(crate) fn push_value(text: &mut String, value: u64) -> Result<(), AllocError>
     ensures { OnOk result (string_bytes text.new ≡ string_bytes text.old ++ (32 ∷ decimal value)) }
 {

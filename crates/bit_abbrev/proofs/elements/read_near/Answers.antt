@@ -1,0 +1,28 @@
+use Rattle.std.proofs.lemmas.Result.{err_from_is_err_and}
+use Rattle.bit_grammar.specs.Grammar.{repeat}
+use Rattle.bit_grammar.specs.Fields.{fixed}
+use Rattle.bit_fields.specs.Ahead.{reader_at}
+use Rattle.bit_fields.proofs.Glimpses.{took_glimpsed, shown_caught_up, shown_not_caught_up}
+use Rattle.bit_abbrev.proofs.Several.{some_added, as_added}
+use Rattle.bit_abbrev.proofs.elements.read_near.Goals as goal
+
+pub returns-in_err-catch_up-clause-err : goal.returns-in_err-catch_up-clause-err
+returns-in_err-catch_up-clause-err g c =
+    let failed = err_from_is_err_and c.from_residual-in_err-catch_up.result c.from_residual-in_err-catch_up.ensures.1 in
+    let sight = c.in_ok-sight.field-0 in
+    let b = c.sight.follows.lender-at-none in
+    let shows = rw c.in_ok-sight.was at c.sight.follows.holds-at-none in
+    let here = rw c.new-ahead.ensures at c.position-first.ensures in
+    let missed = rw (c.position-after.ensures, here) at c.in_err-catch_up.ensures.takes in
+    rw (failed.1, failed.2) (λ before t. some_added g.V.ValueTaker.took c.glance_some-count.new.values (fixed c.args.n) c.glance_some-count.result c.args.most (reader_at c.new-ahead.result) (reader_at c.glance_some-count.new.ahead) c.args.reader.now c.in_err-catch_up.field-0.0 c.catch_up.new.self before (c.glance_some-count.ensures.glimpsed before t)
+    (λ values took. shown_not_caught_up (repeat c.glance_some-count.result (fixed c.args.n)) c.args.reader.now sight values c.glance_some-count.new.ahead b c.in_err-catch_up.field-0.0 c.catch_up.new.self (repeat c.args.most (fixed c.args.n)) shows (rw c.new-ahead.ensures at (took_glimpsed (repeat c.glance_some-count.result (fixed c.args.n)) c.new-ahead.result values c.glance_some-count.new.ahead took)) missed))
+
+pub returns-clause-ok : goal.returns-clause-ok
+returns-clause-ok g c = λ before t.
+    let sight = c.in_ok-sight.field-0 in
+    let b = c.sight.follows.lender-at-none in
+    let shows = rw c.in_ok-sight.was at c.sight.follows.holds-at-none in
+    let here = rw c.new-ahead.ensures at c.position-first.ensures in
+    let took_all = rw (c.position-after.ensures, here) at c.in_ok-catch_up.ensures.takes in
+    as_added g.V.ValueTaker.took c.glance_some-count.new.values (fixed c.args.n) c.glance_some-count.result (reader_at c.new-ahead.result) (reader_at c.glance_some-count.new.ahead) c.args.reader.now c.catch_up.new.self before (c.glance_some-count.ensures.glimpsed before t)
+    (λ values took. shown_caught_up (repeat c.glance_some-count.result (fixed c.args.n)) c.args.reader.now sight values c.glance_some-count.new.ahead b c.catch_up.new.self shows (rw c.new-ahead.ensures at (took_glimpsed (repeat c.glance_some-count.result (fixed c.args.n)) c.new-ahead.result values c.glance_some-count.new.ahead took)) took_all)
