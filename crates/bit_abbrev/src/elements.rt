@@ -84,27 +84,33 @@ pub(crate) fn read_vbrs<S: Source, V: ValueTaker>(
 }
 
 /// Reads fields of n bits from what is ahead, at most so many, up to the first one that is not whole or whose value is not
-/// taken: how many.
-#[inline(always)]
-fn glance_some<V: ValueTaker>(ahead: &mut Ahead<'_>, most: u64, n: u32, values: &mut V) -> u64
+/// taken: how many, and what is then ahead. It is kept out of the callers, and has what is ahead for itself, in registers.
+#[inline(never)]
+fn glance_some<'a, V: ValueTaker>(
+    ahead: Ahead<'a>,
+    most: u64,
+    n: u32,
+    values: &mut V,
+) -> (u64, Ahead<'a>)
     requires some { 0 < n }
     requires few { n ≤ 32 }
     ensures glimpsed { Gains V.took values.old values.new
-        (AddsAll (fixed n) result (reader_at ahead.old) (Ok tt) (reader_at ahead.new)) }
-    ensures most { result ≤ most }
-    ensures moves { ahead.old.position ≤ ahead.new.position }
+        (AddsAll (fixed n) result.0 (reader_at ahead.entry) (Ok tt) (reader_at result.1)) }
+    ensures most { result.0 ≤ most }
+    ensures moves { ahead.entry.position ≤ result.1.position }
 {
+    let mut ahead = ahead;
     for done in 0..most {
         let mut next = ahead.copy();
         let Some(value) = next.fixed(n) else {
-            return done;
+            return (done, ahead);
         };
         let Ok(()) = values.take(value) else {
-            return done;
+            return (done, ahead);
         };
-        *ahead = next;
+        ahead = next;
     }
-    most
+    (most, ahead)
 }
 
 /// Reads fields of n bits that lie in memory, at most so many: how many.
@@ -124,10 +130,10 @@ fn read_near<S: Source, V: ValueTaker>(
     ensures err { IfErr result (λ fault. Gains V.took values.old values.new
         (AddsAll (fixed n) most reader.old (Err fault) reader.new)) }
 {
-    let mut ahead = Ahead::new(reader.sight()?);
+    let ahead = Ahead::new(reader.sight()?);
     let first = ahead.position();
-    let count = glance_some(&mut ahead, most, n, values);
-    let after = ahead.position();
+    let (count, behind) = glance_some(ahead, most, n, values);
+    let after = behind.position();
     reader.catch_up(after - first)?;
     Ok(count)
 }

@@ -267,13 +267,13 @@ spelling_ends n value start now rest some lt c =
 
 -- ---- numbers of one chunk of six bits, or two
 
-one_chunk : (value more word : ℕ) → value < 32 → more ≡ (value + 992) / 1024 → word ≡ value % 32 + 32 * more + 64 * (value / 32) → (more ≡ 0) × (word ≡ value)
+one_chunk : (value more word : ℕ) → value < 32 → more ≡ (value + 992) / 1024 → word ≡ value + 32 * (value / 32 + more) → (more ≡ 0) × (word ≡ value)
 one_chunk value more word lt more_is word_is = (omega (arith, lt, more_is), omega (arith, lt, more_is, word_is))
 
-two_chunks : (value more word : ℕ) → value < 1024 → 32 ≤ value → more ≡ (value + 992) / 1024 → word ≡ value % 32 + 32 * more + 64 * (value / 32) → (more ≡ 1) × (word ≡ value % 32 + 32 + (value / 32) * 64)
+two_chunks : (value more word : ℕ) → value < 1024 → 32 ≤ value → more ≡ (value + 992) / 1024 → word ≡ value + 32 * (value / 32 + more) → (more ≡ 1) × (word ≡ value % 32 + 32 + (value / 32) * 64)
 two_chunks value more word few le more_is word_is = (omega (arith, few, le, more_is), omega (arith, few, le, more_is, word_is))
 
-pub short_below : (value more word : ℕ) → value < 1024 → more ≡ (value + 992) / 1024 → word ≡ value % 32 + 32 * more + 64 * (value / 32) → word < 2 ^ (6 + 6 * more)
+pub short_below : (value more word : ℕ) → value < 1024 → more ≡ (value + 992) / 1024 → word ≡ value + 32 * (value / 32 + more) → word < 2 ^ (6 + 6 * more)
 short_below value more word few more_is word_is = elim (cases_lt value 32) [ inl lt ↦ one lt | inr le ↦ two le ]
   where
     one : value < 32 → word < 2 ^ (6 + 6 * more)
@@ -282,7 +282,7 @@ short_below value more word few more_is word_is = elim (cases_lt value 32) [ inl
     two : 32 ≤ value → word < 2 ^ (6 + 6 * more)
     two le = let e = two_chunks value more word few le more_is word_is in subst (λ (k : ℕ). word < 2 ^ (6 + 6 * k)) (sym e.0) (omega (arith, e.1, few))
 
-pub short_spelled : (value more word : ℕ) → value < 1024 → more ≡ (value + 992) / 1024 → word ≡ value % 32 + 32 * more + 64 * (value / 32) → bits_of (6 + 6 * more) word ≡ shortest 6 value
+pub short_spelled : (value more word : ℕ) → value < 1024 → more ≡ (value + 992) / 1024 → word ≡ value + 32 * (value / 32 + more) → bits_of (6 + 6 * more) word ≡ shortest 6 value
 short_spelled value more word few more_is word_is = elim (cases_lt value 32) [ inl lt ↦ one lt | inr le ↦ two le ]
   where
     starts : Spelling 6 value [] [] value

@@ -1,6 +1,6 @@
 //! Bits in memory.
 
-ghost use Rattle.std.specs.Prelude.{◌≡◌, ◌+◌, ◌*◌, ◌/◌, ◌%◌, ◌^◌, ◌<◌, ◌≤◌, ◌++◌, [], length, true, OnOk, OnErr};
+ghost use Rattle.std.specs.Prelude.{◌≡◌, ◌+◌, ◌*◌, ◌/◌, ◌%◌, ◌^◌, ◌<◌, ◌≤◌, ◌++◌, [], length, drop, true, IfOk, OnOk, OnErr};
 ghost use Rattle.bit_grammar.specs.Bits.{bits_of};
 ghost use Rattle.bit_grammar.specs.FormatFields.{shortest};
 ghost use Rattle.bit_grammar.specs.Normal.{padding, values_bits};
@@ -251,8 +251,7 @@ fn short_chunks(value: u64) -> Window
     ensures few { length result ≤ 12 }
 {
     let more = (value + 992) / 1024;
-    let word = value % 32 + 32 * more + 64 * (value / 32);
-    Window::of(word, 6 + 6 * more as u32)
+    Window::of(value + 32 * (value / 32 + more), 6 + 6 * more as u32)
 }
 
 /// Two chunks of six bits of a number of more than ten: those of its low ten bits, with others behind them.
@@ -310,17 +309,52 @@ fn add_number(words: &mut Words, window: &mut Window, value: u64) -> Result<(), 
     Ok(())
 }
 
+/// Adds two numbers in chunks of six bits behind words and a window, at once where both are small.
+#[inline(always)]
+fn add_two(
+    words: &mut Words,
+    window: &mut Window,
+    first: u64,
+    second: u64,
+) -> Result<(), AllocError>
+    ensures { OnOk result (bits_of_words words.new ++ window.new
+        ≡ (bits_of_words words.old ++ window.old) ++ (shortest 6 first ++ shortest 6 second)) }
+{
+    if first < 1024 && second < 1024 {
+        make_room(words, window)?;
+        window.append(short_chunks(first));
+        window.append(short_chunks(second));
+        return Ok(());
+    }
+    add_number(words, window, first)?;
+    add_number(words, window, second)
+}
+
+/// Adds numbers two by two: how many, all or all but one.
+#[inline(always)]
+fn add_pairs(words: &mut Words, window: &mut Window, values: &[u64]) -> Result<usize, AllocError>
+    ensures { IfOk result (λ count. (count ≤ length values.now)
+        × ((bits_of_words words.new ++ window.new) ++ values_bits (drop count values.now)
+        ≡ (bits_of_words words.old ++ window.old) ++ values_bits values.now)) }
+{
+    let mut done = 0;
+    while values.len() - done >= 2 {
+        add_two(words, window, values[done], values[done + 1])?;
+        done += 2;
+    }
+    Ok(done)
+}
+
 /// Adds numbers in chunks of six bits behind words and a window, which is held in registers meanwhile. Where memory is refused
 /// the bits are any.
 #[inline(always)]
 fn add_numbers(words: &mut Words, window: &mut Window, values: &[u64]) -> Result<(), AllocError>
-    requires { length (bits_of_words words.old ++ window.old) + length (values_bits values.now)
-        < 2 ^ 62 }
     ensures { OnOk result (bits_of_words words.new ++ window.new
         ≡ (bits_of_words words.old ++ window.old) ++ values_bits values.now) }
 {
     let mut pen = window.copy();
-    for value in values {
+    let done = add_pairs(words, &mut pen, values)?;
+    for value in &values[done..] {
         add_number(words, &mut pen, *value)?;
     }
     *window = pen;
