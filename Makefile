@@ -1,10 +1,10 @@
 # make              builds the program to one file, which needs nothing of the toolchain: crates/bitstool/out/bitstool
-# make run < FILE   writes the normal form of a file; make run WORDS="check" < FILE gives the program these words
+# make run < FILE   writes the normal form of a file; make run ARGS="check" < FILE gives the program these arguments
 # make lib          proves the C library and builds it: capi/out/libbitstream.a and libbitstream.so
 # make install      puts the program, its man page and completions, the C library, its header and its pkg-config file below PREFIX
 # make bench        the program beside other tools; bench/tool says on which files
-# make test         the gate: every proof from nothing, the edits that must be refused, and the tests; then make ask-program
-# make ask-program  the scripts of tests/ alone, which ask the built program and the C library
+# make test         the gate: every proof from nothing, the edits that must be refused, and the tests; then make test-program
+# make test-program  the scripts of tests/ alone, which test the built program and the C library
 PREFIX ?= /usr/local
 JOBS ?= $(shell nproc)
 PROGRAM := crates/bitstool/out/bitstool
@@ -17,7 +17,7 @@ below = $(filter $(LIBRARIES),$(shell sed -n 's/^$(1)[^:]*://p' crates.txt))
 C_VERSION := $(shell sed -n 's/^\#define BS_VERSION //p' capi/bitstream.h)
 HEAP := $(dir $(shell rt doc))c/liblibc_c.a
 
-.PHONY: all libraries lib run install bench test ask-program
+.PHONY: all libraries lib run install bench test test-program
 all: $(PROGRAM)
 
 # Proved, built, and run once on its stored input.
@@ -63,7 +63,7 @@ capi/out/libbitstream.so: capi/out/libbitstream.a capi/bitstream.map capi/bitstr
 	@echo "built $@" >&2
 
 run: $(PROGRAM)
-	@$(PROGRAM) $(WORDS)
+	@$(PROGRAM) $(ARGS)
 
 install: $(PROGRAM) lib
 	install -D $(PROGRAM) $(DESTDIR)$(PREFIX)/bin/bitstool
@@ -85,5 +85,5 @@ bench: $(PROGRAM)
 test:
 	@tests/run --gate
 
-ask-program: $(PROGRAM) $(ASKING) lib
+test-program: $(PROGRAM) $(ASKING) lib
 	@tests/run

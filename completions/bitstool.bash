@@ -1,4 +1,4 @@
-# Completion of bitstool's words for bash.
+# Completion of bitstool's arguments for bash.
 _bitstool() {
     local limits="--bytes --depth --values --shapes-at-use --help"
     local names="--drop-block --drop-record"

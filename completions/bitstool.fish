@@ -1,4 +1,4 @@
-# Completion of bitstool's words for fish.
+# Completion of bitstool's arguments for fish.
 set -l commands check normal same analyse show events
 set -l some "__fish_seen_subcommand_from"
 complete -c bitstool -f
