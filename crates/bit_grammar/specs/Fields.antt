@@ -1,7 +1,7 @@
 -- The fields: numbers of fixed width, VBRs, characters and padding.
 -- Source: "LLVM Bitcode File Format", "Primitives": "Fixed Width Integers", "Variable Width Integers", "6-bit
 -- characters", "Word Alignment". This project's own: the bounds of a VBR, and the faults.
-use Rattle.std.specs.Prelude.{ℕ, zero, suc, ◌+◌, ◌-◌, ◌*◌, ◌/◌, ◌%◌, ◌^◌, Bool, false, List, take, get_or, nat_lt, ◌==◌, if◌then◌else◌}
+use Rattle.std.specs.Prelude.{ℕ, zero, suc, ◌+◌, ◌-◌, ◌*◌, ◌%◌, ◌^◌, Bool, false, List, take, get_or, nat_lt, ◌==◌}
 use Rattle.bit_grammar.specs.declared.reason.Reason.TheVariants.{Truncated, ValueTooWide, DirtyPadding}
 use Rattle.bit_grammar.specs.Bits.{number}
 use Rattle.bit_grammar.specs.Grammar.{at, Grammar, gives, refuses, position, next_bits, choose, ◌>>=◌, ◌>>◌, judge}

@@ -10,7 +10,8 @@ ghost use Rattle.bit_grammar.specs.FormatBlocks.{top_with, HoldsDefinable, IsBlo
 pub fn one_block()
     ensures { (limits : Limits) (handed : Handed) (p : ℕ) (s t x y : List Bool)
         (v w : Item × Handed)
-        → s ++ x ≡ t ++ y → Spells (top_block limits handed) p s v → Spells (top_block limits handed) p t w
+        → s ++ x ≡ t ++ y → Spells (top_block limits handed) p s v
+        → Spells (top_block limits handed) p t w
         → (s ≡ t) × (v ≡ w) }
 {}
 
@@ -37,7 +38,8 @@ pub fn block_in_words()
         → Spells (top_block limits handed) p s v
         → (mark : BlockMark) × (inner : Marks) × (v.0 ≡ block_item mark inner) }
     ensures lawful { (limits : Limits) (handed : Handed) (p : ℕ) (s : List Bool) (v : Item × Handed)
-        → HoldsDefinable handed.table → Spells (top_block limits handed) p s v → HoldsDefinable v.1.table }
+        → HoldsDefinable handed.table → Spells (top_block limits handed) p s v
+        → HoldsDefinable v.1.table }
 {}
 
 /// Each item and each block takes bits, since the ids in a block are at least one bit wide. So a body and a stream stop by

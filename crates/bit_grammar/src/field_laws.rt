@@ -35,7 +35,8 @@ pub fn shortest_vbr()
     ensures { (n v : ℕ) → 2 ≤ n → v < 2 ^ 64
         → IsVbr n v (shortest n v)
         × ((s : List Bool) → IsVbr n v s
-        → (length (shortest n v) ≤ length s) × (length s ≡ length (shortest n v) → s ≡ shortest n v)) }
+        → (length (shortest n v) ≤ length s)
+        × (length s ≡ length (shortest n v) → s ≡ shortest n v)) }
 {}
 
 /// A character is six bits, and its value the ASCII code of the character with the number that they spell.

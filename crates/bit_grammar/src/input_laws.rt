@@ -40,7 +40,8 @@ pub fn tree_or_fault()
 pub fn limits_of_tree()
     ensures { (a b : Limits) (bytes : List ℕ) (m : Marked) → SpellsInput a bytes m
         → (SpellsInput b bytes m
-        ↔ ((length bytes ≤ b.bytes) × (depth_in m.blocks ≤ b.depth) × (values_in m.blocks ≤ b.values)
+        ↔ ((length bytes ≤ b.bytes) × (depth_in m.blocks ≤ b.depth)
+        × (values_in m.blocks ≤ b.values)
         × PassIn b.shapes m.blocks)) }
 {}
 
@@ -72,7 +73,8 @@ pub fn input_in_words()
 /// definition, with the same tree, and nothing else changes but for inputs that are refused there with AbbrevShape.
 pub fn shapes_apart()
     ensures taken { (limits : Limits) (bytes : List ℕ) (m : Marked)
-        → SpellsInput (judged_at AtDefinition limits) bytes m → SpellsInput (judged_at AtUse limits) bytes m }
+        → SpellsInput (judged_at AtDefinition limits) bytes m
+        → SpellsInput (judged_at AtUse limits) bytes m }
     ensures refused { (limits : Limits) (bytes : List ℕ) (fault : Fault)
         → BreaksInput (judged_at AtDefinition limits) bytes fault
         → (fault.reason ≡ AbbrevShape) ⊎ BreaksInput (judged_at AtUse limits) bytes fault }

@@ -23,9 +23,11 @@ pub fn steps_to_come()
 pub fn steps_of_blocks()
     ensures accepted { (limits : Limits) (p : ℕ) (r : List Bool) (events : List Event) (q : ℕ)
         → (Steps limits at_start p r events (accepted q)
-        ↔ ((v : List Item × ℕ) × SpellsAll (top_blocks limits) p r v × (events ≡ flat (marks_of v.0) []) × (q ≡ v.1))) }
+        ↔ ((v : List Item × ℕ) × SpellsAll (top_blocks limits) p r v
+        × (events ≡ flat (marks_of v.0) []) × (q ≡ v.1))) }
     ensures broken { (limits : Limits) (p : ℕ) (r : List Bool) (fault : Fault)
-        → (StopsAll (top_blocks limits) p r fault ↔ ((events : List Event) × Steps limits at_start p r events (broke fault))) }
+        → (StopsAll (top_blocks limits) p r fault
+        ↔ ((events : List Event) × Steps limits at_start p r events (broke fault))) }
 {}
 
 /// A step takes bits, and each block that is open after it has ids of some bits.
@@ -40,7 +42,8 @@ pub fn bits_of_step()
 pub fn frames_of_step()
     ensures { (limits : Limits) (m new : Machine) (p : ℕ) (s : List Bool) (event : Event)
         → Spells (step limits m) p s (event, new)
-        → MayStand limits.depth event (length m.frames) × (length new.frames ≡ open_after event (length m.frames))
+        → MayStand limits.depth event (length m.frames)
+        × (length new.frames ≡ open_after event (length m.frames))
         × (length m.frames ≤ limits.depth → length new.frames ≤ limits.depth) }
 {}
 
@@ -48,7 +51,8 @@ pub fn frames_of_step()
 pub fn values_of_step()
     ensures { (limits : Limits) (m new : Machine) (p : ℕ) (s : List Bool) (event : Event)
         → Spells (step limits m) p s (event, new)
-        → (new.handed.used ≡ m.handed.used + values_told event) × (m.handed.used ≤ limits.values → new.handed.used ≤ limits.values) }
+        → (new.handed.used ≡ m.handed.used + values_told event)
+        × (m.handed.used ≤ limits.values → new.handed.used ≤ limits.values) }
 {}
 
 /// Events, and others after them, are those of the steps up to another machine, and of the steps from there.
@@ -56,7 +60,8 @@ pub fn steps_in_parts()
     ensures { (limits : Limits) (m : Machine) (p : ℕ) (r : List Bool) (events others : List Event)
         (ending : Ending)
         → (Steps limits m p r (events ++ others) ending
-        ↔ ((first rest : List Bool) × (new : Machine) × (r ≡ first ++ rest) × Leads limits m p first events new
+        ↔ ((first rest : List Bool) × (new : Machine) × (r ≡ first ++ rest)
+        × Leads limits m p first events new
         × Steps limits new (p + length first) rest others ending)) }
 {}
 
@@ -65,7 +70,8 @@ pub fn steps_in_parts()
 pub fn machine_after()
     ensures kept { (limits : Limits) (m new : Machine) (p : ℕ) (s : List Bool) (events : List Event)
         → Leads limits m p s events new
-        → IsNested limits.depth (length m.frames) events (length new.frames) × (new.handed.used ≡ m.handed.used + all_values_told events)
+        → IsNested limits.depth (length m.frames) events (length new.frames)
+        × (new.handed.used ≡ m.handed.used + all_values_told events)
         × (m.handed.used ≤ limits.values → new.handed.used ≤ limits.values) }
     ensures wide { (limits : Limits) (m new : Machine) (p : ℕ) (s : List Bool) (events : List Event)
         → AreWide m.frames
@@ -95,7 +101,8 @@ pub fn marks_by_events()
 /// fault where what is told ends with that fault.
 pub fn told_of_input()
     ensures spelled { (limits : Limits) (bytes : List ℕ) (m : Marked)
-        → (SpellsInput limits bytes m ↔ (outlook limits bytes ≡ Ok (m.head, (flat m.blocks [], accepted m.after)))) }
+        → (SpellsInput limits bytes m
+        ↔ (outlook limits bytes ≡ Ok (m.head, (flat m.blocks [], accepted m.after)))) }
     ensures broken { (limits : Limits) (bytes : List ℕ) (fault : Fault)
         → (BreaksInput limits bytes fault ↔ EndsBy (outlook limits bytes) fault) }
 {}
@@ -103,7 +110,8 @@ pub fn told_of_input()
 /// The events that are told of an input are those of the steps of its stream, behind its head, whatever ends them.
 pub fn events_of_bytes()
     ensures { (limits : Limits) (bytes : List ℕ) (head : Head) (events : List Event)
-        → (HasEvents limits bytes head events ↔ ((ending : Ending) × (outlook limits bytes ≡ Ok (head, (events, ending))))) }
+        → (HasEvents limits bytes head events
+        ↔ ((ending : Ending) × (outlook limits bytes ≡ Ok (head, (events, ending))))) }
 {}
 
 /// The events of an input are well nested, at most as deep as the limit, and their records have no more values than the
@@ -111,7 +119,8 @@ pub fn events_of_bytes()
 pub fn nested_input()
     ensures kept { (limits : Limits) (bytes : List ℕ) (head : Head) (events : List Event)
         → HasEvents limits bytes head events
-        → ((left : ℕ) × (left ≤ limits.depth) × IsNested limits.depth 0 events left) × (all_values_told events ≤ limits.values) }
+        → ((left : ℕ) × (left ≤ limits.depth) × IsNested limits.depth 0 events left)
+        × (all_values_told events ≤ limits.values) }
     ensures accepted { (limits : Limits) (bytes : List ℕ) (m : Marked) → SpellsInput limits bytes m
         → IsNested limits.depth 0 (flat m.blocks []) 0 }
 {}

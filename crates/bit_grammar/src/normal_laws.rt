@@ -5,7 +5,7 @@ ghost use Rattle.bit_grammar.specs.Normal.{normal_form, most_bytes, Capped, HasT
 ghost use Rattle.bit_grammar.specs.Fields.{vbr};
 ghost use Rattle.bit_grammar.specs.Terms.{chunk_limit, Marked};
 ghost use Rattle.bit_grammar.specs.FormatFields.{shortest};
-ghost use Rattle.bit_grammar.specs.Blocks.{Limits, block};
+ghost use Rattle.bit_grammar.specs.Blocks.{Limits};
 ghost use Rattle.bit_grammar.specs.Setting.{Setting, keep};
 ghost use Rattle.bit_grammar.specs.Input.{tree_of, SpellsInput};
 ghost use Rattle.std.specs.List.{All};
@@ -48,11 +48,13 @@ pub fn normal_once()
     ensures whole { (setting : Setting) (limits : Limits) (bytes out : List ℕ) (m n : Marked)
         → Capped limits
         → SpellsInput limits bytes m → bits_of_bytes out ≡ normal_form (under setting (tree_of m))
-        → length out ≤ limits.bytes → SpellsInput limits out n → tree_of n ≡ under setting (tree_of m) }
+        → length out ≤ limits.bytes → SpellsInput limits out n
+        → tree_of n ≡ under setting (tree_of m) }
     ensures once { (setting : Setting) (limits : Limits) (bytes out : List ℕ) (m n : Marked)
         → Capped limits
         → SpellsInput limits bytes m → bits_of_bytes out ≡ normal_form (under setting (tree_of m))
-        → length out ≤ limits.bytes → SpellsInput limits out n → under setting (tree_of n) ≡ under setting (tree_of m) }
+        → length out ≤ limits.bytes → SpellsInput limits out n
+        → under setting (tree_of n) ≡ under setting (tree_of m) }
     ensures again { (setting : Setting) (limits : Limits) (bytes out : List ℕ) (m n : Marked)
         → Capped limits
         → SpellsInput limits bytes m → bits_of_bytes out ≡ normal_form (under setting (tree_of m))
@@ -61,7 +63,8 @@ pub fn normal_once()
     ensures same { (setting : Setting) (limits : Limits) (bytes bytes' out : List ℕ) (m n : Marked)
         → Capped limits
         → SpellsInput limits bytes m → SpellsInput limits bytes' n
-        → bits_of_bytes out ≡ normal_form (under setting (tree_of m)) → bits_of_bytes out ≡ normal_form (under setting (tree_of n))
+        → bits_of_bytes out ≡ normal_form (under setting (tree_of m))
+        → bits_of_bytes out ≡ normal_form (under setting (tree_of n))
         → length out ≤ limits.bytes → under setting (tree_of m) ≡ under setting (tree_of n) }
 {}
 
@@ -70,7 +73,8 @@ pub fn normal_once()
 pub fn form_of_input()
     ensures { (setting : Setting) (limits : Limits) (bytes : List ℕ) (m : Marked) → Capped limits
         → SpellsInput limits bytes m → size_of (under setting (tree_of m)) ≤ limits.bytes
-        → (out : List ℕ) × All (λ b. b < 256) out × (bits_of_bytes out ≡ normal_form (under setting (tree_of m)))
+        → (out : List ℕ) × All (λ b. b < 256) out
+        × (bits_of_bytes out ≡ normal_form (under setting (tree_of m)))
         × HasTree setting limits out (under setting (tree_of m)) }
 {}
 

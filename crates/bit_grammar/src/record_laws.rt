@@ -40,17 +40,18 @@ pub fn shape_in_order()
 
 /// A stream has one front that is a record by given operands.
 pub fn one_record()
-    ensures { (start room : ℕ) (ops : List Op) (p : ℕ) (s t x y : List Bool) (v w : CodeAndValues)
+    ensures { (first room : ℕ) (ops : List Op) (p : ℕ) (s t x y : List Bool) (v w : CodeAndValues)
         → s ++ x ≡ t ++ y
-        → Spells (abbreviated start room ops) p s v → Spells (abbreviated start room ops) p t w
+        → Spells (abbreviated first room ops) p s v → Spells (abbreviated first room ops) p t w
         → (s ≡ t) × (v ≡ w) }
 {}
 
 /// A stream has a front that is a record by given operands, or breaks with a fault.
 pub fn record_or_fault()
-    ensures { (start room : ℕ) (ops : List Op) (p : ℕ) (r : List Bool)
-        → ((s rest : List Bool) × (v : CodeAndValues) × (r ≡ s ++ rest) × Spells (abbreviated start room ops) p s v)
-        ⊎ ((fault : Fault) × Stops (abbreviated start room ops) p r fault) }
+    ensures { (first room : ℕ) (ops : List Op) (p : ℕ) (r : List Bool)
+        → ((s rest : List Bool) × (v : CodeAndValues) × (r ≡ s ++ rest)
+        × Spells (abbreviated first room ops) p s v)
+        ⊎ ((fault : Fault) × Stops (abbreviated first room ops) p r fault) }
 {}
 
 /// An unabbreviated record is the code, the number of its values and each value, no more values than there is room for.
@@ -61,7 +62,8 @@ pub fn unabbreviated_in_words()
 
 /// A record by a lawful list of operands is the fields of the operands, no more values than there is room for.
 pub fn abbreviated_in_words()
-    ensures { (start room : ℕ) (ops : List Op) (p : ℕ) (s : List Bool) (e : CodeAndValues)
+    ensures { (first room : ℕ) (ops : List Op) (p : ℕ) (s : List Bool) (e : CodeAndValues)
         → Lawful ops
-        → (Spells (abbreviated start room ops) p s e ↔ (IsAbbreviated ops p e s × (length e.values ≤ room))) }
+        → (Spells (abbreviated first room ops) p s e
+        ↔ (IsAbbreviated ops p e s × (length e.values ≤ room))) }
 {}

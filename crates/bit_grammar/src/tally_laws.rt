@@ -25,5 +25,6 @@ pub fn rows_by_events()
 /// The lines of the events of a tree, one after the other, are the lines of its listing.
 pub fn lines_by_events()
     ensures { (setting : Setting) (marks : Marks)
-        → events_text 0 (events_under setting [] (flat marks [])) ≡ lines_of 0 (items_under setting 0 (forest_of marks)) }
+        → events_text 0 (events_under setting [] (flat marks []))
+        ≡ lines_of 0 (items_under setting 0 (forest_of marks)) }
 {}

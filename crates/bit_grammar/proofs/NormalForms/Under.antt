@@ -5,9 +5,9 @@ use Rattle.std.specs.List.{list_any, list_all}
 use Rattle.bit_grammar.specs.declared.info.RecordName.{RecordName}
 use Rattle.bit_grammar.specs.Setting.{Setting, keep, keeps, is_named, keeps_record, keeps_records}
 use Rattle.bit_grammar.specs.Forest.{Forest, empty, a_block, a_record, Tree, forest_depth, forest_values, DescribesBlocks, FitForest, AreBlocks, Fit}
-use Rattle.bit_grammar.specs.Marks.{BlockMark, RecordMark, Marks, no_marks, marked_block, marked_record, marked_definition, forest_of}
+use Rattle.bit_grammar.specs.Marks.{Marks, no_marks, marked_block, marked_record, marked_definition, forest_of}
 use Rattle.bit_grammar.specs.Machine.{Event, enters, defines, notes, leaves, flat}
-use Rattle.bit_grammar.specs.Under.{items_under, under, HasNoneNamed, ids_after, ids_behind, innermost, is_left, events_under, marks_under}
+use Rattle.bit_grammar.specs.Under.{items_under, under, HasNoneNamed, ids_after, ids_behind, innermost, events_under, marks_under}
 
 -- ---- tests
 

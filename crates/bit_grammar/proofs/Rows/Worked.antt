@@ -1,6 +1,6 @@
 -- What worked inputs are read as, and what they are written as again.
 use Rattle.std.proofs.Common.{◌≡◌, ℕ, Bool, List, Result, Ok}
-use Rattle.bit_grammar.specs.declared.shapes.Shapes.TheVariants.{AtDefinition, AtUse}
+use Rattle.bit_grammar.specs.declared.shapes.Shapes.TheVariants.{AtUse}
 use Rattle.bit_grammar.specs.Setting.{Setting, keep}
 use Rattle.bit_grammar.specs.Under.{items_under, under}
 use Rattle.bit_grammar.specs.Bits.{bits_of_bytes}
