@@ -19,18 +19,18 @@ use Rattle.bit_fields.proofs.Parts.{window_missed, fills_exact}
 
 -- ---- what is read
 
-pub gap_whole : (n start p : ℕ) (r : List Bool) → n ≤ length r → reading (gap_of start n) p r ≡ Ok (tt, p + n, drop n r)
-gap_whole n start p r there = rw (le-ltb (length r) n there) refl
+pub gap_whole : (n first p : ℕ) (r : List Bool) → n ≤ length r → reading (gap_of first n) p r ≡ Ok (tt, p + n, drop n r)
+gap_whole n first p r there = rw (le-ltb (length r) n there) refl
 
-gap_at : (n start p : ℕ) (w rest : List Bool) → n ≤ length w → reading (gap_of start n) p (w ++ rest) ≡ Ok (tt, p + n, drop n w ++ rest)
-gap_at n start p w rest there = rw (le-ltb (length (w ++ rest)) n (omega (arith, length-append w rest)), drop-append-le n w rest there) refl
+gap_at : (n first p : ℕ) (w rest : List Bool) → n ≤ length w → reading (gap_of first n) p (w ++ rest) ≡ Ok (tt, p + n, drop n w ++ rest)
+gap_at n first p w rest there = rw (le-ltb (length (w ++ rest)) n (omega (arith, length-append w rest)), drop-append-le n w rest there) refl
 
-pub gap_short : (n start p : ℕ) (r : List Bool) → length r < n → reading (gap_of start n) p r ≡ Err (at Truncated start)
-gap_short n start p r short = rw (lt-ltb (length r) n short) refl
+pub gap_short : (n first p : ℕ) (r : List Bool) → length r < n → reading (gap_of first n) p r ≡ Err (at Truncated first)
+gap_short n first p r short = rw (lt-ltb (length r) n short) refl
 
 -- so many bits, and then so many
-gap_both : (n more start p : ℕ) (r : List Bool) → reading (gap_of start n >> gap_of start more) p r ≡ reading (gap_of start (n + more)) p r
-gap_both n more start p r = elim (cases_lt (length r) n) [
+gap_both : (n more first p : ℕ) (r : List Bool) → reading (gap_of first n >> gap_of first more) p r ≡ reading (gap_of first (n + more)) p r
+gap_both n more first p r = elim (cases_lt (length r) n) [
   | inl lt ↦ rw (lt-ltb (length r) n lt, lt-ltb (length r) (n + more) (omega arith)) refl
   | inr le ↦ elim (cases_lt (length r) (n + more)) [
     | inl less ↦ rw (le-ltb (length r) n le, lt-ltb (length r) (n + more) less, lt-ltb (length (drop n r)) more (omega (arith, length-drop n r))) refl
@@ -42,8 +42,8 @@ gap_both n more start p r = elim (cases_lt (length r) n) [
 
 -- ---- what a step takes
 
-pub bits_skipped : (was : Bool) (start most count p q : ℕ) (f g : Flow) (now : Reader) → reader_of was p f ≡ now → was ≡ true → Skips f g count → count ≤ most → q ≡ p + count → TookGap start most count now (reader_of was q g)
-bits_skipped was start most count p q f g now view live skips few q_is =
+pub bits_skipped : (was : Bool) (first most count p q : ℕ) (f g : Flow) (now : Reader) → reader_of was p f ≡ now → was ≡ true → Skips f g count → count ≤ most → q ≡ p + count → TookGap first most count now (reader_of was q g)
+bits_skipped was first most count p q f g now view live skips few q_is =
     rw (← view, live, q_is) (record {
       some = skips.some;
       few = few;
@@ -55,7 +55,7 @@ bits_skipped was start most count p q f g now view live skips few q_is =
         end = skips.end;
         limit = skips.limit;
         extent = λ k. rw (skips.total k, skips.end, skips.limit) refl;
-        reads = λ k. gap_whole count start p (flow_bits f) (skips.there k) ∙ ap (λ (r : List Bool). Ok (tt, p + count, r)) (sym (skips.left k));
+        reads = λ k. gap_whole count first p (flow_bits f) (skips.there k) ∙ ap (λ (r : List Bool). Ok (tt, p + count, r)) (sym (skips.left k));
       };
       moves = refl;
     })
@@ -76,9 +76,9 @@ stopped_elsewhere rule a Write r s t live why = why
 stopped_elsewhere rule a OutputTooLong r s t live why = why
 
 -- not one bit is left
-pub none_skipped : (was : Bool) (start field p : ℕ) (f g : Flow) (missing : Missing) (fault : Fault) (now new : Reader) → reader_of was p f ≡ now → was ≡ true → Fills 1 f g (Err missing) → fault ≡ fault_of_missing missing field g.limit → new ≡ stopped_at (reader_of was p g) start → Why (gap_of field 1) now fault new
-none_skipped was start field p f g missing fault now new view live fills fault_is new_is =
-    rw (fault_is, new_is, ← view, live) (stopped_elsewhere (gap_of field 1) (reader_of true p f) (fault_of_missing missing field g.limit) (reader_of true p g) field start refl
+pub none_skipped : (was : Bool) (first field p : ℕ) (f g : Flow) (missing : Missing) (fault : Fault) (now new : Reader) → reader_of was p f ≡ now → was ≡ true → Fills 1 f g (Err missing) → fault ≡ fault_of_missing missing field g.limit → new ≡ stopped_at (reader_of was p g) first → Why (gap_of field 1) now fault new
+none_skipped was first field p f g missing fault now new view live fills fault_is new_is =
+    rw (fault_is, new_is, ← view, live) (stopped_elsewhere (gap_of field 1) (reader_of true p f) (fault_of_missing missing field g.limit) (reader_of true p g) field first refl
     (window_missed (gap_of field 1) 1 field p f g missing (λ more short. gap_short 1 field p (f.window ++ more) short) fills))
 
 pub missed_is_reader : (was : Bool) (p : ℕ) (f g : Flow) (missing : Missing) → IsReader was p f → was ≡ true → Fills 1 f g (Err missing) → IsReader was p g
@@ -94,7 +94,7 @@ pub record Skipping (bits left : ℕ) (a b : Reader) : Type 0 where
   pub live : b.live ≡ true
   pub few : left ≤ bits
   pub moves : b.position ≡ a.position + (bits - left)
-  pub took : (start : ℕ) → Took (gap_of start (bits - left)) a tt b
+  pub took : (first : ℕ) → Took (gap_of first (bits - left)) a tt b
 
 pub skipping_begins : (bits : ℕ) (a : Reader) → a.live ≡ true → Skipping bits bits a a
 skipping_begins bits a live =
@@ -103,11 +103,11 @@ skipping_begins bits a live =
       live = live;
       few = omega arith;
       moves = omega arith;
-      took = λ start. rw none (same_reading (gives tt) (gap_of start 0) a (Ok tt) a (λ p r. no_gap start p r) (took_nothing tt a live));
+      took = λ first. rw none (same_reading (gives tt) (gap_of first 0) a (Ok tt) a (λ p r. no_gap first p r) (took_nothing tt a live));
     }
   where
-    no_gap : (start p : ℕ) (r : List Bool) → reading (gives tt) p r ≡ reading (gap_of start 0) p r
-    no_gap start p r = let same : p + 0 ≡ p = omega arith in rw (le-ltb (length r) 0 (omega arith), same) refl
+    no_gap : (first p : ℕ) (r : List Bool) → reading (gives tt) p r ≡ reading (gap_of first 0) p r
+    no_gap first p r = let same : p + 0 ≡ p = omega arith in rw (le-ltb (length r) 0 (omega arith), same) refl
 
 pub read_or_not : (fault : grammar.Fault) (x : (Unit {0}) × ℕ × List Bool) → Err fault ≡ Ok x → ⊥
 read_or_not fault x e = cc
@@ -138,9 +138,9 @@ skipping_goes_on bits left field count a b c so t =
       live = t.took.live;
       few = omega (arith, so.few);
       moves = omega (arith, so.moves, t.moves, so.few, t.few);
-      took = λ start. subst (λ (n : ℕ). Took (gap_of start n) a tt c) e
-          (same_reading (gap_of start (bits - left) >> gap_of start count) (gap_of start (bits - left + count)) a (Ok tt) c (λ p r. gap_both (bits - left) count start p r)
-          (took_then (gap_of start (bits - left)) (λ v. gap_of start count) a tt b (Ok tt) c (so.took start) (gap_elsewhere count field start b c t.took)));
+      took = λ first. subst (λ (n : ℕ). Took (gap_of first n) a tt c) e
+          (same_reading (gap_of first (bits - left) >> gap_of first count) (gap_of first (bits - left + count)) a (Ok tt) c (λ p r. gap_both (bits - left) count first p r)
+          (took_then (gap_of first (bits - left)) (λ v. gap_of first count) a tt b (Ok tt) c (so.took first) (gap_elsewhere count field first b c t.took)));
     }
 
 -- ---- the gap
@@ -177,17 +177,17 @@ fails_after {A} rule n field a b fault c t ends why =
           absurd (subst (λ (x : Result ((Unit {0}) × ℕ × List Bool) grammar.Fault). Breaks a.extent x reason bit) read h)
     ]
 
-pub gap_fails : (start bits left : ℕ) (a b : Reader) (fault : Fault) (c : Reader) → Skipping bits left a b → 0 < left → Why (gap_of start 1) b fault c → start ≡ a.position → Why (any_bits bits) a fault c
+pub gap_fails : (first bits left : ℕ) (a b : Reader) (fault : Fault) (c : Reader) → Skipping bits left a b → 0 < left → Why (gap_of first 1) b fault c → first ≡ a.position → Why (any_bits bits) a fault c
 unfolding any_bits
-gap_fails start bits left a b fault c so some why here =
-    let all : Why (gap_of start bits) a fault c = fails_after (gap_of start bits) (bits - left) start a b fault c (so.took start) (λ e. gap_short bits start a.position a.left (omega (arith, so.few, e))) why in
+gap_fails first bits left a b fault c so some why here =
+    let all : Why (gap_of first bits) a fault c = fails_after (gap_of first bits) (bits - left) first a b fault c (so.took first) (λ e. gap_short bits first a.position a.left (omega (arith, so.few, e))) why in
     from_here (λ s. gap_of s bits) a (Err fault) c (subst (λ (s : ℕ). Why (gap_of s bits) a fault c) here all)
 
-pub gap_skipped : (start bits left : ℕ) (a b : Reader) → Skipping bits left a b → left ≤ 0 → start ≡ a.position → Took (any_bits bits) a tt b
+pub gap_skipped : (first bits left : ℕ) (a b : Reader) → Skipping bits left a b → left ≤ 0 → first ≡ a.position → Took (any_bits bits) a tt b
 unfolding any_bits
-gap_skipped start bits left a b so done here =
+gap_skipped first bits left a b so done here =
     let n : bits - left ≡ bits = omega arith in
-    let all : Took (gap_of start bits) a tt b = subst (λ (m : ℕ). Took (gap_of start m) a tt b) n (so.took start) in
+    let all : Took (gap_of first bits) a tt b = subst (λ (m : ℕ). Took (gap_of first m) a tt b) n (so.took first) in
     from_here (λ s. gap_of s bits) a (Ok tt) b (subst (λ (s : ℕ). Took (gap_of s bits) a tt b) here all)
 
 -- so many bits at once

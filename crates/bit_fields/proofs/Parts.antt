@@ -20,13 +20,13 @@ use Rattle.bit_fields.proofs.Composing.{fault_then, took_then, took_nothing, fro
 -- ---- the reading
 
 -- n bits at the front
-pub part_at : (n start p : ℕ) (w rest : List Bool) → n ≤ length w → reading (part_of start n) p (w ++ rest) ≡ Ok (number (take n w), p + n, drop n w ++ rest)
-part_at n start p w rest there =
+pub part_at : (n first p : ℕ) (w rest : List Bool) → n ≤ length w → reading (part_of first n) p (w ++ rest) ≡ Ok (number (take n w), p + n, drop n w ++ rest)
+part_at n first p w rest there =
     rw (le-ltb (length (w ++ rest)) n (omega (arith, length-append w rest)), take-append-le n w rest there, drop-append-le n w rest there) refl
 
 -- fewer bits
-pub part_short : (n start p : ℕ) (r : List Bool) → length r < n → reading (part_of start n) p r ≡ Err (at Truncated start)
-part_short n start p r short = rw (lt-ltb (length r) n short) refl
+pub part_short : (n first p : ℕ) (r : List Bool) → length r < n → reading (part_of first n) p r ≡ Err (at Truncated first)
+part_short n first p r short = rw (lt-ltb (length r) n short) refl
 
 -- ---- the call
 
@@ -44,16 +44,16 @@ window_took rule value n p f g kept read = record {
 }
 
 -- a rule that is truncated where fewer than n bits are left
-pub window_missed : {A : Type 0} (rule : Grammar A) (n start p : ℕ) (f g : Flow) (missing : Missing) → ((more : List Bool) → length (f.window ++ more) < n → reading rule p (f.window ++ more) ≡ Err (at Truncated start)) → Fills n f g (Err missing) → Why rule (reader_of true p f) (fault_of_missing missing start g.limit) (stopped_at (reader_of true p g) start)
-window_missed rule n start p f g End short out = (
+pub window_missed : {A : Type 0} (rule : Grammar A) (n first p : ℕ) (f g : Flow) (missing : Missing) → ((more : List Bool) → length (f.window ++ more) < n → reading rule p (f.window ++ more) ≡ Err (at Truncated first)) → Fills n f g (Err missing) → Why rule (reader_of true p f) (fault_of_missing missing first g.limit) (stopped_at (reader_of true p g) first)
+window_missed rule n first p f g End short out = (
   record { was_live = refl; failed = refl; goes_on = Spends-none f.incoming (budget_of f) g.incoming (budget_of g) out.keeps.spends },
   λ k. rw (short (bits_of_bytes (take (stop_of f - f.loaded) (known_bytes f.incoming.to_come))) (out.left k)) (rw (out.cut k) refl),
 )
-window_missed rule n start p f g Limit short out = (
+window_missed rule n first p f g Limit short out = (
   record { was_live = refl; failed = refl; goes_on = Spends-none f.incoming (budget_of f) g.incoming (budget_of g) out.keeps.spends },
   λ k. rw (short (bits_of_bytes (take (stop_of f - f.loaded) (known_bytes f.incoming.to_come))) (out.left k)) (rw (out.cut k, out.keeps.limit) refl),
 )
-window_missed rule n start p f g Read short lost = record { was_live = refl; failed = refl; fails = lost.fails }
+window_missed rule n first p f g Read short lost = record { was_live = refl; failed = refl; fails = lost.fails }
 
 -- ---- as the code has them
 
@@ -73,21 +73,21 @@ pub record Filled (n p : ℕ) (f : Flow) (alive : Bool) (q : ℕ) (g : Flow) : T
   pub keeps : KeepsFlow f g
   pub there : n ≤ length g.window
 
-pub took_as : (n start p q value after_q : ℕ) (was live : Bool) (f g after : Flow) (now : Reader) → was ≡ true → reader_of was p f ≡ now → Filled n p f live q g → value ≡ number (take n g.window) → after_q ≡ q + n → after ≡ record g { window = drop n g.window }
-    → Took (part_of start n) now value (reader_of live after_q after)
-took_as n start p q value after_q was live f g after now was_live now_is filled value_is q_is after_is =
-    rw (← now_is, was_live, filled.live, value_is, q_is, filled.position, after_is) (window_took (part_of start n) (number (take n g.window)) n p f g filled.keeps (λ rest. part_at n start p g.window rest filled.there))
+pub took_as : (n first p q value after_q : ℕ) (was live : Bool) (f g after : Flow) (now : Reader) → was ≡ true → reader_of was p f ≡ now → Filled n p f live q g → value ≡ number (take n g.window) → after_q ≡ q + n → after ≡ record g { window = drop n g.window }
+    → Took (part_of first n) now value (reader_of live after_q after)
+took_as n first p q value after_q was live f g after now was_live now_is filled value_is q_is after_is =
+    rw (← now_is, was_live, filled.live, value_is, q_is, filled.position, after_is) (window_took (part_of first n) (number (take n g.window)) n p f g filled.keeps (λ rest. part_at n first p g.window rest filled.there))
 
-pub missed_as : (n start p : ℕ) (was : Bool) (f g : Flow) (missing : Missing) (now new : Reader) (fault : Fault) → was ≡ true → reader_of was p f ≡ now → Fills n f g (Err missing) → fault ≡ fault_of_missing missing start g.limit → new ≡ stopped_at (reader_of was p g) start
-    → Why (part_of start n) now fault new
-missed_as n start p was f g missing now new fault was_live now_is fills fault_is new_is =
-    rw (← now_is, new_is, was_live, fault_is) (window_missed (part_of start n) n start p f g missing (λ more short. part_short n start p (f.window ++ more) short) fills)
+pub missed_as : (n first p : ℕ) (was : Bool) (f g : Flow) (missing : Missing) (now new : Reader) (fault : Fault) → was ≡ true → reader_of was p f ≡ now → Fills n f g (Err missing) → fault ≡ fault_of_missing missing first g.limit → new ≡ stopped_at (reader_of was p g) first
+    → Why (part_of first n) now fault new
+missed_as n first p was f g missing now new fault was_live now_is fills fault_is new_is =
+    rw (← now_is, new_is, was_live, fault_is) (window_missed (part_of first n) n first p f g missing (λ more short. part_short n first p (f.window ++ more) short) fills)
 
 -- ---- fields of one part
 
-pub fixed_from : (n start : ℕ) (a : Reader) (result : Result ℕ Fault) (b : Reader) → start ≡ a.position → Takes (part_of start n) a result b → Takes (fixed n) a result b
+pub fixed_from : (n first : ℕ) (a : Reader) (result : Result ℕ Fault) (b : Reader) → first ≡ a.position → Takes (part_of first n) a result b → Takes (fixed n) a result b
 unfolding fixed
-fixed_from n start a result b here t = from_here (λ p. part_of p n) a result b (subst (λ (p : ℕ). Takes (part_of p n) a result b) here t)
+fixed_from n first a result b here t = from_here (λ p. part_of p n) a result b (subst (λ (p : ℕ). Takes (part_of p n) a result b) here t)
 
 pub byte_from : (a : Reader) (result : Result ℕ Fault) (b : Reader) → Takes (fixed 8) a result b → Takes byte a result b
 unfolding byte

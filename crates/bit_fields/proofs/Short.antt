@@ -139,32 +139,32 @@ fits_places payload places word le =
     lt-ltb (word % 2 ^ payload) (2 ^ places) (omega (arith, wide, mod_below word (2 ^ payload) (pow_pos payload)))
 
 -- the first chunk of the bits of a word, and what follows it
-first_reads : (payload start permitted places held word p : ℕ) (rest : List Bool) → suc payload ≤ held → reading (chunks payload start (suc permitted) places) p (bits_of held word ++ rest) ≡ reading (after_number payload start permitted places (word % 2 ^ suc payload)) (p + suc payload) (bits_of (held - suc payload) (word / 2 ^ suc payload) ++ rest)
-first_reads payload start permitted places held word p rest there =
+first_reads : (payload first permitted places held word p : ℕ) (rest : List Bool) → suc payload ≤ held → reading (chunks payload first (suc permitted) places) p (bits_of held word ++ rest) ≡ reading (after_number payload first permitted places (word % 2 ^ suc payload)) (p + suc payload) (bits_of (held - suc payload) (word / 2 ^ suc payload) ++ rest)
+first_reads payload first permitted places held word p rest there =
     let w : List Bool = bits_of held word in
     let many : suc payload ≤ length w = rw (length-bits_of held word) there in
     let chunk : number (take (suc payload) w) ≡ word % 2 ^ suc payload = ap number (take-bits_of (suc payload) held word there) ∙ number-bits_mod (suc payload) word in
     let behind : drop (suc payload) w ≡ bits_of (held - suc payload) (word / 2 ^ suc payload) = sym (window_rest held word (suc payload) w there refl) in
-    sym (chunk_step payload start permitted places p (w ++ rest))
-    ∙ rw (part_at (suc payload) start p w rest many, chunk, behind) refl
+    sym (chunk_step payload first permitted places p (w ++ rest))
+    ∙ rw (part_at (suc payload) first p w rest many, chunk, behind) refl
 
-pub short_reads : (count payload start permitted places held word p : ℕ) (rest : List Bool) → EndsChunks payload count word → count ≤ permitted → count * suc payload ≤ held → count * payload ≤ places
-    → reading (chunks payload start permitted places) p (bits_of held word ++ rest) ≡ Ok (payload_number payload count word, p + count * suc payload, drop (count * suc payload) (bits_of held word) ++ rest)
-short_reads zero payload start permitted places held word p rest ends few there fits = absurd ends
-short_reads (suc zero) payload start zero places held word p rest ends few there fits = absurd (omega (arith, few))
-short_reads (suc zero) payload start (suc permitted) places held word p rest ends few there fits =
+pub short_reads : (count payload first permitted places held word p : ℕ) (rest : List Bool) → EndsChunks payload count word → count ≤ permitted → count * suc payload ≤ held → count * payload ≤ places
+    → reading (chunks payload first permitted places) p (bits_of held word ++ rest) ≡ Ok (payload_number payload count word, p + count * suc payload, drop (count * suc payload) (bits_of held word) ++ rest)
+short_reads zero payload first permitted places held word p rest ends few there fits = absurd ends
+short_reads (suc zero) payload first zero places held word p rest ends few there fits = absurd (omega (arith, few))
+short_reads (suc zero) payload first (suc permitted) places held word p rest ends few there fits =
     let behind : bits_of (held - suc payload) (word / 2 ^ suc payload) ≡ drop (suc payload) (bits_of held word) = window_rest held word (suc payload) (bits_of held word) (omega (arith, there)) refl in
     let value : word % 2 ^ payload ≡ payload_number payload 1 word = omega arith in
     let bits : 1 * suc payload ≡ suc payload = omega arith in
-    first_reads payload start permitted places held word p rest (omega (arith, there))
+    first_reads payload first permitted places held word p rest (omega (arith, there))
     ∙ rw (payload_is payload word, ends_there payload word ends, fits_places payload places word (omega (arith, fits)), behind, bits, ← value) refl
-short_reads (suc (suc count)) payload start zero places held word p rest ends few there fits = absurd (omega (arith, few))
-short_reads (suc (suc count)) payload start (suc permitted) places held word p rest ends few there fits =
+short_reads (suc (suc count)) payload first zero places held word p rest ends few there fits = absurd (omega (arith, few))
+short_reads (suc (suc count)) payload first (suc permitted) places held word p rest ends few there fits =
     let behind : bits_of (held - suc payload) (word / 2 ^ suc payload) ≡ drop (suc payload) (bits_of held word) = window_rest held word (suc payload) (bits_of held word) (omega (arith, there)) refl in
-    let later = short_reads (suc count) payload start permitted (places - payload) (held - suc payload) (word / 2 ^ suc payload) (p + suc payload) rest ends.1 (omega (arith, few)) (omega (arith, there)) (omega (arith, fits)) in
+    let later = short_reads (suc count) payload first permitted (places - payload) (held - suc payload) (word / 2 ^ suc payload) (p + suc payload) rest ends.1 (omega (arith, few)) (omega (arith, there)) (omega (arith, fits)) in
     let dropped : drop (suc count * suc payload) (bits_of (held - suc payload) (word / 2 ^ suc payload)) ≡ drop (suc (suc count) * suc payload) (bits_of held word) = ap (drop (suc count * suc payload)) behind ∙ drop_more (suc payload) (suc count * suc payload) (bits_of held word) ∙ ap (λ (k : ℕ). drop k (bits_of held word)) {y = suc (suc count) * suc payload} (omega arith) in
     let place : p + suc payload + suc count * suc payload ≡ p + suc (suc count) * suc payload = omega arith in
-    first_reads payload start permitted places held word p rest (omega (arith, there))
+    first_reads payload first permitted places held word p rest (omega (arith, there))
     ∙ rw (payload_is payload word, goes_there payload word ends.0, fits_places payload places word (omega (arith, fits)), later, dropped, place) refl
 
 -- ---- four chunks at most
@@ -318,20 +318,20 @@ held_beyond payload held word below on = elim (cases_lt held (suc payload)) [
   | inr le ↦ le
 ]
 
-short_truncated : (count payload start permitted places held word p : ℕ) (more : List Bool) → word < 2 ^ held → EndsChunks payload count word → count ≤ permitted → count * payload ≤ places → length (bits_of held word ++ more) < count * suc payload
-    → reading (chunks payload start permitted places) p (bits_of held word ++ more) ≡ Err (at Truncated start)
-short_truncated zero payload start permitted places held word p more below ends few fits short = absurd ends
-short_truncated (suc zero) payload start zero places held word p more below ends few fits short = absurd (omega (arith, few))
-short_truncated (suc zero) payload start (suc permitted) places held word p more below ends few fits short =
-    sym (chunk_step payload start permitted places p (bits_of held word ++ more))
-    ∙ rw (part_short (suc payload) start p (bits_of held word ++ more) (omega (arith, short))) refl
-short_truncated (suc (suc count)) payload start zero places held word p more below ends few fits short = absurd (omega (arith, few))
-short_truncated (suc (suc count)) payload start (suc permitted) places held word p more below ends few fits short =
+short_truncated : (count payload first permitted places held word p : ℕ) (more : List Bool) → word < 2 ^ held → EndsChunks payload count word → count ≤ permitted → count * payload ≤ places → length (bits_of held word ++ more) < count * suc payload
+    → reading (chunks payload first permitted places) p (bits_of held word ++ more) ≡ Err (at Truncated first)
+short_truncated zero payload first permitted places held word p more below ends few fits short = absurd ends
+short_truncated (suc zero) payload first zero places held word p more below ends few fits short = absurd (omega (arith, few))
+short_truncated (suc zero) payload first (suc permitted) places held word p more below ends few fits short =
+    sym (chunk_step payload first permitted places p (bits_of held word ++ more))
+    ∙ rw (part_short (suc payload) first p (bits_of held word ++ more) (omega (arith, short))) refl
+short_truncated (suc (suc count)) payload first zero places held word p more below ends few fits short = absurd (omega (arith, few))
+short_truncated (suc (suc count)) payload first (suc permitted) places held word p more below ends few fits short =
     let there : suc payload ≤ held = held_beyond payload held word below ends.0 in
     let long : length (bits_of held word ++ more) ≡ held + length more = length-append (bits_of held word) more ∙ ap (λ (k : ℕ). k + length more) (length-bits_of held word) in
     let long_behind : length (bits_of (held - suc payload) (word / 2 ^ suc payload) ++ more) ≡ held - suc payload + length more = length-append (bits_of (held - suc payload) (word / 2 ^ suc payload)) more ∙ ap (λ (k : ℕ). k + length more) (length-bits_of (held - suc payload) (word / 2 ^ suc payload)) in
-    let later = short_truncated (suc count) payload start permitted (places - payload) (held - suc payload) (word / 2 ^ suc payload) (p + suc payload) more (rest_below held word (suc payload) there below) ends.1 (omega (arith, few)) (omega (arith, fits)) (omega (arith, short, long, long_behind, there)) in
-    first_reads payload start permitted places held word p more there
+    let later = short_truncated (suc count) payload first permitted (places - payload) (held - suc payload) (word / 2 ^ suc payload) (p + suc payload) more (rest_below held word (suc payload) there below) ends.1 (omega (arith, few)) (omega (arith, fits)) (omega (arith, short, long, long_behind, there)) in
+    first_reads payload first permitted places held word p more there
     ∙ rw (payload_is payload word, goes_there payload word ends.0, fits_places payload places word (omega (arith, fits)), later) refl
 
 vbr_truncated : (payload count p : ℕ) (w more : List Bool) → 1 ≤ payload → payload ≤ 13 → count ≤ 4 → EndsChunks payload count (number w) → length (w ++ more) < suc payload * count → reading (vbr (suc payload)) p (w ++ more) ≡ Err (at Truncated p)

@@ -44,10 +44,10 @@ char6_glimpsed code value a b seen is = rw (seen, is) refl
 
 -- ---- numbers in chunks
 
-pub part_glimpsed : (n start end : ℕ) (w : List Bool) (bytes : List ℕ) → n ≤ length w → length w + 8 * length bytes ≤ end → Glimpsed (part_of start n) (sight_of end w bytes) (number (take n w)) (sight_of end (drop n w) bytes)
-part_glimpsed n start end w bytes there fits =
+pub part_glimpsed : (n first end : ℕ) (w : List Bool) (bytes : List ℕ) → n ≤ length w → length w + 8 * length bytes ≤ end → Glimpsed (part_of first n) (sight_of end w bytes) (number (take n w)) (sight_of end (drop n w) bytes)
+part_glimpsed n first end w bytes there fits =
     let place : end - (length w + 8 * length bytes) + n ≡ end - (length (drop n w) + 8 * length bytes) = omega (arith, length-drop n w) in
-    part_at n start (end - (length w + 8 * length bytes)) w (bits_of_bytes bytes) there ∙ ap (λ (q : ℕ). Ok (number (take n w), q, drop n w ++ bits_of_bytes bytes)) place
+    part_at n first (end - (length w + 8 * length bytes)) w (bits_of_bytes bytes) there ∙ ap (λ (q : ℕ). Ok (number (take n w), q, drop n w ++ bits_of_bytes bytes)) place
 
 pub one_glimpsed : (n end chunk : ℕ) (a : InSight) (w after : List Bool) (bytes : List ℕ) → sight_of end w bytes ≡ a → 2 ≤ n → n ≤ 32 → n ≤ length w → length w + 8 * length bytes ≤ end → chunk ≡ number (take n w) → chunk < 2 ^ (n - 1) → after ≡ drop n w → Glimpsed (vbr n) a chunk (sight_of end after bytes)
 one_glimpsed n end chunk a w after bytes is two few there fits chunk_is last after_is =
@@ -91,13 +91,13 @@ no_answer : (fault : Fault) (x : ℕ × ℕ × List Bool) → ◌≡◌ {A = Res
 no_answer fault x e = cc
 
 -- what is left behind a part
-part_passed : (n start value : ℕ) (a b : InSight) → Glimpsed (part_of start n) a value b → (n ≤ length a.bits) × (b ≡ beyond a n)
-part_passed n start value a b seen = elim (cases_lt (length a.bits) n) [
-  | inl short ↦ absurd (no_answer (at Truncated start) (value, b.position, b.bits) (sym (part_short n start a.position a.bits short) ∙ seen))
+part_passed : (n first value : ℕ) (a b : InSight) → Glimpsed (part_of first n) a value b → (n ≤ length a.bits) × (b ≡ beyond a n)
+part_passed n first value a b seen = elim (cases_lt (length a.bits) n) [
+  | inl short ↦ absurd (no_answer (at Truncated first) (value, b.position, b.bits) (sym (part_short n first a.position a.bits short) ∙ seen))
   | inr there ↦
       let none : drop n a.bits ++ [] ≡ drop n a.bits = append-nil (drop n a.bits) in
-      let whole : reading (part_of start n) a.position (a.bits ++ []) ≡ Ok (number (take n a.bits), a.position + n, drop n a.bits ++ []) = part_at n start a.position a.bits [] there in
-      let read = ap (reading (part_of start n) a.position) (append-nil a.bits) in
+      let whole : reading (part_of first n) a.position (a.bits ++ []) ≡ Ok (number (take n a.bits), a.position + n, drop n a.bits ++ []) = part_at n first a.position a.bits [] there in
+      let read = ap (reading (part_of first n) a.position) (append-nil a.bits) in
       let e = answer_of (number (take n a.bits), a.position + n, drop n a.bits ++ []) (value, b.position, b.bits) (sym whole ∙ read ∙ seen) in
       (there, sight_is b.position (a.position + n) b.bits (drop n a.bits) (sym e.0) (sym e.1 ∙ none))
 ]

@@ -6,7 +6,7 @@ ghost use Rattle.bit_fields.specs.Inside.{part_of, numbers};
 ghost use Rattle.bit_fields.specs.Ahead.{Glimpsed, beyond};
 ghost use Rattle.bit_fields.specs.Sight.{sight_lent, IsSight};
 
-use crate::numbers::{MOST_SHORT, character, payload_of, placed};
+use crate::numbers::{MOST_SHORT, character, payload_of, worth_at};
 use crate::window::Window;
 use crate::word::four_of;
 use std::marker::Model;
@@ -252,7 +252,7 @@ impl<'a> Ahead<'a> {
         let mut place = n - 1;
         while place < 64 {
             let chunk = self.part(n)?;
-            value += placed(payload_of(chunk, n), place)?;
+            value += worth_at(payload_of(chunk, n), place)?;
             if chunk < 1 << (n - 1) {
                 return Some(value);
             }

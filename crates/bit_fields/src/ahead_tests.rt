@@ -1,6 +1,6 @@
 //! Fields read from what is in sight, against fields that the reader reads.
 
-use crate::tests::{after_magic, in_steps, shown};
+use crate::tests::{after_magic, in_steps, shown_source};
 use crate::{Ahead, BitReader, Fault, Limits, SliceSource, Source};
 use std::process::Abort;
 
@@ -14,14 +14,14 @@ const BYTES: [u8; 20] = [
 const MOST: u64 = 60;
 
 /// A number that tells apart which values were read in which order.
-fn mixed(before: u64, value: u64) -> u64 {
+fn mix(before: u64, value: u64) -> u64 {
     before
         .wrapping_mul(0x9E37_79B9_7F4A_7C15)
         .wrapping_add(value.wrapping_add(1))
 }
 
 /// The field at a place, from what is in sight.
-fn seen(ahead: &mut Ahead<'_>, place: u64) -> Option<u64> {
+fn field_in_sight(ahead: &mut Ahead<'_>, place: u64) -> Option<u64> {
     match place % 7 {
         0 => ahead.fixed(1),
         1 => ahead.vbr(6),
@@ -29,12 +29,12 @@ fn seen(ahead: &mut Ahead<'_>, place: u64) -> Option<u64> {
         3 => ahead.vbr(3),
         4 => ahead.fixed(13),
         5 => ahead.pass_vbr(4),
-        _ => Some(skipped(ahead.skip_fixed(3, 5)?)),
+        _ => Some(no_value(ahead.skip_fixed(3, 5)?)),
     }
 }
 
 /// The same from the reader.
-fn read<S: Source>(reader: &mut BitReader<S>, place: u64) -> Result<u64, Fault> {
+fn field_read<S: Source>(reader: &mut BitReader<S>, place: u64) -> Result<u64, Fault> {
     match place % 7 {
         0 => reader.fixed(1),
         1 => reader.vbr(6),
@@ -42,11 +42,11 @@ fn read<S: Source>(reader: &mut BitReader<S>, place: u64) -> Result<u64, Fault> 
         3 => reader.vbr(3),
         4 => reader.fixed(13),
         5 => reader.vbr(4),
-        _ => Ok(skipped(reader.skip_fixed(3, 5)?)),
+        _ => Ok(no_value(reader.skip_fixed(3, 5)?)),
     }
 }
 
-fn skipped(_: ()) -> u64 {
+fn no_value(_: ()) -> u64 {
     7
 }
 
@@ -62,7 +62,7 @@ struct Far {
 fn further(far: Far, value: u64, in_sight: u64) -> Far {
     Far {
         place: far.place.saturating_add(1),
-        values: mixed(far.values, value),
+        values: mix(far.values, value),
         in_sight: far.in_sight.saturating_add(in_sight),
     }
 }
@@ -73,7 +73,7 @@ fn run(mut ahead: Ahead<'_>, most: u64, from: Far) -> (Far, u64) {
     let mut bits = 0;
     let mut far = from;
     for _ in 0..most {
-        match seen(&mut ahead, far.place) {
+        match field_in_sight(&mut ahead, far.place) {
             None => return (far, bits),
             Some(value) => far = further(far, value, 1),
         }
@@ -91,7 +91,7 @@ fn run_of<S: Source>(reader: &mut BitReader<S>, most: u64, from: Far) -> Result<
 
 /// Reads one field of the reader.
 fn one_of<S: Source>(reader: &mut BitReader<S>, from: Far) -> Result<Far, Fault> {
-    let value = read(reader, from.place)?;
+    let value = field_read(reader, from.place)?;
     Ok(further(from, value, 0))
 }
 
@@ -117,7 +117,7 @@ fn by_runs<S: Source>(reader: &mut BitReader<S>, most: u64) -> (Far, Option<Faul
 }
 
 /// A reader behind the magic.
-fn begun<S: Source + Drop>(rt: &impl Abort, source: S) -> BitReader<S> {
+fn reader_of<S: Source + Drop>(rt: &impl Abort, source: S) -> BitReader<S> {
     match BitReader::start(source, Limits::usual()) {
         Ok((reader, _)) => reader,
         Err((fault, _)) => panic!(rt; "{fault}"),
@@ -126,7 +126,7 @@ fn begun<S: Source + Drop>(rt: &impl Abort, source: S) -> BitReader<S> {
 
 /// The same of a source from its beginning.
 fn runs_of<S: Source + Drop>(rt: &impl Abort, source: S, most: u64) -> (Far, Option<Fault>, u64) {
-    by_runs(&mut begun(rt, source), most)
+    by_runs(&mut reader_of(rt, source), most)
 }
 
 /// What reading without what is in sight comes to: the values, the fault and the position.
@@ -159,7 +159,7 @@ fn runs_of_what_is_shown(rt: HostRuntime) {
     let told = plain(&rt, &input);
     for step in 1..25 {
         for most in [1, 3, MOST] {
-            let far = runs_of(&rt, shown(&input, step, 0), most);
+            let far = runs_of(&rt, shown_source(&input, step, 0), most);
             assert!(rt; same(far, told), "{step} {most}");
         }
     }
@@ -176,7 +176,7 @@ fn runs_of_what_is_read(rt: HostRuntime) {
 }
 
 /// Whether they came to the fault of a reader that failed.
-fn failed(told: (Far, Option<Fault>, u64)) -> bool {
+fn is_failure(told: (Far, Option<Fault>, u64)) -> bool {
     let (far, fault, position) = told;
     fault == Some(Fault::Read) && far.place < MOST && position <= 192
 }
@@ -187,14 +187,14 @@ fn failures_of_what_is_shown(rt: HostRuntime) {
     let told = plain(&rt, &input);
     for fails_at in 3..12 {
         // where it fails to show once more what it has shown, nothing is lent
-        let far = runs_of(&rt, shown(&input, 5, fails_at), 2);
-        assert!(rt; failed(far) || same(far, told), "{fails_at}");
-        assert!(rt; failed(far) || fails_at % 2 == 0, "{fails_at}");
+        let far = runs_of(&rt, shown_source(&input, 5, fails_at), 2);
+        assert!(rt; is_failure(far) || same(far, told), "{fails_at}");
+        assert!(rt; is_failure(far) || fails_at % 2 == 0, "{fails_at}");
     }
 }
 
 /// The fault with which lending ends, if it does.
-fn unseen<S: Source>(reader: &mut BitReader<S>) -> Option<Fault> {
+fn sight_fault<S: Source>(reader: &mut BitReader<S>) -> Option<Fault> {
     match reader.sight() {
         Ok(_) => None,
         Err(fault) => Some(fault),
@@ -204,7 +204,7 @@ fn unseen<S: Source>(reader: &mut BitReader<S>) -> Option<Fault> {
 #[test]
 fn failed_sights(rt: HostRuntime) {
     let input = after_magic(&BYTES);
-    let mut reader = begun(&rt, shown(&input, 5, 3));
-    let faults = [unseen(&mut reader), unseen(&mut reader)];
+    let mut reader = reader_of(&rt, shown_source(&input, 5, 3));
+    let faults = [sight_fault(&mut reader), sight_fault(&mut reader)];
     assert!(rt; faults == [Some(Fault::Read), Some(Fault::Failed)] && reader.position() == 32);
 }

@@ -89,7 +89,7 @@ impl<S: Source> Inflow<S> {
     }
 
     /// How many bits are in the window.
-    pub fn held(&self) -> u32
+    pub fn bits_held(&self) -> u32
         ensures held { result ≡ length self.now.window }
         ensures most { result ≤ 64 }
     {

@@ -52,7 +52,7 @@ impl Kept {
     }
 
     /// Gives up all but so many of its first bytes.
-    fn cut(&mut self, len: usize)
+    fn truncate(&mut self, len: usize)
         ensures whole { self.new.whole ≡ self.old.whole }
         ensures bytes { self.new.bytes.items ≡ take len self.old.bytes.items }
     {
@@ -140,11 +140,11 @@ impl<S: Source> Source for KeptSource<S> {
         match self.source.at_hand(room) {
             AtHand::Word(word) => AtHand::Word(word),
             AtHand::Few => {
-                self.kept.cut(before);
+                self.kept.truncate(before);
                 AtHand::Few
             }
             AtHand::Failed => {
-                self.kept.cut(before);
+                self.kept.truncate(before);
                 AtHand::Failed
             }
         }
@@ -161,11 +161,11 @@ impl<S: Source> Source for KeptSource<S> {
         match self.source.word_behind(count) {
             AtHand::Word(word) => AtHand::Word(word),
             AtHand::Few => {
-                self.kept.cut(before);
+                self.kept.truncate(before);
                 AtHand::Few
             }
             AtHand::Failed => {
-                self.kept.cut(before);
+                self.kept.truncate(before);
                 AtHand::Failed
             }
         }
@@ -185,7 +185,7 @@ impl<S: Source> Source for KeptSource<S> {
 #[cfg(test)]
 mod tests {
     use super::*;
-    use crate::tests::{in_steps, shown};
+    use crate::tests::{in_steps, shown_source};
     use crate::{BitReader, Fault, Limits};
 
     /// A magic and nine bytes.
@@ -228,7 +228,7 @@ mod tests {
     fn bytes_that_pass_are_kept(rt: HostRuntime) {
         for step in 1..12 {
             let all = keeps(rt.alloc(), in_steps(&INPUT, step, 0), 9, 13);
-            let seen = keeps(rt.alloc(), shown(&INPUT, step, 0), 9, 13);
+            let seen = keeps(rt.alloc(), shown_source(&INPUT, step, 0), 9, 13);
             let some = keeps(rt.alloc(), in_steps(&INPUT, step, 0), 2, 6);
             assert!(rt; all && seen && some, "{step}");
         }

@@ -23,7 +23,7 @@ pub fn payload_of(chunk: u64, n: u32) -> u64
 }
 
 /// A payload moved up to a place, if it fits 64 bits there.
-pub fn placed(payload: u64, place: u32) -> Option<u64>
+pub fn worth_at(payload: u64, place: u32) -> Option<u64>
     requires some { 0 < place }
     requires few { place < 64 }
     ensures { MatchOption result (2 ^ (64 - place) ≤ payload)

@@ -15,7 +15,7 @@ use crate::fault::Fault;
 use crate::head::{Head, Wrapper};
 use crate::inflow::{Inflow, Missing};
 use crate::limits::Limits;
-use crate::numbers::{MOST_SHORT, is_lawful, payload_of, placed};
+use crate::numbers::{MOST_SHORT, is_lawful, payload_of, worth_at};
 use crate::source::Source;
 use bit_grammar::{Reason, WRAPPER_MAGIC};
 use std::marker::Model;
@@ -276,7 +276,7 @@ impl<S: Source> BitReader<S> {
         ensures stays { self.old.live ≡ true → OnErr result (self.new.position ≡ first) }
         ensures moves { OnOk result (self.new.position ≡ self.old.position + n) }
     {
-        if self.inflow.held() < n {
+        if self.inflow.bits_held() < n {
             if !self.live {
                 return Err(Fault::Failed);
             }
@@ -352,7 +352,7 @@ impl<S: Source> BitReader<S> {
         ensures { MatchOption result (self.new ≡ self.old)
             (λ value. Took (vbr n) self.old value self.new) }
     {
-        if self.inflow.held() < n || self.inflow.peek(n) >= 1 << (n - 1) {
+        if self.inflow.bits_held() < n || self.inflow.peek(n) >= 1 << (n - 1) {
             return None;
         }
         let chunk = self.inflow.take(n);
@@ -370,7 +370,7 @@ impl<S: Source> BitReader<S> {
             (λ value. Took (vbr n) self.old value self.new) }
     {
         let bits = self.inflow.number_bits(n);
-        if bits > self.inflow.held() {
+        if bits > self.inflow.bits_held() {
             return None;
         }
         let value = self.inflow.take_number(n, bits);
@@ -472,7 +472,7 @@ impl<S: Source> BitReader<S> {
         let mut place = n - 1;
         while place < 64 {
             let chunk = self.part(n, first)?;
-            match placed(payload_of(chunk, n), place) {
+            match worth_at(payload_of(chunk, n), place) {
                 Some(worth) => value += worth,
                 None => return Err(self.fail_at(too_wide, first)),
             }
@@ -517,7 +517,7 @@ impl<S: Source> BitReader<S> {
         ensures memory { NeedsNoMemory result }
         ensures stays { OnErr result (self.new.position ≡ first) }
     {
-        let count = self.inflow.held().min(most);
+        let count = self.inflow.bits_held().min(most);
         if count == 0 || self.inflow.peek(count) != 0 {
             self.one_zero(first)?;
             return Ok(1);
@@ -557,18 +557,18 @@ impl<S: Source> BitReader<S> {
         ensures through { IfOk result (λ end. end ≡ true → IsThrough self.new) }
         ensures stays { self.new.position ≡ self.old.position }
     {
-        if self.inflow.held() > 0 {
+        if self.inflow.bits_held() > 0 {
             return Ok(false);
         }
         if !self.live {
             return Err(Fault::Failed);
         }
-        let place = self.position;
+        let first = self.position;
         match self.inflow.fill(1) {
             Ok(()) => Ok(false),
             Err(Missing::End) => Ok(true),
-            Err(Missing::Limit) => Err(self.miss(Missing::Limit, place)),
-            Err(Missing::Read) => Err(self.miss(Missing::Read, place)),
+            Err(Missing::Limit) => Err(self.miss(Missing::Limit, first)),
+            Err(Missing::Read) => Err(self.miss(Missing::Read, first)),
         }
     }
 

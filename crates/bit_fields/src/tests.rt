@@ -61,7 +61,7 @@ impl<'a> BufRead for Chopped<'a> {
 }
 
 /// A source over what such a reader shows.
-pub(crate) fn shown(bytes: &[u8], step: usize, fails_at: u64) -> BufSource<Chopped<'_>> {
+pub(crate) fn shown_source(bytes: &[u8], step: usize, fails_at: u64) -> BufSource<Chopped<'_>> {
     BufSource::new(Chopped {
         rest: bytes,
         step,
@@ -80,7 +80,7 @@ pub(crate) fn in_steps(bytes: &[u8], step: usize, fails_at: u64) -> ReadSource<C
     })
 }
 
-fn refused(reason: Reason, bit: u64) -> Fault {
+fn refusal(reason: Reason, bit: u64) -> Fault {
     Fault::Refused { reason, bit }
 }
 
@@ -129,7 +129,7 @@ fn words_in_steps(bytes: &[u8], limits: Limits) -> [Result<u64, Fault>; 9] {
 fn words_shown(bytes: &[u8], limits: Limits) -> [Result<u64, Fault>; 9] {
     let mut answers = [Ok(0); 9];
     for (index, answer) in answers.iter_mut().enumerate() {
-        *answer = words(shown(bytes, index + 1, 0), limits);
+        *answer = words(shown_source(bytes, index + 1, 0), limits);
     }
     answers
 }
@@ -144,7 +144,7 @@ fn faults_in_steps(bytes: &[u8], fails_at: u64, limits: Limits) -> [Option<Fault
 }
 
 /// A reader after the magic of the stream.
-fn begun<S: Source + Drop>(rt: &impl Abort, source: S, limits: Limits) -> BitReader<S> {
+fn reader_of<S: Source + Drop>(rt: &impl Abort, source: S, limits: Limits) -> BitReader<S> {
     match BitReader::start(source, limits) {
         Ok((reader, _)) => reader,
         Err((fault, _)) => panic!(rt; "{fault}"),
@@ -287,7 +287,7 @@ fn all_calls<S: Source>(reader: &mut BitReader<S>) -> [Result<u64, Fault>; 6] {
 
 #[test]
 fn failed(rt: HostRuntime) {
-    let mut reader = begun(&rt, SliceSource::new(&EMPTY_BLOCK), Limits::usual());
+    let mut reader = reader_of(&rt, SliceSource::new(&EMPTY_BLOCK), Limits::usual());
     let fault = reader.fail(Fault::Memory);
     let answers = all_calls(&mut reader);
     let told = (fault, answers, reader.position());
@@ -370,13 +370,13 @@ fn failing_reads(rt: HostRuntime) {
     // each byte and the end are shown, and then read
     for read in 1..36 {
         let answer = if read == 35 { Ok(3) } else { Err(Fault::Read) };
-        let told = words(shown(&EMPTY_BLOCK, 1, read), Limits::usual());
+        let told = words(shown_source(&EMPTY_BLOCK, 1, read), Limits::usual());
         assert!(rt; told == answer, "{read}");
     }
 }
 
 /// A wrapper with this offset, size and version, a stream at byte 20 and a tail of zeros.
-fn wrapped(offset: u8, size: u8, version: u8) -> [u8; 48] {
+fn wrapper_of(offset: u8, size: u8, version: u8) -> [u8; 48] {
     let mut input = [0; 48];
     input[..20].copy_from_slice(&WRAPPER);
     input[20..36].copy_from_slice(&EMPTY_BLOCK);
@@ -397,7 +397,7 @@ fn heads(rt: HostRuntime) {
         magic: MAGIC,
         wrapper: Some(wrapper),
     };
-    assert_eq!(rt; head_of(&wrapped(20, 16, 0)), Some((head, 192)));
+    assert_eq!(rt; head_of(&wrapper_of(20, 16, 0)), Some((head, 192)));
 }
 
 /// Wrappers with this offset, size and version, cut to so many bytes, with this limit, and why they are refused, if they are.
@@ -420,7 +420,7 @@ static WRAPPERS: [(u8, u8, u8, usize, u64, Option<(Reason, u64)>); 13] = [
 /// Three words, or why not.
 fn three_words_or(why: Option<(Reason, u64)>) -> Result<u64, Fault> {
     match why {
-        Some((reason, bit)) => Err(refused(reason, bit)),
+        Some((reason, bit)) => Err(refusal(reason, bit)),
         None => Ok(3),
     }
 }
@@ -428,7 +428,7 @@ fn three_words_or(why: Option<(Reason, u64)>) -> Result<u64, Fault> {
 #[test]
 fn wrappers(rt: HostRuntime) {
     for (offset, size, version, count, bytes, why) in &WRAPPERS {
-        let input = wrapped(*offset, *size, *version);
+        let input = wrapper_of(*offset, *size, *version);
         let front = &input[..input.len().min(*count)];
         let answers = words_in_steps(front, limit_of(*bytes));
         assert!(rt;
@@ -439,8 +439,8 @@ fn wrappers(rt: HostRuntime) {
 }
 
 /// A wrapper around a wrapper.
-fn twice_wrapped() -> [u8; 48] {
-    let mut input = wrapped(20, 16, 0);
+fn nested_wrapper() -> [u8; 48] {
+    let mut input = wrapper_of(20, 16, 0);
     input[20] = 0xDE;
     input[21] = 0xC0;
     input[22] = 0x17;
@@ -450,9 +450,9 @@ fn twice_wrapped() -> [u8; 48] {
 
 #[test]
 fn nested(rt: HostRuntime) {
-    let input = twice_wrapped();
+    let input = nested_wrapper();
     let fault = start_fault(SliceSource::new(&input), Limits::usual());
-    assert!(rt; fault == Some(refused(Reason::WrapperNested, 160)));
+    assert!(rt; fault == Some(refusal(Reason::WrapperNested, 160)));
 }
 
 /// An input of 2,000 bytes, with a wrapper of this offset.
@@ -494,7 +494,7 @@ fn gaps_that_do_not_end(rt: HostRuntime) {
 fn gaps(rt: HostRuntime) {
     let input = far([0, 4, 0, 0]);
     for step in [1, 3, 4, 1000] {
-        let reader = begun(&rt, in_steps(&input, step, 0), Limits::usual());
+        let reader = reader_of(&rt, in_steps(&input, step, 0), Limits::usual());
         assert!(rt; reader.position() == 8224, "{step}");
     }
 }
@@ -551,9 +551,9 @@ static CUT: [(
 
 #[test]
 fn cut_padding(rt: HostRuntime) {
-    let input = wrapped(20, 6, 0);
+    let input = wrapper_of(20, 6, 0);
     for (bytes, id, width, pad, position) in &CUT {
-        let mut reader = begun(&rt, SliceSource::new(&input), limit_of(*bytes));
+        let mut reader = reader_of(&rt, SliceSource::new(&input), limit_of(*bytes));
         let (answers, end) = up_to_padding(&mut reader);
         let wanted = [Ok(1), *id, *width, *pad, Err(Fault::Failed)];
         assert!(rt; answers == wanted && end == *position, "{bytes}");
@@ -593,7 +593,7 @@ fn number_in_steps(bytes: &[u8], n: u32) -> [(Result<u64, Fault>, u64); 9] {
 fn number_shown(bytes: &[u8], n: u32) -> [(Result<u64, Fault>, u64); 9] {
     let mut answers = [(Ok(0), 0); 9];
     for (index, answer) in answers.iter_mut().enumerate() {
-        *answer = number(shown(bytes, index + 1, 0), n);
+        *answer = number(shown_source(bytes, index + 1, 0), n);
     }
     answers
 }
@@ -682,7 +682,7 @@ static CHARACTERS: [Result<u64, Fault>; 4] = [
 #[test]
 fn characters(rt: HostRuntime) {
     let input = after_magic(&[0x3F, 0]);
-    let mut reader = begun(&rt, SliceSource::new(&input[..6]), Limits::usual());
+    let mut reader = reader_of(&rt, SliceSource::new(&input[..6]), Limits::usual());
     let told = four_characters(&mut reader);
     assert!(rt; told == CHARACTERS);
 }
@@ -718,7 +718,7 @@ static PADDINGS: [Result<u64, Fault>; 6] = [
 fn paddings(rt: HostRuntime) {
     let input = after_magic(&[0x05, 0, 0, 0, 0x01, 0, 0, 0x80]);
     for step in 1..10 {
-        let mut reader = begun(&rt, in_steps(&input[..12], step, 0), Limits::usual());
+        let mut reader = reader_of(&rt, in_steps(&input[..12], step, 0), Limits::usual());
         let (answers, positions) = paddings_of(&mut reader);
         assert!(rt; answers == PADDINGS && positions == [64, 72], "{step}");
     }

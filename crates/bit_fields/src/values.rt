@@ -16,7 +16,8 @@ pub trait ValueTaker {
     fn take(&mut self, value: u64) -> Result<(), AllocError>
         ensures ok { OnOk result ((values : List ℕ) → took self.old values
             → took self.new (values ++ value ∷ [])) }
-        ensures err { OnErr result ((values : List ℕ) → took self.old values → took self.new values) };
+        ensures err { OnErr result
+            ((values : List ℕ) → took self.old values → took self.new values) };
 
     /// Takes so many values without seeing them, where it need not know them, and answers whether it did. Where it did not, it
     /// has what it had.

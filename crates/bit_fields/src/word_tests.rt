@@ -2,7 +2,7 @@
 
 ghost use Rattle.std.specs.Prelude.{◌<◌, ◌≤◌};
 
-use crate::tests::{after_magic, in_steps, shown};
+use crate::tests::{after_magic, in_steps, shown_source};
 use crate::{AtHand, BitReader, Fault, Limits, SliceSource, Source, SourceFailed};
 
 /// Bytes of which no two are the same.
@@ -12,7 +12,7 @@ const BYTES: [u8; 21] = [
 ];
 
 /// A number that tells apart what was given in which order.
-fn mixed(before: u64, word: u64, count: usize) -> u64 {
+fn mix(before: u64, word: u64, count: usize) -> u64 {
     let with_word = before
         .wrapping_mul(0x9E37_79B9_7F4A_7C15)
         .wrapping_add(word);
@@ -42,8 +42,8 @@ fn by_words<S: Source + Drop>(mut source: S, room: usize) -> u64
     for _ in 0..100 {
         match next_word(&mut source, room) {
             Ok((_, 0)) => return given,
-            Ok((word, count)) => given = mixed(given, word, count),
-            Err(_) => return mixed(given, 0, 99),
+            Ok((word, count)) => given = mix(given, word, count),
+            Err(_) => return mix(given, 0, 99),
         }
     }
     0
@@ -58,8 +58,8 @@ fn by_slices<S: Source + Drop>(mut source: S, room: usize) -> u64
         let mut bytes = [0; 8];
         match source.pull(&mut bytes[..room]) {
             Ok(0) => return given,
-            Ok(count) => given = mixed(given, value(&bytes[..count]), count),
-            Err(_) => return mixed(given, 0, 99),
+            Ok(count) => given = mix(given, value(&bytes[..count]), count),
+            Err(_) => return mix(given, 0, 99),
         }
     }
     0
@@ -94,8 +94,8 @@ fn first_words(rt: HostRuntime) {
         assert_eq!(rt; first(SliceSource::new(&BYTES), room), (word, room));
         assert_eq!(rt; first(SliceSource::new(bytes), room), (word, room));
         assert_eq!(rt; first(in_steps(&BYTES, 9, 0), room), (word, room));
-        assert_eq!(rt; first(shown(&BYTES, 9, 0), room), (word, room));
-        assert_eq!(rt; first(shown(bytes, 9, 0), room), (word, room));
+        assert_eq!(rt; first(shown_source(&BYTES, 9, 0), room), (word, room));
+        assert_eq!(rt; first(shown_source(bytes, 9, 0), room), (word, room));
     }
 }
 
@@ -125,7 +125,7 @@ fn steps_and_words(rt: HostRuntime) {
                 "{room} {step}"
             );
             assert_eq!(rt;
-                by_words(shown(&BYTES, step, 0), room),
+                by_words(shown_source(&BYTES, step, 0), room),
                 given,
                 "{room} {step}"
             );
@@ -140,8 +140,8 @@ fn failures_and_words(rt: HostRuntime) {
             let given = by_slices(in_steps(&BYTES, 5, fails_at), room);
             let stepped = by_words(in_steps(&BYTES, 5, fails_at), room);
             // five bytes are shown, and then read
-            let shown_then = by_words(shown(&BYTES, 5, 2 * fails_at - 1), room);
-            let read_then = by_words(shown(&BYTES, 5, 2 * fails_at), room);
+            let shown_then = by_words(shown_source(&BYTES, 5, 2 * fails_at - 1), room);
+            let read_then = by_words(shown_source(&BYTES, 5, 2 * fails_at), room);
             assert_eq!(rt;
                 (stepped, shown_then, read_then),
                 (given, given, given),
@@ -151,7 +151,7 @@ fn failures_and_words(rt: HostRuntime) {
         // nine bytes are shown and taken
         for fails_at in 1..4 {
             assert_eq!(rt;
-                by_words(shown(&BYTES, 9, fails_at), room),
+                by_words(shown_source(&BYTES, 9, fails_at), room),
                 by_slices(in_steps(&BYTES, 9, fails_at), room),
                 "{room} {fails_at}"
             );
@@ -187,7 +187,7 @@ fn give_fields(input: &[u8], answer: Result<u64, Fault>) -> bool {
     let mut same = true;
     for step in 1..12 {
         let read = some_fields(in_steps(input, step, 0));
-        let seen = some_fields(shown(input, step, 0));
+        let seen = some_fields(shown_source(input, step, 0));
         same = same && read == answer && seen == answer;
     }
     same
@@ -198,7 +198,7 @@ fn fail_within(input: &[u8]) -> bool {
     let mut fail = true;
     for fails_at in 1..12 {
         let read = some_fields(in_steps(input, 1, fails_at));
-        let seen = some_fields(shown(input, 1, fails_at));
+        let seen = some_fields(shown_source(input, 1, fails_at));
         fail = fail && read == Err(Fault::Read) && seen == Err(Fault::Read);
     }
     fail

@@ -18,11 +18,11 @@ returns-in-Word g c =
 pub returns-in-Few : goal.returns-in-Few
 returns-in-Few g c =
     let ahead = c.in-Ok-true.ensures.ahead c.in-Ok-true.field-0-test in
-    rw (c.cut.ensures.whole) (few_ahead c.args.self.now.kept c.keep_ahead.new.self.kept c.len-before.result c.args.room c.cut.new.self.bytes.items (g.S.Source.incoming c.args.self.now.source) (g.S.Source.incoming c.keep_ahead.new.self.source) (g.S.Source.incoming c.at_hand.new.self)
-    ahead.0 c.in-Ok-true.ensures.looks ahead.1 (omega (arith, c.len-before.ensures, c.args.self.now.kept.bytes.ok.0)) c.cut.ensures.bytes c.in-Few.ensures)
+    rw (c.truncate.ensures.whole) (few_ahead c.args.self.now.kept c.keep_ahead.new.self.kept c.len-before.result c.args.room c.truncate.new.self.bytes.items (g.S.Source.incoming c.args.self.now.source) (g.S.Source.incoming c.keep_ahead.new.self.source) (g.S.Source.incoming c.at_hand.new.self)
+    ahead.0 c.in-Ok-true.ensures.looks ahead.1 (omega (arith, c.len-before.ensures, c.args.self.now.kept.bytes.ok.0)) c.truncate.ensures.bytes c.in-Few.ensures)
 
 pub returns-in-Failed : goal.returns-in-Failed
 returns-in-Failed g c =
     let ahead = c.in-Ok-true.ensures.ahead c.in-Ok-true.field-0-test in
-    rw (c.cut-in-Failed.ensures.whole) (failed_ahead c.args.self.now.kept c.keep_ahead.new.self.kept c.len-before.result c.args.room c.cut-in-Failed.new.self.bytes.items (g.S.Source.incoming c.args.self.now.source) (g.S.Source.incoming c.keep_ahead.new.self.source) (g.S.Source.incoming c.at_hand.new.self)
-    ahead.0 c.in-Ok-true.ensures.looks ahead.1 (omega (arith, c.len-before.ensures, c.args.self.now.kept.bytes.ok.0)) c.cut-in-Failed.ensures.bytes c.in-Failed.ensures)
+    rw (c.truncate-in-Failed.ensures.whole) (failed_ahead c.args.self.now.kept c.keep_ahead.new.self.kept c.len-before.result c.args.room c.truncate-in-Failed.new.self.bytes.items (g.S.Source.incoming c.args.self.now.source) (g.S.Source.incoming c.keep_ahead.new.self.source) (g.S.Source.incoming c.at_hand.new.self)
+    ahead.0 c.in-Ok-true.ensures.looks ahead.1 (omega (arith, c.len-before.ensures, c.args.self.now.kept.bytes.ok.0)) c.truncate-in-Failed.ensures.bytes c.in-Failed.ensures)

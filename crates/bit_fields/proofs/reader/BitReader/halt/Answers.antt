@@ -5,8 +5,8 @@ use Rattle.bit_fields.specs.Reader.{Reader}
 use Rattle.bit_fields.proofs.reader.BitReader.halt.Goals as goal
 
 -- what has failed has nothing left, wherever it stands
-failed_before : (live : Bool) (p start : ℕ) (f g : Flow) (now : Reader) → reader_of live p f ≡ now → now.live ≡ false → g ≡ record f { window = [] } → reader_of false start g ≡ record now { position = start }
-failed_before live p start f g now view dead clear =
+failed_before : (live : Bool) (p first : ℕ) (f g : Flow) (now : Reader) → reader_of live p f ≡ now → now.live ≡ false → g ≡ record f { window = [] } → reader_of false first g ≡ record now { position = first }
+failed_before live p first f g now view dead clear =
     let l : live ≡ false = ap (λ (r : Reader). r.live) view ∙ dead in
     rw (clear, ← view, l) refl
 

@@ -12,8 +12,8 @@ returns-in_err-chunk-clause-takes g c =
     let p = err_from_is_err_and c.from_residual.result c.from_residual.ensures.1 in
     rw (p.1, p.2) (missed_chunk c.args.n c.args.first _ c.args.self.now c.loop-place.self c.loop-place.place c.loop-place.value _ c.part.new.self c.requires.some c.loop-place-test.true c.loop-place.invariant c.in_err-chunk.ensures.takes)
 
-pub placed-requires-clause-some : goal.placed-requires-clause-some
-placed-requires-clause-some g c = c.loop-place.invariant.positive
+pub worth_at-requires-clause-some : goal.worth_at-requires-clause-some
+worth_at-requires-clause-some g c = c.loop-place.invariant.positive
 
 pub overflow_add-value : goal.overflow_add-value
 overflow_add-value g c =

@@ -8,7 +8,7 @@ use Rattle.bit_fields.proofs.reader.BitReader.one_chunk.Goals as goal
 
 pub returns : goal.returns
 returns g c =
-    let there : c.args.n ≤ length c.self.inside.inflow.window = omega (arith, c.if-held-n.false, c.held.ensures.held) in
+    let there : c.args.n ≤ length c.self.inside.inflow.window = omega (arith, c.if-bits_held-n.false, c.bits_held.ensures.held) in
     let live : c.self.inside.live ≡ true = live_from c.self.inside.live c.self.inside.inflow.window c.args.n c.self.invariant.empty (omega arith) there in
     let below : c.peek.result < 2 ^ (c.args.n - 1) = let s = one_shl (c.args.n - 1) 64 (omega arith) in rw s at c.if-peek-n.false in
     let last : c.take-chunk.result < 2 ^ (c.args.n - 1) = omega (arith, below, c.peek.ensures, c.take-chunk.ensures.value) in

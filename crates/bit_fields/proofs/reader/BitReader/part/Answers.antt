@@ -3,7 +3,7 @@ use Rattle.std.proofs.lemmas.Bool.{false≢true}
 use Rattle.bit_fields.proofs.InflowLaws.{Keeps-refl}
 use Rattle.bit_fields.proofs.Parts.{fills_exact, Filled, live_from, took_as, missed_as}
 use Rattle.bit_fields.proofs.reader.BitReader.part.Goals as goal
-use Rattle.bit_fields.proofs.reader.BitReader.part.Goals.{then-held-n+else-not-self+in-Ok, else-held-n}
+use Rattle.bit_fields.proofs.reader.BitReader.part.Goals.{then-bits_held-n+else-not-self+in-Ok, else-bits_held-n}
 
 pub invariant_of-self : goal.invariant_of-self
 invariant_of-self g c = record {
@@ -16,13 +16,13 @@ returns-in-Err-clause-takes g c = missed_as c.args.n c.args.first c.self.inside.
 
 pub returns-clause-takes : goal.returns-clause-takes
 returns-clause-takes g c =
-    let filled : Filled c.args.n c.self.inside.position c.self.inside.inflow c.if-held-n.self-inside.live c.if-held-n.self-inside.position c.if-held-n.self-inside.inflow =
-    elim c.if-held-n.branch [
-      | then-held-n+else-not-self+in-Ok w ↦ rw w.self-inside-is (record { live = w.if-not-self.false; position = refl; keeps = w.in-Ok.ensures.0; there = w.in-Ok.ensures.1 })
-      | else-held-n w ↦ rw w.self-inside-is (record { live = live_from c.self.inside.live c.self.inside.inflow.window c.args.n c.self.invariant.empty c.requires.some (omega arith); position = refl; keeps = Keeps-refl c.self.inside.inflow; there = omega arith })
+    let filled : Filled c.args.n c.self.inside.position c.self.inside.inflow c.if-bits_held-n.self-inside.live c.if-bits_held-n.self-inside.position c.if-bits_held-n.self-inside.inflow =
+    elim c.if-bits_held-n.branch [
+      | then-bits_held-n+else-not-self+in-Ok w ↦ rw w.self-inside-is (record { live = w.if-not-self.false; position = refl; keeps = w.in-Ok.ensures.0; there = w.in-Ok.ensures.1 })
+      | else-bits_held-n w ↦ rw w.self-inside-is (record { live = live_from c.self.inside.live c.self.inside.inflow.window c.args.n c.self.invariant.empty c.requires.some (omega arith); position = refl; keeps = Keeps-refl c.self.inside.inflow; there = omega arith })
     ] in
-    let was : c.self.inside.live ≡ true = elim c.if-held-n.branch [
-      | then-held-n+else-not-self+in-Ok w ↦ w.if-not-self.false
-      | else-held-n w ↦ live_from c.self.inside.live c.self.inside.inflow.window c.args.n c.self.invariant.empty c.requires.some (omega arith)
+    let was : c.self.inside.live ≡ true = elim c.if-bits_held-n.branch [
+      | then-bits_held-n+else-not-self+in-Ok w ↦ w.if-not-self.false
+      | else-bits_held-n w ↦ live_from c.self.inside.live c.self.inside.inflow.window c.args.n c.self.invariant.empty c.requires.some (omega arith)
     ] in
-    took_as c.args.n c.args.first c.self.inside.position c.if-held-n.self-inside.position c.take-value.result _ c.self.inside.live c.if-held-n.self-inside.live c.self.inside.inflow c.if-held-n.self-inside.inflow c.take-value.new.self c.args.self.now was c.self.view_is filled c.take-value.ensures.value (omega arith) c.take-value.ensures.rest
+    took_as c.args.n c.args.first c.self.inside.position c.if-bits_held-n.self-inside.position c.take-value.result _ c.self.inside.live c.if-bits_held-n.self-inside.live c.self.inside.inflow c.if-bits_held-n.self-inside.inflow c.take-value.new.self c.args.self.now was c.self.view_is filled c.take-value.ensures.value (omega arith) c.take-value.ensures.rest

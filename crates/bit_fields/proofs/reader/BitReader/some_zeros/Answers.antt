@@ -11,5 +11,5 @@ returns-in_err-one_zero-clause-misses g c =
 
 pub returns-clause-takes : goal.returns-clause-takes
 returns-clause-takes g c =
-    let live : c.self.inside.live ≡ true = live_from c.self.inside.live c.self.inside.inflow.window c.min-count.result c.self.invariant.empty (omega arith) (omega (arith, c.held.ensures.held, c.min-count.ensures)) in
-    zeros_took c.self.inside.live c.args.first c.args.most c.min-count.result c.self.inside.position _ c.peek.result c.self.inside.inflow c.take.new.self c.args.self.now c.self.view_is live (omega arith) (omega (arith, c.min-count.ensures)) (omega (arith, c.held.ensures.held, c.min-count.ensures)) c.if-peek-ne0.false c.peek.ensures c.take.ensures.rest (omega (arith, c.from.ensures))
+    let live : c.self.inside.live ≡ true = live_from c.self.inside.live c.self.inside.inflow.window c.min-count.result c.self.invariant.empty (omega arith) (omega (arith, c.bits_held.ensures.held, c.min-count.ensures)) in
+    zeros_took c.self.inside.live c.args.first c.args.most c.min-count.result c.self.inside.position _ c.peek.result c.self.inside.inflow c.take.new.self c.args.self.now c.self.view_is live (omega arith) (omega (arith, c.min-count.ensures)) (omega (arith, c.bits_held.ensures.held, c.min-count.ensures)) c.if-peek-ne0.false c.peek.ensures c.take.ensures.rest (omega (arith, c.from.ensures))
