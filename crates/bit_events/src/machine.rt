@@ -296,10 +296,10 @@ impl Machine {
         values.taker.truncate(0);
         let ahead = Ahead::new(reader.sight()?);
         let start = ahead.position();
-        let (code, after) = glance_one(ahead, &frame.definitions, room, id, &mut values.taker);
-        if after == 0 {
+        let Some((code, after)) = glance_one(ahead, &frame.definitions, room, id, &mut values.taker)
+        else {
             return self.note(reader, limits, id, first, values);
-        }
+        };
         let count = values.taker.count();
         self.used += count;
         reader.catch_up(after - start)?;

@@ -54,8 +54,8 @@ fn glance_entry<U, V: ValueTaker>(
     glance_record::<U, V>(ahead, ops, room, values)
 }
 
-/// Reads one record after its id, and answers its code and the bit behind it, or 0 for that bit where it is not to be had. The
-/// values are those of the record alone. It has what is ahead for itself, and answers what fits two registers.
+/// Reads one record after its id, and answers its code and the bit behind it. The values are those of the record alone. It has
+/// what is ahead for itself.
 #[inline(never)]
 pub(crate) fn glance_one<V: ValueTaker>(
     ahead: Ahead<'_>,
@@ -63,19 +63,17 @@ pub(crate) fn glance_one<V: ValueTaker>(
     room: u64,
     id: u32,
     values: &mut V,
-) -> (u64, u64)
+) -> Option<(u64, u64)>
     requires id { 3 ≤ id }
     requires none { V.took values.old [] }
-    ensures glimpsed { 0 < result.1 → Has V.took values.new (λ list.
-        ReadsTo definitions.now room id ahead.entry result.0 list result.1) }
+    ensures glimpsed { IfSome result (λ read. Has V.took values.new (λ list.
+        ReadsTo definitions.now room id ahead.entry read.0 list read.1)) }
     ensures took { TookSome V.took values.new }
 {
     let mut ahead = ahead;
     let definitions = definitions.all();
-    match glance_entry::<V, V>(&mut ahead, &definitions, room, id, values) {
-        Some(code) => (code, ahead.position()),
-        None => (0, 0),
-    }
+    let code = glance_entry::<V, V>(&mut ahead, &definitions, room, id, values)?;
+    Some((code, ahead.position()))
 }
 
 /// Reads a record and its id, where the block is no BLOCKINFO block: the id and the code. The values are those of the record
