@@ -18,10 +18,10 @@ use Rattle.bit_fields.proofs.Composing.{fault_then, took_then, took_nothing, fro
 use Rattle.bit_abbrev.proofs.Adding.{and_gives, memory_after}
 
 -- an operand that may not stand there
-pub misplaced : (shapes : Shapes) (place : Place) (after start : ℕ) (a : Reader) (k : Kind) (b : Reader) (fault : Fault) (c : Reader) → start ≡ a.position → Took kind a k b → Why (test (passes shapes (fits place after k)) (at AbbrevShape start)) b fault c → Why (operand shapes place after) a fault c
+pub misplaced : (shapes : Shapes) (place : Place) (after first_bit : ℕ) (a : Reader) (k : Kind) (b : Reader) (fault : Fault) (c : Reader) → first_bit ≡ a.position → Took kind a k b → Why (test (passes shapes (fits place after k)) (at AbbrevShape first_bit)) b fault c → Why (operand shapes place after) a fault c
 unfolding operand
-misplaced shapes place after start a k b fault c here t why =
-    from_here (λ start. kind >>= λ k. test (passes shapes (fits place after k)) (at AbbrevShape start) >> valued k) a (Err fault) c
+misplaced shapes place after first_bit a k b fault c here t why =
+    from_here (λ first_bit. kind >>= λ k. test (passes shapes (fits place after k)) (at AbbrevShape first_bit) >> valued k) a (Err fault) c
     (took_then kind (λ k. test (passes shapes (fits place after k)) (at AbbrevShape a.position) >> valued k) a k b (Err fault) c t
     (fault_then (test (passes shapes (fits place after k)) (at AbbrevShape a.position)) (λ x. valued k) b fault c (subst (λ (p : ℕ). Why (test (passes shapes (fits place after k)) (at AbbrevShape p)) b fault c) here why)))
 

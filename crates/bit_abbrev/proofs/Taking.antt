@@ -110,13 +110,13 @@ recorded_few took v rule room a code c before h = (h.0, h.1, h.2.1)
 cut_back : {V : Type 0} (took : V → List ℕ → Type 0) (old read cut : V) (count : ℕ) (before after others : List ℕ) → ((values : List ℕ) → took old values → count ≡ min (length values) (2 ^ 64 - 1)) → ((values others : List ℕ) → took read (values ++ others) → count ≡ min (length values) (2 ^ 64 - 1) → took cut values) → took old before → took read after → after ≡ before ++ others → took cut before
 cut_back took old read cut count before after others counts cuts t u is = cuts before others (subst (took read) is u) (counts before t)
 
-pub not_recorded : {V : Type 0} (took : V → List ℕ → Type 0) (old read cut : V) (count : ℕ) (rule : Grammar CodeAndValues) (room : ℕ) (a : Reader) (fault : Fault) (c : Reader) (start : ℕ) (d : Reader) (before : List ℕ) → ((values : List ℕ) → took old values → count ≡ min (length values) (2 ^ 64 - 1)) → ((values others : List ℕ) → took read (values ++ others) → count ≡ min (length values) (2 ^ 64 - 1) → took cut values)
-    → start ≡ a.position → (c.live ≡ false → d ≡ record c { position = start }) → took old before → Has took read (AddsWithin rule room a (Err fault) c before) → Has took cut (Recorded (λ r. Takes rule a r d) (Err fault) before)
-not_recorded took old read cut count rule room a fault c start d before counts cuts here moved t h = (before, cut_back took old read cut count before h.0 h.2.0.0 counts cuts t h.1 h.2.0.1, (refl, back_there rule a fault c start d h.2.0.2 here moved))
+pub not_recorded : {V : Type 0} (took : V → List ℕ → Type 0) (old read cut : V) (count : ℕ) (rule : Grammar CodeAndValues) (room : ℕ) (a : Reader) (fault : Fault) (c : Reader) (first : ℕ) (d : Reader) (before : List ℕ) → ((values : List ℕ) → took old values → count ≡ min (length values) (2 ^ 64 - 1)) → ((values others : List ℕ) → took read (values ++ others) → count ≡ min (length values) (2 ^ 64 - 1) → took cut values)
+    → first ≡ a.position → (c.live ≡ false → d ≡ record c { position = first }) → took old before → Has took read (AddsWithin rule room a (Err fault) c before) → Has took cut (Recorded (λ r. Takes rule a r d) (Err fault) before)
+not_recorded took old read cut count rule room a fault c first d before counts cuts here moved t h = (before, cut_back took old read cut count before h.0 h.2.0.0 counts cuts t h.1 h.2.0.1, (refl, back_there rule a fault c first d h.2.0.2 here moved))
 
-pub not_recorded_only : {V : Type 0} (took : V → List ℕ → Type 0) (old read cut : V) (count : ℕ) (rule : Grammar CodeAndValues) (room : ℕ) (a : Reader) (fault : Fault) (c : Reader) (start : ℕ) (d : Reader) (before : List ℕ) → ((values : List ℕ) → took old values → count ≡ min (length values) (2 ^ 64 - 1)) → ((values others : List ℕ) → took read (values ++ others) → count ≡ min (length values) (2 ^ 64 - 1) → took cut values)
-    → start ≡ a.position → (c.live ≡ false → d ≡ record c { position = start }) → took old before → Has took read (AddsWithin rule room a (Err fault) c before) → Has took cut (Recorded (λ r. IsOnly rule a r d) (Err fault) before)
-not_recorded_only took old read cut count rule room a fault c start d before counts cuts here moved t h = (before, cut_back took old read cut count before h.0 h.2.0.0 counts cuts t h.1 h.2.0.1, (refl, only rule a (Err fault) d (back_there rule a fault c start d h.2.0.2 here moved)))
+pub not_recorded_only : {V : Type 0} (took : V → List ℕ → Type 0) (old read cut : V) (count : ℕ) (rule : Grammar CodeAndValues) (room : ℕ) (a : Reader) (fault : Fault) (c : Reader) (first : ℕ) (d : Reader) (before : List ℕ) → ((values : List ℕ) → took old values → count ≡ min (length values) (2 ^ 64 - 1)) → ((values others : List ℕ) → took read (values ++ others) → count ≡ min (length values) (2 ^ 64 - 1) → took cut values)
+    → first ≡ a.position → (c.live ≡ false → d ≡ record c { position = first }) → took old before → Has took read (AddsWithin rule room a (Err fault) c before) → Has took cut (Recorded (λ r. IsOnly rule a r d) (Err fault) before)
+not_recorded_only took old read cut count rule room a fault c first d before counts cuts here moved t h = (before, cut_back took old read cut count before h.0 h.2.0.0 counts cuts t h.1 h.2.0.1, (refl, only rule a (Err fault) d (back_there rule a fault c first d h.2.0.2 here moved)))
 
 pub not_recorded_few : {V : Type 0} (took : V → List ℕ → Type 0) (old read cut : V) (count : ℕ) (rule : Grammar CodeAndValues) (room : ℕ) (a : Reader) (fault : Fault) (c : Reader) (before : List ℕ) → ((values : List ℕ) → took old values → count ≡ min (length values) (2 ^ 64 - 1)) → ((values others : List ℕ) → took read (values ++ others) → count ≡ min (length values) (2 ^ 64 - 1) → took cut values)
     → took old before → Has took read (AddsWithin rule room a (Err fault) c before) → Has took cut (λ after. Unit {0})

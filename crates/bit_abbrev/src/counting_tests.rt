@@ -50,7 +50,7 @@ impl<'a> Read for Few<'a> {
 type Told = ((Result<(u64, u64), Fault>, bool), u64);
 
 /// A record that is read into a list, from a reader that gives so many bytes at a time.
-fn kept(alloc: Global, rest: &[u8], most: usize) -> Told {
+fn kept_record(alloc: Global, rest: &[u8], most: usize) -> Told {
     let mut values: Vec<u64> = Vec::new(alloc);
     let source = ReadSource::new(Few { rest, most });
     let answer = record_of(alloc, source, 99, &mut values);
@@ -58,7 +58,7 @@ fn kept(alloc: Global, rest: &[u8], most: usize) -> Told {
 }
 
 /// The same, where the values are counted.
-fn counted(alloc: Global, rest: &[u8], most: usize) -> Told {
+fn counted_record(alloc: Global, rest: &[u8], most: usize) -> Told {
     let mut values = ValueCount::new();
     let source = ReadSource::new(Few { rest, most });
     let answer = record_of(alloc, source, 99, &mut values);
@@ -70,9 +70,12 @@ fn same_where_cut(alloc: Global, bytes: &[u8]) -> bool {
     let mut same = true;
     for end in 0..bytes.len() {
         let front = &bytes[..end];
-        let one = kept(alloc, front, 1) == counted(alloc, front, 1);
-        let three = kept(alloc, front, 3) == counted(alloc, front, 3);
-        same = same && one && three && kept(alloc, front, 64) == counted(alloc, front, 64);
+        let one = kept_record(alloc, front, 1) == counted_record(alloc, front, 1);
+        let three = kept_record(alloc, front, 3) == counted_record(alloc, front, 3);
+        same = same
+            && one
+            && three
+            && kept_record(alloc, front, 64) == counted_record(alloc, front, 64);
     }
     same
 }
@@ -88,10 +91,10 @@ static ROWS: [(&[u8], (u64, u64), u64); 3] = [
 fn cut_records_are_counted_as_they_are_kept(rt: HostRuntime) -> Result<(), Fail> {
     for (body, record, count) in &ROWS {
         let bytes = in_block(rt.alloc(), body)?;
-        let whole = counted(rt.alloc(), &bytes, 64);
+        let whole = counted_record(rt.alloc(), &bytes, 64);
         let wanted = ((Ok(*record), true), *count);
         assert!(rt;
-            whole == wanted && kept(rt.alloc(), &bytes, 64) == wanted,
+            whole == wanted && kept_record(rt.alloc(), &bytes, 64) == wanted,
             "{body:?}"
         );
         assert!(rt; same_where_cut(rt.alloc(), &bytes), "{body:?}");
@@ -115,14 +118,14 @@ fn plain_record<V: ValueTaker>(
 }
 
 /// A plain record with room for so many values that is kept: the answer, and whether the values are 1, 40 and 2.
-fn plain_kept(alloc: Global, bytes: &[u8], room: u64) -> (Result<(u64, u64), Fault>, bool) {
+fn plain_values(alloc: Global, bytes: &[u8], room: u64) -> (Result<(u64, u64), Fault>, bool) {
     let mut values: Vec<u64> = Vec::new(alloc);
     let answer = plain_record(bytes, room, &mut values);
     (answer, values.as_slice() == [1, 40, 2].as_slice())
 }
 
 /// The same where the values are counted: the answer, and how many values there are.
-fn plain_counted(bytes: &[u8], room: u64) -> (Result<(u64, u64), Fault>, u64) {
+fn plain_counts(bytes: &[u8], room: u64) -> (Result<(u64, u64), Fault>, u64) {
     let mut values = ValueCount::new();
     let answer = plain_record(bytes, room, &mut values);
     (answer, values.count())
@@ -132,8 +135,8 @@ fn plain_counted(bytes: &[u8], room: u64) -> (Result<(u64, u64), Fault>, u64) {
 fn plain_records_are_counted_as_they_are_kept(rt: HostRuntime) -> Result<(), Fail> {
     let bytes = in_block(rt.alloc(), &PLAIN)?;
     for room in 0..5 {
-        let (answer, all) = plain_kept(rt.alloc(), &bytes, room);
-        let counted = plain_counted(&bytes, room);
+        let (answer, all) = plain_values(rt.alloc(), &bytes, room);
+        let counted = plain_counts(&bytes, room);
         let whole = answer == Ok((5, 135)) && all && counted == (answer, 3);
         let refused = answer.is_err() && counted.0 == answer;
         assert!(rt; if room < 3 { refused } else { whole }, "{room}");

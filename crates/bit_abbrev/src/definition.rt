@@ -21,7 +21,7 @@ fn read_kind<S: Source>(reader: &mut BitReader<S>) -> Result<Kind, Fault>
     if reader.fixed(1)? == 1 {
         return Ok(Kind::Literal);
     }
-    let place = reader.position();
+    let first = reader.position();
     match reader.fixed(3)? {
         1 => Ok(Kind::Fixed),
         2 => Ok(Kind::Vbr),
@@ -30,7 +30,7 @@ fn read_kind<S: Source>(reader: &mut BitReader<S>) -> Result<Kind, Fault>
         5 => Ok(Kind::Blob),
         _ => Err(reader.fail(Fault::Refused {
             reason: Reason::AbbrevEncoding,
-            bit: place,
+            bit: first,
         })),
     }
 }
@@ -45,15 +45,15 @@ fn read_value<S: Source>(reader: &mut BitReader<S>, kind: Kind) -> Result<Op, Fa
     match kind {
         Kind::Literal => Ok(Op::Literal(reader.vbr(8)?)),
         Kind::Fixed => {
-            let place = reader.position();
+            let first = reader.position();
             let width = reader.vbr(5)?;
-            reader.judge(is_fixed_width(width), Reason::FieldWidth, place)?;
+            reader.judge(is_fixed_width(width), Reason::FieldWidth, first)?;
             Ok(Op::Fixed(width as u8))
         }
         Kind::Vbr => {
-            let place = reader.position();
+            let first = reader.position();
             let width = reader.vbr(5)?;
-            reader.judge(is_vbr_width(width), Reason::FieldWidth, place)?;
+            reader.judge(is_vbr_width(width), Reason::FieldWidth, first)?;
             Ok(Op::Vbr(width as u8))
         }
         Kind::Array => Ok(Op::Array),

@@ -24,9 +24,9 @@ pub(crate) fn read_count<S: Source>(reader: &mut BitReader<S>, room: u64) -> Res
     ensures takes { Takes (value_count room) reader.old result reader.new }
     ensures few { IfOk result (λ count. count ≤ room) }
 {
-    let place = reader.position();
+    let first = reader.position();
     let count = reader.vbr(6)?;
-    reader.judge(count <= room, Reason::TooManyValues, place)?;
+    reader.judge(count <= room, Reason::TooManyValues, first)?;
     Ok(count)
 }
 
@@ -38,7 +38,8 @@ pub(crate) fn take<S: Source, V: ValueTaker>(
     value: u64,
 ) -> Result<(), Fault>
     ensures ok { OnOk result ((reader.new ≡ reader.old)
-        × ((before : List ℕ) → V.took values.old before → V.took values.new (before ++ value ∷ []))) }
+        × ((before : List ℕ) → V.took values.old before
+        → V.took values.new (before ++ value ∷ []))) }
     ensures err { IfErr result (λ fault. (fault ≡ Fault.Memory)
         × (reader.new ≡ failed_reader reader.old)
         × ((before : List ℕ) → V.took values.old before → V.took values.new before)) }
@@ -176,7 +177,8 @@ fn read_characters<S: Source, V: ValueTaker>(
     values: &mut V,
 ) -> Result<(), Fault>
     requires { reader.old.live ≡ true }
-    ensures { Gains V.took values.old values.new (AddsAll char6 count reader.old result reader.new) }
+    ensures { Gains V.took values.old values.new
+        (AddsAll char6 count reader.old result reader.new) }
 {
     for done in 0..count {
         let left = count - done;

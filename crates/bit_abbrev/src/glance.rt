@@ -1,9 +1,8 @@
 //! Reading records from the bytes at hand, where all of a record is there. `None` says that it was not read, and why not is
 //! no matter: the calls over a reader read it from its beginning and judge it. So whatever is odd here is `None`.
 
-ghost use Rattle.std.specs.Prelude.{◌≡◌, ◌≢◌, ◌+◌, ◌*◌, ◌-◌, ◌<◌, ◌≤◌, ◌^◌, ℕ, List, [], ◌∷◌, ◌++◌, IfSome, OnSome, Ok, length, true, false};
+ghost use Rattle.std.specs.Prelude.{◌≡◌, ◌≢◌, ◌+◌, ◌*◌, ◌-◌, ◌<◌, ◌≤◌, ℕ, List, [], ◌∷◌, ◌++◌, IfSome, OnSome, Ok, length, true, false};
 ghost use Rattle.std.specs.List.{AllByRecursion};
-ghost use Rattle.bit_grammar.specs.Grammar.{repeat};
 ghost use Rattle.bit_grammar.specs.Fields.{fixed, vbr, char6};
 ghost use Rattle.bit_grammar.specs.Record.{scalar, singles, value_count, values_of, unabbreviated, abbreviated};
 ghost use Rattle.bit_grammar.specs.FormatDefinition.{op_at, HasLawfulValue, Lawful};
@@ -11,7 +10,7 @@ ghost use Rattle.bit_grammar.specs.declared.op.Op.{Op};
 ghost use Rattle.bit_grammar.specs.declared.op.Op.TheVariants.{Array, Blob};
 ghost use Rattle.bit_fields.specs.Ahead.{Glimpsed, reader_at};
 ghost use Rattle.bit_abbrev.specs.Plain.{IsBehindSingles};
-ghost use Rattle.bit_abbrev.specs.Values.{Adds, AddsAll, AddsEach, AddsFew, AddsWithin, Gains, Keeps, PassesValues, PassesEach};
+ghost use Rattle.bit_abbrev.specs.Values.{AddsAll, AddsEach, AddsFew, AddsWithin, Gains, Keeps, PassesValues, PassesEach};
 
 use crate::elements::pass_fields;
 use crate::record::have_room;
@@ -48,7 +47,8 @@ fn glance_count(ahead: &mut Ahead<'_>, room: u64) -> Option<u64>
 fn pass_vbrs(ahead: &mut Ahead<'_>, count: u64, n: u32) -> Option<()>
     requires some { 2 ≤ n }
     requires few { n ≤ 32 }
-    ensures { OnSome result (PassesValues (vbr n) count (reader_at ahead.old) (reader_at ahead.new)) }
+    ensures { OnSome result
+        (PassesValues (vbr n) count (reader_at ahead.old) (reader_at ahead.new)) }
 {
     for _ in 0..count {
         ahead.pass_vbr(n)?;
@@ -336,7 +336,7 @@ pub fn glance_record<U, V: ValueTaker>(
 ) -> Option<u64>
     requires { Lawful ops.now }
     ensures glimpsed { IfSome result (λ code. Gains V.took values.old values.new
-        (λ before after. (at : ℕ) → AddsWithin (abbreviated at room ops.now) room
+        (λ before after. (first : ℕ) → AddsWithin (abbreviated first room ops.now) room
         (reader_at ahead.old) (Ok code) (reader_at ahead.new) before after)) }
     ensures keeps { Keeps V.took values.old values.new }
 {

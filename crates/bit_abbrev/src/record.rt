@@ -113,22 +113,22 @@ fn read_values<S: Source, V: ValueTaker>(
 fn read_record<S: Source, V: ValueTaker>(
     reader: &mut BitReader<S>,
     ops: &[Op],
-    at: u64,
+    first: u64,
     room: u64,
     values: &mut V,
 ) -> Result<u64, Fault>
     requires { Lawful ops.now }
     ensures { Gains V.took values.old values.new
-        (AddsWithin (abbreviated at room ops.now) room reader.old result reader.new) }
+        (AddsWithin (abbreviated first room ops.now) room reader.old result reader.new) }
 {
     if !reader.is_live() {
         return Err(Fault::Failed);
     }
-    let [first, others @ ..] = ops else {
+    let [code_op, others @ ..] = ops else {
         unreachable!();
     };
-    reader.judge(have_room(others, room), Reason::TooManyValues, at)?;
-    let code = read_code(reader, *first)?;
+    reader.judge(have_room(others, room), Reason::TooManyValues, first)?;
+    let code = read_code(reader, *code_op)?;
     read_values(reader, room, others, values)?;
     Ok(code)
 }
@@ -142,22 +142,24 @@ fn read_record<S: Source, V: ValueTaker>(
 pub fn read_abbreviated<S: Source, V: ValueTaker>(
     reader: &mut BitReader<S>,
     abbrev: &Abbrev,
-    at: u64,
+    first: u64,
     room: u64,
     values: &mut V,
 ) -> Result<u64, Fault>
     requires { has_shape «abbrev».now ≡ true }
     ensures takes { Gains V.took values.old values.new
-        (Recorded (λ r. Takes (abbreviated at room «abbrev».now) reader.old r reader.new) result) }
+        (Recorded (λ r. Takes (abbreviated first room «abbrev».now) reader.old r reader.new)
+        result) }
     ensures only { Gains V.took values.old values.new
-        (Recorded (λ r. IsOnly (abbreviated at room «abbrev».now) reader.old r reader.new) result) }
+        (Recorded (λ r. IsOnly (abbreviated first room «abbrev».now) reader.old r reader.new)
+        result) }
     ensures few { Gains V.took values.old values.new
         (λ before after. OnOk result (length after ≤ length before + room)) }
     ensures stays { OnErr result (reader.new.position ≡ reader.old.position) }
 {
     let start = reader.position();
     let before = values.count();
-    match read_record(reader, abbrev.lawful_ops(), at, room, values) {
+    match read_record(reader, abbrev.lawful_ops(), first, room, values) {
         Ok(code) => Ok(code),
         Err(fault) => {
             values.truncate(before);

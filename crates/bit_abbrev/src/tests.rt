@@ -133,7 +133,7 @@ fn literal(definition: Option<&Abbrev>) -> u64 {
 }
 
 /// The literals of an id's definitions, with zeros behind them.
-fn defined(table: &InfoTable, id: u32) -> [u64; 5] {
+fn literals_of(table: &InfoTable, id: u32) -> [u64; 5] {
     let definitions = table.for_block(id);
     let mut values = [0; 5];
     for (index, value) in values.iter_mut().enumerate() {
@@ -150,10 +150,10 @@ fn define(
     id: u32,
     value: u64,
 ) -> Result<(), Fail> {
-    let before = defined(table, id);
+    let before = literals_of(table, id);
     let definition = constant(alloc, value)?;
     if let Err(refused) = table.define(id, definition) {
-        assert!(rt; defined(table, id) == before);
+        assert!(rt; literals_of(table, id) == before);
         return Err(refused.into());
     }
     Ok(())
@@ -162,10 +162,10 @@ fn define(
 /// The definitions of four ids.
 fn four_ids(table: &InfoTable) -> [[u64; 5]; 4] {
     [
-        defined(table, 8),
-        defined(table, 0),
-        defined(table, u32::MAX),
-        defined(table, 9),
+        literals_of(table, 8),
+        literals_of(table, 0),
+        literals_of(table, u32::MAX),
+        literals_of(table, 9),
     ]
 }
 
@@ -250,21 +250,24 @@ fn all_begun(alloc: Global, shared: &SharedInfo) -> Result<Vec<InForce>, Fail> {
 }
 
 /// The blocks, with another table put in the place of theirs.
-fn left_open(alloc: Global, shared: &mut SharedInfo) -> Result<Vec<InForce>, Fail> {
+fn open_blocks(alloc: Global, shared: &mut SharedInfo) -> Result<Vec<InForce>, Fail> {
     let blocks = all_begun(alloc, shared)?;
     *shared = shared_of(alloc, 9, &[4])?;
     Ok(blocks)
 }
 
 /// What is in force where a block begins.
-fn entered(alloc: Global, shared: &SharedInfo, id: u32) -> Result<([u64; 9], u64), Fail> {
+fn in_force_at(alloc: Global, shared: &SharedInfo, id: u32) -> Result<([u64; 9], u64), Fail> {
     let definitions = shared.enter(alloc, id)?;
     Ok(in_force(&definitions))
 }
 
 /// The same of a block 8 and a block 9.
-fn two_entered(alloc: Global, shared: &SharedInfo) -> Result<[([u64; 9], u64); 2], Fail> {
-    Ok([entered(alloc, shared, 8)?, entered(alloc, shared, 9)?])
+fn in_force_at_two(alloc: Global, shared: &SharedInfo) -> Result<[([u64; 9], u64); 2], Fail> {
+    Ok([
+        in_force_at(alloc, shared, 8)?,
+        in_force_at(alloc, shared, 9)?,
+    ])
 }
 
 /// What is in force in three blocks.
@@ -277,13 +280,15 @@ fn in_three(blocks: &[InForce]) -> Option<[([u64; 9], u64); 3]> {
 
 /// What is in force in blocks whose table another one replaced, after one more definition in the outer one; and in blocks that
 /// are entered then.
-fn kept(alloc: Global) -> Result<(Option<[([u64; 9], u64); 3]>, [([u64; 9], u64); 2]), Fail> {
+fn in_force_after(
+    alloc: Global,
+) -> Result<(Option<[([u64; 9], u64); 3]>, [([u64; 9], u64); 2]), Fail> {
     let mut shared = shared_of(alloc, 8, &[1, 2])?;
-    let mut blocks = left_open(alloc, &mut shared)?;
+    let mut blocks = open_blocks(alloc, &mut shared)?;
     if let Some(outer) = blocks.first_mut() {
         add(alloc, outer, 5)?;
     }
-    let later = two_entered(alloc, &shared)?;
+    let later = in_force_at_two(alloc, &shared)?;
     Ok((in_three(&blocks), later))
 }
 
@@ -300,7 +305,7 @@ static LATER: [([u64; 9], u64); 2] = [
 
 #[test]
 fn open_blocks_keep_what_they_had(rt: HostRuntime) -> Result<(), Fail> {
-    let (told, later) = kept(rt.alloc())?;
+    let (told, later) = in_force_after(rt.alloc())?;
     assert!(rt; told == Some(KEPT) && later == LATER);
     Ok(())
 }
@@ -308,7 +313,7 @@ fn open_blocks_keep_what_they_had(rt: HostRuntime) -> Result<(), Fail> {
 #[test]
 fn nothing_is_in_force_at_first(rt: HostRuntime) -> Result<(), Fail> {
     let shared = SharedInfo::new();
-    let told = entered(rt.alloc(), &shared, 8)?;
+    let told = in_force_at(rt.alloc(), &shared, 8)?;
     assert!(rt; told == ([0; 9], 0));
     Ok(())
 }

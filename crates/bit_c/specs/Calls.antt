@@ -2,8 +2,7 @@
 use Rattle.std.specs.Prelude.{◌≡◌, ⊤, ℕ, List}
 use Rattle.bit_grammar.specs.Grammar.{at}
 use Rattle.bit_grammar.specs.Blocks as blocks
-use Rattle.bit_grammar.specs.Input.{SpellsInput, BreaksInput, Accepts}
-use Rattle.bit_grammar.specs.Terms.{Marked}
+use Rattle.bit_grammar.specs.Input.{BreaksInput, Accepts}
 use Rattle.bit_c.specs.declared.outcome.Outcome.{Outcome}
 use Rattle.bit_c.specs.declared.outcome.Outcome.TheVariants.{Done, Refused, Memory}
 

@@ -1,6 +1,6 @@
 //! The analysis of an input, as rows.
 
-ghost use Rattle.std.specs.Prelude.{◌≡◌, ◌++◌, map, flat_map, length, IfOk, OnOk};
+ghost use Rattle.std.specs.Prelude.{◌≡◌, ◌++◌, map, IfOk, OnOk};
 ghost use Rattle.bit_scan.specs.CodesView.{code_tallies};
 ghost use Rattle.bit_scan.specs.Rows.{block_tally, block_tallies};
 ghost use Rattle.bit_c.specs.Ending.{EndsCall};
@@ -88,7 +88,8 @@ fn block_rows(alloc: Global, rows: &[(u32, BlockRow)]) -> Result<Vec<BsBlockRow>
 
 /// Adds the rows of codes of a block id, as C sees them.
 fn add_codes(out: &mut Vec<BsCodeRow>, codes: &Codes) -> Result<(), AllocError>
-    ensures { OnOk result (out.new.items ≡ out.old.items ++ map code_told (code_tallies codes.now)) }
+    ensures { OnOk result
+        (out.new.items ≡ out.old.items ++ map code_told (code_tallies codes.now)) }
 {
     for (code, row) in codes.rows().iter() {
         out.push(BsCodeRow {
@@ -192,7 +193,7 @@ fn analyse_within(
         code_room.new) (Analyses l bytes.now tally.new block_room.old block_room.new code_room.old
         code_room.new) result }
 {
-    match limits.told() {
+    match limits.to_limits() {
         Some(limits) => analyse_under(alloc, bytes, limits, tally, block_room, code_room),
         None => {
             *tally = NO_TALLY;

@@ -26,7 +26,7 @@ fn judge(alloc: Global, bytes: &[u8], limits: Limits) -> Outcome
 fn judge_within(alloc: Global, bytes: &[u8], limits: &BsLimits) -> Outcome
     ensures { Within (limits_told limits.now) ⊤ (Checks (limits_told limits.now) bytes.now) result }
 {
-    match limits.told() {
+    match limits.to_limits() {
         Some(limits) => judge(alloc, bytes, limits),
         None => Outcome::Limits,
     }

@@ -1,6 +1,6 @@
 //! Where two inputs first differ, as C sees it.
 
-ghost use Rattle.std.specs.Prelude.{◌≡◌, length, map, IfOk};
+ghost use Rattle.std.specs.Prelude.{◌≡◌, map, IfOk};
 ghost use Rattle.bit_norm.specs.Entries.{difference_shown, place_shown, standing_shown};
 ghost use Rattle.bit_c.specs.Differing.{GivesDifference, Stands, Tells, block_told, items_before, open_in, place_number, value_difference_told};
 
@@ -167,7 +167,7 @@ fn place_of(place: &Place) -> (u32, u64)
 }
 
 /// A first difference, as C sees it.
-fn told(difference: &Difference) -> BsDifference
+fn difference_of(difference: &Difference) -> BsDifference
     ensures { Tells (difference_shown difference.now) result }
 {
     let (place, items) = place_of(&difference.place);
@@ -208,7 +208,7 @@ pub(crate) fn give_difference(
     let Ok(open) = open_blocks(alloc, open_at(&found.place)) else {
         return Outcome::Memory;
     };
-    *difference = told(found);
+    *difference = difference_of(found);
     if room.len() < open.len() {
         return Outcome::Room;
     }

@@ -19,7 +19,7 @@ pub struct BsHandle {
 
 /// A closed one.
 // The second part brings `Home` into the table of types.
-pub(crate) fn closed(alloc: Global) -> (BsHandle, Option<Box<Home>>)
+pub(crate) fn closed_handle(alloc: Global) -> (BsHandle, Option<Box<Home>>)
     ensures { result.0.inner.home ≡ None }
 {
     let at: *mut () = ptr::null_mut();
@@ -31,7 +31,7 @@ pub(crate) fn closed(alloc: Global) -> (BsHandle, Option<Box<Home>>)
 }
 
 /// An open one.
-pub(crate) fn opened(home: Box<Home>) -> BsHandle
+pub(crate) fn handle_of(home: Box<Home>) -> BsHandle
     ensures { result.inner.home ≡ Some home.value }
 {
     let inner = Inner::some(Parts::of(home));
@@ -39,7 +39,7 @@ pub(crate) fn opened(home: Box<Home>) -> BsHandle
 }
 
 /// What one leads to.
-fn taken(handle: BsHandle) -> Option<Box<Home>>
+fn home_of(handle: BsHandle) -> Option<Box<Home>>
     ensures { MatchOption result (handle.inner.home ≡ None)
         (λ home. handle.inner.home ≡ Some home.value) }
 {
@@ -57,6 +57,6 @@ pub(crate) fn take_out(alloc: Global, handle: &mut BsHandle) -> Option<Box<Home>
     ensures told { MatchOption result (handle.old.inner.home ≡ None)
         (λ home. handle.old.inner.home ≡ Some home.value) }
 {
-    let (none, _) = closed(alloc);
-    taken(mem::replace(handle, none))
+    let (none, _) = closed_handle(alloc);
+    home_of(mem::replace(handle, none))
 }

@@ -8,7 +8,7 @@ ghost use Rattle.bit_c.specs.Limiting.{AsksWithin, Within, limits_told, setting_
 ghost use Rattle.bit_c.specs.Opened.{text_of};
 ghost use Rattle.bit_c.specs.declared.texts.Text.{Text as TextTold};
 
-use crate::handle::{BsHandle, opened, take_out};
+use crate::handle::{BsHandle, handle_of, take_out};
 use crate::home::Home;
 use crate::left_out::{BsLeftOut, asked_of};
 use crate::limits::BsLimits;
@@ -26,7 +26,7 @@ fn put_behind(alloc: Global, made: VecSink, handle: &mut BsHandle) -> Outcome
 {
     match Box::new(alloc, Home::Text(made)) {
         Ok(home) => {
-            *handle = opened(home);
+            *handle = handle_of(home);
             Outcome::Done
         }
         Err(_) => Outcome::Memory,
@@ -63,7 +63,7 @@ fn hold_report_within(
         in Within l (new ≡ None) (Holds TextTold.Report keep l bytes.now new) result }
 {
     let _ = take_out(alloc, handle);
-    match limits.told() {
+    match limits.to_limits() {
         Some(limits) => hold(alloc, bytes, limits, Text::Report, Info::Keep, handle),
         None => Outcome::Limits,
     }
@@ -161,7 +161,7 @@ fn tell_of(alloc: Global, handle: &mut BsHandle, room: &mut [u8], needed: &mut u
     match take_out(alloc, handle) {
         Some(home) => {
             let outcome = tell_in(&home, room, needed);
-            *handle = opened(home);
+            *handle = handle_of(home);
             outcome
         }
         None => {

@@ -1,6 +1,6 @@
 //! What of an input is left out, and what is asked of it: that under limits.
 
-ghost use Rattle.std.specs.Prelude.{◌≡◌, ◌==◌, ◌++◌, map, if◌then◌else◌, IfOk};
+ghost use Rattle.std.specs.Prelude.{◌≡◌, ◌==◌, map, IfOk};
 ghost use Rattle.std.specs.List.{list_any};
 ghost use Rattle.bit_grammar.specs.Setting.{setting_of};
 ghost use Rattle.bit_c.specs.Limiting.{ToldOfAsked, asked_setting, blocks_told, limits_told, name_told};
@@ -92,7 +92,7 @@ pub(crate) fn asked_of(
 ) -> Result<Asked, Outcome>
     ensures { ToldOfAsked (limits_told limits.now) left_out.now result }
 {
-    let Some(limits) = limits.told() else {
+    let Some(limits) = limits.to_limits() else {
         return Err(Outcome::Limits);
     };
     if name_info(left_out.records) {

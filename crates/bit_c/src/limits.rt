@@ -21,7 +21,7 @@ pub struct BsLimits {
 
 impl BsLimits {
     /// The limits, where none is past its cap.
-    pub(crate) fn told(&self) -> Option<Limits>
+    pub(crate) fn to_limits(&self) -> Option<Limits>
         ensures { MatchOption result (PassCaps (limits_told self.now))
             (λ limits. (limits ≡ limits_told self.now) × Capped limits) }
     {

@@ -7,7 +7,7 @@ ghost use Rattle.bit_c.specs.Opened.{reading_of};
 ghost use Rattle.bit_c.specs.Stepping.{BeginsReading, Lists, ListsOf, Nexts, NextsIn, OpensHandle, StepsReading};
 
 use crate::event::{BsEvent, next_of};
-use crate::handle::{BsHandle, opened, take_out};
+use crate::handle::{BsHandle, handle_of, take_out};
 use crate::home::{Home, Reading};
 use crate::limits::BsLimits;
 use crate::outcome::{BsFault, Outcome};
@@ -40,7 +40,7 @@ fn open_at(alloc: Global, bytes: &'static [u8], limits: Limits, handle: &mut BsH
     };
     match Box::new(alloc, Home::Reading(reading)) {
         Ok(home) => {
-            *handle = opened(home);
+            *handle = handle_of(home);
             Outcome::Done
         }
         Err(_) => Outcome::Memory,
@@ -58,7 +58,7 @@ fn open_within(
         in Within l (new ≡ None) (OpensHandle l bytes.now new) result }
 {
     let _ = take_out(alloc, handle);
-    match limits.told() {
+    match limits.to_limits() {
         Some(limits) => open_at(alloc, bytes, limits, handle),
         None => Outcome::Limits,
     }
@@ -117,7 +117,7 @@ fn step_of(alloc: Global, handle: &mut BsHandle, event: &mut BsEvent) -> Outcome
     match take_out(alloc, handle) {
         Some(mut home) => {
             let outcome = step_in(&mut home, event);
-            *handle = opened(home);
+            *handle = handle_of(home);
             outcome
         }
         None => Outcome::Closed,
@@ -170,7 +170,7 @@ fn list_of(alloc: Global, handle: &mut BsHandle, room: &mut [u64], needed: &mut 
     match take_out(alloc, handle) {
         Some(home) => {
             let outcome = list_in(&home, room, needed);
-            *handle = opened(home);
+            *handle = handle_of(home);
             outcome
         }
         None => {

@@ -1,7 +1,6 @@
 //! The caller's room.
 
 ghost use Rattle.std.specs.Prelude.{◌≤◌, length, true};
-ghost use Rattle.bit_fields.specs.Devices.{Outgoing};
 ghost use Rattle.bit_c.specs.Handing.{FillsRoom, Hands, HandsOut};
 
 use crate::outcome::Outcome;

@@ -2,7 +2,7 @@
 
 use crate::difference::NO_DIFFERENCE;
 use crate::event::NONE;
-use crate::handle::closed;
+use crate::handle::closed_handle;
 use crate::{
     BsBlockRow, BsCodeRow, BsEvent, BsFault, BsHandle, BsLeftOut, BsLimits, BsOpenBlock,
     BsRecordName, BsTally, bs_analyse, bs_check, bs_close, bs_first_difference, bs_hold_normal,
@@ -46,7 +46,7 @@ fn usual() -> BsLimits {
     limits
 }
 
-fn judged(alloc: Global) -> [u32; 2] {
+fn judgements(alloc: Global) -> [u32; 2] {
     let (limits, mut fault) = (usual(), NO_FAULT);
     let check = bs_check(alloc, &THIRTY, &limits, &mut fault);
     let same = bs_same(alloc, &THIRTY, &THIRTY, &limits, &WHOLE, &mut fault);
@@ -54,7 +54,7 @@ fn judged(alloc: Global) -> [u32; 2] {
 }
 
 /// How two records with another value compare, whole and without them; and the first values that differ.
-fn compared(alloc: Global, left_out: &BsLeftOut<'_>) -> (u32, usize, [u64; 2]) {
+fn comparison(alloc: Global, left_out: &BsLeftOut<'_>) -> (u32, usize, [u64; 2]) {
     let (limits, mut fault, mut difference) = (usual(), NO_FAULT, NO_DIFFERENCE);
     let mut room = [BsOpenBlock { id: 0, items: 0 }; 2];
     let status = bs_first_difference(
@@ -73,17 +73,17 @@ fn compared(alloc: Global, left_out: &BsLeftOut<'_>) -> (u32, usize, [u64; 2]) {
 
 #[test]
 fn what_differs(rt: HostRuntime) {
-    assert!(rt; compared(rt.alloc(), &WHOLE) == (1, 1, [30, 31]));
+    assert!(rt; comparison(rt.alloc(), &WHOLE) == (1, 1, [30, 31]));
     let left_out = BsLeftOut {
         info: true,
         blocks: &[],
         records: &NAMES,
     };
-    assert!(rt; compared(rt.alloc(), &left_out) == (0, 0, [0, 0]));
+    assert!(rt; comparison(rt.alloc(), &left_out) == (0, 0, [0, 0]));
 }
 
 /// How the calls for texts end, and how long the normal form is.
-fn given(alloc: Global) -> ([u32; 3], usize) {
+fn given_texts(alloc: Global) -> ([u32; 3], usize) {
     let (limits, mut fault, mut room) = (usual(), NO_FAULT, [0; 128]);
     let (mut form, mut other) = (0, 0);
     let normal = bs_normal(
@@ -98,11 +98,11 @@ fn given(alloc: Global) -> ([u32; 3], usize) {
 
 #[test]
 fn what_is_accepted(rt: HostRuntime) {
-    assert!(rt; judged(rt.alloc()) == [0, 0]);
-    assert!(rt; given(rt.alloc()) == ([0; 3], 16));
+    assert!(rt; judgements(rt.alloc()) == [0, 0]);
+    assert!(rt; given_texts(rt.alloc()) == ([0; 3], 16));
 }
 
-fn held(alloc: Global, handle: &mut BsHandle) -> [u32; 4] {
+fn held_texts(alloc: Global, handle: &mut BsHandle) -> [u32; 4] {
     let (limits, mut fault, mut room, mut needed) = (usual(), NO_FAULT, [0; 64], 0);
     let report = bs_hold_report(alloc, &THIRTY, &limits, handle, &mut fault);
     let show = bs_hold_show(alloc, &THIRTY, &limits, &WHOLE, handle, &mut fault);
@@ -113,8 +113,8 @@ fn held(alloc: Global, handle: &mut BsHandle) -> [u32; 4] {
 
 #[test]
 fn what_is_held(rt: HostRuntime) {
-    let (mut handle, _) = closed(rt.alloc());
-    assert!(rt; held(rt.alloc(), &mut handle) == [0; 4]);
+    let (mut handle, _) = closed_handle(rt.alloc());
+    assert!(rt; held_texts(rt.alloc(), &mut handle) == [0; 4]);
     bs_close(rt.alloc(), &mut handle);
 }
 
@@ -167,7 +167,7 @@ fn next(alloc: Global, handle: &mut BsHandle) -> (u32, u32, usize) {
 
 #[test]
 fn what_is_read(rt: HostRuntime) {
-    let (mut handle, _) = closed(rt.alloc());
+    let (mut handle, _) = closed_handle(rt.alloc());
     let (mut fault, mut room, mut needed) = (NO_FAULT, [0; 2], 0);
     let opened = bs_open(rt.alloc(), &THIRTY, &usual(), &mut handle, &mut fault);
     let first = [next(rt.alloc(), &mut handle), next(rt.alloc(), &mut handle)];

@@ -117,7 +117,7 @@ fn report_within(
     ensures { let l = limits_told limits.now in Within l (LeavesRoom room.old needed.new room.new)
         (GivesText TextTold.Report keep l bytes.now room.old needed.new room.new) result }
 {
-    match limits.told() {
+    match limits.to_limits() {
         Some(limits) => give(alloc, bytes, limits, Text::Report, Info::Keep, room, needed),
         None => {
             *needed = 0;
@@ -138,7 +138,8 @@ fn give_asked(
 ) -> Outcome
     ensures { let l = limits_told limits.now in AsksWithin l left_out.now
         (LeavesRoom room.old needed.new room.new)
-        (GivesText text (setting_told left_out.now) l bytes.now room.old needed.new room.new) result }
+        (GivesText text (setting_told left_out.now) l bytes.now room.old needed.new room.new)
+        result }
 {
     match asked_of(alloc, limits, left_out) {
         Ok(asked) => give(

@@ -74,28 +74,28 @@ Free rule = Faults Other rule
 
 pub fixed_free : (n : ℕ) → Free (fixed n)
 unfolding fixed
-fixed_free n = (tt, λ start. (tt, λ s. tt))
+fixed_free n = (tt, λ first. (tt, λ s. tt))
 
-chunks_free : (payload start permitted places : ℕ) → Free (chunks payload start permitted places)
-chunks_free payload start zero places = tt
-chunks_free payload start (suc permitted) places = (tt, λ chunk. (tt, λ held. ((chunks_free payload start permitted (places - payload), λ high. tt), tt)))
+chunks_free : (payload first permitted places : ℕ) → Free (chunks payload first permitted places)
+chunks_free payload first zero places = tt
+chunks_free payload first (suc permitted) places = (tt, λ chunk. (tt, λ held. ((chunks_free payload first permitted (places - payload), λ high. tt), tt)))
 
 vbr_free : (n : ℕ) → Free (vbr n)
 unfolding vbr
 vbr_free zero = tt
-vbr_free (suc payload) = (tt, λ start. chunks_free payload start (chunk_limit payload) 64)
+vbr_free (suc payload) = (tt, λ first. chunks_free payload first (chunk_limit payload) 64)
 
 char6_free : Free char6
 unfolding char6
 char6_free = (fixed_free 6, λ c. tt)
 
-zeros_free : (start count : ℕ) → Free (zeros start count)
-zeros_free start zero = tt
-zeros_free start (suc count) = (tt, λ place. (tt, λ s. (tt, λ held. zeros_free start count)))
+zeros_free : (first count : ℕ) → Free (zeros first count)
+zeros_free first zero = tt
+zeros_free first (suc count) = (tt, λ place. (tt, λ s. (tt, λ held. zeros_free first count)))
 
 align32_free : Free align32
 unfolding align32
-align32_free = (tt, λ start. zeros_free start (padding_length start))
+align32_free = (tt, λ first. zeros_free first (padding_length first))
 
 byte_free : Free byte
 unfolding byte
@@ -122,7 +122,7 @@ valued_free blob = tt
 
 operand_free : (shapes : Shapes) (place : Place) (after : ℕ) → Free (operand shapes place after)
 unfolding operand
-operand_free shapes place after = (tt, λ start. (kind_free, λ k. (tt, λ held. valued_free k)))
+operand_free shapes place after = (tt, λ first. (kind_free, λ k. (tt, λ held. valued_free k)))
 
 operands_free : (shapes : Shapes) (count : ℕ) (place : Place) → Free (operands shapes count place)
 unfolding operands
@@ -131,7 +131,7 @@ operands_free shapes (suc after) place = (operand_free shapes place after, λ op
 
 definition_free : (shapes : Shapes) → Free (definition shapes)
 unfolding definition
-definition_free shapes = (tt, λ start. (vbr_free 5, λ count. (tt, λ held. operands_free shapes count first_place)))
+definition_free shapes = (tt, λ first. (vbr_free 5, λ count. (tt, λ held. operands_free shapes count first_place)))
 
 -- ---- records
 
@@ -157,26 +157,26 @@ unfolding values_of
 values_free room [] = tt
 values_free room (Array ∷ []) = tt
 values_free room (Array ∷ element ∷ others) = (count_free room, λ count. repeat_free count (scalar element) (scalar_free element))
-values_free room (Blob ∷ others) = (count_free room, λ count. (align32_free, λ start. (repeat_free count byte byte_free, λ values. (align32_free, λ end. tt))))
+values_free room (Blob ∷ others) = (count_free room, λ count. (align32_free, λ first. (repeat_free count byte byte_free, λ values. (align32_free, λ end. tt))))
 values_free room (Literal v ∷ others) = (scalar_free (Literal v), λ value. (values_free room others, λ values. tt))
 values_free room (Fixed n ∷ others) = (scalar_free (Fixed n), λ value. (values_free room others, λ values. tt))
 values_free room (Vbr n ∷ others) = (scalar_free (Vbr n), λ value. (values_free room others, λ values. tt))
 values_free room (Char6 ∷ others) = (scalar_free Char6, λ value. (values_free room others, λ values. tt))
 
-abbreviated_free : (start room : ℕ) (ops : List Op) → Free (abbreviated start room ops)
+abbreviated_free : (first room : ℕ) (ops : List Op) → Free (abbreviated first room ops)
 unfolding abbreviated
-abbreviated_free start room [] = tt
-abbreviated_free start room (op ∷ others) = (tt, λ held. (scalar_free op, λ code. (values_free (room - singles others) others, λ values. tt)))
+abbreviated_free first room [] = tt
+abbreviated_free first room (op ∷ others) = (tt, λ held. (scalar_free op, λ code. (values_free (room - singles others) others, λ values. tt)))
 
 -- ---- blocks
 
 block_id_free : Free block_id
 unfolding block_id
-block_id_free = (tt, λ start. (vbr_free 8, λ id. (tt, λ held. tt)))
+block_id_free = (tt, λ first. (vbr_free 8, λ id. (tt, λ held. tt)))
 
 new_width_free : Free new_width
 unfolding new_width
-new_width_free = (tt, λ start. (vbr_free 4, λ width. (tt, λ held. tt)))
+new_width_free = (tt, λ first. (vbr_free 4, λ width. (tt, λ held. tt)))
 
 head_free : Free block_head
 unfolding block_head
@@ -251,11 +251,11 @@ to_come_other limits m p r = told_other limits (suc (length r)) m p r
 
 version_free : Free version
 unfolding version
-version_free = (tt, λ start. (fixed_free 32, λ n. tt))
+version_free = (tt, λ first. (fixed_free 32, λ n. tt))
 
 offset_free : Free offset
 unfolding offset
-offset_free = (tt, λ start. (fixed_free 32, λ n. (tt, λ held. tt)))
+offset_free = (tt, λ first. (fixed_free 32, λ n. (tt, λ held. tt)))
 
 wrapper_free : Free wrapper
 unfolding wrapper
@@ -263,7 +263,7 @@ wrapper_free = (version_free, λ known. (offset_free, λ offset. (fixed_free 32,
 
 any_free : (n : ℕ) → Free (any_bits n)
 unfolding any_bits
-any_free n = (tt, λ start. (tt, λ s. tt))
+any_free n = (tt, λ first. (tt, λ s. tt))
 
 pub gap_free : Free wrapper_and_gap
 unfolding wrapper_and_gap
@@ -271,4 +271,4 @@ gap_free = (wrapper_free, λ w. (any_free _, λ passed. tt))
 
 pub inner_free : Free inner_magic
 unfolding inner_magic
-inner_free = (tt, λ start. (fixed_free 32, λ magic. (tt, λ held. tt)))
+inner_free = (tt, λ first. (fixed_free 32, λ magic. (tt, λ held. tt)))

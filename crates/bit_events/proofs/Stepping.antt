@@ -124,13 +124,13 @@ pub top_missed : (limits : Limits) (handed : Handed) (a : Reader) (fault : Fault
 unfolding step_top
 top_missed limits handed a fault b h = why (step_top limits handed) a fault b (here a.position refl (breaks h))
 
-pub top_judged : (limits : Limits) (handed : Handed) (a : Reader) (id : ℕ) (b : Reader) (start : ℕ) (fault : Fault) (c : Reader) → start ≡ a.position → Took (fixed 2) a id b → Why (test (eqb id 1) (at TopLevel start)) b fault c → Why (step_top limits handed) a fault c
+pub top_judged : (limits : Limits) (handed : Handed) (a : Reader) (id : ℕ) (b : Reader) (first : ℕ) (fault : Fault) (c : Reader) → first ≡ a.position → Took (fixed 2) a id b → Why (test (eqb id 1) (at TopLevel first)) b fault c → Why (step_top limits handed) a fault c
 unfolding step_top
-top_judged limits handed a id b start fault c is t h = why (step_top limits handed) a fault c (here start is (andThen t (breaks h)))
+top_judged limits handed a id b first fault c is t h = why (step_top limits handed) a fault c (here first is (andThen t (breaks h)))
 
-pub top_opens : (limits : Limits) (handed : Handed) (a : Reader) (id : ℕ) (b : Reader) (start : ℕ) (c : Reader) (result : Result (Event × machine.Machine) Fault) (d : Reader) → start ≡ a.position → Took (fixed 2) a id b → Took (test (eqb id 1) (at TopLevel start)) b tt c → Takes (open_block limits [] start handed) c result d → Takes (step_top limits handed) a result d
+pub top_opens : (limits : Limits) (handed : Handed) (a : Reader) (id : ℕ) (b : Reader) (first : ℕ) (c : Reader) (result : Result (Event × machine.Machine) Fault) (d : Reader) → first ≡ a.position → Took (fixed 2) a id b → Took (test (eqb id 1) (at TopLevel first)) b tt c → Takes (open_block limits [] first handed) c result d → Takes (step_top limits handed) a result d
 unfolding step_top
-top_opens limits handed a id b start c result d is t u v = told (step_top limits handed) a result d (here start is (andThen t (andThen u (answers v))))
+top_opens limits handed a id b first c result d is t u v = told (step_top limits handed) a result d (here first is (andThen t (andThen u (answers v))))
 
 -- ---- the end of a block
 
@@ -167,9 +167,9 @@ pub in_missed : (limits : Limits) (h : blocks.BlockHead) (frames : List machine.
 unfolding step_in
 in_missed limits h frames scope a fault b w = why (step_in limits h frames scope) a fault b (here a.position refl (breaks w))
 
-pub in_then : (limits : Limits) (h : blocks.BlockHead) (frames : List machine.Frame) (scope : Scope) (a : Reader) (id : ℕ) (b : Reader) (start : ℕ) (result : Result (Event × machine.Machine) Fault) (c : Reader) → start ≡ a.position → Took (fixed h.width) a id b → Takes (step_after limits h frames start scope id) b result c → Takes (step_in limits h frames scope) a result c
+pub in_then : (limits : Limits) (h : blocks.BlockHead) (frames : List machine.Frame) (scope : Scope) (a : Reader) (id : ℕ) (b : Reader) (first : ℕ) (result : Result (Event × machine.Machine) Fault) (c : Reader) → first ≡ a.position → Took (fixed h.width) a id b → Takes (step_after limits h frames first scope id) b result c → Takes (step_in limits h frames scope) a result c
 unfolding step_in
-in_then limits h frames scope a id b start result c is t u = told (step_in limits h frames scope) a result c (here start is (andThen t (answers u)))
+in_then limits h frames scope a id b first result c is t u = told (step_in limits h frames scope) a result c (here first is (andThen t (answers u)))
 
 pub after_end : (limits : Limits) (f : machine.Frame) (outer : List machine.Frame) (first id : ℕ) (handed : Handed) (a : Reader) (result : Result (Event × machine.Machine) Fault) (b : Reader) → eqb id 0 ≡ true → Takes (end_rule f outer handed) a result b → Takes (step_after limits f.head outer first (scope_of f handed) id) a result b
 unfolding step_after

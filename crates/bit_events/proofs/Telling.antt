@@ -38,8 +38,8 @@ pub ends : {A : Type 0} {value : A} {a : Reader} → a.live ≡ true → Tells (
 ends {value = value} {a = a} live = record { takes = took_nothing value a live }
 
 -- where it stands
-pub here : {A : Type 0} {after : ℕ → Grammar A} {a : Reader} {result : Result A Fault} {b : Reader} (start : ℕ) → start ≡ a.position → Tells (after start) a result b → Tells (position >>= after) a result b
-here {after = after} {a = a} {result = result} {b = b} start is t = record { takes = from_here after a result b (subst (λ (p : ℕ). Takes (after p) a result b) is t.takes) }
+pub here : {A : Type 0} {after : ℕ → Grammar A} {a : Reader} {result : Result A Fault} {b : Reader} (first : ℕ) → first ≡ a.position → Tells (after first) a result b → Tells (position >>= after) a result b
+here {after = after} {a = a} {result = result} {b = b} first is t = record { takes = from_here after a result b (subst (λ (p : ℕ). Takes (after p) a result b) is t.takes) }
 
 -- which of two rules it is
 pub first_rule : {A : Type 0} {b : Bool} {yes_rule no_rule : Grammar A} {a : Reader} {result : Result A Fault} {c : Reader} → b ≡ true → Tells yes_rule a result c → Tells (choose b yes_rule no_rule) a result c

@@ -56,7 +56,7 @@ fn digit(byte: u8) -> u8 {
 
 /// Bytes that several inputs have, under a letter: the usual magic, an empty block, a BLOCKINFO block that defines
 /// [Literal 1, Fixed 7] for block 8, a block 8 of width 3 that uses it, and a wrapper of 16 bytes.
-fn named(name: u8) -> &'static [u8] {
+fn bytes_named(name: u8) -> &'static [u8] {
     match name {
         b'M' => &[0x42, 0x43, 0xC0, 0xDE],
         b'E' => &[0x21, 0x08, 0, 0, 1, 0, 0, 0, 0, 0, 0, 0],
@@ -77,7 +77,7 @@ pub(crate) fn bytes_of(alloc: Global, text: &str) -> Result<Vec<u8>, AllocError>
     for word in text.split_whitespace() {
         match word.as_bytes() {
             [high, low] => bytes.push(digit(*high).wrapping_mul(16).wrapping_add(digit(*low)))?,
-            [name] => bytes.extend_from_slice(named(*name))?,
+            [name] => bytes.extend_from_slice(bytes_named(*name))?,
             _ => {}
         }
     }
@@ -147,7 +147,7 @@ fn show_all<S: Source + Drop>(rt: &impl Abort, events: &mut Events<S>, text: &mu
 }
 
 /// All events of an input, as text.
-fn told<S: Source + Drop>(
+fn events_text<S: Source + Drop>(
     rt: &impl Abort,
     alloc: Global,
     source: S,
@@ -248,7 +248,7 @@ fn are_told(rt: &impl Abort, alloc: Global, limits: Limits, text: &str, wanted: 
     let bytes = bytes_of(alloc, text).expect(rt, "memory");
     for most in [1, 3, 4, 64] {
         let source = in_pieces(&bytes, most, 0);
-        agrees(rt, told(rt, alloc, source, limits), wanted, text);
+        agrees(rt, events_text(rt, alloc, source, limits), wanted, text);
     }
     let source = SliceSource::new(&bytes);
     agrees(rt, told(rt, alloc, source, limits), wanted, text);
@@ -379,7 +379,12 @@ fn break_off(rt: &impl Abort, alloc: Global, from: u64, to: u64, wanted: &str) {
     let bytes = bytes_of(alloc, "M E").expect(rt, "memory");
     for pull in from..to {
         let source = in_pieces(&bytes, 1, pull);
-        agrees(rt, told(rt, alloc, source, Limits::usual()), wanted, "M E");
+        agrees(
+            rt,
+            events_text(rt, alloc, source, Limits::usual()),
+            wanted,
+            "M E",
+        );
     }
 }
 

@@ -70,7 +70,7 @@ impl Gatherer for Text {
 }
 
 /// The events, the magic and the bit after an input, or why it is refused.
-fn folded<S: Source + Drop>(alloc: Global, source: S) -> Result<String, AllocError> {
+fn fold_text<S: Source + Drop>(alloc: Global, source: S) -> Result<String, AllocError> {
     let gatherer = Text {
         alloc,
         text: String::new(alloc),
@@ -86,7 +86,7 @@ fn folded<S: Source + Drop>(alloc: Global, source: S) -> Result<String, AllocErr
 }
 
 /// Whether an input is accepted, or why it is refused.
-fn checked<S: Source + Drop>(alloc: Global, source: S) -> Result<String, AllocError> {
+fn check_text<S: Source + Drop>(alloc: Global, source: S) -> Result<String, AllocError> {
     let (answer, _) = check(alloc, source, Limits::usual());
     match answer {
         Ok(()) => String::from_str(alloc, "accepted"),
@@ -139,10 +139,15 @@ static FOLDED: [(&str, &str, &str); 7] = [
 fn are_folded(rt: &impl Abort, alloc: Global, text: &str, judged: &str, gathered: &str) {
     let bytes = bytes_of(alloc, text).expect(rt, "memory");
     for most in [1, 64] {
-        agrees(rt, checked(alloc, in_pieces(&bytes, most, 0)), judged, text);
         agrees(
             rt,
-            folded(alloc, in_pieces(&bytes, most, 0)),
+            check_text(alloc, in_pieces(&bytes, most, 0)),
+            judged,
+            text,
+        );
+        agrees(
+            rt,
+            fold_text(alloc, in_pieces(&bytes, most, 0)),
             gathered,
             text,
         );
@@ -161,9 +166,9 @@ fn a_source_fails_in_a_fold(rt: HostRuntime) {
     let bytes = bytes_of(rt.alloc(), "M B U").expect(&rt, "memory");
     let failed = "the source failed";
     for fails_at in [1, 2, 9, 20, 33] {
-        let told = folded(rt.alloc(), in_pieces(&bytes, 1, fails_at));
+        let told = fold_text(rt.alloc(), in_pieces(&bytes, 1, fails_at));
         agrees(&rt, told, failed, "folded");
-        let told = checked(rt.alloc(), in_pieces(&bytes, 1, fails_at));
+        let told = check_text(rt.alloc(), in_pieces(&bytes, 1, fails_at));
         agrees(&rt, told, failed, "checked");
     }
 }

@@ -2,7 +2,6 @@ ghost use Rattle.std.specs.Prelude.{◌≡◌, ◌-◌, ◌+◌, ◌≤◌, true
 ghost use Rattle.std.specs.Option.{option_copied};
 ghost use Rattle.bit_grammar.specs.Blocks as blocks;
 ghost use Rattle.bit_grammar.specs.Blocks.{Handed, Scope, defined, define, describe, entry, record_after, may_define};
-ghost use Rattle.bit_grammar.specs.Terms.{Table};
 ghost use Rattle.bit_grammar.specs.Machine.{scope_of};
 ghost use Rattle.bit_fields.specs.Reader.{Takes, told_by};
 ghost use Rattle.bit_abbrev.specs.Values.{Has};
@@ -62,7 +61,8 @@ impl Frame {
         requires { may_define (info_shown self.old.info) ≡ true }
         ensures defined { OnOk result ((handed : Handed)
             → scope_of (frame_shown self.new) handed
-            ≡ defined (info_shown self.old.info) «abbrev» (scope_of (frame_shown self.old) handed)) }
+            ≡ defined (info_shown self.old.info) «abbrev»
+            (scope_of (frame_shown self.old) handed)) }
         ensures head { self.new.head ≡ self.old.head }
     {
         match &mut self.info {

@@ -90,7 +90,8 @@ impl Machine {
     /// Opens a block.
     fn enter(&mut self, alloc: Global, head: BlockHead) -> Result<(), AllocError>
         ensures made { OnOk result (machine_shown self.new
-            ≡ inside (head_shown head) (frames_shown self.old.frames.items) (enter head.id (handed_shown self.old))) }
+            ≡ inside (head_shown head) (frames_shown self.old.frames.items)
+            (enter head.id (handed_shown self.old))) }
         ensures more { OnOk result (vec_len self.new.frames ≡ vec_len self.old.frames + 1) }
     {
         let definitions = self.table.enter(alloc, head.id)?;
@@ -190,7 +191,10 @@ impl Machine {
     /// Takes the table that a BLOCKINFO block made.
     fn leave(&mut self, alloc: Global, info: Option<Describing>) -> Result<(), AllocError>
         ensures made { OnOk result (machine_shown self.new
-            ≡ record { frames = frames_shown self.old.frames.items; handed = leave (info_shown info) (handed_shown self.old) }) }
+            ≡ record {
+              frames = frames_shown self.old.frames.items;
+              handed = leave (info_shown info) (handed_shown self.old);
+            }) }
         ensures frames { self.new.frames ≡ self.old.frames }
     {
         match info {
@@ -250,9 +254,12 @@ impl Machine {
         requires took { TookSome V.took values.old.taker }
         ensures takes { Has V.took values.new.taker (λ list. InBlock self.old (λ f outer.
             Takes (record_rule limits.now.values f outer first id (handed_shown self.old))
-            reader.old (told_by (λ read. (record_of id list first read, machine_shown self.new)) result) reader.new)) }
+            reader.old
+            (told_by (λ read. (record_of id list first read, machine_shown self.new)) result)
+            reader.new)) }
         ensures leaves { (deepest : ℕ) (list : List ℕ)
-            → IfOk result (λ read. LeavesMachine deepest self.old reader.old (record_of id list first read) self.new reader.new) }
+            → IfOk result (λ read. LeavesMachine deepest self.old reader.old
+            (record_of id list first read) self.new reader.new) }
         ensures head { OnOk result (innermost_head (frames_shown self.new.frames.items)
             ≡ innermost_head (frames_shown self.old.frames.items)) }
     {
@@ -348,7 +355,8 @@ impl Machine {
         requires { 0 < vec_len self.old.frames }
         ensures takes { InBlock self.old (λ f outer. f.head ≡ head_shown head
             → Takes (step_in limits.now f.head outer (scope_of f (handed_shown self.old)))
-            reader.old (told_by (after_found self.new (V.kept values.new.taker)) result) reader.new) }
+            reader.old (told_by (after_found self.new (V.kept values.new.taker)) result)
+            reader.new) }
         ensures leaves { IfOk result (λ found. LeavesMachine limits.now.depth self.old reader.old
             (found_shown self.new (V.kept values.new.taker) found) self.new reader.new) }
         ensures holds { IfOk result (λ found. V.kept values.new.taker

@@ -35,7 +35,7 @@ const fn top() -> Around
 }
 
 /// A block that begins, in another one or at the top.
-fn judged(info: Info<'_>, around: Around, id: u32) -> Around
+fn block_in(info: Info<'_>, around: Around, id: u32) -> Around
     ensures id { result.id ≡ id }
     ensures left { result.is_left ≡ (keeps (setting_of info.entry) id && around.is_left) }
     ensures whole { result.is_whole ≡ true → (result.is_left ≡ true)
@@ -113,7 +113,7 @@ impl<'a> OpenBlocks<'a> {
         ensures ids { OnOk result (self.new ≡ record self.old { ids = id ∷ self.old.ids }) }
         ensures stays { OnErr result (self.new ≡ self.old) }
     {
-        let inner = judged(self.info, self.inner, id);
+        let inner = block_in(self.info, self.inner, id);
         self.outer.push(self.inner)?;
         self.inner = inner;
         Ok(inner.is_left)

@@ -34,7 +34,7 @@ fn text_there(alloc: Global, answer: &Option<Difference>) -> Result<String, Allo
 fn text_back(alloc: Global, answer: &Option<Difference>) -> Result<String, AllocError> {
     match answer {
         Some(told) => {
-            let value = exchanged(told.value);
+            let value = mirror_of(told.value);
             text_of(alloc, &told.place, told.second, told.first, value)
         }
         None => "none".to_string(alloc),
@@ -42,7 +42,7 @@ fn text_back(alloc: Global, answer: &Option<Difference>) -> Result<String, Alloc
 }
 
 /// The same value, where the inputs are the other way round.
-fn exchanged(value: Option<ValueDifference>) -> Option<ValueDifference> {
+fn mirror_of(value: Option<ValueDifference>) -> Option<ValueDifference> {
     let told = value?;
     Some(ValueDifference {
         index: told.index,

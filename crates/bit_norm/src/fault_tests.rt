@@ -16,7 +16,7 @@ pub(crate) fn told_of_fault(alloc: Global, fault: Fault) -> Result<String, Alloc
 }
 
 /// The length of the normal form of an input, or the fault, as text.
-fn told<S: Source + Drop>(
+fn length_text<S: Source + Drop>(
     rt: &impl Abort,
     alloc: Global,
     source: S,
@@ -40,14 +40,14 @@ fn is_told(rt: &impl Abort, alloc: Global, input: &[u8], limits: Limits, wanted:
     let source = SliceSource::new(input);
     agrees(
         rt,
-        told(rt, alloc, source, limits, Info::Keep),
+        length_text(rt, alloc, source, limits, Info::Keep),
         wanted,
         "kept",
     );
     let source = SliceSource::new(input);
     agrees(
         rt,
-        told(rt, alloc, source, limits, Info::Drop),
+        length_text(rt, alloc, source, limits, Info::Drop),
         wanted,
         "dropped",
     );
@@ -133,7 +133,7 @@ fn limits_are_kept(rt: HostRuntime) {
 fn a_form_of_the_setting_is_measured(rt: HostRuntime) {
     let input = bytes_of(rt.alloc(), "M D").expect(&rt, "memory");
     let source = SliceSource::new(&input);
-    let told = told(&rt, rt.alloc(), source, within(&rt, 32), Info::Drop);
+    let told = length_text(&rt, rt.alloc(), source, within(&rt, 32), Info::Drop);
     agrees(&rt, told, "16", "dropped");
 }
 
@@ -177,7 +177,7 @@ fn bombs(rt: HostRuntime) {
 }
 
 /// So many blocks, one in another, each in its normal form.
-fn nested(alloc: Global, depth: u32) -> Result<Vec<u8>, AllocError> {
+fn nested_blocks(alloc: Global, depth: u32) -> Result<Vec<u8>, AllocError> {
     let mut bytes = Vec::from_slice(alloc, &MAGIC)?;
     for level in (0..depth).rev() {
         bytes.extend_from_slice(&[0x21, 8, 0, 0])?;
@@ -198,11 +198,11 @@ static DEEP: [(u32, u32, &str); 2] = [
 #[test]
 fn deep_blocks(rt: HostRuntime) {
     for (depth, limit, wanted) in &DEEP {
-        let input = nested(rt.alloc(), *depth).expect(&rt, "memory");
+        let input = nested_blocks(rt.alloc(), *depth).expect(&rt, "memory");
         let limits = limits_of(&rt, (10_000, *limit, 0));
         is_told(&rt, rt.alloc(), &input, limits, wanted);
     }
-    let input = nested(rt.alloc(), 65).expect(&rt, "memory");
+    let input = nested_blocks(rt.alloc(), 65).expect(&rt, "memory");
     let wanted = "refused: TooDeep at bit 4128";
     is_told(&rt, rt.alloc(), &input, Limits::usual(), wanted);
 }
@@ -222,7 +222,7 @@ fn is_form<S: Source + Drop>(
 
 #[test]
 fn deep_forms(rt: HostRuntime) {
-    let input = nested(rt.alloc(), 255).expect(&rt, "memory");
+    let input = nested_blocks(rt.alloc(), 255).expect(&rt, "memory");
     assert!(rt; input.len() == 3064);
     let limits = limits_of(&rt, (10_000, 255, 0));
     is_form(&rt, rt.alloc(), SliceSource::new(&input), limits, &input);
@@ -233,7 +233,7 @@ fn a_source_fails(rt: HostRuntime) {
     let input = bytes_of(rt.alloc(), "M T").expect(&rt, "memory");
     for fails_at in 1..18 {
         let source = Cuts::source(&input, 1, fails_at);
-        let told = told(&rt, rt.alloc(), source, Limits::usual(), Info::Keep);
+        let told = length_text(&rt, rt.alloc(), source, Limits::usual(), Info::Keep);
         agrees(&rt, told, "the source failed", "a source that fails");
     }
     let source = Cuts::source(&input, 1, 18);

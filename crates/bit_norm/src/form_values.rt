@@ -1,4 +1,4 @@
-ghost use Rattle.std.specs.Prelude.{◌≡◌, ◌+◌, ◌*◌, ◌/◌, ◌^◌, ◌<◌, ◌≤◌, ℕ, List, [], ◌∷◌, ◌++◌, length, min, take, true, false, IfSome, OnOk, OnErr};
+ghost use Rattle.std.specs.Prelude.{◌≡◌, ◌+◌, ◌*◌, ◌/◌, ◌^◌, ◌<◌, ◌≤◌, ℕ, List, [], ◌++◌, length, min, take, true, false, IfSome, OnOk, OnErr};
 ghost use Rattle.bit_norm.specs.Building.{HoldsText, HasTaken};
 ghost use Rattle.bit_norm.specs.declared.form_values.Holding.TheVariants.{All, Unknown};
 ghost use Rattle.bit_grammar.specs.Normal.{most_bytes, values_bits};

@@ -28,7 +28,7 @@ fn digit(byte: u8) -> u8 {
 /// - S, a definition of eight literals that is used twice, two records of seven values;
 /// - B and A, five bytes as a blob and as an array, and R, their normal form;
 /// - Z, twelve zeros.
-fn named(name: u8) -> &'static [u8] {
+fn bytes_named(name: u8) -> &'static [u8] {
     match name {
         b'M' => &MAGIC,
         b'E' => &[0x21, 8, 0, 0, 1, 0, 0, 0, 0, 0, 0, 0],
@@ -71,7 +71,7 @@ pub(crate) fn bytes_of(alloc: Global, text: &str) -> Result<Vec<u8>, AllocError>
     for word in text.split_whitespace() {
         match word.as_bytes() {
             [high, low] => bytes.push(digit(*high).wrapping_mul(16).wrapping_add(digit(*low)))?,
-            [name] => bytes.extend_from_slice(named(*name))?,
+            [name] => bytes.extend_from_slice(bytes_named(*name))?,
             _ => {}
         }
     }

@@ -1,6 +1,6 @@
 //! Whether two inputs hold the same.
 
-use crate::fault_tests::{agrees, told_of_fault};
+use crate::fault_tests::agrees;
 use crate::input_tests::{Cuts, bytes_of};
 use crate::tests::within;
 use crate::{Info, RecordName, SameFault, Which, same, same_as};
@@ -23,7 +23,7 @@ fn text_of(alloc: Global, answer: Result<bool, SameFault>) -> Result<String, All
 }
 
 /// What is answered of two inputs, as text.
-fn told<A: Source + Drop, B: Source + Drop>(
+fn answer_text<A: Source + Drop, B: Source + Drop>(
     alloc: Global,
     a: A,
     b: B,
@@ -43,7 +43,7 @@ fn told_as(alloc: Global, a: &[u8], b: &[u8], info: Info) -> Result<String, Allo
 /// This is told of two inputs.
 fn is_told(rt: &impl Abort, alloc: Global, a: &[u8], b: &[u8], info: Info, wanted: &str) {
     let (first, second) = (SliceSource::new(a), SliceSource::new(b));
-    let told = told(alloc, first, second, Limits::usual(), info);
+    let told = answer_text(alloc, first, second, Limits::usual(), info);
     agrees(rt, told, wanted, "two inputs");
     agrees(rt, told_as(alloc, a, b, info), wanted, "bytes and an input");
 }
@@ -161,7 +161,7 @@ fn what_is_named_is_dropped(rt: HostRuntime) {
 fn no_normal_form_has_to_fit(rt: HostRuntime) {
     let input = bytes_of(rt.alloc(), "M S").expect(&rt, "memory");
     let (a, b) = (SliceSource::new(&input), SliceSource::new(&input));
-    let told = told(rt.alloc(), a, b, within(&rt, 24), Info::Keep);
+    let told = answer_text(rt.alloc(), a, b, within(&rt, 24), Info::Keep);
     agrees(&rt, told, "true", "24 bytes");
 }
 
@@ -170,14 +170,14 @@ fn are_cut(rt: &impl Abort, alloc: Global, input: &[u8], fails_at: u64) {
     let (a, b) = (Cuts::source(input, 1, fails_at), SliceSource::new(input));
     agrees(
         rt,
-        told(alloc, a, b, Limits::usual(), Info::Keep),
+        answer_text(alloc, a, b, Limits::usual(), Info::Keep),
         "first: the source failed",
         "a",
     );
     let (a, b) = (SliceSource::new(input), Cuts::source(input, 1, fails_at));
     agrees(
         rt,
-        told(alloc, a, b, Limits::usual(), Info::Keep),
+        answer_text(alloc, a, b, Limits::usual(), Info::Keep),
         "second: the source failed",
         "b",
     );
@@ -188,7 +188,7 @@ fn are_same_by(rt: &impl Abort, alloc: Global, input: &[u8], most: usize) {
     let (a, b) = (Cuts::source(input, most, 0), Cuts::source(input, 5, 0));
     agrees(
         rt,
-        told(alloc, a, b, Limits::usual(), Info::Keep),
+        answer_text(alloc, a, b, Limits::usual(), Info::Keep),
         "true",
         "pieces",
     );

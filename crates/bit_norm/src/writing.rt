@@ -24,7 +24,8 @@ fn write_values<K: Sink>(writer: &mut BitWriter<K>, values: &[u64]) -> Result<()
 /// Writes a record.
 fn write_record<K: Sink>(writer: &mut BitWriter<K>, code: u64, values: &[u64]) -> Result<(), Fault>
     requires { HasRoom writer.old (record_text code values.now writer.old.position) }
-    ensures { Writes (record_text code values.now writer.old.position) writer.old result writer.new }
+    ensures { Writes (record_text code values.now writer.old.position) writer.old result
+        writer.new }
 {
     writer.fixed(2, 3)?;
     writer.vbr(6, code)?;
@@ -111,7 +112,8 @@ fn write_tree<K: Sink>(
 ) -> Result<(), Fault>
     requires room { HasRoom writer.old (normal_form (tree_with magic blocks.now)) }
     requires begins { writer.old.position ≡ 0 }
-    ensures writes { Writes (normal_form (tree_with magic blocks.now)) writer.old result writer.new }
+    ensures writes { Writes (normal_form (tree_with magic blocks.now)) writer.old result
+        writer.new }
     ensures all { OnOk result (writer.new.held ≡ []) }
 {
     writer.fixed(32, number_of_magic(magic))?;

@@ -1,17 +1,15 @@
 -- The lines of events, one after the other, and how they end.
-use Rattle.std.proofs.Common.{◌≡◌, ℕ, ◌+◌, ◌≤◌, List, [], ◌∷◌, ◌++◌, refl, sym, ap, subst, ◌∙◌, inl, inr, arith, Option, Some, None, Result, Ok, Err}
-use Rattle.std.specs.Prelude.{◌⊎◌, IsSome, OnOk}
-use Rattle.std.specs.Io.KnownBytes.{Appends}
+use Rattle.std.proofs.Common.{◌≡◌, ℕ, ◌+◌, ◌≤◌, List, [], ◌++◌, refl, sym, ap, ◌∙◌, inl, inr, arith, Result, Ok, Err}
+use Rattle.std.specs.Prelude.{◌⊎◌}
 use Rattle.std.proofs.KnownBytes.{Appends-nil}
-use Rattle.std.proofs.lemmas.List.{append-nil}
 use Rattle.bit_grammar.specs.declared.values.Values.{Values}
 use Rattle.bit_grammar.specs.Grammar.{at}
 use Rattle.bit_grammar.specs.Blocks.{Limits}
-use Rattle.bit_grammar.specs.EventTexts.{line_at, event_line, event_lines, head_line, outlook_text, outlook_end}
+use Rattle.bit_grammar.specs.EventTexts.{line_at, event_line, event_lines, head_line, outlook_text}
 use Rattle.bit_grammar.specs.Terms.{Head}
 use Rattle.bit_grammar.specs.Machine.{Event, Ending, accepted, broke, Told}
-use Rattle.bit_grammar.specs.Outlook.{Outlook, outlook}
-use Rattle.bit_grammar.specs.Steps.{MayStand, open_after}
+use Rattle.bit_grammar.specs.Outlook.{outlook}
+use Rattle.bit_grammar.specs.Steps.{open_after}
 use Rattle.bit_grammar.specs.Tally.{stream_begin}
 use Rattle.bit_grammar.specs.Texts.{magic_text}
 use Rattle.bit_grammar.proofs.Events.Nesting.{open_within}
@@ -19,11 +17,10 @@ use Rattle.bit_fields.specs.declared.fault.Fault.{Fault}
 use Rattle.bit_fields.specs.declared.fault.Fault.TheVariants.{Refused, Read, Write, Memory, OutputTooLong, Failed}
 use Rattle.bit_fields.specs.Devices.{Incoming, Outgoing, Spends, Fails, known_bytes}
 use Rattle.bit_fields.proofs.InflowLaws.{Spends-refl, Spends-trans, Spends-none, Fails-none, fails_later}
-use Rattle.bit_events.specs.Coming.{Coming, going, over, failed, TellsComing, event_before, GivesEvent, EndsEvents, StopsEvents, BreaksOff}
+use Rattle.bit_events.specs.Coming.{Coming, going, failed, event_before, GivesEvent, EndsEvents, BreaksOff}
 use Rattle.bit_events.specs.Events.{Begun, DeclinesEvents}
-use Rattle.bit_scan.specs.Printing.{Printing, Printed, PrintedFront, Prints}
-use Rattle.bit_scan.specs.Telling.{IsAccepted, WritesToEnd, PaidBy, IsTold, TellsInput, PrintedAll, PrintsToEnd, TellsBy, TellsRest, TellsAll, TellsOne, TellsNext}
-use Rattle.bit_scan.specs.Written.{TookText, TookFront, HasFailed}
+use Rattle.bit_scan.specs.Printing.{Printing, Printed, Prints}
+use Rattle.bit_scan.specs.Telling.{WritesToEnd, PaidBy, TellsInput, PrintsToEnd, TellsRest, TellsAll, TellsOne}
 use Rattle.bit_scan.proofs.Prints.{Goes, goes_starts, goes_as, goes_on, goes_wrong, goes_last, all_written, not_written}
 
 -- ---- a text to its end

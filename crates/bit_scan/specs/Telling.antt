@@ -4,7 +4,6 @@ use Rattle.bit_grammar.specs.declared.values.Values.{Values}
 use Rattle.bit_grammar.specs.Grammar.{at}
 use Rattle.bit_grammar.specs.Blocks.{Limits}
 use Rattle.bit_grammar.specs.EventTexts.{event_line, event_lines, head_line, outlook_text, outlook_end}
-use Rattle.bit_grammar.specs.Terms.{Head}
 use Rattle.bit_grammar.specs.Machine.{Event, Ending, accepted, broke, Told}
 use Rattle.bit_grammar.specs.Outlook.{Outlook, outlook}
 use Rattle.bit_grammar.specs.Steps.{open_after}

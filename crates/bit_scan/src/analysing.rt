@@ -27,7 +27,8 @@ pub(crate) fn begin_of(head: Head) -> u64
 ///
 /// `Refused` names the one reason and bit at which the input breaks the rules. The source is handed back as it stands.
 pub fn analyse<S: Source>(alloc: Global, source: S, limits: Limits) -> (Result<Analysis, Fault>, S)
-    ensures { ReadsWhole (HasTally limits) limits (S.incoming source) result.0 (S.incoming result.1) }
+    ensures { ReadsWhole (HasTally limits) limits (S.incoming source) result.0
+        (S.incoming result.1) }
 {
     let (answer, source) = fold(alloc, source, limits, Counter::new(alloc));
     match answer {

@@ -1,4 +1,4 @@
-ghost use Rattle.std.specs.Prelude.{◌≡◌, ℕ, ◌^◌, ◌<◌, List, []};
+ghost use Rattle.std.specs.Prelude.{ℕ, ◌^◌, ◌<◌, List, []};
 ghost use Rattle.bit_grammar.specs.Blocks.{Limits};
 ghost use Rattle.bit_grammar.specs.Input.{SpellsInput};
 ghost use Rattle.bit_grammar.specs.Terms.{Marked};

@@ -193,7 +193,8 @@ impl<K: Sink> Printer<K> {
         first: u64,
         body: u64,
     ) -> Result<(), Fault>
-        ensures { Prints (line_at first around (opened_text id width body)) self.old result self.new }
+        ensures { Prints (line_at first around (opened_text id width body)) self.old result
+            self.new }
     {
         match push_opened_line(&mut self.held, around, id, width, first, body) {
             Ok(()) => self.settle(),
@@ -240,7 +241,8 @@ impl<K: Sink> Printer<K> {
         abbreviation: u32,
         count: u64,
     ) -> Result<(), Fault>
-        ensures { Prints (noted_head around first code abbreviation count) self.old result self.new }
+        ensures { Prints (noted_head around first code abbreviation count) self.old result
+            self.new }
     {
         match push_noted_head(&mut self.held, around, first, code, abbreviation, count) {
             Ok(()) => self.settle(),

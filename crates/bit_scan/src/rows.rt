@@ -66,7 +66,8 @@ fn count_at(rows: &mut [(u64, CodeRow)], place: usize, bits: u64)
     ensures keys { keys_of rows.new ≡ keys_of rows.old }
     ensures counts { (code : ℕ) (tallies : List CodeTally) → AreDistinct (keys_of rows.old)
         → slice_get (keys_of rows.old) place ≡ Some code
-        → code_tallies rows.old ≡ map cut_code tallies → code_tallies rows.new ≡ map cut_code (with_use code bits tallies) }
+        → code_tallies rows.old ≡ map cut_code tallies
+        → code_tallies rows.new ≡ map cut_code (with_use code bits tallies) }
 {
     let (_, row) = &mut rows[place];
     row.count = row.count.saturating_add(1);
@@ -264,7 +265,9 @@ fn add_at(rows: &mut [(u32, BlockRow)], place: usize, addition: Addition) -> Res
     ensures keys { keys_of rows.new ≡ keys_of rows.old }
     ensures adds { (id : ℕ) (tallies : List BlockTally) → AreDistinct (keys_of rows.old)
         → slice_get (keys_of rows.old) place ≡ Some id
-        → block_tallies rows.old ≡ cut_rows tallies → OnOk result (block_tallies rows.new ≡ cut_rows (with_row (with_added addition) id tallies)) }
+        → block_tallies rows.old ≡ cut_rows tallies
+        → OnOk result (block_tallies rows.new
+        ≡ cut_rows (with_row (with_added addition) id tallies)) }
 {
     let (_, row) = &mut rows[place];
     row.add(addition)

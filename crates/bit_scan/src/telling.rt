@@ -86,7 +86,8 @@ fn write_noted<K: Sink>(
     listed: &PackedValues,
 ) -> Result<(), Fault>
     ensures { Prints (line_at noted.first around
-        (noted_text values noted.code noted.abbreviation listed.now)) printer.old result printer.new }
+        (noted_text values noted.code noted.abbreviation listed.now)) printer.old result
+        printer.new }
 {
     printer.noted_head(
         around,

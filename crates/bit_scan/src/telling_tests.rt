@@ -1,6 +1,6 @@
 //! The events of inputs as lines.
 
-use crate::tests::{DESCRIBED, EMPTY, Pieces, SINKS, TAIL, Told, tells, told, wanted};
+use crate::tests::{DESCRIBED, EMPTY, Pieces, SINKS, TAIL, Told, answer_of, tells, wanted_answer};
 use crate::{Values, write_events};
 use bit_fields::{Fault, Limits, ReadSource, Reason, SliceSource, Source};
 use std::alloc::{AllocError, Global};
@@ -65,7 +65,7 @@ fn source_told<S: Source + Drop>(
 ) -> Result<Told, AllocError> {
     let sink = Pieces::new(alloc, most, puts)?;
     let (answer, _, sink) = write_events(alloc, source, sink, Limits::usual(), values);
-    Ok(told(answer, sink, text))
+    Ok(answer_of(answer, sink, text))
 }
 
 /// The events of an input are this text, and its end this answer.
@@ -144,7 +144,7 @@ fn events_into_sinks(rt: HostRuntime) -> Result<(), Fail> {
             *most,
             *puts,
         );
-        tells(&rt, told, wanted(DESCRIBED_EVENTS, *most, *puts))?;
+        tells(&rt, told, wanted_answer(DESCRIBED_EVENTS, *most, *puts))?;
     }
     Ok(())
 }

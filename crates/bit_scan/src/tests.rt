@@ -85,7 +85,7 @@ pub(crate) static TAIL: [u8; 20] = [
 ];
 
 /// The analysis of an input within the usual limits.
-fn analysed(alloc: Global, input: &[u8]) -> Result<Analysis, Fault> {
+fn analysis_of(alloc: Global, input: &[u8]) -> Result<Analysis, Fault> {
     analyse(alloc, SliceSource::new(input), Limits::usual()).0
 }
 
@@ -102,7 +102,7 @@ fn front_of(text: &[u8], bytes: &[u8]) -> Option<usize> {
 pub(crate) type Told = (Result<(), Fault>, u64, Option<usize>);
 
 /// What a call of a text tells by its answer and its sink.
-pub(crate) fn told(answer: Result<(), Fault>, sink: Pieces, text: &str) -> Told {
+pub(crate) fn answer_of(answer: Result<(), Fault>, sink: Pieces, text: &str) -> Told {
     (
         answer,
         sink.failures,
@@ -137,7 +137,7 @@ pub(crate) static SINKS: [(usize, u64); 7] = [
 ];
 
 /// What a call of a longer text tells with such a sink: all of it, or a front where the sink fails.
-pub(crate) fn wanted(text: &str, most: usize, puts: u64) -> Told {
+pub(crate) fn wanted_answer(text: &str, most: usize, puts: u64) -> Told {
     match puts {
         0..=3 => (
             Err(Fault::Write),
@@ -157,21 +157,21 @@ fn report_told(
     puts: u64,
 ) -> Result<Told, AllocError> {
     let (answer, sink) = analysis.write(Pieces::new(alloc, most, puts)?);
-    Ok(told(answer, sink, text))
+    Ok(answer_of(answer, sink, text))
 }
 
 /// The report is this text, whatever a sink takes at once, and a sink that fails has a front of it.
 fn is_report(rt: &impl Abort, alloc: Global, analysis: &Analysis, text: &str) -> Result<(), Fail> {
     for (most, puts) in &SINKS {
         let told = report_told(alloc, analysis, text, *most, *puts);
-        tells(rt, told, wanted(text, *most, *puts))?;
+        tells(rt, told, wanted_answer(text, *most, *puts))?;
     }
     Ok(())
 }
 
 /// The same of the report of an input.
 fn reports(rt: &impl Abort, alloc: Global, input: &[u8], text: &str) -> Result<(), Fail> {
-    let analysis = analysed(alloc, input)?;
+    let analysis = analysis_of(alloc, input)?;
     is_report(rt, alloc, &analysis, text)
 }
 
@@ -201,7 +201,7 @@ fn reports_of_inputs(rt: HostRuntime) -> Result<(), Fail> {
 
 /// The magic, the bits and the number of rows of the analysis of an input.
 fn parts(alloc: Global, input: &[u8]) -> Result<([u8; 4], u64, usize), Fault> {
-    let analysis = analysed(alloc, input)?;
+    let analysis = analysis_of(alloc, input)?;
     Ok((analysis.magic(), analysis.bits(), analysis.rows().len()))
 }
 
@@ -221,7 +221,7 @@ fn listing_told(
         Limits::usual(),
         Info::Keep,
     );
-    Ok(told(answer, sink, text))
+    Ok(answer_of(answer, sink, text))
 }
 
 /// What follows the last block is refused at its bit, and nothing is listed.
@@ -242,7 +242,7 @@ fn parts_and_refusals(rt: HostRuntime) -> Result<(), Fail> {
 fn lists(rt: &impl Abort, alloc: Global, input: &[u8], text: &str) -> Result<(), Fail> {
     for (most, puts) in &SINKS[..6] {
         let told = listing_told(alloc, input, text, *most, *puts);
-        tells(rt, told, wanted(text, *most, *puts))?;
+        tells(rt, told, wanted_answer(text, *most, *puts))?;
     }
     Ok(())
 }
@@ -271,7 +271,7 @@ fn lists_left(
     let (answer, _, sink) = write_show(alloc, source, sink, Limits::usual(), info);
     tells(
         rt,
-        Ok(told(answer, sink, text)),
+        Ok(answer_of(answer, sink, text)),
         (Ok(()), 0, Some(text.len())),
     )
 }
@@ -349,7 +349,7 @@ fn long_lines(rt: HostRuntime) -> Result<(), Fail> {
 
 /// What the report of the empty stream answers with a vector as the sink, and how much of it the vector has.
 fn vector_told(alloc: Global) -> Result<(Result<(), Fault>, Option<usize>), Fault> {
-    let analysis = analysed(alloc, &EMPTY)?;
+    let analysis = analysis_of(alloc, &EMPTY)?;
     let (answer, sink) = analysis.write(VecSink::new(alloc));
     Ok((answer, front_of(EMPTY_REPORT.as_bytes(), sink.bytes())))
 }

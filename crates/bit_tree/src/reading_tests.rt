@@ -1,7 +1,7 @@
 //! Inputs and what the rules answer to them, read in pieces of several sizes, from sources that fail, and under limits.
 
 use crate::copying::blocks_of;
-use crate::tests::{agrees, is_fit, shown, shown_document};
+use crate::tests::{agrees, blocks_text, document_text, is_fit};
 use crate::{Document, Info, Marked, MarkedItem, read, tree_of, tree_with};
 use bit_fields::{BitWriter, Fault, Limits, ReadSource, SliceSource, Source, VecSink};
 use std::alloc::{AllocError, Global};
@@ -57,7 +57,7 @@ fn digit(byte: u8) -> u8 {
 
 /// Bytes that several inputs have, under a letter: the usual magic, an empty block, a BLOCKINFO block that defines
 /// [Literal 1, Fixed 7] for block 8, a block 8 of width 3 that uses it, and a wrapper of 16 bytes.
-fn named(name: u8) -> &'static [u8] {
+fn bytes_named(name: u8) -> &'static [u8] {
     match name {
         b'M' => &[0x42, 0x43, 0xC0, 0xDE],
         b'E' => &[0x21, 0x08, 0, 0, 1, 0, 0, 0, 0, 0, 0, 0],
@@ -78,7 +78,7 @@ pub(crate) fn bytes_of(alloc: Global, text: &str) -> Result<Vec<u8>, AllocError>
     for word in text.split_whitespace() {
         match word.as_bytes() {
             [high, low] => bytes.push(digit(*high).wrapping_mul(16).wrapping_add(digit(*low)))?,
-            [name] => bytes.extend_from_slice(named(*name))?,
+            [name] => bytes.extend_from_slice(bytes_named(*name))?,
             _ => {}
         }
     }
@@ -96,13 +96,17 @@ pub(crate) fn told_of_fault(alloc: Global, fault: Fault) -> Result<String, Alloc
 /// An answer of `read` as text: its tree, or the fault.
 fn told_of_marked(alloc: Global, answer: Result<Marked, Fault>) -> Result<String, AllocError> {
     match answer {
-        Ok(marked) => shown(alloc, &blocks_of(alloc, &marked.blocks.0, Info::Keep)?),
+        Ok(marked) => blocks_text(alloc, &blocks_of(alloc, &marked.blocks.0, Info::Keep)?),
         Err(fault) => told_of_fault(alloc, fault),
     }
 }
 
 /// What `read` answers, as text.
-fn told<S: Source + Drop>(alloc: Global, source: S, limits: Limits) -> Result<String, AllocError> {
+fn tree_text<S: Source + Drop>(
+    alloc: Global,
+    source: S,
+    limits: Limits,
+) -> Result<String, AllocError> {
     let (answer, _) = read(alloc, source, limits);
     told_of_marked(alloc, answer)
 }
@@ -112,7 +116,7 @@ fn is_read(rt: &impl Abort, alloc: Global, text: &str, limits: Limits, wanted: &
     let bytes = bytes_of(alloc, text).expect(rt, "memory");
     for most in [1, 3, 4, 64] {
         let source = in_pieces(&bytes, most, 0);
-        agrees(rt, told(alloc, source, limits), wanted, text);
+        agrees(rt, tree_text(alloc, source, limits), wanted, text);
     }
 }
 
@@ -408,7 +412,7 @@ static PULLS: [(&str, u64, &str); 2] = [
 fn is_pulled(rt: &impl Abort, alloc: Global, text: &str, needs: u64, wanted: &str) {
     let bytes = bytes_of(alloc, text).expect(rt, "memory");
     for pull in 1..needs.saturating_add(2) {
-        let told = told(alloc, in_pieces(&bytes, 1, pull), Limits::usual());
+        let told = tree_text(alloc, in_pieces(&bytes, 1, pull), Limits::usual());
         let failed = "the source failed";
         agrees(rt, told, if pull <= needs { failed } else { wanted }, text);
     }
@@ -455,7 +459,7 @@ fn told_dropped(rt: &impl Abort, alloc: Global, bytes: &[u8]) -> Result<String, 
         Ok(marked) => {
             assert!(rt; is_fit(rt, alloc, &marked, Info::Drop));
             let document = tree_with(alloc, &marked, Info::Drop).expect(rt, "memory");
-            shown(alloc, document.blocks())
+            blocks_text(alloc, document.blocks())
         }
         Err(fault) => told_of_fault(alloc, fault),
     }
@@ -495,7 +499,7 @@ fn is_deep(
     let limits = limits_of(rt, (most, depth, 0));
     agrees(
         rt,
-        told(alloc, SliceSource::new(&bytes), limits),
+        tree_text(alloc, SliceSource::new(&bytes), limits),
         wanted,
         "deep",
     );
@@ -566,7 +570,7 @@ fn document_of(alloc: Global, bytes: &[u8]) -> Result<Document, Fault> {
 /// The document of an input, as text.
 fn told_of_document(alloc: Global, bytes: &[u8]) -> Result<String, AllocError> {
     match document_of(alloc, bytes) {
-        Ok(document) => shown_document(alloc, &document),
+        Ok(document) => document_text(alloc, &document),
         Err(fault) => told_of_fault(alloc, fault),
     }
 }
@@ -618,7 +622,7 @@ fn put_fields(rt: &impl Abort, writer: &mut BitWriter<VecSink>, fields: &[(u32, 
 }
 
 /// What a writer wrote of whole bytes.
-fn written(rt: &impl Abort, alloc: Global, mut writer: BitWriter<VecSink>) -> Vec<u8> {
+fn bytes_written(rt: &impl Abort, alloc: Global, mut writer: BitWriter<VecSink>) -> Vec<u8> {
     assert!(rt; writer.position() % 8 == 0);
     assert!(rt; writer.finish().is_ok());
     Vec::from_slice(alloc, writer.into_sink().bytes()).expect(rt, "memory")
@@ -632,7 +636,7 @@ fn bomb(rt: &impl Abort, alloc: Global, last: u64) -> Vec<u8> {
     put_each(rt, &mut writer, 3, 4, 100);
     put(rt, &mut writer, 3, last);
     put(rt, &mut writer, 14, 0);
-    written(rt, alloc, writer)
+    bytes_written(rt, alloc, writer)
 }
 
 /// A limit for the inputs with many values.
@@ -663,7 +667,7 @@ fn has_many(alloc: Global, bytes: &[u8], limits: Limits) -> Result<bool, Fault> 
 #[test]
 fn a_value_too_many(rt: HostRuntime) {
     let bytes = bomb(&rt, rt.alloc(), 4);
-    let told = told(rt.alloc(), SliceSource::new(&bytes), limits_of(&rt, MANY));
+    let told = tree_text(rt.alloc(), SliceSource::new(&bytes), limits_of(&rt, MANY));
     agrees(&rt, told, "refused: TooManyValues at bit 9423", "a bomb");
 }
 

@@ -76,7 +76,7 @@ fn show_items(items: &Items, text: &mut String) -> Result<(), AllocError> {
 }
 
 /// Blocks as text: ids before braces, and codes before lists of values.
-pub(crate) fn shown(alloc: Global, blocks: &[Block]) -> Result<String, AllocError> {
+pub(crate) fn blocks_text(alloc: Global, blocks: &[Block]) -> Result<String, AllocError> {
     let mut text = String::new(alloc);
     for block in blocks {
         write!(text, " {} {{", block.id)?;
@@ -93,7 +93,7 @@ pub(crate) fn agrees(rt: &impl Abort, told: Result<String, AllocError>, wanted: 
 }
 
 /// These blocks are no document for this reason, or are one where there is none; as text they are then kept or handed back.
-fn answered(
+fn answer_text(
     rt: &impl Abort,
     alloc: Global,
     magic: [u8; 4],
@@ -103,11 +103,11 @@ fn answered(
     match Document::new(magic, blocks) {
         Ok(document) => {
             assert!(rt; wanted == None && document.magic() == magic);
-            shown(alloc, document.blocks())
+            blocks_text(alloc, document.blocks())
         }
         Err(bad) => {
             assert!(rt; wanted == Some(bad.reason));
-            shown(alloc, &bad.blocks)
+            blocks_text(alloc, &bad.blocks)
         }
     }
 }
@@ -121,8 +121,8 @@ fn is_judged(
     wanted: Option<DocumentReason>,
 ) {
     let blocks = one(alloc, block).expect(rt, "memory");
-    let before = shown(alloc, &blocks).expect(rt, "memory");
-    let after = answered(rt, alloc, magic, blocks, wanted);
+    let before = blocks_text(alloc, &blocks).expect(rt, "memory");
+    let after = answer_text(rt, alloc, magic, blocks, wanted);
     agrees(rt, after, before.as_str(), "blocks");
 }
 
@@ -327,8 +327,8 @@ pub(crate) fn is_fit(rt: &impl Abort, alloc: Global, marked: &Marked, info: Info
 }
 
 /// A document as text: its magic, and its blocks.
-pub(crate) fn shown_document(alloc: Global, document: &Document) -> Result<String, AllocError> {
-    let mut text = shown(alloc, document.blocks())?;
+pub(crate) fn document_text(alloc: Global, document: &Document) -> Result<String, AllocError> {
+    let mut text = blocks_text(alloc, document.blocks())?;
     write!(text, " {:?}", document.magic())?;
     Ok(text)
 }
@@ -345,7 +345,7 @@ fn told_of_tree(rt: &impl Abort, alloc: Global) -> Result<String, AllocError> {
     let marked = sample(rt, alloc);
     assert!(rt; is_whole_fit(rt, alloc, &marked));
     let document = tree_of(alloc, &marked).expect(rt, "memory");
-    shown_document(alloc, &document)
+    document_text(alloc, &document)
 }
 
 /// What `tree_with` makes of the sample, as text.
@@ -353,7 +353,7 @@ fn told_of_tree_with(rt: &impl Abort, alloc: Global, info: Info<'_>) -> Result<S
     let marked = sample(rt, alloc);
     assert!(rt; is_fit(rt, alloc, &marked, info));
     let document = tree_with(alloc, &marked, info).expect(rt, "memory");
-    shown_document(alloc, &document)
+    document_text(alloc, &document)
 }
 
 #[test]

@@ -1,6 +1,6 @@
 //! Where two inputs first differ, as lines.
 
-ghost use Rattle.std.specs.Prelude.{◌≡◌, ◌++◌, OnOk, IfOk, codes, flat_map, string_bytes};
+ghost use Rattle.std.specs.Prelude.{◌≡◌, ◌++◌, OnOk, IfOk, flat_map, string_bytes};
 ghost use Rattle.bit_norm.specs.Entries.{difference_shown, place_shown, standing_shown, what_shown};
 ghost use Rattle.bitstool.specs.Differences.{difference_text, first_value, open_text, place_text, second_value, standing_text, value_text, what_text};
 
@@ -67,7 +67,8 @@ fn push_standing(text: &mut String, which: &str, standing: Standing) -> Result<(
 
 /// Appends a value of a record, by its index.
 fn push_value(text: &mut String, index: u64, value: u64) -> Result<(), AllocError>
-    ensures { OnOk result (string_bytes text.new ≡ string_bytes text.old ++ value_text index value) }
+    ensures { OnOk result
+        (string_bytes text.new ≡ string_bytes text.old ++ value_text index value) }
 {
     write!(text, ", value {index} is {value}")
 }

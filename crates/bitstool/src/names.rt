@@ -1,6 +1,6 @@
 //! The names of what is left out, as words give them.
 
-ghost use Rattle.std.specs.Prelude.{◌≡◌, ℕ, [], List, MatchOption, MatchResult};
+ghost use Rattle.std.specs.Prelude.{ℕ, [], MatchOption, MatchResult};
 ghost use Rattle.clap.specs.Walk.{texts};
 ghost use Rattle.bit_grammar.specs.declared.info.RecordName.{RecordName as RecordValue};
 ghost use Rattle.bitstool.specs.Names.{IsUnnamed, NameEach, NamesBlock, NamesCode, NamesRecord};

@@ -49,7 +49,7 @@ fn outcome_in(which: Which, limit: u64, fault: Fault) -> Outcome
 }
 
 /// The outcome of a text's writing, under a limit on bytes.
-fn ended(limit: u64, answer: Result<(), Fault>) -> Outcome
+fn outcome_of_writing(limit: u64, answer: Result<(), Fault>) -> Outcome
     ensures { result ≡ outcome_of_writing limit answer }
 {
     match answer {
@@ -312,7 +312,7 @@ fn perform_analyse<S: Source, K: Sink>(
         (K.outgoing sink) (K.outgoing result.2) result.0 }
 {
     let (answer, source, sink) = write_report(alloc, source, sink, limits);
-    (ended(limits.bytes(), answer), source, sink)
+    (outcome_of_writing(limits.bytes(), answer), source, sink)
 }
 
 /// Writes the listing of what the input has under the setting.
@@ -327,7 +327,7 @@ fn perform_show<S: Source, K: Sink>(
         (K.outgoing sink) (K.outgoing result.2) result.0 }
 {
     let (answer, source, sink) = write_show(alloc, source, sink, limits, left.info());
-    (ended(limits.bytes(), answer), source, sink)
+    (outcome_of_writing(limits.bytes(), answer), source, sink)
 }
 
 /// Writes the events of the input as they are read.
@@ -342,7 +342,7 @@ fn perform_events<S: Source, K: Sink>(
         (K.outgoing sink) (K.outgoing result.2) result.0 }
 {
     let (answer, source, sink) = write_events(alloc, source, sink, limits, values);
-    (ended(limits.bytes(), answer), source, sink)
+    (outcome_of_writing(limits.bytes(), answer), source, sink)
 }
 
 /// Carries out a command, up to the flush.

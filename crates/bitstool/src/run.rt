@@ -130,7 +130,8 @@ pub fn run<S: Source, K: Flush, E: Sink>(
     // With words it does what they say.
     ensures any { (words.items ≡ [] → ⊥) → (parsed : ParsedValue)
         × Says (map string_bytes words.items) parsed
-        × Runs parsed (S.incoming source) (S.incoming result.source) (K.outgoing sink) (K.outgoing result.sink)
+        × Runs parsed (S.incoming source) (S.incoming result.source) (K.outgoing sink)
+        (K.outgoing result.sink)
         (E.outgoing errors.old) (E.outgoing errors.new) result.status }
 {
     let parsed = if words.is_empty() {

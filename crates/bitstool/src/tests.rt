@@ -159,7 +159,7 @@ fn ran<R: BufRead + Drop>(
 type End = (u8, &'static [u8], &'static str);
 
 /// A run on these words ended so.
-fn ended(rt: &impl Abort, line: &str, end: (u8, &[u8], &[u8]), expected: End) {
+fn is_end(rt: &impl Abort, line: &str, end: (u8, &[u8], &[u8]), expected: End) {
     let (status, output, errors) = expected;
     assert_eq!(rt; end, (status, output, errors.as_bytes()), "{line}");
 }
@@ -173,12 +173,12 @@ fn ends_with<R: BufRead + Drop>(
     expected: End,
 ) -> Result<(), AllocError> {
     let ran = ran(alloc, line, input)?;
-    ended(rt, line, (ran.status, &ran.output, &ran.errors), expected);
+    is_end(rt, line, (ran.status, &ran.output, &ran.errors), expected);
     Ok(())
 }
 
 /// The first bytes, and then the others.
-fn joined(alloc: Global, first: &[u8], second: &[u8]) -> Result<Vec<u8>, AllocError> {
+fn join(alloc: Global, first: &[u8], second: &[u8]) -> Result<Vec<u8>, AllocError> {
     let mut bytes = Vec::from_slice(alloc, first)?;
     bytes.extend_from_slice(second)?;
     Ok(bytes)
@@ -192,7 +192,7 @@ fn ends(
     parts: (&[u8], &[u8]),
     expected: End,
 ) -> Result<(), AllocError> {
-    let input = joined(alloc, parts.0, parts.1)?;
+    let input = join(alloc, parts.0, parts.1)?;
     ends_with(rt, alloc, line, input.as_slice(), expected)
 }
 
@@ -594,7 +594,7 @@ fn told_by(ran: &Finished<Vec<u8>, Vec<u8>>) -> (u8, bool, bool) {
 }
 
 /// What a run on these words tells.
-fn told(alloc: Global, line: &str, input: &[u8]) -> Result<(u8, bool, bool), AllocError> {
+fn run_answer(alloc: Global, line: &str, input: &[u8]) -> Result<(u8, bool, bool), AllocError> {
     let ran = ran(alloc, line, input)?;
     Ok(told_by(&ran))
 }
@@ -609,7 +609,7 @@ fn all_tell(
 ) -> Result<(), AllocError> {
     assert!(rt; lines.lines().count() == count);
     for line in lines.lines() {
-        let told = told(alloc, line, &SHORT)?;
+        let told = run_answer(alloc, line, &SHORT)?;
         assert!(rt; told == expected, "{line}");
     }
     Ok(())
@@ -690,7 +690,7 @@ fn ends_in(
         ran.output.bytes.as_slice(),
         ran.errors.as_slice(),
     );
-    ended(rt, line, end, expected);
+    is_end(rt, line, end, expected);
     Ok(())
 }
 
@@ -761,7 +761,7 @@ fn errors_fail(rt: &impl Abort, alloc: Global, line: &str) -> Result<(), AllocEr
         ran.output.as_slice(),
         ran.errors.bytes.as_slice(),
     );
-    ended(rt, line, end, (1, b"", "ref"));
+    is_end(rt, line, end, (1, b"", "ref"));
     Ok(())
 }
 

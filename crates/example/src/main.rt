@@ -17,7 +17,8 @@ use std::process::ExitCode;
 /// A sink that has the normal form of the tree that bytes spell.
 fn normal_form(alloc: Global, bytes: &[u8], limits: Limits) -> Result<VecSink, Fault>
     ensures { IfOk result (λ sink. (form : List ℕ)
-        × ((⟦<VecSink as Sink>⟧.outgoing sink).bytes ≡ Some form) × IsNormalForm limits bytes.now form) }
+        × ((⟦<VecSink as Sink>⟧.outgoing sink).bytes ≡ Some form)
+        × IsNormalForm limits bytes.now form) }
 {
     let source = SliceSource::new(bytes);
     let (written, _, form) = normalise(alloc, source, VecSink::new(alloc), limits, Info::Keep);

@@ -16,7 +16,7 @@ pub enum Ending {
 
 impl Ending {
     /// How a call ended that answered what it should, or something else.
-    pub fn answered(is_right: bool) -> Ending {
+    pub fn of_answer(is_right: bool) -> Ending {
         if is_right {
             Ending::Answered
         } else {
@@ -25,7 +25,7 @@ impl Ending {
     }
 
     /// How a call ended that answered want of memory and left all as promised, or did not.
-    pub fn memory(is_right: bool) -> Ending {
+    pub fn of_memory(is_right: bool) -> Ending {
         if is_right {
             Ending::Memory
         } else {
@@ -34,7 +34,7 @@ impl Ending {
     }
 
     /// The line on it.
-    pub fn told(self) -> &'static str {
+    pub fn line(self) -> &'static str {
         match self {
             Ending::Answered => "answered",
             Ending::Unready => "no memory before the call",

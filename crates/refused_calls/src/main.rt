@@ -30,7 +30,7 @@ fn ask_all(rt: &HostRuntime, letters: &[u8]) -> u8 {
     for letter in letters {
         if *letter != b'\n' {
             let ending = ask(rt, *letter);
-            let written = println!(rt; "{}", ending.told()).is_ok();
+            let written = println!(rt; "{}", ending.line()).is_ok();
             worst = worst.max(if written { ending.status() } else { 4 });
         }
     }

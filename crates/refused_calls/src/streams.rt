@@ -44,8 +44,8 @@ fn is_first(definition: &Abbrev) -> bool {
 /// `read_define`: where memory is refused the reader has failed.
 fn define(alloc: Global, reader: &mut Reader) -> Ending {
     match read_define(alloc, reader, Shapes::AtDefinition) {
-        Ok(definition) => Ending::answered(is_first(&definition)),
-        Err(Fault::Memory) => Ending::memory(has_failed(reader)),
+        Ok(definition) => Ending::of_answer(is_first(&definition)),
+        Err(Fault::Memory) => Ending::of_memory(has_failed(reader)),
         Err(_) => Ending::Wrong,
     }
 }
@@ -53,20 +53,20 @@ fn define(alloc: Global, reader: &mut Reader) -> Ending {
 /// `Abbrev::copy`.
 fn copy(alloc: Global, definition: &Abbrev) -> Ending {
     match definition.copy(alloc) {
-        Ok(copy) => Ending::answered(is_first(&copy)),
-        Err(_) => Ending::memory(is_first(definition)),
+        Ok(copy) => Ending::of_answer(is_first(&copy)),
+        Err(_) => Ending::of_memory(is_first(definition)),
     }
 }
 
 /// `read_abbreviated`: where memory is refused the values are those from before, and the reader has failed.
-fn record(reader: &mut Reader, definition: &Abbrev, at: u64, values: &mut Vec<u64>) -> Ending {
+fn record(reader: &mut Reader, definition: &Abbrev, first: u64, values: &mut Vec<u64>) -> Ending {
     if !definition.is_usable() {
         return Ending::Wrong;
     }
-    match read_abbreviated(reader, definition, at, 9, values) {
-        Ok(code) => Ending::answered(code == 5 && values.as_slice() == VALUES.as_slice()),
+    match read_abbreviated(reader, definition, first, 9, values) {
+        Ok(code) => Ending::of_answer(code == 5 && values.as_slice() == VALUES.as_slice()),
         Err(Fault::Memory) => {
-            Ending::memory(has_failed(reader) && values.as_slice() == &VALUES[..1])
+            Ending::of_memory(has_failed(reader) && values.as_slice() == &VALUES[..1])
         }
         Err(_) => Ending::Wrong,
     }
@@ -74,10 +74,10 @@ fn record(reader: &mut Reader, definition: &Abbrev, at: u64, values: &mut Vec<u6
 
 /// The same behind the record's id, with a list that holds a value.
 fn behind_a_value(alloc: Global, reader: &mut Reader, definition: &Abbrev) -> Ending {
-    let at = reader.position();
+    let first = reader.position();
     let mut values = Vec::new(alloc);
     match (values.push(VALUES[0]), reader.fixed(3)) {
-        (Ok(()), Ok(4)) => record(reader, definition, at, &mut values),
+        (Ok(()), Ok(4)) => record(reader, definition, first, &mut values),
         (Err(_), _) => Ending::Unready,
         _ => Ending::Wrong,
     }
@@ -122,10 +122,10 @@ fn fails(events: &mut Events<SliceSource<'static>>) -> bool {
 }
 
 /// How a call ended that said so, where memory was refused to it the events have failed, and stand where they stood.
-fn judged(events: &mut Events<SliceSource<'static>>, before: u64, ending: Ending) -> Ending {
+fn judge(events: &mut Events<SliceSource<'static>>, before: u64, ending: Ending) -> Ending {
     match ending {
         Ending::Memory => {
-            Ending::memory(events.position() == before && fails(events) && fails(events))
+            Ending::of_memory(events.position() == before && fails(events) && fails(events))
         }
         _ => ending,
     }
@@ -154,7 +154,7 @@ fn write_all(rt: &HostRuntime, events: &mut Events<SliceSource<'static>>) -> End
     for _ in 0..100 {
         let before = events.position();
         if let Some(ending) = write_next(rt, events) {
-            return judged(events, before, ending);
+            return judge(events, before, ending);
         }
     }
     Ending::Wrong

@@ -17,13 +17,13 @@ const WRAPPER: [u8; 4] = [0xDE, 0xC0, 0x17, 0x0B];
 
 /// Writes the marked tree of the input.
 fn write_marked(rt: &HostRuntime, marked: &Marked) -> Ending {
-    Ending::answered(println!(rt; "{marked:?}").is_ok())
+    Ending::of_answer(println!(rt; "{marked:?}").is_ok())
 }
 
 /// Writes a tree that was made, if it was.
 fn write_tree(rt: &HostRuntime, made: Result<Document, AllocError>) -> Ending {
     match made {
-        Ok(document) => Ending::answered(println!(rt; "{document:?}").is_ok()),
+        Ok(document) => Ending::of_answer(println!(rt; "{document:?}").is_ok()),
         Err(_) => Ending::Memory,
     }
 }
@@ -84,7 +84,7 @@ fn comes_back(blocks: Vec<Block>) -> bool {
 /// `Document::new` under the magic of a wrapper.
 fn under_a_wrapper(alloc: Global) -> Ending {
     match blocks(alloc) {
-        Ok(bad) => Ending::answered(comes_back(bad)),
+        Ok(bad) => Ending::of_answer(comes_back(bad)),
         Err(_) => Ending::Unready,
     }
 }

@@ -26,10 +26,10 @@ returns-clause-glimpsed g c = λ before t.
     let h = c.in_ok-glance_values.ensures.glimpsed before t in (
       h.0,
       h.1,
-      λ start.
-          let judged = holds_last (nat_le (singles others) c.args.room) (at TooManyValues start) (reader_at c.args.ahead.now) fits refl in (
-            subst (λ (ops : List Op). AddsRecord (abbreviated start c.args.room ops) (reader_at c.args.ahead.now) (Ok c.in_ok-code.code) before h.0 (reader_at c.glance_values.new.ahead)) parts (
-                record_read start c.args.room (op_at c.args.ops.now 0) others (reader_at c.args.ahead.now) (reader_at c.args.ahead.now) c.in_ok-code.code (reader_at c.glance_scalar.new.ahead) before h.0 (reader_at c.glance_values.new.ahead) judged (took_at (scalar (op_at c.args.ops.now 0)) c.args.ahead.now c.in_ok-code.code c.glance_scalar.new.ahead c.in_ok-code.ensures) h.2.0),
+      λ first.
+          let judged = holds_last (nat_le (singles others) c.args.room) (at TooManyValues first) (reader_at c.args.ahead.now) fits refl in (
+            subst (λ (ops : List Op). AddsRecord (abbreviated first c.args.room ops) (reader_at c.args.ahead.now) (Ok c.in_ok-code.code) before h.0 (reader_at c.glance_values.new.ahead)) parts (
+                record_read first c.args.room (op_at c.args.ops.now 0) others (reader_at c.args.ahead.now) (reader_at c.args.ahead.now) c.in_ok-code.code (reader_at c.glance_scalar.new.ahead) before h.0 (reader_at c.glance_values.new.ahead) judged (took_at (scalar (op_at c.args.ops.now 0)) c.args.ahead.now c.in_ok-code.code c.glance_scalar.new.ahead c.in_ok-code.ensures) h.2.0),
             h.2.1,
           ),
     )

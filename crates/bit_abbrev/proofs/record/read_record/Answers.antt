@@ -16,8 +16,8 @@ returns-in_err-judge g c = λ before t.
       before,
       t,
       (
-        subst (λ (ops : List Op). AddsRecord (abbreviated c.args.at c.args.room ops) c.args.reader.now (Err c.in_err-judge.field-0.0) before before c.judge.new.self) parts (
-            record_crowded c.args.at c.args.room (op_at c.args.ops.now 0) (behind_first c.args.ops.now) c.args.reader.now c.in_err-judge.field-0.0 before c.judge.new.self judged),
+        subst (λ (ops : List Op). AddsRecord (abbreviated c.args.first c.args.room ops) c.args.reader.now (Err c.in_err-judge.field-0.0) before before c.judge.new.self) parts (
+            record_crowded c.args.first c.args.room (op_at c.args.ops.now 0) (behind_first c.args.ops.now) c.args.reader.now c.in_err-judge.field-0.0 before c.judge.new.self judged),
         tt,
       ),
     )
@@ -31,8 +31,8 @@ returns-in_err-code g c = λ before t.
       before,
       t,
       (
-        subst (λ (ops : List Op). AddsRecord (abbreviated c.args.at c.args.room ops) c.args.reader.now (Err c.in_err-code.field-0.0) before before c.read_code.new.reader) parts (
-            record_coded c.args.at c.args.room (op_at c.args.ops.now 0) (behind_first c.args.ops.now) c.args.reader.now c.judge.new.self c.in_err-code.field-0.0 before c.read_code.new.reader judged c.in_err-code.ensures),
+        subst (λ (ops : List Op). AddsRecord (abbreviated c.args.first c.args.room ops) c.args.reader.now (Err c.in_err-code.field-0.0) before before c.read_code.new.reader) parts (
+            record_coded c.args.first c.args.room (op_at c.args.ops.now 0) (behind_first c.args.ops.now) c.args.reader.now c.judge.new.self c.in_err-code.field-0.0 before c.read_code.new.reader judged c.in_err-code.ensures),
         tt,
       ),
     )
@@ -50,8 +50,8 @@ returns-in_err-read_values g c = λ before t.
       h.0,
       h.1,
       (
-        subst (λ (ops : List Op). AddsRecord (abbreviated c.args.at c.args.room ops) c.args.reader.now (Err c.in_err-read_values.field-0.0) before h.0 c.read_values.new.reader) parts (
-            record_fails c.args.at c.args.room (op_at c.args.ops.now 0) (behind_first c.args.ops.now) c.args.reader.now c.judge.new.self c.in_ok-code.code c.read_code.new.reader c.in_err-read_values.field-0.0 before h.0 c.read_values.new.reader judged c.in_ok-code.ensures h.2.0),
+        subst (λ (ops : List Op). AddsRecord (abbreviated c.args.first c.args.room ops) c.args.reader.now (Err c.in_err-read_values.field-0.0) before h.0 c.read_values.new.reader) parts (
+            record_fails c.args.first c.args.room (op_at c.args.ops.now 0) (behind_first c.args.ops.now) c.args.reader.now c.judge.new.self c.in_ok-code.code c.read_code.new.reader c.in_err-read_values.field-0.0 before h.0 c.read_values.new.reader judged c.in_ok-code.ensures h.2.0),
         tt,
       ),
     )
@@ -64,8 +64,8 @@ returns g c = λ before t.
       h.0,
       h.1,
       (
-        subst (λ (ops : List Op). AddsRecord (abbreviated c.args.at c.args.room ops) c.args.reader.now (Ok c.in_ok-code.code) before h.0 c.read_values.new.reader) parts (
-            record_read c.args.at c.args.room (op_at c.args.ops.now 0) (behind_first c.args.ops.now) c.args.reader.now c.judge.new.self c.in_ok-code.code c.read_code.new.reader before h.0 c.read_values.new.reader judged c.in_ok-code.ensures h.2.0),
+        subst (λ (ops : List Op). AddsRecord (abbreviated c.args.first c.args.room ops) c.args.reader.now (Ok c.in_ok-code.code) before h.0 c.read_values.new.reader) parts (
+            record_read c.args.first c.args.room (op_at c.args.ops.now 0) (behind_first c.args.ops.now) c.args.reader.now c.judge.new.self c.in_ok-code.code c.read_code.new.reader before h.0 c.read_values.new.reader judged c.in_ok-code.ensures h.2.0),
         h.2.1,
       ),
     )

@@ -1,4 +1,4 @@
-use Rattle.std.proofs.Common.{drop, ◌++◌}
+use Rattle.std.proofs.Common.{drop}
 use Rattle.std.specs.Prelude.{flat_map}
 use Rattle.bit_scan.proofs.Parted.{further_text}
 use Rattle.bit_scan.proofs.Prints.{Goes}

@@ -8,10 +8,10 @@ use Rattle.bit_events.proofs.open_blocks.OpenBlocks.enter.Goals as goal
 
 pub invariant_of-self-2 : goal.invariant_of-self-2
 invariant_of-self-2 c =
-    judged_more (setting_of c.self.inside.info) c.self.inside.inner c.judged-inner.result c.self.inside.outer.items c.push.new.self.items c.self.invariant c.in_ok-push.ensures.items
-    (rw c.judged-inner.ensures.id c.judged-inner.ensures.left) (λ whole. rw c.judged-inner.ensures.id (c.judged-inner.ensures.whole whole))
+    judged_more (setting_of c.self.inside.info) c.self.inside.inner c.block_in-inner.result c.self.inside.outer.items c.push.new.self.items c.self.invariant c.in_ok-push.ensures.items
+    (rw c.block_in-inner.ensures.id c.block_in-inner.ensures.left) (λ whole. rw c.block_in-inner.ensures.id (c.block_in-inner.ensures.whole whole))
 
 pub returns-clause-left : goal.returns-clause-left
 returns-clause-left c =
-    c.judged-inner.ensures.left ∙ ap (λ (b : Bool). keeps (setting_of c.self.inside.info) c.args.id && b) (left_is (setting_of c.self.inside.info) c.self.inside.inner (reverse c.self.inside.outer.items) c.self.invariant)
+    c.block_in-inner.ensures.left ∙ ap (λ (b : Bool). keeps (setting_of c.self.inside.info) c.args.id && b) (left_is (setting_of c.self.inside.info) c.self.inside.inner (reverse c.self.inside.outer.items) c.self.invariant)
     ∙ ap (λ (st : OpenUnder). list_all (keeps st.setting) (c.args.id ∷ st.ids)) c.self.view_is

@@ -1,4 +1,4 @@
-use Rattle.std.proofs.Common.{◌++◌, sym, ◌∙◌, arith, length-append}
+use Rattle.std.proofs.Common.{◌++◌, sym, arith, length-append}
 use Rattle.std.proofs.lemmas.List.{append-nil}
 use Rattle.bit_norm.proofs.form_values.FormValuesValueTaker.truncate.Goals as goal
 
