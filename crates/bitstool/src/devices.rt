@@ -1,6 +1,6 @@
 //! Sinks that hold bytes back, and whole texts for sinks.
 
-ghost use Rattle.std.specs.Prelude.{◌++◌, decimal};
+ghost use Rattle.std.specs.Prelude.{◌≡◌, ◌++◌, decimal};
 ghost use Rattle.bitstool.specs.Performing.{PutsAll};
 
 use bit_fields::{Sink, SinkFailed, WriteSink};
@@ -9,16 +9,64 @@ use std::io::Write;
 
 /// A sink that may hold back what it took.
 pub trait Flush: Sink {
+    ghost use Rattle.std.specs.Prelude.{OnOk};
     ghost use Rattle.bit_fields.specs.Devices.{Flushes};
+
+    // Whether it was told to hand on what it took, up to the last byte, and did so.
+    ghost handed_on: { Self → Type 0 };
 
     /// Hands on what it holds back. `SinkFailed` is counted as a failure unless the sink was worn.
     fn hand_on(&mut self) -> Result<(), SinkFailed>
-        ensures { Flushes (Self.outgoing self.old) (Self.outgoing self.new) result };
+        ensures flushes { Flushes (Self.outgoing self.old) (Self.outgoing self.new) result }
+        ensures handed_on { OnOk result (handed_on self.new) };
 }
 
-impl<W: Write> Flush for WriteSink<W> {
+/// A writer that a program gives its output to.
+#[derive(Drop)]
+pub struct Output<W: Write> {
+    sink: WriteSink<W>,
+    /// The writer was flushed, and has taken nothing since.
+    flushed: bool,
+}
+
+impl<W: Write> Output<W> {
+    /// The output goes to this writer.
+    pub fn new(writer: W) -> Output<W>
+        ensures { ⟦<Output<W> as Sink>⟧.outgoing result
+            ≡ record { bytes = W.contents writer; failures = 0 } }
+    {
+        Output {
+            sink: WriteSink::new(writer),
+            flushed: false,
+        }
+    }
+
+    /// The writer as it stands.
+    pub fn into_inner(self) -> W
+        ensures { W.contents result ≡ (⟦<Output<W> as Sink>⟧.outgoing self).bytes }
+    {
+        self.sink.into_inner()
+    }
+}
+
+impl<W: Write> Sink for Output<W> {
+    ghost outgoing = { λ output. ⟦<WriteSink<W> as Sink>⟧.outgoing output.sink };
+
+    fn put(&mut self, from: &[u8]) -> Result<usize, SinkFailed> {
+        self.flushed = false;
+        self.sink.put(from)
+    }
+}
+
+impl<W: Write> Flush for Output<W> {
+    ghost use Rattle.std.specs.Prelude.{true};
+
+    ghost handed_on = { λ output. output.flushed ≡ true };
+
     fn hand_on(&mut self) -> Result<(), SinkFailed> {
-        self.flush()
+        self.sink.flush()?;
+        self.flushed = true;
+        Ok(())
     }
 }
 

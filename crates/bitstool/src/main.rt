@@ -13,7 +13,7 @@ mod task;
 #[cfg(test)]
 mod tests;
 
-use crate::devices::put_all;
+use crate::devices::{Output, put_all};
 use crate::outcome::Outcome;
 use crate::run::run;
 use bit_fields::{BufSource, WriteSink};
@@ -37,7 +37,7 @@ fn words_of(alloc: Global, rt: &HostRuntime) -> io::Result<Vec<String>> {
 /// Runs the program on standard input, output and errors, each with a buffer but the last.
 fn run_here(alloc: Global, rt: &HostRuntime, words: Vec<String>) -> io::Result<u8> {
     let source = BufSource::new(BufReader::with_capacity(alloc, CHUNK, rt.stdin())?);
-    let sink = WriteSink::new(BufWriter::with_capacity(alloc, CHUNK, rt.stdout())?);
+    let sink = Output::new(BufWriter::with_capacity(alloc, CHUNK, rt.stdout())?);
     let mut errors = WriteSink::new(rt.stderr());
     Ok(run(alloc, words, source, sink, &mut errors).status)
 }

@@ -1,6 +1,6 @@
 //! Carrying out a command.
 
-ghost use Rattle.std.specs.Prelude.{◌≡◌, ◌<◌, ◌^◌, vec_items};
+ghost use Rattle.std.specs.Prelude.{◌≡◌, ◌<◌, ◌≤◌, ◌^◌, vec_items};
 ghost use Rattle.bit_grammar.specs.Setting.{setting_of};
 ghost use Rattle.bit_fields.specs.Reader.{told_by};
 ghost use Rattle.bitstool.specs.declared.task.Task.{Task as TaskValue};
@@ -8,6 +8,7 @@ ghost use Rattle.bitstool.specs.Performing.{ComparesWhere, ComparesTold, FindsWh
 ghost use Rattle.bit_norm.specs.Entries.{difference_shown};
 ghost use Rattle.bitstool.specs.Differences.{difference_text};
 ghost use Rattle.bitstool.specs.Runs.{Does, TakesInput};
+ghost use Rattle.bitstool.specs.Outcome.{status_of};
 
 use crate::devices::{Flush, put_all};
 use crate::differences::text_of;
@@ -371,7 +372,8 @@ fn carry_out<S: Source, K: Sink>(alloc: Global, task: Task, source: S, sink: K) 
 
 /// Flushes the output of a command that answered or refused.
 fn settle<K: Flush>(outcome: Outcome, sink: &mut K) -> Outcome
-    ensures { Settles outcome (K.outgoing sink.old) result (K.outgoing sink.new) }
+    ensures settles { Settles outcome (K.outgoing sink.old) result (K.outgoing sink.new) }
+    ensures handed_on { status_of result ≤ 1 → K.handed_on sink.new }
 {
     if outcome.status() > 1 {
         return outcome;
@@ -389,8 +391,9 @@ pub fn perform<S: Source, K: Flush>(
     source: S,
     sink: K,
 ) -> (Outcome, S, K)
-    ensures { Does task (S.incoming source) (S.incoming result.1) (K.outgoing sink)
+    ensures does { Does task (S.incoming source) (S.incoming result.1) (K.outgoing sink)
         (K.outgoing result.2) result.0 }
+    ensures handed_on { status_of result.0 ≤ 1 → K.handed_on result.2 }
 {
     let (outcome, source, mut sink) = carry_out(alloc, task, source, sink);
     let outcome = settle(outcome, &mut sink);

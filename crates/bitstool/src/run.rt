@@ -1,12 +1,13 @@
 //! The whole program, over any devices.
 
-ghost use Rattle.std.specs.Prelude.{◌≡◌, [], map, string_bytes};
+ghost use Rattle.std.specs.Prelude.{◌≡◌, ◌≤◌, [], OnOk, map, string_bytes};
 ghost use Rattle.bit_grammar.specs.Setting.{keep};
 ghost use Rattle.bit_grammar.specs.Normal.{usual_limits};
 ghost use Rattle.bitstool.specs.declared.task.LeftOut.{LeftOut as LeftOutValue};
 ghost use Rattle.bitstool.specs.declared.task.Parsed.{Parsed as ParsedValue};
 ghost use Rattle.bitstool.specs.declared.task.Task.{Task as TaskValue};
 ghost use Rattle.bitstool.specs.LeftOut.{setting_for};
+ghost use Rattle.bitstool.specs.Outcome.{status_of};
 ghost use Rattle.bitstool.specs.Performing.{PutsAll};
 ghost use Rattle.bitstool.specs.Runs.{Helps, Runs, TellsOutcome, WritesOutput};
 ghost use Rattle.bitstool.specs.Words.{Says};
@@ -29,7 +30,8 @@ pub struct Ran<S, K> {
 
 /// Writes a text whole, and has it handed on.
 fn put_help<K: Flush>(sink: &mut K, text: &[u8]) -> Result<(), SinkFailed>
-    ensures { PutsAll text.now (K.outgoing sink.old) result (K.outgoing sink.new) }
+    ensures puts { PutsAll text.now (K.outgoing sink.old) result (K.outgoing sink.new) }
+    ensures handed_on { OnOk result (K.handed_on sink.new) }
 {
     put_all(sink, text)?;
     sink.hand_on()
@@ -37,7 +39,8 @@ fn put_help<K: Flush>(sink: &mut K, text: &[u8]) -> Result<(), SinkFailed>
 
 /// Writes a help.
 fn help<K: Flush>(sink: &mut K, text: &[u8]) -> Outcome
-    ensures { Helps text.now (K.outgoing sink.old) (K.outgoing sink.new) result }
+    ensures helps { Helps text.now (K.outgoing sink.old) (K.outgoing sink.new) result }
+    ensures handed_on { status_of result ≤ 1 → K.handed_on sink.new }
 {
     match put_help(sink, text) {
         Ok(()) => Outcome::Done,
@@ -68,9 +71,10 @@ fn obey<S: Source, K: Flush, E: Sink>(
     mut sink: K,
     errors: &mut E,
 ) -> Ran<S, K>
-    ensures { Runs parsed (S.incoming source) (S.incoming result.source) (K.outgoing sink)
+    ensures runs { Runs parsed (S.incoming source) (S.incoming result.source) (K.outgoing sink)
         (K.outgoing result.sink)
         (E.outgoing errors.old) (E.outgoing errors.new) result.status }
+    ensures handed_on { result.status ≤ 1 → K.handed_on result.sink }
 {
     match parsed {
         Parsed::Task(task) => {
@@ -133,6 +137,8 @@ pub fn run<S: Source, K: Flush, E: Sink>(
         × Runs parsed (S.incoming source) (S.incoming result.source) (K.outgoing sink)
         (K.outgoing result.sink)
         (E.outgoing errors.old) (E.outgoing errors.new) result.status }
+    // What it wrote is handed on, unless the words were no command or a device or memory failed.
+    ensures handed_on { result.status ≤ 1 → K.handed_on result.sink }
 {
     let parsed = if words.is_empty() {
         Parsed::Task(Task::Normal {

@@ -1,3 +1,4 @@
+use crate::devices::Output;
 use crate::run::run;
 use bit_fields::{BufSource, WriteSink};
 use std::alloc::{AllocError, Global};
@@ -134,7 +135,7 @@ fn run_over<R: BufRead + Drop, W: Write, E: Write>(
         alloc,
         words,
         BufSource::new(input),
-        WriteSink::new(output),
+        Output::new(output),
         &mut errors,
     );
     Finished {

@@ -5,7 +5,7 @@ use Rattle.bitstool.proofs.run.run.Goals as goal
 
 pub returns-clause-plain : goal.returns-clause-plain
 returns-clause-plain g c none = elim c.if-is_empty.branch [
-  | then-is_empty w ↦ (w.nothing.result, w.nothing.ensures, rw (w.parsed-is, w.usual.ensures.usual) at c.obey.ensures)
+  | then-is_empty w ↦ (w.nothing.result, w.nothing.ensures, rw (w.parsed-is, w.usual.ensures.usual) at c.obey.ensures.runs)
   | else-is_empty w ↦
       let empty : vec_len c.args.words ≡ 0 = sym w.deref.ensures.len ∙ ap length (w.deref.ensures.value ∙ none) in
       let bad : false ≡ true = rw empty at w.if-is_empty.ensures in
