@@ -251,7 +251,7 @@ fn are_told(rt: &impl Abort, alloc: Global, limits: Limits, text: &str, wanted: 
         agrees(rt, events_text(rt, alloc, source, limits), wanted, text);
     }
     let source = SliceSource::new(&bytes);
-    agrees(rt, told(rt, alloc, source, limits), wanted, text);
+    agrees(rt, events_text(rt, alloc, source, limits), wanted, text);
 }
 
 #[test]
@@ -305,7 +305,7 @@ fn told_from_buffer(
         fails_at: 0,
     };
     match BufReader::with_capacity(alloc, room, pieces) {
-        Ok(reader) => told(rt, alloc, BufSource::new(reader), limits),
+        Ok(reader) => events_text(rt, alloc, BufSource::new(reader), limits),
         Err(_) => Err(AllocError),
     }
 }

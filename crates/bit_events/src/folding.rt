@@ -14,7 +14,7 @@ ghost use Rattle.bit_events.specs.Reading.{ReadsWhole};
 use crate::finder::shuts;
 use crate::gatherer::Gatherer;
 use crate::head::BlockHead;
-use crate::heads::granted;
+use crate::heads::or_memory_fault;
 use crate::machine::{Aside, Machine};
 use crate::running::gather_records;
 use crate::with_first::WithFirst;
@@ -88,7 +88,7 @@ impl<S: Source, G: Gatherer> Folding<S, G> {
         let done = self
             .gatherer
             .record(id, code, &mut values.taker, first, after);
-        granted(&mut self.reader, done)
+        or_memory_fault(&mut self.reader, done)
     }
 
     /// Gathers what is no record in the innermost block, after its id, which began at a bit.
@@ -115,7 +115,7 @@ impl<S: Source, G: Gatherer> Folding<S, G> {
             .machine
             .step_aside(alloc, &mut self.reader, limits, id, first)?;
         let done = hand_on(&mut self.gatherer, &self.machine, aside);
-        granted(&mut self.reader, done)
+        or_memory_fault(&mut self.reader, done)
     }
 
     /// Gathers the beginning of a block at the top.
@@ -128,7 +128,7 @@ impl<S: Source, G: Gatherer> Folding<S, G> {
     {
         let aside = self.machine.step_top(alloc, &mut self.reader, limits)?;
         let done = hand_on(&mut self.gatherer, &self.machine, aside);
-        granted(&mut self.reader, done)
+        or_memory_fault(&mut self.reader, done)
     }
 
     /// Gathers records of the innermost block that lie in memory whole, possibly none. Those of a BLOCKINFO block, each of which

@@ -9,7 +9,7 @@ ghost use Rattle.bit_events.specs.Firsts.{TookWithFirst};
 ghost use Rattle.bit_events.specs.FrameView.{describing_shown, info_shown, described_value, frame_shown, newest_in};
 
 use crate::head::BlockHead;
-use crate::heads::granted;
+use crate::heads::or_memory_fault;
 use crate::with_first::WithFirst;
 use bit_abbrev::{Abbrev, InForce, InfoTable, read_abbreviated, read_define, read_unabbreviated};
 use bit_fields::{BitReader, Fault, Reason, Shapes, Source, ValueTaker};
@@ -100,7 +100,7 @@ pub(crate) fn define<S: Source>(
     reader.judge(frame.may_define(), Reason::NoBlockSet, first)?;
     let abbrev = read_define(alloc, reader, shapes)?;
     let after = reader.position();
-    granted(reader, frame.put(abbrev))?;
+    or_memory_fault(reader, frame.put(abbrev))?;
     Ok(after)
 }
 

@@ -7,8 +7,8 @@ use crate::head::BlockHead;
 use bit_fields::{BitReader, Fault, Reason, Source};
 use std::alloc::AllocError;
 
-/// Fails where memory was refused.
-pub(crate) fn granted<S: Source, T>(
+/// The value that was made; where memory was refused for it the reader fails.
+pub(crate) fn or_memory_fault<S: Source, T>(
     reader: &mut BitReader<S>,
     got: Result<T, AllocError>,
 ) -> Result<T, Fault>

@@ -14,7 +14,7 @@ ghost use Rattle.bit_events.specs.MachineView.{handed_shown, machine_shown, newe
 use crate::event::Event;
 use crate::frame::{Describing, Frame, define, record_after};
 use crate::head::BlockHead;
-use crate::heads::{block_head, end_of_block, granted};
+use crate::heads::{block_head, end_of_block, or_memory_fault};
 use crate::running::glance_one;
 use crate::with_first::WithFirst;
 use bit_abbrev::{Abbrev, InfoTable, SharedInfo};
@@ -124,7 +124,7 @@ impl Machine {
         let fits = self.frames.len() < limits.depth() as usize;
         reader.judge(fits, Reason::TooDeep, first)?;
         let head = block_head(reader)?;
-        granted(reader, self.enter(alloc, head))?;
+        or_memory_fault(reader, self.enter(alloc, head))?;
         Ok(Aside::Enter {
             id: head.id,
             width: head.width,
@@ -184,7 +184,7 @@ impl Machine {
             unreachable!();
         };
         let after = end_of_block(reader, frame.head)?;
-        granted(reader, self.leave(alloc, frame.info))?;
+        or_memory_fault(reader, self.leave(alloc, frame.info))?;
         Ok(Aside::Leave { after })
     }
 

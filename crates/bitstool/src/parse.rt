@@ -418,7 +418,7 @@ fn wrong_value(alloc: Global, text: &str, option: &str, wanted: &str) -> Result<
 }
 
 /// What comes of names that are none.
-fn misnamed(alloc: Global, why: Unnamed<'_>) -> Parsed
+fn fault_of_names(alloc: Global, why: Unnamed<'_>) -> Parsed
     ensures { TellsOf why.entry result }
 {
     let line = match why {
@@ -469,7 +469,7 @@ pub fn parse(alloc: Global, words: &[String]) -> Parsed
 {
     match task(alloc, words) {
         Ok(Ok(task)) => Parsed::Task(task),
-        Ok(Err(why)) => misnamed(alloc, why),
+        Ok(Err(why)) => fault_of_names(alloc, why),
         Err(error) => match error.kind() {
             ErrorKind::OutOfMemory => Parsed::Memory,
             _ => text_of_error(alloc, &error).unwrap_or(Parsed::Memory),

@@ -19,20 +19,20 @@ returns-in_err-abbrev-clause-takes g c = λ handed.
     let judged = rw c.may_define.ensures at c.in_ok-judge.ensures.takes in
     rw (p.1, p.2) (define_missed c.args.shapes c.args.first (scope_of (frame_shown c.args.frame.now) handed) c.args.reader.now c.judge.new.self c.in_err-abbrev.field-0.0 c.read_define.new.reader judged c.in_err-abbrev.ensures.takes)
 
-pub returns-in_err-granted-clause-takes : goal.returns-in_err-granted-clause-takes
-returns-in_err-granted-clause-takes g c = λ handed.
-    let p = err_from_is_err_and c.from_residual-in_err-granted.result c.from_residual-in_err-granted.ensures.1 in
+pub returns-in_err-or_memory_fault-clause-takes : goal.returns-in_err-or_memory_fault-clause-takes
+returns-in_err-or_memory_fault-clause-takes g c = λ handed.
+    let p = err_from_is_err_and c.from_residual-in_err-or_memory_fault.result c.from_residual-in_err-or_memory_fault.ensures.1 in
     let judged = rw c.may_define.ensures at c.in_ok-judge.ensures.takes in
-    rw (p.1, p.2, c.in_err-granted.ensures.err.0) (define_lost c.args.shapes c.args.first (scope_of (frame_shown c.args.frame.now) handed) c.args.reader.now c.judge.new.self c.in_ok-abbrev.abbrev c.read_define.new.reader c.granted.new.reader judged c.in_ok-abbrev.ensures.takes c.in_err-granted.ensures.err.1)
+    rw (p.1, p.2, c.in_err-or_memory_fault.ensures.err.0) (define_lost c.args.shapes c.args.first (scope_of (frame_shown c.args.frame.now) handed) c.args.reader.now c.judge.new.self c.in_ok-abbrev.abbrev c.read_define.new.reader c.or_memory_fault.new.reader judged c.in_ok-abbrev.ensures.takes c.in_err-or_memory_fault.ensures.err.1)
 
 pub returns-clause-takes : goal.returns-clause-takes
 returns-clause-takes g c = λ handed.
     let judged = rw c.may_define.ensures at c.in_ok-judge.ensures.takes in
-    let made = rw c.in_ok-granted.ensures.ok.0 at c.put.ensures.defined in
+    let made = rw c.in_ok-or_memory_fault.ensures.ok.0 at c.put.ensures.defined in
     let newest = newest_put c.args.frame.now c.put.new.self c.in_ok-abbrev.abbrev (sym c.may_define.ensures ∙ c.in_ok-judge.ensures.holds) made in
-    define_took c.args.shapes c.args.first (scope_of (frame_shown c.args.frame.now) handed) c.args.reader.now c.judge.new.self c.in_ok-abbrev.abbrev c.read_define.new.reader c.granted.new.reader c.position-after.result (unwrap_or (newest_in (frame_shown c.put.new.self)) []) (scope_of (frame_shown c.put.new.self) handed) judged c.in_ok-abbrev.ensures.takes c.in_ok-granted.ensures.ok.1 c.position-after.ensures.position (ap (λ (o : Option (List Op)). unwrap_or o []) newest) (made handed)
+    define_took c.args.shapes c.args.first (scope_of (frame_shown c.args.frame.now) handed) c.args.reader.now c.judge.new.self c.in_ok-abbrev.abbrev c.read_define.new.reader c.or_memory_fault.new.reader c.position-after.result (unwrap_or (newest_in (frame_shown c.put.new.self)) []) (scope_of (frame_shown c.put.new.self) handed) judged c.in_ok-abbrev.ensures.takes c.in_ok-or_memory_fault.ensures.ok.1 c.position-after.ensures.position (ap (λ (o : Option (List Op)). unwrap_or o []) newest) (made handed)
 
 pub returns-clause-newest : goal.returns-clause-newest
 returns-clause-newest g c =
-    let made = rw c.in_ok-granted.ensures.ok.0 at c.put.ensures.defined in
+    let made = rw c.in_ok-or_memory_fault.ensures.ok.0 at c.put.ensures.defined in
     rw (newest_put c.args.frame.now c.put.new.self c.in_ok-abbrev.abbrev (sym c.may_define.ensures ∙ c.in_ok-judge.ensures.holds) made) refl
