@@ -48,18 +48,33 @@ impl<S: Source, V: ValueKeeper> Model for EventFinder<S, V> {
 }
 
 /// Outside of all blocks: whether the stream has no byte left, and then whether its whole input is accepted.
+#[cold]
+#[inline(never)]
+fn shuts_outside<S: Source>(reader: &mut BitReader<S>) -> Result<bool, Fault>
+    requires live { reader.old.live ≡ true }
+    requires aligned { reader.old.position % 8 ≡ 0 }
+    ensures { Shuts true reader.old result reader.new }
+{
+    // Here the position and the bits that are left reach as far as the stream and the limit on bytes.
+    let _position = reader.position();
+    if !reader.at_end()? {
+        return Ok(false);
+    }
+    reader.close()?;
+    Ok(true)
+}
+
+/// The same where a block may be open, which shuts nothing.
+#[inline(always)]
 pub(crate) fn shuts<S: Source>(reader: &mut BitReader<S>, outside: bool) -> Result<bool, Fault>
     requires live { reader.old.live ≡ true }
     requires aligned { outside ≡ true → reader.old.position % 8 ≡ 0 }
     ensures { Shuts outside reader.old result reader.new }
 {
-    // Here the position and the bits that are left reach as far as the stream and the limit on bytes.
-    let _position = reader.position();
-    if !outside || !reader.at_end()? {
+    if !outside {
         return Ok(false);
     }
-    reader.close()?;
-    Ok(true)
+    shuts_outside(reader)
 }
 
 impl<S: Source, V: ValueKeeper> EventFinder<S, V> {

@@ -18,6 +18,7 @@ pub(crate) enum Sign<'a> {
 }
 
 /// Whether a sign is the beginning of a block with this id.
+#[inline(always)]
 fn is_begin(sign: Sign<'_>, id: u32) -> bool
     ensures { IsTrue result ↔ (begins id ≡ sign_shown sign.entry) }
 {
@@ -30,6 +31,7 @@ fn is_begin(sign: Sign<'_>, id: u32) -> bool
 }
 
 /// Whether it is this record.
+#[inline(always)]
 fn is_record(sign: Sign<'_>, code: u64, values: &PackedValues) -> bool
     ensures { IsTrue result ↔ (has_record code values.now ≡ sign_shown sign.entry) }
 {
@@ -42,6 +44,7 @@ fn is_record(sign: Sign<'_>, code: u64, values: &PackedValues) -> bool
 }
 
 /// Whether it is the end of a block.
+#[inline(always)]
 fn is_end(sign: Sign<'_>) -> bool
     ensures { IsTrue result ↔ (ends ≡ sign_shown sign.entry) }
 {
@@ -54,6 +57,7 @@ fn is_end(sign: Sign<'_>) -> bool
 }
 
 /// Whether it is the end of the stream.
+#[inline(always)]
 fn is_over(sign: Sign<'_>) -> bool
     ensures { IsTrue result ↔ (over ≡ sign_shown sign.entry) }
 {
@@ -82,7 +86,7 @@ fn first_unlike(first: &PackedValues, second: &PackedValues) -> Option<ValueDiff
 
 impl Sign<'_> {
     /// Whether it is the same as another one.
-    #[inline]
+    #[inline(always)]
     pub(crate) fn is(self, other: Sign<'_>) -> bool
         ensures { IsTrue result ↔ (sign_shown self.entry ≡ sign_shown other.entry) }
     {
