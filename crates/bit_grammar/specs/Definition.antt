@@ -15,24 +15,24 @@ use Rattle.bit_grammar.specs.declared.reason.Reason.TheVariants.{AbbrevEmpty, Ab
 use Rattle.bit_grammar.specs.Grammar.{at, Grammar, gives, refuses, position, choose, ◌>>=◌, ◌>>◌, judge}
 use Rattle.bit_grammar.specs.Fields.{fixed, vbr}
 
--- an encoding by its number, which stands at this bit
-abbrev pub encoding : (place : ℕ) → ℕ → Grammar Kind
-encoding place n =
+-- an encoding by its number, which begins at this bit
+abbrev pub encoding : (first_bit : ℕ) → ℕ → Grammar Kind
+encoding first_bit n =
     choose (n == 1) (gives fixed_width) (
     choose (n == 2) (gives vbr_width) (
     choose (n == 3) (gives array) (
     choose (n == 4) (gives char6) (
     choose (n == 5) (gives blob) (
-    refuses (at AbbrevEncoding place))))))
+    refuses (at AbbrevEncoding first_bit))))))
 
 -- the flag, and the encoding where there is one
 unfoldable pub kind : Grammar Kind
 kind = do
   flag ← fixed 1
   choose (flag == 1) (gives literal) (do
-    place ← position
+    first_bit ← position
     n ← fixed 3
-    encoding place n)
+    encoding first_bit n)
 
 -- whether an operand of this kind may stand there, with so many operands after it: an array only with one
 -- operand after it, a blob only with none, neither as the first, and only a plain field as an element
@@ -61,14 +61,14 @@ vbr_lawful width = nat_le width 32 && not (width == 1)
 unfoldable pub valued : Kind → Grammar Op
 valued literal = vbr 8 >>= λ v. gives (Literal v)
 valued fixed_width = do
-  place ← position
+  first_bit ← position
   width ← vbr 5
-  judge (fixed_lawful width) FieldWidth place
+  judge (fixed_lawful width) FieldWidth first_bit
   gives (Fixed width)
 valued vbr_width = do
-  place ← position
+  first_bit ← position
   width ← vbr 5
-  judge (vbr_lawful width) FieldWidth place
+  judge (vbr_lawful width) FieldWidth first_bit
   gives (Vbr width)
 valued array = gives Array
 valued char6 = gives Char6

@@ -43,9 +43,9 @@ char6 = do
 abbrev pub zeros : (first : ℕ) → ℕ → Grammar (Unit {0})
 zeros first zero = gives tt
 zeros first (suc count) = do
-  place ← position
+  bit ← position
   s ← next_of first 1
-  judge (number s == 0) DirtyPadding place
+  judge (number s == 0) DirtyPadding bit
   zeros first count
 
 -- how many bits there are from a position to the next multiple of 32

@@ -59,16 +59,16 @@ first_rule = record (number_rule (codes "first") 17179869180) { required = true 
 -- ---- the commands
 
 -- a command with the limits that are numbers
-abbrev pub numbered : Text → App
-numbered name = with_rule (with_rule (with_rule (new_app name) bytes_rule) depth_rule) values_rule
+abbrev pub with_numbers : Text → App
+with_numbers name = with_rule (with_rule (with_rule (new_app name) bytes_rule) depth_rule) values_rule
 
 -- a command with the limits as its options
-abbrev pub limited : Text → App
-limited name = with_rule (numbered name) (flag_rule (codes "shapes-at-use"))
+abbrev pub with_limits : Text → App
+with_limits name = with_rule (with_numbers name) (flag_rule (codes "shapes-at-use"))
 
 -- a command that may leave out blocks and records too
 abbrev pub leaving : Text → App
-leaving name = with_rule (with_rule (limited name) (name_rule (codes "drop-block")))
+leaving name = with_rule (with_rule (with_limits name) (name_rule (codes "drop-block")))
     (name_rule (codes "drop-record"))
 
 -- and has a flag for BLOCKINFO blocks
@@ -80,7 +80,7 @@ comparing = with_rule (with_rule (dropping (codes "same")) first_rule) (flag_rul
 
 -- a command that may leave values out
 abbrev pub telling : App
-telling = with_rule (limited (codes "events")) (flag_rule (codes "no-values"))
+telling = with_rule (with_limits (codes "events")) (flag_rule (codes "no-values"))
 
 -- nothing but what goes for all commands
 abbrev pub for_all_commands : App
@@ -97,11 +97,11 @@ for_all_commands = record {
 -- with the commands that judge, write and compare
 abbrev pub three : App
 three = with_subcommand (with_subcommand (with_subcommand for_all_commands
-    (limited (codes "check")).top) (dropping (codes "normal")).top) comparing.top
+    (with_limits (codes "check")).top) (dropping (codes "normal")).top) comparing.top
 
 -- the whole command line, with those that tell what an input holds
 abbrev pub bitstool : App
-bitstool = with_subcommand (with_subcommand (with_subcommand three (limited (codes "analyse")).top)
+bitstool = with_subcommand (with_subcommand (with_subcommand three (with_limits (codes "analyse")).top)
     (leaving (codes "show")).top) telling.top
 
 -- ---- what was found

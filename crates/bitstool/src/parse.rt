@@ -3,8 +3,8 @@
 ghost use Rattle.std.specs.Prelude.{◌≡◌, ◌<◌, ◌^◌, ◌↔◌, ℕ, false, map, string_bytes, IfOk, IfErr, IfSome, IsSome, IsTrue, MatchResult, Some};
 ghost use Rattle.bitstool.specs.declared.task.Parsed.{Parsed as ParsedValue};
 ghost use Rattle.clap.specs.Words.{app_of, found_of, kind_of, rows_of, rule_of, subcommand_rows_of};
-ghost use Rattle.bitstool.specs.Words.{numbered, FindsAll, HasAllLimits, HasLimits, HasLeftOut, HasNumber, HasShapes, HasValues, IsGiven, IsNormal, IsSame, IsShow, Means, Misnamed, MisnamedIn, MisnamesIn, Says, GivesNoTask, ShowsError, TellsOf, NamesBlocks, NamesRecords};
-ghost use Rattle.bitstool.specs.Words.{for_all_commands, bitstool, flag_rule, leaving, limit_rule, limited, name_rule, number_rule, dropping, comparing, telling, wrong_value};
+ghost use Rattle.bitstool.specs.Words.{with_numbers, FindsAll, HasAllLimits, HasLimits, HasLeftOut, HasNumber, HasShapes, HasValues, IsGiven, IsNormal, IsSame, IsShow, Means, Misnamed, MisnamedIn, MisnamesIn, Says, GivesNoTask, ShowsError, TellsOf, NamesBlocks, NamesRecords};
+ghost use Rattle.bitstool.specs.Words.{for_all_commands, bitstool, flag_rule, leaving, limit_rule, with_limits, name_rule, number_rule, dropping, comparing, telling, wrong_value};
 
 use crate::names::{Unnamed, blocks_named, records_named};
 use crate::task::{LeftOut, Parsed, Task};
@@ -136,8 +136,8 @@ fn flag<'a>(alloc: Global, name: &'a str, help: &'a str) -> Arg<'a>
 }
 
 /// A command with the limits that are numbers.
-fn numbered<'a>(alloc: Global, name: &'a str, about: &'a str) -> Result<Command<'a>, AllocError>
-    ensures { IfOk result (λ command. app_of command ≡ (numbered name.entry.now)) }
+fn with_numbers<'a>(alloc: Global, name: &'a str, about: &'a str) -> Result<Command<'a>, AllocError>
+    ensures { IfOk result (λ command. app_of command ≡ (with_numbers name.entry.now)) }
 {
     let bytes = limit(alloc, "bytes", "1073741824", MOST_BYTES, BYTES);
     let depth = limit(
@@ -156,11 +156,11 @@ fn numbered<'a>(alloc: Global, name: &'a str, about: &'a str) -> Result<Command<
 }
 
 /// A command with the limits as its options.
-fn limited<'a>(alloc: Global, name: &'a str, about: &'a str) -> Result<Command<'a>, AllocError>
-    ensures { IfOk result (λ command. app_of command ≡ (limited name.entry.now)) }
+fn with_limits<'a>(alloc: Global, name: &'a str, about: &'a str) -> Result<Command<'a>, AllocError>
+    ensures { IfOk result (λ command. app_of command ≡ (with_limits name.entry.now)) }
 {
     let shapes = flag(alloc, "shapes-at-use", SHAPES);
-    numbered(alloc, name, about)?.arg(shapes)
+    with_numbers(alloc, name, about)?.arg(shapes)
 }
 
 /// A command with the limits as its options, and those that name what is left out.
@@ -169,7 +169,7 @@ fn leaving<'a>(alloc: Global, name: &'a str, about: &'a str) -> Result<Command<'
 {
     let blocks = name_option(alloc, "drop-block", "ID", BLOCKS);
     let records = name_option(alloc, "drop-record", "ID:CODE", RECORDS);
-    limited(alloc, name, about)?.arg(blocks)?.arg(records)
+    with_limits(alloc, name, about)?.arg(blocks)?.arg(records)
 }
 
 /// The same with the flag for BLOCKINFO blocks.
@@ -196,7 +196,7 @@ fn telling<'a>(alloc: Global) -> Result<Command<'a>, AllocError>
     ensures { IfOk result (λ command. app_of command ≡ telling) }
 {
     let values = flag(alloc, "no-values", "Leave out the values of records");
-    limited(alloc, "events", EVENTS)?.arg(values)
+    with_limits(alloc, "events", EVENTS)?.arg(values)
 }
 
 /// What goes for all commands.
@@ -218,10 +218,10 @@ fn above<'a>(alloc: Global) -> Result<Command<'a>, AllocError>
 fn command<'a>(alloc: Global) -> Result<Command<'a>, AllocError>
     ensures { IfOk result (λ command. app_of command ≡ bitstool) }
 {
-    let check = limited(alloc, "check", CHECK)?;
+    let check = with_limits(alloc, "check", CHECK)?;
     let normal = dropping(alloc, "normal", NORMAL)?;
     let same = comparing(alloc)?;
-    let analyse = limited(alloc, "analyse", ANALYSE)?;
+    let analyse = with_limits(alloc, "analyse", ANALYSE)?;
     let show = leaving(alloc, "show", SHOW)?;
     let events = telling(alloc)?;
     above(alloc)?
