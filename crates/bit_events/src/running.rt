@@ -32,6 +32,38 @@ fn ops_for<'a>(definitions: &Definitions<'a>, id: u32) -> Option<&'a [Op]>
     Some(abbrev.lawful_ops())
 }
 
+/// Reads an abbreviated record after its id, and answers its code. The values are those of the record alone. `U` is whom it is
+/// compiled for.
+#[inline(always)]
+fn glance_abbreviated<U, V: ValueTaker>(
+    ahead: &mut Ahead<'_>,
+    definitions: &Definitions<'_>,
+    room: u64,
+    id: u32,
+    values: &mut V,
+) -> Option<u64>
+    requires id { 4 ≤ id }
+    requires none { V.took values.old [] }
+    ensures glimpsed { IfSome result (λ code. Has V.took values.new
+        (λ list. ReadsEntry definitions.now room id ahead.old code list ahead.new)) }
+    ensures took { TookSome V.took values.new }
+{
+    let ops = ops_for(definitions, id)?;
+    glance_record::<U, V>(ahead, ops, room, values)
+}
+
+/// Reads a record that is not abbreviated after its id, and answers its code. The values are those of the record alone.
+#[inline(always)]
+fn glance_plain<V: ValueTaker>(ahead: &mut Ahead<'_>, room: u64, values: &mut V) -> Option<u64>
+    requires { V.took values.old [] }
+    ensures glimpsed { (definitions : List (List Op)) (id : ℕ) → id ≡ 3
+        → IfSome result (λ code. Has V.took values.new
+        (λ list. ReadsEntry definitions room id ahead.old code list ahead.new)) }
+    ensures took { TookSome V.took values.new }
+{
+    glance_unabbreviated(ahead, room, values)
+}
+
 /// Reads a record after its id, and answers its code. The values are those of the record alone. `U` is whom it is compiled for.
 #[inline(always)]
 fn glance_entry<U, V: ValueTaker>(
@@ -48,14 +80,13 @@ fn glance_entry<U, V: ValueTaker>(
     ensures took { TookSome V.took values.new }
 {
     if id == 3 {
-        return glance_unabbreviated(ahead, room, values);
+        return glance_plain(ahead, room, values);
     }
-    let ops = ops_for(definitions, id)?;
-    glance_record::<U, V>(ahead, ops, room, values)
+    glance_abbreviated::<U, V>(ahead, definitions, room, id, values)
 }
 
 /// Reads one record after its id, and answers its code and the bit behind it. The values are those of the record alone. It has
-/// what is ahead for itself.
+/// what is ahead for itself, and looks for definitions only where the record goes by one.
 #[inline(never)]
 pub(crate) fn glance_one<V: ValueTaker>(
     ahead: Ahead<'_>,
@@ -71,8 +102,11 @@ pub(crate) fn glance_one<V: ValueTaker>(
     ensures took { TookSome V.took values.new }
 {
     let mut ahead = ahead;
-    let definitions = definitions.all();
-    let code = glance_entry::<V, V>(&mut ahead, &definitions, room, id, values)?;
+    if id == 3 {
+        let code = glance_plain(&mut ahead, room, values)?;
+        return Some((code, ahead.position()));
+    }
+    let code = glance_abbreviated::<V, V>(&mut ahead, &definitions.all(), room, id, values)?;
     Some((code, ahead.position()))
 }
 
