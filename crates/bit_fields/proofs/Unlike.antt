@@ -1,9 +1,9 @@
--- Where two lists of values differ, of which each ends with zeros.
-use Rattle.std.proofs.Common.{◌≡◌, ◌≢◌, ℕ, zero, suc, ◌+◌, ◌<◌, ◌-◌, ◌≤◌, ◌⊎◌, List, [], ◌∷◌, ◌++◌, length, drop, get_or, slice_get, min, max, Bool, true, false, cond, eqb, not, Option, Some, None, refl, sym, ap, ◌∙◌, subst, inl, inr, arith, add-one, eq-eqb, length-append}
+-- Where two lists of values differ, each with zeros in its midst.
+use Rattle.std.proofs.Common.{◌≡◌, ◌≢◌, ℕ, zero, suc, ◌+◌, ◌<◌, ◌-◌, ◌≤◌, ◌⊎◌, List, [], ◌∷◌, ◌++◌, length, drop, get_or, slice_get, min, max, Bool, true, false, cond, eqb, not, Option, Some, None, IfSome, IfNone, refl, sym, ap, ◌∙◌, inl, inr, arith, add-one, eq-eqb, length-drop, append_assoc}
 use Rattle.std.proofs.Math.ListN.{replicate}
-use Rattle.std.proofs.Math.Seq.{drop-cons, drop-append-add}
+use Rattle.std.proofs.Math.Seq.{drop-cons}
 use Rattle.std.proofs.lemmas.Bool.{cases_lt, ne_eqb, eqb-true}
-use Rattle.std.proofs.lemmas.List.{drop-replicate, length-replicate, drop_all}
+use Rattle.std.proofs.lemmas.List.{drop-replicate, drop-drop, drop-append-le, replicate-append-replicate}
 use Rattle.std.proofs.lemmas.Option.{slice_get-get_or}
 use Rattle.std.specs.Prelude.{is_some}
 use Rattle.std.specs.Option.{option_eq}
@@ -34,30 +34,6 @@ none_left : (i : ℕ) (a b : List ℕ) → min (length a) (length b) ≡ 0 → f
 none_left i [] b e = refl
 none_left i (x ∷ a) [] e = refl
 none_left i (x ∷ a) (y ∷ b) e = absurd (omega arith)
-
--- zeros are left of both
-zeros_left : (i m n : ℕ) → first_apart i (replicate m 0) (replicate n 0) ≡ None
-zeros_left i zero n = refl
-zeros_left i (suc m) zero = refl
-zeros_left i (suc m) (suc n) = zeros_left (suc i) m n
-
-behind : (i : ℕ) (a : List ℕ) (n : ℕ) → length a ≤ i → (m : ℕ) × (drop i (a ++ replicate n 0) ≡ replicate m 0)
-behind i a n le = (n - (i - length a), subst (λ (k : ℕ). drop k (a ++ replicate n 0) ≡ replicate (n - (i - length a)) 0) (omega arith) (drop-append-add a (replicate n 0) (i - length a) ∙ drop-replicate (i - length a) n 0))
-
-short : (i n : ℕ) (a : List ℕ) → length a + n ≤ i → drop i (a ++ replicate n 0) ≡ []
-short i n a le = drop_all i (a ++ replicate n 0) (omega (arith, length-append a (replicate n 0), length-replicate {A = ℕ} n 0))
-
--- behind what stands before the zeros of both, or at the end of one
-pub rest_same : (i m n : ℕ) (a b : List ℕ) → i ≡ min (max (length a) (length b)) (min (length a + m) (length b + n)) → first_apart i (drop i (a ++ replicate m 0)) (drop i (b ++ replicate n 0)) ≡ None
-rest_same i m n a b is = go (cases_lt i (length a)) (cases_lt i (length b))
-  where
-    go : (i < length a) ⊎ (length a ≤ i) → (i < length b) ⊎ (length b ≤ i) → first_apart i (drop i (a ++ replicate m 0)) (drop i (b ++ replicate n 0)) ≡ None
-    go (inl lt) h = rw (short i n b (omega (arith, lt, is))) (none_left i (drop i (a ++ replicate m 0)) [] (omega arith))
-    go (inr le) (inl lt) = rw (short i m a (omega (arith, lt, le, is))) (none_left i [] (drop i (b ++ replicate n 0)) (omega arith))
-    go (inr le) (inr also) =
-        let left = behind i a m le in
-        let right = behind i b n also in
-        rw (left.1, right.1) (zeros_left i left.0 right.0)
 
 -- lists of the same length that differ nowhere are the same
 pub none_apart : (i : ℕ) (a b : List ℕ) → length a ≡ length b → first_apart i a b ≡ None → a ≡ b
@@ -102,3 +78,44 @@ same_if_none (Some place) false a b len is none = (λ e. absurd (cc), λ e. absu
   where
     nowhere : Some place ≡ first_apart 0 a a → ⊥
     nowhere e = (let none : first_apart 0 a a ≡ None = apart_itself 0 a in cc)
+
+-- ---- zeros in the midst of both
+
+-- so many that stand in front
+zeros_passed : (i m : ℕ) (a b : List ℕ) → first_apart i (replicate m 0 ++ a) (replicate m 0 ++ b) ≡ first_apart (i + m) a b
+zeros_passed i zero a b = ap (λ (k : ℕ). first_apart k a b) (omega arith)
+zeros_passed i (suc m) a b = zeros_passed (suc i) m a b ∙ ap (λ (k : ℕ). first_apart k a b) (omega arith)
+
+-- what has zeros from one place on has them from a later one on
+zeros_later : (n i : ℕ) (s : List ℕ) → n ≤ i → drop n s ≡ replicate (length s - n) 0 → drop i s ≡ replicate (length s - i) 0
+zeros_later n i s le zeros =
+    ap (λ (k : ℕ). drop k s) (omega (arith, le)) ∙ sym (drop-drop (i - n) n s) ∙ ap (λ (l : List ℕ). drop (i - n) l) zeros ∙ drop-replicate (i - n) (length s - n) 0 ∙ ap (λ (k : ℕ). replicate k 0) (omega (arith, le))
+
+-- what stands from a place on, where these are zeros at first
+zeros_from : (i m : ℕ) (s r : List ℕ) → i + m ≤ length s → drop i s ≡ replicate (length s - i) 0 → drop i (s ++ r) ≡ replicate m 0 ++ drop (i + m) (s ++ r)
+zeros_from i m s r le zeros =
+    let rest = length s - (i + m) in
+    let left : drop (i + m) (s ++ r) ≡ replicate rest 0 ++ r = drop-append-le (i + m) s r le ∙ ap (λ (l : List ℕ). l ++ r) (zeros_later i (i + m) s (omega arith) zeros) in
+    let all : replicate (length s - i) 0 ≡ replicate m 0 ++ replicate rest 0 = ap (λ (n : ℕ). replicate n 0) (omega (arith, le)) ∙ sym (replicate-append-replicate m rest 0) in
+    drop-append-le i s r (omega (arith, le)) ∙ ap (λ (l : List ℕ). l ++ r) (zeros ∙ all) ∙ append_assoc (replicate m 0) (replicate rest 0) r ∙ ap (λ (l : List ℕ). replicate m 0 ++ l) (sym left)
+
+-- from one place to another both have zeros
+zeros_between : (i m : ℕ) (s r t q : List ℕ) → i + m ≤ length s → i + m ≤ length t → drop i s ≡ replicate (length s - i) 0 → drop i t ≡ replicate (length t - i) 0 → first_apart i (drop i (s ++ r)) (drop i (t ++ q)) ≡ first_apart (i + m) (drop (i + m) (s ++ r)) (drop (i + m) (t ++ q))
+zeros_between i m s r t q in_s in_t zeros also =
+    rw (zeros_from i m s r in_s zeros, zeros_from i m t q in_t also) (zeros_passed i m (drop (i + m) (s ++ r)) (drop (i + m) (t ++ q)))
+
+-- where each list begins with values of which those from a place on are zeros, none of these decides
+pub zeros_same : (m n i k both : ℕ) (s r t q : List ℕ) → drop m s ≡ replicate (length s - m) 0 → drop n t ≡ replicate (length t - n) 0 → i ≡ min (max m n) both → k ≡ max (min (length s) (length t)) i → min (length s) (length t) ≤ both → first_apart i (drop i (s ++ r)) (drop i (t ++ q)) ≡ first_apart k (drop k (s ++ r)) (drop k (t ++ q))
+zeros_same m n i k both s r t q zeros also is to le = go (cases_lt i (min (length s) (length t)))
+  where
+    go : (i < min (length s) (length t)) ⊎ (min (length s) (length t) ≤ i) → first_apart i (drop i (s ++ r)) (drop i (t ++ q)) ≡ first_apart k (drop k (s ++ r)) (drop k (t ++ q))
+    go (inl lt) =
+        let far : k ≡ i + (k - i) = omega (arith, lt, to) in
+        zeros_between i (k - i) s r t q (omega (arith, lt, to)) (omega (arith, lt, to)) (zeros_later m i s (omega (arith, lt, is, le)) zeros) (zeros_later n i t (omega (arith, lt, is, le)) also)
+        ∙ ap (λ (p : ℕ). first_apart p (drop p (s ++ r)) (drop p (t ++ q))) (sym far)
+    go (inr past) = ap (λ (p : ℕ). first_apart p (drop p (s ++ r)) (drop p (t ++ q))) (omega (arith, past, to))
+
+-- the answer of a search up to a place at which one list ends
+pub apart_before : (o : Option ℕ) (x : Option ℕ) (k : ℕ) (a b : List ℕ) → k ≡ min (length a) (length b) → IfSome o (λ place. x ≡ Some place) → IfNone o (x ≡ first_apart k (drop k a) (drop k b)) → o ≡ x
+apart_before (Some place) x k a b end found none = sym found
+apart_before None x k a b end found none = sym (none ∙ none_left k (drop k a) (drop k b) (omega (arith, end, length-drop k a, length-drop k b)))

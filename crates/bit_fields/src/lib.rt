@@ -18,6 +18,7 @@ mod packed;
 #[cfg(test)]
 mod packed_tests;
 mod reader;
+mod settled;
 mod sink;
 mod source;
 #[cfg(test)]

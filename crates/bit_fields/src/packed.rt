@@ -1,195 +1,69 @@
 //! Values in little memory.
 
-ghost use Rattle.std.specs.Prelude.{◌≡◌, ◌↔◌, ◌+◌, ◌<◌, ◌≤◌, ◌^◌, ℕ, List, [], ◌∷◌, ◌++◌, length, take, OnOk, OnErr, IsTrue, slice_get, true};
+ghost use Rattle.std.specs.Prelude.{◌≡◌, ◌↔◌, ◌≤◌, ℕ, List, [], ◌++◌, length, take, drop, IfSome, IfNone, IsTrue, slice_get, true, false};
 ghost use Rattle.std.proofs.Math.ListN.{replicate};
 ghost use Rattle.bit_fields.specs.Packed.{first_apart};
 
+use crate::settled::{BATCH, SettledValues};
 use crate::values::ValueTaker;
 use std::alloc::{AllocError, Global};
 use std::marker::Model;
 
-/// How many numbers may be held by what has room for others; the memory of more is given back.
-const ROOM: usize = 65536;
-
-/// Numbers, of which those behind the last one that is above 255 take a byte each, and the others eight.
-#[derive(Drop)]
-struct Numbers {
-    alloc: Global,
-    wide: Vec<u64>,
-    bytes: Vec<u8>,
-}
-
-impl Model for Numbers {
-    ghost use Rattle.std.specs.Prelude.{ℕ, List, ◌++◌};
-
-    ghost Value = { List ℕ };
-
-    ghost view = { λ n. n.wide.items ++ n.bytes.items };
-}
-
-/// Adds the numbers that bytes are.
-fn add_bytes(wide: &mut Vec<u64>, bytes: &[u8]) -> Result<(), AllocError>
-    ensures ok { OnOk result (wide.new.items ≡ wide.old.items ++ bytes.now) }
-    ensures err { OnErr result (take (length wide.old.items) wide.new.items ≡ wide.old.items) }
-{
-    for byte in bytes {
-        wide.push(u64::from(*byte))?;
-    }
-    Ok(())
-}
-
-/// Gives numbers of one byte eight.
-#[cold]
-fn widen(wide: &mut Vec<u64>, bytes: &mut Vec<u8>) -> Result<(), AllocError>
-    ensures same { wide.new.items ++ bytes.new.items ≡ wide.old.items ++ bytes.old.items }
-    ensures all { OnOk result (bytes.new.items ≡ []) }
-{
-    let count = wide.len();
-    if let Err(error) = add_bytes(wide, bytes) {
-        wide.truncate(count);
-        return Err(error);
-    }
-    bytes.clear();
-    Ok(())
-}
-
-impl Numbers {
-    /// No numbers.
-    fn new(alloc: Global) -> Numbers
-        ensures { result ≡ [] }
-    {
-        Numbers {
-            alloc,
-            wide: Vec::new(alloc),
-            bytes: Vec::new(alloc),
-        }
-    }
-
-    /// How many there are.
-    #[inline(always)]
-    fn len(&self) -> u64
-        ensures { result ≡ length self.now }
-    {
-        self.wide.len() as u64 + self.bytes.len() as u64
-    }
-
-    /// Adds a number.
-    #[inline(always)]
-    fn push(&mut self, number: u64) -> Result<(), AllocError>
-        ensures ok { OnOk result (self.new ≡ self.old ++ number ∷ []) }
-        ensures err { OnErr result (self.new ≡ self.old) }
-        ensures few { length self.new < 2 ^ 64 }
-    {
-        if number < 256 {
-            self.bytes.push(number as u8)?;
-            return Ok(());
-        }
-        if !self.bytes.is_empty() {
-            widen(&mut self.wide, &mut self.bytes)?;
-        }
-        self.wide.push(number)?;
-        Ok(())
-    }
-
-    /// The number at this place.
-    #[inline]
-    fn get(&self, place: u64) -> Option<u64>
-        ensures { result ≡ slice_get self.now place }
-    {
-        let place = place as usize;
-        match self.wide.get(place) {
-            Some(number) => Some(*number),
-            None => self
-                .bytes
-                .get(place - self.wide.len())
-                .map(|byte| u64::from(*byte)),
-        }
-    }
-
-    /// Drops those behind the first ones.
-    fn truncate(&mut self, count: u64)
-        ensures { self.new ≡ take count self.old }
-    {
-        let count = count as usize;
-        self.bytes.truncate(count.saturating_sub(self.wide.len()));
-        self.wide.truncate(count);
-    }
-
-    /// Drops all.
-    #[inline(always)]
-    fn clear(&mut self)
-        ensures { self.new ≡ [] }
-    {
-        if self.bytes.capacity() > ROOM || self.wide.capacity() > ROOM {
-            self.give_back();
-            return;
-        }
-        self.bytes.clear();
-        self.wide.clear();
-    }
-
-    /// Drops all, and gives their memory back.
-    #[cold]
-    #[inline(never)]
-    fn give_back(&mut self)
-        ensures { self.new ≡ [] }
-    {
-        self.bytes = Vec::new(self.alloc);
-        self.wide = Vec::new(self.alloc);
-    }
-}
-
-/// Values in their parts, which stand behind one another: numbers, bytes, and so many zeros.
+/// Values in their parts, which stand behind one another: numbers, bytes, so many zeros, and the last ones as numbers.
 #[derive(Clone, Copy, Debug)]
 pub struct ValueParts<'a> {
     pub numbers: &'a [u64],
     pub bytes: &'a [u8],
     pub zeros: u64,
+    pub recent: &'a [u64],
 }
 
-/// The values of a record in little memory: eight bytes for each one up to the last that is above 255, one for each behind it, as
-/// those of a blob or an array of characters, and none for the zeros at the end that were taken at once, which are counted.
+/// The values of a record in little memory. The last ones, 64 at most, have a place of their own of 512 bytes. Of those before
+/// them, which are packed 64 at a time, each takes eight bytes up to the last 64 with one that is above 255, and one byte behind
+/// it, as those of a blob or an array of characters; zeros that were taken at once are counted, and take none at the end.
 #[derive(Drop)]
 pub struct PackedValues {
-    numbers: Numbers,
-    /// How many zeros stand behind the numbers.
-    zeros: u64,
+    settled: SettledValues,
+    /// The first of these are the last values, as many as are held.
+    recent: [u64; BATCH],
+    held: usize,
 }
 
 impl Model for PackedValues {
-    ghost use Rattle.std.specs.Prelude.{ℕ, ◌+◌, ◌^◌, ◌<◌, List, ◌++◌, length};
-    ghost use Rattle.std.proofs.Math.ListN.{replicate};
+    ghost use Rattle.std.specs.Prelude.{◌≡◌, ℕ, ◌≤◌, List, ◌++◌, length, take};
 
     ghost Value = { List ℕ };
 
-    ghost view = { λ v. v.numbers ++ replicate v.zeros 0 };
+    ghost view = { λ v. v.settled ++ take v.held v.recent };
 
-    ghost invariant = { λ v. length v.numbers + v.zeros < 2 ^ 64 };
+    ghost invariant = { λ v. (length v.recent ≡ 64) × (v.held ≤ 64) };
 }
 
-/// Adds numbers for zeros, so that others can stand behind them.
-#[cold]
-#[inline(never)]
-fn spread(numbers: &mut Numbers, zeros: &mut u64) -> Result<(), AllocError>
-    ensures same { numbers.new ++ replicate zeros.new 0 ≡ numbers.old ++ replicate zeros.old 0 }
-    ensures sum { length numbers.new + zeros.new ≡ length numbers.old + zeros.old }
-    ensures none { OnOk result (zeros.new ≡ 0) }
+/// Whether numbers are the same as others.
+#[inline]
+fn are_same(first: &[u64], second: &[u64]) -> bool
+    ensures { IsTrue result ↔ (first.now ≡ second.now) }
 {
-    while *zeros > 0 {
-        numbers.push(0)?;
-        *zeros -= 1;
+    if first.len() != second.len() {
+        return false;
     }
-    Ok(())
+    for (place, number) in first.iter().enumerate() {
+        if *number != second[place] {
+            return false;
+        }
+    }
+    true
 }
 
 impl PackedValues {
-    /// No values. It takes no memory.
+    /// No values. It takes no memory beside itself.
     pub fn new(alloc: Global) -> PackedValues
         ensures { result ≡ [] }
     {
         PackedValues {
-            numbers: Numbers::new(alloc),
-            zeros: 0,
+            settled: SettledValues::new(alloc),
+            recent: [0; BATCH],
+            held: 0,
         }
     }
 
@@ -198,7 +72,7 @@ impl PackedValues {
     pub fn len(&self) -> u64
         ensures { result ≡ length self.now }
     {
-        self.numbers.len() + self.zeros
+        self.settled.len() + self.held as u64
     }
 
     /// Whether there are none.
@@ -211,12 +85,15 @@ impl PackedValues {
     /// The values in their parts.
     #[inline]
     pub fn parts(&self) -> ValueParts<'_>
-        ensures { self.now ≡ result.numbers.now ++ result.bytes.now ++ replicate result.zeros 0 }
+        ensures { self.now
+            ≡ result.numbers.now ++ result.bytes.now ++ replicate result.zeros 0 ++ result.recent.now }
     {
+        let (numbers, bytes, zeros) = self.settled.parts();
         ValueParts {
-            numbers: self.numbers.wide.as_slice(),
-            bytes: self.numbers.bytes.as_slice(),
-            zeros: self.zeros,
+            numbers,
+            bytes,
+            zeros,
+            recent: &self.recent[..self.held],
         }
     }
 
@@ -225,20 +102,25 @@ impl PackedValues {
     pub fn get(&self, place: u64) -> Option<u64>
         ensures { result ≡ slice_get self.now place }
     {
-        if place < self.numbers.len() {
-            return self.numbers.get(place);
+        let settled = self.settled.len();
+        if place < settled {
+            return self.settled.get(place);
         }
-        if place < self.len() { Some(0) } else { None }
+        self.recent[..self.held]
+            .get((place - settled) as usize)
+            .copied()
     }
 
-    /// The first place at which these and others have different values, if there is one. Zeros that are counted in both are
-    /// passed over at once.
-    pub fn first_apart(&self, other: &PackedValues) -> Option<u64>
-        ensures { result ≡ first_apart 0 self.now other.now }
+    /// The first place from one on and below another at which these and others have different values, if there is one.
+    fn apart_within(&self, other: &PackedValues, first: u64, end: u64) -> Option<u64>
+        requires first { first ≤ end }
+        requires end { (end ≤ length self.now) × (end ≤ length other.now) }
+        ensures found { IfSome result (λ place.
+            first_apart first (drop first self.now) (drop first other.now) ≡ Some place) }
+        ensures none { IfNone result (first_apart first (drop first self.now) (drop first other.now)
+            ≡ first_apart end (drop end self.now) (drop end other.now)) }
     {
-        let count = self.len().min(other.len());
-        let held = self.numbers.len().max(other.numbers.len()).min(count);
-        for place in 0..held {
+        for place in first..end {
             if self.get(place) != other.get(place) {
                 return Some(place);
             }
@@ -246,14 +128,33 @@ impl PackedValues {
         None
     }
 
-    /// Whether these and others have the same parts.
-    #[inline]
-    fn has_parts_of(&self, other: &PackedValues) -> bool
-        ensures { result ≡ true → self.now ≡ other.now }
+    /// The first place at which these and others have different values, if there is one. Zeros that are counted in both are
+    /// passed over at once.
+    pub fn first_apart(&self, other: &PackedValues) -> Option<u64>
+        ensures { result ≡ first_apart 0 self.now other.now }
     {
-        self.zeros == other.zeros
-            && self.numbers.bytes == other.numbers.bytes
-            && self.numbers.wide == other.numbers.wide
+        let both = self.len().min(other.len());
+        let zeros = self
+            .settled
+            .before_zeros()
+            .max(other.settled.before_zeros())
+            .min(both);
+        let behind = self.settled.len().min(other.settled.len()).max(zeros);
+        if let Some(place) = self.apart_within(other, 0, zeros) {
+            return Some(place);
+        }
+        self.apart_within(other, behind, both)
+    }
+
+    /// Whether these are the same values as others, of which some were packed.
+    #[inline(never)]
+    fn is_beyond(&self, other: &PackedValues) -> bool
+        ensures { IsTrue result ↔ (self.now ≡ other.now) }
+    {
+        if self.settled.has_parts_of(&other.settled) {
+            return are_same(&self.recent[..self.held], &other.recent[..other.held]);
+        }
+        self.len() == other.len() && self.first_apart(other).is_none()
     }
 
     /// Whether these are the same values as others.
@@ -261,28 +162,25 @@ impl PackedValues {
     pub fn is(&self, other: &PackedValues) -> bool
         ensures { IsTrue result ↔ (self.now ≡ other.now) }
     {
-        self.has_parts_of(other) || (self.len() == other.len() && self.first_apart(other).is_none())
-    }
-
-    /// Drops all values. The memory of many is given back.
-    #[inline]
-    fn clear(&mut self)
-        ensures { self.new ≡ [] }
-    {
-        self.numbers.clear();
-        self.zeros = 0;
+        if self.settled.len() > 0 || other.settled.len() > 0 {
+            return self.is_beyond(other);
+        }
+        are_same(&self.recent[..self.held], &other.recent[..other.held])
     }
 }
 
 impl ValueTaker for PackedValues {
     ghost took = { λ v values. v ≡ values };
 
-    #[inline]
+    #[inline(always)]
     fn take(&mut self, value: u64) -> Result<(), AllocError> {
-        if self.zeros > 0 {
-            spread(&mut self.numbers, &mut self.zeros)?;
+        if self.held >= BATCH {
+            self.settled.add(&self.recent)?;
+            self.held = 0;
         }
-        self.numbers.push(value)
+        self.recent[self.held] = value;
+        self.held += 1;
+        Ok(())
     }
 
     #[inline]
@@ -290,26 +188,28 @@ impl ValueTaker for PackedValues {
         false
     }
 
-    #[inline]
+    #[inline(never)]
     fn pass_zeros(&mut self, count: u64) -> bool {
-        if count > u64::MAX - self.len() {
+        if self.settled.add(&self.recent[..self.held]).is_err() {
             return false;
         }
-        self.zeros += count;
-        true
+        self.held = 0;
+        self.settled.add_zeros(count)
     }
 
-    #[inline]
+    #[inline(always)]
     fn truncate(&mut self, count: u64) {
+        self.held = self
+            .held
+            .min(count.saturating_sub(self.settled.len()) as usize);
         if count == 0 {
-            self.clear();
+            self.settled.clear();
             return;
         }
-        self.zeros = self.zeros.min(count.saturating_sub(self.numbers.len()));
-        self.numbers.truncate(count);
+        self.settled.truncate(count);
     }
 
-    #[inline]
+    #[inline(always)]
     fn count(&self) -> u64 {
         self.len()
     }

@@ -5,25 +5,33 @@ use std::alloc::{AllocError, Global};
 use std::fmt::Write;
 use std::process::Abort;
 
-/// Has these values taken, and so many zeros at once behind them.
-fn take_all(values: &mut PackedValues, from: &[u64], zeros: u64) -> Result<(), AllocError> {
+/// Values, so many zeros that are taken at once behind them, and others behind these.
+type Taken<'a> = (&'a [u64], u64, &'a [u64]);
+
+/// Has these values taken.
+fn take_all(values: &mut PackedValues, from: &[u64]) -> Result<(), AllocError> {
     for value in from {
         values.take(*value)?;
     }
-    let _ = values.pass_zeros(zeros);
     Ok(())
 }
 
-/// These values, and so many zeros at once behind them.
-fn values_of(alloc: Global, from: &[u64], zeros: u64) -> Result<PackedValues, AllocError> {
+/// These values.
+fn values_of(alloc: Global, taken: Taken<'_>) -> Result<PackedValues, AllocError> {
+    let (front, zeros, back) = taken;
     let mut values = PackedValues::empty(alloc);
-    take_all(&mut values, from, zeros)?;
+    take_all(&mut values, front)?;
+    if zeros > 0 {
+        let _ = values.pass_zeros(zeros);
+    }
+    take_all(&mut values, back)?;
     Ok(values)
 }
 
 /// The parts of values as text, before and behind the last step.
 fn parts_told(alloc: Global, count: u64) -> Result<String, AllocError> {
-    let mut values = values_of(alloc, &[1, 255, 256, 0], 3)?;
+    let mut values = values_of(alloc, (&[1, 256], 2, &[7]))?;
+    let _ = values.pass_zeros(3);
     let mut text = String::new(alloc);
     write!(text, "{} {:?}", values.count(), values.parts())?;
     values.truncate(count);
@@ -41,7 +49,7 @@ fn has_parts(rt: &impl Abort, alloc: Global, count: u64, wanted: &str) {
 #[test]
 fn parts_of_values(rt: HostRuntime) {
     let alloc = rt.alloc();
-    let first = "7 ValueParts { numbers: [1, 255, 256], bytes: [0], zeros: 3 }";
+    let first = "8 ValueParts { numbers: [1, 256], bytes: [0, 0, 7], zeros: 3, recent: [] }";
     assert!(rt;
         parts_told(alloc, 0)
             .expect(&rt, "memory")
@@ -51,31 +59,64 @@ fn parts_of_values(rt: HostRuntime) {
     has_parts(
         &rt,
         alloc,
-        6,
-        ", 7 ValueParts { numbers: [1, 255, 256], bytes: [0, 0, 0, 9], zeros: 0 }",
+        7,
+        ", 8 ValueParts { numbers: [1, 256], bytes: [0, 0, 7], zeros: 2, recent: [9] }",
+    );
+    has_parts(
+        &rt,
+        alloc,
+        3,
+        ", 4 ValueParts { numbers: [1, 256], bytes: [0], zeros: 0, recent: [9] }",
     );
     has_parts(
         &rt,
         alloc,
         1,
-        ", 2 ValueParts { numbers: [1], bytes: [9], zeros: 0 }",
+        ", 2 ValueParts { numbers: [1], bytes: [], zeros: 0, recent: [9] }",
     );
     has_parts(
         &rt,
         alloc,
         0,
-        ", 1 ValueParts { numbers: [], bytes: [9], zeros: 0 }",
+        ", 1 ValueParts { numbers: [], bytes: [], zeros: 0, recent: [9] }",
     );
 }
 
-/// Where values and zeros behind them first differ from others, and whether they are the same.
+/// How long the parts are that hold the numbers from one down to another, and the value at the place 100.
+fn lengths(
+    alloc: Global,
+    last: u64,
+    first: u64,
+) -> Result<(usize, usize, usize, Option<u64>), AllocError> {
+    let mut values = PackedValues::empty(alloc);
+    for value in (first..=last).rev() {
+        values.take(value)?;
+    }
+    let parts = values.parts();
+    Ok((
+        parts.numbers.len(),
+        parts.bytes.len(),
+        parts.recent.len(),
+        values.get(100),
+    ))
+}
+
+#[test]
+fn parts_of_long_values(rt: HostRuntime) {
+    let alloc = rt.alloc();
+    assert!(rt; lengths(alloc, 64, 1) == Ok((0, 0, 64, None)));
+    assert!(rt; lengths(alloc, 200, 1) == Ok((0, 192, 8, Some(100))));
+    assert!(rt; lengths(alloc, 320, 1) == Ok((128, 128, 64, Some(220))));
+}
+
+/// Where values first differ from others, and whether they are the same.
 fn apart(
     alloc: Global,
-    first: (&[u64], u64),
-    second: (&[u64], u64),
+    first: Taken<'_>,
+    second: Taken<'_>,
 ) -> Result<(Option<u64>, bool), AllocError> {
-    let first = values_of(alloc, first.0, first.1)?;
-    let second = values_of(alloc, second.0, second.1)?;
+    let first = values_of(alloc, first)?;
+    let second = values_of(alloc, second)?;
     Ok((first.first_apart(&second), first.is(&second)))
 }
 
@@ -84,12 +125,25 @@ fn values_beside_others(rt: HostRuntime) {
     let alloc = rt.alloc();
     let many = 1 << 40;
     let found = [
-        apart(alloc, (&[0, 0, 0], 0), (&[], 3)),
-        apart(alloc, (&[300], many), (&[300, 0, 0], many - 2)),
-        apart(alloc, (&[7], many), (&[7, 0, 8], many)),
-        apart(alloc, (&[7], many), (&[7], 4)),
+        apart(alloc, (&[1, 2], 0, &[]), (&[1, 2], 0, &[])),
+        apart(alloc, (&[1, 2], 0, &[]), (&[1], 0, &[])),
+        apart(alloc, (&[0, 0, 0], 0, &[]), (&[], 3, &[])),
+        apart(alloc, (&[300], many, &[]), (&[300, 0, 0], many - 2, &[])),
+        apart(alloc, (&[7], many, &[]), (&[7, 0, 8], many, &[])),
+        apart(alloc, (&[7], many, &[5]), (&[7], many, &[6])),
+        apart(alloc, (&[7], many, &[]), (&[7], 4, &[])),
+        apart(alloc, (&[0; 70], 0, &[8]), (&[0; 8], 1, &[0; 61])),
     ];
-    let wanted = [(None, true), (None, true), (Some(2), false), (None, false)];
+    let wanted = [
+        (None, true),
+        (None, false),
+        (None, true),
+        (None, true),
+        (Some(2), false),
+        (Some(many + 1), false),
+        (None, false),
+        (None, false),
+    ];
     for (i, found) in found.iter().enumerate() {
         assert!(rt; *found == Ok(wanted[i]), "{i}");
     }

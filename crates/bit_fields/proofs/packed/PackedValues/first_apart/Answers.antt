@@ -1,29 +1,17 @@
-use Rattle.std.proofs.Common.{◌≡◌, ◌+◌, length, min, max, sym, ◌∙◌, ap, arith, length-append}
-use Rattle.std.proofs.Math.ListN.{replicate}
-use Rattle.std.proofs.lemmas.List.{length-replicate}
-use Rattle.bit_fields.proofs.Unlike.{place_same, place_apart, rest_same, differ, agree}
+use Rattle.std.proofs.Common.{◌≡◌, ◌≤◌, ◌∙◌, length, min, take, drop, sym, ap, arith, length-append}
+use Rattle.bit_fields.specs.Packed.{first_apart}
+use Rattle.bit_fields.proofs.Unlike.{zeros_same, apart_before}
 use Rattle.bit_fields.proofs.packed.PackedValues.first_apart.Goals as goal
-
-pub returns-then-ne : goal.returns-then-ne
-returns-then-ne c =
-    let i = c.loop-place.place in
-    let a = c.args.self.now in
-    let b = c.args.other.now in
-    sym (c.loop-place.invariant ∙ place_apart i a b (omega arith) (omega arith) (λ e. differ c.get.result c.get-in-loop-place.result (sym c.ne.ensures ∙ c.if-ne.true) (c.get.ensures ∙ e ∙ sym c.get-in-loop-place.ensures)))
-
-pub loop-place-preserved : goal.loop-place-preserved
-loop-place-preserved c =
-    let i = c.loop-place.place in
-    let a = c.args.self.now in
-    let b = c.args.other.now in
-    c.loop-place.invariant ∙ place_same i a b (omega arith) (omega arith) (sym c.get.ensures ∙ agree c.get.result c.get-in-loop-place.result (sym c.ne.ensures ∙ c.if-ne.false) ∙ c.get-in-loop-place.ensures)
 
 pub returns : goal.returns
 returns c =
+    let a = c.args.self.now in
+    let b = c.args.other.now in
     let s = c.self.inside in
     let o = c.other.inside in
-    let i = c.loop-place.place in
-    let first : length c.args.self.now ≡ length s.numbers + s.zeros = sym (ap length c.self.view_is) ∙ length-append s.numbers (replicate s.zeros 0) ∙ ap (λ n. length s.numbers + n) (length-replicate s.zeros 0) in
-    let second : length c.args.other.now ≡ length o.numbers + o.zeros = sym (ap length c.other.view_is) ∙ length-append o.numbers (replicate o.zeros 0) ∙ ap (λ n. length o.numbers + n) (length-replicate o.zeros 0) in
-    let is : i ≡ min (max (length s.numbers) (length o.numbers)) (min (length s.numbers + s.zeros) (length o.numbers + o.zeros)) = omega arith in
-    sym (c.loop-place.invariant ∙ rw (← c.self.view_is, ← c.other.view_is) (rest_same i s.zeros o.zeros s.numbers o.numbers is))
+    let i = c.min-zeros.result in
+    let k = c.max-behind.result in
+    let le : min (length s.settled) (length o.settled) ≤ c.min-both.result = omega (arith, ap length c.self.view_is, ap length c.other.view_is, length-append s.settled (take s.held s.recent), length-append o.settled (take o.held o.recent)) in
+    let passed : first_apart i (drop i a) (drop i b) ≡ first_apart k (drop k a) (drop k b) = rw (← c.self.view_is, ← c.other.view_is) (zeros_same c.before_zeros.result c.before_zeros-2.result i k c.min-both.result s.settled (take s.held s.recent) o.settled (take o.held o.recent) c.before_zeros.ensures.zeros c.before_zeros-2.ensures.zeros (omega arith) (omega arith) le) in
+    apart_before c.apart_within-2.result (first_apart k (drop k a) (drop k b)) c.min-both.result a b (omega arith) c.apart_within-2.ensures.found c.apart_within-2.ensures.none
+    ∙ sym passed ∙ sym c.in_default.ensures.none

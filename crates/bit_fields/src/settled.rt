@@ -1,0 +1,294 @@
+//! Values in little memory, many at a time.
+
+ghost use Rattle.std.specs.Prelude.{◌≡◌, ◌↔◌, ◌+◌, ◌-◌, ◌<◌, ◌≤◌, ◌^◌, ℕ, List, [], ◌++◌, length, take, drop, OnOk, OnErr, IsTrue, slice_get, true, false};
+ghost use Rattle.std.proofs.Math.ListN.{replicate};
+
+use std::alloc::{AllocError, Global};
+use std::marker::Model;
+
+/// How many values are packed at once, at most.
+pub(crate) const BATCH: usize = 64;
+
+/// How many zeros and other values there may be, at most: so many that those of another batch can be counted too.
+const MOST: u64 = u64::MAX - BATCH as u64;
+
+/// How many numbers may be held by what has room for others; the memory of more is given back.
+const ROOM: usize = 65536;
+
+/// Numbers, of which those behind the last batch with one above 255 take a byte each, and the others eight.
+#[derive(Drop)]
+struct Numbers {
+    alloc: Global,
+    wide: Vec<u64>,
+    bytes: Vec<u8>,
+}
+
+impl Model for Numbers {
+    ghost use Rattle.std.specs.Prelude.{ℕ, List, ◌++◌};
+
+    ghost Value = { List ℕ };
+
+    ghost view = { λ n. n.wide.items ++ n.bytes.items };
+}
+
+/// Adds the numbers that bytes are.
+fn add_bytes(wide: &mut Vec<u64>, bytes: &[u8]) -> Result<(), AllocError>
+    ensures ok { OnOk result (wide.new.items ≡ wide.old.items ++ bytes.now) }
+    ensures err { OnErr result (take (length wide.old.items) wide.new.items ≡ wide.old.items) }
+{
+    for byte in bytes {
+        wide.push(u64::from(*byte))?;
+    }
+    Ok(())
+}
+
+/// Gives numbers of one byte eight.
+#[cold]
+fn widen(wide: &mut Vec<u64>, bytes: &mut Vec<u8>) -> Result<(), AllocError>
+    ensures same { wide.new.items ++ bytes.new.items ≡ wide.old.items ++ bytes.old.items }
+    ensures all { OnOk result (bytes.new.items ≡ []) }
+{
+    let count = wide.len();
+    if let Err(error) = add_bytes(wide, bytes) {
+        wide.truncate(count);
+        return Err(error);
+    }
+    bytes.clear();
+    Ok(())
+}
+
+/// Makes bytes of numbers, and answers whether each of them is one.
+fn narrow(numbers: &[u64], bytes: &mut [u8; BATCH]) -> bool
+    requires { length numbers.now ≤ 64 }
+    ensures { result ≡ true → take (length numbers.now) bytes.new ≡ numbers.now }
+{
+    for (place, number) in numbers.iter().enumerate() {
+        if *number > 255 {
+            return false;
+        }
+        bytes[place] = *number as u8;
+    }
+    true
+}
+
+impl Numbers {
+    /// No numbers.
+    fn new(alloc: Global) -> Numbers
+        ensures { result ≡ [] }
+    {
+        Numbers {
+            alloc,
+            wide: Vec::new(alloc),
+            bytes: Vec::new(alloc),
+        }
+    }
+
+    /// How many there are.
+    #[inline]
+    fn len(&self) -> u64
+        ensures { result ≡ length self.now }
+    {
+        self.wide.len() as u64 + self.bytes.len() as u64
+    }
+
+    /// Adds zeros until there are so many numbers.
+    fn fill(&mut self, count: u64) -> Result<(), AllocError>
+        requires { length self.old ≤ count }
+        ensures ok { OnOk result (self.new ≡ self.old ++ replicate (count - length self.old) 0) }
+        ensures err { OnErr result (self.new ≡ self.old) }
+    {
+        self.bytes.resize(count as usize - self.wide.len(), 0)
+    }
+
+    /// Adds numbers.
+    fn push_all(&mut self, numbers: &[u64]) -> Result<(), AllocError>
+        requires { length numbers.now ≤ 64 }
+        ensures ok { OnOk result (self.new ≡ self.old ++ numbers.now) }
+        ensures err { OnErr result (self.new ≡ self.old) }
+    {
+        let mut bytes = [0; BATCH];
+        if narrow(numbers, &mut bytes) {
+            return self.bytes.extend_from_slice(&bytes[..numbers.len()]);
+        }
+        if !self.bytes.is_empty() {
+            widen(&mut self.wide, &mut self.bytes)?;
+        }
+        self.wide.extend_from_slice(numbers)
+    }
+
+    /// The number at this place.
+    #[inline]
+    fn get(&self, place: u64) -> Option<u64>
+        ensures { result ≡ slice_get self.now place }
+    {
+        let place = place as usize;
+        match self.wide.get(place) {
+            Some(number) => Some(*number),
+            None => self
+                .bytes
+                .get(place - self.wide.len())
+                .map(|byte| u64::from(*byte)),
+        }
+    }
+
+    /// Drops those behind the first ones.
+    fn truncate(&mut self, count: u64)
+        ensures { self.new ≡ take count self.old }
+    {
+        let count = count as usize;
+        self.bytes.truncate(count.saturating_sub(self.wide.len()));
+        self.wide.truncate(count);
+    }
+
+    /// Drops all. The memory of many is given back.
+    fn clear(&mut self)
+        ensures { self.new ≡ [] }
+    {
+        if self.bytes.capacity() > ROOM || self.wide.capacity() > ROOM {
+            self.give_back();
+            return;
+        }
+        self.bytes.clear();
+        self.wide.clear();
+    }
+
+    /// Drops all, and gives their memory back.
+    #[cold]
+    #[inline(never)]
+    fn give_back(&mut self)
+        ensures { self.new ≡ [] }
+    {
+        self.bytes = Vec::new(self.alloc);
+        self.wide = Vec::new(self.alloc);
+    }
+}
+
+/// Values that were packed in batches: eight bytes for each one up to the last batch with one that is above 255, one for each
+/// behind it, and none for the zeros at the end that were added at once, which are counted.
+#[derive(Drop)]
+pub(crate) struct SettledValues {
+    numbers: Numbers,
+    /// How many values there are. Those that the numbers do not have are zeros.
+    count: u64,
+}
+
+impl Model for SettledValues {
+    ghost use Rattle.std.specs.Prelude.{ℕ, ◌+◌, ◌-◌, ◌^◌, ◌<◌, ◌≤◌, List, ◌++◌, length};
+    ghost use Rattle.std.proofs.Math.ListN.{replicate};
+
+    ghost Value = { List ℕ };
+
+    ghost view = { λ v. v.numbers ++ replicate (v.count - length v.numbers) 0 };
+
+    ghost invariant = { λ v. (length v.numbers ≤ v.count) × (v.count + 64 < 2 ^ 64) };
+}
+
+impl SettledValues {
+    /// No values. It takes no memory.
+    pub(crate) fn new(alloc: Global) -> SettledValues
+        ensures { result ≡ [] }
+    {
+        SettledValues {
+            numbers: Numbers::new(alloc),
+            count: 0,
+        }
+    }
+
+    /// How many values there are.
+    #[inline(always)]
+    pub(crate) fn len(&self) -> u64
+        ensures is { result ≡ length self.now }
+        ensures few { result + 64 < 2 ^ 64 }
+    {
+        self.count
+    }
+
+    /// How many there are before the zeros that are counted.
+    pub(crate) fn before_zeros(&self) -> u64
+        ensures few { result ≤ length self.now }
+        ensures zeros { drop result self.now ≡ replicate (length self.now - result) 0 }
+    {
+        self.numbers.len()
+    }
+
+    /// Those that are held in eight bytes each, those in a byte each, and how many zeros stand behind them.
+    #[inline]
+    pub(crate) fn parts(&self) -> (&[u64], &[u8], u64)
+        ensures { self.now ≡ result.0.now ++ result.1.now ++ replicate result.2 0 }
+    {
+        let zeros = self.count - self.numbers.len();
+        (
+            self.numbers.wide.as_slice(),
+            self.numbers.bytes.as_slice(),
+            zeros,
+        )
+    }
+
+    /// Whether these and others have the same parts.
+    pub(crate) fn has_parts_of(&self, other: &SettledValues) -> bool
+        ensures { result ≡ true → self.now ≡ other.now }
+    {
+        self.count == other.count
+            && self.numbers.bytes == other.numbers.bytes
+            && self.numbers.wide == other.numbers.wide
+    }
+
+    /// The value at this place, if there is one.
+    #[inline]
+    pub(crate) fn get(&self, place: u64) -> Option<u64>
+        ensures { result ≡ slice_get self.now place }
+    {
+        if place < self.numbers.len() {
+            return self.numbers.get(place);
+        }
+        if place < self.count { Some(0) } else { None }
+    }
+
+    /// Adds values. Where memory is refused, or there were too many to be counted then, these are what they were.
+    #[cold]
+    #[inline(never)]
+    pub(crate) fn add(&mut self, values: &[u64]) -> Result<(), AllocError>
+        requires { length values.now ≤ 64 }
+        ensures ok { OnOk result (self.new ≡ self.old ++ values.now) }
+        ensures err { OnErr result (self.new ≡ self.old) }
+    {
+        if self.count > MOST - values.len() as u64 {
+            return Err(AllocError);
+        }
+        self.numbers.fill(self.count)?;
+        self.numbers.push_all(values)?;
+        self.count = self.numbers.len();
+        Ok(())
+    }
+
+    /// Adds so many zeros, unless there were too many to be counted then, and answers whether it did.
+    pub(crate) fn add_zeros(&mut self, count: u64) -> bool
+        ensures yes { result ≡ true → self.new ≡ self.old ++ replicate count 0 }
+        ensures no { result ≡ false → self.new ≡ self.old }
+    {
+        if count > MOST - self.count {
+            return false;
+        }
+        self.count += count;
+        true
+    }
+
+    /// Drops those behind the first ones.
+    pub(crate) fn truncate(&mut self, count: u64)
+        ensures { self.new ≡ take count self.old }
+    {
+        self.numbers.truncate(count);
+        self.count = self.count.min(count);
+    }
+
+    /// Drops all. The memory of many is given back.
+    #[inline(always)]
+    pub(crate) fn clear(&mut self)
+        ensures { self.new ≡ [] }
+    {
+        if self.count > 0 {
+            self.numbers.clear();
+            self.count = 0;
+        }
+    }
+}
