@@ -39,20 +39,23 @@ impl Model for PackedValues {
     ghost invariant = { λ v. (length v.recent ≡ 64) × (v.held ≤ 64) };
 }
 
-/// Whether numbers are the same as others.
+/// Whether numbers are the same as others. Two are compared at a time.
 #[inline]
 fn are_same(first: &[u64], second: &[u64]) -> bool
     ensures { IsTrue result ↔ (first.now ≡ second.now) }
 {
-    if first.len() != second.len() {
+    let count = first.len();
+    if count != second.len() {
         return false;
     }
-    for (place, number) in first.iter().enumerate() {
-        if *number != second[place] {
+    let mut place = 0;
+    while count - place >= 2 {
+        if first[place] != second[place] || first[place + 1] != second[place + 1] {
             return false;
         }
+        place += 2;
     }
-    true
+    place == count || first[place] == second[place]
 }
 
 impl PackedValues {

@@ -141,6 +141,7 @@ impl Numbers {
     }
 
     /// Drops all. The memory of many is given back.
+    #[inline(never)]
     fn clear(&mut self)
         ensures { self.new ≡ [] }
     {
