@@ -1,4 +1,4 @@
--- Printing a text in three parts, or one part for each item of a list.
+-- Printing a text in three parts or four, or one part for each item of a list.
 use Rattle.std.proofs.Common.{◌≡◌, ℕ, suc, ◌+◌, ◌-◌, ◌*◌, ◌<◌, ◌≤◌, List, [], ◌∷◌, ◌++◌, length, get_or, drop, replicate, Result, Err, sym, ap, ◌∙◌, subst, arith, append_assoc}
 use Rattle.std.specs.Prelude.{codes, decimal, flat_map}
 use Rattle.std.proofs.lemmas.Grind.{flat_map-append}
@@ -13,7 +13,7 @@ use Rattle.bit_scan.specs.Printing.{Printing, Printed, Prints}
 use Rattle.bit_scan.proofs.Prints.{Goes, goes_starts, goes_as, goes_on, goes_wrong, goes_last, goes_ends}
 use Rattle.bit_scan.proofs.Reports.{drop_first}
 
--- ---- three parts
+-- ---- three parts, or four
 
 -- a text is these parts
 pub record Parts (whole a b c : List ℕ) : Type 0 where
@@ -31,8 +31,18 @@ behind_first whole a b c old now parts p = goes_on whole old a (b ++ c) old now 
 pub no_second : (whole a b c : List ℕ) (old now new : Printing) (fault : Fault) → Parts whole a b c → Printed a old now → Prints b now (Err fault) new → Prints whole old (Err fault) new
 no_second whole a b c old now new fault parts p q = goes_wrong whole old b c now new fault (behind_first whole a b c old now parts p) q
 
+behind_second : (whole a b c : List ℕ) (old now last : Printing) → Parts whole a b c → Printed a old now → Printed b now last → Goes whole old c last
+behind_second whole a b c old now last parts p q = goes_on whole old b c now last (behind_first whole a b c old now parts p) q
+
 pub third : (whole a b c : List ℕ) (old now last new : Printing) (r : Result (Unit {0}) Fault) → Parts whole a b c → Printed a old now → Printed b now last → Prints c last r new → Prints whole old r new
-third whole a b c old now last new r parts p q e = goes_last whole old c last r new (goes_on whole old b c now last (behind_first whole a b c old now parts p) q) e
+third whole a b c old now last new r parts p q e = goes_last whole old c last r new (behind_second whole a b c old now last parts p q) e
+
+-- where the third part is one and a fourth
+pub no_third : (whole a b c d : List ℕ) (old now last new : Printing) (fault : Fault) → Parts whole a b (c ++ d) → Printed a old now → Printed b now last → Prints c last (Err fault) new → Prints whole old (Err fault) new
+no_third whole a b c d old now last new fault parts p q e = goes_wrong whole old c d last new fault (behind_second whole a b (c ++ d) old now last parts p q) e
+
+pub fourth : (whole a b c d : List ℕ) (old now last more new : Printing) (r : Result (Unit {0}) Fault) → Parts whole a b (c ++ d) → Printed a old now → Printed b now last → Printed c last more → Prints d more r new → Prints whole old r new
+fourth whole a b c d old now last more new r parts p q e f = goes_last whole old d more r new (goes_on whole old c d last more (behind_second whole a b (c ++ d) old now last parts p q) e) f
 
 -- ---- a part for each item
 
@@ -49,8 +59,11 @@ abbrev pub value_text : ℕ → List ℕ
 value_text v = 32 ∷ decimal v
 
 -- values in their parts
-pub values_parts : (vs a b : List ℕ) (zeros : ℕ) → vs ≡ a ++ b ++ replicate zeros 0 → Parts (values_text vs) (values_text a) (values_text b) (values_text (replicate zeros 0))
-values_parts vs a b zeros is = record { are = ap values_text is ∙ flat_map-append value_text (a ++ b) (replicate zeros 0) ∙ ap (λ (s : List ℕ). s ++ values_text (replicate zeros 0)) (flat_map-append value_text a b) ∙ append_assoc (values_text a) (values_text b) (values_text (replicate zeros 0)) }
+pub values_parts : (vs a b : List ℕ) (zeros : ℕ) (d : List ℕ) → vs ≡ a ++ b ++ replicate zeros 0 ++ d → Parts (values_text vs) (values_text a) (values_text b) (values_text (replicate zeros 0) ++ values_text d)
+values_parts vs a b zeros d is =
+    let text = λ (l : List ℕ). values_text l in
+    let c = replicate zeros 0 in
+    record { are = ap text is ∙ flat_map-append value_text (a ++ b ++ c) d ∙ ap (λ (s : List ℕ). s ++ text d) (flat_map-append value_text (a ++ b) c ∙ ap (λ (s : List ℕ). s ++ text c) (flat_map-append value_text a b)) ∙ append_assoc (text a ++ text b) (text c) (text d) ∙ append_assoc (text a) (text b) (text c ++ text d) }
 
 zeros_next : (count i : ℕ) → i < count → replicate {A = ℕ} (count - i) 0 ≡ 0 ∷ replicate (count - (i + 1)) 0
 zeros_next count i lt = ap (λ (n : ℕ). replicate {A = ℕ} n 0) one_more

@@ -55,7 +55,8 @@ pub(crate) fn write_values<K: Sink>(
     let parts = values.parts();
     write_numbers(printer, parts.numbers)?;
     write_bytes(printer, parts.bytes)?;
-    write_zeros(printer, parts.zeros)
+    write_zeros(printer, parts.zeros)?;
+    write_numbers(printer, parts.recent)
 }
 
 /// Writes the line of a record, piece by piece.
