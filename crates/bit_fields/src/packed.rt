@@ -1,6 +1,6 @@
 //! Values in little memory.
 
-ghost use Rattle.std.specs.Prelude.{◌≡◌, ◌↔◌, ◌≤◌, ℕ, List, [], ◌++◌, length, take, drop, IfSome, IfNone, IsTrue, slice_get, true, false};
+ghost use Rattle.std.specs.Prelude.{◌≡◌, ◌↔◌, ◌≤◌, [], ◌++◌, length, drop, IfSome, IfNone, IsTrue, slice_get};
 ghost use Rattle.std.proofs.Math.ListN.{replicate};
 ghost use Rattle.bit_fields.specs.Packed.{first_apart};
 

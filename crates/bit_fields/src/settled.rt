@@ -1,6 +1,6 @@
 //! Values in little memory, many at a time.
 
-ghost use Rattle.std.specs.Prelude.{◌≡◌, ◌↔◌, ◌+◌, ◌-◌, ◌<◌, ◌≤◌, ◌^◌, ℕ, List, [], ◌++◌, length, take, drop, OnOk, OnErr, IsTrue, slice_get, true, false};
+ghost use Rattle.std.specs.Prelude.{◌≡◌, ◌+◌, ◌-◌, ◌<◌, ◌≤◌, ◌^◌, [], ◌++◌, length, take, drop, OnOk, OnErr, slice_get, true, false};
 ghost use Rattle.std.proofs.Math.ListN.{replicate};
 
 use std::alloc::{AllocError, Global};

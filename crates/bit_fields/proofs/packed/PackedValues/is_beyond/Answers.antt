@@ -1,4 +1,4 @@
-use Rattle.std.proofs.Common.{◌≡◌, ◌++◌, take, ap, sym, ◌∙◌, arith}
+use Rattle.std.proofs.Common.{◌≡◌, ◌++◌, take, ap, arith}
 use Rattle.std.proofs.lemmas.List.{append_cancel_left}
 use Rattle.bit_fields.proofs.Unlike.{same_if_none}
 use Rattle.bit_fields.proofs.packed.PackedValues.is_beyond.Goals as goal
