@@ -1,6 +1,8 @@
 use crate::read_unabbreviated;
 use crate::reading_tests::{in_block, open_block, record_of};
-use bit_fields::{BitReader, Fault, Limits, ReadSource, SliceSource, ValueCount, ValueTaker};
+use bit_fields::{
+    BitReader, Fault, Limits, ReadSource, SliceSource, Source, ValueCount, ValueTaker,
+};
 use std::alloc::Global;
 use std::io;
 use std::io::Read;
@@ -29,6 +31,14 @@ const BLOB: [u8; 80] = [
     0xFC, 0x57, 0xB2, 0x0D, 0x68, 0xC3, 0x1E, 0x79, 0xD4, 0x2F, 0x8A, 0, 0,
 ];
 
+/// An array of 38 numbers in chunks of six bits, most of them short, and one of thirteen chunks.
+const NUMBERS: [u8; 68] = [
+    0x1A, 3, 0x8C, 0x0C, 0xCD, 0, 0x28, 0x94, 0x87, 0xCA, 0xBC, 1, 0x69, 0xA4, 0x0B, 0xFD, 0xDE,
+    0x30, 0xB0, 0xC7, 0xA0, 0x2F, 3, 0x12, 0x0D, 0x56, 0x35, 0x90, 0xD9, 0x20, 0x77, 0x83, 0xFF,
+    0xFF, 0xFF, 0xFF, 0xFF, 0xFF, 0xFF, 0xFF, 0xFF, 7, 0xA8, 3, 0x35, 0xF8, 0xA8, 0xC4, 0x0F, 0xE6,
+    0, 0x0D, 0x3A, 0xE9, 0xE0, 0x83, 0x38, 0x80, 0x57, 0x52, 0x28, 0x40, 0x10, 4, 0x41, 0x10, 4, 3,
+];
+
 /// A record 5 that is not abbreviated, with the values 1, 40 and 2.
 pub(super) const PLAIN: [u8; 5] = [0x2B, 0x86, 0, 0x0D, 4];
 
@@ -49,54 +59,67 @@ impl<'a> Read for Few<'a> {
 /// What a record answers, and whether the reader has failed after a fault; then how many values it has.
 type Told = ((Result<(u64, u64), Fault>, bool), u64);
 
-/// A record that is read into a list, from a reader that gives so many bytes at a time.
-fn kept_record(alloc: Global, rest: &[u8], most: usize) -> Told {
+/// A record that is read into a list.
+fn kept_record<S: Source + Drop>(alloc: Global, source: S) -> Told {
     let mut values: Vec<u64> = Vec::new(alloc);
-    let source = ReadSource::new(Few { rest, most });
     let answer = record_of(alloc, source, 99, &mut values);
     (answer, values.count())
 }
 
 /// The same, where the values are counted.
-fn counted_record(alloc: Global, rest: &[u8], most: usize) -> Told {
+fn counted_record<S: Source + Drop>(alloc: Global, source: S) -> Told {
     let mut values = ValueCount::new();
-    let source = ReadSource::new(Few { rest, most });
     let answer = record_of(alloc, source, 99, &mut values);
     (answer, values.count())
 }
 
-/// Whether both are the same for each front of a record, however few bytes come at a time.
+/// What a record is, where it is the same both ways, from a reader that gives so many bytes at a time; from a slice for 0.
+fn record_told(alloc: Global, rest: &[u8], most: usize) -> Option<Told> {
+    let (kept, counted) = if most == 0 {
+        (
+            kept_record(alloc, SliceSource::new(rest)),
+            counted_record(alloc, SliceSource::new(rest)),
+        )
+    } else {
+        (
+            kept_record(alloc, ReadSource::new(Few { rest, most })),
+            counted_record(alloc, ReadSource::new(Few { rest, most })),
+        )
+    };
+    if kept == counted { Some(kept) } else { None }
+}
+
+/// Whether each front of a record is the same both ways, however few bytes come at a time.
 fn same_where_cut(alloc: Global, bytes: &[u8]) -> bool {
     let mut same = true;
     for end in 0..bytes.len() {
         let front = &bytes[..end];
-        let one = kept_record(alloc, front, 1) == counted_record(alloc, front, 1);
-        let three = kept_record(alloc, front, 3) == counted_record(alloc, front, 3);
-        same = same
-            && one
-            && three
-            && kept_record(alloc, front, 64) == counted_record(alloc, front, 64);
+        for most in [0, 1, 3, 64] {
+            same = same && record_told(alloc, front, most).is_some();
+        }
     }
     same
 }
 
 /// Blocks with a record: the code, the bit behind it, and how many values it has.
-static ROWS: [(&[u8], (u64, u64), u64); 3] = [
+static ROWS: [(&[u8], (u64, u64), u64); 4] = [
     (&FIELDS, (1, 421), 40),
     (&CHARACTERS, (1, 406), 45),
     (&BLOB, (1, 736), 70),
+    (&NUMBERS, (1, 639), 38),
 ];
 
 #[test]
 fn cut_records_are_counted_as_they_are_kept(rt: HostRuntime) -> Result<(), Fail> {
     for (body, record, count) in &ROWS {
         let bytes = in_block(rt.alloc(), body)?;
-        let whole = counted_record(rt.alloc(), &bytes, 64);
-        let wanted = ((Ok(*record), true), *count);
-        assert!(rt;
-            whole == wanted && kept_record(rt.alloc(), &bytes, 64) == wanted,
-            "{body:?}"
-        );
+        let wanted = Some(((Ok(*record), true), *count));
+        for most in [0, 1, 3, 64] {
+            assert!(rt;
+                record_told(rt.alloc(), &bytes, most) == wanted,
+                "{most} {body:?}"
+            );
+        }
         assert!(rt; same_where_cut(rt.alloc(), &bytes), "{body:?}");
     }
     Ok(())

@@ -9,7 +9,7 @@ ghost use Rattle.bit_grammar.specs.declared.op.Op.{Op};
 ghost use Rattle.bit_grammar.specs.declared.op.Op.TheVariants.{Array, Blob};
 ghost use Rattle.bit_fields.specs.Ahead.{reader_at};
 ghost use Rattle.bit_fields.specs.Reader.{Takes, failed_reader};
-ghost use Rattle.bit_abbrev.specs.Values.{Adds, AddsAll, Gains};
+ghost use Rattle.bit_abbrev.specs.Values.{Adds, AddsAll, Gains, PassesValues};
 
 use bit_fields::{Ahead, BitReader, Fault, Source, ValueTaker};
 use bit_grammar::{Op, Reason};
@@ -63,31 +63,11 @@ pub(crate) fn pass_fields<V: ValueTaker>(values: &mut V, count: u64) -> bool
     count <= MOST_SKIPPED && values.pass(count)
 }
 
-/// Reads so many numbers in chunks of n bits.
-#[inline(always)]
-pub(crate) fn read_vbrs<S: Source, V: ValueTaker>(
-    reader: &mut BitReader<S>,
-    count: u64,
-    n: u32,
-    values: &mut V,
-) -> Result<(), Fault>
-    requires some { 2 ≤ n }
-    requires few { n ≤ 32 }
-    requires live { reader.old.live ≡ true }
-    ensures { Gains V.took values.old values.new
-        (AddsAll (vbr n) count reader.old result reader.new) }
-{
-    for _ in 0..count {
-        let value = reader.vbr(n)?;
-        take(reader, values, value)?;
-    }
-    Ok(())
-}
-
 /// Reads fields of n bits from what is ahead, at most so many, up to the first one that is not whole or whose value is not
-/// taken: how many, and what is then ahead. It is kept out of the callers, and has what is ahead for itself, in registers.
+/// taken: how many, and what is then ahead. Each such loop is kept out of the callers, and has what is ahead for itself, in
+/// registers.
 #[inline(never)]
-fn glance_some<'a, V: ValueTaker>(
+fn glance_fields<'a, V: ValueTaker>(
     ahead: Ahead<'a>,
     most: u64,
     n: u32,
@@ -114,29 +94,154 @@ fn glance_some<'a, V: ValueTaker>(
     (most, ahead)
 }
 
-/// Reads fields of n bits that lie in memory, at most so many: how many.
-fn read_near<S: Source, V: ValueTaker>(
-    reader: &mut BitReader<S>,
+/// Reads numbers in chunks of n bits from what is ahead, at most so many, up to the first one that is not to be had or is not
+/// taken: how many, and what is then ahead.
+#[inline(never)]
+fn keep_numbers<'a, V: ValueTaker>(
+    ahead: Ahead<'a>,
     most: u64,
     n: u32,
     values: &mut V,
-) -> Result<u64, Fault>
-    requires some { 0 < n }
+) -> (u64, Ahead<'a>)
+    requires some { 2 ≤ n }
     requires few { n ≤ 32 }
+    ensures glimpsed { Gains V.took values.old values.new
+        (AddsAll (vbr n) result.0 (reader_at ahead.entry) (Ok tt) (reader_at result.1)) }
+    ensures most { result.0 ≤ most }
+    ensures moves { ahead.entry.position ≤ result.1.position }
+{
+    let mut ahead = ahead;
+    for done in 0..most {
+        let mut next = ahead.copy();
+        let Some(value) = next.vbr(n) else {
+            return (done, ahead);
+        };
+        let Ok(()) = values.take(value) else {
+            return (done, ahead);
+        };
+        ahead = next;
+    }
+    (most, ahead)
+}
+
+/// Passes over numbers in chunks of n bits in what is ahead, at most so many, up to the first one that is not to be had: how
+/// many, and what is then ahead.
+#[inline(never)]
+fn pass_numbers(ahead: Ahead<'_>, most: u64, n: u32) -> (u64, Ahead<'_>)
+    requires some { 2 ≤ n }
+    requires few { n ≤ 32 }
+    ensures passed { PassesValues (vbr n) result.0 (reader_at ahead.entry) (reader_at result.1) }
+    ensures most { result.0 ≤ most }
+    ensures moves { ahead.entry.position ≤ result.1.position }
+{
+    let mut ahead = ahead;
+    for done in 0..most {
+        let mut next = ahead.copy();
+        let Some(_) = next.pass_vbr(n) else {
+            return (done, ahead);
+        };
+        ahead = next;
+    }
+    (most, ahead)
+}
+
+/// Reads such numbers, or passes over them where nobody looks at them. Those are taken once it is known how many they are.
+fn glance_numbers<'a, V: ValueTaker>(
+    ahead: Ahead<'a>,
+    most: u64,
+    n: u32,
+    values: &mut V,
+) -> (u64, Ahead<'a>)
+    requires some { 2 ≤ n }
+    requires few { n ≤ 32 }
+    ensures glimpsed { Gains V.took values.old values.new
+        (AddsAll (vbr n) result.0 (reader_at ahead.entry) (Ok tt) (reader_at result.1)) }
+    ensures most { result.0 ≤ most }
+    ensures moves { ahead.entry.position ≤ result.1.position }
+{
+    if !values.pass(0) {
+        return keep_numbers(ahead, most, n, values);
+    }
+    let (count, behind) = pass_numbers(ahead.copy(), most, n);
+    if values.pass(count) {
+        (count, behind)
+    } else {
+        (0, ahead)
+    }
+}
+
+/// Reads fields of an operand from what is ahead, at most so many: how many, and what is then ahead.
+#[inline(always)]
+fn glance_some<'a, V: ValueTaker>(
+    ahead: Ahead<'a>,
+    most: u64,
+    element: Op,
+    values: &mut V,
+) -> (u64, Ahead<'a>)
+    requires { HasLawfulValue element }
+    ensures glimpsed { Gains V.took values.old values.new
+        (AddsAll (scalar element) result.0 (reader_at ahead.entry) (Ok tt) (reader_at result.1)) }
+    ensures most { result.0 ≤ most }
+    ensures moves { ahead.entry.position ≤ result.1.position }
+{
+    match element {
+        Op::Fixed(0) | Op::Vbr(0) => (0, ahead),
+        Op::Fixed(width) => glance_fields(ahead, most, u32::from(width), values),
+        Op::Vbr(width) => glance_numbers(ahead, most, u32::from(width), values),
+        Op::Literal(_) | Op::Array | Op::Blob | Op::Char6 => (0, ahead),
+    }
+}
+
+/// Reads fields of an operand that lie in memory, at most so many: how many.
+fn read_near<S: Source, V: ValueTaker>(
+    reader: &mut BitReader<S>,
+    most: u64,
+    element: Op,
+    values: &mut V,
+) -> Result<u64, Fault>
+    requires element { HasLawfulValue element }
     requires live { reader.old.live ≡ true }
     ensures ok { IfOk result (λ count. Gains V.took values.old values.new
-        (AddsAll (fixed n) count reader.old (Ok tt) reader.new)) }
+        (AddsAll (scalar element) count reader.old (Ok tt) reader.new)) }
     ensures most { IfOk result (λ count. count ≤ most) }
     ensures live { OnOk result (reader.new.live ≡ true) }
     ensures err { IfErr result (λ fault. Gains V.took values.old values.new
-        (AddsAll (fixed n) most reader.old (Err fault) reader.new)) }
+        (AddsAll (scalar element) most reader.old (Err fault) reader.new)) }
 {
     let ahead = Ahead::new(reader.sight()?);
     let first = ahead.position();
-    let (count, behind) = glance_some(ahead, most, n, values);
+    let (count, behind) = glance_some(ahead, most, element, values);
     let after = behind.position();
     reader.catch_up(after - first)?;
     Ok(count)
+}
+
+/// Reads so many numbers in chunks of n bits. Behind the first one those that lie in memory are read there.
+#[inline(always)]
+pub(crate) fn read_vbrs<S: Source, V: ValueTaker>(
+    reader: &mut BitReader<S>,
+    count: u64,
+    n: u8,
+    values: &mut V,
+) -> Result<(), Fault>
+    requires some { 2 ≤ n }
+    requires few { n ≤ 32 }
+    requires live { reader.old.live ≡ true }
+    ensures { Gains V.took values.old values.new
+        (AddsAll (vbr n) count reader.old result reader.new) }
+{
+    let mut done = 0;
+    while done < count {
+        if done > 0 {
+            done += read_near(reader, count - done, Op::Vbr(n), values)?;
+        }
+        if done < count {
+            let value = reader.vbr(u32::from(n))?;
+            take(reader, values, value)?;
+            done += 1;
+        }
+    }
+    Ok(())
 }
 
 /// Reads so many fields of n bits, or skips them from where on nobody looks at them. Behind the first one those that lie in
@@ -144,7 +249,7 @@ fn read_near<S: Source, V: ValueTaker>(
 fn read_fixed<S: Source, V: ValueTaker>(
     reader: &mut BitReader<S>,
     count: u64,
-    n: u32,
+    n: u8,
     values: &mut V,
 ) -> Result<(), Fault>
     requires some { 0 < n }
@@ -156,13 +261,13 @@ fn read_fixed<S: Source, V: ValueTaker>(
     let mut done = 0;
     while done < count {
         if pass_fields(values, count - done) {
-            return reader.skip_fixed(count - done, n);
+            return reader.skip_fixed(count - done, u32::from(n));
         }
         if done > 0 {
-            done += read_near(reader, count - done, n, values)?;
+            done += read_near(reader, count - done, Op::Fixed(n), values)?;
         }
         if done < count {
-            let value = reader.fixed(n)?;
+            let value = reader.fixed(u32::from(n))?;
             take(reader, values, value)?;
             done += 1;
         }
@@ -226,9 +331,9 @@ fn read_elements<S: Source, V: ValueTaker>(
     match element {
         Op::Fixed(0) => add_zeros(reader, count, values),
         Op::Vbr(0) => add_zeros(reader, count, values),
-        Op::Fixed(width) => read_fixed(reader, count, u32::from(width), values),
+        Op::Fixed(width) => read_fixed(reader, count, width, values),
         Op::Vbr(6) => read_vbrs(reader, count, 6, values),
-        Op::Vbr(width) => read_vbrs(reader, count, u32::from(width), values),
+        Op::Vbr(width) => read_vbrs(reader, count, width, values),
         Op::Char6 => read_characters(reader, count, values),
         Op::Literal(_) | Op::Array | Op::Blob => unreachable!(),
     }

@@ -13,7 +13,7 @@ returns-in-Fixed-eq0 g c = λ before t.
 
 pub returns-in-Fixed : goal.returns-in-Fixed
 unfolding scalar
-returns-in-Fixed g c = rw c.in-Fixed.is (rw c.from.ensures at c.read_fixed.ensures)
+returns-in-Fixed g c = rw c.in-Fixed.is c.read_fixed.ensures
 
 pub returns-in-Vbr-eq0 : goal.returns-in-Vbr-eq0
 unfolding scalar vbr
@@ -29,7 +29,7 @@ returns-in-Vbr-eq6 g c =
 
 pub returns-in-Vbr : goal.returns-in-Vbr
 unfolding scalar
-returns-in-Vbr g c = rw c.in-Vbr.is (rw c.from-in-Vbr.ensures at c.read_vbrs-in-Vbr.ensures)
+returns-in-Vbr g c = rw c.in-Vbr.is c.read_vbrs-in-Vbr.ensures
 
 pub returns-in-Char6 : goal.returns-in-Char6
 unfolding scalar

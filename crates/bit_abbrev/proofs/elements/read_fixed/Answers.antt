@@ -1,9 +1,10 @@
 use Rattle.std.proofs.Common.{◌-◌, arith}
 use Rattle.std.proofs.lemmas.Result.{err_from_is_err_and}
 use Rattle.bit_grammar.specs.Fields.{fixed}
+use Rattle.bit_grammar.specs.Record.{scalar}
 use Rattle.bit_fields.specs.Inside.{numbers}
 use Rattle.bit_abbrev.specs.Values.{Has}
-use Rattle.bit_abbrev.proofs.Several.{far_goes_by}
+use Rattle.bit_abbrev.proofs.Several.{far_goes_by, far_fails_by}
 use Rattle.bit_abbrev.proofs.Taking.{SoFar, passed_behind, length-numbers, far_ends, far_fails, far_goes_on}
 use Rattle.bit_abbrev.proofs.elements.read_fixed.Goals as goal
 use Rattle.bit_abbrev.proofs.elements.read_fixed.Goals.{then-done-gt0+in_ok-done, else-done-gt0}
@@ -13,18 +14,26 @@ returns-then-pass_fields g c = λ before t.
     let left = c.args.count - c.loop-done.done in
     let others = numbers c.args.n left c.loop-done.reader.left in
     let many = length-numbers c.args.n left c.loop-done.reader.left in
-    passed_behind g.V.ValueTaker.took c.loop-done.values c.pass_fields.new.values (fixed c.args.n) c.args.count c.args.reader.now before c.loop-done.done c.loop-done.reader others c.skip_fixed.result c.skip_fixed.new.self c.loop-done-test.true (c.loop-done.invariant.gains before t) (λ values took. c.pass_fields.ensures.yes c.if-pass_fields.true values others took many) many c.skip_fixed.ensures.takes
+    passed_behind g.V.ValueTaker.took c.loop-done.values c.pass_fields.new.values (fixed c.args.n) c.args.count c.args.reader.now before c.loop-done.done c.loop-done.reader others c.skip_fixed.result c.skip_fixed.new.self c.loop-done-test.true (c.loop-done.invariant.gains before t) (λ values took. c.pass_fields.ensures.yes c.if-pass_fields.true values others took many) many (rw c.from.ensures at c.skip_fixed.ensures.takes)
+
+pub returns-in_err-done : goal.returns-in_err-done
+unfolding scalar
+returns-in_err-done g c = λ before t.
+    let failed = err_from_is_err_and c.from_residual.result c.from_residual.ensures.1 in
+    rw (failed.1, failed.2) (far_fails_by g.V.ValueTaker.took c.pass_fields.new.values c.read_near.new.values (fixed c.args.n) c.args.count c.args.reader.now before c.loop-done.done c.loop-done.reader c.in_err-done.field-0.0 c.read_near.new.reader (let h = c.loop-done.invariant.gains before t in (h.0, c.pass_fields.ensures.no c.if-pass_fields.false h.0 h.1, h.2)) c.in_err-done.ensures.err)
 
 pub returns-in_err-value : goal.returns-in_err-value
+unfolding scalar
 returns-in_err-value g c = λ before t.
     let failed = err_from_is_err_and c.from_residual-in_err-value.result c.from_residual-in_err-value.ensures.1 in
     let h : Has g.V.ValueTaker.took c.if-done-gt0.values (SoFar (fixed c.args.n) c.args.count c.args.reader.now c.if-done-gt0.done c.if-done-gt0.reader before) = elim c.if-done-gt0.branch [
       | then-done-gt0+in_ok-done w ↦ rw (w.reader-is, w.values-is, w.done-is) (far_goes_by g.V.ValueTaker.took c.pass_fields.new.values w.read_near.new.values (fixed c.args.n) c.args.count c.args.reader.now before c.loop-done.done c.loop-done.reader w.in_ok-done.field-0 w.read_near.new.reader w.in_ok-done.ensures.most (let h = c.loop-done.invariant.gains before t in (h.0, c.pass_fields.ensures.no c.if-pass_fields.false h.0 h.1, h.2)) w.in_ok-done.ensures.ok)
       | else-done-gt0 w ↦ rw (w.reader-is, w.values-is, w.done-is) (let h = c.loop-done.invariant.gains before t in (h.0, c.pass_fields.ensures.no c.if-pass_fields.false h.0 h.1, h.2))
     ] in
-    rw (failed.1, failed.2) (far_fails g.V.ValueTaker.took c.if-done-gt0.values (fixed c.args.n) c.args.count c.args.reader.now before c.if-done-gt0.done c.if-done-gt0.reader c.in_err-value.field-0.0 c.fixed.new.self c.if-done-count.true h c.in_err-value.ensures.takes)
+    rw (failed.1, failed.2) (far_fails g.V.ValueTaker.took c.if-done-gt0.values (fixed c.args.n) c.args.count c.args.reader.now before c.if-done-gt0.done c.if-done-gt0.reader c.in_err-value.field-0.0 c.fixed.new.self c.if-done-count.true h (rw c.from-then-done-count.ensures at c.in_err-value.ensures.takes))
 
 pub loop-done-preserved-then-done-count : goal.loop-done-preserved-then-done-count
+unfolding scalar
 loop-done-preserved-then-done-count g c = record {
   most = omega arith;
   live = rw c.in_ok-take.ensures.ok.0 c.in_ok-value.ensures.takes.live;
@@ -33,10 +42,11 @@ loop-done-preserved-then-done-count g c = record {
         | then-done-gt0+in_ok-done w ↦ rw (w.reader-is, w.values-is, w.done-is) (far_goes_by g.V.ValueTaker.took c.pass_fields.new.values w.read_near.new.values (fixed c.args.n) c.args.count c.args.reader.now before c.loop-done.done c.loop-done.reader w.in_ok-done.field-0 w.read_near.new.reader w.in_ok-done.ensures.most (let h = c.loop-done.invariant.gains before t in (h.0, c.pass_fields.ensures.no c.if-pass_fields.false h.0 h.1, h.2)) w.in_ok-done.ensures.ok)
         | else-done-gt0 w ↦ rw (w.reader-is, w.values-is, w.done-is) (let h = c.loop-done.invariant.gains before t in (h.0, c.pass_fields.ensures.no c.if-pass_fields.false h.0 h.1, h.2))
       ] in
-      rw c.in_ok-take.ensures.ok.0 (far_goes_on g.V.ValueTaker.took c.if-done-gt0.values c.take.new.values (fixed c.args.n) c.args.count c.args.reader.now before c.if-done-gt0.done c.if-done-gt0.reader c.in_ok-value.value c.fixed.new.self c.if-done-count.true h c.in_ok-value.ensures.takes c.in_ok-take.ensures.ok.1);
+      rw c.in_ok-take.ensures.ok.0 (far_goes_on g.V.ValueTaker.took c.if-done-gt0.values c.take.new.values (fixed c.args.n) c.args.count c.args.reader.now before c.if-done-gt0.done c.if-done-gt0.reader c.in_ok-value.value c.fixed.new.self c.if-done-count.true h (rw c.from-then-done-count.ensures at c.in_ok-value.ensures.takes) c.in_ok-take.ensures.ok.1);
 }
 
 pub loop-done-preserved : goal.loop-done-preserved
+unfolding scalar
 loop-done-preserved g c = elim c.if-done-gt0.branch [
   | then-done-gt0+in_ok-done w ↦ rw (w.reader-is, w.values-is, w.done-is) (record {
     most = omega (arith, w.in_ok-done.ensures.most, c.loop-done.invariant.most);

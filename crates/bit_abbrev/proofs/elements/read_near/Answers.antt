@@ -1,6 +1,6 @@
 use Rattle.std.proofs.lemmas.Result.{err_from_is_err_and}
 use Rattle.bit_grammar.specs.Grammar.{repeat}
-use Rattle.bit_grammar.specs.Fields.{fixed}
+use Rattle.bit_grammar.specs.Record.{scalar}
 use Rattle.bit_fields.specs.Ahead.{reader_at}
 use Rattle.bit_fields.proofs.Glimpses.{took_glimpsed, shown_caught_up, shown_not_caught_up}
 use Rattle.bit_abbrev.proofs.Several.{some_added, as_added}
@@ -14,8 +14,8 @@ returns-in_err-catch_up-clause-err g c =
     let shows = rw c.in_ok-sight.was at c.sight.follows.holds-at-none in
     let here = rw c.new-ahead.ensures at c.position-first.ensures in
     let missed = rw (c.position-after.ensures, here) at c.in_err-catch_up.ensures.takes in
-    rw (failed.1, failed.2) (λ before t. some_added g.V.ValueTaker.took c.glance_some-count.new.values (fixed c.args.n) c.glance_some-count.result.0 c.args.most (reader_at c.new-ahead.result) (reader_at c.glance_some-count.result.1) c.args.reader.now c.in_err-catch_up.field-0.0 c.catch_up.new.self before (c.glance_some-count.ensures.glimpsed before t)
-    (λ values took. shown_not_caught_up (repeat c.glance_some-count.result.0 (fixed c.args.n)) c.args.reader.now sight values c.glance_some-count.result.1 b c.in_err-catch_up.field-0.0 c.catch_up.new.self (repeat c.args.most (fixed c.args.n)) shows (rw c.new-ahead.ensures at (took_glimpsed (repeat c.glance_some-count.result.0 (fixed c.args.n)) c.new-ahead.result values c.glance_some-count.result.1 took)) missed))
+    rw (failed.1, failed.2) (λ before t. some_added g.V.ValueTaker.took c.glance_some-count.new.values (scalar c.args.element) c.glance_some-count.result.0 c.args.most (reader_at c.new-ahead.result) (reader_at c.glance_some-count.result.1) c.args.reader.now c.in_err-catch_up.field-0.0 c.catch_up.new.self before (c.glance_some-count.ensures.glimpsed before t)
+    (λ values took. shown_not_caught_up (repeat c.glance_some-count.result.0 (scalar c.args.element)) c.args.reader.now sight values c.glance_some-count.result.1 b c.in_err-catch_up.field-0.0 c.catch_up.new.self (repeat c.args.most (scalar c.args.element)) shows (rw c.new-ahead.ensures at (took_glimpsed (repeat c.glance_some-count.result.0 (scalar c.args.element)) c.new-ahead.result values c.glance_some-count.result.1 took)) missed))
 
 pub returns-clause-ok : goal.returns-clause-ok
 returns-clause-ok g c = λ before t.
@@ -24,5 +24,5 @@ returns-clause-ok g c = λ before t.
     let shows = rw c.in_ok-sight.was at c.sight.follows.holds-at-none in
     let here = rw c.new-ahead.ensures at c.position-first.ensures in
     let took_all = rw (c.position-after.ensures, here) at c.in_ok-catch_up.ensures.takes in
-    as_added g.V.ValueTaker.took c.glance_some-count.new.values (fixed c.args.n) c.glance_some-count.result.0 (reader_at c.new-ahead.result) (reader_at c.glance_some-count.result.1) c.args.reader.now c.catch_up.new.self before (c.glance_some-count.ensures.glimpsed before t)
-    (λ values took. shown_caught_up (repeat c.glance_some-count.result.0 (fixed c.args.n)) c.args.reader.now sight values c.glance_some-count.result.1 b c.catch_up.new.self shows (rw c.new-ahead.ensures at (took_glimpsed (repeat c.glance_some-count.result.0 (fixed c.args.n)) c.new-ahead.result values c.glance_some-count.result.1 took)) took_all)
+    as_added g.V.ValueTaker.took c.glance_some-count.new.values (scalar c.args.element) c.glance_some-count.result.0 (reader_at c.new-ahead.result) (reader_at c.glance_some-count.result.1) c.args.reader.now c.catch_up.new.self before (c.glance_some-count.ensures.glimpsed before t)
+    (λ values took. shown_caught_up (repeat c.glance_some-count.result.0 (scalar c.args.element)) c.args.reader.now sight values c.glance_some-count.result.1 b c.catch_up.new.self shows (rw c.new-ahead.ensures at (took_glimpsed (repeat c.glance_some-count.result.0 (scalar c.args.element)) c.new-ahead.result values c.glance_some-count.result.1 took)) took_all)

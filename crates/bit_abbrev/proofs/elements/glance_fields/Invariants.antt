@@ -3,7 +3,7 @@ use Rattle.bit_grammar.specs.Fields.{fixed}
 use Rattle.bit_fields.specs.Ahead.{reader_at}
 use Rattle.bit_abbrev.specs.Values.{Gains}
 use Rattle.bit_abbrev.proofs.Taking.{SoFar}
-use Rattle.bit_abbrev.proofs.elements.glance_some.Given as goal
+use Rattle.bit_abbrev.proofs.elements.glance_fields.Given as goal
 
 abbrev pub invariant-loop-done : goal.invariant-loop-done
 invariant-loop-done g l = record {
