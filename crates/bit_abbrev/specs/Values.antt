@@ -17,6 +17,10 @@ abbrev pub Gains : {V : Type 0} → (took : V → List ℕ → Type 0) → (old 
     → (List ℕ → List ℕ → Type 0) → Type 0
 Gains took old new P = (before : List ℕ) → took old before → Has took new (P before)
 
+-- some values stand behind those before
+abbrev pub Lengthens : (before after : List ℕ) → Type 0
+Lengthens before after = (values : List ℕ) × (after ≡ before ++ values)
+
 -- whatever it took before, it took some values after a call
 abbrev pub Keeps : {V : Type 0} → (took : V → List ℕ → Type 0) → (old new : V) → Type 0
 Keeps took old new = (before : List ℕ) → took old before → (after : List ℕ) × took new after

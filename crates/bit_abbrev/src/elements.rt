@@ -1,6 +1,6 @@
 //! Reading many values by one rule.
 
-ghost use Rattle.std.specs.Prelude.{◌≡◌, ◌+◌, ◌<◌, ◌≤◌, ◌^◌, ℕ, List, [], ◌∷◌, ◌++◌, IfOk, IfErr, OnOk, Ok, Err, length, true, false};
+ghost use Rattle.std.specs.Prelude.{◌≡◌, ◌+◌, ◌<◌, ◌≤◌, ◌^◌, ℕ, List, [], ◌∷◌, ◌++◌, IfOk, IfErr, OnOk, OnErr, Ok, Err, length, true, false};
 ghost use Rattle.bit_grammar.specs.Grammar.{gives};
 ghost use Rattle.bit_grammar.specs.Fields.{fixed, vbr, char6};
 ghost use Rattle.bit_grammar.specs.Record.{scalar, value_count, values_of};
@@ -9,10 +9,11 @@ ghost use Rattle.bit_grammar.specs.declared.op.Op.{Op};
 ghost use Rattle.bit_grammar.specs.declared.op.Op.TheVariants.{Array, Blob};
 ghost use Rattle.bit_fields.specs.Ahead.{reader_at};
 ghost use Rattle.bit_fields.specs.Reader.{Takes, failed_reader};
-ghost use Rattle.bit_abbrev.specs.Values.{Adds, AddsAll, Gains, PassesValues};
+ghost use Rattle.bit_abbrev.specs.Values.{Adds, AddsAll, Gains, Lengthens, PassesValues};
 
 use bit_fields::{Ahead, BitReader, Fault, Source, ValueTaker};
 use bit_grammar::{Op, Reason};
+use std::alloc::AllocError;
 
 /// How many fields may be skipped at once.
 const MOST_SKIPPED: u64 = u32::MAX as u64;
@@ -275,6 +276,98 @@ fn read_fixed<S: Source, V: ValueTaker>(
     Ok(())
 }
 
+/// Reads bytes out of the window of what is ahead, at most so many: how many, and what is then ahead.
+#[inline(always)]
+fn glance_held<'a, V: ValueTaker>(ahead: Ahead<'a>, most: u64, values: &mut V) -> (u64, Ahead<'a>)
+    ensures glimpsed { Gains V.took values.old values.new
+        (AddsAll (fixed 8) result.0 (reader_at ahead.entry) (Ok tt) (reader_at result.1)) }
+    ensures most { result.0 ≤ most }
+    ensures moves { ahead.entry.position ≤ result.1.position }
+{
+    let mut ahead = ahead;
+    for done in 0..most {
+        let mut next = ahead.copy();
+        let Some(value) = next.held_byte() else {
+            return (done, ahead);
+        };
+        let Ok(()) = values.take(value) else {
+            return (done, ahead);
+        };
+        ahead = next;
+    }
+    (most, ahead)
+}
+
+/// Reads bytes from what is ahead, at most so many: how many, and what is then ahead. Those behind the window are handed on as
+/// they lie there. Where memory is refused some may stand behind the values that there were.
+fn glance_bytes<'a, V: ValueTaker>(
+    ahead: Ahead<'a>,
+    most: u64,
+    values: &mut V,
+) -> Result<(u64, Ahead<'a>), AllocError>
+    ensures glimpsed { IfOk result (λ seen. Gains V.took values.old values.new
+        (AddsAll (fixed 8) seen.0 (reader_at ahead.entry) (Ok tt) (reader_at seen.1))) }
+    ensures most { IfOk result (λ seen. seen.0 ≤ most) }
+    ensures moves { IfOk result (λ seen. ahead.entry.position ≤ seen.1.position) }
+    ensures refused { OnErr result (Gains V.took values.old values.new Lengthens) }
+{
+    let (held, behind) = glance_held(ahead, most, values);
+    let mut behind = behind;
+    let bytes = behind.bytes(most - held);
+    values.take_bytes(bytes)?;
+    Ok((held + bytes.len() as u64, behind))
+}
+
+/// Reads bytes that lie in memory, at most so many: how many.
+fn read_near_bytes<S: Source, V: ValueTaker>(
+    reader: &mut BitReader<S>,
+    most: u64,
+    values: &mut V,
+) -> Result<u64, Fault>
+    requires live { reader.old.live ≡ true }
+    ensures ok { IfOk result (λ count. Gains V.took values.old values.new
+        (AddsAll (fixed 8) count reader.old (Ok tt) reader.new)) }
+    ensures most { IfOk result (λ count. count ≤ most) }
+    ensures live { OnOk result (reader.new.live ≡ true) }
+    ensures err { IfErr result (λ fault. Gains V.took values.old values.new
+        (AddsAll (fixed 8) most reader.old (Err fault) reader.new)) }
+{
+    let ahead = Ahead::new(reader.sight()?);
+    let first = ahead.position();
+    let Ok((count, behind)) = glance_bytes(ahead, most, values) else {
+        return Err(reader.fail(Fault::Memory));
+    };
+    let after = behind.position();
+    reader.catch_up(after - first)?;
+    Ok(count)
+}
+
+/// Reads so many bytes, or skips them from where on nobody looks at them. Those that lie in memory are read there, and one by the
+/// reader where a buffer ends.
+fn read_bytes<S: Source, V: ValueTaker>(
+    reader: &mut BitReader<S>,
+    count: u64,
+    values: &mut V,
+) -> Result<(), Fault>
+    requires live { reader.old.live ≡ true }
+    ensures { Gains V.took values.old values.new
+        (AddsAll (fixed 8) count reader.old result reader.new) }
+{
+    let mut done = 0;
+    while done < count {
+        if pass_fields(values, count - done) {
+            return reader.skip_fixed(count - done, 8);
+        }
+        done += read_near_bytes(reader, count - done, values)?;
+        if done < count {
+            let value = reader.fixed(8)?;
+            take(reader, values, value)?;
+            done += 1;
+        }
+    }
+    Ok(())
+}
+
 /// Reads so many characters, or skips them from where on nobody looks at them.
 fn read_characters<S: Source, V: ValueTaker>(
     reader: &mut BitReader<S>,
@@ -368,6 +461,6 @@ pub(crate) fn read_blob<S: Source, V: ValueTaker>(
 {
     let count = read_count(reader, room)?;
     reader.pad()?;
-    read_fixed(reader, count, 8, values)?;
+    read_bytes(reader, count, values)?;
     reader.pad()
 }

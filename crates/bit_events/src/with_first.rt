@@ -46,6 +46,17 @@ impl<V: ValueTaker> ValueTaker for WithFirst<V> {
         Ok(())
     }
 
+    fn take_bytes(&mut self, bytes: &[u8]) -> Result<(), AllocError> {
+        if self.first.is_some() {
+            return self.taker.take_bytes(bytes);
+        }
+        let [first, others @ ..] = bytes else {
+            return Ok(());
+        };
+        self.take(u64::from(*first))?;
+        self.taker.take_bytes(others)
+    }
+
     #[inline]
     fn pass(&mut self, count: u64) -> bool {
         self.first.is_some() && self.taker.pass(count)

@@ -1,7 +1,7 @@
 -- What is read from bits that lie in a window and in bytes behind it.
-use Rattle.std.proofs.Common.{◌≡◌, ℕ, suc, ◌+◌, ◌*◌, ◌-◌, ◌%◌, ◌^◌, ◌<◌, ◌≤◌, Bool, List, [], ◌++◌, length, take, drop, Result, Ok, Err, Bor, refl, sym, ap, ◌∙◌, subst, arith, inl, inr}
+use Rattle.std.proofs.Common.{◌≡◌, ℕ, suc, ◌+◌, ◌*◌, ◌-◌, ◌%◌, ◌^◌, ◌<◌, ◌≤◌, Bool, List, [], ◌∷◌, ◌++◌, length, take, drop, Result, Ok, Err, Bor, refl, sym, ap, ◌∙◌, subst, arith, append_assoc, get_or, inl, inr}
 use Rattle.std.proofs.lemmas.Bool.{cases_lt}
-use Rattle.std.proofs.lemmas.List.{append-nil, length-append, length-drop}
+use Rattle.std.proofs.lemmas.List.{append-nil, length-append, length-drop, take_at, drop_at, nil_from_length}
 use Rattle.std.proofs.Math.Seq.{drop-append-add}
 use Rattle.bit_grammar.specs.declared.reason.Reason.TheVariants.{Truncated}
 use Rattle.bit_grammar.specs.Bits.{number, bits_of, bits_of_bytes}
@@ -11,10 +11,10 @@ use Rattle.bit_grammar.specs.Terms.{character}
 use Rattle.bit_fields.specs.Inside.{part_of, numbers}
 use Rattle.bit_fields.specs.Reader.{Took}
 use Rattle.bit_fields.specs.Short.{EndsAt, payload_number}
-use Rattle.bit_grammar.proofs.Bits.Numbers.{length-bits_of}
+use Rattle.bit_grammar.proofs.Bits.Numbers.{length-bits_of, number-bits_of}
 use Rattle.bit_fields.specs.Sight.{sight_lent}
 use Rattle.bit_fields.specs.Ahead.{InSight, Glimpsed, reader_at, beyond}
-use Rattle.bit_fields.proofs.BitLaws.{length-bits_of_bytes, bytes_dropped, drop_more}
+use Rattle.bit_fields.proofs.BitLaws.{length-bits_of_bytes, bits_of_bytes-append, bytes_dropped, drop_more}
 use Rattle.bit_fields.proofs.Parts.{part_at, part_short}
 use Rattle.bit_fields.proofs.Short.{vbr_reads}
 use Rattle.bit_fields.proofs.Chunks.{one_chunk, several_chunks, chunking_begins, Chunking}
@@ -120,6 +120,38 @@ pub fields_glimpsed : (n count bits : ℕ) (a b : InSight) → bits ≡ count * 
 fields_glimpsed n count bits a b all there is =
     let e : bits ≡ n * count = omega (arith, all) in
     rw (is, e) (fields_whole n count a.position a.bits (omega (arith, there, e)))
+
+-- ---- whole bytes
+
+-- the numbers of eight bits in the bits of bytes are the bytes
+byte_numbers : (bytes others : List ℕ) (rest : List Bool) → ((k : ℕ) → get_or (bytes ++ others) k 0 < 256) → numbers 8 (length bytes) (bits_of_bytes bytes ++ rest) ≡ bytes
+byte_numbers [] others rest small = refl
+byte_numbers (b ∷ bytes) others rest small =
+    let after : List Bool = bits_of_bytes bytes ++ rest in
+    let parts : bits_of_bytes (b ∷ bytes) ++ rest ≡ bits_of 8 b ++ after = append_assoc (bits_of 8 b) (bits_of_bytes bytes) rest in
+    let first : number (take 8 (bits_of 8 b ++ after)) ≡ b = ap number (take_at (bits_of 8 b) after 8 (length-bits_of 8 b)) ∙ number-bits_of 8 b (small 0) in
+    let behind : drop 8 (bits_of 8 b ++ after) ≡ after = drop_at (bits_of 8 b) after 8 (length-bits_of 8 b) in
+    ap (numbers 8 (suc (length bytes))) parts ∙ ap (λ (x : ℕ). x ∷ numbers 8 (length bytes) (drop 8 (bits_of 8 b ++ after))) first ∙ ap (λ (s : List Bool). b ∷ numbers 8 (length bytes) s) behind ∙ ap (λ (xs : List ℕ). b ∷ xs) (byte_numbers bytes others rest (λ k. small (suc k)))
+
+-- bytes behind a window without bits
+pub bytes_glimpsed : (end : ℕ) (a : InSight) (w : List Bool) (bytes taken rest : List ℕ) → length w ≤ 0 → sight_of end w bytes ≡ a → length w + 8 * length bytes ≤ end → bytes ≡ taken ++ rest → ((k : ℕ) → get_or bytes k 0 < 256) → Glimpsed (repeat (length taken) (fixed 8)) a taken (sight_of end w rest)
+bytes_glimpsed end a w bytes taken rest none is fits parts small =
+    let n = length taken in
+    let p = end - (length {A = Bool} [] + 8 * length bytes) in
+    let s : List Bool = bits_of_bytes taken ++ bits_of_bytes rest in
+    let len : length (bits_of_bytes taken) ≡ 8 * n = length-bits_of_bytes taken in
+    let there : 8 * n ≤ length s = omega (arith, len, length-append (bits_of_bytes taken) (bits_of_bytes rest)) in
+    let long : length bytes ≡ n + length rest = ap length parts ∙ length-append taken rest in
+    let fewer : 8 * length bytes ≤ end = omega (arith, fits) in
+    let place : p + 8 * n ≡ end - (length {A = Bool} [] + 8 * length rest) = omega (arith, long, fewer) in
+    let bits : bits_of_bytes bytes ≡ s = ap bits_of_bytes parts ∙ bits_of_bytes-append taken rest in
+    let seen : Glimpsed (repeat n (fixed 8)) (sight_of end [] bytes) taken (sight_of end [] rest) =
+    ap (reading (repeat n (fixed 8)) p) bits ∙ fields_whole 8 n p s there
+    ∙ ap (λ (xs : List ℕ). Ok (xs, p + 8 * n, drop (8 * n) s)) (byte_numbers taken rest (bits_of_bytes rest) (subst (λ (xs : List ℕ). (k : ℕ) → get_or xs k 0 < 256) parts small))
+    ∙ ap (λ (q : ℕ). Ok (taken, q, drop (8 * n) s)) place
+    ∙ ap (λ (t : List Bool). Ok (taken, end - (length {A = Bool} [] + 8 * length rest), t)) (drop_at (bits_of_bytes taken) (bits_of_bytes rest) (8 * n) len) in
+    let empty : w ≡ [] = nil_from_length w (omega (arith, none)) in
+    rw (← is, empty) seen
 
 -- ---- what was lent
 

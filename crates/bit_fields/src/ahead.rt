@@ -1,4 +1,4 @@
-ghost use Rattle.std.specs.Prelude.{ℕ, ◌≡◌, ◌+◌, ◌*◌, ◌-◌, ◌<◌, ◌≤◌, ◌^◌, ◌++◌, length, IfSome, OnSome, MatchOption, IfNone};
+ghost use Rattle.std.specs.Prelude.{ℕ, ◌≡◌, ◌+◌, ◌*◌, ◌-◌, ◌<◌, ◌≤◌, ◌^◌, ◌++◌, length, get_or, IfSome, OnSome, MatchOption, IfNone};
 ghost use Rattle.bit_grammar.specs.Bits.{bits_of_bytes};
 ghost use Rattle.bit_grammar.specs.Grammar.{repeat};
 ghost use Rattle.bit_grammar.specs.Fields.{fixed, vbr, char6};
@@ -261,6 +261,34 @@ impl<'a> Ahead<'a> {
         None
     }
 
+    /// Reads a number of 8 bits, where they are in the window. None are put into it.
+    #[inline(always)]
+    pub fn held_byte(&mut self) -> Option<u64>
+        ensures glimpsed { IfSome result (λ value. Glimpsed (fixed 8) self.old value self.new) }
+        ensures moves { OnSome result (self.new.position ≡ self.old.position + 8) }
+    {
+        let value = self.held_part(8)?;
+        Some(value)
+    }
+
+    /// Reads numbers of 8 bits, at most so many, as the bytes that lie behind the window; none where bits are in the window.
+    #[inline(always)]
+    pub fn bytes(&mut self, most: u64) -> &'a [u8]
+        ensures glimpsed { Glimpsed (repeat (length result.now) (fixed 8)) self.old result.now
+            self.new }
+        ensures most { length result.now ≤ most }
+        ensures moves { self.new.position ≡ self.old.position + 8 * length result.now }
+    {
+        if self.window.len() > 0 {
+            return &[];
+        }
+        are_bytes(self.bytes);
+        let count = self.bytes.len().min(most as usize);
+        let bytes = &self.bytes[..count];
+        self.bytes = &self.bytes[count..];
+        bytes
+    }
+
     /// Skips so many fields of n bits, n from 1 to 32, whatever they are.
     #[inline(always)]
     pub fn skip_fixed(&mut self, count: u64, n: u32) -> Option<()>
@@ -310,6 +338,12 @@ impl<'a> Ahead<'a> {
         }
     }
 }
+
+/// Says of bytes what their type says: each is below 256.
+#[inline(always)]
+fn are_bytes(bytes: &[u8])
+    ensures { (place : ℕ) → get_or bytes.now place 0 < 256 }
+{}
 
 /// Puts the next four bytes into a window, and answers those behind them.
 #[inline(always)]

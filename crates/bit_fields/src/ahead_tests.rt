@@ -1,7 +1,8 @@
 //! Fields read from what is in sight, against fields that the reader reads.
 
 use crate::tests::{after_magic, in_steps, shown_source};
-use crate::{Ahead, BitReader, Fault, Limits, SliceSource, Source};
+use crate::{Ahead, BitReader, Fault, Limits, SliceSource, Source, ValueTaker};
+use std::alloc::{AllocError, Global};
 use std::process::Abort;
 
 /// Bits of every kind of field; numbers of one chunk, of few and of many.
@@ -207,4 +208,45 @@ fn failed_sights(rt: HostRuntime) {
     let mut reader = reader_of(&rt, shown_source(&input, 5, 3));
     let faults = [sight_fault(&mut reader), sight_fault(&mut reader)];
     assert!(rt; faults == [Some(Fault::Read), Some(Fault::Failed)] && reader.position() == 32);
+}
+
+/// The bytes that are in sight: those in the window, two behind them, and the others.
+fn bytes_told(alloc: Global, mut ahead: Ahead<'_>) -> Result<Vec<u64>, AllocError> {
+    let mut told = Vec::new(alloc);
+    for _ in 0..8 {
+        match ahead.held_byte() {
+            Some(byte) => told.push(byte)?,
+            None => break,
+        }
+    }
+    told.take_bytes(ahead.bytes(2))?;
+    told.take_bytes(ahead.bytes(u64::MAX))?;
+    Ok(told)
+}
+
+/// The same behind a number of eight bits.
+fn told_behind_one<S: Source>(
+    alloc: Global,
+    reader: &mut BitReader<S>,
+) -> Result<Vec<u64>, AllocError> {
+    let Ok(_) = reader.fixed(8) else {
+        return Err(AllocError);
+    };
+    match reader.sight() {
+        Ok(sight) => bytes_told(alloc, Ahead::new(sight)),
+        Err(_) => Err(AllocError),
+    }
+}
+
+#[test]
+fn bytes_in_sight(rt: HostRuntime) {
+    let mut reader = reader_of(
+        &rt,
+        SliceSource::new(&[
+            0x42, 0x43, 0xC0, 0xDE, 7, 1, 2, 3, 4, 5, 6, 7, 8, 9, 10, 11, 12, 13, 14, 15,
+        ]),
+    );
+    let told = told_behind_one(rt.alloc(), &mut reader).expect(&rt, "memory");
+    let wanted: [u64; 15] = [1, 2, 3, 4, 5, 6, 7, 8, 9, 10, 11, 12, 13, 14, 15];
+    assert!(rt; told.as_slice() == wanted.as_slice(), "{told:?}");
 }

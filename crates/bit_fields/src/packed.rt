@@ -1,6 +1,6 @@
 //! Values in little memory.
 
-ghost use Rattle.std.specs.Prelude.{◌≡◌, ◌↔◌, ◌≤◌, [], ◌++◌, length, drop, IfSome, IfNone, IsTrue, slice_get};
+ghost use Rattle.std.specs.Prelude.{◌≡◌, ◌↔◌, ◌≤◌, ℕ, List, OnOk, OnErr, [], ◌++◌, length, drop, IfSome, IfNone, IsTrue, slice_get};
 ghost use Rattle.std.proofs.Math.ListN.{replicate};
 ghost use Rattle.bit_fields.specs.Packed.{first_apart};
 
@@ -149,6 +149,17 @@ impl PackedValues {
         self.apart_within(other, behind, both)
     }
 
+    /// Takes values of one byte each, one after the other.
+    fn take_each(&mut self, bytes: &[u8]) -> Result<(), AllocError>
+        ensures ok { OnOk result (self.new ≡ self.old ++ bytes.now) }
+        ensures err { OnErr result ((some : List ℕ) × (self.new ≡ self.old ++ some)) }
+    {
+        for byte in bytes {
+            self.take(u64::from(*byte))?;
+        }
+        Ok(())
+    }
+
     /// Whether these are the same values as others, of which some were packed.
     #[inline(never)]
     fn is_beyond(&self, other: &PackedValues) -> bool
@@ -183,6 +194,22 @@ impl ValueTaker for PackedValues {
         }
         self.recent[self.held] = value;
         self.held += 1;
+        Ok(())
+    }
+
+    /// Whole batches are packed as they lie there, and the values before and behind them taken one by one: so the same values are
+    /// packed in the same batches however they came.
+    fn take_bytes(&mut self, bytes: &[u8]) -> Result<(), AllocError> {
+        let (front, rest) = bytes.split_at(bytes.len().min(BATCH - self.held));
+        self.take_each(front)?;
+        if rest.is_empty() {
+            return Ok(());
+        }
+        let (whole, last) = rest.split_at((rest.len() - 1) / BATCH * BATCH);
+        self.settled.add(&self.recent[..self.held])?;
+        self.held = 0;
+        self.settled.add_bytes(whole)?;
+        self.take_each(last)?;
         Ok(())
     }
 

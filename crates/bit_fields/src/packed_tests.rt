@@ -1,6 +1,6 @@
 //! Values in little memory: in which parts they are held, and where they differ.
 
-use crate::{PackedValues, ValueKeeper, ValueTaker};
+use crate::{PackedValues, ValueCount, ValueKeeper, ValueTaker};
 use std::alloc::{AllocError, Global};
 use std::fmt::Write;
 use std::process::Abort;
@@ -163,4 +163,35 @@ fn many_told(alloc: Global) -> Result<(u64, Option<u64>), AllocError> {
 #[test]
 fn many_values(rt: HostRuntime) {
     assert!(rt; many_told(rt.alloc()) == Ok((1, Some(5))));
+}
+
+/// How many values there are where bytes were taken behind a value and a zero.
+fn bytes_behind<V: ValueTaker>(values: &mut V) -> Result<u64, AllocError> {
+    values.take(300)?;
+    values.take(0)?;
+    values.take_bytes(&[7, 0, 255])?;
+    values.take_bytes(&[])?;
+    Ok(values.count())
+}
+
+/// The same where they are counted, kept in a list, and kept in little memory behind zeros that were taken at once: how many
+/// there are in each, whether the list is right, and the first place at which the others are not.
+fn bytes_taken(alloc: Global) -> Result<([u64; 3], bool, Option<u64>), AllocError> {
+    let mut counted = ValueCount::new();
+    let mut list: Vec<u64> = Vec::new(alloc);
+    let mut packed = values_of(alloc, &[], 2)?;
+    let wanted = values_of(alloc, &[0, 0, 300, 0, 7, 0, 255], 0)?;
+    let counts = [
+        bytes_behind(&mut counted)?,
+        bytes_behind(&mut list)?,
+        bytes_behind(&mut packed)?,
+    ];
+    let right = list.as_slice() == [300, 0, 7, 0, 255].as_slice();
+    Ok((counts, right, packed.first_apart(&wanted)))
+}
+
+#[test]
+fn bytes_are_values(rt: HostRuntime) {
+    let taken = bytes_taken(rt.alloc()).expect(&rt, "memory");
+    assert!(rt; taken == ([5, 5, 7], true, None), "{taken:?}");
 }

@@ -116,6 +116,14 @@ impl Numbers {
         self.wide.extend_from_slice(numbers)
     }
 
+    /// Adds numbers of one byte each.
+    fn push_bytes(&mut self, bytes: &[u8]) -> Result<(), AllocError>
+        ensures ok { OnOk result (self.new ≡ self.old ++ bytes.now) }
+        ensures err { OnErr result (self.new ≡ self.old) }
+    {
+        self.bytes.extend_from_slice(bytes)
+    }
+
     /// The number at this place.
     #[inline]
     fn get(&self, place: u64) -> Option<u64>
@@ -258,6 +266,21 @@ impl SettledValues {
         }
         self.numbers.fill(self.count)?;
         self.numbers.push_all(values)?;
+        self.count = self.numbers.len();
+        Ok(())
+    }
+
+    /// Adds values of one byte each. Where memory is refused, or there were too many to be counted then, these are what they
+    /// were.
+    pub(crate) fn add_bytes(&mut self, bytes: &[u8]) -> Result<(), AllocError>
+        ensures ok { OnOk result (self.new ≡ self.old ++ bytes.now) }
+        ensures err { OnErr result (self.new ≡ self.old) }
+    {
+        if self.count > MOST.saturating_sub(bytes.len() as u64) {
+            return Err(AllocError);
+        }
+        self.numbers.fill(self.count)?;
+        self.numbers.push_bytes(bytes)?;
         self.count = self.numbers.len();
         Ok(())
     }

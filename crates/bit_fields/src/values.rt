@@ -19,6 +19,19 @@ pub trait ValueTaker {
         ensures err { OnErr result
             ((values : List ℕ) → took self.old values → took self.new values) };
 
+    /// Takes values of one byte each. Where memory is refused it has some of the first ones behind what it had.
+    fn take_bytes(&mut self, bytes: &[u8]) -> Result<(), AllocError>
+        ensures ok { OnOk result ((values : List ℕ) → took self.old values
+            → took self.new (values ++ bytes.now)) }
+        ensures err { OnErr result ((values : List ℕ) → took self.old values
+            → (some : List ℕ) × took self.new (values ++ some)) }
+    {
+        for byte in bytes {
+            self.take(u64::from(*byte))?;
+        }
+        Ok(())
+    }
+
     /// Takes so many values without seeing them, where it need not know them, and answers whether it did. Where it did not, it
     /// has what it had.
     fn pass(&mut self, count: u64) -> bool

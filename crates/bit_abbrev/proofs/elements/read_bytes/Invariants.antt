@@ -1,0 +1,15 @@
+use Rattle.std.proofs.Common.{◌≡◌, ◌≤◌, ◌-◌, true}
+use Rattle.bit_grammar.specs.Fields.{fixed}
+use Rattle.bit_abbrev.specs.Values.{Gains}
+use Rattle.bit_abbrev.proofs.Taking.{SoFar}
+use Rattle.bit_abbrev.proofs.elements.read_bytes.Given as goal
+
+abbrev pub invariant-loop-done : goal.invariant-loop-done
+invariant-loop-done g l = record {
+  most : l.done ≤ l.count;
+  live : l.reader.live ≡ true;
+  gains : Gains g.V.ValueTaker.took l.fn.values l.values (SoFar (fixed 8) l.count l.fn.reader l.done l.reader);
+}
+
+abbrev pub decreases-loop-done : goal.decreases-loop-done
+decreases-loop-done g l = l.count - l.done
