@@ -179,8 +179,8 @@ fn bytes_behind<V: ValueTaker>(values: &mut V) -> Result<u64, AllocError> {
 fn bytes_taken(alloc: Global) -> Result<([u64; 3], bool, Option<u64>), AllocError> {
     let mut counted = ValueCount::new();
     let mut list: Vec<u64> = Vec::new(alloc);
-    let mut packed = values_of(alloc, &[], 2)?;
-    let wanted = values_of(alloc, &[0, 0, 300, 0, 7, 0, 255], 0)?;
+    let mut packed = values_of(alloc, (&[], 2, &[]))?;
+    let wanted = values_of(alloc, (&[0, 0, 300, 0, 7, 0, 255], 0, &[]))?;
     let counts = [
         bytes_behind(&mut counted)?,
         bytes_behind(&mut list)?,
@@ -194,4 +194,23 @@ fn bytes_taken(alloc: Global) -> Result<([u64; 3], bool, Option<u64>), AllocErro
 fn bytes_are_values(rt: HostRuntime) {
     let taken = bytes_taken(rt.alloc()).expect(&rt, "memory");
     assert!(rt; taken == ([5, 5, 7], true, None), "{taken:?}");
+}
+
+/// How long the parts are of a number and 300 bytes behind it, which come as a slice or one by one.
+fn lengths_behind(alloc: Global, as_slice: bool) -> Result<[usize; 3], AllocError> {
+    let mut values = PackedValues::empty(alloc);
+    values.take(256)?;
+    if as_slice {
+        values.take_bytes(&[7; 300])?;
+    } else {
+        take_all(&mut values, &[7; 300])?;
+    }
+    let parts = values.parts();
+    Ok([parts.numbers.len(), parts.bytes.len(), parts.recent.len()])
+}
+
+#[test]
+fn bytes_are_packed_alike(rt: HostRuntime) {
+    assert!(rt; lengths_behind(rt.alloc(), true) == Ok([64, 192, 45]));
+    assert!(rt; lengths_behind(rt.alloc(), false) == Ok([64, 192, 45]));
 }
