@@ -1,4 +1,4 @@
-use Rattle.std.proofs.Common.{◌≡◌, ◌-◌, ◌+◌, ◌<◌, ◌≤◌, ◌^◌, ℕ, [], length, min, vec_len, arith, refl, sym, ap, subst, ◌∙◌, None, Some, Option, is_some, false}
+use Rattle.std.proofs.Common.{◌≡◌, ◌-◌, ◌+◌, ◌≤◌, ◌^◌, ℕ, [], length, min, arith, refl, sym, ap, subst, ◌∙◌, None, Some, Option, is_some, false}
 use Rattle.std.proofs.lemmas.Result.{err_from_is_err_and}
 use Rattle.bit_grammar.specs.Blocks.{Handed}
 use Rattle.bit_grammar.specs.Machine as machine
