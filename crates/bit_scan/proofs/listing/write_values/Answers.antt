@@ -1,6 +1,4 @@
-use Rattle.std.proofs.Common.{◌≡◌, ◌++◌, drop}
-use Rattle.bit_grammar.specs.Normal.{values_bits}
-use Rattle.bit_fields.specs.Texts.{bits_of_words}
+use Rattle.std.proofs.Common.{◌++◌}
 use Rattle.std.proofs.Math.ListN.{replicate}
 use Rattle.std.proofs.lemmas.Result.{err_from_is_err_and}
 use Rattle.bit_grammar.specs.Texts.{values_text}
