@@ -19,7 +19,7 @@ pub trait ValueTaker {
         ensures err { OnErr result
             ((values : List ℕ) → took self.old values → took self.new values) };
 
-    /// Takes values of one byte each. Where memory is refused it has some of the first ones behind what it had.
+    /// Takes values of one byte each. Where memory is refused some values may stand behind what it had.
     fn take_bytes(&mut self, bytes: &[u8]) -> Result<(), AllocError>
         ensures ok { OnOk result ((values : List ℕ) → took self.old values
             → took self.new (values ++ bytes.now)) }
