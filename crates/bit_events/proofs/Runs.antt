@@ -1,7 +1,7 @@
 -- Records that are in sight, gathered one after the other.
 use Rattle.std.proofs.Common.{◌≡◌, ◌≢◌, ℕ, ◌+◌, ◌-◌, ◌<◌, ◌≤◌, Bool, List, [], ◌∷◌, ◌++◌, length, drop, None, Some, Option, Result, Ok, Err, refl, sym, ap, subst, ◌∙◌, arith, append_assoc, length-append, vec_len, get_or, suc}
 use Rattle.std.specs.Prelude.{IfSome, IfOk}
-use Rattle.std.proofs.lemmas.List.{drop_at}
+use Rattle.std.proofs.lemmas.List.{drop_at, append_cancel_left}
 use Rattle.bit_grammar.specs.Grammar as grammar
 use Rattle.bit_grammar.specs.Grammar.{Grammar, gives, ◌>>=◌, reading}
 use Rattle.bit_grammar.specs.Input.{any_bits}
@@ -22,7 +22,7 @@ use Rattle.bit_fields.proofs.Gap.{gap_whole}
 use Rattle.bit_fields.proofs.BitLaws.{drop_more}
 use Rattle.bit_fields.proofs.Glimpses.{glimpsed_forward, glimpsed_passed, took_glimpsed, seen_took, not_caught_up}
 use Rattle.bit_grammar.specs.declared.op.Op.{Op}
-use Rattle.bit_abbrev.specs.Values.{AddsWithin}
+use Rattle.bit_abbrev.specs.Values.{AddsWithin, Gains}
 use Rattle.bit_abbrev.proofs.Glancing.{took_at}
 use Rattle.bit_events.specs.declared.frame.Frame.{Frame}
 use Rattle.bit_events.specs.declared.machine.Machine.{Machine}
@@ -30,7 +30,7 @@ use Rattle.bit_events.specs.FrameView.{frame_shown, frames_shown, info_shown}
 use Rattle.bit_events.specs.Folding.{left_to_tell, GathersSome, TakesRun}
 use Rattle.bit_events.specs.Gathering.{Gathers}
 use Rattle.bit_events.specs.MachineView.{handed_shown, machine_shown, record_of, record_rule, LeavesMachine}
-use Rattle.bit_events.specs.Runs.{HasOps, ReadsTo, after_record, Passed, GathersTo, GathersRun}
+use Rattle.bit_events.specs.Runs.{AddsBehind, HasOps, ReadsEntry, ReadsTo, after_record, Passed, GathersTo, GathersRun}
 use Rattle.bit_events.proofs.Folds.{in_block, none_yet, one_event, some_then, step_missed}
 use Rattle.bit_events.proofs.Framing.{none_described, plain_entry, short_entry}
 use Rattle.bit_events.proofs.Framing as framing
@@ -95,8 +95,12 @@ pub nothing_missed : {A : Type 0} (rule : Grammar A) (a : Reader) (fault : Fault
 nothing_missed rule a fault b w = same_reading (gives (tt {0}) >>= λ v. rule) rule a (Err fault) b (λ p r. refl) (fault_then (gives (tt {0})) (λ v. rule) a fault b w)
 
 -- the values of a record are those that were taken
-entry_read : (rule : Grammar CodeAndValues) (room : ℕ) (a : Reader) (code : ℕ) (b : Reader) (list : List ℕ) → AddsWithin rule room a (Ok code) b [] list → Took rule a (record { code = code; values = list }) b
-entry_read rule room a code b list h = rw h.0.1 h.0.2
+entry_read : (rule : Grammar CodeAndValues) (room : ℕ) (a : Reader) (code : ℕ) (b : Reader) (before list : List ℕ) → AddsWithin rule room a (Ok code) b before (before ++ list) → Took rule a (record { code = code; values = list }) b
+entry_read rule room a code b before list h = rw (append_cancel_left before list h.0.0 h.0.1) h.0.2
+
+-- and they are so many at most
+entry_fits : (rule : Grammar CodeAndValues) (room : ℕ) (a : Reader) (code : ℕ) (b : Reader) (before list : List ℕ) → AddsWithin rule room a (Ok code) b before (before ++ list) → length list ≤ room
+entry_fits rule room a code b before list h = omega (arith, h.1, length-append before list)
 
 -- what follows from any answer
 pub each_some : {A : Type 0} (result : Option A) (P Q : A → Type 0) → ((x : A) → P x → Q x) → IfSome result P → IfSome result Q
@@ -104,14 +108,30 @@ each_some (Some x) P Q so h = so x h
 each_some None P Q so h = tt
 
 -- an entry that was read without a definition
-pub plain_seen : (limit first id room : ℕ) (scope : Scope) (a b : InSight) (code : ℕ) (list : List ℕ) → id ≡ 3 → limit - scope.handed.used ≡ room → AddsWithin (unabbreviated room) room (reader_at a) (Ok code) (reader_at b) [] list → Took (entry limit first id scope) (reader_at a) (record { code = code; values = list }) (reader_at b)
-plain_seen limit first id room scope a b code list plain same h = plain_entry limit first id room scope (reader_at a) (Ok (record { code = code; values = list })) (reader_at b) plain same (entry_read (unabbreviated room) room (reader_at a) code (reader_at b) list h)
+pub plain_seen : (limit first id room : ℕ) (scope : Scope) (a b : InSight) (code : ℕ) (list : List ℕ) → id ≡ 3 → limit - scope.handed.used ≡ room → Took (unabbreviated room) (reader_at a) (record { code = code; values = list }) (reader_at b) → Took (entry limit first id scope) (reader_at a) (record { code = code; values = list }) (reader_at b)
+plain_seen limit first id room scope a b code list plain same h = plain_entry limit first id room scope (reader_at a) (Ok (record { code = code; values = list })) (reader_at b) plain same h
 
 -- an entry that was read by its operands
-pub entry_seen : (definitions : List (List Op)) (ops : List Op) (limit first id room : ℕ) (scope : Scope) (a b : InSight) (code : ℕ) (list : List ℕ) → id ≢ 3 → HasOps definitions id ops → scope.definitions ≡ definitions → limit - scope.handed.used ≡ room → AddsWithin (abbreviated first room ops) room (reader_at a) (Ok code) (reader_at b) [] list
+pub entry_seen : (definitions : List (List Op)) (ops : List Op) (limit first id room : ℕ) (scope : Scope) (a b : InSight) (code : ℕ) (list : List ℕ) → id ≢ 3 → HasOps definitions id ops → scope.definitions ≡ definitions → limit - scope.handed.used ≡ room → Took (abbreviated first room ops) (reader_at a) (record { code = code; values = list }) (reader_at b)
     → Took (entry limit first id scope) (reader_at a) (record { code = code; values = list }) (reader_at b)
 entry_seen definitions ops limit first id room scope a b code list other has force same h =
-    short_entry limit first id room scope definitions ops (reader_at a) (Ok (record { code = code; values = list })) (reader_at b) other force same has.0 has.1 (entry_read (abbreviated first room ops) room (reader_at a) code (reader_at b) list h)
+    short_entry limit first id room scope definitions ops (reader_at a) (Ok (record { code = code; values = list })) (reader_at b) other force same has.0 has.1 h
+
+-- what stands behind other values is what was read
+pub behind_plain : {V : Type 0} (took : V → List ℕ → Type 0) (old new : V) (definitions : List (List Op)) (room id code : ℕ) (a b : InSight) → id ≡ 3 → Gains took old new (AddsWithin (unabbreviated room) room (reader_at a) (Ok code) (reader_at b)) → Gains took old new (AddsBehind (λ list. ReadsEntry definitions room id a code list b))
+behind_plain took old new definitions room id code a b plain gains before was =
+    let h = gains before was in
+    let list = h.2.0.0 in
+    let read : AddsWithin (unabbreviated room) room (reader_at a) (Ok code) (reader_at b) before (before ++ list) = rw (← h.2.0.1) h.2 in
+    (h.0, h.1, (list, h.2.0.1, (entry_fits (unabbreviated room) room (reader_at a) code (reader_at b) before list read, λ limit first scope force same. plain_seen limit first id room scope a b code list plain same (entry_read (unabbreviated room) room (reader_at a) code (reader_at b) before list read))))
+
+pub behind_short : {V : Type 0} (took : V → List ℕ → Type 0) (old new : V) (definitions : List (List Op)) (ops : List Op) (room id code : ℕ) (a b : InSight) → id ≢ 3 → HasOps definitions id ops → Gains took old new (λ before after. (first : ℕ) → AddsWithin (abbreviated first room ops) room (reader_at a) (Ok code) (reader_at b) before after) → Gains took old new (AddsBehind (λ list. ReadsEntry definitions room id a code list b))
+behind_short took old new definitions ops room id code a b other has gains before was =
+    let h = gains before was in
+    let list = (h.2 0).0.0 in
+    let after : h.0 ≡ before ++ list = (h.2 0).0.1 in
+    let read : (first : ℕ) → AddsWithin (abbreviated first room ops) room (reader_at a) (Ok code) (reader_at b) before (before ++ list) = λ first. rw (← after) (h.2 first) in
+    (h.0, h.1, (list, after, (entry_fits (abbreviated 0 room ops) room (reader_at a) code (reader_at b) before list (read 0), λ limit first scope force same. entry_seen definitions ops limit first id room scope a b code list other has force same (entry_read (abbreviated first room ops) room (reader_at a) code (reader_at b) before list (read first)))))
 
 -- ---- several
 

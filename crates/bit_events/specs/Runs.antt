@@ -4,17 +4,22 @@ use Rattle.bit_grammar.specs.declared.op.Op.{Op}
 use Rattle.bit_grammar.specs.Definition.{has_shape}
 use Rattle.bit_grammar.specs.Blocks.{Limits, Handed, Scope, entry}
 use Rattle.bit_grammar.specs.Machine as machine
-use Rattle.bit_grammar.specs.Machine.{Event}
-use Rattle.bit_fields.specs.Ahead.{InSight, Sees, reader_further, reader_at}
+use Rattle.bit_grammar.specs.Machine.{Event, step_of}
+use Rattle.bit_fields.specs.Ahead.{InSight, Glimpsed, Sees, reader_further, reader_at}
 use Rattle.bit_fields.specs.Reader.{Reader, Took}
 use Rattle.bit_events.specs.declared.frame.Frame.{Frame}
 use Rattle.bit_events.specs.declared.machine.Machine.{Machine}
 use Rattle.bit_events.specs.FrameView.{frame_shown, frames_shown}
 use Rattle.bit_events.specs.Folding.{GathersSome}
+use Rattle.bit_events.specs.MachineView.{record_of}
 
 -- these are the operands of the definition that this id has, in a lawful order
 abbrev pub HasOps : (definitions : List (List Op)) → (id : ℕ) → List Op → Type 0
 HasOps definitions id ops = (slice_get definitions (id - 4) ≡ Some ops) × (has_shape ops ≡ true)
+
+-- what was read stands behind the values that were there before
+abbrev pub AddsBehind : (List ℕ → Type 0) → (before after : List ℕ) → Type 0
+AddsBehind Reads before after = (list : List ℕ) × (after ≡ before ++ list) × Reads list
 
 -- so a record with this id is read, where these definitions are in force and there is room for so many values
 abbrev pub ReadsEntry : (definitions : List (List Op)) → (room id : ℕ) → InSight → (code : ℕ)
@@ -36,6 +41,15 @@ after_record f outer handed values = record {
   frames = f ∷ outer;
   handed = record { table = handed.table; used = handed.used + length values };
 }
+
+-- so a record is read with its id, where this is the innermost block, which is no BLOCKINFO block, and there is room for so many
+-- values: its id and its code
+abbrev pub SeesRecord : Frame → (room : ℕ) → InSight → (read : ℕ × ℕ) → List ℕ → InSight → Type 0
+SeesRecord f room a read list b = (limits : Limits) (outer : List machine.Frame) (handed : Handed)
+    → limits.values - handed.used ≡ room
+    → Glimpsed (step_of limits (frame_shown f ∷ outer) handed) a
+    (record_of read.0 list a.position (read.1, b.position), after_record (frame_shown f) outer
+    handed list) b
 
 -- bits that were in sight first stand before what is in sight now
 abbrev pub Passed : InSight → InSight → Type 0

@@ -21,6 +21,7 @@ mod open_blocks;
 #[cfg(test)]
 mod open_blocks_tests;
 mod running;
+//mod slice_events;
 mod with_first;
 
 pub use checking::{check, check_keeping};
@@ -30,3 +31,4 @@ pub use finder::{EventFinder, PackedEvent, PackedEvents};
 pub use folding::{Folded, fold};
 pub use gatherer::Gatherer;
 pub use open_blocks::OpenBlocks;
+//pub use slice_events::{RecordHead, SliceEvents};

@@ -7,10 +7,10 @@ ghost use Rattle.bit_grammar.specs.FormatDefinition.{Lawful};
 ghost use Rattle.bit_grammar.specs.Machine as machine;
 ghost use Rattle.bit_grammar.specs.Machine.{step_of};
 ghost use Rattle.bit_fields.specs.Ahead.{Glimpsed};
-ghost use Rattle.bit_abbrev.specs.Values.{Has};
+ghost use Rattle.bit_abbrev.specs.Values.{Gains, Has, Keeps};
 ghost use Rattle.bit_events.specs.FrameView.{frame_shown};
 ghost use Rattle.bit_events.specs.MachineView.{record_of, TookSome};
-ghost use Rattle.bit_events.specs.Runs.{GathersRun, HasOps, ReadsEntry, ReadsTo, after_record};
+ghost use Rattle.bit_events.specs.Runs.{AddsBehind, GathersRun, HasOps, ReadsEntry, ReadsTo, SeesRecord};
 
 use crate::frame::Frame;
 use crate::gatherer::Gatherer;
@@ -32,8 +32,7 @@ fn ops_for<'a>(definitions: &Definitions<'a>, id: u32) -> Option<&'a [Op]>
     Some(abbrev.lawful_ops())
 }
 
-/// Reads an abbreviated record after its id, and answers its code. The values are those of the record alone. `U` is whom it is
-/// compiled for.
+/// Reads an abbreviated record after its id, and answers its code. `U` is whom it is compiled for.
 #[inline(always)]
 fn glance_abbreviated<U, V: ValueTaker>(
     ahead: &mut Ahead<'_>,
@@ -42,29 +41,27 @@ fn glance_abbreviated<U, V: ValueTaker>(
     id: u32,
     values: &mut V,
 ) -> Option<u64>
-    requires id { 4 ≤ id }
-    requires none { V.took values.old [] }
-    ensures glimpsed { IfSome result (λ code. Has V.took values.new
-        (λ list. ReadsEntry definitions.now room id ahead.old code list ahead.new)) }
-    ensures took { TookSome V.took values.new }
+    requires { 4 ≤ id }
+    ensures glimpsed { IfSome result (λ code. Gains V.took values.old values.new
+        (AddsBehind (λ list. ReadsEntry definitions.now room id ahead.old code list ahead.new))) }
+    ensures keeps { Keeps V.took values.old values.new }
 {
     let ops = ops_for(definitions, id)?;
     glance_record::<U, V>(ahead, ops, room, values)
 }
 
-/// Reads a record that is not abbreviated after its id, and answers its code. The values are those of the record alone.
+/// Reads a record that is not abbreviated after its id, and answers its code.
 #[inline(always)]
 fn glance_plain<V: ValueTaker>(ahead: &mut Ahead<'_>, room: u64, values: &mut V) -> Option<u64>
-    requires { V.took values.old [] }
     ensures glimpsed { (definitions : List (List Op)) (id : ℕ) → id ≡ 3
-        → IfSome result (λ code. Has V.took values.new
-        (λ list. ReadsEntry definitions room id ahead.old code list ahead.new)) }
-    ensures took { TookSome V.took values.new }
+        → IfSome result (λ code. Gains V.took values.old values.new
+        (AddsBehind (λ list. ReadsEntry definitions room id ahead.old code list ahead.new))) }
+    ensures keeps { Keeps V.took values.old values.new }
 {
     glance_unabbreviated(ahead, room, values)
 }
 
-/// Reads a record after its id, and answers its code. The values are those of the record alone. `U` is whom it is compiled for.
+/// Reads a record after its id, and answers its code. `U` is whom it is compiled for.
 #[inline(always)]
 fn glance_entry<U, V: ValueTaker>(
     ahead: &mut Ahead<'_>,
@@ -73,11 +70,10 @@ fn glance_entry<U, V: ValueTaker>(
     id: u32,
     values: &mut V,
 ) -> Option<u64>
-    requires id { 3 ≤ id }
-    requires none { V.took values.old [] }
-    ensures glimpsed { IfSome result (λ code. Has V.took values.new
-        (λ list. ReadsEntry definitions.now room id ahead.old code list ahead.new)) }
-    ensures took { TookSome V.took values.new }
+    requires { 3 ≤ id }
+    ensures glimpsed { IfSome result (λ code. Gains V.took values.old values.new
+        (AddsBehind (λ list. ReadsEntry definitions.now room id ahead.old code list ahead.new))) }
+    ensures keeps { Keeps V.took values.old values.new }
 {
     if id == 3 {
         return glance_plain(ahead, room, values);
@@ -85,8 +81,28 @@ fn glance_entry<U, V: ValueTaker>(
     glance_abbreviated::<U, V>(ahead, definitions, room, id, values)
 }
 
+/// Reads a record after its id, and answers its code. It looks for definitions only where the record goes by one.
+#[inline(always)]
+fn glance_by<V: ValueTaker>(
+    ahead: &mut Ahead<'_>,
+    definitions: &InForce,
+    room: u64,
+    id: u32,
+    values: &mut V,
+) -> Option<u64>
+    requires { 3 ≤ id }
+    ensures glimpsed { IfSome result (λ code. Gains V.took values.old values.new
+        (AddsBehind (λ list. ReadsEntry definitions.now room id ahead.old code list ahead.new))) }
+    ensures keeps { Keeps V.took values.old values.new }
+{
+    if id == 3 {
+        return glance_plain(ahead, room, values);
+    }
+    glance_abbreviated::<V, V>(ahead, &definitions.all(), room, id, values)
+}
+
 /// Reads one record after its id, and answers its code and the bit behind it. The values are those of the record alone. It has
-/// what is ahead for itself, and looks for definitions only where the record goes by one.
+/// what is ahead for itself.
 #[inline(never)]
 pub(crate) fn glance_one<V: ValueTaker>(
     ahead: Ahead<'_>,
@@ -102,43 +118,58 @@ pub(crate) fn glance_one<V: ValueTaker>(
     ensures took { TookSome V.took values.new }
 {
     let mut ahead = ahead;
-    if id == 3 {
-        let code = glance_plain(&mut ahead, room, values)?;
-        return Some((code, ahead.position()));
-    }
-    let code = glance_abbreviated::<V, V>(&mut ahead, &definitions.all(), room, id, values)?;
+    let code = glance_by(&mut ahead, definitions, room, id, values)?;
     Some((code, ahead.position()))
 }
 
-/// Reads a record and its id, where the block is no BLOCKINFO block: the id and the code. The values are those of the record
-/// alone.
+/// Reads a record and its id, where the block is no BLOCKINFO block: the id and the code. What is no record leaves the values. `U`
+/// is whom it is compiled for.
 #[inline(always)]
-fn glance_item<G: Gatherer>(
+fn glance_item<U, V: ValueTaker>(
     ahead: &mut Ahead<'_>,
     frame: &Frame,
     definitions: &Definitions<'_>,
     room: u64,
-    values: &mut G::Values,
+    values: &mut V,
 ) -> Option<(u32, u64)>
-    requires took { TookSome G.Values.took values.old }
+    requires took { TookSome V.took values.old }
     requires plain { frame.now.info ≡ None }
     requires same { definitions.now ≡ frame.now.definitions }
-    ensures glimpsed { IfSome result (λ read. Has G.Values.took values.new
-        (λ list. (length list ≤ room) × ((limits : blocks.Limits) (outer : List machine.Frame)
-        (handed : Handed) → limits.values - handed.used ≡ room
-        → Glimpsed (step_of limits (frame_shown frame.now ∷ outer) handed) ahead.old (
-          record_of read.0 list ahead.old.position (read.1, ahead.new.position),
-          after_record (frame_shown frame.now) outer handed list,
-        ) ahead.new))) }
-    ensures took { TookSome G.Values.took values.new }
+    ensures glimpsed { IfSome result (λ read. Gains V.took values.old values.new
+        (AddsBehind (λ list. (length list ≤ room)
+        × SeesRecord frame.now room ahead.old read list ahead.new))) }
+    ensures keeps { Keeps V.took values.old values.new }
     ensures moves { OnSome result (ahead.old.position < ahead.new.position) }
 {
     let id = ahead.fixed(u32::from(frame.head.width))?;
     if id < 3 {
         return None;
     }
-    values.truncate(0);
-    let code = glance_entry::<G, G::Values>(ahead, definitions, room, id as u32, values)?;
+    let code = glance_entry::<U, V>(ahead, definitions, room, id as u32, values)?;
+    Some((id as u32, code))
+}
+
+/// Reads a record and its id, as `glance_item` does, but looks for definitions only where the record goes by one.
+#[inline(always)]
+pub(crate) fn glance_next<V: ValueTaker>(
+    ahead: &mut Ahead<'_>,
+    frame: &Frame,
+    room: u64,
+    values: &mut V,
+) -> Option<(u32, u64)>
+    requires took { TookSome V.took values.old }
+    requires plain { frame.now.info ≡ None }
+    ensures glimpsed { IfSome result (λ read. Gains V.took values.old values.new
+        (AddsBehind (λ list. (length list ≤ room)
+        × SeesRecord frame.now room ahead.old read list ahead.new))) }
+    ensures keeps { Keeps V.took values.old values.new }
+    ensures moves { OnSome result (ahead.old.position < ahead.new.position) }
+{
+    let id = ahead.fixed(u32::from(frame.head.width))?;
+    if id < 3 {
+        return None;
+    }
+    let code = glance_by(ahead, &frame.definitions, room, id as u32, values)?;
     Some((id as u32, code))
 }
 
@@ -165,7 +196,9 @@ pub(crate) fn gather_records<G: Gatherer>(
     let definitions = frame.definitions.all();
     loop {
         let room = limits.values().saturating_sub(spent);
-        let Some((id, code)) = glance_item::<G>(&mut ahead, frame, &definitions, room, values)
+        values.truncate(0);
+        let Some((id, code)) =
+            glance_item::<G, G::Values>(&mut ahead, frame, &definitions, room, values)
         else {
             *used = spent;
             return Ok(first);
