@@ -250,3 +250,35 @@ fn bytes_in_sight(rt: HostRuntime) {
     let wanted: [u64; 15] = [1, 2, 3, 4, 5, 6, 7, 8, 9, 10, 11, 12, 13, 14, 15];
     assert!(rt; told.as_slice() == wanted.as_slice(), "{told:?}");
 }
+
+/// The bytes that a reader of a slice lends behind a number of eight bits, told once it has gone on to the end.
+fn told_later(
+    alloc: Global,
+    mut reader: BitReader<SliceSource<'_>>,
+) -> Result<Vec<u64>, AllocError> {
+    let Ok(_) = reader.fixed(8) else {
+        return Err(AllocError);
+    };
+    if !reader.is_live() {
+        return Err(AllocError);
+    }
+    let sight = reader.sight_in_slice();
+    let Ok(()) = reader.catch_up(104) else {
+        return Err(AllocError);
+    };
+    bytes_told(alloc, Ahead::new(sight))
+}
+
+#[test]
+fn bytes_within_a_limit(rt: HostRuntime) {
+    let source = SliceSource::new(&[
+        0x42, 0x43, 0xC0, 0xDE, 7, 1, 2, 3, 4, 5, 6, 7, 8, 9, 10, 11, 12, 13, 14, 15,
+    ]);
+    let limits = Limits::new(18, 1, 1).expect(&rt, "within the caps");
+    let told = match BitReader::start(source, limits) {
+        Ok((reader, _)) => told_later(rt.alloc(), reader),
+        Err(_) => Err(AllocError),
+    };
+    let wanted: [u64; 13] = [1, 2, 3, 4, 5, 6, 7, 8, 9, 10, 11, 12, 13];
+    assert!(rt; told.expect(&rt, "memory").as_slice() == wanted.as_slice());
+}

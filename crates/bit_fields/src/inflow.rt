@@ -6,7 +6,7 @@ ghost use Rattle.std.specs.Borrow.{sem};
 ghost use Rattle.bit_fields.specs.Devices.{IsFresh};
 ghost use Rattle.std.specs.Io.BufRead.{Rests};
 
-use crate::source::{AtHand, Source, SourceFailed};
+use crate::source::{AtHand, SliceSource, Source, SourceFailed};
 use crate::window::Window;
 use std::marker::Model;
 
@@ -427,5 +427,22 @@ impl<S: Source> Inflow<S> {
         ensures most { result < 2 ^ 35 }
     {
         self.limit
+    }
+}
+
+impl<'a> Inflow<SliceSource<'a>> {
+    /// The bytes of the stream that lie in memory behind the window, possibly none. They are lent for as long as the slice is
+    /// there.
+    #[inline(always)]
+    pub fn slice(&self) -> &'a [u8]
+        ensures front { LiesBehind self.now result.now }
+        ensures few { length result.now ≤ 2 ^ 35 }
+    {
+        if self.ended {
+            return &[];
+        }
+        let room = self.end.min(self.limit).saturating_sub(self.loaded) as usize;
+        let bytes = self.source.rest();
+        &bytes[..room.min(bytes.len())]
     }
 }

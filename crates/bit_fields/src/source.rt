@@ -135,6 +135,14 @@ impl<'a> SliceSource<'a> {
             pulls: 0,
         }
     }
+
+    /// The bytes that are left.
+    #[inline(always)]
+    pub(crate) fn rest(&self) -> &'a [u8]
+        ensures { (⟦<SliceSource<'a> as Source>⟧.incoming self.now).to_come ≡ Some result.now }
+    {
+        self.rest
+    }
 }
 
 impl<'a> Source for SliceSource<'a> {

@@ -16,7 +16,7 @@ ghost use Rattle.bit_fields.specs.Inside.{gap_of, numbers, TookGap};
 use crate::ahead::Sight;
 use crate::fault::Fault;
 use crate::reader::BitReader;
-use crate::source::{Source, SourceFailed};
+use crate::source::{SliceSource, Source, SourceFailed};
 
 impl<S: Source> BitReader<S> {
     ghost use Rattle.bit_fields.specs.contracts.reader.BitReader.{the_row};
@@ -200,6 +200,25 @@ impl<S: Source> BitReader<S> {
                 let fault = self.fault_of(missing, field);
                 Err(self.fail_at(fault, first))
             }
+        }
+    }
+}
+
+impl<'a> BitReader<SliceSource<'a>> {
+    /// Lends bits of a live reader that come next, for `Ahead` to read, for as long as the slice is there, and takes none of them.
+    #[inline(always)]
+    pub fn sight_in_slice(&self) -> Sight<'a>
+        requires live { self.now.live ≡ true }
+        ensures lawful { IsSight result }
+        ensures sees { Sees self.now (sight_lent result) }
+    {
+        let (word, held) = self.inflow.window();
+        let bytes = self.inflow.slice();
+        Sight {
+            word,
+            held,
+            bytes,
+            position: self.position,
         }
     }
 }
