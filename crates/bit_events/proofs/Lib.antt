@@ -8,5 +8,6 @@ pub mod Faults
 pub mod WholeInputs
 pub mod Folds
 pub mod Runs
+pub mod InSlices
 pub mod Kept
 pub mod Standings

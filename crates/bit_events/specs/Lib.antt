@@ -8,5 +8,6 @@ pub mod Reading
 pub mod Gathering
 pub mod Folding
 pub mod Runs
+pub mod SliceEvents
 pub mod Standing
 pub mod Firsts

@@ -26,3 +26,12 @@ pub enum Event<'a, L = &'a [u64]> {
         after: u64,
     },
 }
+
+/// A record without its values: its abbreviation id, its code, its first bit and the bit behind it.
+#[derive(Clone, Copy, Debug, PartialEq, Eq)]
+pub struct RecordHead {
+    pub abbrev: u32,
+    pub code: u64,
+    pub first: u64,
+    pub after: u64,
+}

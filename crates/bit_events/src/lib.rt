@@ -21,14 +21,14 @@ mod open_blocks;
 #[cfg(test)]
 mod open_blocks_tests;
 mod running;
-//mod slice_events;
+mod slice_events;
 mod with_first;
 
 pub use checking::{check, check_keeping};
-pub use event::Event;
+pub use event::{Event, RecordHead};
 pub use events::Events;
 pub use finder::{EventFinder, PackedEvent, PackedEvents};
 pub use folding::{Folded, fold};
 pub use gatherer::Gatherer;
 pub use open_blocks::OpenBlocks;
-//pub use slice_events::{RecordHead, SliceEvents};
+pub use slice_events::SliceEvents;

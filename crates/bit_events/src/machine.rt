@@ -1,25 +1,30 @@
-ghost use Rattle.std.specs.Prelude.{◌≡◌, ◌<◌, ◌≤◌, ◌+◌, ◌-◌, true, [], ℕ, List, OnOk, IfOk, vec_len, is_none, IfSome, IfNone, IsTrue, ◌↔◌};
+ghost use Rattle.std.specs.Prelude.{◌≡◌, ◌<◌, ◌≤◌, ◌+◌, ◌-◌, ◌^◌, true, [], ℕ, List, OnOk, IfOk, vec_len, is_none, IfSome, IfNone, OnSome, IsTrue, ◌↔◌};
 ghost use Rattle.std.specs.Option.{option_copied, option_map};
 ghost use Rattle.bit_grammar.specs.Blocks.{enter, leave};
 ghost use Rattle.bit_grammar.specs.Terms.{info_for};
 ghost use Rattle.bit_grammar.specs.Machine.{at_start, open_block, open_nested, step_after, step_in, step_top, step, scope_of, inside};
 ghost use Rattle.bit_fields.specs.Reader.{Takes, told_by};
-ghost use Rattle.bit_abbrev.specs.Values.{Has};
+ghost use Rattle.bit_fields.specs.Ahead.{Glimpsed};
+ghost use Rattle.bit_abbrev.specs.Values.{Gains, Has, Keeps};
 ghost use Rattle.bit_events.specs.Coming.{held_after};
 ghost use Rattle.bit_events.specs.EventView.{shown_if_any};
 ghost use Rattle.bit_events.specs.HeadView.{head_shown};
 ghost use Rattle.bit_events.specs.FrameView.{info_shown, frames_shown};
+ghost use Rattle.bit_events.specs.Runs.{AddsBehind};
 ghost use Rattle.bit_events.specs.MachineView.{handed_shown, machine_shown, newest, aside_shown, aside_lent, found_shown, found_lent, after_aside, after_found, record_of, innermost_head, LeavesMachine, TookSome, InBlock, end_rule, define_rule, record_rule};
 
-use crate::event::Event;
+use crate::event::{Event, RecordHead};
 use crate::frame::{Describing, Frame, define, record_after};
 use crate::head::BlockHead;
 use crate::heads::{block_head, end_of_block, or_memory_fault};
-use crate::running::glance_one;
+use crate::running::{glance_next, glance_one};
 use crate::with_first::WithFirst;
 use bit_abbrev::{Abbrev, InfoTable, SharedInfo};
 use bit_fields::{Ahead, BitReader, Fault, Limits, Reason, Source, ValueKeeper, ValueTaker};
 use std::alloc::{AllocError, Global};
+
+/// How many values may stand before those of a record that is read ahead, so that all can be counted.
+const MOST_BEFORE: u64 = 1 << 63;
 
 /// An event that is no record. Of a definition, which is the newest one, the machine holds the operands.
 #[derive(Clone, Copy)]
@@ -232,9 +237,10 @@ impl Machine {
 
     /// How many values there is still room for.
     #[inline(always)]
-    fn room(&self, limits: &Limits) -> u64
+    pub(crate) fn room(&self, limits: &Limits) -> u64
         ensures room { result ≡ limits.now.values - self.now.used }
         ensures capped { limits.now.values ≤ 4294967295 }
+        ensures used { self.now.used < 2 ^ 64 }
     {
         limits.values().saturating_sub(self.used)
     }
@@ -311,6 +317,47 @@ impl Machine {
         self.used += count;
         reader.catch_up(after - start)?;
         Ok((code, after))
+    }
+
+    /// Reads the next event from what is ahead, where it is a record that lies there whole and stands in no BLOCKINFO block, and
+    /// answers the rest of it. Its values stand behind those before; where nothing is answered, some of them may.
+    #[inline(always)]
+    pub(crate) fn note_ahead<V: ValueTaker>(
+        &mut self,
+        limits: &Limits,
+        ahead: &mut Ahead<'_>,
+        values: &mut V,
+    ) -> Option<RecordHead>
+        requires took { TookSome V.took values.old }
+        ensures glimpsed { IfSome result (λ read. Gains V.took values.old values.new
+            (AddsBehind (λ list. Glimpsed (step limits.now (machine_shown self.old)) ahead.old
+            (record_of read.«abbrev» list read.first (read.code, read.after), machine_shown self.new)
+            ahead.new))) }
+        ensures open { OnSome result (0 < vec_len self.old.frames) }
+        ensures frames { self.new.frames ≡ self.old.frames }
+        ensures stays { IfNone result (self.new ≡ self.old) }
+        ensures keeps { Keeps V.took values.old values.new }
+        ensures moves { OnSome result (ahead.old.position < ahead.new.position) }
+        ensures below { OnSome result (ahead.new.position < 2 ^ 64) }
+    {
+        let Some(frame) = self.frames.last() else {
+            return None;
+        };
+        let before = values.count();
+        if frame.info.is_some() || before > MOST_BEFORE {
+            return None;
+        }
+        let room = self.room(limits);
+        let first = ahead.position();
+        let (abbrev, code) = glance_next(ahead, frame, room, values)?;
+        let after = ahead.position();
+        self.used += values.count() - before;
+        Some(RecordHead {
+            abbrev,
+            code,
+            first,
+            after,
+        })
     }
 
     /// Reads what is no record in the innermost block, after its id, which began at a bit: the end of the block, a block or a
