@@ -22,3 +22,5 @@ pub mod Texts
 pub mod Looking
 pub mod AtOnce
 pub mod Unlike
+pub mod Standing
+pub mod Expecting

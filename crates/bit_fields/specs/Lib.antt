@@ -11,3 +11,4 @@ pub mod Short
 pub mod Ahead
 pub mod Sight
 pub mod Packed
+pub mod Expected

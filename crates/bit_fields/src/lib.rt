@@ -7,6 +7,9 @@ mod ahead;
 #[cfg(test)]
 mod ahead_tests;
 mod characters;
+mod expected;
+#[cfg(test)]
+mod expected_tests;
 mod fault;
 mod head;
 mod inflow;
@@ -37,6 +40,7 @@ mod writer_tests;
 
 pub use ahead::{Ahead, Sight};
 pub use bit_grammar::{MOST_BYTES, MOST_DEPTH, MOST_VALUES, Reason, Shapes};
+pub use expected::ExpectedValues;
 pub use fault::Fault;
 pub use head::{Head, Wrapper};
 pub use keeper::ValueKeeper;

@@ -2,7 +2,7 @@
 
 ghost use Rattle.std.specs.Prelude.{◌≡◌, ◌↔◌, ◌≤◌, ℕ, List, OnOk, OnErr, [], ◌++◌, length, drop, IfSome, IfNone, IsTrue, slice_get};
 ghost use Rattle.std.proofs.Math.ListN.{replicate};
-ghost use Rattle.bit_fields.specs.Packed.{first_apart};
+ghost use Rattle.bit_fields.specs.Packed.{first_apart, StandAt};
 
 use crate::settled::{BATCH, SettledValues};
 use crate::values::ValueTaker;
@@ -112,6 +112,27 @@ impl PackedValues {
         self.recent[..self.held]
             .get((place - settled) as usize)
             .copied()
+    }
+
+    /// Values from a place on that are held as numbers, possibly none.
+    #[inline]
+    pub(crate) fn numbers_from(&self, place: u64) -> &[u64]
+        ensures { StandAt place result.now self.now }
+    {
+        let settled = self.settled.len();
+        if place < settled {
+            return self.settled.numbers_from(place);
+        }
+        let recent = &self.recent[..self.held];
+        &recent[((place - settled) as usize).min(self.held)..]
+    }
+
+    /// Values from a place on that are held in a byte each, possibly none.
+    #[inline]
+    pub(crate) fn bytes_from(&self, place: u64) -> &[u8]
+        ensures { StandAt place result.now self.now }
+    {
+        self.settled.bytes_from(place)
     }
 
     /// The first place from one on and below another at which these and others have different values, if there is one.

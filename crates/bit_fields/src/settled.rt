@@ -2,6 +2,7 @@
 
 ghost use Rattle.std.specs.Prelude.{◌≡◌, ◌+◌, ◌-◌, ◌<◌, ◌≤◌, ◌^◌, [], ◌++◌, length, take, drop, OnOk, OnErr, slice_get, true, false};
 ghost use Rattle.std.proofs.Math.ListN.{replicate};
+ghost use Rattle.bit_fields.specs.Packed.{StandAt};
 
 use std::alloc::{AllocError, Global};
 use std::marker::Model;
@@ -139,6 +140,28 @@ impl Numbers {
         }
     }
 
+    /// Those from a place on that take eight bytes, possibly none.
+    #[inline]
+    fn wide_from(&self, place: u64) -> &[u64]
+        ensures { StandAt place result.now self.now }
+    {
+        let wide = self.wide.as_slice();
+        &wide[(place as usize).min(wide.len())..]
+    }
+
+    /// Those from a place on that take a byte each, possibly none.
+    #[inline]
+    fn bytes_from(&self, place: u64) -> &[u8]
+        ensures { StandAt place result.now self.now }
+    {
+        let place = place as usize;
+        if place < self.wide.len() {
+            return &[];
+        }
+        let bytes = self.bytes.as_slice();
+        &bytes[(place - self.wide.len()).min(bytes.len())..]
+    }
+
     /// Drops those behind the first ones.
     fn truncate(&mut self, count: u64)
         ensures { self.new ≡ take count self.old }
@@ -251,6 +274,22 @@ impl SettledValues {
             return self.numbers.get(place);
         }
         if place < self.count { Some(0) } else { None }
+    }
+
+    /// Values from a place on that are held in eight bytes each, possibly none.
+    #[inline]
+    pub(crate) fn numbers_from(&self, place: u64) -> &[u64]
+        ensures { StandAt place result.now self.now }
+    {
+        self.numbers.wide_from(place)
+    }
+
+    /// Values from a place on that are held in a byte each, possibly none.
+    #[inline]
+    pub(crate) fn bytes_from(&self, place: u64) -> &[u8]
+        ensures { StandAt place result.now self.now }
+    {
+        self.numbers.bytes_from(place)
     }
 
     /// Adds values. Where memory is refused, or there were too many to be counted then, these are what they were.

@@ -1,7 +1,9 @@
 -- An input that is read in step with another one.
-use Rattle.std.proofs.Common.{◌≡◌, ℕ, suc, ◌+◌, ◌-◌, ◌<◌, Bool, true, false, List, [], ◌∷◌, ◌++◌, Option, Some, None, length, refl, sym, ap, ◌∙◌, subst, append_assoc, length-append, arith}
-use Rattle.std.specs.Prelude.{if◌then◌else◌, cond, eqb, slice_get}
-use Rattle.std.proofs.lemmas.List.{append-nil}
+use Rattle.std.proofs.Common.{◌≡◌, ℕ, suc, ◌+◌, ◌-◌, ◌^◌, ◌<◌, ◌≤◌, Bool, true, false, List, [], ◌∷◌, ◌++◌, Option, Some, None, length, take, refl, sym, ap, ◌∙◌, subst, append_assoc, length-append, arith}
+use Rattle.std.specs.Prelude.{if◌then◌else◌, cond, eqb, slice_get, zero, T}
+use Rattle.std.proofs.lemmas.List.{append-nil, length-take-le}
+use Rattle.std.proofs.Math.Seq.{take-length}
+use Rattle.std.proofs.Math.Dec.{eqb_refl}
 use Rattle.std.specs.List.{list_all}
 use Rattle.bit_grammar.specs.Setting.{keeps}
 use Rattle.bit_grammar.specs.Under.{is_left, ids_behind, events_under}
@@ -10,20 +12,24 @@ use Rattle.bit_grammar.specs.Marks.{RecordMark, DefinitionMark}
 use Rattle.bit_grammar.specs.Machine.{Opened, Event, enters, defines, notes, leaves}
 use Rattle.bit_grammar.specs.Steps.{open_after}
 use Rattle.bit_grammar.specs.Machine.{Told}
+use Rattle.bit_fields.specs.Expected.{Expected, HasTaken}
 use Rattle.bit_fields.specs.Packed.{first_apart}
-use Rattle.bit_events.specs.Coming.{Coming, TellsComing, EndsEvents}
+use Rattle.bit_events.specs.Coming.{Coming, TellsComing, GivesEvent, EndsEvents}
+use Rattle.bit_events.specs.MachineView.{record_of}
 use Rattle.bit_events.specs.Gathering.{left_open}
 use Rattle.bit_events.proofs.Folds.{open_behind-push}
 use Rattle.bit_events.specs.Standing as blocks
 use Rattle.bit_events.proofs.Standings.{left_as_many, left_push}
-use Rattle.bit_norm.specs.Entries.{Sign, begins, has_record, ends, over, Entry, signs_in, open_block_with, Seen, Standing, at_item, standing, standing_shown, apart_at, first_unlike, what_of}
+use Rattle.bit_norm.specs.Entries.{Sign, begins, has_record, ends, over, Entry, signs_in, open_block_with, Seen, Standing, at_item, standing, standing_shown, the_record, apart_at, first_unlike, value_apart, what_of}
 use Rattle.bit_norm.specs.declared.differences.OpenBlock.{OpenBlock}
 use Rattle.bit_norm.specs.declared.differences.ValueDifference.{ValueDifference}
 use Rattle.bit_norm.specs.declared.in_step.Apart.{Apart}
 use Rattle.bit_norm.specs.declared.in_step.Beside.{Beside}
-use Rattle.bit_norm.specs.declared.in_step.Beside.TheVariants.{Other}
+use Rattle.bit_norm.specs.declared.in_step.Beside.TheVariants.{Same, Other}
+use Rattle.bit_norm.specs.declared.in_step.Weighed.{Weighed}
+use Rattle.bit_norm.specs.declared.in_step.Weighed.TheVariants as weighed
 use Rattle.bit_norm.specs.declared.in_step.Found.{Found}
-use Rattle.bit_norm.specs.InStep.{Stand, Said, said_of, said_left, stand_behind_block, stand_behind, entry_at, stand_after, put_entry, told_entries, behind_sign, IsOther, StandsBeside, SaysBeside, Took, Compared, here, entries_of_first, ended_from, second_end, entries_of_second, seen_of, Departs, TakesSign, Alike, ApartAt, Tallied}
+use Rattle.bit_norm.specs.InStep.{Stand, Said, said_of, said_left, stand_behind_block, stand_behind, entry_at, stand_after, put_entry, told_entries, behind_sign, IsOther, StandsBeside, SaysBeside, IsBeside, Weighs, Gave, WeighsNext, Steps, Took, Compared, here, entries_of_first, ended_from, second_end, entries_of_second, seen_of, Departs, TakesSign, Alike, ApartAt, Tallied}
 
 -- ---- one event
 
@@ -427,3 +433,116 @@ end_signed old after kept some = record {
   ended = λ found p before. (closed_ends p old.within old.items after (some found)).0;
   deep = λ found before. (closed_ends 0 old.within old.items after (some found)).1;
 }
+
+-- ---- one event of the first
+
+pub gave : (old new : Coming) (event : Event) (list : List ℕ) → GivesEvent old event (record new { held = list }) → Gave old event new
+gave old new event list g = record { tells = g.pays.tells; told = g.told; forward = g.forward; below = g.below }
+
+pub gave_all : (old new : Coming) (event : Event) → GivesEvent old event new → Gave old event new
+gave_all old new event g = gave old new event new.held g
+
+-- no event says that the stream ends
+item_of : (ended : ℕ) (event : Event) (x : Said) (entries : List Entry) → said_of ended event ≡ Some x → behind_sign x.sign entries ≡ entries
+item_of ended (enters o) x entries e = (let is : Said = record { sign = begins o.id; bit = o.first; ended = o.body } in let same : is ≡ x = cc in subst (λ (y : Said). behind_sign y.sign entries ≡ entries) same refl)
+item_of ended (defines mark) x entries e = absurd (cc)
+item_of ended (notes mark) x entries e = (let is : Said = record { sign = has_record mark.code mark.values; bit = mark.first; ended = mark.after } in let same : is ≡ x = cc in subst (λ (y : Said). behind_sign y.sign entries ≡ entries) same refl)
+item_of ended (leaves after) x entries e = (let is : Said = record { sign = ends; bit = ended; ended = after } in let same : is ≡ x = cc in subst (λ (y : Said). behind_sign y.sign entries ≡ entries) same refl)
+
+left_item : (stands : blocks.OpenUnder) (ended : ℕ) (event : Event) (x : Said) (entries : List Entry) → said_left stands ended event ≡ Some x → behind_sign x.sign entries ≡ entries
+left_item stands ended event x entries e = go (is_left stands.setting stands.ids event) e
+  where
+    go : (b : Bool) → (if b then said_of ended event else None) ≡ Some x → behind_sign x.sign entries ≡ entries
+    go true is = item_of ended event x entries is
+    go false is = absurd (cc)
+
+-- what is said of it stands before what the others tell
+pub stepped : (stands now : blocks.OpenUnder) (s : Stand) (old new : Coming) (event : Event) (sign : Sign) (w : Weighed) (p : Apart) → Gave old event new → now ≡ blocks.stands_after event stands → Weighs stands s.ended event sign w p → Steps stands s old sign w p now new
+stepped stands now s old new event sign weighed.Passed p g is none = record {
+  tells = g.tells;
+  same = λ tells. ap (λ (t : Told). told_entries s (blocks.left_of stands t.0)) (g.told tells) ∙ entries_silent stands now s event new.told.0 none is;
+  forward = g.forward;
+  below = g.below;
+}
+stepped stands now s old new event sign (weighed.Stands beside) p g is says = λ tells. record {
+  tells = g.tells tells;
+  found = says.found;
+  is = ap (λ (t : Told). told_entries s (blocks.left_of stands t.0)) (g.told tells) ∙ entries_said stands now s event says.found new.told.0 says.is is
+      ∙ ap (λ (l : List Entry). entry_at s says.found ∷ l) (sym (left_item stands s.ended event says.found (told_entries (stand_behind s says.found.sign says.found.ended) (blocks.left_of now new.told.0)) says.is));
+  beside = says.beside;
+}
+
+-- the same after events that say nothing
+pub took_later : (stands mid now : blocks.OpenUnder) (s : Stand) (old between new : Coming) (sign : Sign) (b : Beside) (p : Apart) → (TellsComing old → TellsComing between × (told_entries s (blocks.left_of stands old.told.0) ≡ told_entries s (blocks.left_of mid between.told.0))) → (TellsComing between → Took mid s between sign b p now new) → TellsComing old → Took stands s old sign b p now new
+took_later stands mid now s old between new sign b p so_far took tells =
+    let at = so_far tells in
+    let t = took at.0 in
+    record { tells = t.tells; found = t.found; is = at.1 ∙ t.is; beside = t.beside }
+
+-- ---- a record of the first that has the first values of another one
+
+same_number : (n : ℕ) → eqb n n ≡ true
+same_number n = go (eqb n n) (eqb_refl n)
+  where
+    go : (b : Bool) → T b → b ≡ true
+    go true t = refl
+    go false t = absurd t
+
+-- they differ nowhere
+front_apart : (k n : ℕ) (list : List ℕ) → first_unlike k (take n list) list ≡ None
+front_apart k zero [] = refl
+front_apart k (suc n) [] = refl
+front_apart k zero (x ∷ list) = refl
+front_apart k (suc n) (x ∷ list) = rw (same_number x) (front_apart (suc k) n list)
+
+front_value : (code other n : ℕ) (list : List ℕ) → None ≡ value_apart (has_record code (take n list)) (has_record other list)
+front_value code other n list = go (eqb code other)
+  where
+    go : (t : Bool) → None ≡ (if t then first_unlike 0 (take n list) list else None)
+    go true = sym (front_apart 0 n list)
+    go false = refl
+
+-- what was read behind the other one
+pub read_front : (e : Expected) (others after list : List ℕ) → HasTaken e after → after ≡ take (2 ^ 62) others ++ list → take (2 ^ 62) others ≡ others → HasTaken e (others ++ list)
+read_front e others after list had parts whole = subst (HasTaken e) (parts ∙ ap (λ (front : List ℕ). front ++ list) whole) had
+
+-- not left
+pub record_passed : (stands : blocks.OpenUnder) (old new : Coming) (id code first after : ℕ) (list : List ℕ) (sign : Sign) (p : Apart) → GivesEvent old (record_of id list first (code, after)) (record new { held = list }) → is_left stands.setting stands.ids (record_of id list first (code, after)) ≡ false → WeighsNext stands old sign weighed.Passed p new
+record_passed stands old new id code first after list sign p g out = record {
+  event = record_of id list first (code, after);
+  gave = gave old new (record_of id list first (code, after)) list g;
+  stays = refl;
+  weighs = λ ended. left_out_says stands ended (record_of id list first (code, after)) out;
+}
+
+-- left, and beside another one as this says
+pub record_beside : (stands : blocks.OpenUnder) (old new : Coming) (id code first after : ℕ) (list : List ℕ) (sign : Sign) (b : Beside) (p : Apart) → GivesEvent old (record_of id list first (code, after)) (record new { held = list }) → is_left stands.setting stands.ids (record_of id list first (code, after)) ≡ true
+    → StandsBeside (record { sign = has_record code list; bit = first; ended = after }) sign b p → WeighsNext stands old sign (weighed.Stands b) p new
+record_beside stands old new id code first after list sign b p g kept is = record {
+  event = event;
+  gave = gave old new event list g;
+  stays = refl;
+  weighs = λ ended. subst (λ (o : Option Said). IsBeside o sign (weighed.Stands b) p) (sym (left_says stands ended event kept)) (record_says (record { abbreviation = id; code = code; values = list; first = first; after = after }) ended sign b p is);
+}
+  where
+    event : Event
+    event = record_of id list first (code, after)
+
+-- the same one
+pub record_same : (code first after other count : ℕ) (list others : List ℕ) (p : Apart) → list ≡ take count others → count ≡ length others → code ≡ other → StandsBeside (record { sign = has_record code list; bit = first; ended = after }) (has_record other others) (Same after) p
+record_same code first after other count list others p is all same = (rw (is, all, same, take-length others) refl, refl)
+
+-- another one
+pub record_other : (code first after other count : ℕ) (list others : List ℕ) (p : Apart) → list ≡ take count others → count ≤ length others → ((code ≡ other) × (count ≡ length others) → ⊥) → (let s : Standing = record { bit = first; what = the_record code count } in (standing_shown p.first ≡ s)) → p.value ≡ None
+    → StandsBeside (record { sign = has_record code list; bit = first; ended = after }) (has_record other others) Other p
+record_other code first after other count list others p is few unlike told value = record {
+  unlike = λ e. unlike (cc, omega (arith, many, ap length (values_same e)));
+  first = told ∙ ap (λ (n : ℕ). let s : Standing = record { bit = first; what = the_record code n } in s) (sym many);
+  value = value ∙ subst (λ (xs : List ℕ). None ≡ value_apart (has_record code xs) (has_record other others)) (sym is) (front_value code other count others);
+}
+  where
+    many : length list ≡ count
+    many = ap length is ∙ length-take-le count others few
+
+    values_same : has_record code list ≡ has_record other others → list ≡ others
+    values_same e = cc

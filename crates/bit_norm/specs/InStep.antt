@@ -1,5 +1,5 @@
 -- What reading an input in step with another one does.
-use Rattle.std.specs.Prelude.{◌≡◌, ◌≢◌, ⊤, ℕ, zero, suc, List, [], ◌∷◌, ◌++◌, Option, Some, None, IsSome, Result, Ok, Err, length, if◌then◌else◌}
+use Rattle.std.specs.Prelude.{◌≡◌, ◌≢◌, ◌<◌, ◌^◌, ⊤, ℕ, zero, suc, List, [], ◌∷◌, ◌++◌, Option, Some, None, IsSome, Result, Ok, Err, length, if◌then◌else◌}
 use Rattle.bit_grammar.specs.Setting.{Setting}
 use Rattle.bit_grammar.specs.Under.{is_left, ids_behind, events_under}
 use Rattle.bit_grammar.specs.Blocks.{Limits}
@@ -9,7 +9,7 @@ use Rattle.bit_grammar.specs.Machine.{Event, enters, defines, notes, leaves}
 use Rattle.bit_fields.specs.declared.fault.Fault.{Fault}
 use Rattle.bit_fields.specs.declared.fault.Fault.TheVariants.{Memory}
 use Rattle.bit_fields.specs.Devices.{Incoming, known_bytes}
-use Rattle.bit_events.specs.Coming.{Coming, TellsComing}
+use Rattle.bit_events.specs.Coming.{Coming, TellsComing, event_before}
 use Rattle.bit_events.specs.Gathering.{left_open}
 use Rattle.bit_events.specs.Standing as blocks
 use Rattle.bit_events.specs.Reading.{Spent}
@@ -158,6 +158,30 @@ abbrev pub Weighs : blocks.OpenUnder → (ended : ℕ) → Event → tree.Sign �
 Weighs stands ended event sign answer apart = IsBeside (said_left stands ended event) sign answer
     apart
 
+-- an event came
+pub record Gave (old : Coming) (event : Event) (new : Coming) : Type 0 where
+  pub tells : TellsComing old → TellsComing new
+  pub told : TellsComing old → old.told ≡ event_before event new.told
+  pub forward : old.position < new.position
+  pub below : new.position < 2 ^ 64
+
+-- an event came that opens and closes no block, and this is how it is beside a sign, if it is left
+pub record WeighsNext (stands : blocks.OpenUnder) (old : Coming) (sign : tree.Sign)
+    (answer : Weighed) (apart : Apart) (new : Coming) : Type 0 where
+  pub event : Event
+  pub gave : Gave old event new
+  pub stays : blocks.stands_after event stands ≡ stands
+  pub weighs : (ended : ℕ) → Weighs stands ended event sign answer apart
+
+-- events came of which nothing is left
+pub record Passes (stands : blocks.OpenUnder) (s : Stand) (old : Coming) (now : blocks.OpenUnder)
+    (new : Coming) : Type 0 where
+  pub tells : TellsComing old → TellsComing new
+  pub same : TellsComing old → told_entries s (blocks.left_of stands old.told.0)
+      ≡ told_entries s (blocks.left_of now new.told.0)
+  pub forward : old.position < new.position
+  pub below : new.position < 2 ^ 64
+
 -- The next entry of what is left of the events to come, or the end of the stream, was taken, and this is how it is beside a sign.
 pub record Took (stands : blocks.OpenUnder) (s : Stand) (old : Coming) (sign : tree.Sign)
     (b : Beside) (apart : Apart) (now : blocks.OpenUnder) (new : Coming) : Type 0 where
@@ -167,6 +191,13 @@ pub record Took (stands : blocks.OpenUnder) (s : Stand) (old : Coming) (sign : t
       ≡ entry_at s found ∷ behind_sign found.sign
       (told_entries (stand_behind s found.sign found.ended) (blocks.left_of now new.told.0))
   pub beside : StandsBeside found sign b apart
+
+-- the next event, or the end of the stream, was taken, and this is how it is beside a sign, if it is left
+abbrev pub Steps : blocks.OpenUnder → Stand → Coming → tree.Sign → Weighed → Apart
+    → blocks.OpenUnder → Coming → Type 0
+Steps stands s old sign weighed.Passed apart now new = Passes stands s old now new
+Steps stands s old sign (weighed.Stands beside) apart now new = TellsComing old
+    → Took stands s old sign beside apart now new
 
 abbrev pub Meets : blocks.OpenUnder → Stand → Coming → tree.Sign → Result Beside Fault → Apart
     → blocks.OpenUnder → Coming → Type 0

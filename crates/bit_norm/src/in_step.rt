@@ -1,13 +1,13 @@
 //! An input that is read in step with the bytes of another one.
 
-ghost use Rattle.std.specs.Prelude.{◌≡◌, ◌*◌, ◌<◌, ◌^◌, IfOk, OnOk};
+ghost use Rattle.std.specs.Prelude.{◌≡◌, ◌*◌, ◌<◌, ◌^◌, IfOk, OnOk, IfSome, IfNone, None};
 ghost use Rattle.bit_grammar.specs.Setting.{setting_of};
 ghost use Rattle.bit_norm.specs.Entries as tree;
-ghost use Rattle.bit_norm.specs.Entries.{standing_shown, value_apart, what_of};
+ghost use Rattle.bit_norm.specs.Entries.{has_record, standing_shown, the_record, value_apart, what_of};
 ghost use Rattle.bit_events.specs.EventView.{event_shown};
 ghost use Rattle.bit_events.specs.Standing.{stands_after};
 ghost use Rattle.bit_fields.specs.Opening.{head_told};
-ghost use Rattle.bit_norm.specs.InStep.{said_of, sign_shown, stand_of, IsBeside, Weighs, PutsDown, StandsBeside, Meets, Concludes, ComparesWith};
+ghost use Rattle.bit_norm.specs.InStep.{said_of, sign_shown, stand_of, IsBeside, Weighs, PutsDown, StandsBeside, WeighsNext, Steps, Meets, Concludes, ComparesWith};
 
 use crate::comparing::{SameFault, Which, faulty};
 use crate::differences::{Difference, Place, Standing, ValueDifference, What};
@@ -15,8 +15,12 @@ use crate::sign::Sign;
 use crate::walk::Walk;
 use crate::writing::number_of_magic;
 use bit_abbrev::Abbrev;
-use bit_events::{Event, Folded, Gatherer, OpenBlocks, PackedEvent, PackedEvents, fold};
-use bit_fields::{Fault, Head, Limits, PackedValues, SliceSource, Source, Wrapper};
+use bit_events::{
+    Event, Folded, Gatherer, OpenBlocks, PackedEvent, RecordHead, SliceEvents, fold,
+};
+use bit_fields::{
+    ExpectedValues, Fault, Head, Limits, PackedValues, SliceSource, Source, Wrapper,
+};
 use bit_tree::Info;
 use std::alloc::{AllocError, Global};
 use std::marker::Model;
@@ -61,6 +65,29 @@ fn tell_apart(own: Sign<'_>, bit: u64, sign: Sign<'_>, apart: &mut Apart)
             what: own.what(),
         },
         value: own.value_apart(sign),
+    };
+}
+
+/// Tells a record of the first input, of which so many values were read, apart from another one of the second that has these
+/// values first.
+#[cold]
+#[inline(never)]
+fn tell_record_apart(read: RecordHead, count: u64, apart: &mut Apart)
+    ensures first { standing_shown apart.new.first ≡ record {
+      bit = read.first;
+      what = the_record read.code count;
+    } }
+    ensures value { apart.new.value ≡ None }
+{
+    *apart = Apart {
+        first: Standing {
+            bit: read.first,
+            what: What::Record {
+                code: read.code,
+                count,
+            },
+        },
+        value: None,
     };
 }
 
@@ -125,10 +152,76 @@ fn weigh(
     Ok(weigh_left(event, sign, ended, apart))
 }
 
+/// Reads the next event of the first input in step with a record of the second, where it is a record that lies there whole and
+/// begins with the same values: answers how it is beside that one. Its values are held nowhere.
+///
+/// Where it answers nothing no event came. It fails for memory alone.
+#[inline(always)]
+fn weigh_record(
+    events: &mut SliceEvents<'_>,
+    blocks: &OpenBlocks<'_>,
+    code: u64,
+    values: &PackedValues,
+    apart: &mut Apart,
+) -> Result<Option<Weighed>, AllocError>
+    ensures none { IfOk result (λ weighed. IfNone weighed (events.new ≡ events.old)) }
+    ensures some { IfOk result (λ weighed. IfSome weighed (λ weighed. WeighsNext blocks.now
+        events.old (has_record code values.now) weighed apart.new events.new)) }
+{
+    let mut expected = ExpectedValues::new(values);
+    let Some(read) = events.record(&mut expected) else {
+        return Ok(None);
+    };
+    if !blocks.leaves_record(read.code) {
+        return Ok(Some(Weighed::Passed));
+    }
+    let Some(count) = expected.front_of(values) else {
+        return Err(AllocError);
+    };
+    if read.code == code && count == values.len() {
+        return Ok(Some(Weighed::Stands(Beside::Same(read.after))));
+    }
+    tell_record_apart(read, count, apart);
+    Ok(Some(Weighed::Stands(Beside::Other)))
+}
+
+/// Takes the next event of the first input, or the end of its stream, and answers how that is beside a sign. What stands before
+/// it ended at this bit.
+#[inline(always)]
+fn weigh_next(
+    events: &mut SliceEvents<'_>,
+    blocks: &mut OpenBlocks<'_>,
+    walk: &Walk,
+    ended: u64,
+    sign: Sign<'_>,
+    apart: &mut Apart,
+) -> Result<Weighed, Fault>
+    ensures { IfOk result (λ weighed. Steps blocks.old (stand_of walk.now ended) events.old
+        (sign_shown sign.entry) weighed apart.new blocks.new events.new) }
+{
+    if let Sign::Record(code, values) = sign {
+        match weigh_record(events, blocks, code, values, apart) {
+            Ok(None) => {}
+            Ok(Some(weighed)) => return Ok(weighed),
+            Err(AllocError) => return Err(Fault::Memory),
+        }
+    }
+    match events.next()? {
+        None => Ok(Weighed::Stands(held_beside(
+            Sign::Over,
+            ended,
+            ended,
+            sign,
+            apart,
+        ))),
+        Some(event) => weigh(event, sign, blocks, ended, apart).map_err(|_| Fault::Memory),
+    }
+}
+
 /// Takes the next sign of what is left of the events to come, or the end of the stream, and answers how it is beside this one. What
 /// stands before it ended at this bit.
-fn next_beside<S: Source>(
-    events: &mut PackedEvents<S>,
+fn next_beside(
+    events: &mut SliceEvents<'_>,
     blocks: &mut OpenBlocks<'_>,
     walk: &Walk,
     ended: u64,
@@ -139,13 +232,9 @@ fn next_beside<S: Source>(
         apart.new blocks.new events.new }
 {
     'events: loop {
-        match events.next()? {
-            None => return Ok(held_beside(Sign::Over, ended, ended, sign, apart)),
-            Some(event) => match weigh(event, sign, blocks, ended, apart) {
-                Ok(Weighed::Passed) => {}
-                Ok(Weighed::Stands(beside)) => return Ok(beside),
-                Err(AllocError) => return Err(Fault::Memory),
-            },
+        match weigh_next(events, blocks, walk, ended, sign, apart)? {
+            Weighed::Passed => {}
+            Weighed::Stands(beside) => return Ok(beside),
         }
     }
 }
@@ -178,7 +267,7 @@ fn put_down(apart: &Apart, sign: Sign<'_>, bit: u64, found: &mut Option<Found>)
 #[derive(Drop)]
 pub(crate) struct Comparer<'a> {
     alloc: Global,
-    first: PackedEvents<SliceSource<'a>>,
+    first: SliceEvents<'a>,
     /// The open blocks of the first, and of the second.
     first_blocks: OpenBlocks<'a>,
     second_blocks: OpenBlocks<'a>,
@@ -392,7 +481,7 @@ pub(crate) fn compare_with<S: Source>(
     ensures { ComparesWith (setting_of info.entry) limits first.now (S.incoming source) result.0
         (S.incoming result.1) }
 {
-    let events = match PackedEvents::start(alloc, SliceSource::new(first), limits) {
+    let events = match SliceEvents::start(alloc, SliceSource::new(first), limits) {
         Ok(events) => events,
         Err(_) => return (Err(faulty(Which::First, Fault::Memory)), source),
     };
