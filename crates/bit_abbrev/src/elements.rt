@@ -97,7 +97,7 @@ fn glance_fields<'a, V: ValueTaker>(
 
 /// Reads numbers in chunks of n bits from what is ahead, at most so many, up to the first one that is not to be had or is not
 /// taken: how many, and what is then ahead.
-#[inline(never)]
+#[inline(always)]
 fn keep_numbers<'a, V: ValueTaker>(
     ahead: Ahead<'a>,
     most: u64,
@@ -127,7 +127,7 @@ fn keep_numbers<'a, V: ValueTaker>(
 
 /// Passes over numbers in chunks of n bits in what is ahead, at most so many, up to the first one that is not to be had: how
 /// many, and what is then ahead.
-#[inline(never)]
+#[inline(always)]
 fn pass_numbers(ahead: Ahead<'_>, most: u64, n: u32) -> (u64, Ahead<'_>)
     requires some { 2 ≤ n }
     requires few { n ≤ 32 }
@@ -147,6 +147,7 @@ fn pass_numbers(ahead: Ahead<'_>, most: u64, n: u32) -> (u64, Ahead<'_>)
 }
 
 /// Reads such numbers, or passes over them where nobody looks at them. Those are taken once it is known how many they are.
+#[inline(always)]
 fn glance_numbers<'a, V: ValueTaker>(
     ahead: Ahead<'a>,
     most: u64,
@@ -171,6 +172,39 @@ fn glance_numbers<'a, V: ValueTaker>(
     }
 }
 
+/// Does so with chunks of 6 bits, as most are; the width is written into the loop.
+#[inline(never)]
+fn glance_usual_numbers<'a, V: ValueTaker>(
+    ahead: Ahead<'a>,
+    most: u64,
+    values: &mut V,
+) -> (u64, Ahead<'a>)
+    ensures glimpsed { Gains V.took values.old values.new
+        (AddsAll (vbr 6) result.0 (reader_at ahead.entry) (Ok tt) (reader_at result.1)) }
+    ensures most { result.0 ≤ most }
+    ensures moves { ahead.entry.position ≤ result.1.position }
+{
+    glance_numbers(ahead, most, 6, values)
+}
+
+/// Does so with chunks of any width.
+#[inline(never)]
+fn glance_any_numbers<'a, V: ValueTaker>(
+    ahead: Ahead<'a>,
+    most: u64,
+    n: u32,
+    values: &mut V,
+) -> (u64, Ahead<'a>)
+    requires some { 2 ≤ n }
+    requires few { n ≤ 32 }
+    ensures glimpsed { Gains V.took values.old values.new
+        (AddsAll (vbr n) result.0 (reader_at ahead.entry) (Ok tt) (reader_at result.1)) }
+    ensures most { result.0 ≤ most }
+    ensures moves { ahead.entry.position ≤ result.1.position }
+{
+    glance_numbers(ahead, most, n, values)
+}
+
 /// Reads fields of an operand from what is ahead, at most so many: how many, and what is then ahead.
 #[inline(always)]
 fn glance_some<'a, V: ValueTaker>(
@@ -188,7 +222,8 @@ fn glance_some<'a, V: ValueTaker>(
     match element {
         Op::Fixed(0) | Op::Vbr(0) => (0, ahead),
         Op::Fixed(width) => glance_fields(ahead, most, u32::from(width), values),
-        Op::Vbr(width) => glance_numbers(ahead, most, u32::from(width), values),
+        Op::Vbr(6) => glance_usual_numbers(ahead, most, values),
+        Op::Vbr(width) => glance_any_numbers(ahead, most, u32::from(width), values),
         Op::Literal(_) | Op::Array | Op::Blob | Op::Char6 => (0, ahead),
     }
 }
