@@ -4,7 +4,7 @@ use Rattle.std.specs.declared.alloc.AllocError.{AllocError}
 use Rattle.std.specs.Str.{bytes_eq}
 use Rattle.std.proofs.Math.Seq.{take-add, take-append-add}
 use Rattle.std.proofs.lemmas.Bool.{cases_lt}
-use Rattle.std.proofs.lemmas.List.{append-nil, drop_at, length-append, length-take, take-append-le, take-take, take_all, take_at}
+use Rattle.std.proofs.lemmas.List.{append-nil, drop_at, length-append, length-take, take-append-le, take-take, take_at}
 use Rattle.std.proofs.lemmas.Slice.Eq.{bytes_eq-Decides}
 use Rattle.bit_fields.specs.Packed.{StandAt}
 use Rattle.bit_fields.specs.Expected.{Expected, HasTaken, AreNext, further}
@@ -28,7 +28,7 @@ other_next expected taken at value found others now is at_is get apart next =
     apart (get ∙ one_stands at value others whole)
 
 -- what stands there in the first of the others is next
-held_next : (expected taken at : ℕ) (v others : List ℕ) (now : Expected) → expected_of expected taken others ≡ now → at ≡ now.taken → StandAt at v (take expected others) → AreNext now v
+pub held_next : (expected taken at : ℕ) (v others : List ℕ) (now : Expected) → expected_of expected taken others ≡ now → at ≡ now.taken → StandAt at v (take expected others) → AreNext now v
 held_next expected taken at v others now is at_is h = ap (λ (e : Expected). take (length v) (drop now.taken e.others)) (sym is) ∙ ap (λ (p : ℕ). take (length v) (drop p (take expected others))) (sym at_is) ∙ h
 
 -- it is next
@@ -37,25 +37,25 @@ value_next expected taken at value others now is at_is below get =
     held_next expected taken at (value ∷ []) others now is at_is (stand_before at expected (value ∷ []) others (stand_one at value others get) (omega (arith, below)))
 
 -- the first of some bytes were compared with what is next
-pub same_next : (expected taken at count : ℕ) (t : Bool) (bytes held others : List ℕ) (now : Expected) → expected_of expected taken others ≡ now → at ≡ now.taken → StandAt at held (take expected others) → t ≡ not (bytes_eq (take count bytes) (take count held)) → t ≡ false → AreNext now (take count bytes)
-same_next expected taken at count t bytes held others now is at_is stand ne same_is =
+pub same_next : (count : ℕ) (t : Bool) (bytes held : List ℕ) (now : Expected) → AreNext now held → t ≡ not (bytes_eq (take count bytes) (take count held)) → t ≡ false → AreNext now (take count bytes)
+same_next count t bytes held now next ne same_is =
     let same : take count bytes ≡ take count held = (bytes_eq-Decides (take count bytes) (take count held)).0 (go (bytes_eq (take count bytes) (take count held)) (sym ne ∙ same_is)) in
-    subst (AreNext now) (sym same) (held_next expected taken at (take count held) others now is at_is (stand_first count at held (take expected others) stand))
+    subst (AreNext now) (sym same) (stand_first count now.taken held now.others next)
   where
     go : (b : Bool) → not b ≡ false → b ≡ true
     go true e = refl
     go false e = absurd cc
 
-pub others_next : (expected taken at count : ℕ) (t : Bool) (bytes held others : List ℕ) (now : Expected) → expected_of expected taken others ≡ now → at ≡ now.taken → StandAt at held (take expected others) → count ≡ min (length bytes) (length held) → t ≡ not (bytes_eq (take count bytes) (take count held)) → t ≡ true → AreNext now bytes → ⊥
-others_next expected taken at count t bytes held others now is at_is stand few ne other next =
+pub others_next : (count : ℕ) (t : Bool) (bytes held : List ℕ) (now : Expected) → AreNext now held → count ≡ min (length bytes) (length held) → t ≡ not (bytes_eq (take count bytes) (take count held)) → t ≡ true → AreNext now bytes → ⊥
+others_next count t bytes held now next few ne other also =
     let row = drop now.taken now.others in
-    let first : take count row ≡ take count bytes = front_of count bytes row (omega (arith, few)) next in
-    let second : take count row ≡ take count held = front_of count held row (omega (arith, few)) (held_next expected taken at held others now is at_is stand) in
+    let first : take count row ≡ take count bytes = front_of bytes row (omega (arith, few)) also in
+    let second : take count row ≡ take count held = front_of held row (omega (arith, few)) next in
     let same : bytes_eq (take count bytes) (take count held) ≡ true = (bytes_eq-Decides (take count bytes) (take count held)).1 (sym first ∙ second) in
     absurd (cc (ne, other, ap not same))
   where
-    front_of : (n : ℕ) (v row : List ℕ) → n ≤ length v → take (length v) row ≡ v → take n row ≡ take n v
-    front_of n v row le h = sym (take-take n (length v) row le) ∙ ap (take n) h
+    front_of : (v row : List ℕ) → count ≤ length v → take (length v) row ≡ v → take count row ≡ take count v
+    front_of v row le h = sym (take-take count (length v) row le) ∙ ap (take count) h
 
 -- the next of the others came
 pub taken_further : (e : Expected) (values list : List ℕ) → HasTaken e list → AreNext e values → HasTaken (further e (length values)) (list ++ values)
@@ -91,12 +91,16 @@ came_first expected taken at count left more others values rest now is there few
   where
     all : values ++ rest ≡ take expected others ++ take at (take expected others)
     all = had ∙ ap (λ (e : Expected). e.others ++ take now.taken e.others) (sym is) ∙ ap (λ (k : ℕ). take expected others ++ take k (take expected others)) (sym at_is)
+
     front : length (take expected others) ≡ expected
     front = length-take expected others ∙ omega (arith, there)
+
     counted : count ≡ length values
     counted = omega (arith, count_is, few, front, ap length all, length-append values rest, length-append (take expected others) (take at (take expected others)), length-take at (take expected others))
+
     values_are : values ≡ take count (take expected others ++ take at (take expected others))
     values_are = sym (take_at values rest count (sym counted)) ∙ ap (take count) all
+
     go : (count < expected) ⊎ (expected ≤ count) → HasTaken (expected_of left more others) values
     go (inl lt) =
         let fewer : left ≡ count = omega (arith, left_is, lt) in

@@ -1,6 +1,6 @@
 //! Values that are compared with those of another record while they are read.
 
-ghost use Rattle.std.specs.Prelude.{◌≡◌, ◌↔◌, ℕ, ◌+◌, ◌-◌, ◌≤◌, ◌<◌, ◌^◌, List, [], ◌∷◌, ◌++◌, length, min, take, true, false, IsTrue, IsOk, OnOk, OnErr, IfOk, IfSome, IfNone, OnSome, ◌≢◌};
+ghost use Rattle.std.specs.Prelude.{◌≡◌, ◌≢◌, ◌↔◌, ℕ, ◌≤◌, ◌<◌, ◌^◌, List, [], ◌∷◌, ◌++◌, length, take, true, IsOk, OnOk, OnErr, IfOk, OnSome, IfSome, IfNone};
 ghost use Rattle.bit_fields.specs.Packed.{StandAt};
 ghost use Rattle.bit_fields.specs.Expected.{HasTaken, AreNext, further};
 
@@ -12,10 +12,11 @@ use std::marker::Model;
 /// How many values are expected, at most: so many that they can be counted twice.
 const MOST: u64 = 1 << 62;
 
-/// What takes the values of a record that are expected to be those of another one. It has the others from the beginning, takes
-/// each value that is the next of them, and refuses any other value as memory is refused. So nothing is held of what is read.
+/// What takes the values of a record that are expected to be those of another one: it takes each value that is the next of the
+/// others, and no other value, of which it says that memory is refused. So nothing is held of what is read.
 ///
-/// It has what it was read into as a list that begins with the others: `front_of` says how many of them stand behind.
+/// The others themselves stand first among the values that it took, and so they are counted too: those that are read stand
+/// behind them, and `front_of` tells how many they are.
 #[derive(Drop)]
 pub struct ExpectedValues<'a> {
     others: &'a PackedValues,
@@ -30,7 +31,7 @@ pub struct ExpectedValues<'a> {
 }
 
 impl<'a> Model for ExpectedValues<'a> {
-    ghost use Rattle.std.specs.Prelude.{◌≡◌, ◌+◌, ◌≤◌, ◌^◌, length, take};
+    ghost use Rattle.std.specs.Prelude.{◌+◌, take};
     ghost use Rattle.bit_fields.specs.Expected.{Expected, IsExpected};
 
     ghost Value = { Expected };
@@ -64,7 +65,7 @@ fn bytes_between<'a>(others: &'a PackedValues, first: u64, end: u64) -> &'a [u8]
 }
 
 impl<'a> ExpectedValues<'a> {
-    /// Nothing of what is expected was taken yet. At most 4,611,686,018,427,387,904 values are expected.
+    /// It expects these values, and took none of them yet. Of more than 4,611,686,018,427,387,904 only so many are expected.
     #[inline(always)]
     pub fn new(others: &'a PackedValues) -> ExpectedValues<'a>
         ensures is { result ≡ record { others = take (2 ^ 62) others.now; taken = 0 } }
@@ -91,8 +92,8 @@ impl<'a> ExpectedValues<'a> {
         self.before + self.place as u64
     }
 
-    /// How many of these values were taken, where it is they that were expected: those that were read are then so many of them,
-    /// the first ones.
+    /// How many of these were taken, where as many were expected. Where these are the others that it expected, what was read is so
+    /// many of them, the first ones.
     #[inline]
     pub fn front_of(&self, others: &PackedValues) -> Option<u64>
         ensures front { IfSome result (λ count. (list : List ℕ)
@@ -120,7 +121,7 @@ impl<'a> ExpectedValues<'a> {
         self.place = 0;
     }
 
-    /// Takes a value that is not near.
+    /// Takes a value that is not near, if it is next.
     #[inline(never)]
     fn take_far(&mut self, value: u64) -> Result<(), AllocError>
         ensures ok { OnOk result (self.new ≡ further self.old 1) }
@@ -135,7 +136,19 @@ impl<'a> ExpectedValues<'a> {
         Ok(())
     }
 
+    /// The next of the others that are held in a byte each, possibly none.
+    #[inline(always)]
+    fn next_bytes(&self) -> &'a [u8]
+        ensures { AreNext self.now result.now }
+    {
+        if self.place < self.near.len() {
+            return &[];
+        }
+        bytes_between(self.others, self.taken(), self.expected)
+    }
+
     /// Takes the first of some bytes, at least one: those that can be compared at once. Answers how many.
+    #[inline(always)]
     fn take_some(&mut self, bytes: &[u8]) -> Result<usize, AllocError>
         requires { 0 < length bytes.now }
         ensures count { IfOk result (λ count. (0 < count) × (count ≤ length bytes.now)) }
@@ -143,8 +156,7 @@ impl<'a> ExpectedValues<'a> {
             × AreNext self.old (take count bytes.now)) }
         ensures err { OnErr result ((self.new ≡ self.old) × (AreNext self.old bytes.now → ⊥)) }
     {
-        let taken = self.taken();
-        let held = bytes_between(self.others, taken, self.expected);
+        let held = self.next_bytes();
         let count = bytes.len().min(held.len());
         if count == 0 {
             self.take(u64::from(bytes[0]))?;
@@ -153,7 +165,7 @@ impl<'a> ExpectedValues<'a> {
         if &bytes[..count] != &held[..count] {
             return Err(AllocError);
         }
-        self.move_to(taken + count as u64);
+        self.move_to(self.taken() + count as u64);
         Ok(count)
     }
 }
@@ -199,6 +211,8 @@ impl<'a> ValueTaker for ExpectedValues<'a> {
         false
     }
 
+    /// Where fewer are left than were expected, only those are expected.
+    #[inline]
     fn truncate(&mut self, count: u64) {
         self.before = self.taken().min(count.saturating_sub(self.expected));
         self.expected = self.expected.min(count);

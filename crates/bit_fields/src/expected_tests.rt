@@ -66,8 +66,8 @@ fn takes_all(alloc: Global, record: (u64, u64)) -> Result<bool, AllocError> {
     let others = record_of(alloc, record)?;
     let count = others.len();
     let mut expected = ExpectedValues::new(&others);
-    let fewer = count == 0 || !expected.has_all(&others);
-    let all = takes(&mut expected, &others, 0, count) && expected.has_all(&others);
+    let fewer = expected.front_of(&others) == Some(0);
+    let all = takes(&mut expected, &others, 0, count) && expected.front_of(&others) == Some(count);
     let more = expected.take(0).is_ok() || expected.take_bytes(&[0]).is_ok();
     Ok(fewer && all && !more && expected.count() == count.saturating_mul(2))
 }
@@ -92,20 +92,22 @@ fn bytes_of(alloc: Global, others: &PackedValues, other: u64) -> Result<Vec<u8>,
 
 /// How many values it has where bytes come in pieces behind the first value, and whether it refused one of these.
 fn pieces_taken(expected: &mut ExpectedValues<'_>, bytes: &[u8], size: usize) -> (u64, bool) {
-    let mut rest = bytes;
-    while !rest.is_empty() {
-        let (piece, behind) = rest.split_at(size.max(1).min(rest.len()));
+    for piece in bytes.chunks(size.max(1)) {
         if expected.take_bytes(piece).is_err() {
             return (expected.count(), true);
         }
-        rest = behind;
     }
     (expected.count(), false)
 }
 
 /// Whether the values behind the first one are taken as bytes in pieces, and not with another one at a place, behind which the
 /// right ones are taken.
-fn takes_bytes(alloc: Global, record: (u64, u64), size: usize, other: u64) -> Result<bool, AllocError> {
+fn takes_bytes(
+    alloc: Global,
+    record: (u64, u64),
+    size: usize,
+    other: u64,
+) -> Result<bool, AllocError> {
     let others = record_of(alloc, record)?;
     let count = others.len();
     let Some(first) = others.get(0) else {
@@ -115,13 +117,13 @@ fn takes_bytes(alloc: Global, record: (u64, u64), size: usize, other: u64) -> Re
     expected.take(first)?;
     let wrong = bytes_of(alloc, &others, other)?;
     let (had, refused) = pieces_taken(&mut expected, &wrong, size);
-    if refused != (0 < other && other < count) || had > count.saturating_mul(2) {
+    if refused != (0 < other && other < count) || refused && had > count.saturating_add(other) {
         return Ok(false);
     }
     expected.truncate(count.saturating_add(1));
     let right = bytes_of(alloc, &others, 0)?;
     let all = pieces_taken(&mut expected, &right, size);
-    Ok(all == (count.saturating_mul(2), false) && expected.has_all(&others))
+    Ok(all == (count.saturating_mul(2), false) && expected.front_of(&others) == Some(count))
 }
 
 #[test]
@@ -137,48 +139,48 @@ fn values_as_bytes(rt: HostRuntime) {
 }
 
 /// How many values it has after so many were taken and the first ones left, whether those from a place on are taken then, and
-/// whether it has all.
+/// how many of a record of 100 it has then.
 fn taken_again(
     alloc: Global,
     taken: u64,
     count: u64,
     from: u64,
-) -> Result<(u64, bool, bool), AllocError> {
+) -> Result<(u64, bool, Option<u64>), AllocError> {
     let others = record_of(alloc, (100, 0))?;
     let mut expected = ExpectedValues::new(&others);
     let before = takes(&mut expected, &others, 0, taken);
     expected.truncate(count);
     let left = expected.count();
     let again = takes(&mut expected, &others, from, 100);
-    Ok((left, before && again, expected.has_all(&others)))
+    Ok((left, before && again, expected.front_of(&others)))
 }
 
 #[test]
 fn values_taken_again(rt: HostRuntime) {
     let alloc = rt.alloc();
-    assert!(rt; taken_again(alloc, 70, 100, 0) == Ok((100, true, true)));
-    assert!(rt; taken_again(alloc, 70, 165, 65) == Ok((165, true, true)));
-    assert!(rt; taken_again(alloc, 70, 103, 3) == Ok((103, true, true)));
-    assert!(rt; taken_again(alloc, 70, 300, 70) == Ok((170, true, true)));
-    assert!(rt; taken_again(alloc, 70, 99, 0) == Ok((99, false, false)));
-    assert!(rt; taken_again(alloc, 70, 0, 0) == Ok((0, false, false)));
-    assert!(rt; taken_again(alloc, 70, 103, 4) == Ok((103, false, false)));
+    assert!(rt; taken_again(alloc, 70, 100, 0) == Ok((100, true, Some(100))));
+    assert!(rt; taken_again(alloc, 70, 165, 65) == Ok((165, true, Some(100))));
+    assert!(rt; taken_again(alloc, 70, 103, 3) == Ok((103, true, Some(100))));
+    assert!(rt; taken_again(alloc, 70, 300, 70) == Ok((170, true, Some(100))));
+    assert!(rt; taken_again(alloc, 70, 99, 0) == Ok((99, false, None)));
+    assert!(rt; taken_again(alloc, 70, 0, 0) == Ok((0, false, None)));
+    assert!(rt; taken_again(alloc, 70, 103, 4) == Ok((103, false, Some(3))));
 }
 
-/// Whether it has all of a record, and all of another one, where those of the first were taken.
-fn has_both(alloc: Global, count: u64, other: u64) -> Result<(bool, bool), AllocError> {
+/// How many values of a record it has, and of another one, where all of the first were taken.
+fn fronts(alloc: Global, count: u64, other: u64) -> Result<[Option<u64>; 2], AllocError> {
     let others = record_of(alloc, (count, 0))?;
     let second = record_of(alloc, (other, 0))?;
     let mut expected = ExpectedValues::new(&others);
     let _ = takes(&mut expected, &others, 0, count);
-    Ok((expected.has_all(&others), expected.has_all(&second)))
+    Ok([expected.front_of(&others), expected.front_of(&second)])
 }
 
 #[test]
 fn values_of_another_length(rt: HostRuntime) {
     let alloc = rt.alloc();
-    assert!(rt; has_both(alloc, 3, 4) == Ok((true, false)));
-    assert!(rt; has_both(alloc, 4, 3) == Ok((true, false)));
-    assert!(rt; has_both(alloc, 0, 1) == Ok((true, false)));
-    assert!(rt; has_both(alloc, 130, 130) == Ok((true, true)));
+    assert!(rt; fronts(alloc, 3, 4) == Ok([Some(3), None]));
+    assert!(rt; fronts(alloc, 4, 3) == Ok([Some(4), None]));
+    assert!(rt; fronts(alloc, 0, 1) == Ok([Some(0), None]));
+    assert!(rt; fronts(alloc, 130, 130) == Ok([Some(130), Some(130)]));
 }

@@ -5,7 +5,8 @@ ghost use Rattle.std.proofs.Math.ListN.{replicate};
 
 use std::alloc::AllocError;
 
-/// What takes the values of a record while they are read, one behind the other: a list that keeps them, or a count.
+/// What takes the values of a record while they are read, one behind the other: a list that keeps them, or a count. It may also
+/// refuse a value that it does not want, as where memory is refused, and has then what it had.
 pub trait ValueTaker {
     ghost use Rattle.std.specs.Prelude.{ℕ, List};
 

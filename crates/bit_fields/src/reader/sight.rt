@@ -205,7 +205,8 @@ impl<S: Source> BitReader<S> {
 }
 
 impl<'a> BitReader<SliceSource<'a>> {
-    /// Lends bits of a live reader that come next, for `Ahead` to read, for as long as the slice is there, and takes none of them.
+    /// Lends bits that come next, for `Ahead` to read, and takes none of them. A live reader lends them for as long as the slice
+    /// is there.
     #[inline(always)]
     pub fn sight_in_slice(&self) -> Sight<'a>
         requires live { self.now.live ≡ true }

@@ -1,4 +1,4 @@
-use Rattle.std.proofs.Common.{◌≡◌, ℕ, List, take, length, min, ap, ◌∙◌, sym, arith}
+use Rattle.std.proofs.Common.{◌≡◌, ◌^◌, ℕ, take, length, min, ap, ◌∙◌, sym, arith}
 use Rattle.std.proofs.lemmas.List.{length-take, take_all}
 use Rattle.bit_fields.specs.Expected.{Expected}
 use Rattle.bit_fields.proofs.Expecting.{front_came}
@@ -11,4 +11,4 @@ returns-clause-front c = λ list had.
     front_came c.args.self.now c.args.others.now list (omega (arith, len, c.self.invariant.there, c.if-self-len.false, c.len.ensures)) had ∙ ap (λ (n : ℕ). take n c.args.others.now) (sym c.taken.ensures.is)
 
 pub returns-clause-whole : goal.returns-clause-whole
-returns-clause-whole c = take_all 4611686018427387904 c.args.others.now (omega (arith, c.self.invariant.few, c.if-self-len.false, c.len.ensures))
+returns-clause-whole c = take_all (2 ^ 62) c.args.others.now (omega (arith, c.self.invariant.few, c.if-self-len.false, c.len.ensures))

@@ -1,4 +1,4 @@
-use Rattle.std.proofs.Common.{◌≡◌, ◌∷◌, [], Some, true, false, sym, ◌∙◌, arith}
+use Rattle.std.proofs.Common.{◌∷◌, [], Some, sym, ◌∙◌, arith}
 use Rattle.bit_fields.specs.Expected.{AreNext}
 use Rattle.bit_fields.proofs.Expecting.{none_next, other_next, value_next}
 use Rattle.bit_fields.proofs.Unlike.{agree, differ}

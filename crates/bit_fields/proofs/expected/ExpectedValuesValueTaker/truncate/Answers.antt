@@ -1,4 +1,4 @@
-use Rattle.std.proofs.Common.{◌≡◌, ◌+◌, ◌-◌, ℕ, min, ap, ◌∙◌, arith}
+use Rattle.std.proofs.Common.{◌≡◌, ◌+◌, ◌-◌, min, arith}
 use Rattle.bit_fields.proofs.Expecting.{came_first}
 use Rattle.bit_fields.proofs.expected.ExpectedValuesValueTaker.truncate.Goals as goal
 

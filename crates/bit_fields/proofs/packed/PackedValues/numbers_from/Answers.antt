@@ -1,6 +1,5 @@
-use Rattle.std.proofs.Common.{◌≡◌, ◌+◌, ◌-◌, ℕ, List, length, take, drop, subst, ap, arith, ◌∙◌, sym}
+use Rattle.std.proofs.Common.{take, arith}
 use Rattle.std.proofs.lemmas.List.{length-take-le}
-use Rattle.bit_fields.specs.Packed.{StandAt}
 use Rattle.bit_fields.proofs.Standing.{stand_at_last}
 use Rattle.bit_fields.proofs.packed.PackedValues.numbers_from.Goals as goal
 
