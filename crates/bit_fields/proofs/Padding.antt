@@ -18,7 +18,7 @@ use Rattle.bit_fields.proofs.Parts.{window_took}
 -- ---- what is read
 
 -- zeros at the front
-zeros_at : (n first p : ℕ) (w rest : List Bool) → n ≤ length w → number (take n w) ≡ 0 → reading (zeros first n) p (w ++ rest) ≡ Ok (tt, p + n, drop n w ++ rest)
+pub zeros_at : (n first p : ℕ) (w rest : List Bool) → n ≤ length w → number (take n w) ≡ 0 → reading (zeros first n) p (w ++ rest) ≡ Ok (tt, p + n, drop n w ++ rest)
 zeros_at zero first p w rest there none = let e : p + 0 ≡ p = omega arith in rw e refl
 zeros_at (suc n) first p [] rest there none = absurd (omega arith)
 zeros_at (suc n) first p (true ∷ w) rest there none = absurd (omega (arith, none))

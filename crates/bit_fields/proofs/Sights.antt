@@ -6,7 +6,7 @@ use Rattle.std.proofs.Math.Seq.{drop-append-add}
 use Rattle.bit_grammar.specs.declared.reason.Reason.TheVariants.{Truncated}
 use Rattle.bit_grammar.specs.Bits.{number, bits_of, bits_of_bytes}
 use Rattle.bit_grammar.specs.Grammar.{Fault, at, repeat, reading}
-use Rattle.bit_grammar.specs.Fields.{fixed, vbr, char6}
+use Rattle.bit_grammar.specs.Fields.{fixed, vbr, char6, zeros, padding_length, align32}
 use Rattle.bit_grammar.specs.Terms.{character}
 use Rattle.bit_fields.specs.Inside.{part_of, numbers}
 use Rattle.bit_fields.specs.Reader.{Took}
@@ -16,6 +16,7 @@ use Rattle.bit_fields.specs.Sight.{sight_lent}
 use Rattle.bit_fields.specs.Ahead.{InSight, Glimpsed, reader_at, beyond}
 use Rattle.bit_fields.proofs.BitLaws.{length-bits_of_bytes, bits_of_bytes-append, bytes_dropped, drop_more}
 use Rattle.bit_fields.proofs.Parts.{part_at, part_short}
+use Rattle.bit_fields.proofs.Padding.{zeros_at}
 use Rattle.bit_fields.proofs.Short.{vbr_reads}
 use Rattle.bit_fields.proofs.Chunks.{one_chunk, several_chunks, chunking_begins, Chunking}
 use Rattle.bit_fields.proofs.Skipping.{fields_whole}
@@ -87,6 +88,9 @@ chunking_goes_on n a b chunk payload two few goes is below on seen =
 answer_of : (x y : ℕ × ℕ × List Bool) → ◌≡◌ {A = Result (ℕ × ℕ × List Bool) Fault} (Ok x) (Ok y) → (x.1 ≡ y.1) × (x.2 ≡ y.2)
 answer_of x y e = (cc, cc)
 
+value_of : (x y : ℕ × ℕ × List Bool) → ◌≡◌ {A = Result (ℕ × ℕ × List Bool) Fault} (Ok x) (Ok y) → x.0 ≡ y.0
+value_of x y e = cc
+
 no_answer : (fault : Fault) (x : ℕ × ℕ × List Bool) → ◌≡◌ {A = Result (ℕ × ℕ × List Bool) Fault} (Err fault) (Ok x) → ⊥
 no_answer fault x e = cc
 
@@ -101,6 +105,23 @@ part_passed n first value a b seen = elim (cases_lt (length a.bits) n) [
       let e = answer_of (number (take n a.bits), a.position + n, drop n a.bits ++ []) (value, b.position, b.bits) (sym whole ∙ read ∙ seen) in
       (there, sight_is b.position (a.position + n) b.bits (drop n a.bits) (sym e.0) (sym e.1 ∙ none))
 ]
+
+-- the number of those bits
+part_told : (n first value : ℕ) (a b : InSight) → Glimpsed (part_of first n) a value b → n ≤ length a.bits → value ≡ number (take n a.bits)
+part_told n first value a b seen there =
+    let whole : reading (part_of first n) a.position (a.bits ++ []) ≡ Ok (number (take n a.bits), a.position + n, drop n a.bits ++ []) = part_at n first a.position a.bits [] there in
+    let read = ap (reading (part_of first n) a.position) (append-nil a.bits) in
+    sym (value_of (number (take n a.bits), a.position + n, drop n a.bits ++ []) (value, b.position, b.bits) (sym whole ∙ read ∙ seen))
+
+-- zeros up to a multiple of 32, which were read as a number
+pub pad_glimpsed : (n value : ℕ) (a b : InSight) → n ≡ padding_length a.position → Glimpsed (part_of a.position n) a value b → value ≡ 0 → Glimpsed align32 a tt b
+unfolding align32
+pad_glimpsed n value a b n_is seen none =
+    let p = part_passed n a.position value a b seen in
+    let zero : number (take n a.bits) ≡ 0 = sym (part_told n a.position value a b seen p.0) ∙ none in
+    let whole : reading (zeros a.position n) a.position (a.bits ++ []) ≡ Ok (tt, a.position + n, drop n a.bits ++ []) = zeros_at n a.position a.position a.bits [] p.0 zero in
+    let read : Glimpsed (zeros a.position n) a tt (beyond a n) = rw (append-nil a.bits, append-nil (drop n a.bits)) at whole in
+    rw p.1 (subst (λ (m : ℕ). Glimpsed (zeros a.position m) a tt (beyond a n)) n_is read)
 
 -- the window, whole bytes and a part of a byte were passed
 pub far_passed : (end bits behind whole rest value : ℕ) (a : InSight) (w : List Bool) (bytes after : List ℕ) (b : InSight) → sight_of end w bytes ≡ a → length w + 8 * length bytes ≤ end → bits ≡ length w + behind → behind ≡ 8 * whole + rest → whole ≤ length bytes → after ≡ drop whole bytes

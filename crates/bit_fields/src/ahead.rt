@@ -1,7 +1,7 @@
-ghost use Rattle.std.specs.Prelude.{ℕ, ◌≡◌, ◌+◌, ◌*◌, ◌-◌, ◌<◌, ◌≤◌, ◌^◌, ◌++◌, length, get_or, IfSome, OnSome, MatchOption, IfNone};
+ghost use Rattle.std.specs.Prelude.{ℕ, ◌≡◌, ◌+◌, ◌*◌, ◌-◌, ◌%◌, ◌<◌, ◌≤◌, ◌^◌, ◌++◌, length, get_or, IfSome, OnSome, MatchOption, IfNone};
 ghost use Rattle.bit_grammar.specs.Bits.{bits_of_bytes};
 ghost use Rattle.bit_grammar.specs.Grammar.{repeat};
-ghost use Rattle.bit_grammar.specs.Fields.{fixed, vbr, char6};
+ghost use Rattle.bit_grammar.specs.Fields.{fixed, vbr, char6, align32};
 ghost use Rattle.bit_fields.specs.Inside.{part_of, numbers};
 ghost use Rattle.bit_fields.specs.Ahead.{Glimpsed, beyond};
 ghost use Rattle.bit_fields.specs.Sight.{sight_lent, IsSight};
@@ -259,6 +259,25 @@ impl<'a> Ahead<'a> {
             place += n - 1;
         }
         None
+    }
+
+    /// Reads zeros up to the next position that is a multiple of 32, possibly none. Source: "Abbreviation IDs", align32. Where
+    /// they are in the window none are put into it, so that `bytes` finds it empty if it can be.
+    #[inline]
+    pub fn pad(&mut self) -> Option<()>
+        ensures glimpsed { OnSome result (Glimpsed align32 self.old tt self.new) }
+        ensures aligned { OnSome result (self.new.position % 32 ≡ 0) }
+        ensures moves { OnSome result (self.old.position ≤ self.new.position) }
+    {
+        let count = ((32 - self.position() % 32) % 32) as u32;
+        if self.window.len() < count {
+            self.fill();
+        }
+        let zeros = self.held_part(count)?;
+        if zeros != 0 {
+            return None;
+        }
+        Some(())
     }
 
     /// Reads a number of 8 bits, where they are in the window. None are put into it.

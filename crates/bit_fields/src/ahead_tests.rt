@@ -281,4 +281,102 @@ fn bytes_within_a_limit(rt: HostRuntime) {
     };
     let wanted: [u64; 13] = [1, 2, 3, 4, 5, 6, 7, 8, 9, 10, 11, 12, 13];
     assert!(rt; told.expect(&rt, "memory").as_slice() == wanted.as_slice());
+
+/// What padding behind so many bits of what is in sight comes to: the bit behind it, and the number behind that.
+fn padded_in_sight<S: Source>(reader: &mut BitReader<S>, bits: u64) -> Option<(u64, u64)> {
+    let Ok(sight) = reader.sight() else {
+        return None;
+    };
+    let mut ahead = Ahead::new(sight);
+    ahead.skip_fixed(bits.min(99), 1)?;
+    ahead.pad()?;
+    let after = ahead.position();
+    Some((after, ahead.fixed(7)?))
+}
+
+/// The same from the reader.
+fn padded<S: Source>(reader: &mut BitReader<S>, bits: u64) -> Result<(u64, u64), Fault> {
+    reader.skip_fixed(bits.min(99), 1)?;
+    reader.pad()?;
+    let after = reader.position();
+    Ok((after, reader.fixed(7)?))
+}
+
+/// Rows of bits and what padding behind them comes to, where the bytes behind the magic are 1, 0, 0, 0, 0x55 and zeros.
+const PADDED: [(u64, Option<(u64, u64)>); 9] = [
+    (0, Some((32, 1))),
+    (1, Some((64, 0x55))),
+    (8, Some((64, 0x55))),
+    (31, Some((64, 0x55))),
+    (32, Some((64, 0x55))),
+    (33, None),
+    (38, None),
+    (39, Some((96, 0))),
+    (64, Some((96, 0))),
+];
+
+#[test]
+fn padding_in_sight(rt: HostRuntime) {
+    let input = after_magic(&[1, 0, 0, 0, 0x55]);
+    for (bits, wanted) in &PADDED {
+        let mut reader = reader_of(&rt, SliceSource::new(&input));
+        let told = padded_in_sight(&mut reader, *bits);
+        assert!(rt; told == *wanted, "{bits} {told:?}");
+    }
+    for length in 4..8usize {
+        let mut reader = reader_of(&rt, SliceSource::new(&input[..length]));
+        let told = padded_in_sight(&mut reader, 1);
+        assert!(rt; told == None, "{length} {told:?}");
+    }
+}
+
+/// Whether padding behind bits, of which the reader takes some, comes to the same in sight as from the reader.
+fn pads_alike<S: Source + Drop>(
+    rt: &impl Abort,
+    source: S,
+    other: S,
+    taken: u64,
+    bits: u64,
+) -> bool {
+    let mut reader = reader_of(rt, source);
+    let mut plain = reader_of(rt, other);
+    let both = (
+        reader.skip_fixed(taken.min(99), 1),
+        plain.skip_fixed(taken.min(99), 1),
+    );
+    let told = padded_in_sight(&mut reader, bits);
+    both == (Ok(()), Ok(())) && told == padded(&mut plain, bits).ok()
+}
+
+/// The same of a slice, and of a source that shows so many bytes at a time.
+fn sources_alike(rt: &impl Abort, input: &[u8], taken: u64, bits: u64) -> bool {
+    let slices = (SliceSource::new(input), SliceSource::new(input));
+    let mut alike = pads_alike(rt, slices.0, slices.1, taken, bits);
+    for step in 21..24 {
+        let shown = (shown_source(input, step, 0), shown_source(input, step, 0));
+        alike = alike && pads_alike(rt, shown.0, shown.1, taken, bits);
+    }
+    alike
+}
+
+/// Whether this is so wherever the padding begins.
+fn paddings_alike(rt: &impl Abort, input: &[u8]) -> bool {
+    let mut alike = true;
+    for taken in [0, 5, 32, 44] {
+        for bits in 0..34 {
+            alike = alike && sources_alike(rt, input, taken, bits);
+        }
+    }
+    alike
+}
+
+#[test]
+fn padding_as_the_reader_reads_it(rt: HostRuntime) {
+    for place in 0..13usize {
+        for one in [1, 2, 4, 8, 16, 32, 64, 128] {
+            let mut bytes = [0; 20];
+            bytes[place] = one;
+            assert!(rt; paddings_alike(&rt, &after_magic(&bytes)), "{place} {one}");
+        }
+    }
 }
