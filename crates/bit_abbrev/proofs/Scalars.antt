@@ -121,18 +121,19 @@ values_behind room ops count a b before now after c few m n h k =
 
 -- ---- how many they are
 
-counted : (ops : List Op) (count : ℕ) → count ≤ length ops → ((i : ℕ) → i < count → op_at ops i ≡ Array → ⊥) → ((i : ℕ) → i < count → op_at ops i ≡ Blob → ⊥) → (count ≡ length ops) ⊎ (op_at ops count ≡ Array) → count ≡ singles ops
+counted : (ops : List Op) (count : ℕ) → count ≤ length ops → ((i : ℕ) → i < count → op_at ops i ≡ Array → ⊥) → ((i : ℕ) → i < count → op_at ops i ≡ Blob → ⊥) → (count ≡ length ops) ⊎ (op_at ops count ≡ Blob) ⊎ (op_at ops count ≡ Array) → count ≡ singles ops
 counted [] zero few m n ends = refl
 counted [] (suc count) few m n ends = absurd (omega (arith, few))
 counted (op ∷ ops) zero few m n (inl all) = absurd (omega (arith, all))
-counted (op ∷ ops) zero few m n (inr array) = rw array refl
+counted (op ∷ ops) zero few m n (inr (inl blob)) = rw blob refl
+counted (op ∷ ops) zero few m n (inr (inr array)) = rw array refl
 counted (op ∷ ops) (suc count) few m n ends =
     let more = counted ops count (omega (arith, few)) (λ i less e. m (suc i) (omega (arith, less)) e) (λ i less e. n (suc i) (omega (arith, less)) e) (next ends) in
     one op (m 0 (omega arith)) (n 0 (omega arith)) more
   where
-    next : (suc count ≡ length (op ∷ ops)) ⊎ (op_at ops count ≡ Array) → (count ≡ length ops) ⊎ (op_at ops count ≡ Array)
+    next : (suc count ≡ length (op ∷ ops)) ⊎ (op_at ops count ≡ Blob) ⊎ (op_at ops count ≡ Array) → (count ≡ length ops) ⊎ (op_at ops count ≡ Blob) ⊎ (op_at ops count ≡ Array)
     next (inl all) = inl (omega (arith, all))
-    next (inr array) = inr array
+    next (inr last) = inr last
 
     one : (x : Op) → (x ≡ Array → ⊥) → (x ≡ Blob → ⊥) → count ≡ singles ops → suc count ≡ singles (x ∷ ops)
     one (Literal v) m n e = ap suc e
@@ -149,25 +150,32 @@ ArrayLast ops = (i : ℕ) → op_at ops i ≡ Array → i + 2 ≡ length ops
 abbrev pub BlobLast : List Op → Type 0
 BlobLast ops = (i : ℕ) → op_at ops i ≡ Blob → i + 1 ≡ length ops
 
+no_array_at : (ops : List Op) → ArrayLast ops → (2 ≤ length ops → op_at ops (length ops - 2) ≢ Array) → (i : ℕ) → op_at ops i ≡ Array → ⊥
+no_array_at ops array no_array i e =
+    let last : i ≡ length ops - 2 = omega (arith, array i e) in
+    no_array (omega (arith, array i e)) (subst (λ (k : ℕ). op_at ops k ≡ Array) last e)
+
 pub before_array : (ops : List Op) → ArrayLast ops → BlobLast ops → 2 ≤ length ops → op_at ops (length ops - 2) ≡ Array → IsBehindSingles ops (length ops - 2)
 before_array ops array blob some is = record {
-  is = counted ops (length ops - 2) (omega arith) (λ i less e. omega (arith, less, array i e)) (λ i less e. omega (arith, less, blob i e)) (inr is);
+  is = counted ops (length ops - 2) (omega arith) (λ i less e. omega (arith, less, array i e)) (λ i less e. omega (arith, less, blob i e)) (inr (inr is));
   within = omega arith;
-  behind = inr (is, omega (arith, some));
+  behind = inr (inr (is, omega (arith, some)));
+}
+
+pub before_blob : (ops : List Op) → ArrayLast ops → BlobLast ops → (2 ≤ length ops → op_at ops (length ops - 2) ≢ Array) → 1 ≤ length ops → op_at ops (length ops - 1) ≡ Blob → IsBehindSingles ops (length ops - 1)
+before_blob ops array blob no_array some is = record {
+  is = counted ops (length ops - 1) (omega arith) (λ i less e. no_array_at ops array no_array i e) (λ i less e. omega (arith, less, blob i e)) (inr (inl is));
+  within = omega arith;
+  behind = inr (inl (is, omega (arith, some)));
 }
 
 pub all_singles : (ops : List Op) → ArrayLast ops → BlobLast ops → (2 ≤ length ops → op_at ops (length ops - 2) ≢ Array) → (1 ≤ length ops → op_at ops (length ops - 1) ≢ Blob) → IsBehindSingles ops (length ops)
 all_singles ops array blob no_array no_blob = record {
-  is = counted ops (length ops) (omega arith) none no_one (inl refl);
+  is = counted ops (length ops) (omega arith) (λ i less e. no_array_at ops array no_array i e) no_one (inl refl);
   within = omega arith;
   behind = inl refl;
 }
   where
-    none : (i : ℕ) → i < length ops → op_at ops i ≡ Array → ⊥
-    none i less e =
-        let last : i ≡ length ops - 2 = omega (arith, array i e) in
-        no_array (omega (arith, array i e)) (subst (λ (k : ℕ). op_at ops k ≡ Array) last e)
-
     no_one : (i : ℕ) → i < length ops → op_at ops i ≡ Blob → ⊥
     no_one i less e =
         let last : i ≡ length ops - 1 = omega (arith, blob i e) in
@@ -199,16 +207,33 @@ values_of_all room ops count a b before now h all live fits each =
     let nothing : Adds (values_of (room - singles ops) (drop count ops)) b (Ok tt) now now b = rw none (adds_none b now live) in
     (values_behind (room - singles ops) ops count a b before now now b h.within (none_before ops count h) (no_blob_before ops count h) each nothing, omega (arith, each.1, length-take-le count ops h.within, h.is, fits))
 
--- those of an array stand behind them
-pub values_and_array : (room : ℕ) (ops : List Op) (count : ℕ) (a b : Reader) (before now after : List ℕ) (c : Reader) → IsBehindSingles ops count → count ≢ length ops → singles ops ≤ room → AddsEach (take count ops) a b before now
+-- others stand behind them, with the room that they leave
+values_then : (room : ℕ) (ops : List Op) (count : ℕ) (a b : Reader) (before now after : List ℕ) (c : Reader) → IsBehindSingles ops count → singles ops ≤ room → AddsEach (take count ops) a b before now → AddsFew (values_of (room - count) (drop count ops)) (room - count) b c now after → AddsFew (values_of (room - singles ops) ops) room a c before after
+values_then room ops count a b before now after c h fits each behind =
+    let with_room : Adds (values_of (room - singles ops) (drop count ops)) b (Ok tt) now after c = subst (λ (n : ℕ). Adds (values_of (room - n) (drop count ops)) b (Ok tt) now after c) h.is behind.0 in
+    (values_behind (room - singles ops) ops count a b before now after c h.within (none_before ops count h) (no_blob_before ops count h) each with_room, omega (arith, behind.1, each.1, length-take-le count ops h.within, h.is, fits))
+
+-- those of an array
+pub values_and_array : (room : ℕ) (ops : List Op) (count : ℕ) (a b : Reader) (before now after : List ℕ) (c : Reader) → IsBehindSingles ops count → count + 1 < length ops → singles ops ≤ room → AddsEach (take count ops) a b before now
     → AddsFew (values_of (room - count) (Array ∷ op_at ops (count + 1) ∷ drop (count + 1 + 1) ops)) (room - count) b c now after → AddsFew (values_of (room - singles ops) ops) room a c before after
 values_and_array room ops count a b before now after c h more fits each behind = elim h.behind [
-  | inl all ↦ absurd (more all)
-  | inr last ↦
-      let here : drop count ops ≡ op_at ops count ∷ drop (count + 1) ops = from_index ops count (omega (arith, last.1)) in
-      let next : drop (count + 1) ops ≡ op_at ops (count + 1) ∷ drop (count + 1 + 1) ops = from_index ops (count + 1) (omega (arith, last.1)) in
+  | inl all ↦ absurd (omega (arith, more, all))
+  | inr (inl blob) ↦ absurd (omega (arith, more, blob.1))
+  | inr (inr last) ↦
+      let here : drop count ops ≡ op_at ops count ∷ drop (count + 1) ops = from_index ops count (omega (arith, more)) in
+      let next : drop (count + 1) ops ≡ op_at ops (count + 1) ∷ drop (count + 1 + 1) ops = from_index ops (count + 1) more in
       let both : Array ∷ op_at ops (count + 1) ∷ drop (count + 1 + 1) ops ≡ drop count ops = sym (here ∙ ap (λ (op : Op). op ∷ drop (count + 1) ops) last.0 ∙ ap (λ (others : List Op). Array ∷ others) next) in
-      let there : Adds (values_of (room - count) (drop count ops)) b (Ok tt) now after c = subst (λ (rest : List Op). Adds (values_of (room - count) rest) b (Ok tt) now after c) both behind.0 in
-      let with_room : Adds (values_of (room - singles ops) (drop count ops)) b (Ok tt) now after c = subst (λ (n : ℕ). Adds (values_of (room - n) (drop count ops)) b (Ok tt) now after c) h.is there in
-      (values_behind (room - singles ops) ops count a b before now after c h.within (none_before ops count h) (no_blob_before ops count h) each with_room, omega (arith, behind.1, each.1, length-take-le count ops h.within, h.is, fits))
+      values_then room ops count a b before now after c h fits each (subst (λ (rest : List Op). AddsFew (values_of (room - count) rest) (room - count) b c now after) both behind)
+]
+
+-- those of a blob
+pub values_and_blob : (room : ℕ) (ops : List Op) (count : ℕ) (a b : Reader) (before now after : List ℕ) (c : Reader) → IsBehindSingles ops count → count + 1 ≡ length ops → singles ops ≤ room → AddsEach (take count ops) a b before now
+    → AddsFew (values_of (room - count) (Blob ∷ drop (count + 1) ops)) (room - count) b c now after → AddsFew (values_of (room - singles ops) ops) room a c before after
+values_and_blob room ops count a b before now after c h last fits each behind = elim h.behind [
+  | inl all ↦ absurd (omega (arith, last, all))
+  | inr (inl blob) ↦
+      let here : drop count ops ≡ op_at ops count ∷ drop (count + 1) ops = from_index ops count (omega (arith, last)) in
+      let all : Blob ∷ drop (count + 1) ops ≡ drop count ops = sym (here ∙ ap (λ (op : Op). op ∷ drop (count + 1) ops) blob.0) in
+      values_then room ops count a b before now after c h fits each (subst (λ (rest : List Op). AddsFew (values_of (room - count) rest) (room - count) b c now after) all behind)
+  | inr (inr array) ↦ absurd (omega (arith, last, array.1))
 ]

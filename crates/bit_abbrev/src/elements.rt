@@ -335,7 +335,7 @@ fn glance_held<'a, V: ValueTaker>(ahead: Ahead<'a>, most: u64, values: &mut V) -
 
 /// Reads bytes from what is ahead, at most so many: how many, and what is then ahead. Those behind the window are handed on as
 /// they lie there. Where memory is refused some may stand behind the values that there were.
-fn glance_bytes<'a, V: ValueTaker>(
+pub(crate) fn glance_bytes<'a, V: ValueTaker>(
     ahead: Ahead<'a>,
     most: u64,
     values: &mut V,

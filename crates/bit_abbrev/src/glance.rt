@@ -12,7 +12,7 @@ ghost use Rattle.bit_fields.specs.Ahead.{Glimpsed, reader_at};
 ghost use Rattle.bit_abbrev.specs.Plain.{IsBehindSingles};
 ghost use Rattle.bit_abbrev.specs.Values.{AddsAll, AddsEach, AddsFew, AddsWithin, Gains, Keeps, PassesValues, PassesEach};
 
-use crate::elements::pass_fields;
+use crate::elements::{glance_bytes, pass_fields};
 use crate::record::have_room;
 use bit_fields::{Ahead, ValueTaker};
 use bit_grammar::Op;
@@ -192,6 +192,55 @@ fn glance_array<U, V: ValueTaker>(
     glance_elements(ahead, count, element, values)
 }
 
+/// Reads so many bytes, which are handed on as they lie there, or passes over them where nobody looks at them.
+fn glance_all_bytes<'a, V: ValueTaker>(
+    ahead: Ahead<'a>,
+    count: u64,
+    values: &mut V,
+) -> Option<Ahead<'a>>
+    ensures glimpsed { IfSome result (λ after. Gains V.took values.old values.new
+        (AddsAll (fixed 8) count (reader_at ahead.entry) (Ok tt) (reader_at after))) }
+    ensures keeps { Keeps V.took values.old values.new }
+{
+    if pass_fields(values, count) {
+        let mut behind = ahead;
+        behind.skip_fixed(count, 8)?;
+        return Some(behind);
+    }
+    let Ok((seen, behind)) = glance_bytes(ahead, count, values) else {
+        return None;
+    };
+    if seen < count { None } else { Some(behind) }
+}
+
+/// Reads a blob. As with `far_elements` it is kept out of the callers, which seldom come here.
+#[inline(never)]
+fn far_blob<'a, V: ValueTaker>(ahead: Ahead<'a>, room: u64, values: &mut V) -> Option<Ahead<'a>>
+    ensures glimpsed { (others : List Op) → IfSome result (λ after.
+        Gains V.took values.old values.new (AddsFew (values_of room (Blob ∷ others)) room
+        (reader_at ahead.entry) (reader_at after))) }
+    ensures keeps { Keeps V.took values.old values.new }
+{
+    let mut ahead = ahead;
+    let count = glance_count(&mut ahead, room)?;
+    ahead.pad()?;
+    let mut behind = glance_all_bytes(ahead, count, values)?;
+    behind.pad()?;
+    Some(behind)
+}
+
+/// Reads a blob, with room for so many values.
+#[inline(always)]
+fn glance_blob<V: ValueTaker>(ahead: &mut Ahead<'_>, room: u64, values: &mut V) -> Option<()>
+    ensures glimpsed { (others : List Op) → OnSome result
+        (Gains V.took values.old values.new (AddsFew (values_of room (Blob ∷ others)) room
+        (reader_at ahead.old) (reader_at ahead.new))) }
+    ensures keeps { Keeps V.took values.old values.new }
+{
+    *ahead = far_blob(ahead.copy(), room, values)?;
+    Some(())
+}
+
 /// Reads the field of an operand that stands for one value.
 #[inline(always)]
 #[tactic(auto, unfolding(bit_grammar::specs::Record::scalar))]
@@ -273,6 +322,8 @@ fn has_array(ops: &[Op]) -> bool
 /// Whether the last operand is a blob.
 #[inline(always)]
 fn has_blob(ops: &[Op]) -> bool
+    ensures yes { result ≡ true → (1 ≤ length ops.now)
+        × (op_at ops.now (length ops.now - 1) ≡ Blob) }
     ensures no { result ≡ false → 1 ≤ length ops.now → op_at ops.now (length ops.now - 1) ≢ Blob }
 {
     if ops.is_empty() {
@@ -284,17 +335,21 @@ fn has_blob(ops: &[Op]) -> bool
     }
 }
 
-/// How many operands stand for one value each, where no blob stands behind them. An array stands last but one.
+/// How many operands stand for one value each. An array stands last but one, a blob last.
 #[inline(always)]
-fn count_singles(ops: &[Op]) -> Option<usize>
+fn count_singles(ops: &[Op]) -> usize
     requires array { (i : ℕ) → op_at ops.now i ≡ Array → i + 2 ≡ length ops.now }
     requires blob { (i : ℕ) → op_at ops.now i ≡ Blob → i + 1 ≡ length ops.now }
-    ensures { IfSome result (λ count. IsBehindSingles ops.now count) }
+    ensures { IsBehindSingles ops.now result }
 {
     if has_array(ops) {
-        return Some(ops.len() - 2);
+        return ops.len() - 2;
     }
-    if has_blob(ops) { None } else { Some(ops.len()) }
+    if has_blob(ops) {
+        ops.len() - 1
+    } else {
+        ops.len()
+    }
 }
 
 /// Reads the values of operands, with room for so many.
@@ -314,12 +369,13 @@ fn glance_values<U, V: ValueTaker>(
         (reader_at ahead.new))) }
     ensures keeps { Keeps V.took values.old values.new }
 {
-    let count = count_singles(ops)?;
+    let count = count_singles(ops);
     glance_scalars::<U, V>(ahead, &ops[..count], values)?;
-    if count == ops.len() {
-        return Some(());
+    match ops.len() - count {
+        0 => Some(()),
+        1 => glance_blob(ahead, room - count as u64, values),
+        _ => glance_array::<U, V>(ahead, room - count as u64, ops[count + 1], values),
     }
-    glance_array::<U, V>(ahead, room - count as u64, ops[count + 1], values)
 }
 
 /// Reads a record by its operands, after its abbreviation id: hands its values on and answers its code. Where it answers

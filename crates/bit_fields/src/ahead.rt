@@ -262,7 +262,7 @@ impl<'a> Ahead<'a> {
     }
 
     /// Reads zeros up to the next position that is a multiple of 32, possibly none. Source: "Abbreviation IDs", align32. Where
-    /// they are in the window none are put into it, so that `bytes` finds it empty if it can be.
+    /// they are all in the window, nothing is put into it: then it is often empty behind them, as `bytes` wants it.
     #[inline]
     pub fn pad(&mut self) -> Option<()>
         ensures glimpsed { OnSome result (Glimpsed align32 self.old tt self.new) }
