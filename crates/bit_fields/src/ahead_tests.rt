@@ -281,6 +281,7 @@ fn bytes_within_a_limit(rt: HostRuntime) {
     };
     let wanted: [u64; 13] = [1, 2, 3, 4, 5, 6, 7, 8, 9, 10, 11, 12, 13];
     assert!(rt; told.expect(&rt, "memory").as_slice() == wanted.as_slice());
+}
 
 /// What padding behind so many bits of what is in sight comes to: the bit behind it, and the number behind that.
 fn padded_in_sight<S: Source>(reader: &mut BitReader<S>, bits: u64) -> Option<(u64, u64)> {
