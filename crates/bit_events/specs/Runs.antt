@@ -47,9 +47,11 @@ after_record f outer handed values = record {
 abbrev pub SeesRecord : Frame → (room : ℕ) → InSight → (read : ℕ × ℕ) → List ℕ → InSight → Type 0
 SeesRecord f room a read list b = (limits : Limits) (outer : List machine.Frame) (handed : Handed)
     → limits.values - handed.used ≡ room
-    → Glimpsed (step_of limits (frame_shown f ∷ outer) handed) a
-    (record_of read.0 list a.position (read.1, b.position), after_record (frame_shown f) outer
-    handed list) b
+    → Glimpsed (step_of limits (frame_shown f ∷ outer) handed) a (
+      record_of read.0 list a.position (read.1, b.position),
+      after_record (frame_shown f) outer
+          handed list,
+    ) b
 
 -- bits that were in sight first stand before what is in sight now
 abbrev pub Passed : InSight → InSight → Type 0

@@ -167,7 +167,7 @@ fn told_from<S: Source + Drop>(rt: &impl Abort, alloc: Global, mut events: Event
 }
 
 /// Limits on bytes, inputs, and their events.
-static EVENTS: [(u64, &str, &str); 10] = [
+pub(crate) static EVENTS: [(u64, &str, &str); 10] = [
     (
         1000,
         "M B U",
@@ -225,7 +225,7 @@ static EVENTS: [(u64, &str, &str); 10] = [
 
 /// Inputs with a definition of which the operands are in no lawful order, and their events where shapes are judged at their
 /// use.
-static AT_USE: [(&str, &str); 2] = [
+pub(crate) static AT_USE: [(&str, &str); 2] = [
     // another definition is used
     (
         "M 21 0C 00 00 03 00 00 00 22 03 4C 8E 1C 89 01 72 4A 06 00 00",
@@ -271,18 +271,18 @@ fn events_with_shapes_at_use(rt: HostRuntime) {
 }
 
 /// A block with a blob, a field without a width and a record that is not abbreviated.
-const MIXED: &str =
+pub(crate) const MIXED: &str =
     "M 21 0C 00 00 05 00 00 00 12 03 54 A2 80 00 0E 00 61 62 63 00 DD 21 14 61 00 00 00 00";
 
 /// Its events before the last record.
-const MIXED_FRONT: &str = "32 Enter { id: 8, width: 3, first: 32, body: 96 } \
+pub(crate) const MIXED_FRONT: &str = "32 Enter { id: 8, width: 3, first: 32, body: 96 } \
     Define { abbrev: Abbrev { ops: [Literal(1), Blob], usable: true }, first: 96, after: 117 } \
     Define { abbrev: Abbrev { ops: [Literal(2), Fixed(0)], usable: true }, first: 117, after: 143 } \
     Record { abbrev: 4, code: 1, values: [97, 98, 99], first: 143, after: 192 } \
     Record { abbrev: 5, code: 2, values: [0], first: 192, after: 195 } ";
 
 /// The most values, and the events behind that front.
-static MIXED_ENDS: [(u64, &str); 2] = [
+pub(crate) static MIXED_ENDS: [(u64, &str); 2] = [
     (
         6,
         "Record { abbrev: 3, code: 7, values: [5, 33], first: 195, after: 228 } Leave { after: 256 } None None ",

@@ -22,6 +22,8 @@ mod open_blocks;
 mod open_blocks_tests;
 mod running;
 mod slice_events;
+#[cfg(test)]
+mod slice_events_tests;
 mod with_first;
 
 pub use checking::{check, check_keeping};

@@ -197,9 +197,13 @@ pub(crate) fn gather_records<G: Gatherer>(
     loop {
         let room = limits.values().saturating_sub(spent);
         values.truncate(0);
-        let Some((id, code)) =
-            glance_item::<G, G::Values>(&mut ahead, frame, &definitions, room, values)
-        else {
+        let Some((id, code)) = glance_item::<G, G::Values>(
+            &mut ahead,
+            frame,
+            &definitions,
+            room,
+            values,
+        ) else {
             *used = spent;
             return Ok(first);
         };

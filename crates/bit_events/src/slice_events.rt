@@ -98,6 +98,14 @@ impl<'a> SliceEvents<'a> {
         &self.head
     }
 
+    /// The bit behind the event that was given last, or behind the head, counted from the first bit of the input. A call that
+    /// fails leaves it.
+    pub fn position(&self) -> u64
+        ensures { result ≡ self.now.position }
+    {
+        self.ahead.position()
+    }
+
     /// Reads the next event where it is a record that lies there whole: hands its values on, and answers the rest of it. Else, and
     /// where a value is refused, nothing came, some values may have been handed on, and `next` finds the event.
     #[inline(always)]

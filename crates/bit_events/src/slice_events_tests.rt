@@ -1,0 +1,288 @@
+//! The events of bytes that lie in memory, where records are read where they lie.
+
+use crate::events_tests::{
+    AT_USE, EVENTS, MIXED, MIXED_ENDS, MIXED_FRONT, agrees, bytes_of, told_of_fault,
+};
+use crate::{Event, PackedEvent, RecordHead, SliceEvents};
+use bit_fields::{ExpectedValues, Limits, PackedValues, SliceSource, ValueTaker};
+use std::alloc::{AllocError, Global};
+use std::fmt::Write;
+use std::process::Abort;
+
+/// Before which events a record is looked for where it lies.
+#[derive(Clone, Copy, Debug)]
+enum Looks {
+    Never,
+    Always,
+    EverySecond,
+}
+
+impl Looks {
+    fn at(self, turn: u64) -> bool {
+        match self {
+            Looks::Never => false,
+            Looks::Always => true,
+            Looks::EverySecond => turn % 2 == 1,
+        }
+    }
+}
+
+/// Adds an event to a text.
+fn show(text: &mut String, event: &Event<'_>) -> Result<(), AllocError> {
+    write!(text, "{event:?} ").map_err(|_| AllocError)
+}
+
+/// Adds a record that was read where it lies to a text, as the event that it is.
+fn show_record(text: &mut String, read: RecordHead, values: &[u64]) -> Result<(), AllocError> {
+    let RecordHead {
+        abbrev,
+        code,
+        first,
+        after,
+    } = read;
+    let event = Event::Record {
+        abbrev,
+        code,
+        values,
+        first,
+        after,
+    };
+    show(text, &event)
+}
+
+/// The numbers that are packed.
+fn numbers_of(alloc: Global, values: &PackedValues) -> Result<Vec<u64>, AllocError> {
+    let mut list = Vec::new(alloc);
+    for place in 0..values.len() {
+        list.push(values.get(place).unwrap_or(0))?;
+    }
+    Ok(list)
+}
+
+/// Adds an event whose values are packed to a text.
+fn show_packed(alloc: Global, text: &mut String, event: PackedEvent<'_>) -> Result<(), AllocError> {
+    match event {
+        Event::Enter {
+            id,
+            width,
+            first,
+            body,
+        } => show(
+            text,
+            &Event::Enter {
+                id,
+                width,
+                first,
+                body,
+            },
+        ),
+        Event::Define {
+            abbrev,
+            first,
+            after,
+        } => show(
+            text,
+            &Event::Define {
+                abbrev,
+                first,
+                after,
+            },
+        ),
+        Event::Record {
+            abbrev,
+            code,
+            values,
+            first,
+            after,
+        } => {
+            let read = RecordHead {
+                abbrev,
+                code,
+                first,
+                after,
+            };
+            show_record(text, read, numbers_of(alloc, values)?.as_slice())
+        }
+        Event::Leave { after } => show(text, &Event::Leave { after }),
+    }
+}
+
+/// Adds the next event to a text, or what stands in its place; answers whether there was one.
+fn show_next(
+    alloc: Global,
+    events: &mut SliceEvents<'_>,
+    text: &mut String,
+) -> Result<bool, AllocError> {
+    match events.next() {
+        Ok(Some(event)) => {
+            show_packed(alloc, text, event)?;
+            Ok(true)
+        }
+        Ok(None) => {
+            text.push_str("None ")?;
+            Ok(false)
+        }
+        Err(fault) => {
+            write!(text, "{fault} ").map_err(|_| AllocError)?;
+            Ok(false)
+        }
+    }
+}
+
+/// Adds a record that lies there next to a text; answers whether there was one.
+fn show_seen(
+    alloc: Global,
+    events: &mut SliceEvents<'_>,
+    text: &mut String,
+) -> Result<bool, AllocError> {
+    let mut values = Vec::new(alloc);
+    match events.record(&mut values) {
+        Some(read) => {
+            show_record(text, read, values.as_slice())?;
+            Ok(read.after == events.position())
+        }
+        None => Ok(false),
+    }
+}
+
+/// All events, up to the second time that there is none, behind the bit at which they begin; and how many records were read where
+/// they lie.
+fn told_from(
+    alloc: Global,
+    mut events: SliceEvents<'_>,
+    looks: Looks,
+) -> Result<(String, u64), AllocError> {
+    let mut text = String::new(alloc);
+    write!(text, "{} ", events.position()).map_err(|_| AllocError)?;
+    let (mut ends, mut seen): (u64, u64) = (0, 0);
+    for turn in 0..100 {
+        if looks.at(turn) && show_seen(alloc, &mut events, &mut text)? {
+            seen = seen.saturating_add(1);
+        } else if !show_next(alloc, &mut events, &mut text)? {
+            ends = ends.saturating_add(1);
+        }
+        if ends == 2 {
+            break;
+        }
+    }
+    Ok((text, seen))
+}
+
+/// The same of an input under limits.
+fn told(
+    alloc: Global,
+    bytes: &[u8],
+    limits: Limits,
+    looks: Looks,
+) -> Result<(String, u64), AllocError> {
+    match SliceEvents::start(alloc, SliceSource::new(bytes), limits) {
+        Ok(events) => told_from(alloc, events, looks),
+        Err((fault, _)) => Ok((told_of_fault(alloc, fault)?, 0)),
+    }
+}
+
+/// The events of an input are these, however records are looked for.
+fn are_told(rt: &impl Abort, alloc: Global, limits: Limits, text: &str, wanted: &str) {
+    let bytes = bytes_of(alloc, text).expect(rt, "memory");
+    for looks in [Looks::Never, Looks::Always, Looks::EverySecond] {
+        let told = told(alloc, &bytes, limits, looks).map(|told| told.0);
+        agrees(rt, told, wanted, text);
+    }
+}
+
+#[test]
+fn events_of_slices(rt: HostRuntime) {
+    for (limit, text, wanted) in &EVENTS {
+        let limits = Limits::new(*limit, 64, 1000).expect(&rt, "limits within their caps");
+        are_told(&rt, rt.alloc(), limits, text, wanted);
+    }
+    for (text, wanted) in &AT_USE {
+        let limits = Limits::usual().shapes_at_use();
+        are_told(&rt, rt.alloc(), limits, text, wanted);
+    }
+}
+
+#[test]
+fn events_of_mixed_slices(rt: HostRuntime) {
+    for (most, end) in &MIXED_ENDS {
+        let limits = Limits::new(1000, 64, *most).expect(&rt, "limits within their caps");
+        let mut wanted = String::new(rt.alloc());
+        write!(wanted, "{MIXED_FRONT}{end}").expect(&rt, "memory");
+        are_told(&rt, rt.alloc(), limits, MIXED, wanted.as_str());
+    }
+}
+
+/// Inputs, and how many of their records are read where they lie: not those in a BLOCKINFO block, those with fields that take no
+/// bits, those past the limit on values, and those that are cut.
+static SEEN: [(&str, u64, u64); 5] = [
+    ("M B U", 1000, 1),
+    (MIXED, 6, 2),
+    (MIXED, 5, 1),
+    (
+        "M 21 0C 00 00 05 00 00 00 12 03 54 A2 80 00 0E 00 61 62",
+        1000,
+        0,
+    ),
+    ("M E", 1000, 0),
+];
+
+#[test]
+fn records_that_lie_there(rt: HostRuntime) {
+    for (text, most, wanted) in &SEEN {
+        let bytes = bytes_of(rt.alloc(), text).expect(&rt, "memory");
+        let limits = Limits::new(1000, 64, *most).expect(&rt, "limits within their caps");
+        let told = told(rt.alloc(), &bytes, limits, Looks::Always).map(|told| told.1);
+        assert!(rt; told == Ok(*wanted), "{text}: {told:?}");
+    }
+}
+
+/// How many of these values the first record with a blob has, where it is read beside them; then the values of the record that
+/// comes next.
+fn beside(alloc: Global, bytes: &[u8], wanted: &[u64]) -> Result<(u64, Vec<u64>), AllocError> {
+    let mut others = PackedValues::new(alloc);
+    for value in wanted {
+        others.take(*value)?;
+    }
+    let start = SliceEvents::start(alloc, SliceSource::new(bytes), Limits::usual());
+    let Ok(mut events) = start else {
+        return Err(AllocError);
+    };
+    for _ in 0..3 {
+        if events.next().is_err() {
+            return Err(AllocError);
+        }
+    }
+    let mut expected = ExpectedValues::new(&others);
+    let count = match events.record(&mut expected) {
+        Some(_) => expected.front_of(&others).unwrap_or(100),
+        None => 50,
+    };
+    match events.next() {
+        Ok(Some(Event::Record { values, .. })) => Ok((count, numbers_of(alloc, values)?)),
+        _ => Err(AllocError),
+    }
+}
+
+/// Values beside those of the blob of `MIXED`, which are 97, 98 and 99, and how many of them it has; 50 where it is not read so.
+static BESIDE: [(&[u64], u64); 7] = [
+    (&[97, 98, 99], 3),
+    (&[97, 98, 99, 0], 3),
+    (&[97, 98], 50),
+    (&[96, 98, 99], 50),
+    (&[97, 98 + 256, 99], 50),
+    (&[97, 98, 100], 50),
+    (&[], 50),
+];
+
+#[test]
+fn records_beside_others(rt: HostRuntime) {
+    let bytes = bytes_of(rt.alloc(), MIXED).expect(&rt, "memory");
+    for (others, wanted) in &BESIDE {
+        let (count, next) = beside(rt.alloc(), &bytes, others).expect(&rt, "memory");
+        let behind: &[u64] = if count == 50 { &[97, 98, 99] } else { &[0] };
+        assert!(rt;
+            count == *wanted && next.as_slice() == behind,
+            "{others:?}: {count}"
+        );
+    }
+}
