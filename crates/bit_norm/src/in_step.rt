@@ -15,12 +15,8 @@ use crate::sign::Sign;
 use crate::walk::Walk;
 use crate::writing::number_of_magic;
 use bit_abbrev::Abbrev;
-use bit_events::{
-    Event, Folded, Gatherer, OpenBlocks, PackedEvent, RecordHead, SliceEvents, fold,
-};
-use bit_fields::{
-    ExpectedValues, Fault, Head, Limits, PackedValues, SliceSource, Source, Wrapper,
-};
+use bit_events::{Event, Folded, Gatherer, OpenBlocks, PackedEvent, RecordHead, SliceEvents, fold};
+use bit_fields::{ExpectedValues, Fault, Head, Limits, PackedValues, SliceSource, Source, Wrapper};
 use bit_tree::Info;
 use std::alloc::{AllocError, Global};
 use std::marker::Model;
@@ -207,13 +203,7 @@ fn weigh_next(
         }
     }
     match events.next()? {
-        None => Ok(Weighed::Stands(held_beside(
-            Sign::Over,
-            ended,
-            ended,
-            sign,
-            apart,
-        ))),
+        None => Ok(Weighed::Stands(held_beside(Sign::Over, ended, ended, sign, apart))),
         Some(event) => weigh(event, sign, blocks, ended, apart).map_err(|_| Fault::Memory),
     }
 }
