@@ -1,11 +1,16 @@
 # make              builds the program to one file, which needs nothing of the toolchain: crates/bitstool/out/bitstool
 # make run < FILE   writes the normal form of a file; make run ARGS="check" < FILE gives the program these arguments
 # make lib          proves the C library and builds it: capi/out/libbitstream.a and libbitstream.so
-# make install      puts the program, its man page and completions, the C library, its header and its pkg-config file below PREFIX
+# make install      puts the program, its man page and completions, the C library, its header, its pkg-config and CMake files, the
+#                   Python module, the Rust crate and the examples below PREFIX
+# make dist         packs what make install puts there into out/bitstool-VERSION-x86_64-linux.tar.gz, the same bytes on each
+#                   run; OUT names another folder than out
 # make bench        the program beside other tools; bench/tool says on which files
 # make test         the gate: every proof from nothing, the edits that must be refused, and the tests; then make test-program
 # make test-program  the scripts of tests/ alone, which test the built program and the C library
 PREFIX ?= /usr/local
+# Where the Python module goes below PREFIX.
+PYTHON_FOLDER ?= lib/python3/dist-packages
 JOBS ?= $(shell nproc)
 PROGRAM := crates/bitstool/out/bitstool
 # Asks calls of the libraries for tests/refused_memory.
@@ -16,8 +21,12 @@ below = $(filter $(LIBRARIES),$(shell sed -n 's/^$(1)[^:]*://p' crates.txt))
 # The version of the C library: of its calls, structures and numbers.
 C_VERSION := $(shell sed -n 's/^\#define BS_VERSION //p' capi/bitstream.h)
 HEAP := $(dir $(shell rt doc))c/liblibc_c.a
+VERSION := $(shell sed -n 's/^const VERSION: &str = "\(.*\)";/\1/p' crates/bitstool/src/parse.rt)
+DIST := bitstool-$(VERSION)-x86_64-linux
+OUT ?= out
+packed = $(abspath $(OUT))/$(DIST)
 
-.PHONY: all libraries lib run install bench test test-program
+.PHONY: all libraries lib run install dist bench test test-program
 all: $(PROGRAM)
 
 # Proved, built, and run once on its stored input.
@@ -50,11 +59,17 @@ $(foreach name,$(LIBRARIES) bit_c,$(eval $(call library,$(name))))
 
 lib: capi/out/libbitstream.a capi/out/libbitstream.so
 
-# The crate's code, and the kit's three functions of the heap, which call malloc, realloc and free.
-capi/out/libbitstream.a: crates/bit_c/out/built
+# One object: the crate's code, the calls that replace null pointers, and the kit's three functions of the heap, which call malloc,
+# realloc and free. Only the names bs_* are global, so that it can be linked beside other libraries of Rattle's.
+capi/out/libbitstream.a: crates/bit_c/out/built capi/null.py capi/bitstream.h
 	@mkdir -p capi/out
-	@cp crates/bit_c/out/libbit_c.a $@
-	@cd capi/out && ar x $(HEAP) heap.pic.o && ar rs libbitstream.a heap.pic.o
+	@rm -f capi/out/*
+	@capi/null.py capi/bitstream.h capi/out/names > capi/out/null.c
+	@cd capi/out && $(CC) -O2 -fPIC -I.. -c null.c && ar x $(HEAP) heap.pic.o \
+	    && objcopy --redefine-syms=names ../../crates/bit_c/out/libbit_c.a proved.a \
+	    && ld -r -o bitstream.o null.o heap.pic.o --whole-archive proved.a \
+	    && objcopy --wildcard --keep-global-symbol='bs_*' bitstream.o && ar rcsD libbitstream.a bitstream.o
+	@rm -f capi/out/*.o capi/out/proved.a
 	@echo "built $@" >&2
 
 capi/out/libbitstream.so: capi/out/libbitstream.a capi/bitstream.map capi/bitstream.h
@@ -65,18 +80,37 @@ capi/out/libbitstream.so: capi/out/libbitstream.a capi/bitstream.map capi/bitstr
 run: $(PROGRAM)
 	@$(PROGRAM) $(ARGS)
 
+place = $(DESTDIR)$(PREFIX)
 install: $(PROGRAM) lib
-	install -D $(PROGRAM) $(DESTDIR)$(PREFIX)/bin/bitstool
-	install -D -m 644 man/bitstool.1 $(DESTDIR)$(PREFIX)/share/man/man1/bitstool.1
-	install -D -m 644 completions/bitstool.bash $(DESTDIR)$(PREFIX)/share/bash-completion/completions/bitstool
-	install -D -m 644 completions/_bitstool $(DESTDIR)$(PREFIX)/share/zsh/site-functions/_bitstool
-	install -D -m 644 completions/bitstool.fish $(DESTDIR)$(PREFIX)/share/fish/vendor_completions.d/bitstool.fish
-	install -D -m 644 capi/bitstream.h $(DESTDIR)$(PREFIX)/include/bitstream.h
-	install -D -m 644 capi/out/libbitstream.a $(DESTDIR)$(PREFIX)/lib/libbitstream.a
-	install -D capi/out/libbitstream.so $(DESTDIR)$(PREFIX)/lib/libbitstream.so.$(C_VERSION)
-	ln -sf libbitstream.so.$(C_VERSION) $(DESTDIR)$(PREFIX)/lib/libbitstream.so
-	mkdir -p $(DESTDIR)$(PREFIX)/lib/pkgconfig
-	sed 's|@PREFIX@|$(PREFIX)|; s|@VERSION@|$(C_VERSION)|' capi/bitstream.pc.in > $(DESTDIR)$(PREFIX)/lib/pkgconfig/bitstream.pc
+	install -D $(PROGRAM) $(place)/bin/bitstool
+	install -D -m 644 man/bitstool.1 $(place)/share/man/man1/bitstool.1
+	install -D -m 644 completions/bitstool.bash $(place)/share/bash-completion/completions/bitstool
+	install -D -m 644 completions/_bitstool $(place)/share/zsh/site-functions/_bitstool
+	install -D -m 644 completions/bitstool.fish $(place)/share/fish/vendor_completions.d/bitstool.fish
+	install -D -m 644 capi/bitstream.h $(place)/include/bitstream.h
+	install -D -m 644 capi/out/libbitstream.a $(place)/lib/libbitstream.a
+	install -D capi/out/libbitstream.so $(place)/lib/libbitstream.so.$(C_VERSION)
+	ln -sf libbitstream.so.$(C_VERSION) $(place)/lib/libbitstream.so
+	install -D -m 644 capi/bitstreamConfig.cmake $(place)/lib/cmake/bitstream/bitstreamConfig.cmake
+	mkdir -p $(place)/lib/pkgconfig
+	sed 's|@VERSION@|$(C_VERSION)|' capi/bitstreamConfigVersion.cmake.in > $(place)/lib/cmake/bitstream/bitstreamConfigVersion.cmake
+	sed 's|@VERSION@|$(C_VERSION)|' capi/bitstream.pc.in > $(place)/lib/pkgconfig/bitstream.pc
+	install -D -m 644 capi/python/bitstream.py $(place)/$(PYTHON_FOLDER)/bitstream.py
+	install -D -m 644 -t $(place)/share/bitstream/examples capi/examples/*
+	install -D -m 644 -t $(place)/share/bitstream/rust capi/rust/Cargo.toml capi/rust/build.rs
+	install -D -m 644 -t $(place)/share/bitstream/rust/src capi/rust/src/*.rs
+
+# Sorted names, one time, one owner: the same bytes on each run.
+dist: $(PROGRAM) lib
+	@rm -rf $(packed)
+	@$(MAKE) --no-print-directory -s -o $(PROGRAM) install DESTDIR=$(packed) PREFIX=
+	@echo "x86-64-v2 Linux, glibc $$(objdump -T $(packed)/bin/bitstool $(packed)/lib/*.so | grep -o 'GLIBC_[0-9.]*' | sort -V \
+	    | sed -n 's/GLIBC_//; $$p') or later" > $(packed)/NEEDS
+	@cd $(packed) && find * -type f ! -name SHA256SUMS | LC_ALL=C sort | xargs sha256sum > SHA256SUMS
+	@cd $(packed)/.. && tar --sort=name --mtime=@0 --owner=0 --group=0 --numeric-owner --mode=u=rwX,go=rX --format=ustar -cf - $(DIST) \
+	    | gzip -n -9 > $(DIST).tar.gz
+	@rm -rf $(packed)
+	@echo "packed $(packed).tar.gz" >&2
 
 bench: $(PROGRAM)
 	bench/tool

@@ -1,17 +1,22 @@
 /* Calls on streams in the LLVM bitstream container: check, normal form, comparison, analysis, listing and events.
 
-   Each call is a function of Rattle whose contract is proved: docs/PROMISES.md lists them. What a caller owes is not checked by
-   anything, and what a call does where it is not kept is undefined:
+   Each call is a function of Rattle whose contract is proved: docs/PROMISES.md lists them. Before it, a few lines of C replace null
+   pointers that have the length 0. What a caller owes is not checked by anything, and if it is not kept, the behaviour of a call is
+   undefined:
 
-   - A pointer leads to what its type says, aligned, and is not null; a pointer with a length leads to so many elements, and is not
-     null where the length is 0 either. Lengths are below 2^63 bytes. What is not const is initialised, and no two arguments that
-     are not const overlap, nor one that is not const and one that is.
+   - A pointer leads to what its type says, aligned, and is not null. A pointer with a length leads to an array of that length, and
+     may be null if the length is 0. Lengths are below 2^63 bytes. What is not const is initialised, and no two arguments that are
+     not const overlap, nor one that is not const and one that is.
    - A bool is 0 or 1.
    - malloc, realloc and free of the program are of one allocator, and align a block to each power of two up to 16 that divides
      its size. No call is made from a signal handler, or from the forked child of a process with threads.
 
    Calls in several threads do not disturb each other; a handle is used by the thread that opened it, one call at a time.
-   No call keeps what it is passed, but bs_open, which says so. */
+   No call keeps what it is passed, but bs_open, which says so.
+
+   The library needs an x86-64 processor of level v2, with SSE4.2 and POPCNT; on an older one a call can end the program by SIGILL. It
+   calls malloc, realloc, free and the memory functions of C, and nothing else: it opens no file, prints nothing, and sets no signal
+   handler. */
 #ifndef BITSTREAM_H
 #define BITSTREAM_H
 
@@ -62,8 +67,8 @@ struct bs_record_name {
     uint64_t code;
 };
 
-/* What of an input is left out. Begin with BS_WHOLE, which leaves out nothing. For each block and record the names are searched from
-   the first to the last. */
+/* What of an input is left out. Begin with BS_WHOLE, which is all zeros and leaves out nothing. For each block and record the names
+   are searched from the first to the last. */
 struct bs_left_out {
     /* The BLOCKINFO blocks, as where block 0 is named. */
     bool info;
@@ -74,8 +79,7 @@ struct bs_left_out {
     const struct bs_record_name *records;
     size_t records_len;
 };
-/* A pointer to no elements is aligned, and not null. */
-#define BS_WHOLE {false, (const uint32_t *)4, 0, (const struct bs_record_name *)8, 0}
+#define BS_WHOLE {false, NULL, 0, NULL, 0}
 
 /* Why an input was refused; all zeros where none was. */
 struct bs_fault {
@@ -92,7 +96,7 @@ struct bs_bytes {
     const uint8_t *at;
     size_t len;
 };
-#define BS_NO_BYTES {(const uint8_t *)"", 0}
+#define BS_NO_BYTES {NULL, 0}
 
 /* The version of these calls, structures and numbers, and that of a library. They are the same where a program was built for the
    library that it runs with. */

@@ -90,6 +90,9 @@ both_repeat f h same (suc count) p r = ap (λ x. x and_then rest f) (same p r) �
     by (Ok x) others = rw (others x.1 x.2) refl
     by (Err fault) others = refl
 
+pub zeros_took_by : (count : ℕ) (a : Reader) (values : List ℕ) → Took (repeat count (gives 0)) a values a → Took (repeat count (fixed 0)) a values a
+zeros_took_by count a values t = same_reading (repeat count (gives 0)) (repeat count (fixed 0)) a (Ok values) a (both_repeat (gives 0) (fixed 0) (λ p r. sym (zero_reads p r)) count) t
+
 pub zeros_are : (count : ℕ) (a : Reader) (result : Result (Unit {0}) Fault) (now new : List ℕ) (c : Reader) → Adds (repeat count (gives 0)) a result now new c → Adds (repeat count (fixed 0)) a result now new c
 zeros_are count a result now new c h = adds_same (repeat count (gives 0)) (repeat count (fixed 0)) a result now new c (both_repeat (gives 0) (fixed 0) (λ p r. sym (zero_reads p r)) count) h
 

@@ -11,7 +11,18 @@ use Rattle.bit_grammar.specs.declared.reason.Reason.{Reason}
 use Rattle.bit_grammar.specs.declared.reason.Reason.TheVariants.{AbbrevShape, FieldWidth}
 use Rattle.bit_grammar.specs.Definition.{fits, fixed_lawful, vbr_lawful, place_after, kind_of}
 use Rattle.bit_grammar.specs.FormatDefinition.{op_at, IsElement, HasLawfulValue, Lawful}
-use Rattle.bit_abbrev.specs.Breaks.{BreaksShape, first_array, first_blob, array_place, no_element, blob_place, BreaksWidth, BreaksAt, NoneBreaks, IsFirstBreak, LiteralFits, place_at, width_break, break_of, break_at}
+use Rattle.bit_abbrev.specs.Breaks.{BreaksShape, first_array, first_blob, array_place, no_element, blob_place, BreaksWidth, BreaksAt, NoneBreaks, IsFirstBreak, LiteralFits, width_break, break_of}
+
+-- ---- how it is judged, from left to right
+
+-- the place of the operand at an index
+abbrev pub place_at : List Op → ℕ → Place
+place_at ops zero = first
+place_at ops (suc i) = place_after (op_at ops i)
+
+-- the break of the operand at an index
+abbrev pub break_at : List Op → ℕ → Option Reason
+break_at ops i = break_of (place_at ops i) (length ops - 1 - i) (op_at ops i)
 
 -- ---- the shape
 

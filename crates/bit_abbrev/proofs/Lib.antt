@@ -5,6 +5,6 @@ pub mod Taking
 pub mod Operands
 pub mod Shapes
 pub mod Records
-pub mod Scalars
 mod Several
-pub mod Glancing
+pub mod Buffered
+mod Missing

@@ -1,13 +1,14 @@
 -- Reading the values of a record, operand by operand.
 use Rattle.std.specs.Prelude.{nat_le}
-use Rattle.std.proofs.Common.{◌≡◌, ℕ, zero, suc, ◌+◌, ◌-◌, ◌<◌, ◌≤◌, List, [], ◌∷◌, ◌++◌, length, take, drop, Result, Ok, Err, refl, sym, ap, subst, arith, add-one}
+use Rattle.std.proofs.Common.{◌≡◌, Bool, true, false, ℕ, zero, suc, ◌+◌, ◌-◌, ◌<◌, ◌≤◌, List, [], ◌∷◌, ◌++◌, length, take, drop, Result, Ok, Err, refl, sym, ap, subst, arith, add-one}
 use Rattle.std.proofs.lemmas.List.{append-nil, take_all}
 use Rattle.std.proofs.Math.Seq.{drop-cons}
 use Rattle.std.specs.Result.{OnOk}
 use Rattle.bit_grammar.specs.declared.op.Op.{Op}
 use Rattle.bit_grammar.specs.declared.op.Op.TheVariants.{Literal, Fixed, Vbr, Array, Char6, Blob}
 use Rattle.bit_grammar.specs.declared.reason.Reason.TheVariants.{TooManyValues}
-use Rattle.bit_grammar.specs.Grammar.{Grammar, at, gives, test, ◌>>=◌, ◌>>◌, repeat}
+use Rattle.bit_grammar.specs.Grammar as grammar
+use Rattle.bit_grammar.specs.Grammar.{Grammar, at, gives, test, ◌>>=◌, ◌>>◌, repeat, reading}
 use Rattle.bit_grammar.specs.Fields.{fixed, align32, byte}
 use Rattle.bit_grammar.specs.Record.{value_count, scalar, singles, values_of, abbreviated}
 use Rattle.bit_grammar.specs.Terms.{CodeAndValues}
@@ -248,17 +249,29 @@ in_parts (op ∷ others) some =
     let same : take (suc (length others) - 1) others ≡ others = take_all (suc (length others) - 1) others (omega arith) in
     ap (λ (rest : List Op). op ∷ rest) (sym same)
 
-later_array : (op : Op) (others : List Op) → Lawful (op ∷ others) → (i : ℕ) → op_at others i ≡ Array → i + 2 ≡ length others
-later_array op others h i e = omega (arith, h.order.array (suc i) e)
-
-later_blob : (op : Op) (others : List Op) → Lawful (op ∷ others) → (i : ℕ) → op_at others i ≡ Blob → i + 1 ≡ length others
-later_blob op others h i e = omega (arith, h.order.blob (suc i) e)
-
-pub array_behind : (ops : List Op) → 1 ≤ length ops → Lawful ops → (i : ℕ) → op_at (behind_first ops) i ≡ Array → i + 2 ≡ length (behind_first ops)
-array_behind ops some h = later_array (op_at ops 0) (behind_first ops) (subst Lawful (in_parts ops some) h)
-
-pub blob_behind : (ops : List Op) → 1 ≤ length ops → Lawful ops → (i : ℕ) → op_at (behind_first ops) i ≡ Blob → i + 1 ≡ length (behind_first ops)
-blob_behind ops some h = later_blob (op_at ops 0) (behind_first ops) (subst Lawful (in_parts ops some) h)
-
 pub elements_behind : (ops : List Op) → 1 ≤ length ops → Lawful ops → (i : ℕ) → op_at (behind_first ops) i ≡ Array → IsElement (op_at (behind_first ops) (i + 1))
 elements_behind ops some h = later_elements (op_at ops 0) (behind_first ops) (subst Lawful (in_parts ops some) h)
+
+-- ---- the bit at which a record began
+
+no_answer : {A : Type 0} (fault : grammar.Fault) (x : A) → ◌≡◌ {A = Result A grammar.Fault} (Err fault) (Ok x) → ⊥
+no_answer fault x e = cc
+
+-- it matters for a refusal alone
+pub any_first : (first other room : ℕ) (ops : List Op) (a : Reader) (value : CodeAndValues) (c : Reader) → Took (abbreviated first room ops) a value c → Took (abbreviated other room ops) a value c
+unfolding abbreviated
+any_first first other room [] a value c t = t
+any_first first other room (op ∷ others) a value c t = record {
+  was_live = t.was_live;
+  live = t.live;
+  goes_on = t.goes_on;
+  forward = t.forward;
+  end = t.end;
+  limit = t.limit;
+  extent = t.extent;
+  reads = λ k. read_so (nat_le (singles others) room) (t.reads k);
+}
+  where
+    read_so : (fits : Bool) → reading (test fits (at TooManyValues first) >>= λ holds. fields_of room op others) a.position a.left ≡ Ok (value, c.position, c.left) → reading (test fits (at TooManyValues other) >>= λ holds. fields_of room op others) a.position a.left ≡ Ok (value, c.position, c.left)
+    read_so true e = e
+    read_so false e = absurd (no_answer (at TooManyValues first) (value, c.position, c.left) e)

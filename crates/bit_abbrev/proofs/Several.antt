@@ -1,11 +1,10 @@
 -- Several values at once, behind those before them.
 use Rattle.std.proofs.Common.{◌≡◌, ℕ, zero, suc, ◌+◌, ◌-◌, ◌≤◌, Bool, List, [], ◌∷◌, ◌++◌, Result, Ok, Err, refl, sym, ap, ◌∙◌, subst, arith, append_assoc}
-use Rattle.std.proofs.lemmas.List.{append-nil}
 use Rattle.bit_grammar.specs.Grammar as grammar
 use Rattle.bit_grammar.specs.Grammar.{Grammar, gives, ◌>>=◌, ◌and_then◌, repeat, reading}
 use Rattle.bit_fields.specs.declared.fault.Fault.{Fault}
 use Rattle.bit_fields.specs.Reader.{Reader, Took, Why}
-use Rattle.bit_fields.proofs.Composing.{fault_then, took_then, same_reading}
+use Rattle.bit_fields.proofs.Composing.{fault_then, took_then}
 use Rattle.bit_abbrev.specs.Values.{Has, Adds, AddsAll}
 use Rattle.bit_abbrev.proofs.Adding.{and_gives, adds_same, CompletesAll}
 use Rattle.bit_abbrev.proofs.Taking.{SoFar}
@@ -86,13 +85,6 @@ far_fails_by took v w rule count a before done b fault c h gains =
     (g.0, g.1, (h.2.all.so (Err fault) g.0 c g.2.0, tt))
 
 -- ---- faults
-
--- nothing was read when it came
-pub why_of_nothing : {A : Type 0} (rule : Grammar A) (a : Reader) (fault : Fault) (c : Reader) → Why (gives (tt {0})) a fault c → Why rule a fault c
-why_of_nothing rule a fault c why = same_reading (gives (tt {0}) >>= λ v. rule) rule a (Err fault) c (λ p r. refl) (fault_then (gives (tt {0})) (λ v. rule) a fault c why)
-
-pub none_added : {V : Type 0} (took : V → List ℕ → Type 0) (v : V) (rule : Grammar ℕ) (count : ℕ) (a : Reader) (fault : Fault) (c : Reader) (before : List ℕ) → took v before → Why (repeat count rule) a fault c → Has took v (AddsAll rule count a (Err fault) c before)
-none_added took v rule count a fault c before t why = (before, t, (([], sym (append-nil before), why), tt))
 
 -- several were taken, and then it came
 pub some_added : {V : Type 0} (took : V → List ℕ → Type 0) (v : V) (rule : Grammar ℕ) (some count : ℕ) (a b d : Reader) (fault : Fault) (c : Reader) (before : List ℕ) → Has took v (AddsAll rule some a (Ok tt) b before) → ((values : List ℕ) → Took (repeat some rule) a values b → Why (repeat count rule) d fault c) → Has took v (AddsAll rule count d (Err fault) c before)

@@ -59,6 +59,10 @@ pub length-numbers : (n count : ℕ) (r : List Bool) → length (numbers n count
 length-numbers n zero r = refl
 length-numbers n (suc count) r = ap suc (length-numbers n count _)
 
+pub length-map-codes : (count : ℕ) (r : List Bool) → length (map character (numbers 6 count r)) ≡ count
+length-map-codes zero r = refl
+length-map-codes (suc count) r = ap suc (length-map-codes count _)
+
 -- zeros, which take no bits
 pub zeros_took : (count : ℕ) (a : Reader) → a.live ≡ true → Took (repeat {A = ℕ} count (gives 0)) a (replicate count 0) a
 zeros_took count a live = same_reading (gives (replicate count 0)) (repeat {A = ℕ} count (gives 0)) a (Ok (replicate count 0)) a (λ p r. sym (read count p r)) (took_nothing (replicate count 0) a live)
@@ -97,14 +101,8 @@ characters_took count a codes (Err fault) c t = same_reading (repeat count (fixe
 
 -- ---- records
 
-pub recorded : {V : Type 0} (took : V → List ℕ → Type 0) (v : V) (rule : Grammar CodeAndValues) (room : ℕ) (a : Reader) (code : ℕ) (c : Reader) (before : List ℕ) → Has took v (AddsWithin rule room a (Ok code) c before) → Has took v (Recorded (λ r. Takes rule a r c) (Ok code) before)
-recorded took v rule room a code c before h = (h.0, h.1, h.2.0)
-
 pub recorded_only : {V : Type 0} (took : V → List ℕ → Type 0) (v : V) (rule : Grammar CodeAndValues) (room : ℕ) (a : Reader) (code : ℕ) (c : Reader) (before : List ℕ) → Has took v (AddsWithin rule room a (Ok code) c before) → Has took v (Recorded (λ r. IsOnly rule a r c) (Ok code) before)
 recorded_only took v rule room a code c before h = (h.0, h.1, (h.2.0.0, h.2.0.1, only rule a (Ok (record { code = code; values = h.2.0.0 })) c h.2.0.2))
-
-pub recorded_few : {V : Type 0} (took : V → List ℕ → Type 0) (v : V) (rule : Grammar CodeAndValues) (room : ℕ) (a : Reader) (code : ℕ) (c : Reader) (before : List ℕ) → Has took v (AddsWithin rule room a (Ok code) c before) → Has took v (λ after. length after ≤ length before + room)
-recorded_few took v rule room a code c before h = (h.0, h.1, h.2.1)
 
 -- what is cut back to so many values as there were
 cut_back : {V : Type 0} (took : V → List ℕ → Type 0) (old read cut : V) (count : ℕ) (before after others : List ℕ) → ((values : List ℕ) → took old values → count ≡ min (length values) (2 ^ 64 - 1)) → ((values others : List ℕ) → took read (values ++ others) → count ≡ min (length values) (2 ^ 64 - 1) → took cut values) → took old before → took read after → after ≡ before ++ others → took cut before

@@ -1,12 +1,11 @@
 -- Where a list of operands breaks the rules for abbreviations. Source: "Abbreviations", and this project's own choices.
-use Rattle.std.specs.Prelude.{◌≡◌, ◌≢◌, ◌⊎◌, ℕ, zero, suc, ◌+◌, ◌-◌, ◌^◌, ◌<◌, length, List, [], ◌∷◌, Option, Some, None, if◌then◌else◌}
+use Rattle.std.specs.Prelude.{◌≡◌, ◌≢◌, ◌⊎◌, ℕ, ◌+◌, ◌^◌, ◌<◌, length, List, [], ◌∷◌, Option, Some, None, if◌then◌else◌}
 use Rattle.bit_grammar.specs.declared.op.Op.{Op}
 use Rattle.bit_grammar.specs.declared.op.Op.TheVariants.{Literal, Fixed, Vbr, Array, Blob}
 use Rattle.bit_grammar.specs.declared.op.Place.{Place}
-use Rattle.bit_grammar.specs.declared.op.Place.TheVariants.{First as first}
 use Rattle.bit_grammar.specs.declared.reason.Reason.{Reason}
 use Rattle.bit_grammar.specs.declared.reason.Reason.TheVariants.{AbbrevEmpty, AbbrevShape, FieldWidth}
-use Rattle.bit_grammar.specs.Definition.{fits, fixed_lawful, vbr_lawful, place_after, kind_of}
+use Rattle.bit_grammar.specs.Definition.{fits, fixed_lawful, vbr_lawful, kind_of}
 use Rattle.bit_grammar.specs.FormatDefinition.{op_at, IsElement}
 
 -- ---- in the words of the format
@@ -49,11 +48,6 @@ LiteralFits _ = Unit {0}
 
 -- ---- how it is judged, from left to right
 
--- the place of the operand at an index
-abbrev pub place_at : List Op → ℕ → Place
-place_at ops zero = first
-place_at ops (suc i) = place_after (op_at ops i)
-
 -- the break of an operand's width
 abbrev pub width_break : Op → Option Reason
 width_break (Fixed width) = if fixed_lawful width then None else Some FieldWidth
@@ -63,7 +57,3 @@ width_break _ = None
 -- the break of an operand at a place, with so many operands after it
 abbrev pub break_of : Place → (after : ℕ) → Op → Option Reason
 break_of place after op = if fits place after (kind_of op) then width_break op else Some AbbrevShape
-
--- the break of the operand at an index
-abbrev pub break_at : List Op → ℕ → Option Reason
-break_at ops i = break_of (place_at ops i) (length ops - 1 - i) (op_at ops i)

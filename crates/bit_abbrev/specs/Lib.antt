@@ -1,4 +1,4 @@
+pub mod Bits
 pub mod Breaks
 pub mod Table
 pub mod Values
-pub mod Plain

@@ -3,10 +3,8 @@ use Rattle.std.specs.Prelude.{◌≡◌, ℕ, ◌+◌, ◌≤◌, List, ◌++◌
 use Rattle.std.specs.Result.{OnOk}
 use Rattle.bit_grammar.specs.Grammar.{Grammar, repeat}
 use Rattle.bit_grammar.specs.Terms.{CodeAndValues}
-use Rattle.bit_grammar.specs.declared.op.Op.{Op}
 use Rattle.bit_fields.specs.declared.fault.Fault.{Fault}
 use Rattle.bit_fields.specs.Reader.{Reader, Took, Why}
-use Rattle.bit_abbrev.specs.Plain.{scalars}
 
 -- it took values of which this holds
 abbrev pub Has : {V : Type 0} → (took : V → List ℕ → Type 0) → V → (List ℕ → Type 0) → Type 0
@@ -38,22 +36,6 @@ Adds rule old (Ok x) before after new = (values : List ℕ) × (after ≡ before
 Adds rule old (Err fault) before after new = (values : List ℕ) × (after ≡ before ++ values)
     × Why rule old fault new
 
--- what passes over a value of each of these operands
-abbrev pub PassesEach : List Op → Reader → Reader → Type 0
-PassesEach ops old new = (values : List ℕ) × (length values ≡ length ops)
-    × Took (scalars ops) old values new
-
--- A call adds to a list a value of each of these operands.
-abbrev pub AddsEach : List Op → (old new : Reader) → (before after : List ℕ) → Type 0
-AddsEach ops old new before after = Adds (scalars ops) old (Ok tt) before after new
-    × (length after ≡ length before + length ops)
-
--- A call adds to a list the values that the rule reads, no more than there was room for.
-abbrev pub AddsFew : Grammar (List ℕ) → (room : ℕ) → (old new : Reader) → (before after : List ℕ)
-    → Type 0
-AddsFew rule room old new before after = Adds rule old (Ok tt) before after new
-    × (length after ≤ length before + room)
-
 -- A call adds so many values to a list.
 abbrev pub AddsAll : Grammar ℕ → (count : ℕ) → Reader → Result (Unit {0}) Fault → Reader
     → (before after : List ℕ) → Type 0
@@ -82,3 +64,10 @@ abbrev pub AddsWithin : Grammar CodeAndValues → (room : ℕ) → Reader → Re
     → (before after : List ℕ) → Type 0
 AddsWithin rule room old result new before after = AddsRecord rule old result before after new
     × OnOk result (length after ≤ length before + room)
+
+-- A call adds the values that the rule reads, as many as it answers; where it fails, it fails as one that was to add so many.
+abbrev pub AddsSome : {V : Type 0} → (took : V → List ℕ → Type 0) → Grammar ℕ → (most : ℕ) → Reader
+    → Result ℕ Fault → Reader → (v w : V) → Type 0
+AddsSome took rule most old (Ok count) new v w = Gains took v w (AddsAll rule count old (Ok tt) new)
+AddsSome took rule most old (Err fault) new v w = Gains took v w
+    (AddsAll rule most old (Err fault) new)

@@ -1,12 +1,22 @@
-//! Abbreviations, abbreviated records, and the table of the definitions that BLOCKINFO blocks make. Begin with `read_define`, which
-//! reads a definition, and `read_abbreviated`, which reads a record by it.
+//! Abbreviations, abbreviated records, and the table of the definitions that BLOCKINFO blocks make. Begin with `read_define`,
+//! which reads a definition, and `read_abbreviated`, which reads a record by it.
+//!
+//! There is one function for one rule of `bit_grammar`, with the parts in the same order, proved by unfolding the rule. The rules
+//! of a record are written once, over the trait `Bits`: a `BitReader` judges and reports faults, and `Ahead` reports only a miss
+//! (`NotBuffered`), which says nothing of the input. `Runs` adds what is read by runs from buffered bits: fields of one width,
+//! VBRs, bytes. `read_record` and `read_plain` are the records with and without a definition; `read_abbreviated` and
+//! `read_unabbreviated` are these on a reader.
+//!
+//! `SharedInfo` and `InForce` give a block the definitions in force without a copy: a finished table is behind one `Rc`, and a
+//! block adds its own in a vector. An `Abbrev` knows whether its shape is lawful (`is_usable`); no record goes by one that is
+//! not.
 #![tactic(auto)]
 
 mod abbrev;
+mod bits;
 #[cfg(test)]
 mod counting_tests;
 mod definition;
-mod elements;
 mod glance;
 #[cfg(test)]
 mod glance_tests;
@@ -16,17 +26,18 @@ mod laws;
 #[cfg(test)]
 mod reading_tests;
 mod record;
+mod runs;
 #[cfg(test)]
 mod tests;
-mod unabbreviated;
 mod widths;
 
 pub use abbrev::{Abbrev, BadAbbrev, Ops};
 pub use bit_grammar::Op;
+pub use bits::{Bits, NotBuffered};
 pub use definition::read_define;
 pub use glance::{glance_record, glance_unabbreviated};
 pub use in_force::{Definitions, InForce, SharedInfo};
 pub use info::InfoTable;
 pub use laws::lawful_unbroken;
-pub use record::read_abbreviated;
-pub use unabbreviated::read_unabbreviated;
+pub use record::{read_abbreviated, read_plain, read_record, read_unabbreviated};
+pub use runs::Runs;

@@ -1,16 +1,22 @@
-//! Reading abbreviated records.
+//! Reading records, wherever their bits come from.
 
-ghost use Rattle.std.specs.Prelude.{◌≡◌, ◌+◌, ◌-◌, ◌≤◌, ℕ, OnErr, OnOk, length, true, nat_le};
+ghost use Rattle.std.specs.Prelude.{◌≡◌, ◌+◌, ◌-◌, ◌≤◌, ℕ, List, [], ◌∷◌, ◌++◌, Ok, Err, IfErr, IfOk, OnErr, OnOk, length, true, nat_le};
 ghost use Rattle.std.specs.List.{AllByRecursion};
-ghost use Rattle.bit_grammar.specs.Record.{scalar, singles, values_of, abbreviated};
+ghost use Rattle.bit_grammar.specs.Grammar.{gives};
+ghost use Rattle.bit_grammar.specs.Record.{scalar, singles, value_count, values_of, abbreviated, unabbreviated};
 ghost use Rattle.bit_grammar.specs.Definition.{has_shape};
 ghost use Rattle.bit_grammar.specs.FormatDefinition.{op_at, IsElement, HasLawfulValue, Lawful};
-ghost use Rattle.bit_grammar.specs.declared.op.Op.TheVariants.{Array};
-ghost use Rattle.bit_fields.specs.Reader.{Takes, IsOnly};
-ghost use Rattle.bit_abbrev.specs.Values.{Adds, AddsWithin, Gains, Recorded};
+ghost use Rattle.bit_grammar.specs.declared.op.Op.{Op};
+ghost use Rattle.bit_grammar.specs.declared.op.Op.TheVariants.{Array, Blob};
+ghost use Rattle.bit_fields.specs.declared.fault.Fault.{Fault};
+ghost use Rattle.bit_fields.specs.declared.fault.Fault.TheVariants.{Memory};
+ghost use Rattle.bit_fields.specs.Reader.{Takes, IsOnly, failed_reader};
+ghost use Rattle.bit_abbrev.specs.Bits.{Answers};
+ghost use Rattle.bit_abbrev.specs.Values.{Adds, AddsAll, AddsWithin, Gains, Keeps, Recorded};
 
 use crate::abbrev::Abbrev;
-use crate::elements::{read_array, read_blob, take};
+use crate::bits::Bits;
+use crate::runs::Runs;
 use bit_fields::{BitReader, Fault, Source, ValueTaker};
 use bit_grammar::{Op, Reason};
 
@@ -29,107 +35,247 @@ fn singles(ops: &[Op]) -> u64
 }
 
 /// Whether there is room for the values of the single operands. They are counted only where the list is longer than that.
-pub(crate) fn have_room(ops: &[Op], room: u64) -> bool
+fn have_room(ops: &[Op], room: u64) -> bool
     ensures is { result ≡ nat_le (singles ops.now) room }
     ensures yes { result ≡ true → singles ops.now ≤ room }
 {
     ops.len() as u64 <= room || singles(ops) <= room
 }
 
+/// Hands a value on.
+#[inline(always)]
+fn keep<B: Bits, V: ValueTaker>(bits: &mut B, values: &mut V, value: u64) -> Result<(), B::Miss>
+    ensures ok { OnOk result ((B.as_reader bits.new ≡ B.as_reader bits.old)
+        × ((before : List ℕ) → V.took values.old before
+        → V.took values.new (before ++ value ∷ []))) }
+    ensures err { IfErr result (λ miss. (fault : Fault) → B.faults miss fault
+        → (fault ≡ Memory) × (B.as_reader bits.new ≡ failed_reader (B.as_reader bits.old))) }
+    ensures same { OnErr result
+        ((before : List ℕ) → V.took values.old before → V.took values.new before) }
+{
+    match values.take(value) {
+        Ok(()) => Ok(()),
+        Err(_) => Err(bits.out_of_memory()),
+    }
+}
+
+/// Reads a number of values, of which there is room for so many.
+#[inline(always)]
+#[tactic(auto, unfolding(bit_grammar::specs::Record::value_count))]
+fn read_count<B: Bits>(bits: &mut B, room: u64) -> Result<u64, B::Miss>
+    ensures takes { Answers B.faults (λ r. Takes (value_count room) (B.as_reader bits.old) r
+        (B.as_reader bits.new)) result }
+    ensures few { IfOk result (λ count. count ≤ room) }
+{
+    let first = bits.position();
+    let count = bits.vbr(6)?;
+    bits.judge(count <= room, Reason::TooManyValues, first)?;
+    Ok(count)
+}
+
 /// Reads the field of an operand that stands for one value. Into the calls for the usual widths the width is written.
 #[inline(always)]
 #[tactic(auto, unfolding(bit_grammar::specs::Record::scalar, bit_grammar::specs::Fields::vbr))]
-fn read_scalar<S: Source>(reader: &mut BitReader<S>, op: Op) -> Result<u64, Fault>
+pub(crate) fn read_scalar<B: Bits>(bits: &mut B, op: Op) -> Result<u64, B::Miss>
     requires lawful { HasLawfulValue op }
-    requires live { reader.old.live ≡ true }
-    ensures { Takes (scalar op) reader.old result reader.new }
+    requires live { (B.as_reader bits.old).live ≡ true }
+    ensures takes { Answers B.faults (λ r. Takes (scalar op) (B.as_reader bits.old) r
+        (B.as_reader bits.new)) result }
+    ensures missed { OnErr result (B.missed bits.old bits.new) }
 {
     match op {
         Op::Literal(value) => Ok(value),
         Op::Fixed(0) => Ok(0),
         Op::Vbr(0) | Op::Array | Op::Blob => Ok(0),
-        Op::Fixed(width) => reader.fixed(u32::from(width)),
-        Op::Vbr(6) => reader.vbr(6),
-        Op::Vbr(8) => reader.vbr(8),
-        Op::Vbr(4) => reader.vbr(4),
-        Op::Vbr(7) => reader.vbr(7),
-        Op::Vbr(width) => reader.vbr(u32::from(width)),
-        Op::Char6 => reader.char6(),
+        Op::Fixed(width) => bits.fixed(u32::from(width)),
+        Op::Vbr(6) => bits.vbr(6),
+        Op::Vbr(width) => bits.vbr(u32::from(width)),
+        Op::Char6 => bits.char6(),
     }
 }
 
-/// Reads the code of a record where it is no literal. It is kept out of the caller, which seldom needs it.
-#[inline(never)]
-fn read_other_code<S: Source>(reader: &mut BitReader<S>, op: Op) -> Result<u64, Fault>
-    requires lawful { HasLawfulValue op }
-    requires live { reader.old.live ≡ true }
-    ensures { Takes (scalar op) reader.old result reader.new }
-{
-    read_scalar(reader, op)
-}
-
-/// Reads the code of a record by its operand.
-#[inline(always)]
-#[tactic(auto, unfolding(bit_grammar::specs::Record::scalar))]
-fn read_code<S: Source>(reader: &mut BitReader<S>, op: Op) -> Result<u64, Fault>
-    requires lawful { HasLawfulValue op }
-    requires live { reader.old.live ≡ true }
-    ensures { Takes (scalar op) reader.old result reader.new }
-{
-    match op {
-        Op::Literal(value) => Ok(value),
-        _ => read_other_code(reader, op),
-    }
-}
-
-/// Reads the values of operands, with room for so many.
-fn read_values<S: Source, V: ValueTaker>(
-    reader: &mut BitReader<S>,
-    room: u64,
-    ops: &[Op],
+/// Adds so many zeros, which take no bits, at once from where on they can be taken so.
+pub(crate) fn read_zeros<B: Bits, V: ValueTaker>(
+    bits: &mut B,
+    count: u64,
     values: &mut V,
-) -> Result<(), Fault>
-    requires elements { (i : ℕ) → op_at ops.now i ≡ Array → IsElement (op_at ops.now (i + 1)) }
-    requires lawful { AllByRecursion HasLawfulValue ops.now }
-    requires live { reader.old.live ≡ true }
-    requires fits { singles ops.now ≤ room }
-    ensures { Gains V.took values.old values.new
-        (λ before after. Adds (values_of (room - singles ops.now) ops.now) reader.old result before
-        after reader.new × OnOk result (length after ≤ length before + room)) }
+) -> Result<(), B::Miss>
+    requires live { (B.as_reader bits.old).live ≡ true }
+    ensures adds { Answers B.faults (λ r. Gains V.took values.old values.new
+        (AddsAll (gives 0) count (B.as_reader bits.old) r (B.as_reader bits.new))) result }
+    ensures keeps { Keeps V.took values.old values.new }
 {
-    for (index, op) in ops.iter().enumerate() {
-        match op {
-            Op::Array => return read_array(reader, room - index as u64, ops[index + 1], values),
-            Op::Blob => return read_blob(reader, room - index as u64, values),
-            _ => {}
+    for done in 0..count {
+        if values.pass_zeros(count - done) {
+            return Ok(());
         }
-        let value = read_scalar(reader, *op)?;
-        take(reader, values, value)?;
+        keep(bits, values, 0)?;
     }
     Ok(())
 }
 
-/// Reads a record by its operands. After a fault some of its values may stand behind the others.
-fn read_record<S: Source, V: ValueTaker>(
-    reader: &mut BitReader<S>,
+/// Reads so many fields of an operand that have a width: runs of them, and one by itself where a run ends.
+#[inline(always)]
+fn read_runs<U, B: Runs, V: ValueTaker>(
+    bits: &mut B,
+    count: u64,
+    element: Op,
+    values: &mut V,
+) -> Result<(), B::Miss>
+    requires element { IsElement element }
+    requires lawful { HasLawfulValue element }
+    requires live { (B.as_reader bits.old).live ≡ true }
+    ensures adds { Answers B.faults (λ r. Gains V.took values.old values.new
+        (AddsAll (scalar element) count (B.as_reader bits.old) r (B.as_reader bits.new))) result }
+    ensures keeps { Keeps V.took values.old values.new }
+{
+    let mut done = 0;
+    while done < count {
+        done += bits.some(count - done, element, values)?;
+        if done == count {
+            break;
+        }
+        let value = bits.one(element)?;
+        keep(bits, values, value)?;
+        done += 1;
+    }
+    Ok(())
+}
+
+/// Reads so many fields of an operand, which is the element of an array.
+#[inline(always)]
+fn read_elements<U, B: Runs, V: ValueTaker>(
+    bits: &mut B,
+    count: u64,
+    element: Op,
+    values: &mut V,
+) -> Result<(), B::Miss>
+    requires element { IsElement element }
+    requires lawful { HasLawfulValue element }
+    requires live { (B.as_reader bits.old).live ≡ true }
+    ensures adds { Answers B.faults (λ r. Gains V.took values.old values.new
+        (AddsAll (scalar element) count (B.as_reader bits.old) r (B.as_reader bits.new))) result }
+    ensures keeps { Keeps V.took values.old values.new }
+{
+    match element {
+        Op::Fixed(0) => bits.zeros(count, values),
+        Op::Vbr(0) => bits.zeros(count, values),
+        _ => read_runs::<U, B, V>(bits, count, element, values),
+    }
+}
+
+/// Reads an array of fields of an operand, with room for so many values.
+#[inline(always)]
+fn read_array<U, B: Runs, V: ValueTaker>(
+    bits: &mut B,
+    room: u64,
+    element: Op,
+    values: &mut V,
+) -> Result<(), B::Miss>
+    requires element { IsElement element }
+    requires lawful { HasLawfulValue element }
+    ensures adds { (others : List Op) → Answers B.faults (λ r. Gains V.took values.old values.new
+        (λ before after. Adds (values_of room (Array ∷ element ∷ others)) (B.as_reader bits.old) r
+        before after (B.as_reader bits.new) × OnOk r (length after ≤ length before + room))) result }
+    ensures keeps { Keeps V.took values.old values.new }
+{
+    let count = read_count(bits, room)?;
+    read_elements::<U, B, V>(bits, count, element, values)
+}
+
+/// Reads a blob, with room for so many values.
+#[inline(always)]
+fn read_blob<B: Runs, V: ValueTaker>(bits: &mut B, room: u64, values: &mut V) -> Result<(), B::Miss>
+    ensures adds { (others : List Op) → Answers B.faults (λ r. Gains V.took values.old values.new
+        (λ before after. Adds (values_of room (Blob ∷ others)) (B.as_reader bits.old) r
+        before after (B.as_reader bits.new) × OnOk r (length after ≤ length before + room))) result }
+    ensures keeps { Keeps V.took values.old values.new }
+{
+    let count = read_count(bits, room)?;
+    bits.pad()?;
+    read_runs::<V, B, V>(bits, count, Op::Fixed(8), values)?;
+    bits.pad()
+}
+
+/// Reads the values of operands, with room for so many.
+#[inline(always)]
+fn read_values<U, B: Runs, V: ValueTaker>(
+    bits: &mut B,
+    room: u64,
+    ops: &[Op],
+    values: &mut V,
+) -> Result<(), B::Miss>
+    requires elements { (i : ℕ) → op_at ops.now i ≡ Array → IsElement (op_at ops.now (i + 1)) }
+    requires lawful { AllByRecursion HasLawfulValue ops.now }
+    requires live { (B.as_reader bits.old).live ≡ true }
+    requires fits { singles ops.now ≤ room }
+    ensures adds { Answers B.faults (λ r. Gains V.took values.old values.new
+        (λ before after. Adds (values_of (room - singles ops.now) ops.now) (B.as_reader bits.old) r
+        before after (B.as_reader bits.new) × OnOk r (length after ≤ length before + room))) result }
+    ensures keeps { Keeps V.took values.old values.new }
+{
+    for (index, op) in ops.iter().enumerate() {
+        match op {
+            Op::Array => return read_array::<U, B, V>(
+                bits,
+                room - index as u64,
+                ops[index + 1],
+                values,
+            ),
+            Op::Blob => return read_blob(bits, room - index as u64, values),
+            _ => {}
+        }
+        let value = read_scalar(bits, *op)?;
+        keep(bits, values, value)?;
+    }
+    Ok(())
+}
+
+/// Reads a record by its operands, after its abbreviation id, which began at a bit: hands its values on and answers its code.
+/// Where it fails, some of its values may be added.
+///
+/// `U` is whom it is compiled for. Each user has a copy of its own, which the compiler writes into the user's loop, where what
+/// is buffered then stays in registers.
+#[inline(always)]
+pub fn read_record<U, B: Runs, V: ValueTaker>(
+    bits: &mut B,
     ops: &[Op],
     first: u64,
     room: u64,
     values: &mut V,
-) -> Result<u64, Fault>
-    requires { Lawful ops.now }
-    ensures { Gains V.took values.old values.new
-        (AddsWithin (abbreviated first room ops.now) room reader.old result reader.new) }
+) -> Result<u64, B::Miss>
+    requires lawful { Lawful ops.now }
+    requires live { (B.as_reader bits.old).live ≡ true }
+    ensures adds { Answers B.faults (λ r. Gains V.took values.old values.new
+        (AddsWithin (abbreviated first room ops.now) room (B.as_reader bits.old) r
+        (B.as_reader bits.new))) result }
+    ensures keeps { Keeps V.took values.old values.new }
 {
-    if !reader.is_live() {
-        return Err(Fault::Failed);
-    }
     let [code_op, others @ ..] = ops else {
         unreachable!();
     };
-    reader.judge(have_room(others, room), Reason::TooManyValues, first)?;
-    let code = read_code(reader, *code_op)?;
-    read_values(reader, room, others, values)?;
+    bits.judge(have_room(others, room), Reason::TooManyValues, first)?;
+    let code = read_scalar(bits, *code_op)?;
+    read_values::<U, B, V>(bits, room, others, values)?;
+    Ok(code)
+}
+
+/// Reads a record that is not abbreviated, after its abbreviation id: hands its values on and answers its code. Where it fails,
+/// some of its values may be added.
+#[inline(always)]
+pub fn read_plain<B: Runs, V: ValueTaker>(
+    bits: &mut B,
+    room: u64,
+    values: &mut V,
+) -> Result<u64, B::Miss>
+    ensures adds { Answers B.faults (λ r. Gains V.took values.old values.new
+        (AddsWithin (unabbreviated room) room (B.as_reader bits.old) r (B.as_reader bits.new)))
+        result }
+    ensures keeps { Keeps V.took values.old values.new }
+{
+    let code = bits.vbr(6)?;
+    let count = read_count(bits, room)?;
+    read_runs::<(), B, V>(bits, count, Op::Vbr(6), values)?;
     Ok(code)
 }
 
@@ -157,9 +303,41 @@ pub fn read_abbreviated<S: Source, V: ValueTaker>(
         (λ before after. OnOk result (length after ≤ length before + room)) }
     ensures stays { OnErr result (reader.new.position ≡ reader.old.position) }
 {
+    if !reader.is_live() {
+        return Err(Fault::Failed);
+    }
     let start = reader.position();
     let before = values.count();
-    match read_record(reader, abbrev.lawful_ops(), first, room, values) {
+    match read_record::<V, BitReader<S>, V>(reader, abbrev.lawful_ops(), first, room, values) {
+        Ok(code) => Ok(code),
+        Err(fault) => {
+            values.truncate(before);
+            Err(reader.fail_at(fault, start))
+        }
+    }
+}
+
+/// Reads a record that is not abbreviated, after its abbreviation id: hands its values on and answers its code. Source:
+/// "UNABBREV_RECORD Encoding".
+///
+/// More values than there is room for are `TooManyValues` at the first bit of their number. After any fault the values are
+/// those that there were, and the reader has failed and stands where the call began.
+pub fn read_unabbreviated<S: Source, V: ValueTaker>(
+    reader: &mut BitReader<S>,
+    room: u64,
+    values: &mut V,
+) -> Result<u64, Fault>
+    ensures takes { Gains V.took values.old values.new
+        (Recorded (λ r. Takes (unabbreviated room) reader.old r reader.new) result) }
+    ensures only { Gains V.took values.old values.new
+        (Recorded (λ r. IsOnly (unabbreviated room) reader.old r reader.new) result) }
+    ensures few { Gains V.took values.old values.new
+        (λ before after. OnOk result (length after ≤ length before + room)) }
+    ensures stays { OnErr result (reader.new.position ≡ reader.old.position) }
+{
+    let start = reader.position();
+    let before = values.count();
+    match read_plain(reader, room, values) {
         Ok(code) => Ok(code),
         Err(fault) => {
             values.truncate(before);

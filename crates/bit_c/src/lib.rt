@@ -1,5 +1,13 @@
-//! Calls for C: the same promises inside another program. Begin with `bs_check` and `bs_normal`. Each call has at its end the
-//! status, and of a refusal the reason, the bit and the input; what a C caller owes stands in `capi/bitstream.h`.
+//! Calls for C: the same promises inside another program. Begin with `bs_check` and `bs_normal`. Each call ends with the status,
+//! and for a refusal the reason, the bit and the input. What a C caller owes stands in `capi/bitstream.h`.
+//!
+//! An export calls a function that returns an `Outcome`, and `Outcome::tell` makes the status and the fault of it. Below it one
+//! function judges the limits and names, one calls the crates below on a `SliceSource`, and one hands out the result; each has
+//! one relation in `specs/`. Only numbers, `bool`, slices and `repr(C)` structs cross the border.
+//!
+//! A `BsHandle` is a flag and an `Inner`, a pointer whose type is erased. What it leads to, a `Home`, is a ghost field tied to
+//! memory by `also_owns`. `Parts` takes a box apart and makes it again. Five short functions of these two are proved statement by
+//! statement; all others move whole handles (`take_out`, `handle_of`).
 #![tactic(auto)]
 
 mod analysing;

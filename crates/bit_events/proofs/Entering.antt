@@ -1,10 +1,8 @@
 -- Entering a block and leaving it.
-use Rattle.std.proofs.Common.{◌≡◌, ◌≢◌, ℕ, List, [], ◌∷◌, ◌++◌, Option, Some, None, refl}
-use Rattle.std.proofs.Math.Path.{fun_ext}
-use Rattle.std.proofs.lemmas.Bool.{ne_eqb}
+use Rattle.std.proofs.Common.{◌≡◌, ℕ, List, [], ◌∷◌, ◌++◌, Option, refl}
 use Rattle.bit_grammar.specs.declared.op.Op.{Op}
 use Rattle.bit_grammar.specs.Blocks.{enter}
-use Rattle.bit_grammar.specs.Terms.{no_definitions, info_for}
+use Rattle.bit_grammar.specs.Terms.{info_for}
 use Rattle.bit_grammar.specs.Machine as machine
 use Rattle.bit_grammar.specs.Machine.{inside}
 use Rattle.bit_abbrev.specs.Table.{definitions_at}
@@ -14,14 +12,6 @@ use Rattle.bit_events.specs.declared.frame.Frame.{Frame}
 use Rattle.bit_events.specs.HeadView.{head_shown}
 use Rattle.bit_events.specs.FrameView.{info_shown, frames_shown}
 use Rattle.bit_events.proofs.Stepping.{frames-push}
-
-pub info_made : (id : ℕ) (made : List (ℕ × List (List Op))) → id ≡ 0 → ((other : ℕ) → definitions_at made other ≡ no_definitions other) → info_shown (Some (record { described = None; made = made })) ≡ info_for id
-info_made id made zero none =
-    let same : definitions_at made ≡ no_definitions = fun_ext none in
-    rw (zero, same) refl
-
-pub info_none : (id : ℕ) → id ≢ 0 → info_shown None ≡ info_for id
-info_none id other = rw (ne_eqb id 0 other) refl
 
 abbrev machine_with : List Frame → List (ℕ × List (List Op)) → ℕ → machine.Machine
 machine_with frames table used = record { frames = frames_shown frames; handed = record { table = definitions_at table; used = used } }

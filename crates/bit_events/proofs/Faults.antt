@@ -222,9 +222,6 @@ step_free limits (f ∷ frames) handed = (tt, λ first. (fixed_free f.head.width
 pub step_other : (limits : Limits) (m : Machine) (p : ℕ) (r : List Bool) (fault : Fault) → reading (step limits m) p r ≡ Err fault → Other fault
 step_other limits m p r fault e = reading_fault Other (step limits m) p r fault (step_free limits m.frames m.handed) e
 
-pub step_not_size : (limits : Limits) (m : Machine) (p : ℕ) (r : List Bool) (fault : Fault) → reading (step limits m) p r ≡ Err fault → fault.reason ≡ WrapperSize → ⊥
-step_not_size limits m p r fault e = not_size fault.reason (step_other limits m p r fault e)
-
 -- no end is so
 abbrev pub EndsOther : Ending → Type 0
 EndsOther (accepted p) = Unit {0}

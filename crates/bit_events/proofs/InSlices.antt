@@ -1,5 +1,5 @@
 -- Events of a slice: records that are read where they lie, and a reader that then catches up.
-use Rattle.std.proofs.Common.{◌≡◌, ℕ, ◌+◌, ◌-◌, ◌%◌, ◌^◌, ◌<◌, ◌≤◌, min, Bool, true, false, List, ◌++◌, length, drop, Option, Some, None, Result, Ok, Err, refl, sym, ap, subst, ◌∙◌, arith, length-append, length-drop, vec_len}
+use Rattle.std.proofs.Common.{◌≡◌, ℕ, ◌+◌, ◌-◌, ◌^◌, ◌<◌, ◌≤◌, min, Bool, true, false, List, ◌++◌, length, drop, Option, Some, None, Result, Ok, Err, refl, sym, ap, subst, ◌∙◌, arith, length-append, length-drop, vec_len}
 use Rattle.bit_grammar.specs.Grammar as grammar
 use Rattle.bit_grammar.specs.Grammar.{reading}
 use Rattle.bit_grammar.specs.Input.{any_bits}
@@ -183,19 +183,6 @@ nothing_seen c a same =
     let none : a.position - c.position ≡ 0 = omega (arith, same) in
     let place : c.position + 0 ≡ c.position = omega arith in
     rw (none, place) refl
-
--- what holds where the reader lends what it sees
-pub sees_anew : (is_over : Bool) (m : Machine) (found : Option Found) (c : Reader) (a : InSight) → is_over ≡ false → Sees c a → (vec_len m.frames ≡ 0 → c.position % 8 ≡ 0) → SeesEvents is_over m found c a
-sees_anew is_over m found c a e s aligned = record {
-  behind = λ _. omega (arith, s.position);
-  there = λ _ k. omega (arith, s.position);
-  sees = λ _. subst (λ (x : Reader). Sees x a) (sym (nothing_seen c a s.position)) s;
-  aligned = λ _ none. omega (arith, aligned none, s.position);
-  closed = λ is. absurd (unlike is_over is e);
-}
-  where
-    unlike : (o : Bool) → o ≡ true → o ≡ false → ⊥
-    unlike o f g = cc
 
 -- it failed to catch up, which only a source does that fails
 pub not_caught : (is_over : Bool) (limits : Limits) (head : Head) (m : Machine) (vs : List ℕ) (found : Option Found) (r : Reader) (a : InSight) (fault : Fault) (s : Reader) → r.live ≡ true → is_over ≡ false → SeesEvents is_over m found r a → Why (any_bits (a.position - r.position)) r fault s

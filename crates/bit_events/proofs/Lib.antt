@@ -11,3 +11,4 @@ pub mod Runs
 pub mod InSlices
 pub mod Kept
 pub mod Standings
+mod Named

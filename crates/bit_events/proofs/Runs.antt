@@ -23,7 +23,7 @@ use Rattle.bit_fields.proofs.BitLaws.{drop_more}
 use Rattle.bit_fields.proofs.Glimpses.{glimpsed_forward, glimpsed_passed, took_glimpsed, seen_took, not_caught_up}
 use Rattle.bit_grammar.specs.declared.op.Op.{Op}
 use Rattle.bit_abbrev.specs.Values.{AddsWithin, Gains}
-use Rattle.bit_abbrev.proofs.Glancing.{took_at}
+use Rattle.bit_abbrev.proofs.Buffered.{took_at}
 use Rattle.bit_events.specs.declared.frame.Frame.{Frame}
 use Rattle.bit_events.specs.declared.machine.Machine.{Machine}
 use Rattle.bit_events.specs.FrameView.{frame_shown, frames_shown, info_shown}

@@ -40,9 +40,6 @@ pub judged_more : (s : Setting) (inner next : Around) (items new : List Around) 
 judged_more s inner next items new h is left whole =
     subst (AreJudged s next) (sym (reverse-push items new inner is)) (left ∙ ap (λ (b : Bool). keeps s next.id && b) (left_is s inner (reverse items) h), whole, h)
 
-pub ids_more : (inner next : Around) (items new : List Around) → new ≡ items ++ inner ∷ [] → ids_of next (reverse new) ≡ next.id ∷ ids_of inner (reverse items)
-ids_more inner next items new is = ap (ids_of next) (reverse-push items new inner is)
-
 -- ---- which events are left
 
 -- how many of the open blocks are left

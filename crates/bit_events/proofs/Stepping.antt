@@ -5,7 +5,7 @@ use Rattle.std.proofs.lemmas.Bool.{ne_eqb}
 use Rattle.bit_grammar.specs.declared.shapes.Shapes.{Shapes}
 use Rattle.bit_grammar.specs.declared.op.Op.{Op}
 use Rattle.bit_grammar.specs.declared.reason.Reason.TheVariants.{TooDeep, TopLevel, NestedInBlockInfo}
-use Rattle.bit_grammar.specs.Grammar.{Grammar, at, gives, test}
+use Rattle.bit_grammar.specs.Grammar.{at, test}
 use Rattle.bit_grammar.specs.Fields.{fixed}
 use Rattle.bit_grammar.specs.Marks.{RecordMark, DefinitionMark}
 use Rattle.bit_grammar.specs.Blocks as blocks
@@ -88,9 +88,6 @@ pub frames-some : (frames : List Frame) (k : ℕ) (f : Frame) → length frames 
 frames-some frames k f n is = frames_onto-last frames k f [] n is
 
 -- ---- a block's beginning
-
-abbrev after_head : List machine.Frame → (first : ℕ) → Handed → blocks.BlockHead → Grammar (Event × machine.Machine)
-after_head frames first handed h = gives (enters (record { id = h.id; width = h.width; first = first; body = h.body }), inside h frames (enter h.id handed))
 
 pub open_judged : (limits : Limits) (frames : List machine.Frame) (first : ℕ) (handed : Handed) (a : Reader) (fault : Fault) (b : Reader) → Why (test (ltb (length frames) limits.depth) (at TooDeep first)) a fault b → Why (open_block limits frames first handed) a fault b
 unfolding open_block

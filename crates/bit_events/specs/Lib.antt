@@ -11,3 +11,4 @@ pub mod Runs
 pub mod SliceEvents
 pub mod Standing
 pub mod Firsts
+pub mod Named

@@ -9,6 +9,7 @@ ghost use Rattle.bit_grammar.specs.Setting.{keeps, keeps_record, setting_of};
 ghost use Rattle.bit_grammar.specs.Under.{ids_after, innermost};
 
 use crate::event::Event;
+use crate::names::Names;
 use bit_grammar::Info;
 use std::alloc::{AllocError, Global};
 use std::marker::Model;
@@ -35,24 +36,24 @@ const fn top() -> Around
 }
 
 /// A block that begins, in another one or at the top.
-fn block_in(info: Info<'_>, around: Around, id: u32) -> Around
+fn block_in(names: &Names<'_>, around: Around, id: u32) -> Around
     ensures id { result.id ≡ id }
-    ensures left { result.is_left ≡ (keeps (setting_of info.entry) id && around.is_left) }
+    ensures left { result.is_left ≡ (keeps names.now id && around.is_left) }
     ensures whole { result.is_whole ≡ true → (result.is_left ≡ true)
-        × ((code : ℕ) → keeps_record (setting_of info.entry) id code ≡ true) }
+        × ((code : ℕ) → keeps_record names.now id code ≡ true) }
 {
-    let is_left = info.keeps(id) && around.is_left;
+    let is_left = names.keeps(id) && around.is_left;
     Around {
         id,
         is_left,
-        is_whole: is_left && info.keeps_records(id),
+        is_whole: is_left && names.keeps_records(id),
     }
 }
 
 /// The blocks that are open, under a setting. It takes where blocks begin and end, and tells what is left there.
 #[derive(Drop)]
 pub struct OpenBlocks<'a> {
-    info: Info<'a>,
+    names: Names<'a>,
     /// The innermost block.
     inner: Around,
     /// The blocks round it and the top, the outermost first; nothing where no block is open.
@@ -61,17 +62,16 @@ pub struct OpenBlocks<'a> {
 
 impl<'a> Model for OpenBlocks<'a> {
     ghost use Rattle.std.specs.Prelude.{reverse};
-    ghost use Rattle.bit_grammar.specs.Setting.{setting_of};
     ghost use Rattle.bit_events.specs.Standing.{OpenUnder, ids_of, AreJudged};
 
     ghost Value = { OpenUnder };
 
     ghost view = { λ o. record {
-      setting = setting_of o.info;
+      setting = o.names;
       ids = ids_of o.inner (reverse o.outer.items);
     } };
 
-    ghost invariant = { λ o. AreJudged (setting_of o.info) o.inner (reverse o.outer.items) };
+    ghost invariant = { λ o. AreJudged o.names o.inner (reverse o.outer.items) };
 }
 
 impl<'a> OpenBlocks<'a> {
@@ -80,7 +80,7 @@ impl<'a> OpenBlocks<'a> {
         ensures { result ≡ record { setting = setting_of info.entry; ids = [] } }
     {
         OpenBlocks {
-            info,
+            names: Names::new(alloc, info),
             inner: top(),
             outer: Vec::new(alloc),
         }
@@ -103,7 +103,7 @@ impl<'a> OpenBlocks<'a> {
         if self.inner.is_whole {
             return true;
         }
-        self.inner.is_left && self.info.keeps_record(self.inner.id, code)
+        self.inner.is_left && self.names.keeps_record(self.inner.id, code)
     }
 
     /// Takes where a block begins, and answers whether it is left. Where memory is refused no block began.
@@ -113,7 +113,8 @@ impl<'a> OpenBlocks<'a> {
         ensures ids { OnOk result (self.new ≡ record self.old { ids = id ∷ self.old.ids }) }
         ensures stays { OnErr result (self.new ≡ self.old) }
     {
-        let inner = block_in(self.info, self.inner, id);
+        self.names.put_in_order()?;
+        let inner = block_in(&self.names, self.inner, id);
         self.outer.push(self.inner)?;
         self.inner = inner;
         Ok(inner.is_left)

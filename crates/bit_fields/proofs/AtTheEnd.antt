@@ -1,19 +1,15 @@
 -- The end of a stream, and of its input.
-use Rattle.std.proofs.Common.{◌≡◌, ℕ, ◌+◌, ◌*◌, ◌-◌, ◌/◌, ◌^◌, ◌<◌, ◌≤◌, min, Bool, true, false, ◌&&◌, ltb, [], length, take, Result, Ok, Err, refl, sym, ap, ◌∙◌, subst, arith, inl, inr}
+use Rattle.std.proofs.Common.{◌≡◌, ℕ, ◌+◌, ◌*◌, ◌<◌, ◌≤◌, min, Bool, true, false, ltb, [], length, Result, Ok, Err, refl, sym, ap, ◌∙◌, subst, arith, inl, inr}
 use Rattle.std.proofs.lemmas.Bool.{cases_lt, false≢true, le-ltb, lt-ltb, and_from, and_left, and_right}
-use Rattle.std.proofs.lemmas.List.{length-append, nil_from_length}
-use Rattle.bit_grammar.specs.Bits.{bits_of_bytes}
-use Rattle.bit_grammar.specs.declared.reason.Reason.TheVariants.{TooLong, WrapperSize}
+use Rattle.std.proofs.lemmas.List.{nil_from_length}
 use Rattle.bit_fields.specs.declared.fault.Fault.{Fault}
-use Rattle.bit_fields.specs.declared.fault.Fault.TheVariants.{Refused, Read}
 use Rattle.bit_fields.specs.declared.inflow.Missing.TheVariants as missing
 use Rattle.bit_fields.specs.declared.inflow.Missing.{Missing}
-use Rattle.bit_fields.specs.Devices.{known_bytes}
-use Rattle.bit_fields.specs.Inflow.{Flow, IsKnown, stop_of, flow_bits, total_of, budget_of, KeepsFlow, RunsOut, Fills, Drained, Overran, DrainLost, DrainFails, Drains}
+use Rattle.bit_fields.specs.Inflow.{Flow, stop_of, flow_bits, total_of, budget_of, KeepsFlow, RunsOut, Fills, Drains}
 use Rattle.bit_fields.specs.Reader.{Reader, Extent, is_cut, stopped_at}
 use Rattle.bit_fields.specs.Inside.{fault_of_missing, reader_of, IsReader}
-use Rattle.bit_fields.specs.Ending.{stream_end, reach_of, Stays, LooksForEnd, Closed, Closes, IsThrough}
-use Rattle.bit_fields.proofs.InflowLaws.{Spends-refl, Spends-none}
+use Rattle.bit_fields.specs.Ending.{stream_end, reach_of, Stays, LooksForEnd, IsThrough}
+use Rattle.bit_fields.proofs.InflowLaws.{Spends-none}
 use Rattle.bit_fields.proofs.Shortening.{left_ends}
 use Rattle.bit_fields.proofs.Parts.{fills_exact}
 
@@ -54,12 +50,6 @@ stays_so p f g kept = record {
   left = kept.left;
 }
 
-pub looks_on : (was : Bool) (p : ℕ) (f g : Flow) (now : Reader) → reader_of was p f ≡ now → IsReader was p f → was ≡ true → KeepsFlow f g → 0 < length g.window → LooksForEnd now (Ok false) (reader_of was p g)
-looks_on was p f g now view is live kept some =
-    let reach : p + length (flow_bits f) ≡ 8 * min (stop_of f) (total_of f) = left_ends f p (is.exact live) in
-    let more : IsKnown f → 0 < length (flow_bits f) = λ k. omega (arith, ap length (kept.left k), length-append g.window (bits_of_bytes (take (stop_of g - g.loaded) (known_bytes g.incoming.to_come)))) in
-    rw (← view, live) (stays_so p f g kept, λ k. (omega (arith, reach, more k), more k))
-
 looks_through : (was : Bool) (p : ℕ) (f g : Flow) (now : Reader) → reader_of was p f ≡ now → IsReader was p f → was ≡ true → RunsOut f g 1 false → LooksForEnd now (Ok true) (reader_of was p g)
 looks_through was p f g now view is live out =
     let reach : p + length (flow_bits f) ≡ 8 * min (stop_of f) (total_of f) = left_ends f p (is.exact live) in
@@ -94,58 +84,6 @@ pub looks_cut : (was : Bool) (p : ℕ) (f g : Flow) (what : Missing) (fault : Fa
 looks_cut was p f g what fault now new view is live limit out fault_is new_is = looks_limit was p f g fault now new view is live (subst (λ (m : Missing). Fills 1 f g (Err m)) limit out) fault_is new_is
 
 -- ---- closing
-
-in_size : (e : Extent) → ((e.end < 2 ^ 64 - 1) → e.end ≤ e.total) → ltb e.end (2 ^ 64 - 1) && ltb e.total e.end ≡ false
-in_size e whole = elim (cases_lt e.end (2 ^ 64 - 1)) [
-  | inl lt ↦ and_right (ltb e.end (2 ^ 64 - 1)) (ltb e.total e.end) (le-ltb e.total e.end (whole lt))
-  | inr le ↦ and_left (ltb e.end (2 ^ 64 - 1)) (ltb e.total e.end) (le-ltb e.end (2 ^ 64 - 1) le)
-]
-
--- the stream in a wrapper is short
-pub closed_short : (was : Bool) (p : ℕ) (f g : Flow) (now : Reader) → reader_of was p f ≡ now → was ≡ true → IsThrough now → g ≡ record f { window = [] } → f.end < 2 ^ 64 - 1 → p / 8 < f.end → Closes now (Err (Refused WrapperSize 96)) (reader_of false p g)
-closed_short was p f g now view live through g_is wrapped short =
-    let at : IsThrough (reader_of was p f) = subst (λ (r : Reader). IsThrough r) (sym view) through in
-    let place : IsKnown f → p ≡ 8 * min f.end (total_of f) = λ k. at live k in
-    rw (← view, live, g_is) (
-      record { was_live = refl; failed = refl; goes_on = Spends-none f.incoming (budget_of f) f.incoming (budget_of f) (Spends-refl f.incoming (budget_of f)) },
-      λ k. rw (and_from (ltb f.end (2 ^ 64 - 1)) (ltb (total_of f) f.end) (lt-ltb f.end (2 ^ 64 - 1) wrapped) (lt-ltb (total_of f) f.end (omega (arith, place k)))) refl,
-    )
-
--- the size of a wrapper is met
-pub record Met (p : ℕ) (f : Flow) : Type 0 where
-  pub whole : f.end < 2 ^ 64 - 1 → f.end ≤ p / 8
-
-met_so : (was : Bool) (p : ℕ) (f : Flow) (now : Reader) → reader_of was p f ≡ now → was ≡ true → IsThrough now → Met p f → IsKnown f → ltb f.end (2 ^ 64 - 1) && ltb (total_of f) f.end ≡ false
-met_so was p f now view live through met k =
-    let at : IsThrough (reader_of was p f) = subst (λ (r : Reader). IsThrough r) (sym view) through in
-    let place : p ≡ 8 * min f.end (total_of f) = at live k in
-    in_size (record { total = total_of f; end = f.end; limit = f.limit }) (λ lt. omega (arith, met.whole lt, place))
-
-pub closed_whole : (was : Bool) (p : ℕ) (f h g : Flow) (now : Reader) → reader_of was p f ≡ now → was ≡ true → IsThrough now → h ≡ record f { window = [] } → Met p f → Drained h g → Closed now (reader_of false p g)
-closed_whole was p f h g now view live through h_is met drained =
-    let d : Drained (record f { window = [] }) g = subst (λ (x : Flow). Drained x g) h_is drained in
-    let size : IsKnown f → ltb f.end (2 ^ 64 - 1) && ltb (total_of f) f.end ≡ false = met_so was p f now view live through met in
-    rw (← view, live) (record {
-      stops = record { was_live = refl; failed = refl; goes_on = d.spends };
-      whole = λ k. rw (size k, le-ltb f.limit (total_of f) (d.within k)) refl;
-      none = d.none;
-    })
-
-pub closed_long : (was : Bool) (p limit : ℕ) (f h g : Flow) (now : Reader) → reader_of was p f ≡ now → was ≡ true → IsThrough now → h ≡ record f { window = [] } → Met p f → Overran h g → limit ≡ f.limit → Closes now (Err (Refused TooLong (8 * limit))) (reader_of false p g)
-closed_long was p limit f h g now view live through h_is met overran limit_is =
-    let d : Overran (record f { window = [] }) g = subst (λ (x : Flow). Overran x g) h_is overran in
-    let size : IsKnown f → ltb f.end (2 ^ 64 - 1) && ltb (total_of f) f.end ≡ false = met_so was p f now view live through met in
-    rw (← view, live, limit_is) (
-      record { was_live = refl; failed = refl; goes_on = d.spends },
-      λ k. rw (size k, lt-ltb f.limit (total_of f) (d.past k)) refl,
-    )
-
-pub closed_lost : (was : Bool) (p : ℕ) (f h g : Flow) (what : Missing) (now : Reader) → reader_of was p f ≡ now → was ≡ true → h ≡ record f { window = [] } → (what ≡ missing.Limit → ⊥) → DrainFails h g what → Closes now (Err Read) (reader_of false p g)
-closed_lost was p f h g missing.End now view live h_is other d = absurd d
-closed_lost was p f h g missing.Limit now view live h_is other d = absurd (other refl)
-closed_lost was p f h g missing.Read now view live h_is other lost =
-    let d : DrainLost (record f { window = [] }) g = subst (λ (x : Flow). DrainLost x g) h_is lost in
-    rw (← view, live) (record { was_live = refl; failed = refl; fails = d.fails })
 
 drains_on : (h g : Flow) (result : Result (Unit {0}) Missing) → Drains h g result → (g.window ≡ h.window) × (h.loaded ≤ g.loaded)
 drains_on h g (Ok x) d = (d.window, d.loaded)

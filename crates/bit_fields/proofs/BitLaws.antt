@@ -170,9 +170,6 @@ pub kept_is : (held word n : ℕ) (s : List Bool) → n ≤ held → n < 64 → 
 kept_is held word n s there few is =
     rw (one_shl n 64 few, and_mask word n) (bits_of-mod n word ∙ sym (take-bits_of n held word there) ∙ ap (take n) is)
 
-pub kept_below : (word n : ℕ) → n < 64 → bit_and word (1 * 2 ^ n % 2 ^ 64 - 1) < 2 ^ n
-kept_below word n few = rw (one_shl n 64 few, and_mask word n) (mod_below word (2 ^ n) (pow_pos n))
-
 -- a mask of n bits
 low_mask : (n : ℕ) → 0 < n → n ≤ 64 → (2 ^ 64 - 1) / 2 ^ (64 - n) ≡ 2 ^ n - 1
 low_mask n some few =

@@ -216,9 +216,6 @@ chunking_begins payload start first a some live ahead below =
     less : (limit k : ℕ) → limit ≡ suc k → payload + (limit - 1) * payload ≡ limit * payload
     less limit k is = let one : limit - 1 ≡ k = omega (arith, is) in rw (one, is) (omega arith)
 
-pub place_below : (payload start : ℕ) (rule : Grammar ℕ) (a b : Reader) (place value : ℕ) → 1 ≤ payload → Chunking payload start rule a b place value → place < 64 + payload
-place_below payload start rule a b place value some at = omega (arith, at.count, (limit_times payload some).1)
-
 more_left : (payload start : ℕ) (rule : Grammar ℕ) (a b : Reader) (place value : ℕ) → 1 ≤ payload → place < 64 → (at : Chunking payload start rule a b place value) → (k : ℕ) × (at.most ≡ suc k)
 more_left payload start rule a b place value some lt at = some_left payload at.most (omega (arith, at.count, (limit_times payload some).0))
 

@@ -58,10 +58,6 @@ took_then rule after a value b (Err Failed) c t u = absurd (false≢true (sym u.
 took_then rule after a value b (Err Write) c t u = absurd u
 took_then rule after a value b (Err OutputTooLong) c t u = absurd u
 
--- a reader that had failed before
-pub failed_before : {A : Type 0} (rule : Grammar A) (a b : Reader) → a.live ≡ false → b ≡ a → Why rule a Failed b
-failed_before rule a b dead same = (dead, same)
-
 -- ---- where it stands
 
 -- a reader that has failed and is put elsewhere
@@ -114,10 +110,6 @@ from_here after a (Err OutputTooLong) b t = t
 -- a judgement that holds, and what follows it
 pub holds_then : {A : Type 0} (holds : Bool) (fault : grammar.Fault) (rule : Grammar A) (a : Reader) (result : Result A Fault) (b : Reader) → holds ≡ true → Takes rule a result b → Takes (test holds fault >> rule) a result b
 holds_then holds fault rule a result b is t = same_reading rule (test holds fault >> rule) a result b (λ p r. rw is refl) t
-
--- a judgement that holds, at the end of a rule
-pub holds_last : (holds : Bool) (fault : grammar.Fault) (a : Reader) → holds ≡ true → a.live ≡ true → Took (test holds fault) a tt a
-holds_last holds fault a is live = same_reading (gives tt) (test holds fault) a (Ok tt) a (λ p r. rw is refl) (took_nothing tt a live)
 
 -- a judgement that fails, where its fault has nothing to do with the limit on bytes: the reader is made to fail
 pub fails_here : (holds : Bool) (reason : Reason) (bit : ℕ) (a : Reader) → holds ≡ false → a.live ≡ true → ((e : Extent) → within e reason bit ≡ at reason bit) → Why (test holds (at reason bit)) a (Refused reason bit) (failed_reader a)

@@ -1,29 +1,24 @@
 -- Bits that nobody reads: the gap between a wrapper and its stream.
-use Rattle.std.proofs.Common.{◌≡◌, ℕ, ◌+◌, ◌-◌, ◌<◌, ◌≤◌, Bool, true, List, ◌++◌, length, drop, Result, Ok, Err, refl, sym, ap, ◌∙◌, subst, arith, inl, inr}
-use Rattle.std.proofs.lemmas.Bool.{cases_lt, false≢true, le-ltb, lt-ltb}
-use Rattle.std.proofs.lemmas.List.{length-append, length-drop, drop-append-le}
+use Rattle.std.proofs.Common.{◌≡◌, ℕ, ◌+◌, ◌-◌, ◌<◌, ◌≤◌, Bool, true, List, length, drop, Result, Ok, Err, refl, sym, ap, ◌∙◌, subst, arith, inl, inr}
+use Rattle.std.proofs.lemmas.Bool.{cases_lt, le-ltb, lt-ltb}
+use Rattle.std.proofs.lemmas.List.{length-drop}
 use Rattle.bit_grammar.specs.declared.reason.Reason.{Reason}
 use Rattle.bit_grammar.specs.declared.reason.Reason.TheVariants.{Truncated}
 use Rattle.bit_grammar.specs.Grammar as grammar
-use Rattle.bit_grammar.specs.Grammar.{Grammar, at, gives, ◌>>◌, reading}
+use Rattle.bit_grammar.specs.Grammar.{Grammar, at, ◌>>◌, reading}
 use Rattle.bit_grammar.specs.Input.{any_bits}
 use Rattle.bit_fields.specs.declared.fault.Fault.{Fault}
 use Rattle.bit_fields.specs.declared.fault.Fault.TheVariants.{Refused, Read, Write, Memory, OutputTooLong, Failed}
-use Rattle.bit_fields.specs.declared.inflow.Missing.{Missing}
-use Rattle.bit_fields.specs.Inflow.{Flow, flow_bits, Skips, Fills}
-use Rattle.bit_fields.specs.Reader.{Reader, TellsBytes, Breaks, Took, Why, stopped_at}
-use Rattle.bit_fields.specs.Inside.{gap_of, TookGap, reader_of, fault_of_missing, IsReader}
+use Rattle.bit_fields.specs.Inflow.{Flow, flow_bits, Skips}
+use Rattle.bit_fields.specs.Reader.{Reader, TellsBytes, Breaks, Took, Why}
+use Rattle.bit_fields.specs.Inside.{gap_of, TookGap, reader_of}
 use Rattle.bit_fields.proofs.BitLaws.{drop_more}
-use Rattle.bit_fields.proofs.Composing.{took_then, took_nothing, same_reading, from_here}
-use Rattle.bit_fields.proofs.Parts.{window_missed, fills_exact}
+use Rattle.bit_fields.proofs.Composing.{took_then, same_reading, from_here}
 
 -- ---- what is read
 
 pub gap_whole : (n first p : ℕ) (r : List Bool) → n ≤ length r → reading (gap_of first n) p r ≡ Ok (tt, p + n, drop n r)
 gap_whole n first p r there = rw (le-ltb (length r) n there) refl
-
-gap_at : (n first p : ℕ) (w rest : List Bool) → n ≤ length w → reading (gap_of first n) p (w ++ rest) ≡ Ok (tt, p + n, drop n w ++ rest)
-gap_at n first p w rest there = rw (le-ltb (length (w ++ rest)) n (omega (arith, length-append w rest)), drop-append-le n w rest there) refl
 
 pub gap_short : (n first p : ℕ) (r : List Bool) → length r < n → reading (gap_of first n) p r ≡ Err (at Truncated first)
 gap_short n first p r short = rw (lt-ltb (length r) n short) refl
@@ -60,33 +55,6 @@ bits_skipped was first most count p q f g now view live skips few q_is =
       moves = refl;
     })
 
-pub skipped_is_reader : (was : Bool) (p count q : ℕ) (f g : Flow) → IsReader was p f → was ≡ true → Skips f g count → q ≡ p + count → IsReader was q g
-skipped_is_reader was p count q f g is live skips q_is = record {
-  exact = λ e. omega (arith, is.exact live, skips.exact, q_is);
-  empty = λ e. absurd (false≢true (sym e ∙ live));
-}
-
--- where a reader stands that has failed does not matter to why it did
-stopped_elsewhere : (rule : Grammar (Unit {0})) (a : Reader) (fault : Fault) (r : Reader) (s t : ℕ) → a.live ≡ true → Why rule a fault (stopped_at r s) → Why rule a fault (stopped_at r t)
-stopped_elsewhere rule a (Refused reason bit) r s t live why = (record { was_live = why.0.was_live; failed = why.0.failed; goes_on = why.0.goes_on }, why.1)
-stopped_elsewhere rule a Read r s t live why = record { was_live = why.was_live; failed = why.failed; fails = why.fails }
-stopped_elsewhere rule a Memory r s t live why = record { was_live = why.was_live; failed = why.failed; goes_on = why.goes_on }
-stopped_elsewhere rule a Failed r s t live why = absurd (false≢true (sym why.0 ∙ live))
-stopped_elsewhere rule a Write r s t live why = why
-stopped_elsewhere rule a OutputTooLong r s t live why = why
-
--- not one bit is left
-pub none_skipped : (was : Bool) (first field p : ℕ) (f g : Flow) (missing : Missing) (fault : Fault) (now new : Reader) → reader_of was p f ≡ now → was ≡ true → Fills 1 f g (Err missing) → fault ≡ fault_of_missing missing field g.limit → new ≡ stopped_at (reader_of was p g) first → Why (gap_of field 1) now fault new
-none_skipped was first field p f g missing fault now new view live fills fault_is new_is =
-    rw (fault_is, new_is, ← view, live) (stopped_elsewhere (gap_of field 1) (reader_of true p f) (fault_of_missing missing field g.limit) (reader_of true p g) field first refl
-    (window_missed (gap_of field 1) 1 field p f g missing (λ more short. gap_short 1 field p (f.window ++ more) short) fills))
-
-pub missed_is_reader : (was : Bool) (p : ℕ) (f g : Flow) (missing : Missing) → IsReader was p f → was ≡ true → Fills 1 f g (Err missing) → IsReader was p g
-missed_is_reader was p f g missing is live fills = record {
-  exact = λ e. fills_exact 1 p f g missing fills (is.exact live);
-  empty = λ e. absurd (false≢true (sym e ∙ live));
-}
-
 -- ---- the loop
 
 -- how far it has come: of so many bits so many are left to be skipped
@@ -95,19 +63,6 @@ pub record Skipping (bits left : ℕ) (a b : Reader) : Type 0 where
   pub few : left ≤ bits
   pub moves : b.position ≡ a.position + (bits - left)
   pub took : (first : ℕ) → Took (gap_of first (bits - left)) a tt b
-
-pub skipping_begins : (bits : ℕ) (a : Reader) → a.live ≡ true → Skipping bits bits a a
-skipping_begins bits a live =
-    let none : bits - bits ≡ 0 = omega arith in
-    record {
-      live = live;
-      few = omega arith;
-      moves = omega arith;
-      took = λ first. rw none (same_reading (gives tt) (gap_of first 0) a (Ok tt) a (λ p r. no_gap first p r) (took_nothing tt a live));
-    }
-  where
-    no_gap : (first p : ℕ) (r : List Bool) → reading (gives tt) p r ≡ reading (gap_of first 0) p r
-    no_gap first p r = let same : p + 0 ≡ p = omega arith in rw (le-ltb (length r) 0 (omega arith), same) refl
 
 pub read_or_not : (fault : grammar.Fault) (x : (Unit {0}) × ℕ × List Bool) → Err fault ≡ Ok x → ⊥
 read_or_not fault x e = cc

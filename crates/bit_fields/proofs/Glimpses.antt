@@ -33,15 +33,6 @@ glimpsed_took rule a value b seen forward = record {
 pub took_glimpsed : {A : Type 0} (rule : Grammar A) (a : InSight) (value : A) (b : InSight) → Took rule (reader_at a) value (reader_at b) → Glimpsed rule a value b
 took_glimpsed rule a value b t = t.reads refl
 
--- ---- one after another
-
--- a value, and no bits
-pub glimpsed_none : {A : Type 0} (value : A) (a : InSight) → Glimpsed (gives value) a value a
-glimpsed_none value a = refl
-
-pub glimpsed_then : {A B : Type 0} (rule : Grammar A) (after : A → Grammar B) (a : InSight) (value : A) (b : InSight) (next : B) (c : InSight) → Glimpsed rule a value b → Glimpsed (after value) b next c → Glimpsed (rule >>= after) a next c
-glimpsed_then rule after a value b next c first second = rw first second
-
 -- ---- what stands behind
 
 -- what was passed
@@ -66,7 +57,7 @@ left_behind rule a value b seen rest =
     ap (drop (b.position - a.position)) all ∙ drop_at p.0 (b.bits ++ rest) (b.position - a.position) (omega (arith, p.2))
 
 -- so many bits are in sight
-glimpsed_there : {A : Type 0} (rule : Grammar A) (a : InSight) (value : A) (b : InSight) → Glimpsed rule a value b → b.position - a.position ≤ length a.bits
+pub glimpsed_there : {A : Type 0} (rule : Grammar A) (a : InSight) (value : A) (b : InSight) → Glimpsed rule a value b → b.position - a.position ≤ length a.bits
 glimpsed_there rule a value b seen = let p = glimpsed_passed rule a value b seen in omega (arith, p.2, ap length p.1, length-append p.0 b.bits)
 
 -- what is left in sight is what stands behind so many bits

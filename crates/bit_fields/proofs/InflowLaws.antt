@@ -1,16 +1,14 @@
 -- What taking bytes in leaves.
-use Rattle.std.proofs.Common.{◌≡◌, ℕ, zero, suc, ◌+◌, ◌*◌, ◌-◌, ◌^◌, ◌<◌, ◌≤◌, max, Bool, true, false, ltb, List, [], ◌++◌, length, take, Option, Some, None, Err, refl, sym, ap, ◌∙◌, subst, arith, append_assoc, inl, inr}
+use Rattle.std.proofs.Common.{◌≡◌, ℕ, zero, suc, ◌+◌, ◌*◌, ◌-◌, ◌<◌, ◌≤◌, Bool, true, false, ltb, List, [], ◌++◌, length, take, Option, Some, None, refl, sym, ap, ◌∙◌, subst, arith, append_assoc}
 use Rattle.std.specs.Prelude.{IsSome}
 use Rattle.std.specs.Io.KnownBytes as bytes
-use Rattle.std.proofs.lemmas.Bool.{cases_lt, false≢true, le-ltb, lt-ltb, and_right, and_left, and_from}
+use Rattle.std.proofs.lemmas.Bool.{false≢true, le-ltb, lt-ltb, and_right, and_left, and_from}
 use Rattle.std.proofs.lemmas.List.{append-nil, length-append, length-take-le}
 use Rattle.std.proofs.Math.Seq.{take-append-add}
 use Rattle.bit_grammar.specs.Bits.{bits_of, bits_of_bytes}
 use Rattle.bit_grammar.proofs.Bits.Numbers.{length-bits_of}
-use Rattle.bit_fields.specs.Devices.{Incoming, Gave, GaveNone, GaveWord, Spends, Fails, known_bytes}
-use Rattle.bit_fields.specs.Inflow.{Flow, IsKnown, stop_of, flow_bits, total_of, is_flow_cut, budget_of, IsFlow, SamePlace, KeepsFlow, NoMore, LostFlow, RunsOut, Misses, Fills}
-use Rattle.bit_fields.specs.declared.inflow.Missing.{Missing}
-use Rattle.bit_fields.specs.declared.inflow.Missing.TheVariants.{End, Limit, Read}
+use Rattle.bit_fields.specs.Devices.{Incoming, Gave, GaveWord, Spends, Fails, known_bytes}
+use Rattle.bit_fields.specs.Inflow.{Flow, IsKnown, stop_of, flow_bits, total_of, is_flow_cut, budget_of, IsFlow, SamePlace, KeepsFlow, NoMore}
 use Rattle.bit_fields.proofs.BitLaws.{bits_of_bytes-append, length-bits_of_bytes}
 
 -- ---- what is paid
@@ -72,18 +70,6 @@ gave_spends i j count into before after gave paid one =
       accounts = gave.accounts;
     }
 
-pull_fails : (i j : Incoming) (before : ℕ) → GaveNone i j → 1 ≤ before → Fails i before j 0
-pull_fails i j before none some =
-    let same : IsSome i.to_come → length (known_bytes i.to_come) ≡ length (known_bytes j.to_come) = λ k. ap length (kept i.to_come j.to_come none.bytes k).1 in
-    elim (cases_lt (max i.pulls i.failures) (2 ^ 64 - 1)) [
-      | inl fresh ↦
-          let counted = none.counted fresh in
-          record { pulls = omega (arith, counted.0); failed = inl counted.1; tells = λ k. (kept i.to_come j.to_come none.bytes k).0; bytes = λ k. omega (arith, same k); accounts = none.accounts }
-      | inr worn ↦
-          let is : j ≡ i = none.worn worn in
-          record { pulls = rw is (omega arith); failed = rw is (inr (refl, worn)); tells = λ k. (kept i.to_come j.to_come none.bytes k).0; bytes = λ k. omega (arith, same k); accounts = none.accounts }
-    ]
-
 -- ---- once
 
 none_taken : (k : ℕ) (bytes : List ℕ) → k ≡ 0 → bits_of_bytes (take k bytes) ≡ []
@@ -96,21 +82,8 @@ none_there (suc k) bytes e = rw e refl
 pub SamePlace-refl : (f : Flow) → SamePlace f f
 SamePlace-refl f = record { loaded = omega arith; exact = refl }
 
-pub SamePlace-trans : (a b c : Flow) → SamePlace a b → SamePlace b c → SamePlace a c
-SamePlace-trans a b c p q = record { loaded = omega (arith, p.loaded, q.loaded); exact = omega (arith, p.exact, q.exact) }
-
 pub Keeps-refl : (f : Flow) → KeepsFlow f f
 Keeps-refl f = record { end = refl; limit = refl; place = SamePlace-refl f; spends = Spends-refl f.incoming (budget_of f); left = λ k. refl; total = λ k. refl }
-
-pub Keeps-trans : (a b c : Flow) → KeepsFlow a b → KeepsFlow b c → KeepsFlow a c
-Keeps-trans a b c p q = record {
-  end = q.end ∙ p.end;
-  limit = q.limit ∙ p.limit;
-  place = SamePlace-trans a b c p.place q.place;
-  spends = Spends-trans a.incoming (budget_of a) b.incoming (budget_of b) c.incoming (budget_of c) p.spends q.spends;
-  left = λ k. q.left (p.spends.tells k) ∙ p.left k;
-  total = λ k. q.total (p.spends.tells k) ∙ p.total k;
-}
 
 pub nothing_left : (f : Flow) → stop_of f ≤ f.loaded → flow_bits f ≡ f.window
 nothing_left f at = ap (λ (s : List Bool). f.window ++ s) (none_taken (stop_of f - f.loaded) (known_bytes f.incoming.to_come) (omega arith)) ∙ append-nil f.window
@@ -256,36 +229,3 @@ flow_after f i room word count window was going le fits free taken is =
       place = omega (arith, was.place);
       ended = λ e. absurd (false≢true (sym going ∙ e));
     }
-
--- the source failed
-pub source_failed : (f : Flow) (i : Incoming) → f.ended ≡ false → f.loaded ≤ f.limit → GaveNone f.incoming i → LostFlow f (record f { incoming = i })
-source_failed f i going le none = record {
-  place = record { loaded = omega arith; exact = refl };
-  fails = rw going (pull_fails f.incoming i (f.limit + 1 - f.loaded) none (omega arith));
-}
-
--- ---- several times
-
-same_cut : (a b : Flow) → KeepsFlow a b → IsKnown a → is_flow_cut a ≡ is_flow_cut b
-same_cut a b kept k = rw (kept.limit, kept.end, kept.total k) refl
-
--- nothing more comes, and the bits that came are too few
-runs_out : (n : ℕ) (a b c : Flow) (by_limit : Bool) → KeepsFlow a b → NoMore b c by_limit → length b.window < n → RunsOut a c n by_limit
-runs_out n a b c by_limit kept none few = record {
-  keeps = Keeps-trans a b c kept none.keeps;
-  left = λ k. rw (sym (kept.left k)) (rw (none.left (kept.spends.tells k)) few);
-  cut = λ k. same_cut a b kept k ∙ none.cut (kept.spends.tells k);
-  left_now = omega (arith, ap length none.left_now, ap length none.window);
-  cut_now = none.cut_now;
-}
-
-pub lost_after : (a b c : Flow) → KeepsFlow a b → LostFlow b c → LostFlow a c
-lost_after a b c kept lost = record {
-  place = SamePlace-trans a b c kept.place lost.place;
-  fails = fails_later a.incoming (budget_of a) b.incoming (budget_of b) c.incoming 0 kept.spends lost.fails;
-}
-
-pub not_filled : (n : ℕ) (a b c : Flow) (missing : Missing) → KeepsFlow a b → length b.window < n → Misses b c missing → Fills n a c (Err missing)
-not_filled n a b c End kept few none = runs_out n a b c false kept none few
-not_filled n a b c Limit kept few none = runs_out n a b c true kept none few
-not_filled n a b c Read kept few lost = lost_after a b c kept lost

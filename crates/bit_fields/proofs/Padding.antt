@@ -101,9 +101,6 @@ pub record Padding (first count : ℕ) (a b : Reader) (left : ℕ) : Type 0 wher
   pub place : b.position + left ≡ first + count
   pub rest : (result : Result (Unit {0}) Fault) (c : Reader) → Takes (zeros first left) b result c → Takes (zeros first count) a result c
 
-pub padding_begins : (first count : ℕ) (a : Reader) → a.live ≡ true → a.position ≡ first → Padding first count a a count
-padding_begins first count a live here = record { live = live; most = omega arith; place = omega arith; rest = λ result c t. t }
-
 pub padding_goes_on : (first count : ℕ) (a b : Reader) (left some : ℕ) (c : Reader) → Padding first count a b left → TookZeros first left some b c → Padding first count a c (left - some)
 padding_goes_on first count a b left some c so t =
     let e : some + (left - some) ≡ left = omega (arith, t.few) in
@@ -130,6 +127,3 @@ padded first count a b left so none here count_is =
     let all : Took (zeros first count) a tt b = so.rest (Ok tt) b (subst (λ (n : ℕ). Takes (zeros first n) b (Ok tt) b) e (took_nothing tt b so.live)) in
     let whole : Took (zeros a.position (padding_length a.position)) a tt b = subst (λ (p : ℕ). Took (zeros p (padding_length p)) a tt b) here (subst (λ (n : ℕ). Took (zeros first n) a tt b) count_is all) in
     from_here (λ p. zeros p (padding_length p)) a (Ok tt) b whole
-
-pub aligned : (first count : ℕ) (a b : Reader) (left : ℕ) → Padding first count a b left → left ≤ 0 → count ≡ padding_length first → b.position % 32 ≡ 0
-aligned first count a b left so none count_is = omega (arith, so.place, count_is)

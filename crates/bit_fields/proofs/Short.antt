@@ -1,28 +1,27 @@
 -- Numbers in few chunks, taken at once: what a word shows of them is what the rule reads.
-use Rattle.std.proofs.Common.{◌≡◌, ℕ, zero, suc, ◌+◌, ◌*◌, ◌-◌, ◌/◌, ◌%◌, ◌^◌, ◌<◌, ◌≤◌, Bool, true, false, ltb, leb, List, ◌++◌, length, get_or, take, drop, Result, Ok, Err, refl, sym, ap, ◌∙◌, subst, arith, bit_and, bit_or, ◌⊎◌, ◌≢◌, inl, inr, min, max}
+use Rattle.std.proofs.Common.{◌≡◌, ℕ, zero, suc, ◌+◌, ◌*◌, ◌-◌, ◌/◌, ◌%◌, ◌^◌, ◌<◌, ◌≤◌, Bool, true, false, ltb, leb, List, ◌++◌, length, get_or, take, drop, Ok, Err, refl, sym, ap, ◌∙◌, subst, arith, bit_and, bit_or, ◌⊎◌, ◌≢◌, inl, inr, min, max}
 use Rattle.std.specs.Int.{w64, bit_at, bit_not, trailing_zeros}
 use Rattle.std.proofs.lemmas.Nat.Bits.{bit_at_and, bit_at_or, bit_at_not, bit_at-lt, bit_at-pow_same, bit_at-pow_other, bit_at-trailing_zeros}
 use Rattle.std.proofs.lemmas.Bool.{cases_lt, lt-ltb, le-leb, lt-leb}
-use Rattle.std.proofs.lemmas.Nat.{shr-shr, mod-pow-add, pow-add, pow_pos, mod_below, mul-add-lt, div-mul-add, and_mask, one_shl, and_le_l, or_lt}
+use Rattle.std.proofs.lemmas.Nat.{shr-shr, mod-pow-add, pow_pos, mod_below, div-mul-add, and_mask, one_shl, and_le_l, or_lt}
 use Rattle.std.proofs.lemmas.List.{length-append}
 use Rattle.std.proofs.Math.Nat.{mod-eq_of_lt, div-eq_of_lt}
 use Rattle.std.proofs.Math.Pow.{pow_mono, mod-mod-pow}
 use Rattle.bit_grammar.specs.declared.reason.Reason.TheVariants.{Truncated}
 use Rattle.bit_grammar.specs.Bits.{bits_of, number}
-use Rattle.bit_grammar.specs.Grammar.{at, gives, ◌>>=◌, reading}
+use Rattle.bit_grammar.specs.Grammar.{at, reading}
 use Rattle.bit_grammar.specs.Fields.{chunks, vbr}
 use Rattle.bit_grammar.specs.Terms.{chunk_limit}
 use Rattle.bit_grammar.proofs.Bits.Numbers.{length-bits_of, number_below}
-use Rattle.bit_fields.specs.Short.{EndsChunks, EndsAt, payload_number, TookNothing}
-use Rattle.bit_fields.specs.Inflow.{Flow, KeepsFlow, Fills}
+use Rattle.bit_fields.specs.Short.{EndsChunks, EndsAt, payload_number}
+use Rattle.bit_fields.specs.Inflow.{Flow, Fills}
 use Rattle.bit_fields.specs.declared.window.TheConstants.{FOUR_TOPS}
 use Rattle.bit_fields.specs.declared.fault.Fault.{Fault}
 use Rattle.bit_fields.specs.declared.inflow.Missing.{Missing}
 use Rattle.bit_fields.specs.Inside.{reader_of, fault_of_missing}
-use Rattle.bit_fields.specs.Reader.{Reader, Took, Why, Takes, stopped_at}
+use Rattle.bit_fields.specs.Reader.{Reader, Took, Why, stopped_at}
 use Rattle.bit_fields.proofs.BitLaws.{number-bits_mod, take-bits_of, window_rest, rest_below, drop_more, bits_of-number}
 use Rattle.bit_fields.proofs.InflowLaws.{Keeps-refl}
-use Rattle.bit_fields.proofs.Composing.{took_then, took_nothing, same_reading}
 use Rattle.bit_fields.proofs.Parts.{part_at, part_short, window_took, window_missed}
 use Rattle.bit_fields.proofs.Chunks.{chunk_step, after_number, limit_times}
 
@@ -236,28 +235,6 @@ gathered_cut payload (suc count) more word =
     let one : suc count + more ≡ suc (count + more) = omega arith in
     rw (one, wide, low, high, gathered_cut payload count more (word / 2 ^ suc payload)) refl
 
-pub gathered_below : (payload count word : ℕ) → payload_number payload count word < 2 ^ (payload * count)
-gathered_below payload zero word = let none : payload * 0 ≡ 0 = omega arith in rw none (omega arith)
-gathered_below payload (suc count) word =
-    let wide : payload * suc count ≡ payload + payload * count = omega arith in
-    let high = gathered_below payload count (word / 2 ^ suc payload) in
-    let all = mul-add-lt (payload_number payload count (word / 2 ^ suc payload)) (2 ^ payload) (word % 2 ^ payload) (2 ^ (payload * count)) high (mod_below word (2 ^ payload) (pow_pos payload)) in
-    rw (wide, pow-add 2 payload (payload * count)) (omega (arith, all))
-
-pub gathered_fits : (payload count word : ℕ) → count ≤ 4 → payload ≤ 13 → payload_number payload count word < 2 ^ 52
-gathered_fits payload count word few narrow =
-    let most : payload * count ≤ 52 = times count few in
-    let wide : 2 ^ (payload * count) ≤ 2 ^ 52 = pow_mono {i = payload * count} {j = 52} most in
-    omega (arith, wide, gathered_below payload count word)
-  where
-    times : (count : ℕ) → count ≤ 4 → payload * count ≤ 52
-    times zero few = omega arith
-    times (suc zero) few = omega (arith, narrow)
-    times (suc (suc zero)) few = omega (arith, narrow)
-    times (suc (suc (suc zero))) few = omega (arith, narrow)
-    times (suc (suc (suc (suc zero)))) few = omega (arith, narrow)
-    times (suc (suc (suc (suc (suc k))))) few = absurd (omega (arith, few))
-
 -- ---- as the code has them
 
 pub bits_end : (n held word t : ℕ) (s : List Bool) → 2 ≤ n → n ≤ 14 → held ≤ 64 → bits_of held word ≡ s → word < 2 ^ held → 0 < bit_and (tops_of (n - 1) (2 * n - 1) (3 * n - 1) (4 * n - 1)) (bit_not w64 word) → t ≡ trailing_zeros w64 (bit_and (tops_of (n - 1) (2 * n - 1) (3 * n - 1) (4 * n - 1)) (bit_not w64 word)) → tops_of (n - 1) (2 * n - 1) (3 * n - 1) (4 * n - 1) < 2 ^ 64 → EndsAt n (t + 1) (number s)
@@ -354,20 +331,6 @@ short_missed n bits p was f g missing now new fault was_live now_is two narrow a
     subst (λ (m : ℕ). reading (vbr m) p (f.window ++ more) ≡ Err (at Truncated p)) (sym width)
     (vbr_truncated (n - 1) count p f.window more (omega (arith, two)) (omega (arith, narrow)) few ends (subst (λ (m : ℕ). length (f.window ++ more) < m * count) width short)) in
     rw (← now_is, new_is, was_live, fault_is) (window_missed (vbr n) (n * count) p p f g missing read fills)
-
--- bytes came, and nothing was read
-pub filled_as : (p : ℕ) (live : Bool) (f g : Flow) (now : Reader) → live ≡ true → reader_of live p f ≡ now → KeepsFlow f g → TookNothing now (reader_of live p g)
-filled_as p live f g now alive now_is kept =
-    let same : p + 0 ≡ p = omega arith in
-    let read : (rest : List Bool) → reading (gives (tt {0})) p (g.window ++ rest) ≡ Ok (tt {0}, p + 0, drop 0 g.window ++ rest) = λ rest. rw same refl in
-    let took : TookNothing (reader_of true p f) (reader_of true (p + 0) (record g { window = drop 0 g.window })) = window_took (gives (tt {0})) (tt {0}) 0 p f g kept read in
-    rw (← now_is, alive) (subst (λ (q : ℕ). TookNothing (reader_of true p f) (reader_of true q g)) same took)
-
-pub unfilled_as : (a : Reader) → a.live ≡ true → TookNothing a a
-unfilled_as a live = took_nothing (tt {0}) a live
-
-pub after_filling : (n : ℕ) (a b : Reader) (result : Result ℕ Fault) (c : Reader) → TookNothing a b → Takes (vbr n) b result c → Takes (vbr n) a result c
-after_filling n a b result c filled t = same_reading (gives (tt {0}) >>= λ v. vbr n) (vbr n) a result c (λ p r. refl) (took_then (gives (tt {0})) (λ v. vbr n) a (tt {0}) b result c filled t)
 
 -- ---- as the code has it
 

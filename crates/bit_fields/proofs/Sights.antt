@@ -1,7 +1,7 @@
 -- What is read from bits that lie in a window and in bytes behind it.
-use Rattle.std.proofs.Common.{◌≡◌, ℕ, suc, ◌+◌, ◌*◌, ◌-◌, ◌%◌, ◌^◌, ◌<◌, ◌≤◌, Bool, List, [], ◌∷◌, ◌++◌, length, take, drop, Result, Ok, Err, Bor, refl, sym, ap, ◌∙◌, subst, arith, append_assoc, get_or, inl, inr}
+use Rattle.std.proofs.Common.{◌≡◌, ℕ, suc, ◌+◌, ◌*◌, ◌-◌, ◌/◌, ◌%◌, ◌^◌, ◌<◌, ◌≤◌, Bool, List, [], ◌∷◌, ◌++◌, length, take, drop, Result, Ok, Err, Bor, refl, sym, ap, ◌∙◌, subst, arith, append_assoc, get_or, inl, inr}
 use Rattle.std.proofs.lemmas.Bool.{cases_lt}
-use Rattle.std.proofs.lemmas.List.{append-nil, length-append, length-drop, take_at, drop_at, nil_from_length}
+use Rattle.std.proofs.lemmas.List.{append-nil, length-append, length-drop, drop-append-le, take_at, drop_at, nil_from_length}
 use Rattle.std.proofs.Math.Seq.{drop-append-add}
 use Rattle.bit_grammar.specs.declared.reason.Reason.TheVariants.{Truncated}
 use Rattle.bit_grammar.specs.Bits.{number, bits_of, bits_of_bytes}
@@ -29,9 +29,8 @@ sight_of end window bytes = record { position = end - (length window + 8 * lengt
 sight_is : (p q : ℕ) (s t : List Bool) → p ≡ q → s ≡ t → ◌≡◌ {A = InSight} (record { position = p; bits = s }) (record { position = q; bits = t })
 sight_is p q s t place same = rw (place, same) refl
 
--- bytes moved into the window
-pub same_sight : (end : ℕ) (w v : List Bool) (bytes rest : List ℕ) → v ++ bits_of_bytes rest ≡ w ++ bits_of_bytes bytes → length v ≡ length w + 32 → length bytes ≡ 4 + length rest → sight_of end v rest ≡ sight_of end w bytes
-same_sight end w v bytes rest same longer fewer = sight_is (end - (length v + 8 * length rest)) (end - (length w + 8 * length bytes)) (v ++ bits_of_bytes rest) (w ++ bits_of_bytes bytes) (omega (arith, longer, fewer)) same
+pub sight_length : (w : List Bool) (bytes : List ℕ) → length (w ++ bits_of_bytes bytes) ≡ length w + 8 * length bytes
+sight_length w bytes = omega (arith, length-append w (bits_of_bytes bytes), length-bits_of_bytes bytes)
 
 -- ---- fields of one part
 
@@ -123,19 +122,27 @@ pad_glimpsed n value a b n_is seen none =
     let read : Glimpsed (zeros a.position n) a tt (beyond a n) = rw (append-nil a.bits, append-nil (drop n a.bits)) at whole in
     rw p.1 (subst (λ (m : ℕ). Glimpsed (zeros a.position m) a tt (beyond a n)) n_is read)
 
+-- a part of the first byte was passed
+pub byte_passed : (bytes : List ℕ) (n : ℕ) → 0 < length bytes → n ≤ 8 → drop n (bits_of 8 (get_or bytes 0 0)) ++ bits_of_bytes (drop 1 bytes) ≡ drop n (bits_of_bytes bytes)
+byte_passed [] n some few = absurd (omega (arith, some))
+byte_passed (b ∷ bytes) n some few = sym (drop-append-le n (bits_of 8 b) (bits_of_bytes bytes) (omega (arith, few, length-bits_of 8 b)))
+
 -- the window, whole bytes and a part of a byte were passed
-pub far_passed : (end bits behind whole rest value : ℕ) (a : InSight) (w : List Bool) (bytes after : List ℕ) (b : InSight) → sight_of end w bytes ≡ a → length w + 8 * length bytes ≤ end → bits ≡ length w + behind → behind ≡ 8 * whole + rest → whole ≤ length bytes → after ≡ drop whole bytes
-    → Glimpsed (part_of 0 rest) (sight_of end [] after) value b → (bits ≤ length a.bits) × (b ≡ beyond a bits)
-far_passed end bits behind whole rest value a w bytes after b is fits all parts few after_is seen =
-    let p = part_passed rest 0 value (sight_of end [] after) b seen in
+pub bits_passed : (end bits behind whole rest : ℕ) (a : InSight) (w v : List Bool) (bytes after others : List ℕ) → sight_of end w bytes ≡ a → length w + 8 * length bytes ≤ end → bits ≡ length w + behind → behind ≡ 8 * whole + rest → whole ≤ length bytes → rest ≤ 8 * length after → after ≡ drop whole bytes
+    → v ++ bits_of_bytes others ≡ drop rest (bits_of_bytes after) → length v + 8 * length others + rest ≡ 8 * length after → sight_of end v others ≡ beyond a bits
+bits_passed end bits behind whole rest a w v bytes after others is fits all parts few there after_is same fewer =
     let len : length after ≡ length bytes - whole = ap length after_is ∙ length-drop whole bytes in
-    let total : length (w ++ bits_of_bytes bytes) ≡ length w + 8 * length bytes = omega (arith, length-append w (bits_of_bytes bytes), length-bits_of_bytes bytes) in
-    let there : rest ≤ 8 * length after = omega (arith, p.0, length-bits_of_bytes after) in
-    let place : end - (length {A = Bool} [] + 8 * length after) + rest ≡ end - (length w + 8 * length bytes) + bits = omega (arith, len, all, parts, few, fits, there) in
+    let place : end - (length v + 8 * length others) ≡ end - (length w + 8 * length bytes) + bits = omega (arith, len, all, parts, few, fits, there, fewer) in
     let gone : bits ≡ length w + (8 * whole + rest) = omega (arith, all, parts) in
-    let left : drop rest ([] ++ bits_of_bytes after) ≡ drop bits (w ++ bits_of_bytes bytes) =
-    ap (λ (s : List ℕ). drop rest (bits_of_bytes s)) after_is ∙ ap (drop rest) (bytes_dropped whole bytes few) ∙ drop_more (8 * whole) rest (bits_of_bytes bytes) ∙ sym (drop-append-add w (bits_of_bytes bytes) (8 * whole + rest)) ∙ ap (λ (k : ℕ). drop k (w ++ bits_of_bytes bytes)) (sym gone) in
-    rw (← is) (omega (arith, total, len, all, parts, few, there), p.1 ∙ sight_is (end - (length {A = Bool} [] + 8 * length after) + rest) (end - (length w + 8 * length bytes) + bits) (drop rest ([] ++ bits_of_bytes after)) (drop bits (w ++ bits_of_bytes bytes)) place left)
+    let left : v ++ bits_of_bytes others ≡ drop bits (w ++ bits_of_bytes bytes) =
+    same ∙ ap (λ (s : List ℕ). drop rest (bits_of_bytes s)) after_is ∙ ap (drop rest) (bytes_dropped whole bytes few) ∙ drop_more (8 * whole) rest (bits_of_bytes bytes) ∙ sym (drop-append-add w (bits_of_bytes bytes) (8 * whole + rest)) ∙ ap (λ (k : ℕ). drop k (w ++ bits_of_bytes bytes)) (sym gone) in
+    rw (← is) (sight_is (end - (length v + 8 * length others)) (end - (length w + 8 * length bytes) + bits) (v ++ bits_of_bytes others) (drop bits (w ++ bits_of_bytes bytes)) place left)
+
+-- the whole bytes behind the window that are passed are there, and so is the part of the byte behind them
+pub behind_there : (end bits held : ℕ) (a : InSight) (w : List Bool) (bytes : List ℕ) → sight_of end w bytes ≡ a → bits ≤ length a.bits → held ≡ length w → ((bits - held) / 8 ≤ length bytes) × ((bits - held) % 8 ≤ 8 * (length bytes - (bits - held) / 8))
+behind_there end bits held a w bytes is few held_is =
+    let all : length a.bits ≡ length w + 8 * length bytes = ap (λ (s : InSight). length s.bits) (sym is) ∙ sight_length w bytes in
+    (omega (arith, all, few, held_is), omega (arith, all, few, held_is))
 
 pub fields_glimpsed : (n count bits : ℕ) (a b : InSight) → bits ≡ count * n → bits ≤ length a.bits → b ≡ beyond a bits → Glimpsed (repeat count (fixed n)) a (numbers n count a.bits) b
 fields_glimpsed n count bits a b all there is =

@@ -3,7 +3,7 @@ use Rattle.std.proofs.Common.{◌≡◌, ℕ, ◌+◌, ◌-◌, ◌<◌, ◌≤�
 use Rattle.std.proofs.Math.ListN.{drop_of_length-le}
 use Rattle.std.proofs.Math.Seq.{drop-cons, drop-append-add, take-add, take-length}
 use Rattle.std.proofs.lemmas.Bool.{cases_lt}
-use Rattle.std.proofs.lemmas.List.{drop-append-le, drop-drop, drop-take, get_or-drop, get_or-take, length-append, length-drop, length-take, nil_from_length, take-append-drop, take-append-le, take-take, take_all, take_rest}
+use Rattle.std.proofs.lemmas.List.{drop-append-le, drop-drop, drop-take, length-append, length-drop, length-take, nil_from_length, take-append-drop, take-append-le, take-take, take_all, take_rest}
 use Rattle.std.proofs.lemmas.Option.{get_or_from_slice_get, slice_get-get_or, slice_get_within}
 use Rattle.bit_fields.specs.Packed.{StandAt}
 
@@ -94,10 +94,3 @@ one_stands p value a h =
     let there : p < length a = omega (arith, stand_within p (value ∷ []) a h) in
     let e : get_or a p 0 ∷ [] ≡ value ∷ [] = sym (ap (take 1) (drop-cons a p 0 there)) ∙ h in
     slice_get-get_or a p 0 there ∙ ap (λ (s : List ℕ). Some (get_or s 0 0)) e
-
--- one of them
-pub stand_among : (p i : ℕ) (v a : List ℕ) → StandAt p v a → i < length v → slice_get a (p + i) ≡ Some (get_or v i 0)
-stand_among p i v a h lt =
-    let there : p + i < length a = omega (arith, stand_within p v a h) in
-    let same : get_or a (p + i) 0 ≡ get_or v i 0 = sym (get_or-drop p a i 0) ∙ sym (get_or-take (length v) (drop p a) i 0 lt) ∙ ap (λ (s : List ℕ). get_or s i 0) h in
-    slice_get-get_or a (p + i) 0 there ∙ ap Some same

@@ -1,5 +1,5 @@
 -- What stands at the beginning of an input.
-use Rattle.std.proofs.Common.{◌≡◌, ℕ, ◌+◌, ◌*◌, ◌-◌, ◌%◌, ◌^◌, ◌<◌, ◌≤◌, min, Bool, true, false, not, ◌&&◌, leb, eqb, List, [], length, take, Option, Some, None, Result, Ok, Err, refl, sym, ap, ◌∙◌, subst, arith, inl, inr}
+use Rattle.std.proofs.Common.{◌≡◌, ℕ, ◌+◌, ◌*◌, ◌-◌, ◌%◌, ◌^◌, ◌<◌, ◌≤◌, min, Bool, true, not, ◌&&◌, leb, eqb, List, length, take, Option, Some, None, Result, Ok, Err, refl, sym, ap, ◌∙◌, subst, arith, inl, inr}
 use Rattle.std.proofs.lemmas.Bool.{cases_lt, false≢true, le-ltb, lt-ltb, ne_eqb}
 use Rattle.std.proofs.lemmas.List.{length-take-le}
 use Rattle.std.proofs.Math.Nat.{mod-eq_of_lt}
@@ -16,11 +16,11 @@ use Rattle.bit_grammar.specs.Input.{version, offset, wrapper, any_bits, wrapper_
 use Rattle.bit_fields.specs.declared.fault.Fault.{Fault}
 use Rattle.bit_fields.specs.declared.fault.Fault.TheVariants.{Refused, Read, Write, Memory, OutputTooLong, Failed}
 use Rattle.bit_fields.specs.declared.head.Wrapper.{Wrapper}
-use Rattle.bit_fields.specs.Devices.{Incoming, Fails, known_bytes}
+use Rattle.bit_fields.specs.Devices.{Fails}
 use Rattle.bit_fields.specs.Inflow.{Flow, flow_bits, stop_of, flow_ended_at}
 use Rattle.bit_fields.specs.Reader.{Reader, Extent, TellsBytes, is_cut, Breaks, GoesOn, Loses, Took, Why, Takes, NeedsNoMemory}
 use Rattle.bit_fields.specs.Inside.{reader_of, IsReader}
-use Rattle.bit_fields.specs.Opening.{Beginning, with_magic, in_wrapper, beginning, wrapper_read, wrapper_of, wrapper_told, magic_number, end_of_stream, fresh, OpenedInput, LeavesSource, Declines}
+use Rattle.bit_fields.specs.Opening.{Beginning, with_magic, in_wrapper, beginning, wrapper_read, wrapper_of, wrapper_told, magic_number, end_of_stream, OpenedInput, LeavesSource, Declines}
 use Rattle.bit_fields.specs.Ending.{reach_of}
 use Rattle.bit_fields.proofs.BitLaws.{le_bytes_bits_32, number-bits_mod}
 use Rattle.bit_fields.proofs.InflowLaws.{Spends-none, Fails-none, fails_later}
@@ -297,11 +297,3 @@ stream_begins a w e n magic f t u below is = record {
   extent = λ k. u.extent (t.goes_on.tells k) ∙ t.extent k;
   reads = λ k. rw (t.reads k, u.reads (t.goes_on.tells k), magic_is n magic below is) refl;
 }
-
--- a reader that is made of a source
-pub fresh_is : (i : Incoming) (limit : ℕ) → limit ≤ 17179869180 → reader_of true 0 (record { window = []; incoming = i; loaded = 0; end = 2 ^ 64 - 1; limit = limit; ended = false }) ≡ fresh i limit
-fresh_is i limit capped =
-    let most : min (2 ^ 64 - 1) limit - 0 ≡ limit = omega arith in
-    let total : 0 + length (known_bytes i.to_come) ≡ length (known_bytes i.to_come) = omega arith in
-    let budget : limit + 1 - 0 ≡ limit + 1 = omega arith in
-    rw (most, total, budget) refl

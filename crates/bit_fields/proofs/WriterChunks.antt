@@ -70,11 +70,6 @@ limit_is payload some = one_more payload (chunk_limit payload) (limit_is_enough 
     one_more payload zero enough = absurd (omega (arith, enough))
     one_more payload (suc limit) enough = let e : suc limit - 1 ≡ limit = omega arith in rw e refl
 
--- a value of one chunk
-pub shortest_of_one : (n value : ℕ) → 2 ≤ n → value < 2 ^ (n - 1) → shortest n value ≡ bits_of n value
-shortest_of_one n value some lt =
-    ap (λ k. tail (n - 1) k value) (limit_is (n - 1) (omega arith)) ∙ tail_last (n - 1) (chunk_limit (n - 1) - 1) value lt ∙ sym (last_bits n value some lt)
-
 -- what is left after a chunk is less
 pub part_smaller : (n rest : ℕ) → 2 ≤ n → 2 ^ (n - 1) ≤ rest → rest / 2 ^ (n - 1) < rest
 part_smaller n rest some le =

@@ -1,4 +1,4 @@
-ghost use Rattle.std.specs.Prelude.{ℕ, ◌≡◌, ◌+◌, ◌*◌, ◌-◌, ◌%◌, ◌<◌, ◌≤◌, ◌^◌, ◌++◌, length, get_or, IfSome, OnSome, MatchOption, IfNone};
+ghost use Rattle.std.specs.Prelude.{ℕ, ◌≡◌, ◌+◌, ◌*◌, ◌-◌, ◌%◌, ◌<◌, ◌≤◌, ◌^◌, ◌++◌, length, drop, get_or, IfSome, OnSome, MatchOption, IfNone};
 ghost use Rattle.bit_grammar.specs.Bits.{bits_of_bytes};
 ghost use Rattle.bit_grammar.specs.Grammar.{repeat};
 ghost use Rattle.bit_grammar.specs.Fields.{fixed, vbr, char6, align32};
@@ -93,6 +93,7 @@ impl<'a> Ahead<'a> {
             → Glimpsed (part_of first n) self.old value self.new) }
         ensures below { IfSome result (λ value. value < 2 ^ n) }
         ensures moves { OnSome result (self.new.position ≡ self.old.position + n) }
+        ensures stays { IfNone result (self.new ≡ self.old) }
     {
         self.fill();
         self.held_part(n)
@@ -106,6 +107,7 @@ impl<'a> Ahead<'a> {
             → Glimpsed (part_of first n) self.old value self.new) }
         ensures below { IfSome result (λ value. value < 2 ^ n) }
         ensures moves { OnSome result (self.new.position ≡ self.old.position + n) }
+        ensures stays { IfNone result (self.new ≡ self.old) }
     {
         if self.window.len() < n {
             return None;
@@ -121,6 +123,7 @@ impl<'a> Ahead<'a> {
         ensures glimpsed { IfSome result (λ value. Glimpsed (fixed n) self.old value self.new) }
         ensures below { IfSome result (λ value. value < 2 ^ n) }
         ensures moves { OnSome result (self.new.position ≡ self.old.position + n) }
+        ensures stays { IfNone result (self.new ≡ self.old) }
     {
         let value = self.part(n)?;
         Some(value)
@@ -131,6 +134,7 @@ impl<'a> Ahead<'a> {
     pub fn char6(&mut self) -> Option<u64>
         ensures glimpsed { IfSome result (λ value. Glimpsed char6 self.old value self.new) }
         ensures moves { OnSome result (self.new.position ≡ self.old.position + 6) }
+        ensures stays { IfNone result (self.new ≡ self.old) }
     {
         let code = self.part(6)?;
         Some(character(code))
@@ -143,6 +147,7 @@ impl<'a> Ahead<'a> {
         requires few { n ≤ 32 }
         ensures glimpsed { IfSome result (λ value. Glimpsed (vbr n) self.old value self.new) }
         ensures moves { OnSome result (self.old.position + n ≤ self.new.position) }
+        ensures stays { IfNone result (self.new ≡ self.old) }
     {
         self.fill();
         match self.one_chunk(n) {
@@ -159,6 +164,7 @@ impl<'a> Ahead<'a> {
         requires few { n ≤ 32 }
         ensures glimpsed { IfSome result (λ value. Glimpsed (vbr n) self.old value self.new) }
         ensures moves { OnSome result (self.old.position + n ≤ self.new.position) }
+        ensures stays { IfNone result (self.new ≡ self.old) }
     {
         self.fill();
         self.longer_vbr(n)
@@ -171,6 +177,7 @@ impl<'a> Ahead<'a> {
         requires few { n ≤ 32 }
         ensures glimpsed { IfSome result (λ value. Glimpsed (vbr n) self.old value self.new) }
         ensures moves { OnSome result (self.old.position + n ≤ self.new.position) }
+        ensures stays { IfNone result (self.new ≡ self.old) }
     {
         if let Some(value) = self.few_chunks(n) {
             return Some(value);
@@ -179,7 +186,7 @@ impl<'a> Ahead<'a> {
         if bits == 0 {
             return None;
         }
-        self.skip(bits)?;
+        self.skip(bits);
         Some(value)
     }
 
@@ -285,6 +292,7 @@ impl<'a> Ahead<'a> {
     pub fn held_byte(&mut self) -> Option<u64>
         ensures glimpsed { IfSome result (λ value. Glimpsed (fixed 8) self.old value self.new) }
         ensures moves { OnSome result (self.new.position ≡ self.old.position + 8) }
+        ensures stays { IfNone result (self.new ≡ self.old) }
     {
         let value = self.held_part(8)?;
         Some(value)
@@ -308,41 +316,55 @@ impl<'a> Ahead<'a> {
         bytes
     }
 
-    /// Skips so many fields of n bits, n from 1 to 32, whatever they are.
+    /// How many bits are in sight.
     #[inline(always)]
-    pub fn skip_fixed(&mut self, count: u64, n: u32) -> Option<()>
-        requires some { 0 < n }
-        requires few { n ≤ 32 }
-        requires fits { count < 2 ^ 32 }
-        ensures glimpsed { OnSome result (Glimpsed (repeat count (fixed n)) self.old
-            (numbers n count self.old.bits) self.new) }
-        ensures moves { OnSome result (self.new.position ≡ self.old.position + n * count) }
+    fn len(&self) -> u64
+        ensures { result ≡ length self.now.bits }
     {
-        self.skip(count * u64::from(n))?;
-        Some(())
+        self.end - self.position()
     }
 
-    /// Skips so many bits.
+    /// Skips fields of n bits, n from 1 to 32, whatever they are: all that are whole here, but at most so many. Answers how many.
     #[inline(always)]
-    fn skip(&mut self, bits: u64) -> Option<()>
-        ensures there { OnSome result (bits ≤ length self.old.bits) }
-        ensures skipped { OnSome result (self.new ≡ beyond self.old bits) }
-        ensures moves { OnSome result (self.new.position ≡ self.old.position + bits) }
+    pub fn skip_fields(&mut self, most: u64, n: u32) -> u64
+        requires some { 0 < n }
+        requires few { n ≤ 32 }
+        requires fits { most < 2 ^ 32 }
+        ensures glimpsed { Glimpsed (repeat result (fixed n)) self.old
+            (numbers n result self.old.bits) self.new }
+        ensures most { result ≤ most }
+        ensures moves { self.new.position ≡ self.old.position + n * result }
+    {
+        let width = u64::from(n);
+        let there = self.len();
+        let count = if most * width <= there {
+            most
+        } else {
+            there / width
+        };
+        self.skip(count * width);
+        count
+    }
+
+    /// Skips so many bits, which are in sight.
+    #[inline(always)]
+    fn skip(&mut self, bits: u64)
+        requires { bits ≤ length self.old.bits }
+        ensures skipped { self.new ≡ beyond self.old bits }
+        ensures moves { self.new.position ≡ self.old.position + bits }
     {
         let held = u64::from(self.window.len());
         if bits < held {
             self.window.split(bits as u32);
-            return Some(());
+            return;
         }
         let behind = bits - held;
-        let whole = behind / 8;
-        if whole > self.bytes.len() as u64 {
-            return None;
-        }
-        self.window = Window::new();
-        self.bytes = &self.bytes[whole as usize..];
-        self.part((behind % 8) as u32)?;
-        Some(())
+        let (window, bytes) = rest_of_byte(
+            &self.bytes[(behind / 8) as usize..],
+            (behind % 8) as u32,
+        );
+        self.window = window;
+        self.bytes = bytes;
     }
 
     /// The same once more.
@@ -363,6 +385,22 @@ impl<'a> Ahead<'a> {
 fn are_bytes(bytes: &[u8])
     ensures { (place : ℕ) → get_or bytes.now place 0 < 256 }
 {}
+
+/// The bits of the first byte behind n of them, fewer than eight, and the bytes behind it; all bytes where n is 0.
+#[inline(always)]
+fn rest_of_byte(bytes: &[u8], n: u32) -> (Window, &[u8])
+    requires few { n < 8 }
+    requires there { n ≤ 8 * length bytes.now }
+    ensures bits { result.0 ++ bits_of_bytes result.1.now ≡ drop n (bits_of_bytes bytes.now) }
+    ensures fewer { length result.0 + 8 * length result.1.now + n ≡ 8 * length bytes.now }
+{
+    if n == 0 {
+        return (Window::new(), bytes);
+    }
+    let mut window = Window::of(u64::from(bytes[0]), 8);
+    window.split(n);
+    (window, &bytes[1..])
+}
 
 /// Puts the next four bytes into a window, and answers those behind them.
 #[inline(always)]

@@ -30,7 +30,7 @@ fn field_in_sight(ahead: &mut Ahead<'_>, place: u64) -> Option<u64> {
         3 => ahead.vbr(3),
         4 => ahead.fixed(13),
         5 => ahead.pass_vbr(4),
-        _ => Some(no_value(ahead.skip_fixed(3, 5)?)),
+        _ => skipped(ahead, 3, 5),
     }
 }
 
@@ -43,12 +43,21 @@ fn field_read<S: Source>(reader: &mut BitReader<S>, place: u64) -> Result<u64, F
         3 => reader.vbr(3),
         4 => reader.fixed(13),
         5 => reader.vbr(4),
-        _ => Ok(no_value(reader.skip_fixed(3, 5)?)),
+        _ => Ok(no_value(reader.catch_up(15)?)),
     }
 }
 
 fn no_value(_: ()) -> u64 {
     7
+}
+
+/// Skips so many fields of n bits, where all are in sight.
+fn skipped(ahead: &mut Ahead<'_>, count: u64, n: u32) -> Option<u64> {
+    if ahead.skip_fields(count.min(99), n.clamp(1, 32)) == count {
+        Some(7)
+    } else {
+        None
+    }
 }
 
 /// How far it has come: fields read, their values, and how many of them were in sight.
@@ -289,7 +298,7 @@ fn padded_in_sight<S: Source>(reader: &mut BitReader<S>, bits: u64) -> Option<(u
         return None;
     };
     let mut ahead = Ahead::new(sight);
-    ahead.skip_fixed(bits.min(99), 1)?;
+    skipped(&mut ahead, bits, 1)?;
     ahead.pad()?;
     let after = ahead.position();
     Some((after, ahead.fixed(7)?))
@@ -297,7 +306,7 @@ fn padded_in_sight<S: Source>(reader: &mut BitReader<S>, bits: u64) -> Option<(u
 
 /// The same from the reader.
 fn padded<S: Source>(reader: &mut BitReader<S>, bits: u64) -> Result<(u64, u64), Fault> {
-    reader.skip_fixed(bits.min(99), 1)?;
+    reader.catch_up(bits)?;
     reader.pad()?;
     let after = reader.position();
     Ok((after, reader.fixed(7)?))
@@ -341,10 +350,7 @@ fn pads_alike<S: Source + Drop>(
 ) -> bool {
     let mut reader = reader_of(rt, source);
     let mut plain = reader_of(rt, other);
-    let both = (
-        reader.skip_fixed(taken.min(99), 1),
-        plain.skip_fixed(taken.min(99), 1),
-    );
+    let both = (reader.catch_up(taken), plain.catch_up(taken));
     let told = padded_in_sight(&mut reader, bits);
     both == (Ok(()), Ok(())) && told == padded(&mut plain, bits).ok()
 }

@@ -1,6 +1,19 @@
-//! Bits from the bytes of a source, and bytes for a sink from bits: the fields of the bitstream format of LLVM's
-//! "LLVM Bitcode File Format", each call told by a rule of `bit_grammar`. Begin with `BitReader::start`, which reads the wrapper
-//! and the magic of a `Source` under `Limits`, and with `BitWriter::new` over a `Sink`.
+//! Bits from the bytes of a source, and bytes for a sink from bits: the fields of LLVM's "LLVM Bitcode File Format". Each reading
+//! call takes what a rule of `bit_grammar` reads. Begin with `BitReader::start`, which reads the wrapper and the magic of a
+//! `Source` under `Limits`, and with `BitWriter::new` over a `Sink`.
+//!
+//! Four layers, each with its own model: `Window` (up to 64 bits in a word; all masks and shifts are here), `Inflow` (a source, a
+//! window, the bytes loaded, the end and the limit on bytes), `BitReader` (position, and whether it is live) and, for output,
+//! `BitWriter`. The clause of a reading call is `Takes` in `specs/Reader`; `Spends` and `Fails` in `specs/Devices` say what it
+//! asked of the source. The crates above use these and the lemmas of `proofs/Composing`.
+//!
+//! `BitReader::sight` lends the buffered bits, `Ahead` reads fields from them with its state in registers, and
+//! `BitReader::catch_up` takes what was read. `Ahead` judges nothing: it reads complete fields and declines the rest. Its clause
+//! (`Glimpsed`) covers successes only. A reader of a slice lends its bits for as long as the slice lives (`sight_in_slice`).
+//!
+//! The values of a record go to a `ValueTaker`: `Vec<u64>` keeps them, `ValueCount` counts them, `PackedValues` keeps them in 1
+//! or 8 bytes each, and `ExpectedValues` compares them with another record's. `KeptSource` keeps the bytes that its source gives.
+//! `BitText` holds bits in memory: 32-bit words in chunks, which grow without a copy.
 #![tactic(auto)]
 
 mod ahead;

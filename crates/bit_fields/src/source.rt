@@ -1,10 +1,14 @@
-ghost use Rattle.std.specs.Prelude.{◌≡◌, ◌<◌, Some, [], OnErr};
+ghost use Rattle.std.specs.Prelude.{◌≡◌, ◌≢◌, ◌<◌, ◌+◌, ◌-◌, ◌^◌, ◌≤◌, max, true, false, Some, [], IfErr, OnErr};
 ghost use Rattle.std.specs.Borrow.{sem};
+ghost use Rattle.std.specs.IoError.{error_kind};
+ghost use Rattle.std.specs.Io.{ReadsAtMost};
 ghost use Rattle.std.specs.Io.BufRead.{Rests};
-ghost use Rattle.bit_fields.specs.Devices.{Begins, IsFresh, Looked};
+ghost use Rattle.std.specs.Io.KnownBytes.{ReadConsumes};
+ghost use Rattle.bit_fields.specs.Devices.{Begins, IsFresh, IsWorn, Looked};
 
 use crate::word::{front_of, word_of};
-use std::io::{BufRead, Read};
+use std::io;
+use std::io::{BufRead, Error as IoError, ErrorKind, Read};
 use thiserror::Error;
 
 /// How many bytes that nobody reads are pulled at once.
@@ -217,7 +221,27 @@ impl<'a> Source for SliceSource<'a> {
     }
 }
 
-/// What a reader gives. Any error of the reader is a failure; no read is tried again.
+/// Reads once, and again each time that a signal interrupted it.
+#[inline]
+fn read_through<R: Read>(reader: &mut R, into: &mut [u8]) -> io::Result<usize>
+    ensures bound { ReadsAtMost result into.new }
+    ensures bytes { ReadConsumes (R.remaining reader.old) (R.remaining reader.new) result into.new }
+    ensures tried { IfErr result (λ e. error_kind e ≢ ErrorKind.Interrupted) }
+{
+    for _ in 0..u64::MAX {
+        match reader.read(into) {
+            Ok(count) => return Ok(count),
+            Err(error) => {
+                if error.kind() != ErrorKind::Interrupted {
+                    return Err(error);
+                }
+            }
+        }
+    }
+    Err(IoError::from(ErrorKind::TimedOut))
+}
+
+/// What a reader gives. A read that a signal interrupted is tried again; any other error of the reader is a failure.
 #[derive(Drop)]
 pub struct ReadSource<R> {
     reader: R,
@@ -243,6 +267,32 @@ impl<R: Read> ReadSource<R> {
         ensures { R.remaining result ≡ (⟦<ReadSource<R> as Source>⟧.incoming self).to_come }
     {
         self.reader
+    }
+
+    /// A count is at its end.
+    #[inline(always)]
+    fn is_worn(&self) -> bool
+        ensures worn { result ≡ true → IsWorn (⟦<ReadSource<R> as Source>⟧.incoming self.now) }
+        ensures fresh { result ≡ false → IsFresh (⟦<ReadSource<R> as Source>⟧.incoming self.now) }
+    {
+        self.pulls == u64::MAX || self.failures == u64::MAX
+    }
+
+    /// Whether an error of the reader is a failure, which is counted: all are but one by a signal.
+    #[cold]
+    #[inline(never)]
+    fn fails(&mut self, error: &IoError) -> bool
+        requires { IsFresh (⟦<ReadSource<R> as Source>⟧.incoming self.old) }
+        ensures failed { result ≡ true → (error_kind error.now ≢ ErrorKind.Interrupted)
+            × (self.new ≡ record self.old { pulls = self.old.pulls + 1; failures = self.old.failures + 1 }) }
+        ensures interrupted { result ≡ false → self.new ≡ self.old }
+    {
+        if error.kind() == ErrorKind::Interrupted {
+            return false;
+        }
+        self.pulls += 1;
+        self.failures += 1;
+        true
     }
 }
 
@@ -275,11 +325,11 @@ impl<R: Read> Source for ReadSource<R> {
 
     #[inline]
     fn pull(&mut self, into: &mut [u8]) -> Result<usize, SourceFailed> {
-        if self.pulls == u64::MAX || self.failures == u64::MAX {
+        if self.is_worn() {
             return Err(SourceFailed);
         }
         self.pulls += 1;
-        match self.reader.read(into) {
+        match read_through(&mut self.reader, into) {
             Ok(count) => Ok(count),
             Err(_) => {
                 self.failures += 1;
@@ -289,8 +339,9 @@ impl<R: Read> Source for ReadSource<R> {
     }
 }
 
-/// What a reader with a buffer gives. What is at hand is what the buffer has, and no byte is taken ahead. Any error of the reader
-/// is a failure, and no read is tried again; only where it fails to show once more what it has just shown, nothing is lent.
+/// What a reader with a buffer gives. What is at hand is what the buffer has, and no byte is taken ahead. A read that a signal
+/// interrupted is tried again; any other error is a failure. Only if the reader fails to show once more what it has just shown,
+/// nothing is lent.
 #[derive(Drop)]
 pub struct BufSource<R> {
     source: ReadSource<R>,
@@ -331,7 +382,7 @@ impl<R: BufRead> Source for BufSource<R> {
     #[inline(always)]
     fn at_hand(&mut self, room: usize) -> AtHand {
         let source = &mut self.source;
-        if source.pulls == u64::MAX || source.failures == u64::MAX {
+        if source.is_worn() {
             return AtHand::Few;
         }
         let word = match source.reader.fill_buf() {
@@ -341,10 +392,11 @@ impl<R: BufRead> Source for BufSource<R> {
                 }
                 front_of(bytes, room)
             }
-            Err(_) => {
-                source.pulls += 1;
-                source.failures += 1;
-                return AtHand::Failed;
+            Err(error) => {
+                if source.fails(&error) {
+                    return AtHand::Failed;
+                }
+                return AtHand::Few;
             }
         };
         source.reader.consume(room);
@@ -355,7 +407,7 @@ impl<R: BufRead> Source for BufSource<R> {
     #[inline(always)]
     fn word_behind(&mut self, count: usize) -> AtHand {
         let source = &mut self.source;
-        if source.pulls == u64::MAX || source.failures == u64::MAX {
+        if source.is_worn() {
             return AtHand::Few;
         }
         let word = match source.reader.fill_buf() {
@@ -365,10 +417,11 @@ impl<R: BufRead> Source for BufSource<R> {
                 }
                 front_of(&bytes[count..], 8)
             }
-            Err(_) => {
-                source.pulls += 1;
-                source.failures += 1;
-                return AtHand::Failed;
+            Err(error) => {
+                if source.fails(&error) {
+                    return AtHand::Failed;
+                }
+                return AtHand::Few;
             }
         };
         source.reader.consume(count + 8);
@@ -379,15 +432,16 @@ impl<R: BufRead> Source for BufSource<R> {
     #[inline(always)]
     fn look(&mut self) -> Result<bool, SourceFailed> {
         let source = &mut self.source;
-        if source.pulls == u64::MAX || source.failures == u64::MAX {
+        if source.is_worn() {
             return Ok(false);
         }
         match source.reader.fill_buf() {
             Ok(bytes) => Ok(!bytes.is_empty()),
-            Err(_) => {
-                source.pulls += 1;
-                source.failures += 1;
-                Err(SourceFailed)
+            Err(error) => {
+                if source.fails(&error) {
+                    return Err(SourceFailed);
+                }
+                Ok(false)
             }
         }
     }
@@ -400,15 +454,16 @@ impl<R: BufRead> Source for BufSource<R> {
     #[inline(always)]
     fn pass(&mut self, most: usize) -> Result<usize, SourceFailed> {
         let source = &mut self.source;
-        if source.pulls == u64::MAX || source.failures == u64::MAX {
+        if source.is_worn() {
             return Err(SourceFailed);
         }
         let count = match source.reader.fill_buf() {
             Ok(bytes) => most.min(bytes.len()),
-            Err(_) => {
-                source.pulls += 1;
-                source.failures += 1;
-                return Err(SourceFailed);
+            Err(error) => {
+                if source.fails(&error) {
+                    return Err(SourceFailed);
+                }
+                return self.source.pull(&mut [0]);
             }
         };
         if count == 0 {
@@ -468,5 +523,72 @@ mod tests {
             (buffered.source.pulls, buffered.into_inner().len()),
             (1, 8)
         );
+    }
+
+    /// A reader that a signal interrupts each other time.
+    #[derive(Drop)]
+    struct Signalled<'a> {
+        rest: &'a [u8],
+        interrupted: bool,
+    }
+
+    impl<'a> Signalled<'a> {
+        fn check(&mut self) -> io::Result<()> {
+            self.interrupted = !self.interrupted;
+            if self.interrupted {
+                return Err(IoError::from(ErrorKind::Interrupted));
+            }
+            Ok(())
+        }
+    }
+
+    impl<'a> Read for Signalled<'a> {
+        fn read(&mut self, buf: &mut [u8]) -> io::Result<usize> {
+            self.check()?;
+            self.rest.read(buf)
+        }
+    }
+
+    impl<'a> BufRead for Signalled<'a> {
+        fn fill_buf(&mut self) -> io::Result<&[u8]> {
+            self.check()?;
+            Ok(self.rest)
+        }
+
+        fn consume(&mut self, amount: usize) {
+            let count = amount.min(self.rest.len());
+            self.rest = &self.rest[count..];
+        }
+    }
+
+    #[test]
+    fn interrupted_reads(rt: HostRuntime) {
+        let mut into = [0; 2];
+        let mut source = ReadSource::new(Signalled {
+            rest: &[7, 8, 9],
+            interrupted: false,
+        });
+        let answers = [
+            source.pull(&mut into),
+            source.pull(&mut into),
+            source.pull(&mut into),
+        ];
+        assert!(rt; answers == [Ok(2), Ok(1), Ok(0)]);
+        assert!(rt; source.pulls == 3 && source.failures == 0);
+    }
+
+    #[test]
+    fn interrupted_buffers(rt: HostRuntime) {
+        let mut source = BufSource::new(Signalled {
+            rest: &[1, 2, 3, 4, 5, 6, 7, 8, 9, 10],
+            interrupted: false,
+        });
+        assert_eq!(rt; source.at_hand(2), AtHand::Few);
+        assert_eq!(rt; source.pull_word(2), Ok((0x0201, 2)));
+        assert_eq!(rt; source.look(), Ok(false));
+        assert_eq!(rt; source.at_hand(1), AtHand::Word(3));
+        assert_eq!(rt; source.pass(2), Ok(1));
+        assert_eq!(rt; source.word_behind(1), AtHand::Few);
+        assert_eq!(rt; (source.source.pulls, source.source.failures), (3, 0));
     }
 }

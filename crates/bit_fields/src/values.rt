@@ -113,6 +113,12 @@ impl ValueTaker for ValueCount {
     }
 
     #[inline]
+    fn take_bytes(&mut self, bytes: &[u8]) -> Result<(), AllocError> {
+        self.count = self.count.saturating_add(bytes.len() as u64);
+        Ok(())
+    }
+
+    #[inline]
     fn pass(&mut self, count: u64) -> bool {
         self.count = self.count.saturating_add(count);
         true

@@ -5,3 +5,4 @@ pub mod Items
 pub mod Rounds
 pub mod Sequences
 pub mod Parts
+pub mod Readers

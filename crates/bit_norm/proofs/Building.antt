@@ -465,21 +465,6 @@ record_joined text a e code count list a_is count_is e_is =
     ∙ append_assoc text (x ++ (y ++ z)) v
     ∙ ap (λ (s : List Bool). text ++ s) (append_assoc x (y ++ z) v ∙ ap (λ (s : List Bool). x ++ s) (append_assoc y z v))
 
-pub head_parts : (text a b d e : List Bool) (id : ℕ) → a ≡ text ++ bits_of 2 1 → b ≡ a ++ shortest 8 id → d ≡ b ++ shortest 4 2 → e ≡ d ++ padding (length d) → e ≡ text ++ enter_text id (length text)
-head_parts text a b d e id a_is b_is d_is e_is =
-    let x = bits_of 2 1 in
-    let y = shortest 8 id in
-    let z = shortest 4 2 in
-    let all : d ≡ ((text ++ x) ++ y) ++ z = d_is ∙ ap (λ (s : List Bool). s ++ z) (b_is ∙ ap (λ (s : List Bool). s ++ y) a_is) in
-    let place : length d ≡ length text + length x + length y + length z = omega (arith, ap length all, length-append ((text ++ x) ++ y) z, length-append (text ++ x) y, length-append text x) in
-    let v = padding (length text + length x + length y + length z) in
-    e_is
-    ∙ ap (λ (n : ℕ). d ++ padding n) place
-    ∙ ap (λ (s : List Bool). s ++ v) all
-    ∙ append_assoc ((text ++ x) ++ y) z v
-    ∙ append_assoc (text ++ x) y (z ++ v)
-    ∙ append_assoc text x (y ++ (z ++ v))
-
 pub end_parts : (text a b : List Bool) → a ≡ text ++ bits_of 2 0 → b ≡ a ++ padding (length a) → b ≡ text ++ end_text (length text)
 end_parts text a b a_is b_is =
     let x = bits_of 2 0 in

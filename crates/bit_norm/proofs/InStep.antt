@@ -14,13 +14,13 @@ use Rattle.bit_grammar.specs.Steps.{open_after}
 use Rattle.bit_grammar.specs.Machine.{Told}
 use Rattle.bit_fields.specs.Expected.{Expected, HasTaken}
 use Rattle.bit_fields.specs.Packed.{first_apart}
-use Rattle.bit_events.specs.Coming.{Coming, TellsComing, GivesEvent, EndsEvents}
+use Rattle.bit_events.specs.Coming.{Coming, TellsComing, GivesEvent}
 use Rattle.bit_events.specs.MachineView.{record_of}
 use Rattle.bit_events.specs.Gathering.{left_open}
 use Rattle.bit_events.proofs.Folds.{open_behind-push}
 use Rattle.bit_events.specs.Standing as blocks
 use Rattle.bit_events.proofs.Standings.{left_as_many, left_push}
-use Rattle.bit_norm.specs.Entries.{Sign, begins, has_record, ends, over, Entry, signs_in, open_block_with, Seen, Standing, at_item, standing, standing_shown, the_record, apart_at, first_unlike, value_apart, what_of}
+use Rattle.bit_norm.specs.Entries.{Sign, begins, has_record, ends, Entry, signs_in, open_block_with, Seen, Standing, at_item, standing, standing_shown, the_record, apart_at, first_unlike, value_apart, what_of}
 use Rattle.bit_norm.specs.declared.differences.OpenBlock.{OpenBlock}
 use Rattle.bit_norm.specs.declared.differences.ValueDifference.{ValueDifference}
 use Rattle.bit_norm.specs.declared.in_step.Apart.{Apart}
@@ -369,19 +369,6 @@ tally_begun c top outside found = record {
 
 -- ---- one sign is taken
 
--- no event was left
-pub took_end : (stands now : blocks.OpenUnder) (s : Stand) (old mid new : Coming) (sign : Sign) (b : Beside) (p : Apart) → (TellsComing old → TellsComing mid × (told_entries s (blocks.left_of stands old.told.0) ≡ told_entries s (blocks.left_of now mid.told.0))) → EndsEvents mid new
-    → StandsBeside (record { sign = over; bit = s.ended; ended = s.ended }) sign b p → TellsComing old → Took stands s old sign b p now new
-took_end stands now s old mid new sign b p so_far stop beside tells =
-    let at = so_far tells in
-    let none : mid.told.0 ≡ [] = ap (λ (t : Told). t.0) (stop.told at.0).0 in
-    record {
-      tells = stop.pays.tells at.0;
-      found = record { sign = over; bit = s.ended; ended = s.ended };
-      is = at.1 ∙ ap (λ (events : List Event). told_entries s (blocks.left_of now events)) none;
-      beside = beside;
-    }
-
 pub departed : (old : Compared) (coming : Coming) (now : blocks.OpenUnder) (sign : Sign) (bit ended : ℕ) (f : Found) (p : Apart) → f.first ≡ p.first → f.value ≡ p.value → old.found ≡ None → (TellsComing old.first → Took old.first_blocks (here old old.first_ended) old.first sign Other p now coming)
     → (let s : Standing = record { bit = bit; what = what_of sign } in (standing_shown f.second ≡ s))
     → TakesSign old sign bit ended (record { first = coming; first_blocks = now; second_blocks = old.second_blocks; within = old.within; items = old.items; first_ended = old.first_ended; second_ended = old.second_ended; found = Some f })
@@ -439,9 +426,6 @@ end_signed old after kept some = record {
 pub gave : (old new : Coming) (event : Event) (list : List ℕ) → GivesEvent old event (record new { held = list }) → Gave old event new
 gave old new event list g = record { tells = g.pays.tells; told = g.told; forward = g.forward; below = g.below }
 
-pub gave_all : (old new : Coming) (event : Event) → GivesEvent old event new → Gave old event new
-gave_all old new event g = gave old new event new.held g
-
 -- no event says that the stream ends
 item_of : (ended : ℕ) (event : Event) (x : Said) (entries : List Entry) → said_of ended event ≡ Some x → behind_sign x.sign entries ≡ entries
 item_of ended (enters o) x entries e = (let is : Said = record { sign = begins o.id; bit = o.first; ended = o.body } in let same : is ≡ x = cc in subst (λ (y : Said). behind_sign y.sign entries ≡ entries) same refl)
@@ -471,13 +455,6 @@ stepped stands now s old new event sign (weighed.Stands beside) p g is says = λ
       ∙ ap (λ (l : List Entry). entry_at s says.found ∷ l) (sym (left_item stands s.ended event says.found (told_entries (stand_behind s says.found.sign says.found.ended) (blocks.left_of now new.told.0)) says.is));
   beside = says.beside;
 }
-
--- the same after events that say nothing
-pub took_later : (stands mid now : blocks.OpenUnder) (s : Stand) (old between new : Coming) (sign : Sign) (b : Beside) (p : Apart) → (TellsComing old → TellsComing between × (told_entries s (blocks.left_of stands old.told.0) ≡ told_entries s (blocks.left_of mid between.told.0))) → (TellsComing between → Took mid s between sign b p now new) → TellsComing old → Took stands s old sign b p now new
-took_later stands mid now s old between new sign b p so_far took tells =
-    let at = so_far tells in
-    let t = took at.0 in
-    record { tells = t.tells; found = t.found; is = at.1 ∙ t.is; beside = t.beside }
 
 -- ---- a record of the first that has the first values of another one
 

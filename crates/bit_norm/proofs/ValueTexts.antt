@@ -14,9 +14,6 @@ pub values_text-append : (a b : List ℕ) → values_bits (a ++ b) ≡ values_bi
 values_text-append [] b = refl
 values_text-append (v ∷ a) b = ap (λ (s : List Bool). shortest 6 v ++ s) (values_text-append a b) ∙ sym (append_assoc (shortest 6 v) (values_bits a) (values_bits b))
 
-pub values_text-push : (a : List ℕ) (v : ℕ) → values_bits (a ++ v ∷ []) ≡ values_bits a ++ shortest 6 v
-values_text-push a v = values_text-append a (v ∷ []) ∙ ap (λ (s : List Bool). values_bits a ++ s) (append-nil (shortest 6 v))
-
 -- more values have a longer text
 pub longer_text : (a b : List ℕ) (limit : ℕ) → limit < length (values_bits a) / 8 → limit < length (values_bits (a ++ b)) / 8
 longer_text a b limit long = omega (arith, long, ap length (values_text-append a b) ∙ length-append (values_bits a) (values_bits b))
@@ -52,14 +49,6 @@ values_few [] = omega arith
 values_few (v ∷ vs) = omega (arith, values_few vs, length-append (shortest 6 v) (values_bits vs), short_length 6 v (omega arith), short_few 6 v (omega arith) (omega arith))
 
 -- ---- what was taken
-
-pub none_left : {A : Type 0} (xs : List A) → length xs ≤ 0 → xs ≡ []
-none_left [] le = refl
-none_left (x ∷ xs) le = absurd (omega arith)
-
--- no value has become text
-pub all_held : (t : FormValues) (values : List ℕ) → t.before ≡ 0 → HasTaken t values → values ≡ take t.held t.numbers
-all_held t values none took = took.whole ∙ ap (λ (s : List ℕ). s ++ take t.held t.numbers) (none_left took.front (omega (arith, none, took.count)))
 
 -- all values have become text
 pub all_text : (t : FormValues) (values : List ℕ) → t.held ≡ 0 → (took : HasTaken t values) → values ≡ took.front

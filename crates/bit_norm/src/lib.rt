@@ -1,6 +1,16 @@
-//! Normal forms, and comparing. Begin with `normalise`, which gives a sink the normal form of an input, `same`, which says whether
-//! two inputs hold the same, and `first_difference`, which says where they first differ; `write_normal` writes the normal form of a
-//! `Document`.
+//! Normal forms, and comparison. Begin with `normalise`, which writes the normal form of an input to a sink, `same`, which
+//! returns whether two inputs have the same tree, and `first_difference`, which returns where they first differ. `write_normal`
+//! writes the normal form of a `Document`.
+//!
+//! `normalise` is a fold into `FormBuilder`: the bits of the form so far and, for each open block, the word for its length.
+//! Closed by whatever events follow, these bits are the normal form of the tree of all events. `FormValues` holds few values of a
+//! record as numbers and many as bits. Nothing is written before the input is accepted.
+//!
+//! `first_difference` reads the first input alone and keeps its bytes, and then reads the second in step with them. The trees are
+//! compared as sequences of entries, each with a place, a sign (a block's id, a record's code and values, an end) and a bit.
+//! `Comparer` gathers the second's events and holds each sign against the next entry of the first; until the first difference
+//! both are at the same place, so one `Walk` serves both. A record of the first is read into `ExpectedValues` of the second's
+//! record, so its values are not held. `same` is that there is no first difference.
 #![tactic(auto)]
 
 mod comparing;

@@ -1,5 +1,5 @@
 -- What is counted of an accepted input is exact: no number reaches 2 ^ 64.
-use Rattle.std.proofs.Common.{◌≡◌, ℕ, ◌+◌, ◌*◌, ◌^◌, ◌<◌, ◌≤◌, List, [], ◌∷◌, length, map, refl, ap, ◌∙◌, arith}
+use Rattle.std.proofs.Common.{◌≡◌, ℕ, ◌+◌, ◌*◌, ◌^◌, ◌<◌, ◌≤◌, List, [], ◌∷◌, length, map, refl, ap, arith}
 use Rattle.std.specs.Prelude.{sum_by}
 use Rattle.std.specs.List.{AllByRecursion}
 use Rattle.std.proofs.lemmas.List.Sums.{sum_by-cons}
@@ -77,7 +77,3 @@ numbers_fit limits bytes m capped h =
     let sum : sum_by (λ (row : BlockTally). row.bits) (count_events events no_counts).rows ≡ bits_of_rows (tally_of m) = ap (sum_by (λ (row : BlockTally). row.bits)) (rows_by_events limits bytes m h) in
     rows_fit (0 + length events) (0 + all_values_told events) (0 + all_bits_told events) (omega (arith, t.count, size)) (omega (arith, values)) (omega (arith, t.records, size)) (count_events events no_counts).rows within
     (omega (arith, sum, bits_add_up limits bytes m h, stream_fits limits bytes m capped h))
-
--- what is counted, each number cut at 64 bits, is the analysis
-pub rows_exact : (limits : Limits) (bytes : List ℕ) (m : Marked) → Capped limits → SpellsInput limits bytes m → cut_rows (count_events (flat m.blocks []) no_counts).rows ≡ (tally_of m).rows
-rows_exact limits bytes m capped h = rows_stay _ (numbers_fit limits bytes m capped h) ∙ rows_by_events limits bytes m h

@@ -37,9 +37,6 @@ still_there [] k q i h = absurd cc
 still_there (y ∷ keys) k q zero h = h
 still_there (y ∷ keys) k q (suc i) h = still_there keys k q i h
 
-pub not_indexed : IsIndexed [] []
-not_indexed = record { found = λ k i h. absurd cc; absent = λ k h. tt; distinct = tt }
-
 pub indexed_push : (keys : List ℕ) (old new : List (ℕ × ℕ)) (k : ℕ) → IsIndexed keys old → IsAbsent k keys → ((q : ℕ) → place_in new q ≡ cond (is_at (nat_cmp k) q) (Some (length keys)) (place_in old q)) → IsIndexed (keys ++ k ∷ []) new
 indexed_push keys old new k ix none puts = record { found = found; absent = absent; distinct = distinct_push keys k ix.distinct none }
   where

@@ -11,12 +11,12 @@ use Rattle.bit_grammar.specs.Texts.{event_text, events_text}
 use Rattle.bit_grammar.proofs.Events.Nesting.{open_within}
 use Rattle.bit_events.specs.Standing.{OpenUnder, leaves as leaves_event, stands_after, left_of}
 use Rattle.bit_events.proofs.Standings.{kept_count, counted_few}
-use Rattle.bit_events.specs.Coming.{Coming, TellsComing, GivesEvent, EndsEvents}
+use Rattle.bit_events.specs.Coming.{Coming, TellsComing, GivesEvent}
 use Rattle.bit_fields.specs.declared.fault.Fault.{Fault}
 use Rattle.bit_scan.specs.Lines.{listing_head}
 use Rattle.bit_scan.specs.Listing.{left_text, PrintsOne}
 use Rattle.bit_scan.specs.Printing.{Printing, Printed, Prints}
-use Rattle.bit_scan.proofs.Prints.{Goes, goes_starts, goes_as, goes_on, goes_wrong, goes_last, goes_ends}
+use Rattle.bit_scan.proofs.Prints.{Goes, goes_starts, goes_as, goes_on, goes_wrong, goes_last}
 
 -- ---- events
 
@@ -82,17 +82,6 @@ pub record Listing (text : List ℕ) (first : Printing) (around : ℕ) (stood : 
   pub few : around ≤ 255
   pub goes : Goes text first (left_text around stood now.told.0) p
 
-pub listing_begins : (start : Coming) (stood : OpenUnder) (p : Printing) → TellsComing start → start.depth ≡ 0 → start.deepest ≤ 255 → stood.ids ≡ [] → Listing (left_text 0 stood start.told.0) p 0 stood start p
-listing_begins start stood p tells outside deepest none = record {
-  tells = tells;
-  deepest = deepest;
-  inside = omega (arith, outside);
-  ids = ap length none ∙ sym outside;
-  around_is = ap (kept_count stood.setting) (sym none);
-  few = omega arith;
-  goes = goes_starts (left_text 0 stood start.told.0) p;
-}
-
 pub listing_goes_on : (text : List ℕ) (first : Printing) (around next : ℕ) (stood stands : OpenUnder) (old new : Coming) (p q : Printing) → Listing text first around stood old p → PrintsOne around stood old p next stands new q → Listing text first next stands new q
 listing_goes_on text first around next stood stands old new p q l one =
     let event = one.event in
@@ -116,11 +105,6 @@ listing_goes_on text first around next stood stands old new p q l one =
       few = omega (arith, around_is, counted_few stands.setting stands.ids, ids, inside, deepest);
       goes = goes_on text first (line_left stood around event) (left_text next stands new.told.0) p q (goes_as text first (left_text around stood old.told.0) _ p whole l.goes) one.printed;
     }
-
-pub listing_is_whole : (text : List ℕ) (first : Printing) (around : ℕ) (stood : OpenUnder) (old new : Coming) (p q : Printing) → Listing text first around stood old p → EndsEvents old new × (q ≡ p) → Printed text first q
-listing_is_whole text first around stood old new p q l ends =
-    let none : left_text around stood old.told.0 ≡ [] = ap (λ (t : Told). left_text around stood t.0) (ends.0.told l.tells).0 in
-    rw ends.1 (goes_ends text first p (goes_as text first (left_text around stood old.told.0) [] p none l.goes))
 
 pub listing_stops : (text : List ℕ) (first : Printing) (around : ℕ) (stood : OpenUnder) (old : Coming) (p q : Printing) (fault : Fault) → Listing text first around stood old p → (TellsComing old → Prints (left_text around stood old.told.0) p (Err fault) q) → Prints text first (Err fault) q
 listing_stops text first around stood old p q fault l stops = goes_last text first (left_text around stood old.told.0) p (Err fault) q l.goes (stops l.tells)

@@ -12,19 +12,6 @@ use Rattle.bit_scan.specs.Written.{TookText, TookFront, HasFailed, WritesText}
 
 -- ---- one call
 
--- all that was held was put
-pub put_held : (held : List ℕ) (o new : Outgoing) → TookText held o new → Printed [] (record { outgoing = o; held = held }) (record { outgoing = new; held = [] })
-put_held held o new t = record { part = held; split = refl; bytes = t.bytes; failures = t.failures }
-
--- or not all
-pub not_put : (held left : List ℕ) (o new : Outgoing) (fault : Fault) → WritesText held o (Err fault) new → Prints [] (record { outgoing = o; held = held }) (Err fault) (record { outgoing = new; held = left })
-not_put held left o new Write w = (record { front = w.0.front; rest = w.0.rest; split = append-nil held ∙ w.0.split; bytes = w.0.bytes }, w.1)
-not_put held left o new Memory w = (record { front = w.0.front; rest = w.0.rest; split = append-nil held ∙ w.0.split; bytes = w.0.bytes }, w.1)
-not_put held left o new (Refused reason bit) w = w
-not_put held left o new Read w = w
-not_put held left o new OutputTooLong w = w
-not_put held left o new Failed w = w
-
 -- a text that was held, and then what was held was put or not
 pub settled : (text : List ℕ) (old : Printing) (held : List ℕ) (r : Result (Unit {0}) Fault) (new : Printing) → held ≡ old.held ++ text → Prints [] (record { outgoing = old.outgoing; held = held }) r new → Prints text old r new
 settled text old held (Ok v) new is p = record { part = p.part; split = sym is ∙ sym (append-nil held) ∙ p.split; bytes = p.bytes; failures = p.failures }

@@ -11,7 +11,7 @@ use Rattle.bit_scan.specs.Printing.{Printing, Printed, Prints}
 use Rattle.bit_scan.specs.Rows.{block_tally, block_tallies}
 use Rattle.bit_scan.specs.declared.rows.BlockRow.{BlockRow}
 use Rattle.bit_scan.specs.declared.rows.CodeRow.{CodeRow}
-use Rattle.bit_scan.proofs.Prints.{Goes, goes_starts, goes_as, goes_on, goes_wrong, goes_last, goes_ends}
+use Rattle.bit_scan.proofs.Prints.{Goes, goes_starts, goes_as, goes_on, goes_wrong, goes_last}
 
 -- the first of what is left
 pub drop_first : {A : Type 0} (xs : List A) (i : ℕ) (x : A) → i < length xs → drop i xs ≡ get_or xs i x ∷ drop (i + 1) xs
@@ -23,14 +23,8 @@ drop_first xs i x h = rw add-one (drop-cons xs i x h)
 abbrev pub lines_of_codes : List (ℕ × CodeRow) → List ℕ
 lines_of_codes es = flat_map code_text (code_tallies es)
 
-pub first_code : (es left : List (ℕ × CodeRow)) (w : Printing) → left ≡ es → Goes (lines_of_codes es) w (lines_of_codes left) w
-first_code es left w same = goes_as (lines_of_codes es) w (lines_of_codes es) (lines_of_codes left) w (ap lines_of_codes (sym same)) (goes_starts (lines_of_codes es) w)
-
 pub next_code : (whole : List ℕ) (old now : Printing) (es left : List (ℕ × CodeRow)) (e : ℕ × CodeRow) → es ≡ e ∷ left → Goes whole old (lines_of_codes es) now → Goes whole old (code_text (code_tally e) ++ lines_of_codes left) now
 next_code whole old now es left e is g = goes_as whole old (lines_of_codes es) (code_text (code_tally e) ++ lines_of_codes left) now (ap lines_of_codes is) g
-
-pub last_code : (whole : List ℕ) (old now : Printing) (es : List (ℕ × CodeRow)) → es ≡ [] → Goes whole old (lines_of_codes es) now → Printed whole old now
-last_code whole old now es is g = goes_ends whole old now (goes_as whole old (lines_of_codes es) [] now (ap lines_of_codes is) g)
 
 -- ---- rows
 
@@ -38,14 +32,8 @@ last_code whole old now es is g = goes_ends whole old now (goes_as whole old (li
 abbrev pub lines_of_rows : List (ℕ × BlockRow) → List ℕ
 lines_of_rows es = flat_map row_text (block_tallies es)
 
-pub first_row : (es left : List (ℕ × BlockRow)) (w : Printing) → left ≡ es → Goes (lines_of_rows es) w (lines_of_rows left) w
-first_row es left w same = goes_as (lines_of_rows es) w (lines_of_rows es) (lines_of_rows left) w (ap lines_of_rows (sym same)) (goes_starts (lines_of_rows es) w)
-
 pub next_row : (whole : List ℕ) (old now : Printing) (es left : List (ℕ × BlockRow)) (e : ℕ × BlockRow) → es ≡ e ∷ left → Goes whole old (lines_of_rows es) now → Goes whole old (row_text (block_tally e) ++ lines_of_rows left) now
 next_row whole old now es left e is g = goes_as whole old (lines_of_rows es) (row_text (block_tally e) ++ lines_of_rows left) now (ap lines_of_rows is) g
-
-pub last_row : (whole : List ℕ) (old now : Printing) (es : List (ℕ × BlockRow)) → es ≡ [] → Goes whole old (lines_of_rows es) now → Printed whole old now
-last_row whole old now es is g = goes_ends whole old now (goes_as whole old (lines_of_rows es) [] now (ap lines_of_rows is) g)
 
 -- ---- the whole
 

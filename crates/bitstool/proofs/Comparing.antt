@@ -1,5 +1,5 @@
 -- Comparing the first bytes of an input with the rest.
-use Rattle.std.proofs.Common.{◌≡◌, ◌∙◌, ℕ, ◌+◌, ◌<◌, ◌≤◌, min, List, [], ◌++◌, length, take, drop, Option, Some, None, Ok, Err, refl, sym, ap, subst, inl, inr, arith, codes, length-append, length-take}
+use Rattle.std.proofs.Common.{◌≡◌, ◌∙◌, ℕ, ◌+◌, ◌<◌, ◌≤◌, min, Bool, true, false, List, [], ◌++◌, length, take, drop, Option, Some, None, Ok, Err, refl, sym, ap, subst, inl, inr, arith, codes, length-append, length-take}
 use Rattle.std.specs.Prelude.{IsSome, IfSome, ◌^◌, ◌⊎◌}
 use Rattle.std.proofs.lemmas.List.{append-nil, take_all, take_at, drop_at, take-take}
 use Rattle.std.proofs.Math.ListN.{drop_of_length-le}
@@ -8,9 +8,9 @@ use Rattle.bit_grammar.specs.Setting.{Setting}
 use Rattle.bit_grammar.specs.Under.{under}
 use Rattle.bit_grammar.specs.Bits.{bits_of_bytes}
 use Rattle.bit_grammar.specs.Grammar.{Fault, at}
+use Rattle.bit_grammar.specs.Forest.{Tree}
 use Rattle.bit_grammar.specs.Blocks.{Limits}
-use Rattle.bit_grammar.specs.Input.{BreaksInput, Cut, SpellsInput, front_broken, front_spelled, tree_of}
-use Rattle.bit_grammar.specs.Terms.{Marked}
+use Rattle.bit_grammar.specs.Input.{Accepts, BreaksInput, Cut, SpellsInput, front_broken, front_spelled, tree_of}
 use Rattle.bit_grammar.specs.Normal.{HasTree}
 use Rattle.bit_fields.specs.declared.fault.Fault as code
 use Rattle.bit_fields.specs.declared.fault.Fault.TheVariants as fault
@@ -19,15 +19,17 @@ use Rattle.bit_events.specs.Reading.{Spent, LostInput}
 use Rattle.bit_norm.specs.declared.comparing.Which.{Which}
 use Rattle.bit_norm.specs.declared.comparing.Which.TheVariants.{First, Second}
 use Rattle.bit_norm.specs.declared.differences.Difference.{Difference}
-use Rattle.bit_norm.specs.Entries.{FirstDifference, difference_shown}
+use Rattle.bit_norm.specs.Entries.{Differs, difference_shown}
 use Rattle.bit_norm.specs.Whole.{FindsDifference, Misreads}
 use Rattle.bitstool.specs.declared.outcome.Outcome.{Outcome}
 use Rattle.bitstool.specs.declared.outcome.Outcome.TheVariants.{Done, Different, Refused, RefusedOf, TooLong, Usage, Read, Write, Memory}
 use Rattle.bitstool.specs.declared.task.LeftOut.{LeftOut}
-use Rattle.bitstool.specs.declared.task.Task.TheVariants.{Same, Where}
+use Rattle.bitstool.specs.declared.task.Task.TheVariants.{Same}
+use Rattle.bit_norm.proofs.Apart.{never_same}
+use Rattle.bitstool.specs.Differences.{different_text}
 use Rattle.bitstool.specs.LeftOut.{setting_for}
-use Rattle.bitstool.specs.Performing.{AreFirst, ComparesWhere, ComparesTold, FindsForTask, FindsWhere, Found, IsNoAnswer, Judges, TakesFirst, TakesRest, outcome_found, outcome_in, outcome_of}
-use Rattle.bitstool.specs.Runs.{IsDrained, TakesInput, ToldBytes}
+use Rattle.bitstool.specs.Performing.{AreFirst, ComparesParts, ComparesTold, FindsForTask, Found, TakesFirst, TakesRest, outcome_found, outcome_in, outcome_of}
+use Rattle.bitstool.specs.Runs.{Answers, DifferFirst, IsDrained, TakesInput, ToldBytes}
 use Rattle.bitstool.proofs.Taking.{drained, fails_more, fails_then, spends_more, spends_none, spends_then}
 use Rattle.bitstool.proofs.Known.{if_told}
 
@@ -37,24 +39,43 @@ use Rattle.bitstool.proofs.Known.{if_told}
 known_first : (i : Incoming) (first : List ℕ) (P : List ℕ → Type 0) → i.to_come ≡ Some first → (IsSome i.to_come → P (known_bytes i.to_come)) → P first
 known_first i first P is h = subst (λ (o : ToldBytes). (IsSome o → P (known_bytes o)) → P first) (sym is) (λ of_first. of_first refl) h
 
+-- what was found of bytes and an input
+pub found_both : (setting : Setting) (limits : Limits) (first : List ℕ) (i j now later : Incoming) (found : Option Difference) → i.to_come ≡ Some first → FindsDifference setting limits i j (Ok found) now later → ComparesTold setting limits (Some first) j.to_come (Ok found)
+found_both setting limits first i j now later found is h = go found h.4
+  where
+    spells : SpellsInput limits first h.0
+    spells = known_first i first (λ bytes. SpellsInput limits bytes h.0) is (λ tells. (h.2.1 tells).0)
+
+    some : IsSome i.to_come
+    some = subst (λ (o : ToldBytes). IsSome o) (sym is) refl
+
+    go : (f : Option Difference) → (IsSome i.to_come → IsSome j.to_come → Differs setting h.0 h.1 f) → ComparesTold setting limits (Some first) j.to_come (Ok f)
+    go None same = if_told j.to_come (λ bytes. (tree : Tree) × HasTree setting limits first tree × HasTree setting limits bytes tree) (λ tells. (under setting (tree_of h.0), (h.0, spells, refl), (h.1, (h.3.1 tells).0, sym (same some tells))))
+    go (Some difference) apart = if_told j.to_come (λ bytes. DifferFirst setting limits first bytes (difference_shown difference)) (λ tells. (h.0, h.1, spells, (h.3.1 tells).0, apart some tells))
+
 -- one was not read
-pub found_fault : (setting : Setting) (limits : Limits) (first : List ℕ) (i j now later : Incoming) (which : Which) (why : code.Fault) → i.to_come ≡ Some first → Misreads setting limits which why i j now later → ComparesTold setting limits first j.to_come (outcome_in which limits.bytes why)
-found_fault setting limits first i j now later First (fault.Refused reason bit) is h = known_first i first (λ bytes. BreaksInput limits bytes (at reason bit)) is h.0.1
-found_fault setting limits first i j now later Second (fault.Refused reason bit) is h =
+pub found_fault : (setting : Setting) (limits : Limits) (limit : ℕ) (first : List ℕ) (i j now later : Incoming) (which : Which) (why : code.Fault) → i.to_come ≡ Some first → Misreads setting limits which why i j now later → ComparesTold setting limits (Some first) j.to_come (Err (outcome_in which limit why))
+found_fault setting limits limit first i j now later First (fault.Refused reason bit) is h = known_first i first (λ bytes. BreaksInput limits bytes (at reason bit)) is h.0.1
+found_fault setting limits limit first i j now later Second (fault.Refused reason bit) is h =
     let has : HasTree setting limits first h.0 = known_first i first (λ bytes. HasTree setting limits bytes h.0) is (λ tells. (h.1.1 tells).0.0) in
-    ((has.0, has.1), if_told j.to_come (λ bytes. BreaksInput limits bytes (at reason bit)) h.2.1)
-found_fault setting limits first i j now later First fault.Read is h = tt
-found_fault setting limits first i j now later Second fault.Read is h = tt
-found_fault setting limits first i j now later First fault.Memory is h = tt
-found_fault setting limits first i j now later Second fault.Memory is h = tt
-found_fault setting limits first i j now later First fault.Write is h = absurd h.0
-found_fault setting limits first i j now later Second fault.Write is h = absurd h.2
-found_fault setting limits first i j now later First fault.OutputTooLong is h = absurd h.0
-found_fault setting limits first i j now later Second fault.OutputTooLong is h = absurd h.2
-found_fault setting limits first i j now later First fault.Failed is h = absurd h.0
-found_fault setting limits first i j now later Second fault.Failed is h = absurd h.2
+    if_told j.to_come (λ bytes. Accepts limits first × BreaksInput limits bytes (at reason bit)) (λ tells. ((has.0, has.1), h.2.1 tells))
+found_fault setting limits limit first i j now later First fault.Read is h = tt
+found_fault setting limits limit first i j now later Second fault.Read is h = tt
+found_fault setting limits limit first i j now later First fault.Memory is h = tt
+found_fault setting limits limit first i j now later Second fault.Memory is h = tt
+found_fault setting limits limit first i j now later First fault.Write is h = h.0
+found_fault setting limits limit first i j now later Second fault.Write is h = h.2
+found_fault setting limits limit first i j now later First fault.OutputTooLong is h = h.0
+found_fault setting limits limit first i j now later Second fault.OutputTooLong is h = h.2
+found_fault setting limits limit first i j now later First fault.Failed is h = absurd h.0
+found_fault setting limits limit first i j now later Second fault.Failed is h = absurd h.2
 
 -- ---- what was taken of the second input
+
+-- all, where it was read
+pub rest_taken : (setting : Setting) (limits : Limits) (i j now later : Incoming) (found : Option Difference) → FindsDifference setting limits i j (Ok found) now later → TakesRest limits j later (outcome_found (Ok found))
+rest_taken setting limits i j now later None h = (h.3.0, drained j later h.3.0.tells (λ t. (h.3.1 t).1))
+rest_taken setting limits i j now later (Some difference) h = (h.3.0, drained j later h.3.0.tells (λ t. (h.3.1 t).1))
 
 -- a slice never fails in a comparison
 abbrev pub IsSlice : Incoming → Type 0
@@ -96,8 +117,8 @@ drained_then i mid later most h all = drained i later (λ t. (left (h.tells t)).
         go (Some bytes) told all = rw all (refl, refl)
 
 -- what was taken of both
-pub both_taken : (out : LeftOut) (limits : Limits) (first count : ℕ) (i mid later : Incoming) (outcome : Outcome) → count ≡ min first (limits.bytes + 1) → Spends i count mid 0 → TakesRest limits mid later outcome → TakesInput (Same first limits out) i later outcome
-both_taken out limits first count i mid later outcome counted h rest = go outcome rest
+pub both_taken : (out : LeftOut) (limits : Limits) (first count : ℕ) (explain : Bool) (i mid later : Incoming) (outcome : Outcome) → count ≡ min first (limits.bytes + 1) → Spends i count mid 0 → TakesRest limits mid later outcome → TakesInput (Same first explain limits out) i later outcome
+both_taken out limits first count explain i mid later outcome counted h rest = go outcome rest
   where
     both : Spent limits mid later → Spends i (min first (limits.bytes + 1) + (limits.bytes + 1)) later 0
     both k = subst (λ (n : ℕ). Spends i (n + (limits.bytes + 1)) later 0) counted (spends_then i mid later count (limits.bytes + 1) h k)
@@ -108,7 +129,7 @@ both_taken out limits first count i mid later outcome counted h rest = go outcom
     either : Spent limits mid later ⊎ LostInput limits mid later → Spends i (min first (limits.bytes + 1) + (limits.bytes + 1)) later 0 ⊎ Fails i (min first (limits.bytes + 1) + (limits.bytes + 1)) later 0
     either p = elim p [ inl spends ↦ inl (both spends) | inr fails ↦ inr (lost fails) ]
 
-    go : (o : Outcome) → TakesRest limits mid later o → TakesInput (Same first limits out) i later o
+    go : (o : Outcome) → TakesRest limits mid later o → TakesInput (Same first explain limits out) i later o
     go (RefusedOf First reason bit) r = (subst (λ (n : Incoming). Spends i (min first (limits.bytes + 1)) n 0) (sym r) (subst (λ (n : ℕ). Spends i n mid 0) counted h), tt)
     go (RefusedOf Second reason bit) r = (both r.0, tt)
     go Done r = (both r.0, drained_then i mid later count h r.1)
@@ -161,139 +182,77 @@ taken limits first count input bytes rest counted is few ended =
       ]
     ]
 
--- what was found of the bytes that were taken and of the rest is so of the first bytes and the others
-of_whole : (out : LeftOut) (limits : Limits) (first : ℕ) (input bytes rest : List ℕ) (outcome : Outcome) → bytes ≡ take first input → rest ≡ drop first input → ComparesTold (setting_for out) limits bytes (Some rest) outcome → FindsForTask (Same first limits out) (Some input) outcome
-of_whole out limits first input bytes rest Done is left h = (bits_of_bytes (codes "same\n"), (refl, (h.0, rw (← is) h.1, rw (← left) h.2)))
-of_whole out limits first input bytes rest Different is left h = (bits_of_bytes (codes "different\n"), (refl, (h.0, h.1, rw (← is) h.2, rw (← left) h.3, h.4)))
-of_whole out limits first input bytes rest (RefusedOf First reason bit) is left h = rw (← is) h
-of_whole out limits first input bytes rest (RefusedOf Second reason bit) is left h = (rw (← is) h.0, rw (← left) h.1)
-of_whole out limits first input bytes rest Read is left h = tt
-of_whole out limits first input bytes rest Memory is left h = tt
-of_whole out limits first input bytes rest (Refused reason bit) is left h = absurd h
-of_whole out limits first input bytes rest (TooLong limit) is left h = absurd h
-of_whole out limits first input bytes rest Usage is left h = absurd h
-of_whole out limits first input bytes rest Write is left h = absurd h
-
-of_past : (out : LeftOut) (limits : Limits) (first : ℕ) (input bytes rest : List ℕ) (outcome : Outcome) → limits.bytes < length bytes → limits.bytes < length (take first input) → take limits.bytes bytes ≡ take limits.bytes (take first input)
-    → ComparesTold (setting_for out) limits bytes (Some rest) outcome → FindsForTask (Same first limits out) (Some input) outcome
-of_past out limits first input bytes rest Done long also same h = absurd (omega (arith, h.1.1.fits))
-of_past out limits first input bytes rest Different long also same h = absurd (omega (arith, h.2.1.fits))
-of_past out limits first input bytes rest (RefusedOf First reason bit) long also same h = breaks_alike limits bytes (take first input) (at reason bit) long also same h
-of_past out limits first input bytes rest (RefusedOf Second reason bit) long also same h = absurd (omega (arith, h.0.1.fits))
-of_past out limits first input bytes rest Read long also same h = tt
-of_past out limits first input bytes rest Memory long also same h = tt
-of_past out limits first input bytes rest (Refused reason bit) long also same h = absurd h
-of_past out limits first input bytes rest (TooLong limit) long also same h = absurd h
-of_past out limits first input bytes rest Usage long also same h = absurd h
-of_past out limits first input bytes rest Write long also same h = absurd h
+-- past the limit only the first can have been found to break
+of_past : (setting : Setting) (limits : Limits) (bytes all rest others : List ℕ) (found : Found) → limits.bytes < length bytes → limits.bytes < length all → take limits.bytes bytes ≡ take limits.bytes all
+    → ComparesTold setting limits (Some bytes) (Some rest) found → ComparesTold setting limits (Some all) (Some others) found
+of_past setting limits bytes all rest others (Ok None) long also same h = absurd (omega (arith, h.1.1.fits))
+of_past setting limits bytes all rest others (Ok (Some difference)) long also same h = absurd (omega (arith, h.2.fits))
+of_past setting limits bytes all rest others (Err (RefusedOf First reason bit)) long also same h = breaks_alike limits bytes all (at reason bit) long also same h
+of_past setting limits bytes all rest others (Err (RefusedOf Second reason bit)) long also same h = absurd (omega (arith, h.0.1.fits))
+of_past setting limits bytes all rest others (Err outcome) long also same h = h
 
 -- nothing is said of an input that does not tell its bytes
-of_none : (out : LeftOut) (limits : Limits) (first : ℕ) (bytes : List ℕ) (rest : ToldBytes) (outcome : Outcome) → ComparesTold (setting_for out) limits bytes rest outcome → FindsForTask (Same first limits out) None outcome
-of_none out limits first bytes rest Done h = (bits_of_bytes (codes "same\n"), (refl, tt))
-of_none out limits first bytes rest Different h = (bits_of_bytes (codes "different\n"), (refl, tt))
-of_none out limits first bytes rest (RefusedOf First reason bit) h = tt
-of_none out limits first bytes rest (RefusedOf Second reason bit) h = tt
-of_none out limits first bytes rest Read h = tt
-of_none out limits first bytes rest Memory h = tt
-of_none out limits first bytes rest (Refused reason bit) h = absurd h
-of_none out limits first bytes rest (TooLong limit) h = absurd h
-of_none out limits first bytes rest Usage h = absurd h
-of_none out limits first bytes rest Write h = absurd h
+of_none : (setting : Setting) (limits : Limits) (a b : ToldBytes) (found : Found) → ComparesTold setting limits a b found → ComparesTold setting limits None None found
+of_none setting limits a b (Ok None) h = tt
+of_none setting limits a b (Ok (Some difference)) h = tt
+of_none setting limits a b (Err (RefusedOf First reason bit)) h = tt
+of_none setting limits a b (Err (RefusedOf Second reason bit)) h = tt
+of_none setting limits a b (Err outcome) h = h
 
 -- the comparison of what was taken is that of the first bytes and the others
-pub compared : (out : LeftOut) (limits : Limits) (first count : ℕ) (told left : ToldBytes) (bytes : List ℕ) (outcome : Outcome) → count ≡ min first (limits.bytes + 1)
-    → (IsSome told → AreFirst count told bytes left) → ComparesTold (setting_for out) limits bytes left outcome → FindsForTask (Same first limits out) told outcome
-compared out limits first count None left bytes outcome counted are h = of_none out limits first bytes left outcome h
-compared out limits first count (Some input) None bytes outcome counted are h = absurd (are refl).0
-compared out limits first count (Some input) (Some rest) bytes outcome counted are h = go (taken limits first count input bytes rest counted (are refl).0 (are refl).1 (are refl).2)
+pub compared : (setting : Setting) (limits : Limits) (first count : ℕ) (told left : ToldBytes) (bytes : List ℕ) (found : Found) → count ≡ min first (limits.bytes + 1)
+    → (IsSome told → AreFirst count told bytes left) → ComparesTold setting limits (Some bytes) left found → ComparesParts setting limits first told found
+compared setting limits first count None left bytes found counted are h = of_none setting limits (Some bytes) left found h
+compared setting limits first count (Some input) None bytes found counted are h = absurd (are refl).0
+compared setting limits first count (Some input) (Some rest) bytes found counted are h = go (taken limits first count input bytes rest counted (are refl).0 (are refl).1 (are refl).2)
   where
-    go : Taken limits first input bytes rest → FindsForTask (Same first limits out) (Some input) outcome
-    go (whole is rest_is) = of_whole out limits first input bytes rest outcome is rest_is h
-    go (past long also same) = of_past out limits first input bytes rest outcome long also same h
+    go : Taken limits first input bytes rest → ComparesParts setting limits first (Some input) found
+    go (whole is rest_is) = rw (← is, ← rest_is) h
+    go (past long also same) = of_past setting limits bytes (take first input) rest (drop first input) found long also same h
 
 -- they were not taken
-pub not_taken : (out : LeftOut) (limits : Limits) (first count : ℕ) (i now : Incoming) (why : code.Fault) → count ≡ min first (limits.bytes + 1) → TakesFirst count i (Err why) now → Judges (Same first limits out) i now (outcome_of limits.bytes why)
-not_taken out limits first count i now fault.Read counted h = ((fails_more i now count _ (omega (arith, counted)) h, tt), tt)
-not_taken out limits first count i now fault.Memory counted h = ((inl (spends_more i now count _ (omega (arith, counted)) h), tt), tt)
-not_taken out limits first count i now fault.Write counted h = absurd h
-not_taken out limits first count i now fault.OutputTooLong counted h = absurd h
-not_taken out limits first count i now fault.Failed counted h = absurd h
-not_taken out limits first count i now (fault.Refused reason bit) counted h = absurd h
+module _ (limits : Limits) (first count : ℕ) (i now : Incoming) (counted : count ≡ min first (limits.bytes + 1)) where
+  pub none_taken : (out : LeftOut) (explain : Bool) (why : code.Fault) → TakesFirst count i (Err why) now → TakesInput (Same first explain limits out) i now (outcome_of limits.bytes why)
+  none_taken out explain fault.Read h = (fails_more i now count _ (omega (arith, counted)) h, tt)
+  none_taken out explain fault.Memory h = (inl (spends_more i now count _ (omega (arith, counted)) h), tt)
+  none_taken out explain fault.Write h = absurd h
+  none_taken out explain fault.OutputTooLong h = absurd h
+  none_taken out explain fault.Failed h = absurd h
+  none_taken out explain (fault.Refused reason bit) h = absurd h
 
--- ---- where they first differ
+pub none_compared : (setting : Setting) (limits : Limits) (limit first count : ℕ) (i now : Incoming) (why : code.Fault) → TakesFirst count i (Err why) now → ComparesParts setting limits first i.to_come (Err (outcome_of limit why))
+none_compared setting limits limit first count i now fault.Read h = tt
+none_compared setting limits limit first count i now fault.Memory h = tt
+none_compared setting limits limit first count i now fault.Write h = absurd h
+none_compared setting limits limit first count i now fault.OutputTooLong h = absurd h
+none_compared setting limits limit first count i now fault.Failed h = absurd h
+none_compared setting limits limit first count i now (fault.Refused reason bit) h = absurd h
 
--- what was found of bytes and an input
-pub found_where : (setting : Setting) (limits : Limits) (first : List ℕ) (i j now later : Incoming) (found : Option Difference) → i.to_come ≡ Some first → FindsDifference setting limits i j (Ok found) now later → ComparesWhere setting limits first j.to_come (Ok found)
-found_where setting limits first i j now later None is h =
-    let spells : SpellsInput limits first h.0 = known_first i first (λ bytes. SpellsInput limits bytes h.0) is (λ tells. (h.2.1 tells).0) in
-    let some : IsSome i.to_come = subst (λ (o : ToldBytes). IsSome o) (sym is) refl in
-    (under setting (tree_of h.0), (h.0, spells, refl), if_told j.to_come (λ bytes. HasTree setting limits bytes (under setting (tree_of h.0))) (λ tells. (h.1, (h.3.1 tells).0, sym (h.4 some tells))))
-found_where setting limits first i j now later (Some difference) is h =
-    let spells : SpellsInput limits first h.0 = known_first i first (λ bytes. SpellsInput limits bytes h.0) is (λ tells. (h.2.1 tells).0) in
-    let some : IsSome i.to_come = subst (λ (o : ToldBytes). IsSome o) (sym is) refl in
-    (h.0, spells, if_told j.to_come (λ bytes. (b : Marked) × SpellsInput limits bytes b × FirstDifference setting h.0 b (difference_shown difference)) (λ tells. (h.1, (h.3.1 tells).0, h.4 some tells)))
+-- ---- what is told of that
 
--- and what was taken of the input for that
-pub where_taken : (setting : Setting) (limits : Limits) (i j now later : Incoming) (found : Option Difference) → FindsDifference setting limits i j (Ok found) now later → TakesRest limits j later (outcome_found (Ok found))
-where_taken setting limits i j now later None h = (h.3.0, drained j later h.3.0.tells (λ t. (h.3.1 t).1))
-where_taken setting limits i j now later (Some difference) h = (h.3.0, drained j later h.3.0.tells (λ t. (h.3.1 t).1))
+-- both have one tree
+pub same_answers : (out : LeftOut) (limits : Limits) (first : ℕ) (explain : Bool) (input : ToldBytes) → ComparesParts (setting_for out) limits first input (Ok None) → Answers (Same first explain limits out) input Done (bits_of_bytes (codes "same\n"))
+same_answers out limits first explain None h = (refl, tt)
+same_answers out limits first explain (Some input) h = (refl, h)
 
--- a fault is no answer
-pub no_answer : (limit : ℕ) (why : code.Fault) → IsNoAnswer (outcome_of limit why)
-no_answer limit (fault.Refused reason bit) = (λ e. absurd (cc), λ e. absurd (cc))
-no_answer limit fault.Read = (λ e. absurd (cc), λ e. absurd (cc))
-no_answer limit fault.Write = (λ e. absurd (cc), λ e. absurd (cc))
-no_answer limit fault.Memory = (λ e. absurd (cc), λ e. absurd (cc))
-no_answer limit fault.OutputTooLong = (λ e. absurd (cc), λ e. absurd (cc))
-no_answer limit fault.Failed = (λ e. absurd (cc), λ e. absurd (cc))
+-- they differ
+pub apart_answers : (out : LeftOut) (limits : Limits) (first : ℕ) (explain : Bool) (input : ToldBytes) (difference : Difference) → ComparesParts (setting_for out) limits first input (Ok (Some difference))
+    → Answers (Same first explain limits out) input Different (bits_of_bytes (different_text explain (difference_shown difference)))
+apart_answers out limits first true None difference h = (difference_shown difference, refl, tt)
+apart_answers out limits first true (Some input) difference h = (difference_shown difference, refl, h)
+apart_answers out limits first false None difference h = (refl, tt)
+apart_answers out limits first false (Some input) difference h =
+    let setting = setting_for out in
+    (refl, (under setting (tree_of h.0), under setting (tree_of h.1), (h.0, h.2, refl), (h.1, h.3, refl), never_same setting h.0 h.1 (difference_shown difference) h.4))
 
-pub no_answer_in : (which : Which) (limit : ℕ) (why : code.Fault) → IsNoAnswer (outcome_in which limit why)
-no_answer_in which limit (fault.Refused reason bit) = (λ e. absurd (cc), λ e. absurd (cc))
-no_answer_in which limit fault.Read = (λ e. absurd (cc), λ e. absurd (cc))
-no_answer_in which limit fault.Write = (λ e. absurd (cc), λ e. absurd (cc))
-no_answer_in which limit fault.Memory = (λ e. absurd (cc), λ e. absurd (cc))
-no_answer_in which limit fault.OutputTooLong = (λ e. absurd (cc), λ e. absurd (cc))
-no_answer_in which limit fault.Failed = (λ e. absurd (cc), λ e. absurd (cc))
-
--- as much is taken as for the word alone
-pub takes_where : (out : LeftOut) (limits : Limits) (first : ℕ) (i now : Incoming) (outcome : Outcome) → TakesInput (Same first limits out) i now outcome → TakesInput (Where first limits out) i now outcome
-takes_where out limits first i now Done h = h
-takes_where out limits first i now Different h = h
-takes_where out limits first i now (Refused reason bit) h = h
-takes_where out limits first i now (RefusedOf First reason bit) h = h
-takes_where out limits first i now (RefusedOf Second reason bit) h = h
-takes_where out limits first i now (TooLong limit) h = h
-takes_where out limits first i now Usage h = h
-takes_where out limits first i now Read h = h
-takes_where out limits first i now Write h = h
-takes_where out limits first i now Memory h = h
-
--- and the same found, but where they differ
-pub finds_where : (out : LeftOut) (limits : Limits) (first : ℕ) (input : ToldBytes) (outcome : Outcome) → IsNoAnswer outcome → FindsForTask (Same first limits out) input outcome → FindsForTask (Where first limits out) input outcome
-finds_where out limits first input Done none h = absurd (none.0 refl)
-finds_where out limits first input Different none h = absurd (none.1 refl)
-finds_where out limits first input (Refused reason bit) none h = h
-finds_where out limits first input (RefusedOf First reason bit) none h = h
-finds_where out limits first input (RefusedOf Second reason bit) none h = h
-finds_where out limits first input (TooLong limit) none h = h
-finds_where out limits first input Usage none h = h
-finds_where out limits first input Read none h = h
-finds_where out limits first input Write none h = h
-finds_where out limits first input Memory none h = h
-
--- where the first bytes and the others first differ
-differ_told : (out : LeftOut) (limits : Limits) (first count : ℕ) (told left : ToldBytes) (bytes : List ℕ) (difference : Difference) → count ≡ min first (limits.bytes + 1)
-    → (IsSome told → AreFirst count told bytes left) → ComparesWhere (setting_for out) limits bytes left (Ok (Some difference)) → FindsWhere (Where first limits out) told (Ok (Some difference))
-differ_told out limits first count None left bytes difference counted are h = (difference_shown difference, refl, tt)
-differ_told out limits first count (Some input) None bytes difference counted are h = absurd (are refl).0
-differ_told out limits first count (Some input) (Some rest) bytes difference counted are h = go (taken limits first count input bytes rest counted (are refl).0 (are refl).1 (are refl).2)
-  where
-    go : Taken limits first input bytes rest → FindsWhere (Where first limits out) (Some input) (Ok (Some difference))
-    go (whole is rest_is) = (difference_shown difference, refl, (h.0, h.2.0, rw (← is) h.1, rw (← rest_is) h.2.1, h.2.2))
-    go (past long also same) = absurd (omega (arith, h.1.fits))
-
-pub compared_where : (out : LeftOut) (limits : Limits) (first count : ℕ) (told left : ToldBytes) (bytes : List ℕ) (found : Found) → count ≡ min first (limits.bytes + 1)
-    → (IsSome told → AreFirst count told bytes left) → ComparesWhere (setting_for out) limits bytes left found → FindsWhere (Where first limits out) told found
-compared_where out limits first count told left bytes (Ok None) counted are h = compared out limits first count told left bytes Done counted are h
-compared_where out limits first count told left bytes (Ok (Some difference)) counted are h = differ_told out limits first count told left bytes difference counted are h
-compared_where out limits first count told left bytes (Err outcome) counted are h = (finds_where out limits first told outcome h.1 (compared out limits first count told left bytes outcome counted are h.0), h.1)
+-- one was not read
+pub unread_finds : (out : LeftOut) (limits : Limits) (first : ℕ) (explain : Bool) (input : ToldBytes) (outcome : Outcome) → ComparesParts (setting_for out) limits first input (Err outcome) → FindsForTask (Same first explain limits out) input outcome
+unread_finds out limits first explain None (RefusedOf First reason bit) h = tt
+unread_finds out limits first explain None (RefusedOf Second reason bit) h = tt
+unread_finds out limits first explain (Some input) (RefusedOf First reason bit) h = h
+unread_finds out limits first explain (Some input) (RefusedOf Second reason bit) h = h
+unread_finds out limits first explain input Read h = tt
+unread_finds out limits first explain input Memory h = tt
+unread_finds out limits first explain input (Refused reason bit) h = h
+unread_finds out limits first explain input (TooLong limit) h = h
+unread_finds out limits first explain input outcome h = absurd h

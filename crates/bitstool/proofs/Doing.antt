@@ -1,5 +1,5 @@
 -- What commands do, by their steps.
-use Rattle.std.proofs.Common.{◌≡◌, ◌∙◌, ℕ, ◌+◌, List, Some, None, Result, Ok, Err, ◌<◌, ◌≤◌, codes, refl, sym, subst, inl, inr, arith}
+use Rattle.std.proofs.Common.{◌≡◌, ◌∙◌, ℕ, ◌+◌, Bool, List, Some, None, Result, Ok, Err, ◌<◌, ◌≤◌, codes, refl, sym, subst, inl, inr, arith}
 use Rattle.std.specs.Prelude.{IfSome}
 use Rattle.std.specs.Io.KnownBytes.{Keeps}
 use Rattle.std.proofs.KnownBytes.{Keeps-refl, Keeps-trans}
@@ -33,12 +33,13 @@ use Rattle.bitstool.specs.declared.outcome.Outcome.{Outcome}
 use Rattle.bitstool.specs.declared.outcome.Outcome.TheVariants.{Done, Different, Refused, RefusedOf, TooLong, Usage, Read, Write, Memory}
 use Rattle.bitstool.specs.declared.task.LeftOut.{LeftOut}
 use Rattle.bitstool.specs.declared.task.Task.{Task}
-use Rattle.bitstool.specs.declared.task.Task.TheVariants.{Check, Normal, Same, Where, Analyse, Show, Events}
-use Rattle.bitstool.specs.Performing.{FindsForTask, FindsWhere, Found, Judges, Settles, TellsDifference, TellsFound, TellsLine, outcome_of_writing, outcome_found, outcome_of}
-use Rattle.bitstool.specs.Differences.{difference_text}
+use Rattle.bitstool.specs.declared.task.Task.TheVariants.{Check, Normal, Same, Analyse, Show, Events}
+use Rattle.bitstool.specs.Performing.{ComparesParts, FindsForTask, Found, Judges, Settles, TellsDifference, TellsFound, TellsLine, outcome_of_writing, outcome_found, outcome_of}
+use Rattle.bitstool.specs.Differences.{different_text}
 use Rattle.bitstool.specs.LeftOut.{setting_for}
 use Rattle.bitstool.specs.Runs.{ToldBytes, Answers, Refuses, StopsShort, LacksMemory, LeavesRefused, LeavesUnread, StaysOutput, TakesInput, LeavesOutput, Does, most_taken, PaysForRun}
 use Rattle.bitstool.proofs.Known.{gained, gained_front, gains_front, gains_text, gains_part, gains_kept, front_kept, if_told}
+use Rattle.bitstool.proofs.Comparing.{apart_answers, same_answers, unread_finds}
 use Rattle.bitstool.proofs.Taking.{drained, fails_more, spends_more, takes_done, takes_fault, takes_long, takes_memory, takes_write}
 
 -- an output that is as it was
@@ -51,8 +52,7 @@ stays_same old new same = subst (λ (o : Outgoing). StaysOutput old o) (sym same
 memory_kept : (task : Task) (input old new : ToldBytes) → Keeps old new → LacksMemory task input old new
 memory_kept (Check limits) input old new k = k
 memory_kept (Normal limits out) input old new k = k
-memory_kept (Same first limits out) input old new k = k
-memory_kept (Where first limits out) input old new k = k
+memory_kept (Same first explain limits out) input old new k = k
 memory_kept (Analyse limits) input old new k = inl k
 memory_kept (Show limits out) input old new k = inl k
 memory_kept (Events limits values) input old new k = inl k
@@ -61,8 +61,7 @@ memory_kept (Events limits values) input old new k = inl k
 memory_stops : (task : Task) (input old new : ToldBytes) → LacksMemory task input old new → StopsShort task input old new
 memory_stops (Check limits) input old new k = inl k
 memory_stops (Normal limits out) input old new k = inl k
-memory_stops (Same first limits out) input old new k = inl k
-memory_stops (Where first limits out) input old new k = inl k
+memory_stops (Same first explain limits out) input old new k = inl k
 memory_stops (Analyse limits) input old new h = h
 memory_stops (Show limits out) input old new h = h
 memory_stops (Events limits values) input old new h = h
@@ -75,8 +74,7 @@ stopped_then task input old new last (inr d) keeps = inr (d.0, d.1, d.2, front_k
 memory_then : (task : Task) (input old new last : ToldBytes) → LacksMemory task input old new → Keeps new last → LacksMemory task input old last
 memory_then (Check limits) input old new last k keeps = Keeps-trans old new last k keeps
 memory_then (Normal limits out) input old new last k keeps = Keeps-trans old new last k keeps
-memory_then (Same first limits out) input old new last k keeps = Keeps-trans old new last k keeps
-memory_then (Where first limits out) input old new last k keeps = Keeps-trans old new last k keeps
+memory_then (Same first explain limits out) input old new last k keeps = Keeps-trans old new last k keeps
 memory_then (Analyse limits) input old new last h keeps = stopped_then (Analyse limits) input old new last h keeps
 memory_then (Show limits out) input old new last h keeps = stopped_then (Show limits out) input old new last h keeps
 memory_then (Events limits values) input old new last h keeps = stopped_then (Events limits values) input old new last h keeps
@@ -87,8 +85,7 @@ memory_then (Events limits values) input old new last h keeps = stopped_then (Ev
 unread_kept : (task : Task) (input : ToldBytes) (old new : Outgoing) → StaysOutput old new → LeavesUnread task input old new
 unread_kept (Check limits) input old new stays = stays
 unread_kept (Normal limits out) input old new stays = stays
-unread_kept (Same first limits out) input old new stays = stays
-unread_kept (Where first limits out) input old new stays = stays
+unread_kept (Same first explain limits out) input old new stays = stays
 unread_kept (Analyse limits) input old new stays = stays
 unread_kept (Show limits out) input old new stays = stays
 unread_kept (Events limits values) input old new stays = (inl stays.0, stays.1)
@@ -97,8 +94,7 @@ unread_kept (Events limits values) input old new stays = (inl stays.0, stays.1)
 unread_stops : (task : Task) (input : ToldBytes) (old new : Outgoing) → LeavesUnread task input old new → StopsShort task input old.bytes new.bytes × (new.failures ≡ old.failures)
 unread_stops (Check limits) input old new stays = (inl stays.0, stays.1)
 unread_stops (Normal limits out) input old new stays = (inl stays.0, stays.1)
-unread_stops (Same first limits out) input old new stays = (inl stays.0, stays.1)
-unread_stops (Where first limits out) input old new stays = (inl stays.0, stays.1)
+unread_stops (Same first explain limits out) input old new stays = (inl stays.0, stays.1)
 unread_stops (Analyse limits) input old new stays = (inl stays.0, stays.1)
 unread_stops (Show limits out) input old new stays = (inl stays.0, stays.1)
 unread_stops (Events limits values) input old new h = h
@@ -106,8 +102,7 @@ unread_stops (Events limits values) input old new h = h
 refused_stops : (task : Task) (input : ToldBytes) (reason : Reason) (bit : ℕ) (old new : Outgoing) → LeavesRefused task input reason bit old new → StopsShort task input old.bytes new.bytes × (new.failures ≡ old.failures)
 refused_stops (Check limits) input reason bit old new h = (inl h.1.0, h.1.1)
 refused_stops (Normal limits out) input reason bit old new h = (inl h.1.0, h.1.1)
-refused_stops (Same first limits out) input reason bit old new h = (inl h.1.0, h.1.1)
-refused_stops (Where first limits out) input reason bit old new h = (inl h.1.0, h.1.1)
+refused_stops (Same first explain limits out) input reason bit old new h = (inl h.1.0, h.1.1)
 refused_stops (Analyse limits) input reason bit old new h = (inl h.1.0, h.1.1)
 refused_stops (Show limits out) input reason bit old new h = (inl h.1.0, h.1.1)
 refused_stops (Events limits values) input reason bit old new h = (inr (h.0, Refused reason bit, h.1, gains_front h.0 old.bytes new.bytes h.2), h.3)
@@ -119,8 +114,7 @@ stays_then old new last h k = (Keeps-trans old.bytes new.bytes last.bytes h.0 k.
 unread_then : (task : Task) (input : ToldBytes) (old new last : Outgoing) → LeavesUnread task input old new → StaysOutput new last → LeavesUnread task input old last
 unread_then (Check limits) input old new last h stays = stays_then old new last h stays
 unread_then (Normal limits out) input old new last h stays = stays_then old new last h stays
-unread_then (Same first limits out) input old new last h stays = stays_then old new last h stays
-unread_then (Where first limits out) input old new last h stays = stays_then old new last h stays
+unread_then (Same first explain limits out) input old new last h stays = stays_then old new last h stays
 unread_then (Analyse limits) input old new last h stays = stays_then old new last h stays
 unread_then (Show limits out) input old new last h stays = stays_then old new last h stays
 unread_then (Events limits values) input old new last h stays = (stopped_then (Events limits values) input old.bytes new.bytes last.bytes h.0 stays.0, stays.1 ∙ h.1)
@@ -128,8 +122,7 @@ unread_then (Events limits values) input old new last h stays = (stopped_then (E
 refused_then : (task : Task) (input : ToldBytes) (reason : Reason) (bit : ℕ) (old new last : Outgoing) → LeavesRefused task input reason bit old new → StaysOutput new last → LeavesRefused task input reason bit old last
 refused_then (Check limits) input reason bit old new last h stays = (h.0, stays_then old new last h.1 stays)
 refused_then (Normal limits out) input reason bit old new last h stays = (h.0, stays_then old new last h.1 stays)
-refused_then (Same first limits out) input reason bit old new last h stays = (h.0, stays_then old new last h.1 stays)
-refused_then (Where first limits out) input reason bit old new last h stays = (h.0, stays_then old new last h.1 stays)
+refused_then (Same first explain limits out) input reason bit old new last h stays = (h.0, stays_then old new last h.1 stays)
 refused_then (Analyse limits) input reason bit old new last h stays = (h.0, stays_then old new last h.1 stays)
 refused_then (Show limits out) input reason bit old new last h stays = (h.0, stays_then old new last h.1 stays)
 refused_then (Events limits values) input reason bit old new last h stays = (h.0, h.1, gains_kept h.0 old.bytes new.bytes last.bytes h.2 stays.0, stays.1 ∙ h.3)
@@ -138,11 +131,6 @@ refused_then (Events limits values) input reason bit old new last h stays = (h.0
 
 abbrev Checks : Limits → Incoming → Result (Unit {0}) Fault → Incoming → Type 0
 Checks limits = ReadsWhole (λ bytes done. Accepts limits bytes) limits
-
-pub accepted_here : (limits : Limits) (i now : Incoming) → Checks limits i (Ok tt) now → Judges (Check limits) i now Done
-accepted_here limits i now h =
-    let takes = takes_done {A = Unit {0}} (λ bytes done. Accepts limits bytes) (Check limits) limits (λ o. refl) i now (tt {0}) h in
-    (takes, (bits_of_bytes (codes "accepted\n"), (refl, if_told i.to_come (Accepts limits) (λ tells. (h.1 tells).0))))
 
 check_refuses : (limits : Limits) (i now : Incoming) (why : Fault) → Checks limits i (Err why) now → FindsForTask (Check limits) i.to_come (outcome_of limits.bytes why)
 check_refuses limits i now (fault.Refused reason bit) h = if_told i.to_come (λ bytes. BreaksInput limits bytes (at reason bit)) h.1
@@ -314,19 +302,19 @@ no_line task i now old new outcome not_done not_different stays refuses judged =
     go Write not_done not_different found = absurd found
     go Memory not_done not_different found = (memory_kept task i.to_come old.bytes new.bytes stays.0, stays.1)
 
--- the lines of a difference were told
-difference_told : (out : LeftOut) (limits : Limits) (first : ℕ) (i now : Incoming) (old new : Outgoing) (lines : List ℕ) (after : Outcome) → TakesInput (Where first limits out) i now Different
-    → Answers (Where first limits out) i.to_come Different (bits_of_bytes lines) → TellsDifference lines old after new → Does (Where first limits out) i now old new after
-difference_told out limits first i now old new lines after takes answers (inl told) = different_told (Where first limits out) i now old new lines after refl takes answers told
-difference_told out limits first i now old new lines after takes answers (inr none) = rw (none.0) ((inl takes.0, tt), stays_same old new none.1)
-
 -- what two inputs were found to be was told
-pub told_where : (out : LeftOut) (limits : Limits) (first : ℕ) (i now : Incoming) (old new : Outgoing) (found : Found) (after : Outcome) → TakesInput (Where first limits out) i now (outcome_found found)
-    → FindsWhere (Where first limits out) i.to_come found → TellsFound found old after new → Does (Where first limits out) i now old new after
-told_where out limits first i now old new (Ok None) after takes finds tells = done_told (Where first limits out) i now old new (codes "same\n") after refl takes (refl, finds.1.1) tells
-told_where out limits first i now old new (Ok (Some difference)) after takes finds tells = difference_told out limits first i now old new (difference_text (difference_shown difference)) after takes finds tells
-told_where out limits first i now old new (Err outcome) after takes finds tells =
-    rw (tells.0) (no_line (Where first limits out) i now old new outcome finds.1.0 finds.1.1 (stays_same old new tells.1) (λ reason bit refuses. (refuses, stays_same old new tells.1)) (takes, finds.0))
+module _ (out : LeftOut) (limits : Limits) (first : ℕ) (explain : Bool) (i now : Incoming) (old new : Outgoing) (after : Outcome) where
+  difference_told : (text : List ℕ) → TakesInput (Same first explain limits out) i now Different → Answers (Same first explain limits out) i.to_come Different (bits_of_bytes text) → TellsDifference text old after new → Does (Same first explain limits out) i now old new after
+  difference_told text takes answers (inl told) = different_told (Same first explain limits out) i now old new text after refl takes answers told
+  difference_told text takes answers (inr none) = rw (none.0) ((inl takes.0, tt), stays_same old new none.1)
+
+  pub told_same : (found : Found) → TakesInput (Same first explain limits out) i now (outcome_found found) → ComparesParts (setting_for out) limits first i.to_come found → TellsFound explain found old after new
+      → Does (Same first explain limits out) i now old new after
+  told_same (Ok None) takes compares tells = done_told (Same first explain limits out) i now old new (codes "same\n") after refl takes (same_answers out limits first explain i.to_come compares) tells
+  told_same (Ok (Some difference)) takes compares tells = difference_told (different_text explain (difference_shown difference)) takes (apart_answers out limits first explain i.to_come difference compares) tells
+  told_same (Err outcome) takes compares tells =
+      let never : (other : Outcome) → ComparesParts (setting_for out) limits first i.to_come (Err outcome) → outcome ≡ other → ComparesParts (setting_for out) limits first i.to_come (Err other) = λ other h is. subst (λ (o : Outcome). ComparesParts (setting_for out) limits first i.to_come (Err o)) is h in
+      rw (tells.0) (no_line (Same first explain limits out) i now old new outcome (λ is. never Done compares is) (λ is. never Different compares is) (stays_same old new tells.1) (λ reason bit refuses. (refuses, stays_same old new tells.1)) (takes, unread_finds out limits first explain i.to_come outcome compares))
 
 -- a check never finds two inputs different
 pub never_different : (limits : Limits) (i now : Incoming) (outcome : Outcome) → Judges (Check limits) i now outcome → outcome ≡ Different → ⊥
@@ -341,26 +329,16 @@ most_write (Normal limits out) o = omega arith
 most_write (Analyse limits) o = omega arith
 most_write (Show limits out) o = omega arith
 most_write (Events limits values) o = omega arith
-most_write (Same first limits out) (RefusedOf First reason bit) = omega arith
-most_write (Same first limits out) (RefusedOf Second reason bit) = omega arith
-most_write (Same first limits out) Done = omega arith
-most_write (Same first limits out) Different = omega arith
-most_write (Same first limits out) (Refused reason bit) = omega arith
-most_write (Same first limits out) (TooLong limit) = omega arith
-most_write (Same first limits out) Usage = omega arith
-most_write (Same first limits out) Read = omega arith
-most_write (Same first limits out) Write = omega arith
-most_write (Same first limits out) Memory = omega arith
-most_write (Where first limits out) (RefusedOf First reason bit) = omega arith
-most_write (Where first limits out) (RefusedOf Second reason bit) = omega arith
-most_write (Where first limits out) Done = omega arith
-most_write (Where first limits out) Different = omega arith
-most_write (Where first limits out) (Refused reason bit) = omega arith
-most_write (Where first limits out) (TooLong limit) = omega arith
-most_write (Where first limits out) Usage = omega arith
-most_write (Where first limits out) Read = omega arith
-most_write (Where first limits out) Write = omega arith
-most_write (Where first limits out) Memory = omega arith
+most_write (Same first explain limits out) (RefusedOf First reason bit) = omega arith
+most_write (Same first explain limits out) (RefusedOf Second reason bit) = omega arith
+most_write (Same first explain limits out) Done = omega arith
+most_write (Same first explain limits out) Different = omega arith
+most_write (Same first explain limits out) (Refused reason bit) = omega arith
+most_write (Same first explain limits out) (TooLong limit) = omega arith
+most_write (Same first explain limits out) Usage = omega arith
+most_write (Same first explain limits out) Read = omega arith
+most_write (Same first explain limits out) Write = omega arith
+most_write (Same first explain limits out) Memory = omega arith
 
 -- an output that failed before or after
 failed_then : (old new last : Outgoing) → new.failures ≡ old.failures → HasFailed new last → HasFailed old last

@@ -1,5 +1,5 @@
 -- The lines that say where two inputs first differ, as ASCII codes.
-use Rattle.std.specs.Prelude.{ℕ, List, [], ◌++◌, Option, Some, None, codes, decimal, flat_map}
+use Rattle.std.specs.Prelude.{ℕ, Bool, true, false, List, [], ◌++◌, Option, Some, None, codes, decimal, flat_map}
 use Rattle.bit_grammar.specs.Texts.{magic_text}
 use Rattle.bit_norm.specs.declared.differences.OpenBlock.{OpenBlock}
 use Rattle.bit_norm.specs.declared.differences.ValueDifference.{ValueDifference}
@@ -47,3 +47,8 @@ difference_text seen =
     codes "different\nat " ++ place_text seen.place ++ codes "\n"
     ++ standing_text (codes "first") seen.first ++ first_value seen.value ++ codes "\n"
     ++ standing_text (codes "second") seen.second ++ second_value seen.value ++ codes "\n"
+
+-- what is told of two inputs that differ: a word; or, explained, the lines
+abbrev pub different_text : (explain : Bool) → Seen → List ℕ
+different_text false seen = codes "different\n"
+different_text true seen = difference_text seen

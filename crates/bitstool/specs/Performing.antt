@@ -1,13 +1,11 @@
 -- The steps of carrying out a command.
-use Rattle.std.specs.Prelude.{◌≡◌, ◌≢◌, ◌⊎◌, ⊤, ℕ, ◌<◌, ◌≤◌, Bool, List, length, Option, Some, None, Result, Ok, Err, IfSome, IsSome, codes, ◌+◌}
+use Rattle.std.specs.Prelude.{◌≡◌, ◌⊎◌, ⊤, ℕ, ◌<◌, ◌≤◌, Bool, List, length, Option, Some, None, Result, Ok, Err, IfSome, IsSome, option_map, take, drop, codes, ◌+◌}
 use Rattle.std.specs.Io.KnownBytes.{Consumes, IsAtEnd, Keeps}
 use Rattle.bit_grammar.specs.Setting.{Setting}
 use Rattle.bit_grammar.specs.Grammar.{at}
 use Rattle.bit_grammar.specs.Forest.{Tree}
 use Rattle.bit_grammar.specs.Blocks.{Limits}
-use Rattle.bit_grammar.specs.Bits.{bits_of_bytes}
-use Rattle.bit_grammar.specs.Input.{BreaksInput, SpellsInput, Accepts}
-use Rattle.bit_grammar.specs.Terms.{Marked}
+use Rattle.bit_grammar.specs.Input.{BreaksInput, Accepts}
 use Rattle.bit_grammar.specs.Normal.{HasTree}
 use Rattle.bit_fields.specs.declared.fault.Fault.{Fault}
 use Rattle.bit_fields.specs.declared.fault.Fault.TheVariants as fault
@@ -15,15 +13,15 @@ use Rattle.bit_fields.specs.declared.sink.SinkFailed.{SinkFailed}
 use Rattle.bit_fields.specs.declared.source.SourceFailed.{SourceFailed}
 use Rattle.bit_fields.specs.Devices.{Incoming, Outgoing, Spends, Fails}
 use Rattle.bit_scan.specs.Written.{TookText, TookFront, HasFailed}
-use Rattle.bit_norm.specs.Entries.{FirstDifference, difference_shown}
+use Rattle.bit_norm.specs.Entries.{difference_shown}
 use Rattle.bit_norm.specs.declared.differences.Difference.{Difference}
 use Rattle.bit_norm.specs.declared.comparing.Which.{Which}
 use Rattle.bit_norm.specs.declared.comparing.Which.TheVariants.{First, Second}
 use Rattle.bitstool.specs.declared.outcome.Outcome.{Outcome}
 use Rattle.bitstool.specs.declared.outcome.Outcome.TheVariants.{Done, Different, Refused, RefusedOf, TooLong, Usage, Read, Write, Memory}
 use Rattle.bitstool.specs.declared.task.Task.{Task}
-use Rattle.bitstool.specs.Differences.{difference_text}
-use Rattle.bitstool.specs.Runs.{ToldBytes, Answers, Refuses, EndsAs, TakesInput, StaysOutput, PaysForRun}
+use Rattle.bitstool.specs.Differences.{different_text}
+use Rattle.bitstool.specs.Runs.{ToldBytes, Answers, DifferFirst, Refuses, EndsAs, TakesInput, StaysOutput, PaysForRun}
 
 -- a sink took all of a text; or a front of it, since it failed
 abbrev pub PutsAll : List ℕ → Outgoing → Result (Unit {0}) SinkFailed → Outgoing → Type 0
@@ -89,22 +87,6 @@ FindsForTask task input Memory = ⊤
 abbrev pub Judges : Task → Incoming → Incoming → Outcome → Type 0
 Judges task i now outcome = TakesInput task i now outcome × FindsForTask task i.to_come outcome
 
--- Two inputs were compared, of which the first is known: both have this tree; or they have these two; or one breaks so, the
--- second after the first was accepted; or the source failed, or no memory.
-abbrev pub ComparesTold : Setting → Limits → List ℕ → ToldBytes → Outcome → Type 0
-ComparesTold setting limits first rest Done = (tree : Tree) × HasTree setting limits first tree
-    × IfSome rest (λ bytes. HasTree setting limits bytes tree)
-ComparesTold setting limits first rest Different = (a : Tree) × (b : Tree)
-    × HasTree setting limits first a × IfSome rest (λ bytes. HasTree setting limits bytes b)
-    × (a ≢ b)
-ComparesTold setting limits first rest (RefusedOf First reason bit) = BreaksInput limits first
-    (at reason bit)
-ComparesTold setting limits first rest (RefusedOf Second reason bit) = Accepts limits first
-    × IfSome rest (λ bytes. BreaksInput limits bytes (at reason bit))
-ComparesTold setting limits first rest Read = ⊤
-ComparesTold setting limits first rest Memory = ⊤
-ComparesTold setting limits first rest outcome = ⊥
-
 -- what was taken of the second for that: nothing where the first is refused
 abbrev pub TakesRest : Limits → Incoming → Incoming → Outcome → Type 0
 TakesRest limits j later (RefusedOf First reason bit) = later ≡ j
@@ -121,43 +103,42 @@ outcome_found (Ok None) = Done
 outcome_found (Ok (Some difference)) = Different
 outcome_found (Err outcome) = outcome
 
--- neither of the outcomes of two inputs that were read
-abbrev pub IsNoAnswer : Outcome → Type 0
-IsNoAnswer outcome = (outcome ≢ Done) × (outcome ≢ Different)
+-- Two inputs were compared: both have this tree; or this is where they first differ; or one breaks so, the second after the
+-- first was accepted; or a source failed, or no memory.
+abbrev pub ComparesTold : Setting → Limits → (a b : ToldBytes) → Found → Type 0
+ComparesTold setting limits a b (Ok None) = IfSome a (λ x. IfSome b (λ y. (tree : Tree)
+    × HasTree setting limits x tree × HasTree setting limits y tree))
+ComparesTold setting limits a b (Ok (Some difference)) = IfSome a
+    (λ x. IfSome b (λ y. DifferFirst setting limits x y (difference_shown difference)))
+ComparesTold setting limits a b (Err (RefusedOf First reason bit)) = IfSome a
+    (λ x. BreaksInput limits x (at reason bit))
+ComparesTold setting limits a b (Err (RefusedOf Second reason bit)) = IfSome a
+    (λ x. IfSome b (λ y. Accepts limits x × BreaksInput limits y (at reason bit)))
+ComparesTold setting limits a b (Err Read) = ⊤
+ComparesTold setting limits a b (Err Memory) = ⊤
+ComparesTold setting limits a b (Err outcome) = ⊥
 
--- two inputs, of which the first is known, were compared: this is where they first differ, or nowhere; or as above
-abbrev pub ComparesWhere : Setting → Limits → List ℕ → ToldBytes → Found → Type 0
-ComparesWhere setting limits first rest (Ok None) = ComparesTold setting limits first rest Done
-ComparesWhere setting limits first rest (Ok (Some difference)) = (a : Marked)
-    × SpellsInput limits first a × IfSome rest
-    (λ bytes. (b : Marked) × SpellsInput limits bytes b
-    × FirstDifference setting a b (difference_shown difference))
-ComparesWhere setting limits first rest (Err outcome) = ComparesTold setting limits first rest
-    outcome × IsNoAnswer outcome
-
--- the same of the first bytes of an input, and the others
-abbrev pub FindsWhere : Task → ToldBytes → Found → Type 0
-FindsWhere task input (Ok None) = (bits : List Bool) × Answers task input Done bits
-FindsWhere task input (Ok (Some difference)) = Answers task input Different
-    (bits_of_bytes (difference_text (difference_shown difference)))
-FindsWhere task input (Err outcome) = FindsForTask task input outcome × IsNoAnswer outcome
+-- so were the first bytes of an input, so many, and the others
+abbrev pub ComparesParts : Setting → Limits → ℕ → ToldBytes → Found → Type 0
+ComparesParts setting limits first input = ComparesTold setting limits
+    (option_map (take first) input) (option_map (drop first) input)
 
 -- an answer was written as this line; or the output failed, and took a front of it
 abbrev pub TellsLine : Outcome → List ℕ → Outgoing → Outcome → Outgoing → Type 0
 TellsLine answer line old after new = ((after ≡ answer) × TookText line old new)
     ⊎ ((after ≡ Write) × TookFront line old new × HasFailed old new)
 
--- the lines of a difference were written; or the output failed; or there was no memory for them, and the output is as it was
+-- a difference was told; or the output failed; or there was no memory for the lines, and the output is as it was
 abbrev pub TellsDifference : List ℕ → Outgoing → Outcome → Outgoing → Type 0
 TellsDifference lines old after new = TellsLine Different lines old after new
     ⊎ ((after ≡ Memory) × (new ≡ old))
 
 -- what two inputs were found to be was told
-abbrev pub TellsFound : Found → Outgoing → Outcome → Outgoing → Type 0
-TellsFound (Ok None) old after new = TellsLine Done (codes "same\n") old after new
-TellsFound (Ok (Some difference)) old after new = TellsDifference
-    (difference_text (difference_shown difference)) old after new
-TellsFound (Err outcome) old after new = (after ≡ outcome) × (new ≡ old)
+abbrev pub TellsFound : (explain : Bool) → Found → Outgoing → Outcome → Outgoing → Type 0
+TellsFound explain (Ok None) old after new = TellsLine Done (codes "same\n") old after new
+TellsFound explain (Ok (Some difference)) old after new = TellsDifference
+    (different_text explain (difference_shown difference)) old after new
+TellsFound explain (Err outcome) old after new = (after ≡ outcome) × (new ≡ old)
 
 -- the outcome after a flush: as it was, or the output failed; no byte came or went
 abbrev pub Settles : Outcome → Outgoing → Outcome → Outgoing → Type 0

@@ -1,5 +1,5 @@
 -- What a command does with its input and its output, and what a run of the program does, over any devices.
-use Rattle.std.specs.Prelude.{◌≡◌, ◌≢◌, ◌⊎◌, ⊤, ℕ, ◌+◌, ◌<◌, ◌≤◌, min, Bool, List, [], ◌++◌, take, drop, codes, Option, Some, IfSome, string_bytes}
+use Rattle.std.specs.Prelude.{◌≡◌, ◌≢◌, ◌⊎◌, ⊤, ℕ, ◌+◌, ◌<◌, ◌≤◌, min, Bool, true, false, List, [], ◌++◌, take, drop, codes, Option, Some, IfSome, string_bytes}
 use Rattle.std.specs.Io.KnownBytes.{Keeps}
 use Rattle.bit_grammar.specs.Setting.{Setting}
 use Rattle.bit_grammar.specs.declared.reason.Reason.{Reason}
@@ -25,7 +25,7 @@ use Rattle.bit_norm.specs.declared.comparing.Which.TheVariants.{First, Second}
 use Rattle.bitstool.specs.declared.outcome.Outcome.{Outcome}
 use Rattle.bitstool.specs.declared.outcome.Outcome.TheVariants.{Done, Different, Refused, RefusedOf, TooLong, Usage, Read, Write, Memory}
 use Rattle.bitstool.specs.declared.task.Task.{Task}
-use Rattle.bitstool.specs.declared.task.Task.TheVariants.{Check, Normal, Same, Where, Analyse, Show, Events}
+use Rattle.bitstool.specs.declared.task.Task.TheVariants.{Check, Normal, Same, Analyse, Show, Events}
 use Rattle.bitstool.specs.declared.task.Parsed.{Parsed}
 use Rattle.bitstool.specs.declared.task.Parsed.TheVariants as parsed
 use Rattle.bitstool.specs.Differences.{difference_text}
@@ -48,6 +48,16 @@ DifferFirst setting limits first second seen =
     (a : Marked) × (b : Marked) × SpellsInput limits first a × SpellsInput limits second b
     × FirstDifference setting a b seen
 
+-- The parts of an input before and behind so many bytes have two trees, and a word says so; or, explained, lines say where
+-- they first differ.
+abbrev pub TellsApart : (explain : Bool) → Setting → Limits → ℕ → ToldBytes → List Bool → Type 0
+TellsApart false setting limits first input bits = SpellsText (codes "different\n") bits
+    × IfSome input (λ bytes. (a : Tree) × (b : Tree) × HasTree setting limits (take first bytes) a
+    × HasTree setting limits (drop first bytes) b × (a ≢ b))
+TellsApart true setting limits first input bits = (seen : Seen)
+    × SpellsText (difference_text seen) bits × IfSome input
+    (λ bytes. DifferFirst setting limits (take first bytes) (drop first bytes) seen)
+
 -- What is told of an input ends so, and these are the lines of the magic and the events that are told.
 abbrev pub TellsEvents : Limits → Values → ToldBytes → Ending → List Bool → Type 0
 TellsEvents limits values input end bits = (told : Outlook) × (outlook_end told ≡ end)
@@ -64,19 +74,11 @@ Answers (Check limits) input Done bits = SpellsText (codes "accepted\n") bits
 Answers (Normal limits left) input Done bits = (tree : Tree) × (bits ≡ normal_form tree)
     × (size_of tree ≤ limits.bytes) × IfSome input
     (λ bytes. HasTree (setting_for left) limits bytes tree)
-Answers (Same first limits left) input Done bits = SpellsText (codes "same\n") bits
+Answers (Same first explain limits left) input Done bits = SpellsText (codes "same\n") bits
     × IfSome input (λ bytes. (tree : Tree) × HasTree (setting_for left) limits (take first bytes)
     tree × HasTree (setting_for left) limits (drop first bytes) tree)
-Answers (Same first limits left) input Different bits = SpellsText (codes "different\n") bits
-    × IfSome input (λ bytes. (a : Tree) × (b : Tree)
-    × HasTree (setting_for left) limits (take first bytes) a
-    × HasTree (setting_for left) limits (drop first bytes) b × (a ≢ b))
-Answers (Where first limits left) input Done bits = SpellsText (codes "same\n") bits
-    × IfSome input (λ bytes. (tree : Tree) × HasTree (setting_for left) limits (take first bytes)
-    tree × HasTree (setting_for left) limits (drop first bytes) tree)
-Answers (Where first limits left) input Different bits = (seen : Seen)
-    × SpellsText (difference_text seen) bits × IfSome input
-    (λ bytes. DifferFirst (setting_for left) limits (take first bytes) (drop first bytes) seen)
+Answers (Same first explain limits left) input Different bits = TellsApart explain
+    (setting_for left) limits first input bits
 Answers (Analyse limits) input Done bits = (tally : Tally) × SpellsText (report_of tally) bits
     × IfSome input (λ bytes. HasTally limits bytes tally)
 Answers (Show limits left) input Done bits = (tree : Tree) × SpellsText (listing_of tree) bits
@@ -96,14 +98,9 @@ Refuses (Normal limits left) input (Refused reason bit) = IfSome input
 Refuses (Normal limits left) input (TooLong limit) = (limit ≡ limits.bytes)
     × IfSome input (λ bytes. (tree : Tree) × HasTree (setting_for left) limits bytes tree
     × (limits.bytes < size_of tree))
-Refuses (Same first limits left) input (RefusedOf First reason bit) = IfSome input
+Refuses (Same first explain limits left) input (RefusedOf First reason bit) = IfSome input
     (λ bytes. BreaksInput limits (take first bytes) (at reason bit))
-Refuses (Same first limits left) input (RefusedOf Second reason bit) = IfSome input
-    (λ bytes. Accepts limits (take first bytes)
-    × BreaksInput limits (drop first bytes) (at reason bit))
-Refuses (Where first limits left) input (RefusedOf First reason bit) = IfSome input
-    (λ bytes. BreaksInput limits (take first bytes) (at reason bit))
-Refuses (Where first limits left) input (RefusedOf Second reason bit) = IfSome input
+Refuses (Same first explain limits left) input (RefusedOf Second reason bit) = IfSome input
     (λ bytes. Accepts limits (take first bytes)
     × BreaksInput limits (drop first bytes) (at reason bit))
 Refuses (Analyse limits) input (Refused reason bit) = IfSome input
@@ -119,10 +116,8 @@ Refuses task input outcome = ⊥
 abbrev pub most_taken : Task → Outcome → ℕ
 most_taken (Check limits) outcome = limits.bytes + 1
 most_taken (Normal limits left) outcome = limits.bytes + 1
-most_taken (Same first limits left) (RefusedOf First reason bit) = min first (limits.bytes + 1)
-most_taken (Same first limits left) outcome = min first (limits.bytes + 1) + (limits.bytes + 1)
-most_taken (Where first limits left) (RefusedOf First reason bit) = min first (limits.bytes + 1)
-most_taken (Where first limits left) outcome = min first (limits.bytes + 1) + (limits.bytes + 1)
+most_taken (Same first explain limits left) (RefusedOf First reason bit) = min first (limits.bytes + 1)
+most_taken (Same first explain limits left) outcome = min first (limits.bytes + 1) + (limits.bytes + 1)
 most_taken (Analyse limits) outcome = limits.bytes + 1
 most_taken (Show limits left) outcome = limits.bytes + 1
 most_taken (Events limits values) outcome = limits.bytes + 1

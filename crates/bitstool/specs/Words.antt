@@ -1,7 +1,7 @@
 -- What the words of a command line ask for: the options that the program tells `clap` of, and how a task is read from what
 -- `clap` finds. The words `App`, `Rule`, `Shape`, `subcommand_of` and `fault_of` are clap's own: what a command is, and what a
 -- parse of words finds or why it fails.
-use Rattle.std.specs.Prelude.{◌≡◌, ◌⊎◌, ⊤, ℕ, ◌≤◌, List, [], ◌∷◌, ◌++◌, true, Option, Some, None, unwrap_or, codes, string_bytes}
+use Rattle.std.specs.Prelude.{◌≡◌, ◌⊎◌, ◌↔◌, ⊤, ℕ, ◌≤◌, Bool, IsTrue, List, [], ◌∷◌, ◌++◌, true, Option, Some, None, IfSome, unwrap_or, codes, string_bytes}
 use Rattle.clap.specs.Words.{App, Row, Rule, Text, all_of, new_app, new_rule, one_of, subcommand_of, with_rule, with_subcommand}
 use Rattle.clap.specs.Kinds.{Kinds, IsAmong}
 use Rattle.clap.specs.Faults.{fault_of}
@@ -15,11 +15,12 @@ use Rattle.bit_grammar.specs.declared.shapes.Shapes.TheVariants.{AtDefinition, A
 use Rattle.bit_grammar.specs.declared.values.Values.{Values}
 use Rattle.bit_grammar.specs.declared.values.Values.TheVariants as values
 use Rattle.bit_grammar.specs.Blocks.{Limits}
+use Rattle.bit_grammar.specs.Normal.{most_bytes, most_depth, most_values}
 use Rattle.bitstool.specs.declared.names.Unnamed.{Unnamed}
 use Rattle.bitstool.specs.declared.names.Unnamed.TheVariants.{Block, Record}
 use Rattle.bitstool.specs.declared.task.LeftOut.{LeftOut}
 use Rattle.bitstool.specs.declared.task.Task.{Task}
-use Rattle.bitstool.specs.declared.task.Task.TheVariants.{Check, Normal, Same, Where, Analyse, Show, Events}
+use Rattle.bitstool.specs.declared.task.Task.TheVariants.{Check, Normal, Same, Analyse, Show, Events}
 use Rattle.bitstool.specs.declared.task.Parsed.{Parsed}
 use Rattle.bitstool.specs.declared.task.Parsed.TheVariants as parsed
 use Rattle.bitstool.specs.Names.{IsNumeralOf, IsUnnamed, NameEach, NamesBlock, NamesRecord}
@@ -36,13 +37,13 @@ abbrev pub limit_rule : (name usual : Text) → (most : ℕ) → Rule
 limit_rule name usual most = record (number_rule name most) { defaults = usual ∷ [] }
 
 abbrev pub bytes_rule : Rule
-bytes_rule = limit_rule (codes "bytes") (codes "1073741824") 17179869180
+bytes_rule = limit_rule (codes "bytes") (codes "1073741824") most_bytes
 
 abbrev pub depth_rule : Rule
-depth_rule = limit_rule (codes "depth") (codes "64") 255
+depth_rule = limit_rule (codes "depth") (codes "64") most_depth
 
 abbrev pub values_rule : Rule
-values_rule = limit_rule (codes "values") (codes "134217728") 4294967295
+values_rule = limit_rule (codes "values") (codes "134217728") most_values
 
 -- an option with a text, which may be given again
 abbrev pub name_rule : (name : Text) → Rule
@@ -54,7 +55,7 @@ flag_rule name = record (new_rule name) { long = Some name; action = Some SetTru
 
 -- an option with a number that has to be given
 abbrev pub first_rule : Rule
-first_rule = record (number_rule (codes "first") 17179869180) { required = true }
+first_rule = record (number_rule (codes "first") most_bytes) { required = true }
 
 -- ---- the commands
 
@@ -94,14 +95,11 @@ for_all_commands = record {
   subs = [];
 }
 
--- with the commands that judge, write and compare
-abbrev pub three : App
-three = with_subcommand (with_subcommand (with_subcommand for_all_commands
-    (with_limits (codes "check")).top) (dropping (codes "normal")).top) comparing.top
-
--- the whole command line, with those that tell what an input holds
+-- the whole command line
 abbrev pub bitstool : App
-bitstool = with_subcommand (with_subcommand (with_subcommand three (with_limits (codes "analyse")).top)
+bitstool = with_subcommand (with_subcommand (with_subcommand (with_subcommand (with_subcommand
+    (with_subcommand for_all_commands (with_limits (codes "check")).top)
+    (dropping (codes "normal")).top) comparing.top) (with_limits (codes "analyse")).top)
     (leaving (codes "show")).top) telling.top
 
 -- ---- what was found
@@ -154,11 +152,14 @@ HasValues rows values.LeftOut = IsGiven (codes "no-values") rows
 abbrev pub IsNormal : Limits → List Row → Task → Type 0
 IsNormal limits rows task = (left : LeftOut) × (task ≡ Normal limits left) × HasLeftOut rows left
 
--- a comparison of so many first bytes with the others, which says where they differ exactly where that flag was given
+-- where two inputs differ is told exactly where the flag was given
+abbrev pub HasExplain : List Row → Bool → Type 0
+HasExplain rows explain = IsTrue explain ↔ IsGiven (codes "where") rows
+
+-- a comparison of so many first bytes with the others
 abbrev pub IsSame : ℕ → Limits → List Row → Task → Type 0
-IsSame first limits rows task = (left : LeftOut) × HasLeftOut rows left
-    × ((IsGiven (codes "where") rows × (task ≡ Where first limits left))
-    ⊎ (¬ (IsGiven (codes "where") rows) × (task ≡ Same first limits left)))
+IsSame first limits rows task = (left : LeftOut) × (explain : Bool)
+    × (task ≡ Same first explain limits left) × HasLeftOut rows left × HasExplain rows explain
 
 abbrev pub IsShow : Limits → List Row → Task → Type 0
 IsShow limits rows task = (left : LeftOut) × (task ≡ Show limits left) × HasLeftOut rows left
@@ -168,12 +169,9 @@ abbrev pub Asks : Text → List Row → Task → Type 0
 Asks name rows (Check limits) = (name ≡ codes "check") × HasLimits rows limits
 Asks name rows (Normal limits left) = (name ≡ codes "normal") × HasLimits rows limits
     × HasLeftOut rows left
-Asks name rows (Same first limits left) = (name ≡ codes "same")
+Asks name rows (Same first explain limits left) = (name ≡ codes "same")
     × HasNumber (codes "first") rows first × HasLimits rows limits × HasLeftOut rows left
-    × ¬ (IsGiven (codes "where") rows)
-Asks name rows (Where first limits left) = (name ≡ codes "same")
-    × HasNumber (codes "first") rows first × HasLimits rows limits × HasLeftOut rows left
-    × IsGiven (codes "where") rows
+    × HasExplain rows explain
 Asks name rows (Analyse limits) = (name ≡ codes "analyse") × HasLimits rows limits
 Asks name rows (Show limits left) = (name ≡ codes "show") × HasLimits rows limits
     × HasLeftOut rows left
@@ -190,14 +188,14 @@ HasWithin id most rows = (n : ℕ) × HasNumber id rows n × (n ≤ most)
 
 -- there is a number for each limit
 abbrev pub HasAllLimits : List Row → Type 0
-HasAllLimits rows = HasWithin (codes "bytes") 17179869180 rows × HasWithin (codes "depth") 255 rows
-    × HasWithin (codes "values") 4294967295 rows
+HasAllLimits rows = HasWithin (codes "bytes") most_bytes rows × HasWithin (codes "depth") most_depth rows
+    × HasWithin (codes "values") most_values rows
 
 -- a command of this name, with what was found for its options, has all that it needs
 pub data IsComplete (rows : List Row) : Text → Type 0 where
   checks : HasAllLimits rows → IsComplete rows (codes "check")
   normalises : HasAllLimits rows → IsComplete rows (codes "normal")
-  compares : HasAllLimits rows → HasWithin (codes "first") 17179869180 rows
+  compares : HasAllLimits rows → HasWithin (codes "first") most_bytes rows
       → IsComplete rows (codes "same")
   analyses : HasAllLimits rows → IsComplete rows (codes "analyse")
   lists : HasAllLimits rows → IsComplete rows (codes "show")
@@ -261,11 +259,24 @@ MisnamesIn words why = (faults_of words ≡ []) × MisnamedIn (named_by words) w
 abbrev pub GivesNoTask : List Text → ErrorKind → Type 0
 GivesNoTask words kind = (kind ≡ OutOfMemory) ⊎ IsAmong kind (faults_of words)
 
+-- the text ends its last line
+abbrev pub EndsLine : Text → Type 0
+EndsLine text = (front : Text) × (text ≡ front ++ 10 ∷ [])
+
+-- The text is what is displayed, where that is known, with the tip behind it, to the end of a line.
+abbrev pub Shows : Option Text → (tip text : Text) → Type 0
+Shows output tip text = EndsLine text × ((displayed : Text) × IfSome output (λ bytes. displayed ≡ bytes)
+    × ((text ≡ displayed ++ tip) ⊎ (text ≡ (displayed ++ tip) ++ 10 ∷ [])))
+
+-- the text of a usage fault
+abbrev pub IsFaultText : Text → Type 0
+IsFaultText text = ((rest : Text) × (text ≡ codes "error: " ++ rest)) × EndsLine text
+
 -- where the text of an error belongs
 abbrev pub ShowsError : ErrorKind → Parsed → Type 0
 ShowsError kind (parsed.Task task) = ⊥
-ShowsError kind (parsed.Help text) = IsHelp kind
-ShowsError kind (parsed.Usage text) = IsHelp kind → ⊥
+ShowsError kind (parsed.Help text) = IsHelp kind × EndsLine (string_bytes text)
+ShowsError kind (parsed.Usage text) = (IsHelp kind → ⊥) × IsFaultText (string_bytes text)
 ShowsError kind parsed.Memory = ⊥
 
 -- What is made of the words: the task that they mean, where clap finds no fault with them; help, where they ask for it; a usage
@@ -273,8 +284,9 @@ ShowsError kind parsed.Memory = ⊥
 -- was no memory to read them.
 abbrev pub Says : List Text → Parsed → Type 0
 Says words (parsed.Task task) = (faults_of words ≡ []) × Means (named_by words) task
-Says words (parsed.Help text) = (kind : ErrorKind) × IsHelp kind × IsAmong kind (faults_of words)
-Says words (parsed.Usage text) = ((kind : ErrorKind) × (IsHelp kind → ⊥)
-    × IsAmong kind (faults_of words)) ⊎ ((why : Unnamed) × MisnamesIn words why
+Says words (parsed.Help text) = (kind : ErrorKind) × IsAmong kind (faults_of words)
+    × ShowsError kind (parsed.Help text)
+Says words (parsed.Usage text) = ((kind : ErrorKind) × IsAmong kind (faults_of words)
+    × ShowsError kind (parsed.Usage text)) ⊎ ((why : Unnamed) × MisnamesIn words why
     × TellsOf why (parsed.Usage text))
 Says words parsed.Memory = ⊤

@@ -1,5 +1,10 @@
-//! The program: checks, normalises, compares, analyses and lists inputs in the LLVM bitstream container, from the command line. Begin
-//! with `run`.
+//! The program: checks, normalises, compares, analyses and lists inputs in the LLVM bitstream container, from the command line.
+//! Begin with `run`.
+//!
+//! `parse` makes a task of the arguments, `perform` carries it out and returns how it ended, and `run` does both and writes the
+//! line on errors. All are over any source and sinks; `main` alone opens standard input, output and errors. `Runs` and `Does` in
+//! `specs/` say what a run takes from the input and leaves on the output. That good arguments give a task is proved over `clap`'s
+//! own definitions (`proofs/Walked`, `proofs/Given`).
 #![tactic(auto)]
 
 mod devices;

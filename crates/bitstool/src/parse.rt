@@ -3,7 +3,7 @@
 ghost use Rattle.std.specs.Prelude.{◌≡◌, ◌<◌, ◌^◌, ◌↔◌, ℕ, false, map, string_bytes, IfOk, IfErr, IfSome, IsSome, IsTrue, MatchResult, Some};
 ghost use Rattle.bitstool.specs.declared.task.Parsed.{Parsed as ParsedValue};
 ghost use Rattle.clap.specs.Words.{app_of, found_of, kind_of, rows_of, rule_of, subcommand_rows_of};
-ghost use Rattle.bitstool.specs.Words.{with_numbers, FindsAll, HasAllLimits, HasLimits, HasLeftOut, HasNumber, HasShapes, HasValues, IsGiven, IsNormal, IsSame, IsShow, Means, Misnamed, MisnamedIn, MisnamesIn, Says, GivesNoTask, ShowsError, TellsOf, NamesBlocks, NamesRecords};
+ghost use Rattle.bitstool.specs.Words.{with_numbers, FindsAll, HasAllLimits, HasLimits, HasLeftOut, HasNumber, HasShapes, HasValues, IsGiven, IsNormal, IsSame, IsShow, Means, Misnamed, MisnamedIn, MisnamesIn, Says, GivesNoTask, Shows, ShowsError, TellsOf, NamesBlocks, NamesRecords};
 ghost use Rattle.bitstool.specs.Words.{for_all_commands, bitstool, flag_rule, leaving, limit_rule, with_limits, name_rule, number_rule, dropping, comparing, telling, wrong_value};
 
 use crate::names::{Unnamed, blocks_named, records_named};
@@ -15,6 +15,7 @@ use clap::builder::ValueParser;
 use clap::error::ErrorKind;
 use clap::{Arg, ArgAction, ArgMatches, Command, Error};
 use std::alloc::{AllocError, Global};
+use std::fmt::Display;
 
 /// The version of the program.
 const VERSION: &str = "1.0.0";
@@ -349,19 +350,12 @@ fn same_of<'a>(
         (Misnamed (rows_of (found_of matches.now))) }
 {
     let left = left_out(alloc, matches)?;
-    if is_given(matches, "where") {
-        Ok(Task::Where {
-            first,
-            limits,
-            left,
-        })
-    } else {
-        Ok(Task::Same {
-            first,
-            limits,
-            left,
-        })
-    }
+    Ok(Task::Same {
+        first,
+        explain: is_given(matches, "where"),
+        limits,
+        left,
+    })
 }
 
 /// The task of listing.
@@ -444,23 +438,35 @@ fn fault_of_names(alloc: Global, why: Unnamed<'_>) -> Parsed
     }
 }
 
+/// What an error displays, this behind it, and the end of the line where it has none.
+fn shown<E: Display>(alloc: Global, error: &E, tip: &str) -> Result<String, AllocError>
+    ensures { IfOk result (λ text. Shows (E.output error.now) tip.now (string_bytes text)) }
+{
+    let mut text = error.to_string(alloc)?;
+    text.push_str(tip)?;
+    if text.ends_with('\n') {
+        return Ok(text);
+    }
+    text.push('\n')?;
+    Ok(text)
+}
+
 /// The text of an error, and where it belongs.
 fn text_of_error(alloc: Global, error: &Error) -> Result<Parsed, AllocError>
     ensures { IfOk result (λ parsed. ShowsError (kind_of error.now) parsed) }
 {
-    let mut text = error.to_string(alloc)?;
-    if matches!(error.kind(), ErrorKind::InvalidSubcommand) {
-        text.push_str(TIP)?;
+    let tip = match error.kind() {
+        ErrorKind::InvalidSubcommand => TIP,
+        _ => "",
+    };
+    let text = shown(alloc, error, tip)?;
+    if !error.use_stderr() {
+        return Ok(Parsed::Help(text));
     }
-    // Help of a command comes without the end of its last line.
-    if !text.ends_with('\n') {
-        text.push('\n')?;
+    if text.starts_with("error: ") {
+        return Ok(Parsed::Usage(text));
     }
-    if error.use_stderr() {
-        Ok(Parsed::Usage(text))
-    } else {
-        Ok(Parsed::Help(text))
-    }
+    Ok(Parsed::Usage(format!(in alloc; "error: {text}")?))
 }
 
 /// What these words say.

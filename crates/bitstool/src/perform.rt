@@ -1,12 +1,13 @@
 //! Carrying out a command.
 
-ghost use Rattle.std.specs.Prelude.{◌≡◌, ◌<◌, ◌≤◌, ◌^◌, vec_items};
+ghost use Rattle.std.specs.Prelude.{◌≡◌, ◌<◌, ◌≤◌, ◌^◌, Bool, vec_items};
 ghost use Rattle.bit_grammar.specs.Setting.{setting_of};
 ghost use Rattle.bit_fields.specs.Reader.{told_by};
 ghost use Rattle.bitstool.specs.declared.task.Task.{Task as TaskValue};
-ghost use Rattle.bitstool.specs.Performing.{ComparesWhere, ComparesTold, FindsWhere, Judges, PullsFirst, TellsDifference, TellsFound, outcome_found, Settles, TakesFirst, TakesRest, TellsLine, outcome_of_writing, outcome_in, outcome_of};
+ghost use Rattle.bitstool.specs.Performing.{ComparesParts, ComparesTold, Judges, PullsFirst, TellsDifference, TellsFound, outcome_found, Settles, TakesFirst, TakesRest, TellsLine, outcome_of_writing, outcome_in, outcome_of};
 ghost use Rattle.bit_norm.specs.Entries.{difference_shown};
-ghost use Rattle.bitstool.specs.Differences.{difference_text};
+ghost use Rattle.bitstool.specs.Differences.{different_text};
+ghost use Rattle.bitstool.specs.LeftOut.{setting_for};
 ghost use Rattle.bitstool.specs.Runs.{Does, TakesInput};
 ghost use Rattle.bitstool.specs.Outcome.{status_of};
 
@@ -16,7 +17,7 @@ use crate::outcome::Outcome;
 use crate::task::{LeftOut, Task};
 use bit_events::check;
 use bit_fields::{Fault, KeptSource, Limits, Sink, Source, SourceFailed};
-use bit_norm::{Difference, Which, first_difference_from, normalise, same_as};
+use bit_norm::{Difference, Which, first_difference_from, normalise};
 use bit_scan::{Values, write_events, write_report, write_show};
 use bit_tree::Info;
 use std::alloc::{AllocError, Global};
@@ -95,57 +96,15 @@ fn take_first<S: Source>(alloc: Global, source: S, count: u64) -> (Result<Vec<u8
 }
 
 /// Compares two inputs, of which the first is in memory.
-fn compare_with<S: Source>(
-    alloc: Global,
-    first: &[u8],
-    rest: S,
-    limits: Limits,
-    info: Info<'_>,
-) -> (Outcome, S)
-    ensures found { ComparesTold (setting_of info.entry) limits first.now (S.incoming rest).to_come
-        result.0 }
-    ensures taken { TakesRest limits (S.incoming rest) (S.incoming result.1) result.0 }
-{
-    let (answer, rest) = same_as(alloc, first, rest, limits, info);
-    match answer {
-        Ok(true) => (Outcome::Done, rest),
-        Ok(false) => (Outcome::Different, rest),
-        Err(misread) => {
-            let outcome = outcome_in(misread.which, limits.bytes(), misread.fault);
-            (outcome, rest)
-        }
-    }
-}
-
-/// Compares the first bytes of a source, so many, with the rest.
-fn compare<S: Source>(
-    alloc: Global,
-    first: u64,
-    source: S,
-    limits: Limits,
-    left: &LeftOut,
-) -> (Outcome, S)
-    ensures { Judges (TaskValue.Same first limits left.now) (S.incoming source)
-        (S.incoming result.1) result.0 }
-{
-    let count = first.min(limits.bytes() + 1);
-    let (taken, source) = take_first(alloc, source, count);
-    match taken {
-        Ok(bytes) => compare_with(alloc, &bytes, source, limits, left.info()),
-        Err(fault) => (outcome_of(limits.bytes(), fault), source),
-    }
-}
-
-/// Compares two inputs, of which the first is in memory, to say where they first differ.
-fn compare_where_with<S: Source>(
+fn compare_rest<S: Source>(
     alloc: Global,
     first: &[u8],
     rest: S,
     limits: Limits,
     info: Info<'_>,
 ) -> (Result<Option<Difference>, Outcome>, S)
-    ensures found { ComparesWhere (setting_of info.entry) limits first.now (S.incoming rest).to_come
-        result.0 }
+    ensures found { ComparesTold (setting_of info.entry) limits (Some first.now)
+        (S.incoming rest).to_come result.0 }
     ensures taken { TakesRest limits (S.incoming rest) (S.incoming result.1)
         (outcome_found result.0) }
 {
@@ -159,23 +118,24 @@ fn compare_where_with<S: Source>(
     }
 }
 
-/// Compares the first bytes of a source, so many, with the rest, to say where they first differ.
-fn compare_where<S: Source>(
+/// Compares the first bytes of a source, so many, with the rest.
+fn compare<S: Source>(
     alloc: Global,
     first: u64,
     source: S,
     limits: Limits,
     left: &LeftOut,
 ) -> (Result<Option<Difference>, Outcome>, S)
-    ensures taken { TakesInput (TaskValue.Where first limits left.now) (S.incoming source)
+    ensures taken { (explain : Bool)
+        → TakesInput (TaskValue.Same first explain limits left.now) (S.incoming source)
         (S.incoming result.1) (outcome_found result.0) }
-    ensures found { FindsWhere (TaskValue.Where first limits left.now) (S.incoming source).to_come
+    ensures found { ComparesParts (setting_for left.now) limits first (S.incoming source).to_come
         result.0 }
 {
-    let most = first.min(limits.bytes() + 1);
-    let (taken, source) = take_first(alloc, source, most);
+    let count = first.min(limits.bytes() + 1);
+    let (taken, source) = take_first(alloc, source, count);
     match taken {
-        Ok(bytes) => compare_where_with(alloc, &bytes, source, limits, left.info()),
+        Ok(bytes) => compare_rest(alloc, &bytes, source, limits, left.info()),
         Err(fault) => (Err(outcome_of(limits.bytes(), fault)), source),
     }
 }
@@ -238,67 +198,57 @@ fn perform_normal<S: Source, K: Sink>(
     (outcome, source, sink)
 }
 
-/// Compares the first bytes of the input, so many, with the rest.
-fn perform_same<S: Source, K: Sink>(
+/// Says that two inputs differ; explained, also where.
+fn tell_difference<K: Sink>(
     alloc: Global,
-    first: u64,
-    limits: Limits,
-    left: LeftOut,
-    source: S,
-    mut sink: K,
-) -> (Outcome, S, K)
-    ensures { Does (TaskValue.Same first limits left) (S.incoming source) (S.incoming result.1)
-        (K.outgoing sink) (K.outgoing result.2) result.0 }
-{
-    let (outcome, source) = compare(alloc, first, source, limits, &left);
-    let outcome = match outcome {
-        Outcome::Done => tell(Outcome::Done, b"same\n", &mut sink),
-        Outcome::Different => tell(Outcome::Different, b"different\n", &mut sink),
-        other => other,
-    };
-    (outcome, source, sink)
-}
-
-/// Says that two inputs differ, and where.
-fn tell_difference<K: Sink>(alloc: Global, difference: &Difference, sink: &mut K) -> Outcome
-    ensures { TellsDifference (difference_text (difference_shown difference.now))
+    explain: bool,
+    difference: &Difference,
+    sink: &mut K,
+) -> Outcome
+    ensures { TellsDifference (different_text explain (difference_shown difference.now))
         (K.outgoing sink.old) result (K.outgoing sink.new) }
 {
-    match text_of(alloc, difference) {
-        Ok(text) => tell(Outcome::Different, text.as_bytes(), sink),
-        Err(AllocError) => Outcome::Memory,
+    if explain {
+        match text_of(alloc, difference) {
+            Ok(text) => tell(Outcome::Different, text.as_bytes(), sink),
+            Err(AllocError) => Outcome::Memory,
+        }
+    } else {
+        tell(Outcome::Different, b"different\n", sink)
     }
 }
 
 /// Says what two inputs were found to be.
 fn tell_found<K: Sink>(
     alloc: Global,
+    explain: bool,
     found: Result<Option<Difference>, Outcome>,
     sink: &mut K,
 ) -> Outcome
-    ensures { TellsFound found (K.outgoing sink.old) result (K.outgoing sink.new) }
+    ensures { TellsFound explain found (K.outgoing sink.old) result (K.outgoing sink.new) }
 {
     match found {
         Ok(None) => tell(Outcome::Done, b"same\n", sink),
-        Ok(Some(difference)) => tell_difference(alloc, &difference, sink),
+        Ok(Some(difference)) => tell_difference(alloc, explain, &difference, sink),
         Err(outcome) => outcome,
     }
 }
 
-/// Compares the first bytes of the input, so many, with the rest, and says where they first differ.
-fn perform_where<S: Source, K: Sink>(
+/// Compares the first bytes of the input, so many, with the rest; explained, says where they first differ.
+fn perform_same<S: Source, K: Sink>(
     alloc: Global,
     first: u64,
+    explain: bool,
     limits: Limits,
     left: LeftOut,
     source: S,
     mut sink: K,
 ) -> (Outcome, S, K)
-    ensures { Does (TaskValue.Where first limits left) (S.incoming source) (S.incoming result.1)
-        (K.outgoing sink) (K.outgoing result.2) result.0 }
+    ensures { Does (TaskValue.Same first explain limits left) (S.incoming source)
+        (S.incoming result.1) (K.outgoing sink) (K.outgoing result.2) result.0 }
 {
-    let (found, source) = compare_where(alloc, first, source, limits, &left);
-    let outcome = tell_found(alloc, found, &mut sink);
+    let (found, source) = compare(alloc, first, source, limits, &left);
+    let outcome = tell_found(alloc, explain, found, &mut sink);
     (outcome, source, sink)
 }
 
@@ -356,14 +306,10 @@ fn carry_out<S: Source, K: Sink>(alloc: Global, task: Task, source: S, sink: K) 
         Task::Normal { limits, left } => perform_normal(alloc, limits, left, source, sink),
         Task::Same {
             first,
+            explain,
             limits,
             left,
-        } => perform_same(alloc, first, limits, left, source, sink),
-        Task::Where {
-            first,
-            limits,
-            left,
-        } => perform_where(alloc, first, limits, left, source, sink),
+        } => perform_same(alloc, first, explain, limits, left, source, sink),
         Task::Analyse { limits } => perform_analyse(alloc, limits, source, sink),
         Task::Show { limits, left } => perform_show(alloc, limits, left, source, sink),
         Task::Events { limits, values } => perform_events(alloc, limits, values, source, sink),

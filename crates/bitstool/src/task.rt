@@ -50,15 +50,10 @@ pub enum Task {
         limits: Limits,
         left: LeftOut,
     },
-    /// Compare the first bytes of the input, so many, with the rest.
+    /// Compare the first bytes of the input, so many, with the rest; explained, say where they first differ.
     Same {
         first: u64,
-        limits: Limits,
-        left: LeftOut,
-    },
-    /// The same, and say where they first differ.
-    Where {
-        first: u64,
+        explain: bool,
         limits: Limits,
         left: LeftOut,
     },

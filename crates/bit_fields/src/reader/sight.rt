@@ -4,14 +4,13 @@ ghost use Rattle.std.specs.Prelude.{◌≡◌, ◌+◌, ◌*◌, ◌<◌, ◌≤
 ghost use Rattle.std.specs.Borrow.{sem};
 ghost use Rattle.std.specs.Io.BufRead.{Rests};
 ghost use Rattle.bit_fields.specs.Devices.{IsFresh};
-ghost use Rattle.bit_grammar.specs.Fields.{fixed};
-ghost use Rattle.bit_grammar.specs.Grammar.{gives, repeat};
+ghost use Rattle.bit_grammar.specs.Grammar.{gives};
 ghost use Rattle.bit_grammar.specs.Input.{any_bits};
-ghost use Rattle.bit_fields.specs.Reader.{Takes, Took, Why, NeedsNoMemory, told_by};
+ghost use Rattle.bit_fields.specs.Reader.{Takes, Took, Why, NeedsNoMemory};
 ghost use Rattle.bit_fields.specs.Short.{TookNothing};
 ghost use Rattle.bit_fields.specs.Ahead.{Sees};
 ghost use Rattle.bit_fields.specs.Sight.{sight_lent, IsSight, Shown, ShowsSight};
-ghost use Rattle.bit_fields.specs.Inside.{gap_of, numbers, TookGap};
+ghost use Rattle.bit_fields.specs.Inside.{gap_of, TookGap};
 
 use crate::ahead::Sight;
 use crate::fault::Fault;
@@ -149,33 +148,6 @@ impl<S: Source> BitReader<S> {
         while left > 0 {
             let count = self.skip_some(first, first, left)?;
             left -= count;
-        }
-        Ok(())
-    }
-
-    /// Skips so many fields of n bits, n from 1 to 32, whatever they are.
-    ///
-    /// Fewer bits are `Truncated` at the first bit of the field that is not whole.
-    pub fn skip_fixed(&mut self, count: u64, n: u32) -> Result<(), Fault>
-        requires some { 0 < n }
-        requires few { n ≤ 32 }
-        requires fits { count < 2 ^ 32 }
-        ensures takes { Takes (repeat count (fixed n)) self.old
-            (told_by (λ _. numbers n count self.old.left) result) self.new }
-        ensures memory { NeedsNoMemory result }
-        ensures stays { OnErr result (self.new.position ≡ self.old.position) }
-        ensures moves { OnOk result (self.new.position ≡ self.old.position + n * count) }
-    {
-        if !self.live {
-            return Err(Fault::Failed);
-        }
-        let first = self.position;
-        let bits = count * u64::from(n);
-        let mut left = bits;
-        while left > 0 {
-            let field = self.position - (bits - left) % u64::from(n);
-            let skipped = self.skip_some(first, field, left)?;
-            left -= skipped;
         }
         Ok(())
     }

@@ -8,7 +8,7 @@ use Rattle.bit_grammar.specs.Grammar.{Fault, at, Round, one_more, last, judge, �
 use Rattle.bit_grammar.specs.Fields.{fixed}
 use Rattle.bit_grammar.specs.Marks.{Marks, no_marks, Item, block_item, record_item, definition_item, item_then, marks_of}
 use Rattle.bit_grammar.specs.Blocks.{Limits, Handed, Scope, nothing_handed, BlockHead, block_head, end_of_block, define, record_after, nested, item_after, item, block, top_block, enter}
-use Rattle.bit_grammar.specs.Whole.{SpellsAll, StopsAll, and_all, before_all, after_thing, go_things, reading_all}
+use Rattle.bit_grammar.specs.Whole.{SpellsAll, StopsAll, and_all}
 use Rattle.bit_grammar.specs.Input.{top_blocks}
 use Rattle.bit_grammar.specs.Machine.{Event, enters, leaves, flat, Frame, Machine, frame_of, inside, outside, at_start, open_block, open_nested, step_after, step_in, step_top, accepted, broke, Told, told_of_step, to_come}
 use Rattle.bit_grammar.specs.Steps.{AreWide}
@@ -16,6 +16,7 @@ use Rattle.bit_grammar.proofs.Readings.Deciding.{is_spelled}
 use Rattle.bit_grammar.proofs.Readings.Wholes.{reads_all, breaks_all}
 use Rattle.bit_grammar.proofs.Readings.Items.{item_takes, top_takes, head_width}
 use Rattle.bit_grammar.proofs.Events.Machines.{comes, Step}
+use Rattle.bit_grammar.proofs.Readings.Readers.{before_all, after_thing, go_things, reading_all}
 
 abbrev Reading : Type 0 → Type 0
 Reading A = Result (A × ℕ × List Bool) Fault

@@ -7,13 +7,14 @@ use Rattle.bit_grammar.specs.Grammar.{Fault, at, reading}
 use Rattle.bit_grammar.specs.Fields.{fixed}
 use Rattle.bit_grammar.specs.Marks.{Item}
 use Rattle.bit_grammar.specs.Blocks.{Limits}
-use Rattle.bit_grammar.specs.Whole.{and_all, long_enough, made_by, reading_all}
-use Rattle.bit_grammar.specs.Input.{wrapper_and_gap, inner_magic, is_wrapped, marked_with, top_blocks, stream, wrapped, input, front_of, is_closed, too_long, cut_fault, cut_at_limit, reading_input, SpellsInput, BreaksInput}
+use Rattle.bit_grammar.specs.Whole.{and_all}
+use Rattle.bit_grammar.specs.Input.{wrapper_and_gap, inner_magic, is_wrapped, marked_with, top_blocks, stream, wrapped, input, front_of, is_closed, too_long, cut_fault, SpellsInput, BreaksInput}
 use Rattle.bit_grammar.specs.Terms.{Head, Marked}
 use Rattle.bit_grammar.specs.Machine.{Told, at_start, to_come, flat, accepted, broke}
 use Rattle.bit_grammar.specs.Outlook.{Outlook, ending_by, end_of_few, cut_end, same_fault, told_wrapped, told_input, outlook, EndsBy}
 use Rattle.bit_grammar.proofs.Events.Follows.{Tells, machine_tells}
 use Rattle.bit_grammar.proofs.WholeInputs.Inputs.{spelled_read, breaks_read}
+use Rattle.bit_grammar.proofs.Readings.Readers.{long_enough, made_by, reading_all, cut_at_limit, reading_input}
 
 abbrev TellsInput : Outlook → Result Marked Fault → Type 0
 TellsInput told (Ok m) = told ≡ Ok (m.head, (flat m.blocks [], accepted m.after))

@@ -4,8 +4,9 @@ use Rattle.std.proofs.lemmas.Bool.{cases_lt}
 use Rattle.std.proofs.lemmas.Bool.Decides.{nat_tests}
 use Rattle.std.proofs.lemmas.List.{take_at, take-append-drop, length-append, length-take-le}
 use Rattle.bit_grammar.specs.Grammar.{Fault, Grammar, Spells, Stops, reading}
-use Rattle.bit_grammar.specs.Whole.{Whole, ◌then_all◌, until_end, within, either, making, Things, Broken, SpellsAll, StopsAll, go_things, reading_all}
+use Rattle.bit_grammar.specs.Whole.{Whole, ◌then_all◌, until_end, within, either, making, Things, Broken, SpellsAll, StopsAll}
 use Rattle.bit_grammar.proofs.Readings.Deciding.{moves, rests, reads, breaks, decides}
+use Rattle.bit_grammar.proofs.Readings.Readers.{go_things, reading_all}
 
 pub is_le : (a b : ℕ) → a ≤ b → leb a b ≡ true
 is_le a b h = grind (arith, nat_tests)

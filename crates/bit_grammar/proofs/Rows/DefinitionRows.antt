@@ -11,11 +11,11 @@ use Rattle.bit_grammar.specs.Definition.{kind, valued, operand, operands, defini
 use Rattle.bit_grammar.specs.Record.{value_count, unabbreviated, scalar, values_of, abbreviated}
 use Rattle.bit_grammar.specs.Forest.{empty, a_block, a_record}
 use Rattle.bit_grammar.specs.Blocks.{block_id, new_width, block_head, end_of_block, define, by_definition, entry, describe, record_after, nested, item_after, item, block, top_block}
-use Rattle.bit_grammar.specs.Whole.{made_by}
-use Rattle.bit_grammar.specs.Input.{version, offset, wrapper, any_bits, wrapper_and_gap, inner_magic, top_blocks, stream, wrapped, input, outer_wrapper, reading_input}
+use Rattle.bit_grammar.specs.Input.{version, offset, wrapper, any_bits, wrapper_and_gap, inner_magic, top_blocks, stream, wrapped, input, outer_wrapper}
 use Rattle.bit_grammar.specs.Normal.{normal, normal_form}
 use Rattle.bit_grammar.proofs.Rows.Hex.{hex}
 use Rattle.bit_grammar.proofs.Rows.Worked.{usual, with_values, blocks, Accepted}
+use Rattle.bit_grammar.proofs.Readings.Readers.{made_by, reading_input}
 
 -- in a block 8 with ids of three bits and a body of so many words: these bytes
 abbrev in_block : (words : ℕ) → (body : List ℕ) → List ℕ

@@ -5,9 +5,9 @@ use Rattle.bit_grammar.specs.Bits.{bits_of_bytes, bits_of}
 use Rattle.bit_grammar.specs.Grammar.{Fault, at, Grammar, repeat, reading}
 use Rattle.bit_grammar.specs.Fields.{fixed, vbr, char6, align32, byte}
 use Rattle.bit_grammar.specs.FormatFields.{shortest}
-use Rattle.bit_grammar.specs.Whole.{made_by}
 use Rattle.bit_grammar.specs.Normal.{put, chain, padding}
 use Rattle.bit_grammar.proofs.Rows.Hex.{hex, times}
+use Rattle.bit_grammar.proofs.Readings.Readers.{made_by}
 
 -- what a rule reads in these bytes behind a magic: the value and the bit after it, or the fault
 abbrev read : {A : Type 0} → Grammar A → List ℕ → Result (A × ℕ) Fault

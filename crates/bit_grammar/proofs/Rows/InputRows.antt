@@ -9,10 +9,11 @@ use Rattle.bit_grammar.specs.Record.{value_count, unabbreviated, scalar, values_
 use Rattle.bit_grammar.specs.Forest.{empty, a_block, a_record}
 use Rattle.bit_grammar.specs.Marks.{no_marks, marked_block}
 use Rattle.bit_grammar.specs.Blocks.{block_id, new_width, block_head, end_of_block, define, by_definition, entry, describe, record_after, nested, item_after, item, block, top_block}
-use Rattle.bit_grammar.specs.Input.{version, offset, wrapper, any_bits, wrapper_and_gap, inner_magic, top_blocks, stream, wrapped, input, outer_wrapper, reading_input}
+use Rattle.bit_grammar.specs.Input.{version, offset, wrapper, any_bits, wrapper_and_gap, inner_magic, top_blocks, stream, wrapped, input, outer_wrapper}
 use Rattle.bit_grammar.specs.Normal.{normal, normal_form}
 use Rattle.bit_grammar.proofs.Rows.Hex.{hex}
 use Rattle.bit_grammar.proofs.Rows.Worked.{usual, with_depth, blocks, tree, marks, Accepted, IsNormal}
+use Rattle.bit_grammar.proofs.Readings.Readers.{reading_input}
 
 record Magics : Type 0 where
   nothing : blocks usual [] ≡ Err (at Truncated 0)

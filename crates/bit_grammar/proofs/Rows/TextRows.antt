@@ -8,12 +8,13 @@ use Rattle.bit_grammar.specs.Fields.{fixed, vbr, char6, align32, byte}
 use Rattle.bit_grammar.specs.Definition.{kind, valued, operand, operands, definition}
 use Rattle.bit_grammar.specs.Record.{value_count, unabbreviated, scalar, values_of, abbreviated}
 use Rattle.bit_grammar.specs.Blocks.{block_id, new_width, block_head, end_of_block, define, by_definition, entry, describe, record_after, nested, item_after, item, block, top_block}
-use Rattle.bit_grammar.specs.Input.{version, offset, wrapper, any_bits, wrapper_and_gap, inner_magic, tree_of, top_blocks, stream, wrapped, input, outer_wrapper, reading_input}
+use Rattle.bit_grammar.specs.Input.{version, offset, wrapper, any_bits, wrapper_and_gap, inner_magic, tree_of, top_blocks, stream, wrapped, input, outer_wrapper}
 use Rattle.bit_grammar.specs.Terms.{Marked}
 use Rattle.bit_grammar.specs.Tally.{tally_of}
 use Rattle.bit_grammar.specs.Texts.{report_of, listing_of}
 use Rattle.bit_grammar.proofs.Rows.Hex.{hex}
 use Rattle.bit_grammar.proofs.Rows.Worked.{usual}
+use Rattle.bit_grammar.proofs.Readings.Readers.{reading_input}
 
 -- the report of what is read, or the fault
 abbrev reported : Result Marked Fault → Result (List ℕ) Fault

@@ -8,9 +8,9 @@ use Rattle.bit_grammar.specs.Grammar.{Fault}
 use Rattle.bit_grammar.specs.Forest.{Forest, Tree}
 use Rattle.bit_grammar.specs.Marks.{Marks, forest_of}
 use Rattle.bit_grammar.specs.Blocks.{Limits, judged_at}
-use Rattle.bit_grammar.specs.Whole.{made_by}
-use Rattle.bit_grammar.specs.Input.{tree_of, reading_input}
+use Rattle.bit_grammar.specs.Input.{tree_of}
 use Rattle.bit_grammar.specs.Normal.{normal_form, usual_limits}
+use Rattle.bit_grammar.proofs.Readings.Readers.{made_by, reading_input}
 
 -- the usual limits, and the same with another limit on bytes, on depth or on values
 abbrev pub usual : Limits

@@ -4,10 +4,10 @@ use Rattle.std.proofs.lemmas.Bool.{cases_lt}
 use Rattle.bit_grammar.specs.Bits.{bits_of_bytes}
 use Rattle.bit_grammar.specs.Grammar.{Fault}
 use Rattle.bit_grammar.specs.Blocks.{Limits}
-use Rattle.bit_grammar.specs.Whole.{reading_all}
-use Rattle.bit_grammar.specs.Input.{input, too_long, front_of, is_closed, cut_fault, cut_at_limit, reading_input, SpellsInput, Cut, front_spelled, front_broken, BreaksInput}
+use Rattle.bit_grammar.specs.Input.{input, too_long, front_of, is_closed, cut_fault, SpellsInput, Cut, front_spelled, front_broken, BreaksInput}
 use Rattle.bit_grammar.specs.Terms.{Marked}
 use Rattle.bit_grammar.proofs.Readings.Wholes.{is_le, is_not_le, DecidedAll, reads_all, breaks_all, decides_all}
+use Rattle.bit_grammar.proofs.Readings.Readers.{reading_all, cut_at_limit, reading_input}
 
 pub spelled_read : (limits : Limits) (bytes : List ℕ) (m : Marked) → SpellsInput limits bytes m → reading_input limits bytes ≡ Ok m
 unfolding reading_input

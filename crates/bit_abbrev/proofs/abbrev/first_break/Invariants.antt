@@ -1,6 +1,5 @@
 use Rattle.std.proofs.Common.{◌≡◌}
-use Rattle.bit_abbrev.specs.Breaks.{place_at}
-use Rattle.bit_abbrev.proofs.Breaks.{HoldBefore}
+use Rattle.bit_abbrev.proofs.Breaks.{place_at, HoldBefore}
 use Rattle.bit_abbrev.proofs.abbrev.first_break.Given as goal
 
 abbrev pub invariant-loop-at : goal.invariant-loop-at

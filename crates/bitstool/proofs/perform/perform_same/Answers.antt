@@ -1,22 +1,7 @@
-use Rattle.std.proofs.Common.{codes, refl}
-use Rattle.bitstool.specs.declared.task.Task.TheVariants.{Same}
-use Rattle.bitstool.proofs.Doing.{different_told, done_told, no_line, stays_same}
-use Rattle.bitstool.proofs.perform.perform_same.Goals.{in-Done, in-Different, in_default}
+use Rattle.bitstool.proofs.Doing.{told_same}
 use Rattle.bitstool.proofs.perform.perform_same.Goals as goal
 
 pub returns : goal.returns
 returns g c =
-    let task = Same c.args.first c.args.limits c.args.left in
-    let i = g.S.Source.incoming c.args.source in
-    let now = g.S.Source.incoming c.compare-outcome.result.1 in
-    let old = g.K.Sink.outgoing c.args.sink in
-    elim c.match-outcome.branch [
-      | in-Done w ↦
-          let judged = rw w.in-Done.is at c.compare-outcome.ensures in
-          rw (w.sink-is, w.outcome-is) (done_told task i now old (g.K.Sink.outgoing w.tell-outcome.new.sink) (codes "same\n") w.tell-outcome.result refl judged.0 (refl, judged.1.1.1) w.tell-outcome.ensures)
-      | in-Different w ↦
-          let judged = rw w.in-Different.is at c.compare-outcome.ensures in
-          rw (w.sink-is, w.outcome-is) (different_told task i now old (g.K.Sink.outgoing w.tell-outcome-in-Different.new.sink) (codes "different\n") w.tell-outcome-in-Different.result refl judged.0 (refl, judged.1.1.1) w.tell-outcome-in-Different.ensures)
-      | in_default w ↦
-          rw (w.sink-is, w.outcome-is) (no_line task i now old old c.compare-outcome.result.0 w.in_default.not-Done w.in_default.not-Different (stays_same old old refl) (λ reason bit refuses. (refuses, stays_same old old refl)) c.compare-outcome.ensures)
-    ]
+    told_same c.args.left c.args.limits c.args.first c.args.explain (g.S.Source.incoming c.args.source) (g.S.Source.incoming c.compare-found.result.1) (g.K.Sink.outgoing c.args.sink) (g.K.Sink.outgoing c.tell_found-outcome.new.sink) c.tell_found-outcome.result
+    c.compare-found.result.0 (c.compare-found.ensures.taken c.args.explain) c.compare-found.ensures.found c.tell_found-outcome.ensures

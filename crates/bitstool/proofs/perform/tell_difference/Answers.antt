@@ -6,4 +6,4 @@ use Rattle.bitstool.proofs.perform.tell_difference.Goals as goal
 pub returns-in-Ok : goal.returns-in-Ok
 returns-in-Ok g c =
     let is : c.as_bytes.result.now ≡ difference_text (difference_shown c.args.difference.now) = search rules in
-    inl (rw is at c.tell.ensures)
+    rw c.if-explain.true (inl (rw is at c.tell.ensures))

@@ -1,15 +1,34 @@
-use Rattle.std.proofs.Common.{◌≡◌, ◌≤◌, ◌-◌, ◌/◌, ◌%◌, length, take, drop, arith, subst, Bool, List}
+use Rattle.std.proofs.Common.{◌≡◌, ◌≤◌, ◌+◌, ◌*◌, ◌-◌, ◌/◌, ◌%◌, ℕ, List, refl, ap, length, take, drop, arith}
 use Rattle.std.proofs.lemmas.List.{take_all, length-drop}
-use Rattle.bit_fields.specs.Ahead.{Glimpsed, beyond}
-use Rattle.bit_fields.specs.Inside.{part_of}
-use Rattle.bit_fields.proofs.Sights.{sight_of, far_passed}
+use Rattle.bit_fields.specs.Ahead.{InSight, beyond}
+use Rattle.bit_fields.proofs.Sights.{sight_of, behind_there, bits_passed}
 use Rattle.bit_fields.proofs.ahead.Ahead.skip.Goals as goal
+use Rattle.bit_fields.proofs.ahead.Ahead.skip.Goals.{After-bytes-2-1}
 
-far : (c : goal.In_ok-part) → (c.args.bits ≤ length c.args.self.now.bits) × (c.part.new.self ≡ beyond c.args.self.now c.args.bits)
-far c = far_passed c.self.inside.end c.args.bits (c.args.bits - c.from-held.result) ((c.args.bits - c.from-held.result) / 8) ((c.args.bits - c.from-held.result) % 8) c.in_ok-part.field-0 c.args.self.now c.self.inside.window c.self.inside.bytes.now (take (length c.self.inside.bytes.now - (c.args.bits - c.from-held.result) / 8) (drop ((c.args.bits - c.from-held.result) / 8) c.self.inside.bytes.now)) c.part.new.self c.self.view_is c.self.invariant (omega (arith, c.if-bits-held.false, c.from-held.ensures, c.len.ensures.length)) (omega arith) (omega (arith, c.if-whole-self.false)) (take_all (length c.self.inside.bytes.now - (c.args.bits - c.from-held.result) / 8) (drop ((c.args.bits - c.from-held.result) / 8) c.self.inside.bytes.now) (omega (arith, length-drop ((c.args.bits - c.from-held.result) / 8) c.self.inside.bytes.now))) (subst (λ (w : List Bool). Glimpsed (part_of 0 ((c.args.bits - c.from-held.result) % 8)) (sight_of c.self.inside.end w (take (length c.self.inside.bytes.now - (c.args.bits - c.from-held.result) / 8) (drop ((c.args.bits - c.from-held.result) / 8) c.self.inside.bytes.now))) c.in_ok-part.field-0 c.part.new.self) c.new-self-inside.ensures (c.in_ok-part.ensures.glimpsed 0))
+rest_of : (bytes : List ℕ) (whole : ℕ) → take (length bytes - whole) (drop whole bytes) ≡ drop whole bytes
+rest_of bytes whole = take_all (length bytes - whole) (drop whole bytes) (omega (arith, length-drop whole bytes))
 
-pub returns-clause-there : goal.returns-clause-there
-returns-clause-there c = (far c).0
+passed : (c : After-bytes-2-1) → sight_of c.self.inside.end c.rest_of_byte-window.result.0 c.rest_of_byte-window.result.1.now ≡ beyond c.args.self.now c.args.bits
+passed c =
+    let behind = c.args.bits - c.from-held.result in
+    let bytes = c.self.inside.bytes.now in
+    let rest = rest_of bytes (behind / 8) in
+    let there = behind_there c.self.inside.end c.args.bits c.from-held.result c.args.self.now c.self.inside.window c.self.inside.bytes.now c.self.view_is c.requires (omega (arith, c.from-held.ensures, c.len.ensures.length)) in
+    let short : length (drop (behind / 8) bytes) ≡ length bytes - behind / 8 = length-drop (behind / 8) bytes in
+    bits_passed c.self.inside.end c.args.bits behind (behind / 8) (behind % 8) c.args.self.now c.self.inside.window c.rest_of_byte-window.result.0 bytes (drop (behind / 8) bytes) c.rest_of_byte-window.result.1.now c.self.view_is c.self.invariant
+    (omega (arith, c.if-bits-held.false, c.from-held.ensures, c.len.ensures.length)) (omega arith) there.0 (omega (arith, short, there.1)) refl (rw rest at c.rest_of_byte-window.ensures.bits) (rw rest at c.rest_of_byte-window.ensures.fewer)
+
+pub slice_bounds-rest_of_byte-count : goal.slice_bounds-rest_of_byte-count
+slice_bounds-rest_of_byte-count c = (behind_there c.self.inside.end c.args.bits c.from-held.result c.args.self.now c.self.inside.window c.self.inside.bytes.now c.self.view_is c.requires (omega (arith, c.from-held.ensures, c.len.ensures.length))).0
+
+pub slice_bounds-rest_of_byte-start : goal.slice_bounds-rest_of_byte-start
+slice_bounds-rest_of_byte-start c = (behind_there c.self.inside.end c.args.bits c.from-held.result c.args.self.now c.self.inside.window c.self.inside.bytes.now c.self.view_is c.requires (omega (arith, c.from-held.ensures, c.len.ensures.length))).0
+
+pub rest_of_byte-window-requires-clause-there : goal.rest_of_byte-window-requires-clause-there
+rest_of_byte-window-requires-clause-there c = rw (rest_of c.self.inside.bytes.now ((c.args.bits - c.from-held.result) / 8), length-drop ((c.args.bits - c.from-held.result) / 8) c.self.inside.bytes.now) (behind_there c.self.inside.end c.args.bits c.from-held.result c.args.self.now c.self.inside.window c.self.inside.bytes.now c.self.view_is c.requires (omega (arith, c.from-held.ensures, c.len.ensures.length))).1
 
 pub returns-clause-skipped : goal.returns-clause-skipped
-returns-clause-skipped c = (far c).1
+returns-clause-skipped c = passed c
+
+pub returns-clause-moves : goal.returns-clause-moves
+returns-clause-moves c = ap (λ (a : InSight). a.position) (passed c)

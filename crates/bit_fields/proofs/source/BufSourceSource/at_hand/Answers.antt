@@ -11,4 +11,4 @@ returns g c =
     let rested = c.fill_buf.follows.lender-at-none in
     let filled = subst (FillKeeps _ (g.R.Read.remaining rested) (g.R.BufRead.consumable_len rested)) c.in-Ok.is c.fill_buf.follows.holds-at-none in
     let moved = Consumes_shown _ _ (g.R.Read.remaining c.consume.new.self) (g.R.BufRead.consumable_len rested) shown c.args.room (omega arith) c.in-Ok.ensures.front c.in-Ok.ensures.end filled.0 filled.1 c.consume.ensures.bytes in
-    front_taken _ _ shown c.args.room front.result c.args.room (omega arith) refl refl moved.0 (λ none. absurd (omega arith)) refl c.requires.few (omega arith) front.ensures.below front.ensures.bits
+    front_taken _ _ shown c.args.room front.result c.args.room (c.is_worn.ensures.fresh c.if-is_worn.false) refl refl moved.0 (λ none. absurd (omega arith)) refl c.requires.few (omega arith) front.ensures.below front.ensures.bits

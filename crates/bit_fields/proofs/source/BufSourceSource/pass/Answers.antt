@@ -11,4 +11,4 @@ returns g c =
     let rested = c.fill_buf.follows.lender-at-none in
     let filled = subst (FillKeeps _ (g.R.Read.remaining rested) (g.R.BufRead.consumable_len rested)) c.in-Ok.is c.fill_buf.follows.holds-at-none in
     let moved = Consumes_shown _ _ (g.R.Read.remaining c.consume.new.self) (g.R.BufRead.consumable_len rested) shown c.min-count.result (omega arith) c.in-Ok.ensures.front c.in-Ok.ensures.end filled.0 filled.1 c.consume.ensures.bytes in
-    front_passed _ _ shown c.args.most c.min-count.result (omega arith) refl refl moved.0 (λ none. absurd (omega arith)) refl (omega arith) (omega arith)
+    front_passed _ _ shown c.args.most c.min-count.result (c.is_worn.ensures.fresh c.if-is_worn.false) refl refl moved.0 (λ none. absurd (omega arith)) refl (omega arith) (omega arith)

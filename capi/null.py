@@ -1,0 +1,49 @@
+#!/usr/bin/env python3
+"""Writes C for the calls of bitstream.h that take pointers with lengths: each replaces a null pointer by one to an aligned word,
+and calls the proved call, which takes no null pointer, not even with length 0.
+Usage: null.py HEADER NAMES > SOURCE, where NAMES is a file to write: each call, and the name that its proved one is given."""
+import re
+import sys
+
+START = """#include "bitstream.h"
+/* Aligned for every element; never read or written. */
+static uint64_t nothing;
+#define SOME(at) ((at) ? (at) : (void *)&nothing)
+"""
+LEFT_OUT = """    struct bs_left_out named = *left_out;
+    named.blocks = SOME(named.blocks);
+    named.records = SOME(named.records);
+"""
+BYTES = "    *name = (struct bs_bytes){(const uint8_t *)&nothing, 0};\n"
+
+
+def calls(header):
+    """Each call of the header: its result, its name and its parameters."""
+    text = re.sub(r"/\*.*?\*/", "", header, flags=re.S)
+    for it in re.finditer(r"^(uint32_t|void) (bs_\w+)\(([^)]*)\);", text, re.M):
+        yield it[1], it[2], " ".join(it[3].split())
+
+
+def passed(parameter, all_of_them):
+    """What is passed on for a parameter."""
+    name = re.search(r"\w+$", parameter)[0]
+    if name == "left_out":
+        return "&named"
+    return f"SOME({name})" if f"size_t {name}_len" in all_of_them else name
+
+
+def main():
+    print(START)
+    with open(sys.argv[1]) as header, open(sys.argv[2], "w") as names:
+        for result, name, told in calls(header.read()):
+            parameters = told.split(", ")
+            given = [passed(it, parameters) for it in parameters]
+            before = LEFT_OUT if "&named" in given else BYTES if "struct bs_bytes *name" in parameters else ""
+            if before or any(it.startswith("SOME") for it in given):
+                names.write(f"{name} proved_{name}\n")
+                print(f"extern __typeof__({name}) proved_{name};\n{result} {name}({told}) {{\n{before}"
+                      f"    {'' if result == 'void' else 'return '}proved_{name}({', '.join(given)});\n}}\n")
+
+
+if __name__ == "__main__":
+    main()

@@ -1,0 +1,237 @@
+"""Streams in the LLVM bitstream container, by the C library libbitstream.so.
+
+`check`, `normal`, `show`, `report`, `same`, `first_difference` and `events` take bytes, or anything that `bytes` takes. A refused
+input raises `Refused`, which has the reason and the bit. The library is the file that the variable BITSTREAM_LIBRARY names, else
+the one below the prefix that this module is installed in, else the one that the system's loader finds."""
+import ctypes
+import os
+from ctypes import POINTER, Structure, byref, c_bool, c_char_p, c_size_t, c_uint8, c_uint32, c_uint64, c_void_p
+from typing import List, NamedTuple, Optional, Sequence, Tuple
+
+VERSION = 2
+_FILE = "libbitstream.so.%d" % VERSION
+_DONE, _DIFFERENT, _REFUSED, _MEMORY, _TOO_LONG, _LIMITS, _ROOM, _CLOSED, _NAMES = range(9)
+_TEXTS = {_TOO_LONG: "normal form longer than the limit", _LIMITS: "a limit is past its cap",
+          _CLOSED: "the handle is closed", _NAMES: "a name of records of BLOCKINFO blocks"}
+_DEPTH = 255
+
+
+class Limits(Structure):
+    """How much of an input is taken; without arguments, the usual limits."""
+    _fields_ = [("bytes", c_uint64), ("depth", c_uint32), ("values", c_uint64), ("shapes_at_use", c_bool)]
+
+    def __init__(self, **given):
+        _calls.bs_usual_limits(byref(self))
+        super().__init__(**given)
+
+
+class _RecordName(Structure):
+    _fields_ = [("block", c_uint32), ("code", c_uint64)]
+
+
+class _LeftOut(Structure):
+    _fields_ = [("info", c_bool), ("blocks", POINTER(c_uint32)), ("blocks_len", c_size_t),
+                ("records", POINTER(_RecordName)), ("records_len", c_size_t)]
+
+
+class _Fault(Structure):
+    _fields_ = [("reason", c_uint32), ("input", c_uint32), ("bit", c_uint64)]
+
+
+class _Bytes(Structure):
+    _fields_ = [("at", c_void_p), ("len", c_size_t)]
+
+
+class _Handle(Structure):
+    _fields_ = [("live", c_bool), ("inner", c_void_p)]
+
+
+class _Event(Structure):
+    _fields_ = [("kind", c_uint32), ("id", c_uint32), ("width", c_uint32), ("code", c_uint64), ("count", c_size_t),
+                ("first", c_uint64), ("after", c_uint64)]
+
+
+class _OpenBlock(Structure):
+    _fields_ = [("id", c_uint32), ("items", c_uint64)]
+
+
+class _Standing(Structure):
+    _fields_ = [("bit", c_uint64), ("kind", c_uint32), ("magic", c_uint8 * 4), ("id", c_uint32), ("code", c_uint64),
+                ("count", c_uint64)]
+
+
+class _Values(Structure):
+    _fields_ = [("differ", c_bool), ("index", c_uint64), ("first", c_uint64), ("second", c_uint64)]
+
+
+class _Difference(Structure):
+    _fields_ = [("place", c_uint32), ("depth", c_size_t), ("items", c_uint64), ("first", _Standing), ("second", _Standing),
+                ("values", _Values)]
+
+
+class Error(Exception):
+    """A call that gave no answer, for another cause than its input."""
+
+
+class Refused(Error):
+    """A refused input: the name of the reason, the bit, and 0 for the only or the first input, 1 for the second."""
+
+    def __init__(self, reason, bit, input):
+        super().__init__("%s at bit %d" % (reason, bit))
+        self.reason, self.bit, self.input = reason, bit, input
+
+
+class LeftOut(NamedTuple):
+    """What is left out: the BLOCKINFO blocks, blocks by their ids, records by the id of their block and their code."""
+    info: bool = False
+    blocks: Sequence[int] = ()
+    records: Sequence[Tuple[int, int]] = ()
+
+
+class Event(NamedTuple):
+    """An event: "block" with the block's id, "define", "record" with its abbreviation id, code and values, or "end"; and the bit at
+    which it begins, 0 for an end, and the bit after it. What its kind does not have is 0 or empty."""
+    kind: str
+    first: int
+    after: int
+    id: int = 0
+    width: int = 0
+    code: int = 0
+    values: Tuple[int, ...] = ()
+
+
+class Standing(NamedTuple):
+    """What is at a place of an input, and the bit where it begins: "magic", "block" with its id, "record" with its code and number of
+    values, or "end"."""
+    kind: str
+    bit: int
+    magic: bytes
+    id: int
+    code: int
+    count: int
+
+
+class Difference(NamedTuple):
+    """Where two inputs first differ: the open blocks, each with its id and the number of items before it, the outermost first; the
+    number of items before the place in the innermost; what is there in each input; and of two records with the same code the
+    index of the first values that differ and these two, or None."""
+    blocks: List[Tuple[int, int]]
+    items: int
+    first: Standing
+    second: Standing
+    values: Optional[Tuple[int, int, int]]
+
+
+def _library():
+    installed = os.path.join(os.path.dirname(os.path.abspath(__file__)), "..", "..", _FILE)
+    path = os.environ.get("BITSTREAM_LIBRARY") or (installed if os.path.exists(installed) else _FILE)
+    calls = ctypes.CDLL(path)
+    if calls.bs_version() != VERSION:
+        raise ImportError("%s has version %d, and not %d" % (path, calls.bs_version(), VERSION))
+    return calls
+
+
+_calls = _library()
+
+
+def _ask(name, *arguments):
+    """The status of a call, where it is no error."""
+    fault = _Fault()
+    status = getattr(_calls, name)(*arguments, byref(fault))
+    if status == _REFUSED:
+        reason = _Bytes()
+        _calls.bs_reason_name(c_uint32(fault.reason), byref(reason))
+        raise Refused(ctypes.string_at(reason.at, reason.len).decode(), fault.bit, fault.input)
+    if status == _MEMORY:
+        raise MemoryError
+    if status in _TEXTS:
+        raise Error(_TEXTS[status])
+    return status
+
+
+def _input(data):
+    """What a call takes for an input."""
+    data = bytes(data)
+    return c_char_p(data), c_size_t(len(data))
+
+
+def _left_out(given):
+    blocks, records = (c_uint32 * len(given.blocks))(*given.blocks), (_RecordName * len(given.records))(*given.records)
+    return byref(_LeftOut(given.info, blocks, len(blocks), records, len(records)))
+
+
+def _text(name, data, limits, *left_out):
+    """A text that the library makes once and holds until it is copied."""
+    handle, needed = _Handle(), c_size_t()
+    try:
+        _ask(name, *_input(data), byref(limits or Limits()), *left_out, byref(handle))
+        _ask("bs_text", byref(handle), None, c_size_t(0), byref(needed))
+        room = (c_uint8 * needed.value)()
+        _ask("bs_text", byref(handle), room, needed, byref(needed))
+        return bytes(room)
+    finally:
+        _calls.bs_close(byref(handle))
+
+
+def check(data, limits=None):
+    """Returns if an input is accepted, and raises Refused if not."""
+    _ask("bs_check", *_input(data), byref(limits or Limits()))
+
+
+def normal(data, left_out=LeftOut(), limits=None):
+    """The normal form of an input, as bytes."""
+    return _text("bs_hold_normal", data, limits, _left_out(left_out))
+
+
+def show(data, left_out=LeftOut(), limits=None):
+    """The listing of an input, as `bitstool show` prints it."""
+    return _text("bs_hold_show", data, limits, _left_out(left_out)).decode()
+
+
+def report(data, limits=None):
+    """The report of an input, as `bitstool analyse` prints it."""
+    return _text("bs_hold_report", data, limits).decode()
+
+
+def same(first, second, left_out=LeftOut(), limits=None):
+    """Whether two inputs have the same magic, blocks and records."""
+    return _ask("bs_same", *_input(first), *_input(second), byref(limits or Limits()), _left_out(left_out)) == _DONE
+
+
+def _standing(it):
+    kind = ("", "magic", "block", "record", "end")[it.kind]
+    return Standing(kind, it.bit, bytes(it.magic), it.id, it.code, it.count)
+
+
+def first_difference(first, second, left_out=LeftOut(), limits=None):
+    """Where two inputs first differ, or None."""
+    difference, room = _Difference(), (_OpenBlock * _DEPTH)()
+    status = _ask("bs_first_difference", *_input(first), *_input(second), byref(limits or Limits()), _left_out(left_out),
+                  byref(difference), room, c_size_t(_DEPTH))
+    if status == _DONE:
+        return None
+    values = difference.values
+    return Difference([(it.id, it.items) for it in room[: difference.depth]], difference.items, _standing(difference.first),
+                      _standing(difference.second), (values.index, values.first, values.second) if values.differ else None)
+
+
+def _values(handle, count):
+    room, needed = (c_uint64 * count)(), c_size_t()
+    _ask("bs_values", byref(handle), room, c_size_t(count), byref(needed))
+    return tuple(room)
+
+
+def events(data, limits=None):
+    """Yields the events of an input. Of a refused one it yields those before the fault, and then raises Refused."""
+    handle, event, (given, length) = _Handle(), _Event(), _input(data)
+    try:
+        _ask("bs_open", given, length, byref(limits or Limits()), byref(handle))
+        while True:
+            _ask("bs_next", byref(handle), byref(event))
+            if not event.kind:
+                return
+            kind = ("", "block", "define", "record", "end")[event.kind]
+            values = _values(handle, event.count) if kind == "record" else ()
+            yield Event(kind, event.first, event.after, event.id, event.width, event.code, values)
+    finally:
+        _calls.bs_close(byref(handle))

@@ -1,0 +1,179 @@
+//! Streams in the LLVM bitstream container: safe calls over the C library. Begin with [`check`] and [`normal`].
+mod calls;
+mod difference;
+mod events;
+
+pub use difference::{first_difference, Difference, Standing};
+pub use events::{Event, Events};
+
+use calls::{Fault, Handle};
+use std::fmt;
+
+/// How much of an input is taken; the default is the usual limits.
+#[repr(C)]
+#[derive(Clone, Copy, Debug)]
+pub struct Limits {
+    pub bytes: u64,
+    pub depth: u32,
+    pub values: u64,
+    pub shapes_at_use: bool,
+}
+
+impl Default for Limits {
+    fn default() -> Limits {
+        let mut limits = Limits { bytes: 0, depth: 0, values: 0, shapes_at_use: false };
+        // SAFETY: it writes the four fields.
+        unsafe { calls::bs_usual_limits(&mut limits) };
+        limits
+    }
+}
+
+/// Records with this code that are directly in blocks with this id, which is not 0.
+#[repr(C)]
+#[derive(Clone, Copy, Debug, PartialEq, Eq)]
+pub struct RecordName {
+    pub block: u32,
+    pub code: u64,
+}
+
+/// What is left out: BLOCKINFO blocks, blocks by their ids, and records by their names.
+#[derive(Clone, Copy, Debug, Default)]
+pub struct LeftOut<'a> {
+    pub info: bool,
+    pub blocks: &'a [u32],
+    pub records: &'a [RecordName],
+}
+
+impl LeftOut<'_> {
+    fn passed(&self) -> calls::LeftOut {
+        calls::LeftOut {
+            info: self.info,
+            blocks: self.blocks.as_ptr(),
+            blocks_len: self.blocks.len(),
+            records: self.records.as_ptr(),
+            records_len: self.records.len(),
+        }
+    }
+}
+
+/// Why a call gave no answer.
+#[derive(Clone, Copy, Debug, PartialEq, Eq)]
+pub enum Error {
+    /// An input breaks a rule: its name, the bit, and 0 for the only or the first input, 1 for the second.
+    Refused { reason: &'static str, bit: u64, input: u32 },
+    Memory,
+    /// The normal form is longer than the limit on bytes.
+    TooLong,
+    /// A limit is past its cap.
+    Limits,
+    /// Records of BLOCKINFO blocks are named to be left out.
+    Names,
+}
+
+impl fmt::Display for Error {
+    fn fmt(&self, to: &mut fmt::Formatter<'_>) -> fmt::Result {
+        match self {
+            Error::Refused { reason, bit, .. } => write!(to, "{reason} at bit {bit}"),
+            Error::Memory => to.write_str("out of memory"),
+            Error::TooLong => to.write_str("normal form longer than the limit"),
+            Error::Limits => to.write_str("a limit is past its cap"),
+            Error::Names => to.write_str("a name of records of BLOCKINFO blocks"),
+        }
+    }
+}
+
+impl std::error::Error for Error {}
+
+fn reason_name(number: u32) -> &'static str {
+    let mut name = calls::Bytes { at: "".as_ptr(), len: 0 };
+    // SAFETY: a name lives as long as the library, which is linked in.
+    let bytes = unsafe {
+        calls::bs_reason_name(number, &mut name);
+        std::slice::from_raw_parts(name.at, name.len)
+    };
+    std::str::from_utf8(bytes).unwrap_or_default()
+}
+
+/// The status of a call that can end well: whether it was BS_DONE.
+fn ended(status: u32, fault: &Fault) -> Result<bool, Error> {
+    match status {
+        2 => Err(Error::Refused { reason: reason_name(fault.reason), bit: fault.bit, input: fault.input }),
+        3 => Err(Error::Memory),
+        4 => Err(Error::TooLong),
+        5 => Err(Error::Limits),
+        8 => Err(Error::Names),
+        status => Ok(status == 0),
+    }
+}
+
+/// An open handle, which is closed when it is dropped.
+struct Held(Handle);
+
+impl Held {
+    fn closed() -> Held {
+        Held(Handle { live: false, inner: std::ptr::null_mut() })
+    }
+
+    fn text(&mut self) -> Result<Vec<u8>, Error> {
+        let (mut text, mut needed, mut fault) = (Vec::new(), 0, Fault::default());
+        loop {
+            // SAFETY: the room is initialised, and borrowed alone.
+            let status = unsafe { calls::bs_text(&mut self.0, text.as_mut_ptr(), text.len(), &mut needed, &mut fault) };
+            if ended(status, &fault)? {
+                return Ok(text);
+            }
+            text.resize(needed, 0);
+        }
+    }
+}
+
+impl Drop for Held {
+    fn drop(&mut self) {
+        // SAFETY: the handle is closed, or open and never copied.
+        unsafe { calls::bs_close(&mut self.0) }
+    }
+}
+
+/// Whether an input is accepted.
+pub fn check(bytes: &[u8], limits: &Limits) -> Result<(), Error> {
+    let mut fault = Fault::default();
+    // SAFETY: the pointer and the length are those of one slice; so in each call below.
+    let status = unsafe { calls::bs_check(bytes.as_ptr(), bytes.len(), limits, &mut fault) };
+    ended(status, &fault).map(drop)
+}
+
+fn held_text(call: calls::Hold, bytes: &[u8], limits: &Limits, left_out: &LeftOut<'_>) -> Result<Vec<u8>, Error> {
+    let (mut held, mut fault) = (Held::closed(), Fault::default());
+    // SAFETY: what is left out is borrowed for the whole call.
+    let status = unsafe { call(bytes.as_ptr(), bytes.len(), limits, &left_out.passed(), &mut held.0, &mut fault) };
+    ended(status, &fault)?;
+    held.text()
+}
+
+/// The normal form of an input.
+pub fn normal(bytes: &[u8], limits: &Limits, left_out: &LeftOut<'_>) -> Result<Vec<u8>, Error> {
+    held_text(calls::bs_hold_normal, bytes, limits, left_out)
+}
+
+/// The listing of an input, as `bitstool show` prints it.
+pub fn show(bytes: &[u8], limits: &Limits, left_out: &LeftOut<'_>) -> Result<Vec<u8>, Error> {
+    held_text(calls::bs_hold_show, bytes, limits, left_out)
+}
+
+/// The report of an input, as `bitstool analyse` prints it.
+pub fn report(bytes: &[u8], limits: &Limits) -> Result<Vec<u8>, Error> {
+    let (mut held, mut fault) = (Held::closed(), Fault::default());
+    // SAFETY: as in `check`.
+    let status = unsafe { calls::bs_hold_report(bytes.as_ptr(), bytes.len(), limits, &mut held.0, &mut fault) };
+    ended(status, &fault)?;
+    held.text()
+}
+
+/// Whether two inputs have the same magic, blocks and records.
+pub fn same(first: &[u8], second: &[u8], limits: &Limits, left_out: &LeftOut<'_>) -> Result<bool, Error> {
+    let mut fault = Fault::default();
+    let (one, two) = (first.as_ptr(), second.as_ptr());
+    // SAFETY: as in `check`; what is left out is borrowed for the whole call.
+    let status = unsafe { calls::bs_same(one, first.len(), two, second.len(), limits, &left_out.passed(), &mut fault) };
+    ended(status, &fault)
+}

@@ -1,0 +1,46 @@
+//! Each call, on a stream of one record that is abbreviated in no way, and on a broken one.
+use bitstream::{check, first_difference, normal, report, same, show, Error, Event, Events, LeftOut, Limits, RecordName, Standing};
+
+/// A block with id 8 whose ids are 3 bits wide, and in it record 1 with the value `value`.
+fn stream(value: u8) -> Vec<u8> {
+    let mut bytes = b"DIAG\x21\x0c\0\0\x01\0\0\0\x0b\x02".to_vec();
+    bytes.extend([value, 0]);
+    bytes
+}
+
+#[test]
+fn texts_and_comparison() {
+    let (limits, whole, given) = (Limits::default(), LeftOut::default(), stream(30));
+    let form = normal(&given, &limits, &whole).unwrap();
+    assert_eq!(check(&given, &limits), Ok(()));
+    assert_eq!(normal(&form, &limits, &whole), Ok(form.clone()));
+    assert_eq!(same(&given, &form, &limits, &whole), Ok(true));
+    assert_eq!(first_difference(&given, &form, &limits, &whole), Ok(None));
+    assert!(show(&given, &limits, &whole).unwrap().starts_with(b"magic 44494147\nblock 8"));
+    assert!(report(&given, &limits).unwrap().starts_with(b"magic 44494147 bits 128\n"));
+}
+
+#[test]
+fn differences_and_names() {
+    let (limits, whole, given) = (Limits::default(), LeftOut::default(), stream(30));
+    let difference = first_difference(&given, b"DIAG", &limits, &whole).unwrap().unwrap();
+    assert_eq!((difference.first, difference.second), ((32, Standing::Block { id: 8 }), (32, Standing::End)));
+    let left_out = LeftOut { blocks: &[8], ..whole };
+    assert_eq!(first_difference(&given, b"DIAG", &limits, &left_out), Ok(None));
+    let info = LeftOut { records: &[RecordName { block: 0, code: 1 }], ..whole };
+    assert_eq!(same(&given, &given, &limits, &info), Err(Error::Names));
+}
+
+#[test]
+fn events_and_errors() {
+    let (limits, given) = (Limits::default(), stream(30));
+    let events: Vec<_> = Events::new(&given, &limits).unwrap().collect::<Result<_, _>>().unwrap();
+    assert!(matches!(events[0], Event::Enter { id: 8, first: 32, .. }));
+    assert!(matches!(events.last(), Some(Event::Leave { after: 128 })));
+    let refused = Error::Refused { reason: "Truncated", bit: 0, input: 0 };
+    assert_eq!(check(b"", &limits), Err(refused));
+    assert_eq!(refused.to_string(), "Truncated at bit 0");
+    let last = Events::new(&given[..12], &limits).unwrap().last();
+    assert!(matches!(last, Some(Err(Error::Refused { .. }))));
+    assert_eq!(check(&given, &Limits { depth: 256, ..limits }), Err(Error::Limits));
+}
