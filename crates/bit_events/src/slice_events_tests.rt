@@ -212,12 +212,12 @@ fn events_of_mixed_slices(rt: HostRuntime) {
     }
 }
 
-/// Inputs, and how many of their records are read where they lie: not those in a BLOCKINFO block, those with fields that take no
-/// bits, those past the limit on values, and those that are cut.
+/// Inputs, and how many of their records are read where they lie: not those in a BLOCKINFO block, those with arrays of
+/// fields that take no bits, those past the limit on values, and those that are cut.
 static SEEN: [(&str, u64, u64); 5] = [
     ("M B U", 1000, 1),
-    (MIXED, 6, 2),
-    (MIXED, 5, 1),
+    (MIXED, 6, 3),
+    (MIXED, 5, 2),
     (
         "M 21 0C 00 00 05 00 00 00 12 03 54 A2 80 00 0E 00 61 62",
         1000,
