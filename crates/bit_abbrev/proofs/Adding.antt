@@ -9,7 +9,7 @@ use Rattle.bit_fields.specs.declared.fault.Fault.{Fault}
 use Rattle.bit_fields.specs.declared.fault.Fault.TheVariants.{Memory}
 use Rattle.bit_fields.specs.Reader.{Reader, Took, Why, Takes, told_by, failed_reader}
 use Rattle.bit_fields.proofs.Composing.{fault_then, took_then, took_nothing, stops_here, stops_later, same_reading}
-use Rattle.bit_abbrev.specs.Values.{Adds}
+use Rattle.bit_abbrev.specs.Values.{Adds, Completes}
 
 -- a rule, and then its value changed
 pub and_gives : {A B : Type 0} (rule : Grammar A) (f : A → B) (a : Reader) (result : Result A Fault) (c : Reader) → Takes rule a result c → Takes (rule >>= λ x. gives (f x)) a (told_by f result) c
@@ -97,11 +97,6 @@ pub zeros_are : (count : ℕ) (a : Reader) (result : Result (Unit {0}) Fault) (n
 zeros_are count a result now new c h = adds_same (repeat count (gives 0)) (repeat count (fixed 0)) a result now new c (both_repeat (gives 0) (fixed 0) (λ p r. sym (zero_reads p r)) count) h
 
 -- ---- loops
-
--- whatever a rule adds from here completes what the whole rule adds
-pub record Completes (rule : Grammar (List ℕ)) (a : Reader) (before : List ℕ) (rest : Grammar (List ℕ)) (b : Reader) (now : List ℕ) : Type 0 where
-  pub live : b.live ≡ true
-  pub so : (result : Result (Unit {0}) Fault) (after : List ℕ) (c : Reader) → Adds rest b result now after c → Adds rule a result before after c
 
 -- at the beginning
 pub whole : (rule : Grammar (List ℕ)) (a : Reader) (now : List ℕ) → a.live ≡ true → Completes rule a now rule a now

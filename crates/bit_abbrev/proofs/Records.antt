@@ -1,7 +1,8 @@
 -- Reading the values of a record, operand by operand.
 use Rattle.std.specs.Prelude.{nat_le}
-use Rattle.std.proofs.Common.{◌≡◌, Bool, true, false, ℕ, zero, suc, ◌+◌, ◌-◌, ◌<◌, ◌≤◌, List, [], ◌∷◌, ◌++◌, length, take, drop, Result, Ok, Err, refl, sym, ap, subst, arith, add-one}
-use Rattle.std.proofs.lemmas.List.{append-nil, take_all}
+use Rattle.std.proofs.Common.{◌≡◌, Bool, true, false, ℕ, zero, suc, ◌+◌, ◌-◌, ◌<◌, ◌≤◌, List, [], ◌∷◌, ◌++◌, length, take, drop, Result, Ok, Err, refl, sym, ap, ◌∙◌, subst, arith, add-one, append_assoc, length-append, ◌⊎◌, inl, inr}
+use Rattle.std.proofs.Math.ListN.{replicate}
+use Rattle.std.proofs.lemmas.List.{append-nil, length-replicate, length-take-le, drop_all, take_all, take-append-drop}
 use Rattle.std.proofs.Math.Seq.{drop-cons}
 use Rattle.std.specs.Result.{OnOk}
 use Rattle.bit_grammar.specs.declared.op.Op.{Op}
@@ -17,8 +18,9 @@ use Rattle.bit_fields.specs.declared.fault.Fault.{Fault}
 use Rattle.bit_fields.specs.declared.fault.Fault.TheVariants.{Memory}
 use Rattle.bit_fields.specs.Reader.{Reader, Took, Why, Takes, failed_reader}
 use Rattle.bit_fields.proofs.Composing.{fault_then, took_then}
-use Rattle.bit_abbrev.specs.Values.{Adds, AddsAll, AddsRecord}
-use Rattle.bit_abbrev.proofs.Adding.{and_gives, part_then, part_fails, values_fail, padding_then, value_then, value_fails, no_room, adds_none, Completes}
+use Rattle.bit_abbrev.specs.Operands.{OthersInOrder}
+use Rattle.bit_abbrev.specs.Values.{Adds, AddsAll, AddsFew, AddsFirst, AddsRecord, Completes, Gains, PassesFirst}
+use Rattle.bit_abbrev.proofs.Adding.{and_gives, part_then, part_fails, values_fail, padding_then, value_then, value_fails, no_room, adds_none, whole}
 
 -- ---- an array
 
@@ -27,7 +29,7 @@ unfolding values_of
 array_counted room element others a fault now c why = part_fails (value_count room) (λ count. repeat count (scalar element)) a fault now c why
 
 pub array_read : (room : ℕ) (element : Op) (others : List Op) (a : Reader) (count : ℕ) (b : Reader) (result : Result (Unit {0}) Fault) (now new : List ℕ) (c : Reader) → Took (value_count room) a count b → count ≤ room → AddsAll (scalar element) count b result c now new
-    → Adds (values_of room (Array ∷ element ∷ others)) a result now new c × OnOk result (length new ≤ length now + room)
+    → AddsFew (values_of room (Array ∷ element ∷ others)) room a result c now new
 unfolding values_of
 array_read room element others a count b (Ok x) now new c t few h = (part_then (value_count room) (λ count. repeat count (scalar element)) a count b (Ok x) now new c t h.0, omega (arith, few, h.1))
 array_read room element others a count b (Err fault) now new c t few h = (part_then (value_count room) (λ count. repeat count (scalar element)) a count b (Err fault) now new c t h.0, tt)
@@ -83,67 +85,114 @@ single_fails room Char6 others a fault now c m n why = value_fails (scalar Char6
 single_fails room Array others a fault now c m n why = absurd (m refl)
 single_fails room Blob others a fault now c m n why = absurd (n refl)
 
--- what is read from an operand on completes the values of all
-abbrev pub CompletesFrom : (room : ℕ) (ops : List Op) (a : Reader) (before : List ℕ) (i : ℕ) (b : Reader) (now : List ℕ) → Type 0
-CompletesFrom room ops a before i b now = Completes (values_of room ops) a before (values_of room (drop i ops)) b now
+-- none of these operands is an array or a blob
+not_array : (op : Op) (others : List Op) → singles (op ∷ others) ≡ suc (length others) → op ≡ Array → ⊥
+not_array op others so is = let none : singles (op ∷ others) ≡ 0 = rw is refl in omega (arith, none, so)
 
--- that, and how many values there are
-pub record FarIn (room : ℕ) (ops : List Op) (a : Reader) (i : ℕ) (b : Reader) (before now : List ℕ) : Type 0 where
-  pub all : CompletesFrom room ops a before i b now
+not_blob : (op : Op) (others : List Op) → singles (op ∷ others) ≡ suc (length others) → op ≡ Blob → ⊥
+not_blob op others so is = let none : singles (op ∷ others) ≡ 0 = rw is refl in omega (arith, none, so)
+
+one_more : (op : Op) (others : List Op) → (op ≡ Array → ⊥) → (op ≡ Blob → ⊥) → singles (op ∷ others) ≡ suc (singles others)
+one_more (Literal v) others m n = refl
+one_more (Fixed w) others m n = refl
+one_more (Vbr w) others m n = refl
+one_more Char6 others m n = refl
+one_more Array others m n = absurd (m refl)
+one_more Blob others m n = absurd (n refl)
+
+others_single : (op : Op) (others : List Op) → singles (op ∷ others) ≡ suc (length others) → singles others ≡ length others
+others_single op others so = let one = one_more op others (not_array op others so) (not_blob op others so) in omega (arith, one, so)
+
+single_at : (ops : List Op) (i : ℕ) → singles ops ≡ length ops → i < length ops → (op_at ops i ≡ Array → ⊥) × (op_at ops i ≡ Blob → ⊥)
+single_at [] i so less = absurd (omega (arith, less))
+single_at (op ∷ ops) zero so less = (not_array op ops so, not_blob op ops so)
+single_at (op ∷ ops) (suc i) so less = single_at ops i (others_single op ops so) (omega (arith, less))
+
+pub all_single : (ops : List Op) → ((i : ℕ) → i < length ops → (op_at ops i ≡ Array → ⊥) × (op_at ops i ≡ Blob → ⊥)) → singles ops ≡ length ops
+all_single [] each = refl
+all_single (op ∷ ops) each =
+    let first = each 0 (omega arith) in
+    let one = one_more op ops first.0 first.1 in
+    omega (arith, one, all_single ops (λ i less. each (suc i) (omega (arith, less))))
+
+pub singles_and : (ops tail : List Op) → singles ops ≡ length ops → singles (ops ++ tail) ≡ length ops + singles tail
+singles_and [] tail so = omega arith
+singles_and (op ∷ ops) tail so =
+    let one = one_more op (ops ++ tail) (not_array op ops so) (not_blob op ops so) in
+    omega (arith, one, singles_and ops tail (others_single op ops so))
+
+-- what is read from one of them on completes the values of all, and how many there are
+pub record FarIn (room : ℕ) (ops tail : List Op) (a : Reader) (i : ℕ) (b : Reader) (before now : List ℕ) : Type 0 where
+  pub all : Completes (values_of room (ops ++ tail)) a before (values_of room (drop i ops ++ tail)) b now
   pub many : length now ≡ length before + i
+
+pub from_begins : (room : ℕ) (ops tail : List Op) (a : Reader) (before : List ℕ) → a.live ≡ true → FarIn room ops tail a 0 a before before
+from_begins room ops tail a before live = record { all = whole (values_of room (ops ++ tail)) a before live; many = omega arith }
 
 from_index : (ops : List Op) (i : ℕ) → i < length ops → drop i ops ≡ op_at ops i ∷ drop (i + 1) ops
 from_index ops i less = rw add-one (drop-cons ops i (Literal 0) less)
 
 -- the same, told of the operand at the index
-at_index : (room : ℕ) (ops : List Op) (a : Reader) (before : List ℕ) (i : ℕ) (b : Reader) (now : List ℕ) → i < length ops → CompletesFrom room ops a before i b now → Completes (values_of room ops) a before (values_of room (op_at ops i ∷ drop (i + 1) ops)) b now
-at_index room ops a before i b now less h = subst (λ (rest : List Op). Completes (values_of room ops) a before (values_of room rest) b now) (from_index ops i less) h
+at_index : (room : ℕ) (ops tail : List Op) (a : Reader) (i : ℕ) (b : Reader) (before now : List ℕ) → i < length ops → FarIn room ops tail a i b before now → Completes (values_of room (ops ++ tail)) a before (values_of room (op_at ops i ∷ (drop (i + 1) ops ++ tail))) b now
+at_index room ops tail a i b before now less h = subst (λ (rest : List Op). Completes (values_of room (ops ++ tail)) a before (values_of room (rest ++ tail)) b now) (from_index ops i less) h.all
 
-pub from_go_on : (room : ℕ) (ops : List Op) (a : Reader) (before : List ℕ) (i : ℕ) (b : Reader) (now : List ℕ) (value : ℕ) (c : Reader) → i < length ops → (op_at ops i ≡ Array → ⊥) → (op_at ops i ≡ Blob → ⊥) → CompletesFrom room ops a before i b now → Took (scalar (op_at ops i)) b value c → CompletesFrom room ops a before (i + 1) c (now ++ value ∷ [])
-from_go_on room ops a before i b now value c less m n h t = record {
-  live = t.live;
-  so = λ result after d k. (at_index room ops a before i b now less h).so result after d (single_then room (op_at ops i) (drop (i + 1) ops) b value c result now after d m n t k);
-}
+pub from_goes_on : (room : ℕ) (ops tail : List Op) (a : Reader) (i : ℕ) (b : Reader) (before now : List ℕ) (value : ℕ) (c : Reader) → singles ops ≡ length ops → i < length ops → FarIn room ops tail a i b before now → Took (scalar (op_at ops i)) b value c → FarIn room ops tail a (i + 1) c before (now ++ value ∷ [])
+from_goes_on room ops tail a i b before now value c single less h t =
+    let is = single_at ops i single less in
+    record {
+      all = record {
+        live = t.live;
+        so = λ result after d k. (at_index room ops tail a i b before now less h).so result after d (single_then room (op_at ops i) (drop (i + 1) ops ++ tail) b value c result now after d is.0 is.1 t k);
+      };
+      many = omega (arith, length-append now (value ∷ []), h.many);
+    }
 
-pub from_fails : (room : ℕ) (ops : List Op) (a : Reader) (before : List ℕ) (i : ℕ) (b : Reader) (now : List ℕ) (fault : Fault) (c : Reader) → i < length ops → (op_at ops i ≡ Array → ⊥) → (op_at ops i ≡ Blob → ⊥) → CompletesFrom room ops a before i b now → Why (scalar (op_at ops i)) b fault c → Adds (values_of room ops) a (Err fault) before now c
-from_fails room ops a before i b now fault c less m n h why =
-    (at_index room ops a before i b now less h).so (Err fault) now c (single_fails room (op_at ops i) (drop (i + 1) ops) b fault now c m n why)
+pub from_fails : (room : ℕ) (ops tail : List Op) (a : Reader) (i : ℕ) (b : Reader) (before now : List ℕ) (fault : Fault) (c : Reader) → singles ops ≡ length ops → i < length ops → FarIn room ops tail a i b before now → Why (scalar (op_at ops i)) b fault c → Adds (values_of room (ops ++ tail)) a (Err fault) before now c
+from_fails room ops tail a i b before now fault c single less h why =
+    let is = single_at ops i single less in
+    (at_index room ops tail a i b before now less h).so (Err fault) now c (single_fails room (op_at ops i) (drop (i + 1) ops ++ tail) b fault now c is.0 is.1 why)
 
-pub from_refused : (room : ℕ) (ops : List Op) (a : Reader) (before : List ℕ) (i : ℕ) (b : Reader) (now : List ℕ) (op : Op) (value : ℕ) (c : Reader) → CompletesFrom room ops a before i b now → Took (scalar op) b value c → Adds (values_of room ops) a (Err Memory) before now (failed_reader c)
-from_refused room ops a before i b now op value c h t = h.so (Err Memory) now (failed_reader c) (no_room (scalar op) (values_of room (drop i ops)) b value c now t)
+pub from_refused : (room : ℕ) (ops tail : List Op) (a : Reader) (i : ℕ) (b : Reader) (before now : List ℕ) (op : Op) (value : ℕ) (c : Reader) → FarIn room ops tail a i b before now → Took (scalar op) b value c → Adds (values_of room (ops ++ tail)) a (Err Memory) before now (failed_reader c)
+from_refused room ops tail a i b before now op value c h t = h.all.so (Err Memory) now (failed_reader c) (no_room (scalar op) (values_of room (drop i ops ++ tail)) b value c now t)
 
--- an operand that is the element of an array stands in the list
-pub element_inside : (ops : List Op) (i : ℕ) → IsElement (op_at ops i) → i < length ops
-element_inside [] zero is = absurd is
-element_inside [] (suc i) is = absurd is
-element_inside (op ∷ ops) zero is = omega arith
-element_inside (op ∷ ops) (suc i) is = omega (arith, element_inside ops i is)
+none_left : (ops : List Op) (i : ℕ) → length ops ≤ i → drop i ops ≡ []
+none_left [] zero most = refl
+none_left [] (suc i) most = refl
+none_left (op ∷ ops) zero most = absurd (omega (arith, most))
+none_left (op ∷ ops) (suc i) most = none_left ops i (omega (arith, most))
 
--- an array, where its element stands behind it
-from_array : (room : ℕ) (ops : List Op) (a : Reader) (before : List ℕ) (i : ℕ) (b : Reader) (now : List ℕ) (result : Result (Unit {0}) Fault) (new : List ℕ) (c : Reader) → i + 1 < length ops → op_at ops i ≡ Array → CompletesFrom room ops a before i b now
-    → Adds (values_of room (Array ∷ op_at ops (i + 1) ∷ drop (i + 1 + 1) ops)) b result now new c → Adds (values_of room ops) a result before new c
-from_array room ops a before i b now result new c less is h k =
-    let whole : Array ∷ op_at ops (i + 1) ∷ drop (i + 1 + 1) ops ≡ op_at ops i ∷ drop (i + 1) ops = rw (is, from_index ops (i + 1) less) refl in
-    (at_index room ops a before i b now (omega (arith, less)) h).so result new c (subst (λ (rest : List Op). Adds (values_of room rest) b result now new c) whole k)
+pub from_done : (room : ℕ) (ops tail : List Op) (a : Reader) (i : ℕ) (b : Reader) (before now : List ℕ) → length ops ≤ i → i ≤ length ops → FarIn room ops tail a i b before now → AddsFirst room ops tail a (Ok tt) b before now
+from_done room ops tail a i b before now most least h = (
+  subst (λ (rest : List Op). Completes (values_of room (ops ++ tail)) a before (values_of room (rest ++ tail)) b now) (none_left ops i most) h.all,
+  omega (arith, h.many, most, least),
+)
 
-from_blob : (room : ℕ) (ops : List Op) (a : Reader) (before : List ℕ) (i : ℕ) (b : Reader) (now : List ℕ) (result : Result (Unit {0}) Fault) (new : List ℕ) (c : Reader) → i < length ops → op_at ops i ≡ Blob → CompletesFrom room ops a before i b now
-    → Adds (values_of room (Blob ∷ drop (i + 1) ops)) b result now new c → Adds (values_of room ops) a result before new c
-from_blob room ops a before i b now result new c less is h k =
-    (at_index room ops a before i b now less h).so result new c (rw is k)
+-- the same of values that nobody looks at
+abbrev pub SkipsTo : (room : ℕ) (ops tail : List Op) (a : Reader) (i : ℕ) (b : Reader) (before : List ℕ) → Type 0
+SkipsTo room ops tail a i b before = (values : List ℕ) × FarIn room ops tail a i b before (before ++ values)
 
--- one more of the operands that stand for one value each
-pub single_counted : (ops : List Op) (i : ℕ) → i < length ops → (op_at ops i ≡ Array → ⊥) → (op_at ops i ≡ Blob → ⊥) → i + singles (drop i ops) ≡ singles ops → i + 1 + singles (drop (i + 1) ops) ≡ singles ops
-single_counted ops i less m n so =
-    let one : singles (drop i ops) ≡ suc (singles (drop (i + 1) ops)) = rw (from_index ops i less) (counts_one (op_at ops i) (drop (i + 1) ops) m n) in
-    omega (arith, one, so)
-  where
-    counts_one : (op : Op) (others : List Op) → (op ≡ Array → ⊥) → (op ≡ Blob → ⊥) → singles (op ∷ others) ≡ suc (singles others)
-    counts_one (Literal v) others m n = refl
-    counts_one (Fixed w) others m n = refl
-    counts_one (Vbr w) others m n = refl
-    counts_one Char6 others m n = refl
-    counts_one Array others m n = absurd (m refl)
-    counts_one Blob others m n = absurd (n refl)
+pub skips_begin : (room : ℕ) (ops tail : List Op) (a : Reader) (before : List ℕ) → a.live ≡ true → SkipsTo room ops tail a 0 a before
+skips_begin room ops tail a before live = ([], rw (append-nil before) (from_begins room ops tail a before live))
+
+pub skips_go_on : (room : ℕ) (ops tail : List Op) (a : Reader) (i : ℕ) (b : Reader) (before : List ℕ) (value : ℕ) (c : Reader) → singles ops ≡ length ops → i < length ops → SkipsTo room ops tail a i b before → Took (scalar (op_at ops i)) b value c → SkipsTo room ops tail a (i + 1) c before
+skips_go_on room ops tail a i b before value c single less h t = (h.0 ++ value ∷ [], subst (λ (now : List ℕ). FarIn room ops tail a (i + 1) c before now) (append_assoc before h.0 (value ∷ [])) (from_goes_on room ops tail a i b before (before ++ h.0) value c single less h.1 t))
+
+pub skips_fail : (room : ℕ) (ops tail : List Op) (a : Reader) (i : ℕ) (b : Reader) (before : List ℕ) (fault : Fault) (c : Reader) → singles ops ≡ length ops → i < length ops → SkipsTo room ops tail a i b before → Why (scalar (op_at ops i)) b fault c
+    → (values : List ℕ) × (length values ≡ length ops) × AddsFirst room ops tail a (Err fault) c before (before ++ values)
+skips_fail room ops tail a i b before fault c single less h why =
+    let zeros = replicate (length ops) 0 in
+    (zeros, length-replicate (length ops) 0, (zeros, refl, (from_fails room ops tail a i b before (before ++ h.0) fault c single less h.1 why).2))
+
+pub skips_done : (room : ℕ) (ops tail : List Op) (a : Reader) (i : ℕ) (b : Reader) (before : List ℕ) → length ops ≤ i → i ≤ length ops → SkipsTo room ops tail a i b before → (values : List ℕ) × (length values ≡ length ops) × AddsFirst room ops tail a (Ok tt) b before (before ++ values)
+skips_done room ops tail a i b before most least h =
+    let all = from_done room ops tail a i b before (before ++ h.0) most least h.1 in
+    (h.0, omega (arith, length-append before h.0, all.1), all)
+
+-- those that were skipped stand behind those before
+pub skipped : {V : Type 0} (took : V → List ℕ → Type 0) (v w : V) (room : ℕ) (ops tail : List Op) (a c : Reader) (result : Result (Unit {0}) Fault) → ((values others : List ℕ) → took v values → length others ≡ length ops → took w (values ++ others)) → PassesFirst room ops tail a c result → Gains took v w (AddsFirst room ops tail a result c)
+skipped took v w room ops tail a c result passes h = λ before t. let k = h before in (before ++ k.0, passes before k.0 t k.1, k.2)
+
+-- ---- how many they are, and what stands behind them
 
 -- no more of them than operands
 pub singles_within : (ops : List Op) → singles ops ≤ length ops
@@ -155,44 +204,108 @@ singles_within (Char6 ∷ ops) = omega (arith, singles_within ops)
 singles_within (Array ∷ ops) = omega arith
 singles_within (Blob ∷ ops) = omega arith
 
--- all of them stand before an array or a blob
-counted_array : (ops : List Op) (i : ℕ) → i < length ops → op_at ops i ≡ Array → i + singles (drop i ops) ≡ singles ops → i ≡ singles ops
-counted_array ops i less is so =
-    let none : singles (drop i ops) ≡ 0 = rw (from_index ops i less, is) refl in
-    omega (arith, none, so)
+counted : (ops : List Op) (count : ℕ) → count ≤ length ops → ((i : ℕ) → i < count → (op_at ops i ≡ Array → ⊥) × (op_at ops i ≡ Blob → ⊥)) → (count ≡ length ops) ⊎ (op_at ops count ≡ Blob) ⊎ (op_at ops count ≡ Array) → count ≡ singles ops
+counted [] zero few each ends = refl
+counted [] (suc count) few each ends = absurd (omega (arith, few))
+counted (op ∷ ops) zero few each (inl all) = absurd (omega (arith, all))
+counted (op ∷ ops) zero few each (inr (inl blob)) = rw blob refl
+counted (op ∷ ops) zero few each (inr (inr array)) = rw array refl
+counted (op ∷ ops) (suc count) few each ends =
+    let more = counted ops count (omega (arith, few)) (λ i less. each (suc i) (omega (arith, less))) (next ends) in
+    let first = each 0 (omega arith) in
+    let one = one_more op ops first.0 first.1 in
+    omega (arith, one, more)
+  where
+    next : (suc count ≡ length (op ∷ ops)) ⊎ (op_at ops count ≡ Blob) ⊎ (op_at ops count ≡ Array) → (count ≡ length ops) ⊎ (op_at ops count ≡ Blob) ⊎ (op_at ops count ≡ Array)
+    next (inl all) = inl (omega (arith, all))
+    next (inr last) = inr last
 
-counted_blob : (ops : List Op) (i : ℕ) → i < length ops → op_at ops i ≡ Blob → i + singles (drop i ops) ≡ singles ops → i ≡ singles ops
-counted_blob ops i less is so =
-    let none : singles (drop i ops) ≡ 0 = rw (from_index ops i less, is) refl in
-    omega (arith, none, so)
+-- an array is the last but one, a blob the last, and else there is neither
+pub counted_array : (ops : List Op) → OthersInOrder ops → 2 ≤ length ops → op_at ops (length ops - 2) ≡ Array → length ops - 2 ≡ singles ops
+counted_array ops h some is = counted ops (length ops - 2) (omega arith) (λ i less. (λ e. omega (arith, some, less, h.array i e), λ e. omega (arith, some, less, h.blob i e))) (inr (inr is))
 
--- the same, with the room that the single operands leave
-pub array_then : (room : ℕ) (ops : List Op) (a : Reader) (before : List ℕ) (i : ℕ) (b : Reader) (now : List ℕ) (result : Result (Unit {0}) Fault) (new : List ℕ) (c : Reader) → i + 1 < length ops → op_at ops i ≡ Array → i + singles (drop i ops) ≡ singles ops → CompletesFrom (room - singles ops) ops a before i b now
-    → Adds (values_of (room - i) (Array ∷ op_at ops (i + 1) ∷ drop (i + 1 + 1) ops)) b result now new c → Adds (values_of (room - singles ops) ops) a result before new c
-array_then room ops a before i b now result new c less is so h k =
-    from_array (room - singles ops) ops a before i b now result new c less is h (subst (λ (n : ℕ). Adds (values_of (room - n) (Array ∷ op_at ops (i + 1) ∷ drop (i + 1 + 1) ops)) b result now new c) (counted_array ops i (omega (arith, less)) is so) k)
+array_last : (ops : List Op) (i : ℕ) → OthersInOrder ops → (2 ≤ length ops → op_at ops (length ops - 2) ≡ Array → ⊥) → op_at ops i ≡ Array → ⊥
+array_last ops i h none e =
+    let last : i ≡ length ops - 2 = omega (arith, h.array i e) in
+    none (omega (arith, h.array i e)) (subst (λ (k : ℕ). op_at ops k ≡ Array) last e)
 
-pub blob_then : (room : ℕ) (ops : List Op) (a : Reader) (before : List ℕ) (i : ℕ) (b : Reader) (now : List ℕ) (result : Result (Unit {0}) Fault) (new : List ℕ) (c : Reader) → i < length ops → op_at ops i ≡ Blob → i + singles (drop i ops) ≡ singles ops → CompletesFrom (room - singles ops) ops a before i b now
-    → Adds (values_of (room - i) (Blob ∷ drop (i + 1) ops)) b result now new c → Adds (values_of (room - singles ops) ops) a result before new c
-blob_then room ops a before i b now result new c less is so h k =
-    from_blob (room - singles ops) ops a before i b now result new c less is h (subst (λ (n : ℕ). Adds (values_of (room - n) (Blob ∷ drop (i + 1) ops)) b result now new c) (counted_blob ops i less is so) k)
+pub counted_blob : (ops : List Op) → OthersInOrder ops → (2 ≤ length ops → op_at ops (length ops - 2) ≡ Array → ⊥) → 1 ≤ length ops → op_at ops (length ops - 1) ≡ Blob → length ops - 1 ≡ singles ops
+counted_blob ops h none some is = counted ops (length ops - 1) (omega arith) (λ i less. (array_last ops i h none, λ e. omega (arith, some, less, h.blob i e))) (inr (inl is))
 
--- no more values than there was room for at the beginning
-pub few_behind : (result : Result (Unit {0}) Fault) (i room : ℕ) (before now new : List ℕ) → i ≤ room → length now ≡ length before + i → OnOk result (length new ≤ length now + (room - i)) → OnOk result (length new ≤ length before + room)
-few_behind (Ok x) i room before now new within many h = omega (arith, within, many, h)
-few_behind (Err fault) i room before now new within many h = tt
+pub counted_all : (ops : List Op) → OthersInOrder ops → (2 ≤ length ops → op_at ops (length ops - 2) ≡ Array → ⊥) → (1 ≤ length ops → op_at ops (length ops - 1) ≡ Blob → ⊥) → length ops ≡ singles ops
+counted_all ops h none no_blob = counted ops (length ops) (omega arith) (λ i less. (array_last ops i h none, blob_last i)) (inl refl)
+  where
+    blob_last : (i : ℕ) → op_at ops i ≡ Blob → ⊥
+    blob_last i e =
+        let last : i ≡ length ops - 1 = omega (arith, h.blob i e) in
+        no_blob (omega (arith, h.blob i e)) (subst (λ (k : ℕ). op_at ops k ≡ Blob) last e)
 
-none_left : (ops : List Op) (i : ℕ) → length ops ≤ i → drop i ops ≡ []
-none_left [] zero most = refl
-none_left [] (suc i) most = refl
-none_left (op ∷ ops) zero most = absurd (omega (arith, most))
-none_left (op ∷ ops) (suc i) most = none_left ops i (omega (arith, most))
+pub front_single : (ops : List Op) → singles (take (singles ops) ops) ≡ length (take (singles ops) ops)
+front_single [] = refl
+front_single (Literal v ∷ ops) = ap suc (front_single ops)
+front_single (Fixed w ∷ ops) = ap suc (front_single ops)
+front_single (Vbr w ∷ ops) = ap suc (front_single ops)
+front_single (Char6 ∷ ops) = ap suc (front_single ops)
+front_single (Array ∷ ops) = refl
+front_single (Blob ∷ ops) = refl
 
-pub from_done : (room : ℕ) (ops : List Op) (a : Reader) (before : List ℕ) (i : ℕ) (b : Reader) (now : List ℕ) → length ops ≤ i → CompletesFrom room ops a before i b now → Adds (values_of room ops) a (Ok tt) before now b
+later : (op : Op) (ops : List Op) → OthersInOrder (op ∷ ops) → OthersInOrder ops
+later op ops h = record {
+  array = λ i e. omega (arith, h.array (suc i) e);
+  element = λ i e. let next : suc i + 1 ≡ suc (i + 1) = omega arith in rw next at (h.element (suc i) e);
+  blob = λ i e. omega (arith, h.blob (suc i) e);
+}
+
+behind_next : (op : Op) (ops : List Op) → (op ≡ Array → ⊥) → (op ≡ Blob → ⊥) → (singles ops ≡ length ops) ⊎ (op_at ops (singles ops) ≡ Blob) ⊎ (op_at ops (singles ops) ≡ Array) → (singles (op ∷ ops) ≡ suc (length ops)) ⊎ (op_at (op ∷ ops) (singles (op ∷ ops)) ≡ Blob) ⊎ (op_at (op ∷ ops) (singles (op ∷ ops)) ≡ Array)
+behind_next op ops m n h = rw (one_more op ops m n) (next h)
+  where
+    next : (singles ops ≡ length ops) ⊎ (op_at ops (singles ops) ≡ Blob) ⊎ (op_at ops (singles ops) ≡ Array) → (suc (singles ops) ≡ suc (length ops)) ⊎ (op_at ops (singles ops) ≡ Blob) ⊎ (op_at ops (singles ops) ≡ Array)
+    next (inl all) = inl (ap suc all)
+    next (inr other) = inr other
+
+behind : (ops : List Op) → (singles ops ≡ length ops) ⊎ (op_at ops (singles ops) ≡ Blob) ⊎ (op_at ops (singles ops) ≡ Array)
+behind [] = inl refl
+behind (Literal v ∷ ops) = behind_next (Literal v) ops (λ e. cc) (λ e. cc) (behind ops)
+behind (Fixed w ∷ ops) = behind_next (Fixed w) ops (λ e. cc) (λ e. cc) (behind ops)
+behind (Vbr w ∷ ops) = behind_next (Vbr w) ops (λ e. cc) (λ e. cc) (behind ops)
+behind (Char6 ∷ ops) = behind_next Char6 ops (λ e. cc) (λ e. cc) (behind ops)
+behind (Array ∷ ops) = inr (inr refl)
+behind (Blob ∷ ops) = inr (inl refl)
+
+-- a blob stands behind them, or an array and its element
+pub blob_behind : (ops : List Op) → OthersInOrder ops → length ops ≡ singles ops + 1 → drop (singles ops) ops ≡ Blob ∷ drop (singles ops + 1) ops
+blob_behind ops h last = is (behind ops)
+  where
+    is : (singles ops ≡ length ops) ⊎ (op_at ops (singles ops) ≡ Blob) ⊎ (op_at ops (singles ops) ≡ Array) → drop (singles ops) ops ≡ Blob ∷ drop (singles ops + 1) ops
+    is (inl all) = absurd (omega (arith, all, last))
+    is (inr (inl blob)) = from_index ops (singles ops) (omega (arith, last)) ∙ ap (λ (op : Op). op ∷ drop (singles ops + 1) ops) blob
+    is (inr (inr array)) = absurd (omega (arith, last, h.array (singles ops) array))
+
+pub array_behind : (ops : List Op) → OthersInOrder ops → singles ops + 1 < length ops → (drop (singles ops) ops ≡ Array ∷ op_at ops (singles ops + 1) ∷ drop (singles ops + 1 + 1) ops) × IsElement (op_at ops (singles ops + 1))
+array_behind ops h less = is (behind ops)
+  where
+    is : (singles ops ≡ length ops) ⊎ (op_at ops (singles ops) ≡ Blob) ⊎ (op_at ops (singles ops) ≡ Array) → (drop (singles ops) ops ≡ Array ∷ op_at ops (singles ops + 1) ∷ drop (singles ops + 1 + 1) ops) × IsElement (op_at ops (singles ops + 1))
+    is (inl all) = absurd (omega (arith, all, less))
+    is (inr (inl blob)) = absurd (omega (arith, less, h.blob (singles ops) blob))
+    is (inr (inr array)) = (from_index ops (singles ops) (omega (arith, less)) ∙ ap (λ (op : Op). op ∷ drop (singles ops + 1) ops) array ∙ ap (λ (others : List Op). Array ∷ others) (from_index ops (singles ops + 1) less), h.element (singles ops) array)
+
+-- the first values fail, they are all, or those behind them complete all
+pub front_fails : (room : ℕ) (ops : List Op) (a : Reader) (fault : Fault) (before after : List ℕ) (c : Reader) → AddsFirst (room - singles ops) (take (singles ops) ops) (drop (singles ops) ops) a (Err fault) c before after → AddsFew (values_of (room - singles ops) ops) room a (Err fault) c before after
+front_fails room ops a fault before after c h = (subst (λ (all : List Op). Adds (values_of (room - singles ops) all) a (Err fault) before after c) (take-append-drop (singles ops) ops) h, tt)
+
+pub front_then : (room : ℕ) (ops : List Op) (a b : Reader) (before now new : List ℕ) (result : Result (Unit {0}) Fault) (c : Reader) → singles ops ≤ room → AddsFirst (room - singles ops) (take (singles ops) ops) (drop (singles ops) ops) a (Ok tt) b before now → AddsFew (values_of (room - singles ops) (drop (singles ops) ops)) (room - singles ops) b result c now new → AddsFew (values_of (room - singles ops) ops) room a result c before new
+front_then room ops a b before now new result c fits h k = (subst (λ (all : List Op). Adds (values_of (room - singles ops) all) a result before new c) (take-append-drop (singles ops) ops) (h.0.so result new c k.0), few result k.1)
+  where
+    few : (result : Result (Unit {0}) Fault) → OnOk result (length new ≤ length now + (room - singles ops)) → OnOk result (length new ≤ length before + room)
+    few (Ok x) most = omega (arith, most, fits, h.1, length-take-le (singles ops) ops (singles_within ops))
+    few (Err fault) most = tt
+
+no_values : (room : ℕ) (a : Reader) (now : List ℕ) → a.live ≡ true → Adds (values_of room []) a (Ok tt) now now a
 unfolding values_of
-from_done room ops a before i b now most h =
-    let all = subst (λ (rest : List Op). Completes (values_of room ops) a before (values_of room rest) b now) (none_left ops i most) h in
-    all.so (Ok tt) now b (adds_none b now h.live)
+no_values room a now live = adds_none a now live
+
+pub front_is_all : (room : ℕ) (ops : List Op) (a c : Reader) (before after : List ℕ) → singles ops ≤ room → length ops ≤ singles ops → AddsFirst (room - singles ops) (take (singles ops) ops) (drop (singles ops) ops) a (Ok tt) c before after → AddsFew (values_of (room - singles ops) ops) room a (Ok tt) c before after
+front_is_all room ops a c before after fits all h = front_then room ops a c before after after (Ok tt) c fits h (subst (λ (tail : List Op). Adds (values_of (room - singles ops) tail) c (Ok tt) after after c) (sym (drop_all (singles ops) ops all)) (no_values (room - singles ops) c after h.0.live), omega arith)
 
 -- ---- a record
 
@@ -231,12 +344,6 @@ record_read first room op others a b code d now new c few t h = (
   took_then (judged first room others) (λ holds. fields_of room op others) a tt b (Ok (record { code = code; values = h.0 })) c few (took_then (scalar op) (values_after room others) b code d (Ok (record { code = code; values = h.0 })) c t (and_gives (values_of (room - singles others) others) (λ values. record { code = code; values = values }) d (Ok h.0) c h.2)),
 )
 
--- the elements of arrays behind the first operand
-pub later_elements : (op : Op) (others : List Op) → Lawful (op ∷ others) → (i : ℕ) → op_at others i ≡ Array → IsElement (op_at others (i + 1))
-later_elements op others h i e =
-    let next : suc i + 1 ≡ suc (i + 1) = omega arith in
-    rw next at (h.order.element (suc i) e)
-
 -- ---- the first operand and those behind it
 
 -- the operands behind the first
@@ -249,8 +356,8 @@ in_parts (op ∷ others) some =
     let same : take (suc (length others) - 1) others ≡ others = take_all (suc (length others) - 1) others (omega arith) in
     ap (λ (rest : List Op). op ∷ rest) (sym same)
 
-pub elements_behind : (ops : List Op) → 1 ≤ length ops → Lawful ops → (i : ℕ) → op_at (behind_first ops) i ≡ Array → IsElement (op_at (behind_first ops) (i + 1))
-elements_behind ops some h = later_elements (op_at ops 0) (behind_first ops) (subst Lawful (in_parts ops some) h)
+pub others_in_order : (ops : List Op) → 1 ≤ length ops → Lawful ops → OthersInOrder (behind_first ops)
+others_in_order ops some h = later (op_at ops 0) (behind_first ops) (subst OthersInOrder (in_parts ops some) (record { array = h.order.array; element = h.order.element; blob = h.order.blob }))
 
 -- ---- the bit at which a record began
 

@@ -47,6 +47,13 @@ pub trait Bits {
             (as_reader self.new)) result }
         ensures missed { OnErr result (missed self.old self.new) };
 
+    /// Does so where nobody looks at the number.
+    fn pass_vbr(&mut self, n: u32) -> Result<u64, Self::Miss>
+        requires some { 2 ≤ n }
+        requires few { n ≤ 32 }
+        ensures takes { Answers faults (λ r. Takes (vbr n) (as_reader self.old) r
+            (as_reader self.new)) result };
+
     /// Reads a character in six bits and answers its ASCII code. Source: "6-bit characters".
     fn char6(&mut self) -> Result<u64, Self::Miss>
         ensures takes { Answers faults (λ r. Takes char6 (as_reader self.old) r
@@ -116,6 +123,11 @@ impl<'a> Bits for Ahead<'a> {
     }
 
     #[inline(always)]
+    fn pass_vbr(&mut self, n: u32) -> Result<u64, NotBuffered> {
+        here(Ahead::pass_vbr(self, n))
+    }
+
+    #[inline(always)]
     fn char6(&mut self) -> Result<u64, NotBuffered> {
         here(Ahead::char6(self))
     }
@@ -159,6 +171,11 @@ impl<S: Source> Bits for BitReader<S> {
 
     #[inline(always)]
     fn vbr(&mut self, n: u32) -> Result<u64, Fault> {
+        BitReader::vbr(self, n)
+    }
+
+    #[inline(always)]
+    fn pass_vbr(&mut self, n: u32) -> Result<u64, Fault> {
         BitReader::vbr(self, n)
     }
 

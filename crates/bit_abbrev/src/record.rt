@@ -1,6 +1,6 @@
 //! Reading records, wherever their bits come from.
 
-ghost use Rattle.std.specs.Prelude.{◌≡◌, ◌+◌, ◌-◌, ◌≤◌, ℕ, List, [], ◌∷◌, ◌++◌, Ok, Err, IfErr, IfOk, OnErr, OnOk, length, true, nat_le};
+ghost use Rattle.std.specs.Prelude.{◌≡◌, ◌≢◌, ◌+◌, ◌-◌, ◌≤◌, ℕ, List, [], ◌∷◌, ◌++◌, Ok, Err, IfErr, IfOk, OnErr, OnOk, length, true, nat_le, false};
 ghost use Rattle.std.specs.List.{AllByRecursion};
 ghost use Rattle.bit_grammar.specs.Grammar.{gives};
 ghost use Rattle.bit_grammar.specs.Record.{scalar, singles, value_count, values_of, abbreviated, unabbreviated};
@@ -12,7 +12,8 @@ ghost use Rattle.bit_fields.specs.declared.fault.Fault.{Fault};
 ghost use Rattle.bit_fields.specs.declared.fault.Fault.TheVariants.{Memory};
 ghost use Rattle.bit_fields.specs.Reader.{Takes, IsOnly, failed_reader};
 ghost use Rattle.bit_abbrev.specs.Bits.{Answers};
-ghost use Rattle.bit_abbrev.specs.Values.{Adds, AddsAll, AddsWithin, Gains, Keeps, Recorded};
+ghost use Rattle.bit_abbrev.specs.Operands.{OthersInOrder};
+ghost use Rattle.bit_abbrev.specs.Values.{AddsAll, AddsFew, AddsFirst, AddsWithin, Gains, Keeps, PassesFirst, Recorded};
 
 use crate::abbrev::Abbrev;
 use crate::bits::Bits;
@@ -20,26 +21,41 @@ use crate::runs::Runs;
 use bit_fields::{BitReader, Fault, Source, ValueTaker};
 use bit_grammar::{Op, Reason};
 
-/// How many operands stand for one value each.
-fn singles(ops: &[Op]) -> u64
-    ensures { result ≡ singles ops.now }
+/// Whether the last operand but one is an array.
+#[inline(always)]
+fn has_array(ops: &[Op]) -> bool
+    ensures yes { result ≡ true → (2 ≤ length ops.now)
+        × (op_at ops.now (length ops.now - 2) ≡ Array) }
+    ensures no { result ≡ false → 2 ≤ length ops.now → op_at ops.now (length ops.now - 2) ≢ Array }
 {
-    let mut count = 0;
-    for op in ops {
-        if let Op::Array | Op::Blob = op {
-            break;
-        }
-        count += 1;
-    }
-    count
+    ops.len() >= 2 && matches!(ops[ops.len() - 2], Op::Array)
 }
 
-/// Whether there is room for the values of the single operands. They are counted only where the list is longer than that.
-fn have_room(ops: &[Op], room: u64) -> bool
-    ensures is { result ≡ nat_le (singles ops.now) room }
-    ensures yes { result ≡ true → singles ops.now ≤ room }
+/// Whether the last operand is a blob.
+#[inline(always)]
+fn has_blob(ops: &[Op]) -> bool
+    ensures yes { result ≡ true → (1 ≤ length ops.now)
+        × (op_at ops.now (length ops.now - 1) ≡ Blob) }
+    ensures no { result ≡ false → 1 ≤ length ops.now → op_at ops.now (length ops.now - 1) ≢ Blob }
 {
-    ops.len() as u64 <= room || singles(ops) <= room
+    !ops.is_empty() && matches!(ops[ops.len() - 1], Op::Blob)
+}
+
+/// How many operands stand for one value each: all before an array or a blob.
+#[inline(always)]
+fn singles(ops: &[Op]) -> usize
+    requires { OthersInOrder ops.now }
+    ensures is { result ≡ singles ops.now }
+    ensures within { result ≤ length ops.now }
+{
+    if has_array(ops) {
+        return ops.len() - 2;
+    }
+    if has_blob(ops) {
+        ops.len() - 1
+    } else {
+        ops.len()
+    }
 }
 
 /// Hands a value on.
@@ -94,6 +110,22 @@ pub(crate) fn read_scalar<B: Bits>(bits: &mut B, op: Op) -> Result<u64, B::Miss>
     }
 }
 
+/// Reads such a field where nobody looks at its value.
+#[inline(always)]
+#[tactic(auto, unfolding(bit_grammar::specs::Record::scalar, bit_grammar::specs::Fields::vbr))]
+fn skip_scalar<B: Bits>(bits: &mut B, op: Op) -> Result<u64, B::Miss>
+    requires lawful { HasLawfulValue op }
+    requires live { (B.as_reader bits.old).live ≡ true }
+    ensures { Answers B.faults (λ r. Takes (scalar op) (B.as_reader bits.old) r
+        (B.as_reader bits.new)) result }
+{
+    match op {
+        Op::Vbr(0) => Ok(0),
+        Op::Vbr(width) => bits.pass_vbr(u32::from(width)),
+        op => read_scalar(bits, op),
+    }
+}
+
 /// Adds so many zeros, which take no bits, at once from where on they can be taken so.
 pub(crate) fn read_zeros<B: Bits, V: ValueTaker>(
     bits: &mut B,
@@ -130,16 +162,15 @@ fn read_runs<U, B: Runs, V: ValueTaker>(
     ensures keeps { Keeps V.took values.old values.new }
 {
     let mut done = 0;
-    while done < count {
+    loop {
         done += bits.some(count - done, element, values)?;
         if done == count {
-            break;
+            return Ok(());
         }
         let value = bits.one(element)?;
         keep(bits, values, value)?;
         done += 1;
     }
-    Ok(())
 }
 
 /// Reads so many fields of an operand, which is the element of an array.
@@ -175,8 +206,8 @@ fn read_array<U, B: Runs, V: ValueTaker>(
     requires element { IsElement element }
     requires lawful { HasLawfulValue element }
     ensures adds { (others : List Op) → Answers B.faults (λ r. Gains V.took values.old values.new
-        (λ before after. Adds (values_of room (Array ∷ element ∷ others)) (B.as_reader bits.old) r
-        before after (B.as_reader bits.new) × OnOk r (length after ≤ length before + room))) result }
+        (AddsFew (values_of room (Array ∷ element ∷ others)) room (B.as_reader bits.old) r
+        (B.as_reader bits.new))) result }
     ensures keeps { Keeps V.took values.old values.new }
 {
     let count = read_count(bits, room)?;
@@ -187,14 +218,54 @@ fn read_array<U, B: Runs, V: ValueTaker>(
 #[inline(always)]
 fn read_blob<B: Runs, V: ValueTaker>(bits: &mut B, room: u64, values: &mut V) -> Result<(), B::Miss>
     ensures adds { (others : List Op) → Answers B.faults (λ r. Gains V.took values.old values.new
-        (λ before after. Adds (values_of room (Blob ∷ others)) (B.as_reader bits.old) r
-        before after (B.as_reader bits.new) × OnOk r (length after ≤ length before + room))) result }
+        (AddsFew (values_of room (Blob ∷ others)) room (B.as_reader bits.old) r
+        (B.as_reader bits.new))) result }
     ensures keeps { Keeps V.took values.old values.new }
 {
     let count = read_count(bits, room)?;
     bits.pad()?;
     read_runs::<V, B, V>(bits, count, Op::Fixed(8), values)?;
     bits.pad()
+}
+
+/// Skips the fields of operands that stand for one value each.
+#[inline(always)]
+fn skip_singles<B: Bits>(bits: &mut B, ops: &[Op]) -> Result<(), B::Miss>
+    requires single { singles ops.now ≡ length ops.now }
+    requires lawful { AllByRecursion HasLawfulValue ops.now }
+    requires live { (B.as_reader bits.old).live ≡ true }
+    ensures { (room : ℕ) (tail : List Op) → Answers B.faults (PassesFirst room ops.now tail
+        (B.as_reader bits.old) (B.as_reader bits.new)) result }
+{
+    for op in ops {
+        skip_scalar(bits, *op)?;
+    }
+    Ok(())
+}
+
+/// Reads the values of operands that stand for one value each, or skips them where nobody looks at them.
+#[inline(always)]
+fn read_singles<U, B: Bits, V: ValueTaker>(
+    bits: &mut B,
+    ops: &[Op],
+    values: &mut V,
+) -> Result<(), B::Miss>
+    requires single { singles ops.now ≡ length ops.now }
+    requires lawful { AllByRecursion HasLawfulValue ops.now }
+    requires live { (B.as_reader bits.old).live ≡ true }
+    ensures adds { (room : ℕ) (tail : List Op) → Answers B.faults (λ r. Gains V.took values.old
+        values.new (AddsFirst room ops.now tail (B.as_reader bits.old) r (B.as_reader bits.new)))
+        result }
+    ensures keeps { Keeps V.took values.old values.new }
+{
+    if values.pass(ops.len() as u64) {
+        return skip_singles(bits, ops);
+    }
+    for op in ops {
+        let value = read_scalar(bits, *op)?;
+        keep(bits, values, value)?;
+    }
+    Ok(())
 }
 
 /// Reads the values of operands, with room for so many.
@@ -205,30 +276,23 @@ fn read_values<U, B: Runs, V: ValueTaker>(
     ops: &[Op],
     values: &mut V,
 ) -> Result<(), B::Miss>
-    requires elements { (i : ℕ) → op_at ops.now i ≡ Array → IsElement (op_at ops.now (i + 1)) }
+    requires order { OthersInOrder ops.now }
     requires lawful { AllByRecursion HasLawfulValue ops.now }
     requires live { (B.as_reader bits.old).live ≡ true }
     requires fits { singles ops.now ≤ room }
     ensures adds { Answers B.faults (λ r. Gains V.took values.old values.new
-        (λ before after. Adds (values_of (room - singles ops.now) ops.now) (B.as_reader bits.old) r
-        before after (B.as_reader bits.new) × OnOk r (length after ≤ length before + room))) result }
+        (AddsFew (values_of (room - singles ops.now) ops.now) room (B.as_reader bits.old) r
+        (B.as_reader bits.new))) result }
     ensures keeps { Keeps V.took values.old values.new }
 {
-    for (index, op) in ops.iter().enumerate() {
-        match op {
-            Op::Array => return read_array::<U, B, V>(
-                bits,
-                room - index as u64,
-                ops[index + 1],
-                values,
-            ),
-            Op::Blob => return read_blob(bits, room - index as u64, values),
-            _ => {}
-        }
-        let value = read_scalar(bits, *op)?;
-        keep(bits, values, value)?;
+    let count = singles(ops);
+    read_singles::<U, B, V>(bits, &ops[..count], values)?;
+    let left = room - count as u64;
+    match ops.len() - count {
+        0 => Ok(()),
+        1 => read_blob(bits, left, values),
+        _ => read_array::<U, B, V>(bits, left, ops[count + 1], values),
     }
-    Ok(())
 }
 
 /// Reads a record by its operands, after its abbreviation id, which began at a bit: hands its values on and answers its code.
@@ -254,7 +318,7 @@ pub fn read_record<U, B: Runs, V: ValueTaker>(
     let [code_op, others @ ..] = ops else {
         unreachable!();
     };
-    bits.judge(have_room(others, room), Reason::TooManyValues, first)?;
+    bits.judge(singles(others) as u64 <= room, Reason::TooManyValues, first)?;
     let code = read_scalar(bits, *code_op)?;
     read_values::<U, B, V>(bits, room, others, values)?;
     Ok(code)

@@ -253,10 +253,12 @@ fn skip_numbers(ahead: &mut Ahead<'_>, most: u64, n: u32) -> u64
     ensures most { result ≤ most }
     ensures moves { ahead.old.position ≤ ahead.new.position }
 {
-    for done in 0..most {
+    let mut left = most;
+    while left > 0 {
         let Some(_) = ahead.pass_vbr(n) else {
-            return done;
+            return most - left;
         };
+        left -= 1;
     }
     most
 }

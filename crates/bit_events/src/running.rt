@@ -193,9 +193,9 @@ pub(crate) fn gather_records<G: Gatherer>(
     let mut ahead = ahead;
     let mut first = ahead.position();
     let mut spent = *used;
+    let mut room = limits.values().saturating_sub(spent);
     let definitions = frame.definitions.all();
     loop {
-        let room = limits.values().saturating_sub(spent);
         values.truncate(0);
         let Some((id, code)) = glance_item::<G, G::Values>(
             &mut ahead,
@@ -208,7 +208,9 @@ pub(crate) fn gather_records<G: Gatherer>(
             return Ok(first);
         };
         let after = ahead.position();
-        spent += values.count();
+        let count = values.count();
+        spent += count;
+        room = room.saturating_sub(count);
         gatherer.record(id, code, values, first, after)?;
         first = after;
     }

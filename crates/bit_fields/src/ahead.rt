@@ -270,7 +270,7 @@ impl<'a> Ahead<'a> {
 
     /// Reads zeros up to the next position that is a multiple of 32, possibly none. Source: "Abbreviation IDs", align32. Where
     /// they are all in the window, nothing is put into it: then it is often empty behind them, as `bytes` wants it.
-    #[inline]
+    #[inline(always)]
     pub fn pad(&mut self) -> Option<()>
         ensures glimpsed { OnSome result (Glimpsed align32 self.old tt self.new) }
         ensures aligned { OnSome result (self.new.position % 32 ≡ 0) }

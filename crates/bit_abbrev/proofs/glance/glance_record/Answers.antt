@@ -1,4 +1,3 @@
-use Rattle.std.proofs.Common.{ℕ}
 use Rattle.bit_fields.specs.Ahead.{reader_at}
 use Rattle.bit_abbrev.proofs.Records.{any_first}
 use Rattle.bit_abbrev.proofs.glance.glance_record.Goals as goal

@@ -1,12 +1,10 @@
-use Rattle.std.proofs.Common.{◌≡◌, ◌<◌, ◌+◌, List, ℕ, arith}
+use Rattle.std.proofs.Common.{◌<◌, ◌+◌, arith}
 use Rattle.std.proofs.lemmas.Result.{err_from_is_err_and}
 use Rattle.bit_grammar.specs.Record.{scalar}
-use Rattle.bit_abbrev.specs.Values.{Gains, Has}
 use Rattle.bit_abbrev.proofs.Missing.{far_full}
 use Rattle.bit_abbrev.proofs.Several.{far_goes_by, far_fails_by}
-use Rattle.bit_abbrev.proofs.Taking.{SoFar, far_ends, far_fails, far_goes_on}
+use Rattle.bit_abbrev.proofs.Taking.{far_ends, far_fails, far_goes_on}
 use Rattle.bit_abbrev.proofs.record.read_runs.Goals as goal
-use Rattle.bit_abbrev.proofs.record.read_runs.Goals.{else-loop-done-test, then-loop-done-test+in_ok-done+then-done-count}
 
 pub returns-in_err-done-clause-adds : goal.returns-in_err-done-clause-adds
 returns-in_err-done-clause-adds g c =
@@ -16,7 +14,7 @@ returns-in_err-done-clause-adds g c =
 pub returns-in_err-value-clause-adds : goal.returns-in_err-value-clause-adds
 returns-in_err-value-clause-adds g c =
     let failed = err_from_is_err_and c.from_residual-in_err-value.result c.from_residual-in_err-value.ensures.1 in
-    let less : c.loop-done.done + c.in_ok-done.field-0 < c.args.count = omega (arith, c.if-done-count.false, c.in_ok-done.ensures.most, c.loop-done-test.true) in
+    let less : c.loop-done.done + c.in_ok-done.field-0 < c.args.count = omega (arith, c.if-done-count.false, c.in_ok-done.ensures.most) in
     rw (failed.1, failed.2) (λ fault stands before t.
     let h = far_goes_by g.V.ValueTaker.took c.loop-done.values c.some.new.values (scalar c.args.element) c.args.count (g.B.Bits.as_reader c.args.bits.now) before c.loop-done.done (g.B.Bits.as_reader c.loop-done.bits) c.in_ok-done.field-0 (g.B.Bits.as_reader c.some.new.self) c.in_ok-done.ensures.most (c.loop-done.invariant.gains before t) c.in_ok-done.ensures.adds in
     far_fails g.V.ValueTaker.took c.some.new.values (scalar c.args.element) c.args.count (g.B.Bits.as_reader c.args.bits.now) before (c.loop-done.done + c.in_ok-done.field-0) (g.B.Bits.as_reader c.some.new.self) fault (g.B.Bits.as_reader c.one.new.self) less h (c.in_err-value.ensures.takes fault stands))
@@ -30,7 +28,7 @@ returns-in_err-keep-clause-adds g c =
 
 pub loop-done-preserved : goal.loop-done-preserved
 loop-done-preserved g c =
-    let less : c.loop-done.done + c.in_ok-done.field-0 < c.args.count = omega (arith, c.if-done-count.false, c.in_ok-done.ensures.most, c.loop-done-test.true) in
+    let less : c.loop-done.done + c.in_ok-done.field-0 < c.args.count = omega (arith, c.if-done-count.false, c.in_ok-done.ensures.most) in
     rw c.in_ok-keep.ensures.ok.0 (record {
       most = omega (arith, less);
       live = c.in_ok-value.ensures.takes.live;
@@ -39,10 +37,7 @@ loop-done-preserved g c =
           far_goes_on g.V.ValueTaker.took c.some.new.values c.keep.new.values (scalar c.args.element) c.args.count (g.B.Bits.as_reader c.args.bits.now) before (c.loop-done.done + c.in_ok-done.field-0) (g.B.Bits.as_reader c.some.new.self) c.in_ok-value.value (g.B.Bits.as_reader c.one.new.self) less h c.in_ok-value.ensures.takes c.in_ok-keep.ensures.ok.1;
     })
 
-pub returns-clause-adds : goal.returns-clause-adds
-returns-clause-adds g c = elim c.loop-done-test.branch [
-  | else-loop-done-test w ↦ rw (w.bits-is, w.values-is) (λ before t. far_ends g.V.ValueTaker.took c.loop-done.values (scalar c.args.element) c.args.count (g.B.Bits.as_reader c.args.bits.now) before c.loop-done.done (g.B.Bits.as_reader c.loop-done.bits) w.loop-done-test.false c.loop-done.invariant.most (c.loop-done.invariant.gains before t))
-  | then-loop-done-test+in_ok-done+then-done-count w ↦ rw (w.bits-is, w.values-is) (λ before t.
-      let h = far_goes_by g.V.ValueTaker.took c.loop-done.values w.some.new.values (scalar c.args.element) c.args.count (g.B.Bits.as_reader c.args.bits.now) before c.loop-done.done (g.B.Bits.as_reader c.loop-done.bits) w.in_ok-done.field-0 (g.B.Bits.as_reader w.some.new.self) w.in_ok-done.ensures.most (c.loop-done.invariant.gains before t) w.in_ok-done.ensures.adds in
-      far_ends g.V.ValueTaker.took w.some.new.values (scalar c.args.element) c.args.count (g.B.Bits.as_reader c.args.bits.now) before (c.loop-done.done + w.in_ok-done.field-0) (g.B.Bits.as_reader w.some.new.self) (omega (arith, w.if-done-count.true)) (omega (arith, w.if-done-count.true)) h)
-]
+pub returns-then-done-count-clause-adds : goal.returns-then-done-count-clause-adds
+returns-then-done-count-clause-adds g c = λ before t.
+    let h = far_goes_by g.V.ValueTaker.took c.loop-done.values c.some.new.values (scalar c.args.element) c.args.count (g.B.Bits.as_reader c.args.bits.now) before c.loop-done.done (g.B.Bits.as_reader c.loop-done.bits) c.in_ok-done.field-0 (g.B.Bits.as_reader c.some.new.self) c.in_ok-done.ensures.most (c.loop-done.invariant.gains before t) c.in_ok-done.ensures.adds in
+    far_ends g.V.ValueTaker.took c.some.new.values (scalar c.args.element) c.args.count (g.B.Bits.as_reader c.args.bits.now) before (c.loop-done.done + c.in_ok-done.field-0) (g.B.Bits.as_reader c.some.new.self) (omega (arith, c.if-done-count.true)) (omega (arith, c.if-done-count.true)) h

@@ -1,9 +1,6 @@
-use Rattle.std.proofs.Common.{[], refl, subst, arith}
-use Rattle.std.proofs.lemmas.List.{append-nil}
 use Rattle.bit_grammar.specs.Record.{scalar}
 use Rattle.bit_fields.specs.Ahead.{reader_at}
 use Rattle.bit_abbrev.proofs.Buffered.{past_gained}
-use Rattle.bit_abbrev.proofs.Taking.{far_begins, far_ends}
 use Rattle.bit_abbrev.proofs.runs.count_fields.Goals as goal
 
 pub returns-then-pass-clause-adds : goal.returns-then-pass-clause-adds

@@ -1,4 +1,4 @@
-use Rattle.std.proofs.Common.{◌≡◌, ap, map, Ok, refl}
+use Rattle.std.proofs.Common.{◌≡◌, map, Ok, refl}
 use Rattle.std.proofs.Math.ListN.{replicate}
 use Rattle.std.proofs.lemmas.List.{length-replicate}
 use Rattle.bit_grammar.specs.Grammar.{repeat}

@@ -1,24 +1,35 @@
-use Rattle.std.proofs.Common.{ap, arith}
+use Rattle.std.proofs.Common.{◌≡◌, ◌+◌, ◌-◌, ℕ, arith, subst}
 use Rattle.bit_grammar.specs.Fields.{vbr}
-use Rattle.bit_fields.specs.Ahead.{InSight, reader_at}
-use Rattle.bit_abbrev.proofs.Buffered.{took_at, past_begins, past_goes_on, past_ends}
+use Rattle.bit_fields.specs.Ahead.{reader_at}
+use Rattle.bit_abbrev.proofs.Buffered.{FarPast, took_at, past_begins, past_goes_on, past_ends}
 use Rattle.bit_abbrev.proofs.runs.skip_numbers.Goals as goal
 
-pub loop-done-init : goal.loop-done-init
-loop-done-init c = record { forward = omega arith; past = λ many few. past_begins (vbr c.args.n) many c.args.ahead.now }
-
-pub returns-in_default-clause-skips : goal.returns-in_default-clause-skips
-returns-in_default-clause-skips c = rw c.in_default.ensures.stays (past_ends (vbr c.args.n) c.loop-done.done c.loop-done.done (reader_at c.args.ahead.now) (reader_at c.loop-done.ahead) (omega arith) (omega arith) (c.loop-done.invariant.past c.loop-done.done (omega arith)))
-
-pub returns-in_default-clause-moves : goal.returns-in_default-clause-moves
-returns-in_default-clause-moves c = rw c.in_default.ensures.stays c.loop-done.invariant.forward
-
-pub loop-done-preserved : goal.loop-done-preserved
-loop-done-preserved c = record {
-  forward = omega (arith, c.loop-done.invariant.forward, c.in-Some.ensures.moves);
-  past = λ many few. past_goes_on (vbr c.args.n) many c.loop-done.done (reader_at c.args.ahead.now) (reader_at c.loop-done.ahead) c.in-Some.field-0 (reader_at c.pass_vbr.new.self) (omega (arith, few)) (c.loop-done.invariant.past many (omega (arith, few)))
-      (took_at (vbr c.args.n) c.loop-done.ahead c.in-Some.field-0 c.pass_vbr.new.self c.in-Some.ensures.glimpsed);
+pub loop-left-init : goal.loop-left-init
+loop-left-init c = record {
+  within = omega arith;
+  forward = omega arith;
+  past = λ many few.
+      let none : c.args.most - c.args.most ≡ 0 = omega arith in
+      rw none (past_begins (vbr c.args.n) many c.args.ahead.now);
 }
 
+pub loop-left-preserved : goal.loop-left-preserved
+loop-left-preserved c =
+    let a = reader_at c.args.ahead.now in
+    let d = reader_at c.pass_vbr.new.self in
+    let one : c.args.most - c.loop-left.left + 1 ≡ c.args.most - (c.loop-left.left - 1) = omega (arith, c.loop-left-test.true, c.loop-left.invariant.within) in
+    record {
+      within = omega (arith, c.loop-left.invariant.within);
+      forward = omega (arith, c.loop-left.invariant.forward, c.in-Some.ensures.moves);
+      past = λ many few. subst (λ (done : ℕ). FarPast (vbr c.args.n) many done a d) one
+          (past_goes_on (vbr c.args.n) many (c.args.most - c.loop-left.left) a (reader_at c.loop-left.ahead) c.in-Some.field-0 d (omega (arith, few, one)) (c.loop-left.invariant.past many (omega (arith, few)))
+          (took_at (vbr c.args.n) c.loop-left.ahead c.in-Some.field-0 c.pass_vbr.new.self c.in-Some.ensures.glimpsed));
+    }
+
+pub returns-in_default-clause-skips : goal.returns-in_default-clause-skips
+returns-in_default-clause-skips c =
+    let done = c.args.most - c.loop-left.left in
+    rw c.in_default.ensures.stays (past_ends (vbr c.args.n) done done (reader_at c.args.ahead.now) (reader_at c.loop-left.ahead) (omega arith) (omega arith) (c.loop-left.invariant.past done (omega arith)))
+
 pub returns-clause-skips : goal.returns-clause-skips
-returns-clause-skips c = past_ends (vbr c.args.n) c.args.most c.loop-done.done (reader_at c.args.ahead.now) (reader_at c.loop-done.ahead) c.loop-done-test.false (omega arith) (c.loop-done.invariant.past c.args.most (omega arith))
+returns-clause-skips c = past_ends (vbr c.args.n) c.args.most (c.args.most - c.loop-left.left) (reader_at c.args.ahead.now) (reader_at c.loop-left.ahead) (omega (arith, c.loop-left-test.false)) (omega arith) (c.loop-left.invariant.past c.args.most (omega arith))

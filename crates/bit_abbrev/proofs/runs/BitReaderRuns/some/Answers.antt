@@ -1,9 +1,8 @@
 use Rattle.std.proofs.lemmas.Result.{err_from_is_err_and}
-use Rattle.bit_grammar.specs.Grammar.{gives, repeat}
+use Rattle.bit_grammar.specs.Grammar.{repeat}
 use Rattle.bit_grammar.specs.Record.{scalar}
 use Rattle.bit_fields.specs.Ahead.{reader_at}
 use Rattle.bit_fields.proofs.Glimpses.{took_glimpsed, shown_caught_up, shown_not_caught_up}
-use Rattle.bit_abbrev.proofs.Adding.{memory_after}
 use Rattle.bit_abbrev.proofs.Several.{some_added, as_added}
 use Rattle.bit_abbrev.proofs.runs.BitReaderRuns.some.Goals as goal
 

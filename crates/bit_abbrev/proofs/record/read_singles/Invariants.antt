@@ -1,0 +1,11 @@
+use Rattle.std.proofs.Common.{◌≡◌, ℕ, List, true}
+use Rattle.bit_grammar.specs.declared.op.Op.{Op}
+use Rattle.bit_abbrev.specs.Values.{Gains}
+use Rattle.bit_abbrev.proofs.Records.{FarIn}
+use Rattle.bit_abbrev.proofs.record.read_singles.Given as goal
+
+abbrev pub invariant-loop-op : goal.invariant-loop-op
+invariant-loop-op g l = record {
+  live : (g.B.Bits.as_reader l.bits).live ≡ true;
+  far : (room : ℕ) (tail : List Op) → Gains g.V.ValueTaker.took l.fn.values l.values (FarIn room l.ops tail (g.B.Bits.as_reader l.fn.bits) l.op-index (g.B.Bits.as_reader l.bits));
+}
