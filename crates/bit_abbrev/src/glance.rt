@@ -34,9 +34,9 @@ pub fn glance_record<U, V: ValueTaker>(
 }
 
 /// Reads a record that is not abbreviated, after its abbreviation id: hands its values on and answers its code. Where it answers
-/// `None`, some of its values may be added.
+/// `None`, some of its values may be added. `U` is whom it is compiled for.
 #[inline(always)]
-pub fn glance_unabbreviated<V: ValueTaker>(
+pub fn glance_unabbreviated<U, V: ValueTaker>(
     ahead: &mut Ahead<'_>,
     room: u64,
     values: &mut V,
@@ -46,7 +46,7 @@ pub fn glance_unabbreviated<V: ValueTaker>(
         (reader_at ahead.new))) }
     ensures keeps { Keeps V.took values.old values.new }
 {
-    match read_plain(ahead, room, values) {
+    match read_plain::<U, Ahead<'_>, V>(ahead, room, values) {
         Ok(code) => Some(code),
         Err(_) => None,
     }

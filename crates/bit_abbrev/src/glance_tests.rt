@@ -109,7 +109,7 @@ fn glance_plain<V: ValueTaker>(
     };
     open_block(&mut reader)?;
     let mut ahead = Ahead::new(reader.sight()?);
-    let code = glance_unabbreviated(&mut ahead, room, values);
+    let code = glance_unabbreviated::<V, V>(&mut ahead, room, values);
     Ok(code.map(|code| (code, ahead.position())))
 }
 

@@ -216,7 +216,11 @@ fn read_array<U, B: Runs, V: ValueTaker>(
 
 /// Reads a blob, with room for so many values.
 #[inline(always)]
-fn read_blob<B: Runs, V: ValueTaker>(bits: &mut B, room: u64, values: &mut V) -> Result<(), B::Miss>
+fn read_blob<U, B: Runs, V: ValueTaker>(
+    bits: &mut B,
+    room: u64,
+    values: &mut V,
+) -> Result<(), B::Miss>
     ensures adds { (others : List Op) → Answers B.faults (λ r. Gains V.took values.old values.new
         (AddsFew (values_of room (Blob ∷ others)) room (B.as_reader bits.old) r
         (B.as_reader bits.new))) result }
@@ -224,7 +228,7 @@ fn read_blob<B: Runs, V: ValueTaker>(bits: &mut B, room: u64, values: &mut V) ->
 {
     let count = read_count(bits, room)?;
     bits.pad()?;
-    read_runs::<V, B, V>(bits, count, Op::Fixed(8), values)?;
+    read_runs::<U, B, V>(bits, count, Op::Fixed(8), values)?;
     bits.pad()
 }
 
@@ -290,7 +294,7 @@ fn read_values<U, B: Runs, V: ValueTaker>(
     let left = room - count as u64;
     match ops.len() - count {
         0 => Ok(()),
-        1 => read_blob(bits, left, values),
+        1 => read_blob::<U, B, V>(bits, left, values),
         _ => read_array::<U, B, V>(bits, left, ops[count + 1], values),
     }
 }
@@ -325,9 +329,9 @@ pub fn read_record<U, B: Runs, V: ValueTaker>(
 }
 
 /// Reads a record that is not abbreviated, after its abbreviation id: hands its values on and answers its code. Where it fails,
-/// some of its values may be added.
+/// some of its values may be added. `U` is whom it is compiled for.
 #[inline(always)]
-pub fn read_plain<B: Runs, V: ValueTaker>(
+pub fn read_plain<U, B: Runs, V: ValueTaker>(
     bits: &mut B,
     room: u64,
     values: &mut V,
@@ -339,7 +343,7 @@ pub fn read_plain<B: Runs, V: ValueTaker>(
 {
     let code = bits.vbr(6)?;
     let count = read_count(bits, room)?;
-    read_runs::<(), B, V>(bits, count, Op::Vbr(6), values)?;
+    read_runs::<U, B, V>(bits, count, Op::Vbr(6), values)?;
     Ok(code)
 }
 
@@ -401,7 +405,7 @@ pub fn read_unabbreviated<S: Source, V: ValueTaker>(
 {
     let start = reader.position();
     let before = values.count();
-    match read_plain(reader, room, values) {
+    match read_plain::<V, BitReader<S>, V>(reader, room, values) {
         Ok(code) => Ok(code),
         Err(fault) => {
             values.truncate(before);

@@ -50,15 +50,15 @@ fn glance_abbreviated<U, V: ValueTaker>(
     glance_record::<U, V>(ahead, ops, room, values)
 }
 
-/// Reads a record that is not abbreviated after its id, and answers its code.
+/// Reads a record that is not abbreviated after its id, and answers its code. `U` is whom it is compiled for.
 #[inline(always)]
-fn glance_plain<V: ValueTaker>(ahead: &mut Ahead<'_>, room: u64, values: &mut V) -> Option<u64>
+fn glance_plain<U, V: ValueTaker>(ahead: &mut Ahead<'_>, room: u64, values: &mut V) -> Option<u64>
     ensures glimpsed { (definitions : List (List Op)) (id : ℕ) → id ≡ 3
         → IfSome result (λ code. Gains V.took values.old values.new
         (AddsBehind (λ list. ReadsEntry definitions room id ahead.old code list ahead.new))) }
     ensures keeps { Keeps V.took values.old values.new }
 {
-    glance_unabbreviated(ahead, room, values)
+    glance_unabbreviated::<U, V>(ahead, room, values)
 }
 
 /// Reads a record after its id, and answers its code. `U` is whom it is compiled for.
@@ -76,7 +76,7 @@ fn glance_entry<U, V: ValueTaker>(
     ensures keeps { Keeps V.took values.old values.new }
 {
     if id == 3 {
-        return glance_plain(ahead, room, values);
+        return glance_plain::<U, V>(ahead, room, values);
     }
     glance_abbreviated::<U, V>(ahead, definitions, room, id, values)
 }
@@ -96,7 +96,7 @@ fn glance_by<V: ValueTaker>(
     ensures keeps { Keeps V.took values.old values.new }
 {
     if id == 3 {
-        return glance_plain(ahead, room, values);
+        return glance_plain::<V, V>(ahead, room, values);
     }
     glance_abbreviated::<V, V>(ahead, &definitions.all(), room, id, values)
 }

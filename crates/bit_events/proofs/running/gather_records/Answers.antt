@@ -6,8 +6,12 @@ use Rattle.bit_events.proofs.Runs.{gathers_none, gathers_more}
 use Rattle.bit_events.proofs.running.gather_records.Goals as goal
 
 pub loop-id-init : goal.loop-id-init
-loop-id-init g c = record { gathers = gathers_none g.G.Gatherer.gathered c.args.limits.now c.args.frame.now c.args.used.now c.args.ahead c.args.gatherer.now; room = omega (arith, c.saturating_sub-room.ensures, c.values.ensures.values);
-  first = c.position-first.ensures; took = c.requires.took }
+loop-id-init g c = record {
+  gathers = gathers_none g.G.Gatherer.gathered c.args.limits.now c.args.frame.now c.args.used.now c.args.ahead c.args.gatherer.now;
+  room = omega (arith, c.saturating_sub-room.ensures, c.values.ensures.values);
+  first = c.position-first.ensures;
+  took = c.requires.took;
+}
 
 pub glance_item-requires-clause-took : goal.glance_item-requires-clause-took
 glance_item-requires-clause-took g c = (let was = c.loop-id.invariant.took in ([], c.truncate.ensures [] was.0 was.1 refl))
