@@ -67,8 +67,8 @@ struct bs_record_name {
     uint64_t code;
 };
 
-/* What of an input is left out. Begin with BS_WHOLE, which is all zeros and leaves out nothing. For each block and record the names
-   are searched from the first to the last. */
+/* What of an input is left out. Begin with BS_WHOLE, which is all zeros and leaves out nothing. A call puts the names in order once,
+   so a block or a record is looked up in a time that hardly grows with their number. */
 struct bs_left_out {
     /* The BLOCKINFO blocks, as where block 0 is named. */
     bool info;

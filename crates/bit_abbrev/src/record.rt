@@ -272,15 +272,18 @@ fn read_singles<U, B: Bits, V: ValueTaker>(
     Ok(())
 }
 
-/// Reads the values of operands, with room for so many.
+/// Reads the values of operands, with room for so many. Of the operands so many stand for one value each.
 #[inline(always)]
 fn read_values<U, B: Runs, V: ValueTaker>(
     bits: &mut B,
     room: u64,
     ops: &[Op],
+    count: usize,
     values: &mut V,
 ) -> Result<(), B::Miss>
     requires order { OthersInOrder ops.now }
+    requires singles { count ≡ singles ops.now }
+    requires within { count ≤ length ops.now }
     requires lawful { AllByRecursion HasLawfulValue ops.now }
     requires live { (B.as_reader bits.old).live ≡ true }
     requires fits { singles ops.now ≤ room }
@@ -289,7 +292,6 @@ fn read_values<U, B: Runs, V: ValueTaker>(
         (B.as_reader bits.new))) result }
     ensures keeps { Keeps V.took values.old values.new }
 {
-    let count = singles(ops);
     read_singles::<U, B, V>(bits, &ops[..count], values)?;
     let left = room - count as u64;
     match ops.len() - count {
@@ -322,9 +324,10 @@ pub fn read_record<U, B: Runs, V: ValueTaker>(
     let [code_op, others @ ..] = ops else {
         unreachable!();
     };
-    bits.judge(singles(others) as u64 <= room, Reason::TooManyValues, first)?;
+    let count = singles(others);
+    bits.judge(count as u64 <= room, Reason::TooManyValues, first)?;
     let code = read_scalar(bits, *code_op)?;
-    read_values::<U, B, V>(bits, room, others, values)?;
+    read_values::<U, B, V>(bits, room, others, count, values)?;
     Ok(code)
 }
 

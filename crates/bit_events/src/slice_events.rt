@@ -123,6 +123,7 @@ impl<'a> SliceEvents<'a> {
         }
         let mut ahead = self.ahead.copy();
         let read = self.machine.note_ahead(&self.limits, &mut ahead, values)?;
+        self.values.clear(); // so that values are held once
         self.ahead = ahead;
         self.found = None;
         Some(read)

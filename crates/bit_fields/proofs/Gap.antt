@@ -1,5 +1,5 @@
 -- Bits that nobody reads: the gap between a wrapper and its stream.
-use Rattle.std.proofs.Common.{◌≡◌, ℕ, ◌+◌, ◌-◌, ◌<◌, ◌≤◌, Bool, true, List, length, drop, Result, Ok, Err, refl, sym, ap, ◌∙◌, subst, arith, inl, inr}
+use Rattle.std.proofs.Common.{◌≡◌, ℕ, ◌+◌, ◌-◌, ◌<◌, ◌≤◌, Bool, true, List, length, drop, Result, Ok, Err, refl, sym, ◌∙◌, subst, arith, inl, inr}
 use Rattle.std.proofs.lemmas.Bool.{cases_lt, le-ltb, lt-ltb}
 use Rattle.std.proofs.lemmas.List.{length-drop}
 use Rattle.bit_grammar.specs.declared.reason.Reason.{Reason}
@@ -9,9 +9,8 @@ use Rattle.bit_grammar.specs.Grammar.{Grammar, at, ◌>>◌, reading}
 use Rattle.bit_grammar.specs.Input.{any_bits}
 use Rattle.bit_fields.specs.declared.fault.Fault.{Fault}
 use Rattle.bit_fields.specs.declared.fault.Fault.TheVariants.{Refused, Read, Write, Memory, OutputTooLong, Failed}
-use Rattle.bit_fields.specs.Inflow.{Flow, flow_bits, Skips}
 use Rattle.bit_fields.specs.Reader.{Reader, TellsBytes, Breaks, Took, Why}
-use Rattle.bit_fields.specs.Inside.{gap_of, TookGap, reader_of}
+use Rattle.bit_fields.specs.Inside.{gap_of, TookGap}
 use Rattle.bit_fields.proofs.BitLaws.{drop_more}
 use Rattle.bit_fields.proofs.Composing.{took_then, same_reading, from_here}
 
@@ -36,24 +35,6 @@ gap_both n more first p r = elim (cases_lt (length r) n) [
 ]
 
 -- ---- what a step takes
-
-pub bits_skipped : (was : Bool) (first most count p q : ℕ) (f g : Flow) (now : Reader) → reader_of was p f ≡ now → was ≡ true → Skips f g count → count ≤ most → q ≡ p + count → TookGap first most count now (reader_of was q g)
-bits_skipped was first most count p q f g now view live skips few q_is =
-    rw (← view, live, q_is) (record {
-      some = skips.some;
-      few = few;
-      took = record {
-        was_live = refl;
-        live = refl;
-        goes_on = skips.spends;
-        forward = omega arith;
-        end = skips.end;
-        limit = skips.limit;
-        extent = λ k. rw (skips.total k, skips.end, skips.limit) refl;
-        reads = λ k. gap_whole count first p (flow_bits f) (skips.there k) ∙ ap (λ (r : List Bool). Ok (tt, p + count, r)) (sym (skips.left k));
-      };
-      moves = refl;
-    })
 
 -- ---- the loop
 
@@ -144,9 +125,3 @@ gap_skipped first bits left a b so done here =
     let n : bits - left ≡ bits = omega arith in
     let all : Took (gap_of first bits) a tt b = subst (λ (m : ℕ). Took (gap_of first m) a tt b) n (so.took first) in
     from_here (λ s. gap_of s bits) a (Ok tt) b (subst (λ (s : ℕ). Took (gap_of s bits) a tt b) here all)
-
--- so many bits at once
-pub bits_at_once : (was : Bool) (bits p q : ℕ) (f g : Flow) (now : Reader) → reader_of was p f ≡ now → was ≡ true → Skips f g bits → q ≡ p + bits → Took (any_bits bits) now tt (reader_of was q g)
-unfolding any_bits
-bits_at_once was bits p q f g now view live skips q_is =
-    from_here (λ s. gap_of s bits) now (Ok tt) (reader_of was q g) (bits_skipped was now.position bits bits p q f g now view live skips (omega arith) q_is).took

@@ -1,13 +1,14 @@
 -- What a source that keeps what it gives has kept.
-use Rattle.std.proofs.Common.{◌≡◌, ℕ, zero, suc, ◌+◌, ◌≤◌, Bool, true, List, [], ◌∷◌, ◌++◌, length, take, Option, Some, None, Result, Ok, Err, refl, sym, ap, subst, ◌∙◌, arith, append_assoc, append-nil, take-take}
-use Rattle.std.proofs.lemmas.List.{length-take-le}
+use Rattle.std.proofs.Common.{◌≡◌, ℕ, zero, suc, ◌+◌, ◌≤◌, Bool, true, ◌-◌, List, [], ◌∷◌, ◌++◌, length, take, Option, Some, None, Result, Ok, Err, refl, sym, ap, subst, ◌∙◌, arith, append_assoc, append-nil, take-take}
+use Rattle.std.proofs.lemmas.List.{length-take-le, length-append, nil_from_length}
+use Rattle.std.proofs.Math.Seq.{take-append-add}
 use lib.Seq.{take-append_seam}
-use Rattle.std.proofs.KnownBytes.{Keeps-trans}
 use Rattle.std.specs.Io.KnownBytes.{Consumes, Keeps, prepend_known}
 use Rattle.bit_fields.specs.declared.kept.Kept.{Kept}
 use Rattle.bit_fields.specs.declared.source.SourceFailed.{SourceFailed}
-use Rattle.bit_fields.specs.Devices.{Account, SaysOf, Incoming, IsFresh, IsWorn, Begins, Gave, GaveNone, GaveWord, GaveBehind, Looked, Looks, Spends, Fails, known_bytes, keeps_of}
-use Rattle.bit_fields.specs.Kept.{GrewBy, KeptAhead}
+use Rattle.bit_fields.specs.Devices.{Account, SaysOf, Incoming, IsFresh, Begins, Gave, GaveNone, GaveUnseen, Looked, Looks, Spends, Fails, known_bytes, keeps_of}
+use Rattle.bit_fields.specs.Kept.{KeptAhead}
+use Rattle.bit_fields.proofs.Words.{looked_consumed, none_looked}
 
 -- ---- a pull
 
@@ -67,22 +68,6 @@ pub looks_kept : (is : Bool) (kept : List ℕ) (i j : Incoming) (answer : Result
 looks_kept is kept i j (Ok some) looks = looked_kept is kept i j looks
 looks_kept is kept i j (Err e) looks = gave_none is kept i j looks
 
--- it was looked at twice
-pub looked_again : (a b c : Incoming) → Looked a b → Looked b c → Looked a c
-looked_again a b c p q = record {
-  bytes = Keeps-trans a.to_come b.to_come c.to_come p.bytes q.bytes;
-  pulls = q.pulls ∙ p.pulls;
-  failures = q.failures ∙ p.failures;
-  worn = λ worn. q.worn (subst IsWorn (sym (p.worn worn)) worn) ∙ p.worn worn;
-  accounts = λ n all says. q.accounts n all (p.accounts n all says);
-}
-
-kept_consumed : (a b c : Option (List ℕ)) (gone : List ℕ) → Keeps a b → Consumes b c gone → Consumes a c gone
-kept_consumed None b c gone same gave = tt
-kept_consumed (Some xs) None c gone same gave = absurd same
-kept_consumed (Some xs) (Some ys) None gone same gave = absurd gave
-kept_consumed (Some xs) (Some ys) (Some zs) gone same gave = sym same ∙ gave
-
 -- what lies in memory was kept before it was taken, or memory was refused
 told_ahead : (kept now front gone : List ℕ) (i j : Option (List ℕ)) (all : List ℕ) → Consumes i j gone → Begins i front → length front ≡ length gone → now ≡ kept ++ front → prepend_known kept i ≡ Some all → prepend_known now j ≡ Some all
 told_ahead kept now front gone None j all gave begins same more is = absurd cc
@@ -103,50 +88,41 @@ pub gave_ahead : (old new : Kept) (a b c : Incoming) (count : ℕ) (into : List 
 gave_ahead old new a b c count into looked ahead gave = record {
   fresh = omega (arith, gave.fresh, looked.pulls, looked.failures);
   fits = gave.fits;
-  bytes = kept_consumed a.to_come b.to_come c.to_come (take count into) looked.bytes gave.bytes;
+  bytes = looked_consumed a.to_come b.to_come c.to_come (take count into) looked.bytes gave.bytes;
   end = gave.end;
   pulls = gave.pulls ∙ ap (λ (n : ℕ). n + 1) looked.pulls;
   failures = gave.failures ∙ looked.failures;
   accounts = says_before (record { kept = old.whole; whole = prepend_known old.bytes.items a.to_come }) (record { kept = new.whole; whole = prepend_known new.bytes.items c.to_come }) a.accounts c.accounts
       (λ all says h. let grew = ahead.3 h in
-      told_ahead old.bytes.items new.bytes.items ahead.0 (take count into) a.to_come c.to_come all (kept_consumed a.to_come b.to_come c.to_come (take count into) looked.bytes gave.bytes) ahead.2 (ahead.1 ∙ sym (length-take-le count into gave.fits)) grew.1 (says grew.0))
+      told_ahead old.bytes.items new.bytes.items ahead.0 (take count into) a.to_come c.to_come all (looked_consumed a.to_come b.to_come c.to_come (take count into) looked.bytes gave.bytes) ahead.2 (ahead.1 ∙ sym (length-take-le count into gave.fits)) grew.1 (says grew.0))
       (λ n all says. gave.accounts n all (looked.accounts n all says));
 }
 
-pub word_ahead : (old new : Kept) (a b c : Incoming) (room word : ℕ) → Looked a b → KeptAhead room a.to_come old new → GaveWord b c room word room → GaveWord (keeps_of old.whole old.bytes.items a) (keeps_of new.whole new.bytes.items c) room word room
-word_ahead old new a b c room word looked ahead taken = record {
-  into = taken.into;
-  wide = taken.wide;
-  gave = gave_ahead old new a b c room taken.into looked ahead taken.gave;
-  below = taken.below;
-  bits = taken.bits;
+begins_shorter : (to_come : Option (List ℕ)) (front : List ℕ) (count : ℕ) → Begins to_come front → count ≤ length front → Begins to_come (take count front)
+begins_shorter None front count begins few = tt
+begins_shorter (Some xs) front count begins few = begins_before (Some xs) (Some xs) front count refl begins few
+
+-- fewer bytes were taken than were kept, and the others were given up again
+pub kept_fewer : (old mid new : Kept) (count done : ℕ) (to_come : Option (List ℕ)) → KeptAhead count to_come old mid → done ≤ count → new.whole ≡ mid.whole → new.bytes.items ≡ take (length mid.bytes.items - (count - done)) mid.bytes.items → KeptAhead done to_come old new
+kept_fewer old mid new count done to_come ahead few whole cut = (
+  take done ahead.0,
+  length-take-le done ahead.0 (omega (arith, ahead.1, few)),
+  begins_shorter to_come ahead.0 done ahead.2 (omega (arith, ahead.1, few)),
+  λ is.
+    let grew = ahead.3 (sym whole ∙ is) in
+    let left : length mid.bytes.items - (count - done) ≡ length old.bytes.items + done = omega (arith, ap length grew.1, length-append old.bytes.items ahead.0, ahead.1, few) in
+    (grew.0, cut ∙ ap (λ (n : ℕ). take n mid.bytes.items) left ∙ ap (take (length old.bytes.items + done)) grew.1 ∙ take-append-add old.bytes.items ahead.0 done),
+)
+
+pub unseen_ahead : (old mid new : Kept) (a b c : Incoming) (most count done : ℕ) → Looked a b → KeptAhead count a.to_come old mid → count ≤ most → GaveUnseen b c count done → new.whole ≡ mid.whole → new.bytes.items ≡ take (length mid.bytes.items - (count - done)) mid.bytes.items → GaveUnseen (keeps_of old.whole old.bytes.items a) (keeps_of new.whole new.bytes.items c) most done
+unseen_ahead old mid new a b c most count done looked ahead few unseen whole cut = record {
+  into = unseen.into;
+  some = unseen.some;
+  few = omega (arith, few, unseen.few);
+  gave = gave_ahead old new a b c done unseen.into looked (kept_fewer old mid new count done a.to_come ahead unseen.few whole cut) unseen.gave;
 }
 
-pub behind_ahead : (old new : Kept) (a b c : Incoming) (count word : ℕ) → Looked a b → KeptAhead (count + 8) a.to_come old new → GaveBehind b c count word → GaveBehind (keeps_of old.whole old.bytes.items a) (keeps_of new.whole new.bytes.items c) count word
-behind_ahead old new a b c count word looked ahead taken = record {
-  into = taken.into;
-  wide = taken.wide;
-  gave = gave_ahead old new a b c (count + 8) taken.into looked ahead taken.gave;
-  below = taken.below;
-  bits = taken.bits;
-}
-
--- bytes that were not taken were given up again
-gave_up : (old mid : Kept) (len : ℕ) (now front : List ℕ) → GrewBy front old mid → len ≡ length old.bytes.items → now ≡ take len mid.bytes.items → mid.whole ≡ true → (old.whole ≡ true) × (now ≡ old.bytes.items)
-gave_up old mid len now front grew len_is cut whole = let g = grew whole in
-    (g.0, cut ∙ ap (λ (n : ℕ). take n mid.bytes.items) len_is ∙ ap (take (length old.bytes.items)) g.1 ∙ take-append_seam old.bytes.items front)
-
--- of a source that can still be asked nothing was taken, and what is kept is as before, or memory was refused
-lost_looked : (was is : Bool) (kept now : List ℕ) (i j : Incoming) → IsFresh i → (is ≡ true → (was ≡ true) × (now ≡ kept)) → Looked i j → Looked (keeps_of was kept i) (keeps_of is now j)
-lost_looked was is kept now i j fresh same looked = record {
-  bytes = looked.bytes;
-  pulls = looked.pulls;
-  failures = looked.failures;
-  worn = λ worn. absurd (omega (arith, fresh, worn));
-  accounts = says_before (record { kept = was; whole = prepend_known kept i.to_come }) (record { kept = is; whole = prepend_known now j.to_come }) i.accounts j.accounts
-      (λ all says h. let s = same h in subst (λ (list : List ℕ). prepend_known list j.to_come ≡ Some all) (sym s.1) (kept_told kept i.to_come j.to_come all looked.bytes (says s.0))) looked.accounts;
-}
-
+-- a source that could be asked failed, and what is kept is as before, or memory was refused
 lost_none : (was is : Bool) (kept now : List ℕ) (i j : Incoming) → IsFresh i → (is ≡ true → (was ≡ true) × (now ≡ kept)) → GaveNone i j → GaveNone (keeps_of was kept i) (keeps_of is now j)
 lost_none was is kept now i j fresh same none = record {
   bytes = none.bytes;
@@ -159,21 +135,14 @@ lost_none was is kept now i j fresh same none = record {
 fresh_before : (a b : Incoming) → Looked a b → IsFresh b → IsFresh a
 fresh_before a b looked fresh = omega (arith, fresh, looked.pulls, looked.failures)
 
-none_after : (a b c : Incoming) → IsFresh b → Looked a b → GaveNone b c → GaveNone a c
-none_after a b c fresh looked none = record {
-  bytes = Keeps-trans a.to_come b.to_come c.to_come looked.bytes none.bytes;
-  counted = λ f. let n = none.counted fresh in (n.0 ∙ ap (λ (m : ℕ). m + 1) looked.pulls, n.1 ∙ ap (λ (m : ℕ). m + 1) looked.failures);
-  worn = λ worn. absurd (omega (arith, fresh_before a b looked fresh, worn));
-  accounts = λ n all says. none.accounts n all (looked.accounts n all says);
-}
-
-pub few_ahead : (old mid : Kept) (len count : ℕ) (now : List ℕ) (a b c : Incoming) → IsFresh b → Looked a b → KeptAhead count a.to_come old mid → len ≡ length old.bytes.items → now ≡ take len mid.bytes.items → Looked b c → Looked (keeps_of old.whole old.bytes.items a) (keeps_of mid.whole now c)
-few_ahead old mid len count now a b c fresh looked ahead len_is cut few =
-    lost_looked old.whole mid.whole old.bytes.items now a c (fresh_before a b looked fresh) (gave_up old mid len now ahead.0 ahead.3 len_is cut) (looked_again a b c looked few)
-
-pub failed_ahead : (old mid : Kept) (len count : ℕ) (now : List ℕ) (a b c : Incoming) → IsFresh b → Looked a b → KeptAhead count a.to_come old mid → len ≡ length old.bytes.items → now ≡ take len mid.bytes.items → GaveNone b c → GaveNone (keeps_of old.whole old.bytes.items a) (keeps_of mid.whole now c)
-failed_ahead old mid len count now a b c fresh looked ahead len_is cut none =
-    lost_none old.whole mid.whole old.bytes.items now a c (fresh_before a b looked fresh) (gave_up old mid len now ahead.0 ahead.3 len_is cut) (none_after a b c fresh looked none)
+pub failed_ahead : (old mid new : Kept) (a b c : Incoming) (count : ℕ) → IsFresh b → Looked a b → KeptAhead count a.to_come old mid → GaveNone b c → new.whole ≡ mid.whole → new.bytes.items ≡ take (length mid.bytes.items - count) mid.bytes.items → GaveNone (keeps_of old.whole old.bytes.items a) (keeps_of new.whole new.bytes.items c)
+failed_ahead old mid new a b c count fresh looked ahead none whole cut =
+    let kept : KeptAhead 0 a.to_come old new = kept_fewer old mid new count 0 a.to_come ahead (omega arith) whole (rw (rest_of count) cut) in
+    lost_none old.whole new.whole old.bytes.items new.bytes.items a c (fresh_before a b looked fresh)
+    (λ is. let grew = kept.3 is in (grew.0, grew.1 ∙ ap (λ (s : List ℕ). old.bytes.items ++ s) (nil_from_length kept.0 kept.1) ∙ append-nil old.bytes.items)) (none_looked a b c looked none)
+  where
+    rest_of : (n : ℕ) → n - 0 ≡ n
+    rest_of n = omega arith
 
 -- ---- in the end
 

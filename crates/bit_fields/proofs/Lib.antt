@@ -20,7 +20,6 @@ pub mod Glimpses
 pub mod Sights
 pub mod Texts
 pub mod Looking
-pub mod AtOnce
 pub mod Unlike
 pub mod Standing
 pub mod Expecting

@@ -12,17 +12,11 @@ use Rattle.bit_grammar.specs.Bits.{bits_of, number}
 use Rattle.bit_grammar.specs.Grammar.{at, reading}
 use Rattle.bit_grammar.specs.Fields.{chunks, vbr}
 use Rattle.bit_grammar.specs.Terms.{chunk_limit}
-use Rattle.bit_grammar.proofs.Bits.Numbers.{length-bits_of, number_below}
+use Rattle.bit_grammar.proofs.Bits.Numbers.{length-bits_of}
 use Rattle.bit_fields.specs.Short.{EndsChunks, EndsAt, payload_number}
-use Rattle.bit_fields.specs.Inflow.{Flow, Fills}
 use Rattle.bit_fields.specs.declared.window.TheConstants.{FOUR_TOPS}
-use Rattle.bit_fields.specs.declared.fault.Fault.{Fault}
-use Rattle.bit_fields.specs.declared.inflow.Missing.{Missing}
-use Rattle.bit_fields.specs.Inside.{reader_of, fault_of_missing}
-use Rattle.bit_fields.specs.Reader.{Reader, Took, Why, stopped_at}
 use Rattle.bit_fields.proofs.BitLaws.{number-bits_mod, take-bits_of, window_rest, rest_below, drop_more, bits_of-number}
-use Rattle.bit_fields.proofs.InflowLaws.{Keeps-refl}
-use Rattle.bit_fields.proofs.Parts.{part_at, part_short, window_took, window_missed}
+use Rattle.bit_fields.proofs.Parts.{part_at, part_short}
 use Rattle.bit_fields.proofs.Chunks.{chunk_step, after_number, limit_times}
 
 -- ---- how many chunks
@@ -194,20 +188,6 @@ vbr_reads payload count p w rest some narrow few ends there =
     let read = short_reads count payload p (chunk_limit payload) 64 (length w) (number w) p rest ends (enough count (chunk_limit payload) payload few narrow (limit_times payload some).0) (omega (arith, there, turned)) (omega (arith, most)) in
     rw (bits_of-number w, turned) at read
 
-took_count : (n count p q value : ℕ) (live : Bool) (f after : Flow) (now : Reader) → live ≡ true → reader_of live p f ≡ now → 2 ≤ n → n ≤ 14 → count ≤ 4 → EndsChunks (n - 1) count (number f.window) → n * count ≤ length f.window → value ≡ payload_number (n - 1) count (number f.window) → q ≡ p + n * count → after ≡ record f { window = drop (n * count) f.window }
-    → Took (vbr n) now value (reader_of live q after)
-took_count n count p q value live f after now alive now_is two narrow few ends there value_is q_is after_is =
-    let width : n ≡ suc (n - 1) = omega (arith, two) in
-    let read : (rest : List Bool) → reading (vbr n) p (f.window ++ rest) ≡ Ok (payload_number (n - 1) count (number f.window), p + n * count, drop (n * count) f.window ++ rest) = λ rest.
-    subst (λ (m : ℕ). reading (vbr m) p (f.window ++ rest) ≡ Ok (payload_number (n - 1) count (number f.window), p + m * count, drop (m * count) f.window ++ rest)) (sym width)
-    (vbr_reads (n - 1) count p f.window rest (omega (arith, two)) (omega (arith, narrow)) few ends (subst (λ (m : ℕ). m * count ≤ length f.window) width there)) in
-    rw (← now_is, alive, value_is, q_is, after_is) (window_took (vbr n) (payload_number (n - 1) count (number f.window)) (n * count) p f f (Keeps-refl f) read)
-
-pub short_took : (n bits p q value : ℕ) (live : Bool) (f after : Flow) (now : Reader) → live ≡ true → reader_of live p f ≡ now → 2 ≤ n → n ≤ 14 → EndsAt n bits (number f.window) → bits ≤ length f.window → ((count : ℕ) → count ≤ 4 → bits ≡ n * count → value ≡ payload_number (n - 1) count (number f.window)) → q ≡ p + bits → after ≡ record f { window = drop bits f.window }
-    → Took (vbr n) now value (reader_of live q after)
-short_took n bits p q value live f after now alive now_is two narrow at_bits there value_is q_is after_is =
-    took_count n at_bits.0 p q value live f after now alive now_is two narrow at_bits.1 at_bits.3 (subst (λ (k : ℕ). k ≤ length f.window) at_bits.2 there) (value_is at_bits.0 at_bits.1 at_bits.2) (subst (λ (k : ℕ). q ≡ p + k) at_bits.2 q_is) (subst (λ (k : ℕ). after ≡ record f { window = drop k f.window }) at_bits.2 after_is)
-
 -- ---- as a window has them
 
 pub word_is : (held word : ℕ) (s : List Bool) → bits_of held word ≡ s → word < 2 ^ held → number s ≡ word
@@ -279,9 +259,6 @@ four_is n word third second value two narrow third_is second_is value_is =
     let two_up = more_gathered n 2 n (2 * n) word third second two narrow (omega arith) three second_is in
     all_gathered n 3 word second value two narrow two_up value_is
 
-pub few_bits : (n bits word : ℕ) → n ≤ 14 → EndsAt n bits word → bits ≤ 56
-few_bits n bits word narrow at_bits = let most : n * at_bits.0 ≤ 56 = four_at_most at_bits.0 n at_bits.1 narrow in omega (arith, at_bits.2, most)
-
 -- ---- bits that are missing
 
 -- a word with a bit at a place has bits beyond it
@@ -310,27 +287,6 @@ short_truncated (suc (suc count)) payload first (suc permitted) places held word
     let later = short_truncated (suc count) payload first permitted (places - payload) (held - suc payload) (word / 2 ^ suc payload) (p + suc payload) more (rest_below held word (suc payload) there below) ends.1 (omega (arith, few)) (omega (arith, fits)) (omega (arith, short, long, long_behind, there)) in
     first_reads payload first permitted places held word p more there
     ∙ rw (payload_is payload word, goes_there payload word ends.0, fits_places payload places word (omega (arith, fits)), later) refl
-
-vbr_truncated : (payload count p : ℕ) (w more : List Bool) → 1 ≤ payload → payload ≤ 13 → count ≤ 4 → EndsChunks payload count (number w) → length (w ++ more) < suc payload * count → reading (vbr (suc payload)) p (w ++ more) ≡ Err (at Truncated p)
-unfolding vbr
-vbr_truncated payload count p w more some narrow few ends short =
-    let turned : suc payload * count ≡ count * suc payload = omega arith in
-    let most : suc payload * count ≤ 56 = four_at_most count (suc payload) few (omega (arith, narrow)) in
-    let read = short_truncated count payload p (chunk_limit payload) 64 (length w) (number w) p more (number_below w) ends (enough count (chunk_limit payload) payload few narrow (limit_times payload some).0) (omega (arith, most)) in
-    rw (bits_of-number w, ← turned) at read short
-
-pub short_missed : (n bits p : ℕ) (was : Bool) (f g : Flow) (missing : Missing) (now new : Reader) (fault : Fault) → was ≡ true → reader_of was p f ≡ now → 2 ≤ n → n ≤ 14 → EndsAt n bits (number f.window) → Fills bits f g (Err missing) → fault ≡ fault_of_missing missing p g.limit → new ≡ stopped_at (reader_of was p g) p
-    → Why (vbr n) now fault new
-short_missed n bits p was f g missing now new fault was_live now_is two narrow at_bits fills_bits fault_is new_is =
-    let count : ℕ = at_bits.0 in
-    let few : count ≤ 4 = at_bits.1 in
-    let ends : EndsChunks (n - 1) count (number f.window) = at_bits.3 in
-    let fills : Fills (n * count) f g (Err missing) = subst (λ (k : ℕ). Fills k f g (Err missing)) at_bits.2 fills_bits in
-    let width : n ≡ suc (n - 1) = omega (arith, two) in
-    let read : (more : List Bool) → length (f.window ++ more) < n * count → reading (vbr n) p (f.window ++ more) ≡ Err (at Truncated p) = λ more short.
-    subst (λ (m : ℕ). reading (vbr m) p (f.window ++ more) ≡ Err (at Truncated p)) (sym width)
-    (vbr_truncated (n - 1) count p f.window more (omega (arith, two)) (omega (arith, narrow)) few ends (subst (λ (m : ℕ). length (f.window ++ more) < m * count) width short)) in
-    rw (← now_is, new_is, was_live, fault_is) (window_missed (vbr n) (n * count) p p f g missing read fills)
 
 -- ---- as the code has it
 

@@ -6,7 +6,6 @@ use Rattle.bit_grammar.specs.Bits.{number}
 use Rattle.bit_grammar.specs.Grammar as grammar
 use Rattle.bit_grammar.specs.Grammar.{◌and_then◌, repeat, reading}
 use Rattle.bit_grammar.specs.Fields.{fixed}
-use Rattle.bit_fields.specs.declared.fault.Fault.{Fault}
 use Rattle.bit_fields.specs.Inside.{numbers}
 use Rattle.bit_fields.proofs.BitLaws.{drop_more}
 

@@ -1,11 +1,9 @@
 -- What is known of a source and of a sink, and what a call of them does.
-use Rattle.std.specs.Prelude.{◌≡◌, ℕ, zero, suc, ◌+◌, ◌*◌, ◌-◌, ◌^◌, ◌<◌, ◌≤◌, ◌⊎◌, max, Bool, true, List, [], ◌∷◌, length, take, drop, Option, Some, None, IsSome, Result, Ok, Err}
+use Rattle.std.specs.Prelude.{◌≡◌, ℕ, zero, suc, ◌+◌, ◌*◌, ◌-◌, ◌^◌, ◌<◌, ◌≤◌, ◌⊎◌, max, Bool, true, List, [], ◌∷◌, length, take, Option, Some, None, IsSome, Result, Ok, Err}
 use Rattle.std.specs.Io.KnownBytes.{Consumes, Appends, Keeps, IsAtEnd, prepend_known}
 use Rattle.std.specs.Io.{StartsWith}
 use Rattle.bit_grammar.specs.Bits.{bits_of, bits_of_bytes}
 use Rattle.bit_fields.specs.declared.source.SourceFailed.{SourceFailed}
-use Rattle.bit_fields.specs.declared.source.AtHand.{AtHand}
-use Rattle.bit_fields.specs.declared.source.AtHand.TheVariants.{Word, Few, Failed}
 use Rattle.bit_fields.specs.declared.sink.SinkFailed.{SinkFailed}
 
 -- the bytes, and no bytes where they are not known
@@ -85,26 +83,6 @@ pub record Looked (old new : Incoming) : Type 0 where
   pub failures : new.failures ≡ old.failures
   pub worn : IsWorn old → new ≡ old
   pub accounts : (n : ℕ) (all : List ℕ) → SaysOf old.accounts n all → SaysOf new.accounts n all
-
--- what taking so many bytes that are at hand does
-abbrev pub PullsAtHand : ℕ → Incoming → Incoming → AtHand → Type 0
-PullsAtHand room old new (Word word) = GaveWord old new room word room
-PullsAtHand room old new Few = Looked old new
-PullsAtHand room old new Failed = GaveNone old new
-
--- a pull into a slice gave so many bytes and eight behind them, which are this word
-pub record GaveBehind (old new : Incoming) (count word : ℕ) : Type 0 where
-  pub into : List ℕ
-  pub wide : length into ≡ count + 8
-  pub gave : Gave old new (count + 8) into
-  pub below : word < 2 ^ 64
-  pub bits : bits_of 64 word ≡ bits_of_bytes (drop count into)
-
--- what taking so many bytes, and eight behind them that are at hand, does
-abbrev pub PullsBehind : ℕ → Incoming → Incoming → AtHand → Type 0
-PullsBehind count old new (Word word) = GaveBehind old new count word
-PullsBehind count old new Few = Looked old new
-PullsBehind count old new Failed = GaveNone old new
 
 -- a pull took so many bytes that nobody looks at, as a pull into some slice takes them
 pub record GaveUnseen (old new : Incoming) (most count : ℕ) : Type 0 where

@@ -157,14 +157,6 @@ pub record LooksOn (old new : Flow) : Type 0 where
   pub same : new ≡ record old { incoming = new.incoming }
   pub looked : Looked old.incoming new.incoming
 
--- what skipping so many bits of the stream that are at hand does
-abbrev pub SkipsAtHand : ℕ → Flow → Flow → Result Bool Missing → Type 0
-SkipsAtHand bits old new (Ok true) = Skips old new bits
-SkipsAtHand bits old new (Ok false) = LooksOn old new
-SkipsAtHand bits old new (Err End) = ⊥
-SkipsAtHand bits old new (Err Limit) = ⊥
-SkipsAtHand bits old new (Err Read) = LostFlow old new
-
 -- what looking for bytes behind the window does
 abbrev pub LooksOver : Flow → Result Bool SourceFailed → Flow → Type 0
 LooksOver old (Ok some) new = LooksOn old new

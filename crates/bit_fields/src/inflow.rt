@@ -1,12 +1,11 @@
 ghost use Rattle.std.specs.Prelude.{ℕ, ◌≡◌, ◌+◌, ◌*◌, ◌-◌, ◌<◌, ◌≤◌, ◌^◌, length, true, false, take, drop, [], OnOk, IfOk};
 ghost use Rattle.bit_grammar.specs.Bits.{number, bits_of};
-ghost use Rattle.bit_fields.specs.Short.{EndsAt, payload_number};
-ghost use Rattle.bit_fields.specs.Inflow.{Brings, Misses, Fills, StepsBytes, SkipsSome, SkipsAtHand, Drains, DrainsSome, LooksOn, LooksOver, LiesBehind, stop_of, flow_ended_at, to_drain};
+ghost use Rattle.bit_fields.specs.Inflow.{Brings, Misses, Fills, StepsBytes, SkipsSome, Drains, DrainsSome, LooksOn, LooksOver, LiesBehind, stop_of, flow_ended_at, to_drain};
 ghost use Rattle.std.specs.Borrow.{sem};
 ghost use Rattle.bit_fields.specs.Devices.{IsFresh};
 ghost use Rattle.std.specs.Io.BufRead.{Rests};
 
-use crate::source::{AtHand, SliceSource, Source, SourceFailed};
+use crate::source::{SliceSource, Source, SourceFailed, pull_word};
 use crate::window::Window;
 use std::marker::Model;
 
@@ -123,10 +122,9 @@ impl<S: Source> Inflow<S> {
         }
     }
 
-    /// Takes bytes in by a pull, as many as there is room for.
-    #[cold]
-    #[inline(never)]
-    fn pull(&mut self) -> Result<(), Missing>
+    /// Takes bytes in, as many as there is room for.
+    #[inline(always)]
+    fn more(&mut self) -> Result<(), Missing>
         requires { length self.old.window ≤ 56 }
         ensures { Brings self.old self.new result }
     {
@@ -138,7 +136,7 @@ impl<S: Source> Inflow<S> {
             return Err(self.past());
         }
         let room = u64::from((64 - self.window.len()) / 8).min(stop - self.loaded) as usize;
-        match self.source.pull_word(room) {
+        match pull_word(&mut self.source, room) {
             Ok((_, 0)) => {
                 self.ended = true; // and is not pulled again
                 Err(Missing::End)
@@ -150,36 +148,6 @@ impl<S: Source> Inflow<S> {
             }
             Err(SourceFailed) => Err(Missing::Read),
         }
-    }
-
-    /// Whether eight bytes at least are left of the stream, as far as is known.
-    #[inline(always)]
-    fn has_eight(&self) -> bool
-        ensures { result ≡ true → (self.now.ended ≡ false)
-            × (self.now.loaded + 8 ≤ stop_of self.now) }
-    {
-        !self.ended && self.loaded + 8 <= self.end.min(self.limit)
-    }
-
-    /// Takes bytes in, as many as there is room for: those at hand, or else by a pull.
-    #[inline(always)]
-    fn more(&mut self) -> Result<(), Missing>
-        requires { length self.old.window ≤ 56 }
-        ensures { Brings self.old self.new result }
-    {
-        if self.has_eight() {
-            let room = (64 - self.window.len()) / 8;
-            match self.source.at_hand(room as usize) {
-                AtHand::Word(word) => {
-                    self.window.push(word, 8 * room);
-                    self.loaded += u64::from(room);
-                    return Ok(());
-                }
-                AtHand::Few => {}
-                AtHand::Failed => return Err(Missing::Read),
-            }
-        }
-        self.pull()
     }
 
     /// Makes sure that n bits are in the window. It is kept out of the callers, so that these take few instructions where
@@ -214,33 +182,6 @@ impl<S: Source> Inflow<S> {
         ensures { result ≡ number (take n self.now.window) }
     {
         self.window.peek(n)
-    }
-
-    /// How many bits the number in chunks of n bits at the front takes, where it takes at most four chunks and zeros stand
-    /// behind the window; 65 where it takes more.
-    #[inline(always)]
-    pub fn number_bits(&self, n: u32) -> u32
-        requires some { 2 ≤ n }
-        requires few { n ≤ 14 }
-        ensures ends { result ≤ 64 → EndsAt n result (number self.now.window) }
-        ensures some { 0 < result }
-    {
-        self.window.number_bits(n)
-    }
-
-    /// Takes the payloads of the chunks of n bits in so many bits, at most four, one above the other.
-    #[inline(always)]
-    pub fn take_number(&mut self, n: u32, bits: u32) -> u64
-        requires some { 2 ≤ n }
-        requires few { n ≤ 14 }
-        requires most { bits ≤ 56 }
-        requires there { bits ≤ length self.old.window }
-        ensures value { (count : ℕ) → count ≤ 4 → bits ≡ n * count
-            → result ≡ payload_number (n - 1) count (number self.old.window) }
-        ensures rest { self.new ≡ record self.old { window = drop bits self.old.window } }
-        ensures loaded { self.old.loaded ≤ 2 ^ 35 }
-    {
-        self.window.take_number(n, bits)
     }
 
     /// The word of the bits in the window, and how many they are.
@@ -332,36 +273,6 @@ impl<S: Source> Inflow<S> {
         }
     }
 
-    /// Takes so many bits of the stream that nobody reads, where they are in the window, or eight bytes at least are at hand
-    /// behind them, with which the window is filled: whether it did.
-    #[inline(always)]
-    pub fn skip_at_hand(&mut self, bits: u64) -> Result<bool, Missing>
-        requires { 0 < bits }
-        ensures skips { SkipsAtHand bits self.old self.new result }
-        ensures loaded { self.new.loaded ≤ 2 ^ 35 }
-    {
-        let held = u64::from(self.window.len());
-        if bits < held {
-            self.window.split(bits as u32);
-            return Ok(true);
-        }
-        let behind = bits - held;
-        let count = behind / 8;
-        if self.ended || self.loaded + count + 8 > self.end.min(self.limit) {
-            return Ok(false);
-        }
-        match self.source.word_behind(count as usize) {
-            AtHand::Word(word) => {
-                let part = (behind % 8) as u32;
-                self.window = Window::of(word >> part, 64 - part);
-                self.loaded += count + 8;
-                Ok(true)
-            }
-            AtHand::Few => Ok(false),
-            AtHand::Failed => Err(Missing::Read),
-        }
-    }
-
     /// Takes bits of the stream that nobody reads, at least one and at most so many, and answers how many: those in the
     /// window, or else a block of bytes.
     pub fn skip(&mut self, most: u64) -> Result<u64, Missing>
@@ -376,8 +287,8 @@ impl<S: Source> Inflow<S> {
             }
             self.fill(1)?;
         }
-        let count = most.min(u64::from(self.window.len().min(32)));
-        self.take(count as u32);
+        let count = most.min(u64::from(self.window.len()));
+        self.window.skip(count as u32);
         Ok(count)
     }
 

@@ -1,8 +1,8 @@
-ghost use Rattle.std.specs.Prelude.{◌≡◌, ℕ, List, [], true, false, take, vec_len, MatchResult, IfOk, OnErr};
-ghost use Rattle.bit_fields.specs.Devices.{keeps_of, IsFresh, Looks};
+ghost use Rattle.std.specs.Prelude.{◌≡◌, ℕ, List, [], true, false, take, length, ◌-◌, ◌<◌, ◌≤◌, MatchResult, IfOk, OnErr, OnOk};
+ghost use Rattle.bit_fields.specs.Devices.{keeps_of, GaveNone, IsFresh, Looked, Pulls, PullsUnseen};
 ghost use Rattle.bit_fields.specs.Kept.{GrewBy, KeptAhead};
 
-use crate::source::{AtHand, Source, SourceFailed};
+use crate::source::{BLOCK, Source, SourceFailed};
 use std::alloc::{AllocError, Global};
 
 /// How many bytes the list of what is kept grows by at most, where no more come at once.
@@ -17,13 +17,6 @@ struct Kept {
 }
 
 impl Kept {
-    /// How many bytes there are.
-    fn len(&self) -> usize
-        ensures { result ≡ vec_len self.now.bytes }
-    {
-        self.bytes.len()
-    }
-
     /// Makes room for so many bytes. The list doubles up to a step and grows by steps from then on, so that at most a step of
     /// it is unused.
     #[inline(always)]
@@ -51,11 +44,13 @@ impl Kept {
         }
     }
 
-    /// Gives up all but so many of its first bytes.
-    fn truncate(&mut self, len: usize)
+    /// Gives up the last bytes, so many.
+    fn give_up(&mut self, count: usize)
         ensures whole { self.new.whole ≡ self.old.whole }
-        ensures bytes { self.new.bytes.items ≡ take len self.old.bytes.items }
+        ensures bytes { self.new.bytes.items
+            ≡ take (length self.old.bytes.items - count) self.old.bytes.items }
     {
+        let len = self.bytes.len().saturating_sub(count);
         self.bytes.truncate(len);
     }
 }
@@ -97,25 +92,49 @@ impl<S: Source> KeptSource<S> {
         (Ok(self.kept.bytes), self.source)
     }
 
-    /// Keeps so many bytes that come next before they are taken, where they lie in memory: whether it did.
+    /// Keeps bytes that come next and lie in memory before they are taken, at most so many, and answers how many.
     #[inline]
-    fn keep_ahead(&mut self, count: usize) -> Result<bool, SourceFailed>
-        ensures looks { Looks (S.incoming self.old.source) result (S.incoming self.new.source) }
-        ensures ahead { IfOk result (λ did. did ≡ true
-            → IsFresh (S.incoming self.new.source)
+    fn keep_ahead(&mut self, most: usize) -> Result<usize, SourceFailed>
+        ensures looked { OnOk result (Looked (S.incoming self.old.source) (S.incoming self.new.source)) }
+        ensures ahead { IfOk result (λ count. 0 < count → IsFresh (S.incoming self.new.source)
             × KeptAhead count (S.incoming self.old.source).to_come self.old.kept self.new.kept) }
-        ensures none { IfOk result (λ did. did ≡ false → self.new.kept ≡ self.old.kept) }
-        ensures failed { OnErr result (self.new.kept ≡ self.old.kept) }
+        ensures most { IfOk result (λ count. count ≤ most) }
+        ensures none { IfOk result (λ count. count ≡ 0 → self.new.kept ≡ self.old.kept) }
+        ensures failed { OnErr result (GaveNone (S.incoming self.old.source) (S.incoming self.new.source)
+            × (self.new.kept ≡ self.old.kept)) }
     {
         if !self.source.look()? {
-            return Ok(false);
+            return Ok(0);
         }
         let bytes = self.source.lend();
-        if bytes.len() < count {
-            return Ok(false);
+        let count = most.min(bytes.len());
+        if count == 0 {
+            return Ok(0);
         }
         self.kept.keep(&bytes[..count]);
-        Ok(true)
+        Ok(count)
+    }
+
+    /// Pulls from the other source and keeps what it gave.
+    #[inline]
+    fn pull_kept(&mut self, into: &mut [u8]) -> Result<usize, SourceFailed>
+        ensures { Pulls (⟦<KeptSource<S> as Source>⟧.incoming self.old)
+            (⟦<KeptSource<S> as Source>⟧.incoming self.new) result into.new }
+    {
+        let count = self.source.pull(into)?;
+        self.kept.keep(&into[..count]);
+        Ok(count)
+    }
+
+    /// Pulls a block of bytes that nobody looks at, at most so many, and keeps them.
+    fn pass_block(&mut self, most: usize) -> Result<usize, SourceFailed>
+        requires { 0 < most }
+        ensures { PullsUnseen most (⟦<KeptSource<S> as Source>⟧.incoming self.old)
+            (⟦<KeptSource<S> as Source>⟧.incoming self.new) result }
+    {
+        let mut block = [0; BLOCK];
+        let room = most.min(BLOCK);
+        self.pull_kept(&mut block[..room])
     }
 }
 
@@ -124,51 +143,7 @@ impl<S: Source> Source for KeptSource<S> {
 
     #[inline]
     fn pull(&mut self, into: &mut [u8]) -> Result<usize, SourceFailed> {
-        let count = self.source.pull(into)?;
-        self.kept.keep(&into[..count]);
-        Ok(count)
-    }
-
-    #[inline]
-    fn at_hand(&mut self, room: usize) -> AtHand {
-        let before = self.kept.len();
-        match self.keep_ahead(room) {
-            Ok(true) => {}
-            Ok(false) => return AtHand::Few,
-            Err(SourceFailed) => return AtHand::Failed,
-        }
-        match self.source.at_hand(room) {
-            AtHand::Word(word) => AtHand::Word(word),
-            AtHand::Few => {
-                self.kept.truncate(before);
-                AtHand::Few
-            }
-            AtHand::Failed => {
-                self.kept.truncate(before);
-                AtHand::Failed
-            }
-        }
-    }
-
-    #[inline]
-    fn word_behind(&mut self, count: usize) -> AtHand {
-        let before = self.kept.len();
-        match self.keep_ahead(count + 8) {
-            Ok(true) => {}
-            Ok(false) => return AtHand::Few,
-            Err(SourceFailed) => return AtHand::Failed,
-        }
-        match self.source.word_behind(count) {
-            AtHand::Word(word) => AtHand::Word(word),
-            AtHand::Few => {
-                self.kept.truncate(before);
-                AtHand::Few
-            }
-            AtHand::Failed => {
-                self.kept.truncate(before);
-                AtHand::Failed
-            }
-        }
+        self.pull_kept(into)
     }
 
     #[inline(always)]
@@ -179,6 +154,24 @@ impl<S: Source> Source for KeptSource<S> {
     #[inline(always)]
     fn lend(&mut self) -> &[u8] {
         self.source.lend()
+    }
+
+    #[inline]
+    fn pass(&mut self, most: usize) -> Result<usize, SourceFailed> {
+        let count = self.keep_ahead(most)?;
+        if count == 0 {
+            return self.pass_block(most);
+        }
+        match self.source.pass(count) {
+            Ok(done) => {
+                self.kept.give_up(count - done);
+                Ok(done)
+            }
+            Err(SourceFailed) => {
+                self.kept.give_up(count);
+                Err(SourceFailed)
+            }
+        }
     }
 }
 

@@ -62,7 +62,7 @@ pub use limits::Limits;
 pub use packed::{PackedValues, ValueParts};
 pub use reader::BitReader;
 pub use sink::{Sink, SinkFailed, VecSink, WriteSink};
-pub use source::{AtHand, BufSource, ReadSource, SliceSource, Source, SourceFailed};
+pub use source::{BufSource, ReadSource, SliceSource, Source, SourceFailed};
 pub use text::BitText;
 pub use values::{ValueCount, ValueTaker};
 pub use writer::BitWriter;

@@ -15,7 +15,7 @@ use crate::fault::Fault;
 use crate::head::{Head, Wrapper};
 use crate::inflow::{Inflow, Missing};
 use crate::limits::Limits;
-use crate::numbers::{MOST_SHORT, is_lawful, payload_of, worth_at};
+use crate::numbers::{is_lawful, payload_of, worth_at};
 use crate::source::Source;
 use bit_grammar::{Reason, WRAPPER_MAGIC};
 use std::marker::Model;
@@ -152,7 +152,7 @@ impl<S: Source> BitReader<S> {
         ensures memory { NeedsNoMemory result }
         ensures place { OnOk result (self.new.position ≡ 8 * offset) }
     {
-        self.skip_bits(8 * u64::from(offset - 20))
+        self.catch_up(8 * u64::from(offset - 20))
     }
 
     /// Ends the stream so many bytes behind the byte at which the reader stands.
@@ -321,128 +321,6 @@ impl<S: Source> BitReader<S> {
         ensures memory { NeedsNoMemory result }
         ensures stays { OnErr result (self.new.position ≡ self.old.position) }
     {
-        match self.short_vbr(n) {
-            Some(value) => Ok(value),
-            None => self.long_vbr(n),
-        }
-    }
-
-    /// Takes a number in chunks of n bits, where it takes at most four of them and they are all in the window. Most take one,
-    /// which is looked at first.
-    #[inline(always)]
-    fn short_vbr(&mut self, n: u32) -> Option<u64>
-        requires some { 2 ≤ n }
-        ensures { MatchOption result (self.new ≡ self.old)
-            (λ value. Took (vbr n) self.old value self.new) }
-    {
-        if n > MOST_SHORT {
-            return None;
-        }
-        match self.one_chunk(n) {
-            Some(value) => Some(value),
-            None => self.few_chunks(n),
-        }
-    }
-
-    /// Takes a number of one chunk of n bits, where it is in the window.
-    #[inline(always)]
-    fn one_chunk(&mut self, n: u32) -> Option<u64>
-        requires some { 2 ≤ n }
-        requires few { n ≤ 14 }
-        ensures { MatchOption result (self.new ≡ self.old)
-            (λ value. Took (vbr n) self.old value self.new) }
-    {
-        if self.inflow.bits_held() < n || self.inflow.peek(n) >= 1 << (n - 1) {
-            return None;
-        }
-        let chunk = self.inflow.take(n);
-        let after = self.position + u64::from(n);
-        self.position = after;
-        Some(chunk)
-    }
-
-    /// Takes a number in chunks of n bits, where it takes at most four of them and they are all in the window.
-    #[inline(always)]
-    fn few_chunks(&mut self, n: u32) -> Option<u64>
-        requires some { 2 ≤ n }
-        requires few { n ≤ 14 }
-        ensures { MatchOption result (self.new ≡ self.old)
-            (λ value. Took (vbr n) self.old value self.new) }
-    {
-        let bits = self.inflow.number_bits(n);
-        if bits > self.inflow.bits_held() {
-            return None;
-        }
-        let value = self.inflow.take_number(n, bits);
-        self.position += u64::from(bits);
-        Some(value)
-    }
-
-    /// Reads a number in chunks of n bits that is not whole in the window, or takes more than four chunks. It is written into
-    /// the callers for the sake of the place of its answer, which is cleared here.
-    #[inline(always)]
-    fn long_vbr(&mut self, n: u32) -> Result<u64, Fault>
-        requires some { 2 ≤ n }
-        requires few { n ≤ 32 }
-        ensures takes { Takes (vbr n) self.old result self.new }
-        ensures memory { NeedsNoMemory result }
-        ensures stays { OnErr result (self.new.position ≡ self.old.position) }
-    {
-        self.far_vbr(n)
-    }
-
-    /// Does so, out of line.
-    #[inline(never)]
-    fn far_vbr(&mut self, n: u32) -> Result<u64, Fault>
-        requires some { 2 ≤ n }
-        requires few { n ≤ 32 }
-        ensures takes { Takes (vbr n) self.old result self.new }
-        ensures memory { NeedsNoMemory result }
-        ensures stays { OnErr result (self.new.position ≡ self.old.position) }
-    {
-        self.fill_chunks(n)?;
-        match self.short_vbr(n) {
-            Some(value) => Ok(value),
-            None => self.chunk_by_chunk(n),
-        }
-    }
-
-    /// Takes bytes in where the window shows that a chunk of a number is missing, which is then one of the first four.
-    #[inline(always)]
-    fn fill_chunks(&mut self, n: u32) -> Result<(), Fault>
-        requires some { 2 ≤ n }
-        ensures filled { OnOk result (TookNothing self.old self.new) }
-        ensures missed { IfErr result (λ fault. Why (vbr n) self.old fault self.new) }
-        ensures memory { NeedsNoMemory result }
-        ensures stays { self.new.position ≡ self.old.position }
-    {
-        if !self.live {
-            return Err(Fault::Failed);
-        }
-        if n > MOST_SHORT {
-            return Ok(());
-        }
-        let bits = self.inflow.number_bits(n);
-        if bits > 64 {
-            return Ok(());
-        }
-        let first = self.position;
-        match self.inflow.fill(bits) {
-            Ok(()) => Ok(()),
-            Err(missing) => Err(self.miss(missing, first)),
-        }
-    }
-
-    /// Reads a number in chunks of n bits, chunk by chunk.
-    #[cold]
-    #[inline(never)]
-    fn chunk_by_chunk(&mut self, n: u32) -> Result<u64, Fault>
-        requires some { 2 ≤ n }
-        requires few { n ≤ 32 }
-        ensures takes { Takes (vbr n) self.old result self.new }
-        ensures memory { NeedsNoMemory result }
-        ensures stays { OnErr result (self.new.position ≡ self.old.position) }
-    {
         let first = self.position;
         let chunk = self.part(n, first)?;
         if chunk < 1 << (n - 1) {
@@ -452,6 +330,7 @@ impl<S: Source> BitReader<S> {
     }
 
     /// Reads the chunks after the first one of a number that began at a bit.
+    #[inline(never)]
     fn later_chunks(&mut self, n: u32, first: u64, low: u64) -> Result<u64, Fault>
         requires some { 2 ≤ n }
         requires few { n ≤ 32 }

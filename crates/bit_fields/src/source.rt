@@ -1,34 +1,23 @@
-ghost use Rattle.std.specs.Prelude.{◌≡◌, ◌≢◌, ◌<◌, ◌+◌, ◌-◌, ◌^◌, ◌≤◌, max, true, false, Some, [], IfErr, OnErr};
+ghost use Rattle.std.specs.Prelude.{◌≡◌, ◌≢◌, ◌<◌, ◌+◌, ◌-◌, ◌^◌, ◌≤◌, max, true, false, Some, [], length, IfErr, IfOk, IfSome, OnErr, OnOk};
 ghost use Rattle.std.specs.Borrow.{sem};
 ghost use Rattle.std.specs.IoError.{error_kind};
 ghost use Rattle.std.specs.Io.{ReadsAtMost};
 ghost use Rattle.std.specs.Io.BufRead.{Rests};
 ghost use Rattle.std.specs.Io.KnownBytes.{ReadConsumes};
-ghost use Rattle.bit_fields.specs.Devices.{Begins, IsFresh, IsWorn, Looked};
+ghost use Rattle.bit_fields.specs.Devices.{Begins, GaveNone, IsFresh, IsWorn, Looked, PullsWord};
 
-use crate::word::{front_of, word_of};
+use crate::word::word_of;
 use std::io;
 use std::io::{BufRead, Error as IoError, ErrorKind, Read};
 use thiserror::Error;
 
 /// How many bytes that nobody reads are pulled at once.
-const BLOCK: usize = 512;
+pub const BLOCK: usize = 512;
 
 /// A source gave no bytes.
 #[derive(Clone, Copy, Debug, PartialEq, Eq, Error)]
 #[error("the source failed")]
 pub struct SourceFailed;
-
-/// What a source has at hand.
-#[derive(Clone, Copy, Debug, PartialEq, Eq)]
-pub enum AtHand {
-    /// The bytes that were asked for, as a word, the first one lowest and zeros behind the last.
-    Word(u64),
-    /// It is not known to have so many, and took none.
-    Few,
-    /// It failed while it looked.
-    Failed,
-}
 
 /// What gives bytes in order, and counts how often it was asked and how often it failed. A source is worn once a count
 /// stands at `u64::MAX`.
@@ -36,7 +25,7 @@ pub trait Source {
     ghost use Rattle.std.specs.Prelude.{◌≡◌, ◌<◌, ◌≤◌, ◌^◌, true, IfOk};
     ghost use Rattle.std.specs.Borrow.{sem};
     ghost use Rattle.std.specs.Io.BufRead.{Rests};
-    ghost use Rattle.bit_fields.specs.Devices.{Incoming, Pulls, PullsWord, PullsAtHand, PullsBehind, PullsUnseen, Begins, IsFresh, Looked, Looks};
+    ghost use Rattle.bit_fields.specs.Devices.{Incoming, Pulls, PullsUnseen, Begins, IsFresh, Looked, Looks};
 
     // The bytes still to come, where the source tells them, and the counts.
     ghost incoming: { Self → Incoming };
@@ -47,46 +36,6 @@ pub trait Source {
     /// `SourceFailed` takes no byte and is counted as a failure too. A worn source answers it and changes nothing.
     fn pull(&mut self, into: &mut [u8]) -> Result<usize, SourceFailed>
         ensures { Pulls (incoming self.old) (incoming self.new) result into.new };
-
-    /// Takes the next bytes, at most so many, from 1 to 8, as a word, the first one lowest and zeros behind the last, and
-    /// answers how many they are; 0 says that no byte is left. It is one pull, and fails as `pull` does.
-    fn pull_word(&mut self, room: usize) -> Result<(u64, usize), SourceFailed>
-        requires some { 0 < room }
-        requires few { room ≤ 8 }
-        ensures { PullsWord room (incoming self.old) (incoming self.new) result }
-    {
-        let mut bytes = [0; 8];
-        let count = self.pull(&mut bytes[..room])?;
-        if count == 0 {
-            return Ok((0, 0));
-        }
-        Ok((word_of(bytes, count), count))
-    }
-
-    /// Takes the next bytes, so many, from 1 to 8, as a word, where the source has eight at hand. It is one pull then, and
-    /// one that failed where it fails. Else nothing is taken, and `pull_word` takes what there is.
-    ///
-    /// A caller that reads all tries this first: it is written into it, and is one load where the source has a buffer.
-    #[inline(always)]
-    fn at_hand(&mut self, room: usize) -> AtHand
-        requires some { 0 < room }
-        requires few { room ≤ 8 }
-        ensures { PullsAtHand room (incoming self.old) (incoming self.new) result }
-    {
-        let _room = room;
-        AtHand::Few
-    }
-
-    /// Takes so many bytes without giving them, and then the next eight as a word, where the source has them all at hand. It is
-    /// one pull then, and one that failed where it fails. Else nothing is taken.
-    #[inline(always)]
-    fn word_behind(&mut self, count: usize) -> AtHand
-        requires { count < 2 ^ 60 }
-        ensures { PullsBehind count (incoming self.old) (incoming self.new) result }
-    {
-        let _count = count;
-        AtHand::Few
-    }
 
     /// Looks for bytes that come next and lie in memory, and takes none: whether there are any, which `lend` then lends.
     /// `SourceFailed` is one pull that failed; a worn source has none to lend.
@@ -119,6 +68,44 @@ pub trait Source {
         let room = most.min(BLOCK);
         self.pull(&mut bytes[..room])
     }
+}
+
+/// The first eight of the bytes that come next and lie in memory, where there are so many. None is taken.
+#[inline(always)]
+fn eight_ahead<S: Source>(source: &mut S) -> Result<Option<[u8; 8]>, SourceFailed>
+    ensures looked { OnOk result (Looked (S.incoming source.old) (S.incoming source.new)) }
+    ensures front { IfOk result (λ found. IfSome found
+        (λ eight. Begins (S.incoming source.old).to_come eight)) }
+    ensures long { IfOk result (λ found. IfSome found (λ eight. length eight ≡ 8)) }
+    ensures failed { OnErr result (GaveNone (S.incoming source.old) (S.incoming source.new)) }
+{
+    if !source.look()? {
+        return Ok(None);
+    }
+    let bytes = source.lend();
+    if bytes.len() < 8 {
+        return Ok(None);
+    }
+    Ok(Some([
+        bytes[0], bytes[1], bytes[2], bytes[3], bytes[4], bytes[5], bytes[6], bytes[7],
+    ]))
+}
+
+/// Takes the next bytes, at most so many, from 1 to 8, as a word, the first one lowest and zeros behind the last, and answers how
+/// many they are; 0 says that no byte is left. It is one pull, and fails as `Source::pull` does.
+#[inline]
+pub fn pull_word<S: Source>(source: &mut S, room: usize) -> Result<(u64, usize), SourceFailed>
+    requires some { 0 < room }
+    requires few { room ≤ 8 }
+    ensures { PullsWord room (S.incoming source.old) (S.incoming source.new) result }
+{
+    if let Some(eight) = eight_ahead(source)? {
+        let count = source.pass(room)?;
+        return Ok((word_of(eight, count), count));
+    }
+    let mut bytes = [0; 8];
+    let count = source.pull(&mut bytes[..room])?;
+    Ok((word_of(bytes, count), count))
 }
 
 /// The bytes of a slice. It fails only once it is worn.
@@ -170,28 +157,6 @@ impl<'a> Source for SliceSource<'a> {
         }
         self.pulls += 1;
         self.rest.read(into).map_err(|_| SourceFailed)
-    }
-
-    #[inline(always)]
-    fn at_hand(&mut self, room: usize) -> AtHand {
-        let bytes = self.rest;
-        if self.pulls == u64::MAX || bytes.len() < 8 {
-            return AtHand::Few;
-        }
-        self.pulls += 1;
-        self.rest = &bytes[room..];
-        AtHand::Word(front_of(bytes, room))
-    }
-
-    #[inline(always)]
-    fn word_behind(&mut self, count: usize) -> AtHand {
-        let bytes = self.rest;
-        if self.pulls == u64::MAX || bytes.len() < count + 8 {
-            return AtHand::Few;
-        }
-        self.pulls += 1;
-        self.rest = &bytes[count + 8..];
-        AtHand::Word(front_of(&bytes[count..], 8))
     }
 
     #[inline(always)]
@@ -339,7 +304,7 @@ impl<R: Read> Source for ReadSource<R> {
     }
 }
 
-/// What a reader with a buffer gives. What is at hand is what the buffer has, and no byte is taken ahead. A read that a signal
+/// What a reader with a buffer gives. It lends what the buffer has, and takes no byte ahead. A read that a signal
 /// interrupted is tried again; any other error is a failure. Only if the reader fails to show once more what it has just shown,
 /// nothing is lent.
 #[derive(Drop)]
@@ -377,56 +342,6 @@ impl<R: BufRead> Source for BufSource<R> {
     #[inline]
     fn pull(&mut self, into: &mut [u8]) -> Result<usize, SourceFailed> {
         self.source.pull(into)
-    }
-
-    #[inline(always)]
-    fn at_hand(&mut self, room: usize) -> AtHand {
-        let source = &mut self.source;
-        if source.is_worn() {
-            return AtHand::Few;
-        }
-        let word = match source.reader.fill_buf() {
-            Ok(bytes) => {
-                if bytes.len() < 8 {
-                    return AtHand::Few;
-                }
-                front_of(bytes, room)
-            }
-            Err(error) => {
-                if source.fails(&error) {
-                    return AtHand::Failed;
-                }
-                return AtHand::Few;
-            }
-        };
-        source.reader.consume(room);
-        source.pulls += 1;
-        AtHand::Word(word)
-    }
-
-    #[inline(always)]
-    fn word_behind(&mut self, count: usize) -> AtHand {
-        let source = &mut self.source;
-        if source.is_worn() {
-            return AtHand::Few;
-        }
-        let word = match source.reader.fill_buf() {
-            Ok(bytes) => {
-                if bytes.len() < count + 8 {
-                    return AtHand::Few;
-                }
-                front_of(&bytes[count..], 8)
-            }
-            Err(error) => {
-                if source.fails(&error) {
-                    return AtHand::Failed;
-                }
-                return AtHand::Few;
-            }
-        };
-        source.reader.consume(count + 8);
-        source.pulls += 1;
-        AtHand::Word(word)
     }
 
     #[inline(always)]
@@ -506,19 +421,18 @@ mod tests {
 
     #[test]
     fn worn_words(rt: HostRuntime) {
+        let bytes = [1, 2, 3, 4, 5, 6, 7, 8, 9, 10];
         let mut slice = SliceSource {
-            rest: &[1, 2, 3, 4, 5, 6, 7, 8, 9, 10],
+            rest: &bytes,
             pulls: u64::MAX - 1,
         };
-        assert_eq!(rt; slice.at_hand(2), AtHand::Word(0x0201));
-        assert_eq!(rt; slice.at_hand(2), AtHand::Few);
-        assert_eq!(rt; slice.pull_word(2), Err(SourceFailed));
+        assert_eq!(rt; pull_word(&mut slice, 2), Ok((0x0201, 2)));
+        assert_eq!(rt; pull_word(&mut slice, 2), Err(SourceFailed));
         assert_eq!(rt; (slice.pulls, slice.rest.len()), (u64::MAX, 8));
-        let mut buffered = BufSource::new([1, 2, 3, 4, 5, 6, 7, 8, 9, 10].as_slice());
-        assert_eq!(rt; buffered.at_hand(2), AtHand::Word(0x0201));
+        let mut buffered = BufSource::new(bytes.as_slice());
+        assert_eq!(rt; pull_word(&mut buffered, 2), Ok((0x0201, 2)));
         buffered.source.failures = u64::MAX;
-        assert_eq!(rt; buffered.at_hand(2), AtHand::Few);
-        assert_eq!(rt; buffered.pull_word(2), Err(SourceFailed));
+        assert_eq!(rt; pull_word(&mut buffered, 2), Err(SourceFailed));
         assert_eq!(rt;
             (buffered.source.pulls, buffered.into_inner().len()),
             (1, 8)
@@ -583,12 +497,10 @@ mod tests {
             rest: &[1, 2, 3, 4, 5, 6, 7, 8, 9, 10],
             interrupted: false,
         });
-        assert_eq!(rt; source.at_hand(2), AtHand::Few);
-        assert_eq!(rt; source.pull_word(2), Ok((0x0201, 2)));
-        assert_eq!(rt; source.look(), Ok(false));
-        assert_eq!(rt; source.at_hand(1), AtHand::Word(3));
+        assert_eq!(rt; pull_word(&mut source, 2), Ok((0x0201, 2)));
+        assert_eq!(rt; [source.look(), source.look()], [Ok(false), Ok(true)]);
+        assert_eq!(rt; pull_word(&mut source, 1), Ok((3, 1)));
         assert_eq!(rt; source.pass(2), Ok(1));
-        assert_eq!(rt; source.word_behind(1), AtHand::Few);
         assert_eq!(rt; (source.source.pulls, source.source.failures), (3, 0));
     }
 }

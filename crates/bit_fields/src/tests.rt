@@ -367,9 +367,14 @@ fn failing_reads(rt: HostRuntime) {
         let told = words(in_steps(&EMPTY_BLOCK, 1, read), Limits::usual());
         assert!(rt; told == answer, "{read}");
     }
-    // each byte and the end are shown, and then read
-    for read in 1..36 {
-        let answer = if read == 35 { Ok(3) } else { Err(Fault::Read) };
+    // each byte is looked for, shown and read, and so is the end, where nothing is shown
+    for read in 1..52 {
+        let shown = read % 3 == 2 && read < 49;
+        let answer = if shown || read == 51 {
+            Ok(3)
+        } else {
+            Err(Fault::Read)
+        };
         let told = words(shown_source(&EMPTY_BLOCK, 1, read), Limits::usual());
         assert!(rt; told == answer, "{read}");
     }

@@ -121,9 +121,6 @@ impl Window {
         ensures some { 0 < result }
     {
         let lasts = FOUR_TOPS[n as usize] & !self.word;
-        if lasts == 0 {
-            return 65;
-        }
         lasts.trailing_zeros() + 1
     }
 
@@ -175,13 +172,13 @@ impl Window {
         self.word.to_le_bytes()
     }
 
-    /// Takes the bits of so many bytes away.
-    pub fn skip_bytes(&mut self, count: usize)
-        requires { 8 * count ≤ length self.old }
-        ensures { self.new ≡ drop (8 * count) self.old }
+    /// Takes the first n bits away.
+    #[inline(always)]
+    pub fn skip(&mut self, n: u32)
+        requires { n ≤ length self.old }
+        ensures { self.new ≡ drop n self.old }
     {
         let held = self.len();
-        let n = 8 * count as u32;
         if n == held {
             self.word = 0;
             self.held = 0;

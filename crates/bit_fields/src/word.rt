@@ -4,29 +4,16 @@ ghost use Rattle.bit_grammar.specs.Bits.{bits_of, bits_of_bytes};
 /// The first bytes of eight as a word, so many, the first one lowest.
 #[inline(always)]
 pub fn word_of(bytes: [u8; 8], count: usize) -> u64
-    requires some { 0 < count }
-    requires few { count ≤ 8 }
+    requires { count ≤ 8 }
     ensures below { result < 2 ^ (8 * count) }
     ensures bits { bits_of (8 * count) result ≡ bits_of_bytes (take count bytes) }
 {
+    if count == 0 {
+        return 0;
+    }
     let word = u64::from_le_bytes(bytes);
     let mask = u64::MAX >> (64 - 8 * count as u32);
     word & mask
-}
-
-/// The first bytes of a slice that has eight, so many, as a word, the first one lowest. This is one load and a mask.
-#[inline(always)]
-pub fn front_of(bytes: &[u8], count: usize) -> u64
-    requires long { 8 ≤ length bytes.now }
-    requires some { 0 < count }
-    requires few { count ≤ 8 }
-    ensures below { result < 2 ^ (8 * count) }
-    ensures bits { bits_of (8 * count) result ≡ bits_of_bytes (take count bytes.now) }
-{
-    let eight = [
-        bytes[0], bytes[1], bytes[2], bytes[3], bytes[4], bytes[5], bytes[6], bytes[7],
-    ];
-    word_of(eight, count)
 }
 
 /// The first four bytes of a slice that has them as a word, the first one lowest. This is one load.

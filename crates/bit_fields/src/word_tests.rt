@@ -3,7 +3,8 @@
 ghost use Rattle.std.specs.Prelude.{◌<◌, ◌≤◌};
 
 use crate::tests::{after_magic, in_steps, shown_source};
-use crate::{AtHand, BitReader, Fault, Limits, SliceSource, Source, SourceFailed};
+use crate::source::pull_word;
+use crate::{BitReader, Fault, Limits, SliceSource, Source};
 
 /// Bytes of which no two are the same.
 const BYTES: [u8; 21] = [
@@ -21,18 +22,6 @@ fn mix(before: u64, word: u64, count: usize) -> u64 {
         .wrapping_add(count as u64)
 }
 
-/// The next word of a source and its count: what is at hand, or else by a pull.
-fn next_word<S: Source>(source: &mut S, room: usize) -> Result<(u64, usize), SourceFailed>
-    requires some { 0 < room }
-    requires few { room ≤ 8 }
-{
-    match source.at_hand(room) {
-        AtHand::Word(word) => Ok((word, room)),
-        AtHand::Few => source.pull_word(room),
-        AtHand::Failed => Err(SourceFailed),
-    }
-}
-
 /// What a source gives up to its end or its first failure, by words.
 fn by_words<S: Source + Drop>(mut source: S, room: usize) -> u64
     requires some { 0 < room }
@@ -40,7 +29,7 @@ fn by_words<S: Source + Drop>(mut source: S, room: usize) -> u64
 {
     let mut given = 0;
     for _ in 0..100 {
-        match next_word(&mut source, room) {
+        match pull_word(&mut source, room) {
             Ok((_, 0)) => return given,
             Ok((word, count)) => given = mix(given, word, count),
             Err(_) => return mix(given, 0, 99),
@@ -76,7 +65,7 @@ fn value(bytes: &[u8]) -> u64 {
 
 /// The first word of a source and its count, and 0 and 99 where it failed.
 fn first<S: Source + Drop>(mut source: S, room: usize) -> (u64, usize) {
-    match next_word(&mut source, room.clamp(1, 8)) {
+    match pull_word(&mut source, room.clamp(1, 8)) {
         Ok(taken) => taken,
         Err(_) => (0, 99),
     }
@@ -139,22 +128,25 @@ fn failures_and_words(rt: HostRuntime) {
         for fails_at in 1..6 {
             let given = by_slices(in_steps(&BYTES, 5, fails_at), room);
             let stepped = by_words(in_steps(&BYTES, 5, fails_at), room);
-            // five bytes are shown, and then read
-            let shown_then = by_words(shown_source(&BYTES, 5, 2 * fails_at - 1), room);
-            let read_then = by_words(shown_source(&BYTES, 5, 2 * fails_at), room);
+            // five bytes are looked for, shown and read
+            let looked_for = by_words(shown_source(&BYTES, 5, 3 * fails_at - 2), room);
+            let read_then = by_words(shown_source(&BYTES, 5, 3 * fails_at), room);
             assert_eq!(rt;
-                (stepped, shown_then, read_then),
+                (stepped, looked_for, read_then),
                 (given, given, given),
                 "{room} {fails_at}"
             );
+            // where it fails to show them once more, they are read
+            let shown = by_words(shown_source(&BYTES, 5, 3 * fails_at - 1), room);
+            let all = by_words(in_steps(&BYTES, 5, 0), room);
+            assert_eq!(rt; shown, all, "{room} {fails_at}");
         }
-        // nine bytes are shown and taken
+        // nine bytes are looked for, shown and taken
         for fails_at in 1..4 {
-            assert_eq!(rt;
-                by_words(shown_source(&BYTES, 9, fails_at), room),
-                by_slices(in_steps(&BYTES, 9, fails_at), room),
-                "{room} {fails_at}"
-            );
+            let given = by_slices(in_steps(&BYTES, 9, fails_at), room);
+            let looked_for = by_words(shown_source(&BYTES, 9, 3 * fails_at - 2), room);
+            let taken = by_words(shown_source(&BYTES, 9, 3 * fails_at), room);
+            assert_eq!(rt; (looked_for, taken), (given, given), "{room} {fails_at}");
         }
     }
 }
@@ -198,8 +190,10 @@ fn fail_within(input: &[u8]) -> bool {
     let mut fail = true;
     for fails_at in 1..12 {
         let read = some_fields(in_steps(input, 1, fails_at));
-        let seen = some_fields(shown_source(input, 1, fails_at));
-        fail = fail && read == Err(Fault::Read) && seen == Err(Fault::Read);
+        // each byte is looked for, shown and read
+        let looked_for = some_fields(shown_source(input, 1, 3 * fails_at - 2));
+        let seen = some_fields(shown_source(input, 1, 3 * fails_at));
+        fail = fail && [read, looked_for, seen] == [Err(Fault::Read); 3];
     }
     fail
 }

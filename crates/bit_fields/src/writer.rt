@@ -84,7 +84,7 @@ impl<K: Sink> BitWriter<K> {
                 Err(SinkFailed)
             }
             Ok(taken) => {
-                self.window.skip_bytes(taken);
+                self.window.skip(8 * taken as u32);
                 Ok(())
             }
             Err(SinkFailed) => {

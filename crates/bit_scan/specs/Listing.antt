@@ -31,7 +31,9 @@ left_text around standing events = events_text around (left_of standing events)
 pub record PrintsOne (around : ℕ) (stood : OpenUnder) (old : Coming) (before : Printing) (next : ℕ)
     (stands : OpenUnder) (new : Coming) (after : Printing) : Type 0 where
   pub event : Event
-  pub gives : GivesEvent old event new
+  -- the values that are held, which the events do not where a record was read where it lies
+  pub held : List ℕ
+  pub gives : GivesEvent old event (record new { held = held })
   pub stands_is : stands ≡ stands_after event stood
   pub next_is : next ≡ (if leaves stood event then open_after event around else around)
   pub printed : Printed (if leaves stood event then event_text around event else []) before after
@@ -54,6 +56,16 @@ Continues around stood old before (Ok (Some next)) stands new after = PrintsOne 
     before next stands new after
 Continues around stood old before (Ok None) stands new after = EndsEvents old new × (after ≡ before)
 Continues around stood old before (Err fault) stands new after = TellsComing old
+    → Prints (left_text around stood old.told.0) before (Err fault) after
+
+-- The same of a record that is read where it lies, if one came; else nothing was done.
+abbrev pub ContinuesSeen : (around : ℕ) → OpenUnder → Coming → Printing → Result (Option ℕ) Fault
+    → OpenUnder → Coming → Printing → Type 0
+ContinuesSeen around stood old before (Ok (Some next)) stands new after = PrintsOne around stood old
+    before next stands new after
+ContinuesSeen around stood old before (Ok None) stands new after = (new ≡ old)
+    × (stands ≡ stood) × (after ≡ before)
+ContinuesSeen around stood old before (Err fault) stands new after = TellsComing old
     → Prints (left_text around stood old.told.0) before (Err fault) after
 
 -- A sink took the text of what is left of what is told of bytes, or a front of it; or memory was refused, and it took nothing.

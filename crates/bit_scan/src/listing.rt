@@ -6,12 +6,12 @@ ghost use Rattle.bit_grammar.specs.Texts.{values_text, record_line, event_text};
 ghost use Rattle.bit_events.specs.Coming.{TellsComing};
 ghost use Rattle.bit_events.specs.EventView.{event_shown};
 ghost use Rattle.bit_scan.specs.Lines.{listing_head};
-ghost use Rattle.bit_scan.specs.Listing.{left_text, WritesLeft, Continues, ListsBytes};
+ghost use Rattle.bit_scan.specs.Listing.{left_text, WritesLeft, Continues, ContinuesSeen, ListsBytes};
 ghost use Rattle.bit_scan.specs.Printing.{Prints};
 
 use crate::printer::Printer;
-use bit_events::{Event, OpenBlocks, PackedEvent, PackedEvents};
-use bit_fields::{Fault, Limits, PackedValues, Sink, SliceSource, Source};
+use bit_events::{Event, OpenBlocks, PackedEvent, SliceEvents};
+use bit_fields::{Fault, Limits, PackedValues, Sink, SliceSource, ValueTaker};
 use bit_grammar::Info;
 use std::alloc::Global;
 
@@ -123,10 +123,39 @@ fn write_left<K: Sink>(
     Ok(around_after(around, &event))
 }
 
-/// Takes the next event, and writes its line with so many blocks around it, if it is left and has one. Answers how many stand
-/// around the event that follows, or nothing where none is left.
-fn write_next<S: Source, K: Sink>(
-    events: &mut PackedEvents<S>,
+/// Takes the next event where it is a record that is read where it lies, and writes its line with so many blocks around it, if it
+/// is left. Answers how many stand around the event that follows, or nothing where no such record came. The values are those of
+/// the record.
+fn write_seen<K: Sink>(
+    events: &mut SliceEvents<'_>,
+    printer: &mut Printer<K>,
+    standing: &mut OpenBlocks<'_>,
+    around: u32,
+    values: &mut PackedValues,
+) -> Result<Option<u32>, Fault>
+    requires { around ≤ 255 }
+    ensures { ContinuesSeen around standing.old events.old printer.old result standing.new events.new
+        printer.new }
+{
+    values.truncate(0);
+    let Some(read) = events.record(values) else {
+        return Ok(None);
+    };
+    let event = Event::Record {
+        abbrev: read.abbrev,
+        code: read.code,
+        values: &*values,
+        first: read.first,
+        after: read.after,
+    };
+    let next = write_left(printer, standing, around, event)?;
+    Ok(Some(next))
+}
+
+/// Takes the next event, whatever it is, and writes its line with so many blocks around it, if it is left and has one. Answers how
+/// many stand around the event that follows, or nothing where none is left.
+fn write_found<K: Sink>(
+    events: &mut SliceEvents<'_>,
     printer: &mut Printer<K>,
     standing: &mut OpenBlocks<'_>,
     around: u32,
@@ -146,9 +175,29 @@ fn write_next<S: Source, K: Sink>(
     }
 }
 
+/// Takes the next event, and writes its line with so many blocks around it, if it is left and has one. Answers how many stand
+/// around the event that follows, or nothing where none is left. The values are for a record that is read where it lies.
+fn write_next<K: Sink>(
+    events: &mut SliceEvents<'_>,
+    printer: &mut Printer<K>,
+    standing: &mut OpenBlocks<'_>,
+    around: u32,
+    values: &mut PackedValues,
+) -> Result<Option<u32>, Fault>
+    requires { around ≤ 255 }
+    ensures { Continues around standing.old events.old printer.old result standing.new events.new
+        printer.new }
+{
+    if let Some(next) = write_seen(events, printer, standing, around, values)? {
+        return Ok(Some(next));
+    }
+    write_found(events, printer, standing, around)
+}
+
 /// Writes the lines of what is left of all events.
-fn write_events<S: Source, K: Sink>(
-    events: &mut PackedEvents<S>,
+fn write_events<K: Sink>(
+    alloc: Global,
+    events: &mut SliceEvents<'_>,
     printer: &mut Printer<K>,
     standing: &mut OpenBlocks<'_>,
 ) -> Result<(), Fault>
@@ -158,16 +207,18 @@ fn write_events<S: Source, K: Sink>(
     requires none { standing.old.ids ≡ [] }
     ensures { Prints (left_text 0 standing.old events.old.told.0) printer.old result printer.new }
 {
+    let mut values = PackedValues::new(alloc);
     let mut around = 0;
-    while let Some(next) = write_next(events, printer, standing, around)? {
+    while let Some(next) = write_next(events, printer, standing, around, &mut values)? {
         around = next;
     }
     Ok(())
 }
 
 /// Writes the line of a magic and those of what is left of all events.
-fn write_told<S: Source, K: Sink>(
-    events: &mut PackedEvents<S>,
+fn write_told<K: Sink>(
+    alloc: Global,
+    events: &mut SliceEvents<'_>,
     printer: &mut Printer<K>,
     standing: &mut OpenBlocks<'_>,
 ) -> Result<(), Fault>
@@ -180,7 +231,7 @@ fn write_told<S: Source, K: Sink>(
     ensures all { OnOk result (printer.new.held ≡ []) }
 {
     printer.listing_head(events.head().magic)?;
-    write_events(events, printer, standing)?;
+    write_events(alloc, events, printer, standing)?;
     printer.finish()
 }
 
@@ -198,13 +249,13 @@ pub(crate) fn write_listing<K: Sink>(
     ensures { ListsBytes (setting_of info.entry) limits bytes.now (K.outgoing sink) result.0
         (K.outgoing result.1) }
 {
-    let mut events = match PackedEvents::start(alloc, SliceSource::new(bytes), limits) {
+    let mut events = match SliceEvents::start(alloc, SliceSource::new(bytes), limits) {
         Ok(events) => events,
         // Accepted bytes begin with a magic, so this does not come.
         Err(_) => return (Err(Fault::Memory), sink),
     };
     let mut printer = Printer::new(alloc, sink);
     let mut standing = OpenBlocks::new(alloc, info);
-    let answer = write_told(&mut events, &mut printer, &mut standing);
+    let answer = write_told(alloc, &mut events, &mut printer, &mut standing);
     (answer, printer.into_sink())
 }

@@ -32,7 +32,7 @@ impl<S: Source> BitReader<S> {
         if self.look()? {
             Ok(self.in_sight())
         } else {
-            Ok(self.at_hand())
+            Ok(self.in_window())
         }
     }
 
@@ -76,7 +76,7 @@ impl<S: Source> BitReader<S> {
 
     /// Lends the bits in the window.
     #[inline(always)]
-    fn at_hand(&self) -> Sight<'_>
+    fn in_window(&self) -> Sight<'_>
         requires { self.now.live ≡ true }
         ensures lawful { IsSight result }
         ensures sees { Sees self.now (sight_lent result) }
@@ -90,51 +90,11 @@ impl<S: Source> BitReader<S> {
         }
     }
 
-    /// Takes so many bits, whatever they are: those that were read from what is in sight.
+    /// Takes so many bits, whatever they are: those that were read from what is in sight, or a gap.
     ///
     /// Fewer bits are `Truncated` at the first of them.
-    #[inline(always)]
-    pub fn catch_up(&mut self, bits: u64) -> Result<(), Fault>
-        ensures takes { Takes (any_bits bits) self.old result self.new }
-        ensures memory { NeedsNoMemory result }
-        ensures stays { OnErr result (self.new.position ≡ self.old.position) }
-        ensures moves { OnOk result (self.new.position ≡ self.old.position + bits) }
-    {
-        if self.live && bits > 0 && self.skip_at_hand(bits)? {
-            return Ok(());
-        }
-        self.skip_bits(bits)
-    }
-
-    /// Skips so many bits where they are at hand: whether it did.
-    #[inline(always)]
-    fn skip_at_hand(&mut self, bits: u64) -> Result<bool, Fault>
-        requires live { self.old.live ≡ true }
-        requires some { 0 < bits }
-        ensures skips { IfOk result (λ done. (done ≡ true
-            → Took (any_bits bits) self.old tt self.new)
-            × (done ≡ false → TookNothing self.old self.new)) }
-        ensures missed { IfErr result (λ fault. Why (gives (tt {0})) self.old fault self.new) }
-        ensures memory { NeedsNoMemory result }
-        ensures stays { OnErr result (self.new.position ≡ self.old.position) }
-        ensures moves { IfOk result (λ done. (done ≡ true
-            → self.new.position ≡ self.old.position + bits)
-            × (done ≡ false → self.new.position ≡ self.old.position)) }
-    {
-        let first = self.position;
-        match self.inflow.skip_at_hand(bits) {
-            Ok(true) => {
-                self.position = first + bits;
-                Ok(true)
-            }
-            Ok(false) => Ok(false),
-            Err(missing) => Err(self.miss(missing, first)),
-        }
-    }
-
-    /// Skips so many bits, whatever they are.
     #[inline(never)]
-    pub(super) fn skip_bits(&mut self, bits: u64) -> Result<(), Fault>
+    pub fn catch_up(&mut self, bits: u64) -> Result<(), Fault>
         ensures takes { Takes (any_bits bits) self.old result self.new }
         ensures memory { NeedsNoMemory result }
         ensures stays { OnErr result (self.new.position ≡ self.old.position) }

@@ -13,7 +13,7 @@ returns-in_err-judge-clause-adds g c =
     let failed = err_from_is_err_and c.from_residual.result c.from_residual.ensures.1 in
     let a = g.B.Bits.as_reader c.args.bits.now in
     let d = g.B.Bits.as_reader c.judge.new.self in
-    let judged = rw c.singles.ensures.is at c.in_err-judge.ensures.takes in
+    let judged = rw c.singles-count.ensures.is at c.in_err-judge.ensures.takes in
     rw (failed.1, failed.2) (λ fault stands before t. (
       before,
       t,
@@ -23,7 +23,7 @@ returns-in_err-judge-clause-adds g c =
 pub returns-in_err-code-clause-adds : goal.returns-in_err-code-clause-adds
 returns-in_err-code-clause-adds g c =
     let parts = sym (in_parts c.args.ops.now c.in-len1-up.len_at_least) in
-    let judged = rw c.singles.ensures.is at c.in_ok-judge.ensures.takes in
+    let judged = rw c.singles-count.ensures.is at c.in_ok-judge.ensures.takes in
     let failed = err_from_is_err_and c.from_residual-in_err-code.result c.from_residual-in_err-code.ensures.1 in
     let a = g.B.Bits.as_reader c.args.bits.now in
     let d = g.B.Bits.as_reader c.read_scalar.new.bits in
@@ -33,8 +33,8 @@ returns-in_err-code-clause-adds g c =
       (subst (λ (ops : List Op). AddsRecord (abbreviated c.args.first c.args.room ops) a (Err fault) before before d) parts (record_coded c.args.first c.args.room (op_at c.args.ops.now 0) (behind_first c.args.ops.now) a (g.B.Bits.as_reader c.judge.new.self) fault before d judged (c.in_err-code.ensures.takes fault stands)), tt),
     ))
 
-pub singles-requires : goal.singles-requires
-singles-requires g c = others_in_order c.args.ops.now c.in-len1-up.len_at_least c.requires.lawful
+pub singles-count-requires : goal.singles-count-requires
+singles-count-requires g c = others_in_order c.args.ops.now c.in-len1-up.len_at_least c.requires.lawful
 
 pub read_values-requires-clause-order : goal.read_values-requires-clause-order
 read_values-requires-clause-order g c = others_in_order c.args.ops.now c.in-len1-up.len_at_least c.requires.lawful
@@ -42,7 +42,7 @@ read_values-requires-clause-order g c = others_in_order c.args.ops.now c.in-len1
 pub returns-in_err-read_values-clause-adds : goal.returns-in_err-read_values-clause-adds
 returns-in_err-read_values-clause-adds g c =
     let parts = sym (in_parts c.args.ops.now c.in-len1-up.len_at_least) in
-    let judged = rw c.singles.ensures.is at c.in_ok-judge.ensures.takes in
+    let judged = rw c.singles-count.ensures.is at c.in_ok-judge.ensures.takes in
     let failed = err_from_is_err_and c.from_residual-in_err-read_values.result c.from_residual-in_err-read_values.ensures.1 in
     let a = g.B.Bits.as_reader c.args.bits.now in
     let d = g.B.Bits.as_reader c.read_values.new.bits in
@@ -56,7 +56,7 @@ returns-in_err-read_values-clause-adds g c =
 pub returns-clause-adds : goal.returns-clause-adds
 returns-clause-adds g c = λ before t.
     let parts = sym (in_parts c.args.ops.now c.in-len1-up.len_at_least) in
-    let judged = rw c.singles.ensures.is at c.in_ok-judge.ensures.takes in
+    let judged = rw c.singles-count.ensures.is at c.in_ok-judge.ensures.takes in
     let h = c.in_ok-read_values.ensures.adds before t in
     let a = g.B.Bits.as_reader c.args.bits.now in
     let d = g.B.Bits.as_reader c.read_values.new.bits in (

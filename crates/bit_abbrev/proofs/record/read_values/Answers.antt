@@ -10,28 +10,28 @@ use Rattle.bit_abbrev.proofs.Records.{front_single, front_fails, front_is_all, f
 use Rattle.bit_abbrev.proofs.record.read_values.Goals as goal
 
 pub read_singles-requires-clause-single : goal.read_singles-requires-clause-single
-read_singles-requires-clause-single g c = rw c.singles-count.ensures.is (front_single c.args.ops.now)
+read_singles-requires-clause-single g c = rw c.requires.singles (front_single c.args.ops.now)
 
 pub returns-in_err-read_singles-clause-adds : goal.returns-in_err-read_singles-clause-adds
 returns-in_err-read_singles-clause-adds g c =
     let ops = c.args.ops.now in
     let count = singles ops in
     let failed = err_from_is_err_and c.from_residual.result c.from_residual.ensures.1 in
-    let first = rw c.singles-count.ensures.is at (c.in_err-read_singles.ensures.adds (c.args.room - count) (drop count ops)) in
+    let first = rw c.requires.singles at (c.in_err-read_singles.ensures.adds (c.args.room - count) (drop count ops)) in
     rw (failed.1, failed.2) (λ fault stands before t.
     let h = first fault stands before t in
     (h.0, h.1, front_fails c.args.room ops (g.B.Bits.as_reader c.args.bits.now) fault before h.0 (g.B.Bits.as_reader c.read_singles.new.bits) h.2))
 
 pub read_array-requires-clause-element : goal.read_array-requires-clause-element
-read_array-requires-clause-element g c = rw c.singles-count.ensures.is (array_behind c.args.ops.now c.requires.order (omega (arith, c.singles-count.ensures.is))).1
+read_array-requires-clause-element g c = rw c.requires.singles (array_behind c.args.ops.now c.requires.order (omega (arith, c.requires.singles))).1
 
 pub returns-in-0-clause-adds : goal.returns-in-0-clause-adds
 returns-in-0-clause-adds g c = λ before t.
     let ops = c.args.ops.now in
     let count = singles ops in
-    let first = rw c.singles-count.ensures.is at (c.in_ok-read_singles.ensures.adds (c.args.room - count) (drop count ops)) in
+    let first = rw c.requires.singles at (c.in_ok-read_singles.ensures.adds (c.args.room - count) (drop count ops)) in
     let h = first before t in
-    (h.0, h.1, front_is_all c.args.room ops (g.B.Bits.as_reader c.args.bits.now) (g.B.Bits.as_reader c.read_singles.new.bits) before h.0 c.requires.fits (omega (arith, c.singles-count.ensures.is)) h.2)
+    (h.0, h.1, front_is_all c.args.room ops (g.B.Bits.as_reader c.args.bits.now) (g.B.Bits.as_reader c.read_singles.new.bits) before h.0 c.requires.fits (omega (arith, c.requires.singles)) h.2)
 
 pub returns-in-1-clause-adds : goal.returns-in-1-clause-adds
 returns-in-1-clause-adds g c =
@@ -41,9 +41,9 @@ returns-in-1-clause-adds g c =
     let a = g.B.Bits.as_reader c.args.bits.now in
     let b = g.B.Bits.as_reader c.read_singles.new.bits in
     let d = g.B.Bits.as_reader c.read_blob.new.bits in
-    let first = rw c.singles-count.ensures.is at (c.in_ok-read_singles.ensures.adds room (drop count ops)) in
-    let blob = rw c.singles-count.ensures.is at (c.read_blob.ensures.adds (drop (count + 1) ops)) in
-    let next = blob_behind ops c.requires.order (omega (arith, c.singles-count.ensures.is)) in
+    let first = rw c.requires.singles at (c.in_ok-read_singles.ensures.adds room (drop count ops)) in
+    let blob = rw c.requires.singles at (c.read_blob.ensures.adds (drop (count + 1) ops)) in
+    let next = blob_behind ops c.requires.order (omega (arith, c.requires.singles)) in
     answers_so g.B.Bits.faults (λ r. Gains g.V.ValueTaker.took c.read_singles.new.values c.read_blob.new.values (AddsFew (values_of room (Blob ∷ drop (count + 1) ops)) room b r d))
     (λ r. Gains g.V.ValueTaker.took c.args.values.now c.read_blob.new.values (AddsFew (values_of room ops) c.args.room a r d)) c.read_blob.result
     (λ r gains before t.
@@ -60,9 +60,9 @@ returns-in_default-clause-adds g c =
     let a = g.B.Bits.as_reader c.args.bits.now in
     let b = g.B.Bits.as_reader c.read_singles.new.bits in
     let d = g.B.Bits.as_reader c.read_array.new.bits in
-    let first = rw c.singles-count.ensures.is at (c.in_ok-read_singles.ensures.adds room (drop count ops)) in
-    let array = rw c.singles-count.ensures.is at (c.read_array.ensures.adds (drop (count + 1 + 1) ops)) in
-    let next = (array_behind ops c.requires.order (omega (arith, c.singles-count.ensures.is))).0 in
+    let first = rw c.requires.singles at (c.in_ok-read_singles.ensures.adds room (drop count ops)) in
+    let array = rw c.requires.singles at (c.read_array.ensures.adds (drop (count + 1 + 1) ops)) in
+    let next = (array_behind ops c.requires.order (omega (arith, c.requires.singles))).0 in
     answers_so g.B.Bits.faults (λ r. Gains g.V.ValueTaker.took c.read_singles.new.values c.read_array.new.values (AddsFew (values_of room (Array ∷ op_at ops (count + 1) ∷ drop (count + 1 + 1) ops)) room b r d))
     (λ r. Gains g.V.ValueTaker.took c.args.values.now c.read_array.new.values (AddsFew (values_of room ops) c.args.room a r d)) c.read_array.result
     (λ r gains before t.

@@ -1,6 +1,6 @@
-use Rattle.std.proofs.Common.{◌≡◌, ◌∙◌, ◌-◌, ◌++◌, ap, drop, length, arith, List, Bool, get_or}
+use Rattle.std.proofs.Common.{◌≡◌, ◌-◌, drop, length, arith, get_or}
 use Rattle.std.proofs.lemmas.List.{take_all, length-drop}
-use Rattle.bit_grammar.specs.Bits.{bits_of, bits_of_bytes}
+use Rattle.bit_grammar.specs.Bits.{bits_of}
 use Rattle.bit_fields.proofs.Sights.{byte_passed}
 use Rattle.bit_fields.proofs.ahead.rest_of_byte.Goals as goal
 

@@ -1,4 +1,4 @@
-use Rattle.std.proofs.Common.{◌≡◌, ap, length, arith}
+use Rattle.std.proofs.Common.{ap, length, arith}
 use Rattle.bit_fields.specs.Ahead.{InSight}
 use Rattle.bit_fields.proofs.Sights.{sight_length}
 use Rattle.bit_fields.proofs.ahead.Ahead.len.Goals as goal

@@ -1,4 +1,4 @@
-use Rattle.std.proofs.Common.{◌≡◌, ◌<◌, ◌∙◌, ap, arith, length}
+use Rattle.std.proofs.Common.{ap, arith, length}
 use Rattle.bit_grammar.specs.Fields.{vbr}
 use Rattle.bit_fields.specs.Ahead.{InSight, beyond}
 use Rattle.bit_fields.proofs.Glimpses.{glimpsed_there}

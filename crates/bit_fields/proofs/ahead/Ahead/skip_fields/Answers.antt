@@ -1,4 +1,4 @@
-use Rattle.std.proofs.Common.{◌≡◌, ◌≤◌, ◌*◌, ap, ℕ, length, arith}
+use Rattle.std.proofs.Common.{◌≤◌, ◌*◌, ap, ℕ, length, arith}
 use Rattle.std.proofs.Math.Nat.{div-mul-le_self}
 use Rattle.bit_fields.proofs.Sights.{fields_glimpsed}
 use Rattle.bit_fields.proofs.ahead.Ahead.skip_fields.Goals as goal

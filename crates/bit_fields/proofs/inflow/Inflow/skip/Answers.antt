@@ -1,4 +1,4 @@
-use Rattle.std.proofs.Common.{◌≡◌, ◌<◌, length, min, arith, ap, ◌∙◌}
+use Rattle.std.proofs.Common.{◌≡◌, ◌<◌, ◌≤◌, Bool, List, length, min, arith, ap, subst, sym, ◌∙◌}
 use Rattle.bit_fields.specs.Inflow.{Flow, KeepsFlow}
 use Rattle.bit_fields.proofs.InflowLaws.{Keeps-refl}
 use Rattle.bit_fields.proofs.Draining.{window_skipped}
@@ -18,5 +18,7 @@ returns-clause-skips g c =
       | else-len-eq0 w ↦ rw w.self-is (omega (arith, w.if-len-eq0.false, before))
     ] in
     let count : c.min-count.result ≡ min c.args.most c.from.result = c.min-count.ensures in
-    let few : c.from.result ≡ min c.len-2.result 32 = c.from.ensures ∙ c.min.ensures in
-    (window_skipped c.args.self.now c.if-len-eq0.self c.take.new.self c.min-count.result kept (omega (arith, held, some, count, few, c.requires)) (omega (arith, held, count, few)) c.take.ensures.rest, omega (arith, count))
+    let flow : List Bool → Flow = λ w. record { window = w; incoming = g.S.Source.incoming c.self-2.inside.source; loaded = c.self-2.inside.loaded; end = c.self-2.inside.end; limit = c.self-2.inside.limit; ended = c.self-2.inside.ended } in
+    let here : KeepsFlow c.args.self.now (flow c.self-2.inside.window) = subst (KeepsFlow c.args.self.now) (sym c.self-2.view_is) kept in
+    let there : c.min-count.result ≤ length c.self-2.inside.window = omega (arith, c.len-2.ensures.length, count) in
+    (window_skipped c.args.self.now (flow c.self-2.inside.window) (flow c.skip.new.self) c.min-count.result here (omega (arith, held, some, count, c.requires)) there (ap flow c.skip.ensures), omega (arith, count))

@@ -4,17 +4,16 @@ use Rattle.bit_fields.proofs.Keeping.{begins_before}
 use Rattle.bit_fields.proofs.kept.KeptSource.keep_ahead.Goals as goal
 
 pub returns-clause-ahead : goal.returns-clause-ahead
-returns-clause-ahead g c = λ did.
+returns-clause-ahead g c = λ some.
     let shown = c.lend-bytes.result.now in
     let looked = c.in_ok-look.ensures.looks in
     let lent = c.lend-bytes.follows.holds-at-none in
-    let there = c.if-bytes-count.false in
     let fresh = c.in_ok-look.ensures.fresh c.if-not-branch.false in (
       omega (arith, fresh, lent.pulls, lent.failures),
       (
-        take c.args.count shown,
-        length-take-le c.args.count shown there,
-        begins_before (g.S.Source.incoming c.args.self.now.source).to_come (g.S.Source.incoming c.look.new.self).to_come shown c.args.count looked.bytes c.lend-bytes.ensures.front there,
+        take c.min-count.result shown,
+        length-take-le c.min-count.result shown (omega arith),
+        begins_before (g.S.Source.incoming c.args.self.now.source).to_come (g.S.Source.incoming c.look.new.self).to_come shown c.min-count.result looked.bytes c.lend-bytes.ensures.front (omega arith),
         c.keep.ensures,
       ),
     )

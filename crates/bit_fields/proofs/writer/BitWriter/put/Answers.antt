@@ -17,8 +17,8 @@ returns-in-Ok-clause-wrote g c =
     let fits = c.in-Ok.ensures.fits in
     let few : c.in-Ok.taken ≤ c.args.count = omega (arith, fits, length-take c.args.count c.bytes-bytes.result) in
     let there : 8 * c.in-Ok.taken ≤ length c.self.inside.window = omega arith in
-    rw (← c.self.view_is) (wrote_some _ (g.K.Sink.outgoing c.put.new.self) c.in-Ok.taken (take c.args.count c.bytes-bytes.result) c.skip_bytes.new.self (subst (λ (w : Writer). w.live ≡ true) (sym c.self.view_is) c.requires.live) c.in-Ok.ensures c.in-Ok.taken-test.1
-    (ap bits_of_bytes (take-take c.in-Ok.taken c.args.count c.bytes-bytes.result few) ∙ c.bytes-bytes.ensures.front c.in-Ok.taken there) c.skip_bytes.ensures)
+    rw (← c.self.view_is) (wrote_some _ (g.K.Sink.outgoing c.put.new.self) c.in-Ok.taken (take c.args.count c.bytes-bytes.result) c.skip.new.self (subst (λ (w : Writer). w.live ≡ true) (sym c.self.view_is) c.requires.live) c.in-Ok.ensures c.in-Ok.taken-test.1
+    (ap bits_of_bytes (take-take c.in-Ok.taken c.args.count c.bytes-bytes.result few) ∙ c.bytes-bytes.ensures.front c.in-Ok.taken there) c.skip.ensures)
 
 pub returns-in-Err-clause-lost : goal.returns-in-Err-clause-lost
 returns-in-Err-clause-lost g c = rw (← c.self.view_is) (took_none _ (g.K.Sink.outgoing c.put.new.self) (subst (λ (w : Writer). w.live ≡ true) (sym c.self.view_is) c.requires.live) c.in-Err.ensures)

@@ -1,6 +1,6 @@
 use Rattle.std.proofs.lemmas.Result.{err_from_is_err_and}
 use Rattle.bit_fields.proofs.Keeping.{gave_kept, gave_none}
-use Rattle.bit_fields.proofs.kept.KeptSourceSource.pull.Goals as goal
+use Rattle.bit_fields.proofs.kept.KeptSource.pull_kept.Goals as goal
 
 pub returns-in_err-count : goal.returns-in_err-count
 returns-in_err-count g c =

@@ -1,7 +1,7 @@
 use Rattle.std.proofs.Common.{◌≡◌, true, subst, sym, refl, []}
 use Rattle.bit_fields.specs.Reader.{Reader}
 use Rattle.bit_fields.proofs.Looking.{sees_window}
-use Rattle.bit_fields.proofs.reader.BitReader.at_hand.Goals as goal
+use Rattle.bit_fields.proofs.reader.BitReader.in_window.Goals as goal
 
 pub returns-clause-sees : goal.returns-clause-sees
 returns-clause-sees g c =

@@ -6,7 +6,7 @@ use Rattle.bit_events.specs.declared.event.Event.{Event}
 use Rattle.bit_events.specs.Events.{Lends}
 use Rattle.bit_events.specs.EventView.{event_shown}
 use Rattle.bit_scan.proofs.Lists.{line_stops}
-use Rattle.bit_scan.proofs.listing.write_next.Goals as goal
+use Rattle.bit_scan.proofs.listing.write_found.Goals as goal
 
 pub returns-in_err-next-in-Ok-Some : goal.returns-in_err-next-in-Ok-Some
 returns-in_err-next-in-Ok-Some g c =
