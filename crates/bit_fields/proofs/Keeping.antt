@@ -109,9 +109,9 @@ kept_fewer old mid new count done to_come ahead few whole cut = (
   length-take-le done ahead.0 (omega (arith, ahead.1, few)),
   begins_shorter to_come ahead.0 done ahead.2 (omega (arith, ahead.1, few)),
   λ is.
-    let grew = ahead.3 (sym whole ∙ is) in
-    let left : length mid.bytes.items - (count - done) ≡ length old.bytes.items + done = omega (arith, ap length grew.1, length-append old.bytes.items ahead.0, ahead.1, few) in
-    (grew.0, cut ∙ ap (λ (n : ℕ). take n mid.bytes.items) left ∙ ap (take (length old.bytes.items + done)) grew.1 ∙ take-append-add old.bytes.items ahead.0 done),
+      let grew = ahead.3 (sym whole ∙ is) in
+      let left : length mid.bytes.items - (count - done) ≡ length old.bytes.items + done = omega (arith, ap length grew.1, length-append old.bytes.items ahead.0, ahead.1, few) in
+      (grew.0, cut ∙ ap (λ (n : ℕ). take n mid.bytes.items) left ∙ ap (take (length old.bytes.items + done)) grew.1 ∙ take-append-add old.bytes.items ahead.0 done),
 )
 
 pub unseen_ahead : (old mid new : Kept) (a b c : Incoming) (most count done : ℕ) → Looked a b → KeptAhead count a.to_come old mid → count ≤ most → GaveUnseen b c count done → new.whole ≡ mid.whole → new.bytes.items ≡ take (length mid.bytes.items - (count - done)) mid.bytes.items → GaveUnseen (keeps_of old.whole old.bytes.items a) (keeps_of new.whole new.bytes.items c) most done

@@ -202,7 +202,10 @@ fn failures_of_what_is_shown(rt: HostRuntime) {
         // where it fails to show once more what it has shown, nothing is lent
         let far = runs_of(&rt, shown_source(&input, 5, fails_at), 2);
         let goes_on = LENT.contains(&fails_at);
-        assert!(rt; is_failure(far) != goes_on && (is_failure(far) || same(far, told)), "{fails_at}");
+        assert!(rt;
+            is_failure(far) != goes_on && (is_failure(far) || same(far, told)),
+            "{fails_at}"
+        );
     }
 }
 

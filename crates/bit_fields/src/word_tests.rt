@@ -2,8 +2,8 @@
 
 ghost use Rattle.std.specs.Prelude.{◌<◌, ◌≤◌};
 
-use crate::tests::{after_magic, in_steps, shown_source};
 use crate::source::pull_word;
+use crate::tests::{after_magic, in_steps, shown_source};
 use crate::{BitReader, Fault, Limits, SliceSource, Source};
 
 /// Bytes of which no two are the same.
