@@ -7,4 +7,4 @@ pub mod Shapes
 pub mod Records
 mod Several
 pub mod Buffered
-mod Missing
+pub mod Missing

@@ -1,6 +1,6 @@
 -- Reading the values of a record, operand by operand.
 use Rattle.std.specs.Prelude.{nat_le}
-use Rattle.std.proofs.Common.{◌≡◌, Bool, true, false, ℕ, zero, suc, ◌+◌, ◌-◌, ◌<◌, ◌≤◌, List, [], ◌∷◌, ◌++◌, length, take, drop, Result, Ok, Err, refl, sym, ap, ◌∙◌, subst, arith, add-one, append_assoc, length-append, ◌⊎◌, inl, inr}
+use Rattle.std.proofs.Common.{◌≡◌, true, ℕ, zero, suc, ◌+◌, ◌-◌, ◌<◌, ◌≤◌, List, [], ◌∷◌, ◌++◌, length, take, drop, Result, Ok, Err, refl, sym, ap, ◌∙◌, subst, arith, add-one, append_assoc, length-append, ◌⊎◌, inl, inr}
 use Rattle.std.proofs.Math.ListN.{replicate}
 use Rattle.std.proofs.lemmas.List.{append-nil, length-replicate, length-take-le, drop_all, take_all, take-append-drop}
 use Rattle.std.proofs.Math.Seq.{drop-cons}
@@ -8,8 +8,7 @@ use Rattle.std.specs.Result.{OnOk}
 use Rattle.bit_grammar.specs.declared.op.Op.{Op}
 use Rattle.bit_grammar.specs.declared.op.Op.TheVariants.{Literal, Fixed, Vbr, Array, Char6, Blob}
 use Rattle.bit_grammar.specs.declared.reason.Reason.TheVariants.{TooManyValues}
-use Rattle.bit_grammar.specs.Grammar as grammar
-use Rattle.bit_grammar.specs.Grammar.{Grammar, at, gives, test, ◌>>=◌, ◌>>◌, repeat, reading}
+use Rattle.bit_grammar.specs.Grammar.{Grammar, at, gives, test, ◌>>=◌, ◌>>◌, repeat}
 use Rattle.bit_grammar.specs.Fields.{fixed, align32, byte}
 use Rattle.bit_grammar.specs.Record.{value_count, scalar, singles, values_of, abbreviated}
 use Rattle.bit_grammar.specs.Terms.{CodeAndValues}
@@ -358,27 +357,3 @@ in_parts (op ∷ others) some =
 
 pub others_in_order : (ops : List Op) → 1 ≤ length ops → Lawful ops → OthersInOrder (behind_first ops)
 others_in_order ops some h = later (op_at ops 0) (behind_first ops) (subst OthersInOrder (in_parts ops some) (record { array = h.order.array; element = h.order.element; blob = h.order.blob }))
-
--- ---- the bit at which a record began
-
-no_answer : {A : Type 0} (fault : grammar.Fault) (x : A) → ◌≡◌ {A = Result A grammar.Fault} (Err fault) (Ok x) → ⊥
-no_answer fault x e = cc
-
--- it matters for a refusal alone
-pub any_first : (first other room : ℕ) (ops : List Op) (a : Reader) (value : CodeAndValues) (c : Reader) → Took (abbreviated first room ops) a value c → Took (abbreviated other room ops) a value c
-unfolding abbreviated
-any_first first other room [] a value c t = t
-any_first first other room (op ∷ others) a value c t = record {
-  was_live = t.was_live;
-  live = t.live;
-  goes_on = t.goes_on;
-  forward = t.forward;
-  end = t.end;
-  limit = t.limit;
-  extent = t.extent;
-  reads = λ k. read_so (nat_le (singles others) room) (t.reads k);
-}
-  where
-    read_so : (fits : Bool) → reading (test fits (at TooManyValues first) >>= λ holds. fields_of room op others) a.position a.left ≡ Ok (value, c.position, c.left) → reading (test fits (at TooManyValues other) >>= λ holds. fields_of room op others) a.position a.left ≡ Ok (value, c.position, c.left)
-    read_so true e = e
-    read_so false e = absurd (no_answer (at TooManyValues first) (value, c.position, c.left) e)

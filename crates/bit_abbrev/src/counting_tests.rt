@@ -1,4 +1,4 @@
-use crate::read_unabbreviated;
+use crate::read_plain;
 use crate::reading_tests::{in_block, open_block, record_of};
 use bit_fields::{
     BitReader, Fault, Limits, ReadSource, SliceSource, Source, ValueCount, ValueTaker,
@@ -136,7 +136,7 @@ fn plain_record<V: ValueTaker>(
         Err((fault, _)) => return Err(fault),
     };
     open_block(&mut reader)?;
-    let code = read_unabbreviated(&mut reader, room, values)?;
+    let code = read_plain::<(), BitReader<SliceSource<'_>>, V>(&mut reader, room, values)?;
     Ok((code, reader.position()))
 }
 

@@ -112,6 +112,38 @@ impl<'a> Definitions<'a> {
     }
 }
 
+/// Definitions in force, of which one is looked up by its index.
+pub trait Lookup {
+    ghost use Rattle.std.specs.Prelude.{List};
+    ghost use Rattle.bit_grammar.specs.declared.op.Op.{Op};
+
+    // The definitions in order.
+    ghost listed: { Self → List (List Op) };
+
+    /// The definition at an index, if there is one.
+    fn look_up(&self, index: usize) -> Option<&Abbrev>
+        ensures { option_copied result ≡ slice_get (listed self.now) index };
+}
+
+impl<'a> Lookup for Definitions<'a> {
+    ghost listed = { λ definitions. definitions };
+
+    #[inline(always)]
+    fn look_up(&self, index: usize) -> Option<&Abbrev> {
+        self.get(index)
+    }
+}
+
+/// It finds the list of the table anew each time, which costs more than once for many look-ups, and less for none.
+impl Lookup for InForce {
+    ghost listed = { λ definitions. definitions };
+
+    #[inline(always)]
+    fn look_up(&self, index: usize) -> Option<&Abbrev> {
+        self.get(index)
+    }
+}
+
 impl InForce {
     /// None. It takes no memory.
     pub fn new(alloc: Global) -> InForce
@@ -148,6 +180,7 @@ impl InForce {
     }
 
     /// The definition at an index, if there is one.
+    #[inline]
     pub fn get(&self, index: usize) -> Option<&Abbrev>
         ensures { option_copied result ≡ slice_get self.now index }
     {

@@ -4,8 +4,8 @@
 //! There is one function for one rule of `bit_grammar`, with the parts in the same order, proved by unfolding the rule. The rules
 //! of a record are written once, over the trait `Bits`: a `BitReader` judges and reports faults, and `Ahead` reports only a miss
 //! (`NotBuffered`), which says nothing of the input. `Runs` adds what is read by runs from buffered bits: fields of one width,
-//! VBRs, bytes. `read_record` and `read_plain` are the records with and without a definition; `read_abbreviated` and
-//! `read_unabbreviated` are these on a reader.
+//! VBRs, bytes. `read_record` and `read_plain` are the records with and without a definition; `read_abbreviated` is the former on a
+//! reader, and puts the values back where it fails.
 //!
 //! `SharedInfo` and `InForce` give a block the definitions in force without a copy: a finished table is behind one `Rc`, and a
 //! block adds its own in a vector. An `Abbrev` knows whether its shape is lawful (`is_usable`); no record goes by one that is
@@ -15,11 +15,10 @@
 mod abbrev;
 mod bits;
 #[cfg(test)]
+mod buffered_tests;
+#[cfg(test)]
 mod counting_tests;
 mod definition;
-mod glance;
-#[cfg(test)]
-mod glance_tests;
 mod in_force;
 mod info;
 mod laws;
@@ -35,9 +34,8 @@ pub use abbrev::{Abbrev, BadAbbrev, Ops};
 pub use bit_grammar::Op;
 pub use bits::{Bits, NotBuffered};
 pub use definition::read_define;
-pub use glance::{glance_record, glance_unabbreviated};
-pub use in_force::{Definitions, InForce, SharedInfo};
+pub use in_force::{Definitions, InForce, Lookup, SharedInfo};
 pub use info::InfoTable;
 pub use laws::lawful_unbroken;
-pub use record::{read_abbreviated, read_plain, read_record, read_unabbreviated};
+pub use record::{read_abbreviated, read_plain, read_record};
 pub use runs::Runs;

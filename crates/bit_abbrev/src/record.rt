@@ -294,11 +294,15 @@ fn read_values<U, B: Runs, V: ValueTaker>(
 {
     read_singles::<U, B, V>(bits, &ops[..count], values)?;
     let left = room - count as u64;
-    match ops.len() - count {
-        0 => Ok(()),
-        1 => read_blob::<U, B, V>(bits, left, values),
-        _ => read_array::<U, B, V>(bits, left, ops[count + 1], values),
+    let last = ops.len() - count;
+    // Tested first, a blob is written into the caller, and what is buffered stays in registers.
+    if last == 1 {
+        return read_blob::<U, B, V>(bits, left, values);
     }
+    if last == 0 {
+        return Ok(());
+    }
+    read_array::<U, B, V>(bits, left, ops[count + 1], values)
 }
 
 /// Reads a record by its operands, after its abbreviation id, which began at a bit: hands its values on and answers its code.
@@ -332,7 +336,8 @@ pub fn read_record<U, B: Runs, V: ValueTaker>(
 }
 
 /// Reads a record that is not abbreviated, after its abbreviation id: hands its values on and answers its code. Where it fails,
-/// some of its values may be added. `U` is whom it is compiled for.
+/// some of its values may be added. More values than there is room for are `TooManyValues` at the first bit of their number. `U`
+/// is whom it is compiled for. Source: "UNABBREV_RECORD Encoding".
 #[inline(always)]
 pub fn read_plain<U, B: Runs, V: ValueTaker>(
     bits: &mut B,
@@ -380,35 +385,6 @@ pub fn read_abbreviated<S: Source, V: ValueTaker>(
     let start = reader.position();
     let before = values.count();
     match read_record::<V, BitReader<S>, V>(reader, abbrev.lawful_ops(), first, room, values) {
-        Ok(code) => Ok(code),
-        Err(fault) => {
-            values.truncate(before);
-            Err(reader.fail_at(fault, start))
-        }
-    }
-}
-
-/// Reads a record that is not abbreviated, after its abbreviation id: hands its values on and answers its code. Source:
-/// "UNABBREV_RECORD Encoding".
-///
-/// More values than there is room for are `TooManyValues` at the first bit of their number. After any fault the values are
-/// those that there were, and the reader has failed and stands where the call began.
-pub fn read_unabbreviated<S: Source, V: ValueTaker>(
-    reader: &mut BitReader<S>,
-    room: u64,
-    values: &mut V,
-) -> Result<u64, Fault>
-    ensures takes { Gains V.took values.old values.new
-        (Recorded (λ r. Takes (unabbreviated room) reader.old r reader.new) result) }
-    ensures only { Gains V.took values.old values.new
-        (Recorded (λ r. IsOnly (unabbreviated room) reader.old r reader.new) result) }
-    ensures few { Gains V.took values.old values.new
-        (λ before after. OnOk result (length after ≤ length before + room)) }
-    ensures stays { OnErr result (reader.new.position ≡ reader.old.position) }
-{
-    let start = reader.position();
-    let before = values.count();
-    match read_plain::<V, BitReader<S>, V>(reader, room, values) {
         Ok(code) => Ok(code),
         Err(fault) => {
             values.truncate(before);

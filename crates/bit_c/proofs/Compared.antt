@@ -82,12 +82,6 @@ not_found setting limits first second j later r why input outcome Says is is_err
 spells : (limits : blocks.Limits) (i now : Incoming) (bytes : List ℕ) (m : Marked) → i.to_come ≡ Some bytes → ReadsMarked limits i m now → SpellsInput limits bytes m
 spells limits i now bytes m is h = known i.to_come bytes (λ b. SpellsInput limits b m) is (λ tells. (h.1 tells).0)
 
-pub no_difference_found : (setting : Setting) (limits : blocks.Limits) (first second : List ℕ) (j later : Incoming) (r : Result (Option Difference) SameFault) (room : List BsOpenBlock)
-    → j.to_come ≡ Some second → r ≡ Ok None → FindsInBytes setting limits first j r later → Differences setting limits first second no_difference room room Done
-no_difference_found setting limits first second j later r room is is_none h =
-    let found = subst (λ (a : Result (Option Difference) SameFault). FindsDifference setting limits (source_of first) j a h.0 later) is_none h.2 in
-    (found.0, found.1, spells limits (source_of first) h.0 first found.0 refl found.2, spells limits j later second found.1 is found.3, found.4 refl (subst IsSome (sym is) refl), refl, refl)
-
 -- a difference that was found was given
 given : (setting : Setting) (limits : blocks.Limits) (first second : List ℕ) (j now later : Incoming) (d : Difference) (told : BsDifference) (old new : List BsOpenBlock) (outcome : Outcome) → j.to_come ≡ Some second
     → FindsDifference setting limits (source_of first) j (Ok (Some d)) now later → GivesDifference (difference_shown d) told old new outcome → Differences setting limits first second told old new outcome

@@ -190,9 +190,9 @@ define_free : (shapes : Shapes) (first : ℕ) (scope : Scope) → Free (define s
 unfolding define
 define_free shapes first scope = (tt, λ held. (definition_free shapes, λ ops. (tt, λ after. tt)))
 
-entry_free : (limit first id : ℕ) (scope : Scope) → Free (entry limit first id scope)
+entry_free : (room first id : ℕ) (definitions : List (List Op)) → Free (entry room first id definitions)
 unfolding entry by_definition
-entry_free limit first id scope = (unabbreviated_free _, ((tt, λ held. abbreviated_free first _ _), tt))
+entry_free room first id definitions = (unabbreviated_free _, ((tt, λ held. abbreviated_free first _ _), tt))
 
 describe_free : (info : Option BlockInfo) (first : ℕ) (e : CodeAndValues) → Free (describe info first e)
 unfolding describe
@@ -201,7 +201,7 @@ describe_free (Some info) first e = ((tt, λ held. tt), (tt, λ held. tt))
 
 record_free : (limit first id : ℕ) (scope : Scope) → Free (record_after limit first id scope)
 unfolding record_after
-record_free limit first id scope = (entry_free limit first id scope, λ e. (tt, λ after. (describe_free scope.info first e, λ info. tt)))
+record_free limit first id scope = (entry_free (limit - scope.handed.used) first id scope.definitions, λ e. (tt, λ after. (describe_free scope.info first e, λ info. tt)))
 
 -- ---- the machine
 

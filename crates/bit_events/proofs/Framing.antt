@@ -1,8 +1,9 @@
 -- Records and definitions in a block, as its frame holds them.
-use Rattle.std.proofs.Common.{◌≡◌, ◌≢◌, ◌⊎◌, ℕ, ◌+◌, ◌-◌, ◌^◌, ◌<◌, ◌≤◌, Bool, true, false, cond, eqb, ltb, List, [], ◌∷◌, ◌++◌, length, length-append, get_or, Option, Some, None, Result, Ok, Err, is_some, refl, sym, ap, ◌∙◌, subst, slice_get, eq-eqb, arith, inl, inr}
+use Rattle.std.proofs.Common.{◌≡◌, ◌≢◌, ◌⊎◌, ℕ, ◌+◌, ◌-◌, ◌^◌, ◌<◌, Bool, true, false, cond, eqb, ltb, List, [], ◌∷◌, ◌++◌, length, length-append, get_or, Option, Some, None, Result, Ok, Err, is_some, refl, sym, ap, ◌∙◌, subst, slice_get, eq-eqb, arith, inl, inr}
 use Rattle.std.proofs.Math.Seq.{get_or-append_seam}
 use Rattle.std.proofs.Math.Path.{fun_ext}
 use Rattle.std.proofs.lemmas.Bool.{ne_eqb, lt-ltb}
+use Rattle.std.proofs.lemmas.List.{append-nil}
 use borrow.Author.Tests.{ltb-true}
 use Rattle.std.proofs.lemmas.Option.{slice_get_within, get_or_from_slice_get, slice_get-get_or}
 use Rattle.std.specs.Result.{OnOk}
@@ -10,19 +11,19 @@ use Rattle.std.specs.declared.alloc.AllocError.{AllocError}
 use Rattle.bit_grammar.specs.declared.shapes.Shapes.{Shapes}
 use Rattle.bit_grammar.specs.declared.op.Op.{Op}
 use Rattle.bit_grammar.specs.declared.reason.Reason.TheVariants.{UndefinedAbbrev, AbbrevShape, NoBlockSet, BadSetBid}
-use Rattle.bit_grammar.specs.Grammar.{Grammar, at, gives, refuses, test, choose, ◌>>◌}
+use Rattle.bit_grammar.specs.Grammar.{Grammar, at, gives, refuses, test, choose, ◌>>=◌, ◌>>◌}
 use Rattle.bit_grammar.specs.Record.{unabbreviated, abbreviated}
 use Rattle.bit_grammar.specs.Terms.{CodeAndValues, BlockInfo, Table, defined_at}
 use Rattle.bit_grammar.specs.Forest.{set_bid, names_block}
 use Rattle.bit_grammar.specs.Blocks.{Handed, Scope, made_for, defined, may_define, define, by_definition, entry, describe, record_after}
 use Rattle.bit_grammar.specs.Machine.{scope_of}
 use Rattle.bit_fields.specs.declared.fault.Fault.{Fault}
-use Rattle.bit_fields.specs.declared.fault.Fault.TheVariants.{Refused, Memory}
+use Rattle.bit_fields.specs.declared.fault.Fault.TheVariants.{Memory}
 use Rattle.bit_fields.specs.Reader.{Reader, Took, Why, Takes, told_by, failed_reader}
-use Rattle.bit_fields.proofs.Composing.{took_then, fault_then, took_nothing, first_chosen, second_chosen, stops_here, holds_then, fails_here}
+use Rattle.bit_fields.proofs.Composing.{took_then, fault_then, took_nothing, first_chosen, second_chosen, holds_then, same_reading}
 use Rattle.bit_grammar.specs.Definition.{definition, has_shape}
 use Rattle.bit_abbrev.specs.Table.{definitions_at}
-use Rattle.bit_abbrev.specs.Values.{Has, Recorded}
+use Rattle.bit_abbrev.specs.Values.{AddsWithin, Gains}
 use Rattle.bit_events.proofs.Telling.{told, why, andThen, breaks, ends, here, without_memory}
 use Rattle.bit_events.specs.declared.frame.Describing.{Describing}
 use Rattle.bit_events.specs.declared.frame.Frame.{Frame}
@@ -64,49 +65,56 @@ newest_put f new ops may puts =
 
 -- ---- records
 
-pub plain_entry : (limit first id room : ℕ) (scope : Scope) (a : Reader) (result : Result CodeAndValues Fault) (b : Reader) → id ≡ 3 → limit - scope.handed.used ≡ room → Takes (unabbreviated room) a result b → Takes (entry limit first id scope) a result b
+pub plain_entry : (room first id : ℕ) (definitions : List (List Op)) (a : Reader) (result : Result CodeAndValues Fault) (b : Reader) → id ≡ 3 → Takes (unabbreviated room) a result b → Takes (entry room first id definitions) a result b
 unfolding entry
-plain_entry limit first id room scope a result b plain is t =
-    first_chosen (eqb id 3) (unabbreviated (limit - scope.handed.used)) (choose (ltb (id - 4) (length scope.definitions)) (by_definition first (limit - scope.handed.used) (get_or scope.definitions (id - 4) [])) (refuses (at UndefinedAbbrev first))) a result b (eq-eqb id 3 plain) (subst (λ (n : ℕ). Takes (unabbreviated n) a result b) (sym is) t)
+plain_entry room first id definitions a result b plain t =
+    first_chosen (eqb id 3) (unabbreviated room) (choose (ltb (id - 4) (length definitions)) (by_definition first room (get_or definitions (id - 4) [])) (refuses (at UndefinedAbbrev first))) a result b (eq-eqb id 3 plain) t
 
 -- by a definition in force
-found_entry : (limit first id room : ℕ) (scope : Scope) (definitions : List (List Op)) (ops : List Op) (a : Reader) (result : Result CodeAndValues Fault) (b : Reader) → id ≢ 3 → scope.definitions ≡ definitions → limit - scope.handed.used ≡ room → slice_get definitions (id - 4) ≡ Some ops → Takes (by_definition first room ops) a result b → Takes (entry limit first id scope) a result b
+found_entry : (room first id : ℕ) (definitions : List (List Op)) (ops : List Op) (a : Reader) (result : Result CodeAndValues Fault) (b : Reader) → id ≢ 3 → slice_get definitions (id - 4) ≡ Some ops → Takes (by_definition first room ops) a result b → Takes (entry room first id definitions) a result b
 unfolding entry
-found_entry limit first id room scope definitions ops a result b other force is found t =
-    let within : id - 4 < length scope.definitions = rw force (slice_get_within definitions (id - 4) ops found) in
-    let there : get_or scope.definitions (id - 4) [] ≡ ops = rw force (get_or_from_slice_get definitions (id - 4) ops [] found) in
-    second_chosen (eqb id 3) (unabbreviated (limit - scope.handed.used)) (choose (ltb (id - 4) (length scope.definitions)) (by_definition first (limit - scope.handed.used) (get_or scope.definitions (id - 4) [])) (refuses (at UndefinedAbbrev first))) a result b (ne_eqb id 3 other)
-    (first_chosen (ltb (id - 4) (length scope.definitions)) (by_definition first (limit - scope.handed.used) (get_or scope.definitions (id - 4) [])) (refuses (at UndefinedAbbrev first)) a result b (lt-ltb (id - 4) (length scope.definitions) within)
-    (rw (there, is) t))
+found_entry room first id definitions ops a result b other found t =
+    let within : id - 4 < length definitions = slice_get_within definitions (id - 4) ops found in
+    let there : get_or definitions (id - 4) [] ≡ ops = get_or_from_slice_get definitions (id - 4) ops [] found in
+    second_chosen (eqb id 3) (unabbreviated room) (choose (ltb (id - 4) (length definitions)) (by_definition first room (get_or definitions (id - 4) [])) (refuses (at UndefinedAbbrev first))) a result b (ne_eqb id 3 other)
+    (first_chosen (ltb (id - 4) (length definitions)) (by_definition first room (get_or definitions (id - 4) [])) (refuses (at UndefinedAbbrev first)) a result b (lt-ltb (id - 4) (length definitions) within)
+    (rw there t))
 
-pub short_entry : (limit first id room : ℕ) (scope : Scope) (definitions : List (List Op)) (ops : List Op) (a : Reader) (result : Result CodeAndValues Fault) (b : Reader) → id ≢ 3 → scope.definitions ≡ definitions → limit - scope.handed.used ≡ room → slice_get definitions (id - 4) ≡ Some ops → has_shape ops ≡ true → Takes (abbreviated first room ops) a result b → Takes (entry limit first id scope) a result b
+pub short_entry : (room first id : ℕ) (definitions : List (List Op)) (ops : List Op) (a : Reader) (result : Result CodeAndValues Fault) (b : Reader) → id ≢ 3 → slice_get definitions (id - 4) ≡ Some ops → has_shape ops ≡ true → Takes (abbreviated first room ops) a result b → Takes (entry room first id definitions) a result b
 unfolding by_definition
-short_entry limit first id room scope definitions ops a result b other force is found shape t = found_entry limit first id room scope definitions ops a result b other force is found (holds_then (has_shape ops) (at AbbrevShape first) (abbreviated first room ops) a result b shape t)
+short_entry room first id definitions ops a result b other found shape t = found_entry room first id definitions ops a result b other found (holds_then (has_shape ops) (at AbbrevShape first) (abbreviated first room ops) a result b shape t)
 
 -- a definition without a shape
-pub shapeless_entry : (limit first id room : ℕ) (scope : Scope) (definitions : List (List Op)) (ops : List Op) (a : Reader) → id ≢ 3 → scope.definitions ≡ definitions → limit - scope.handed.used ≡ room → slice_get definitions (id - 4) ≡ Some ops → has_shape ops ≡ false → a.live ≡ true → Why (entry limit first id scope) a (Refused AbbrevShape first) (failed_reader a)
+pub shapeless_entry : (room first id : ℕ) (definitions : List (List Op)) (ops : List Op) (a : Reader) (fault : Fault) (b : Reader) → id ≢ 3 → slice_get definitions (id - 4) ≡ Some ops → Why (test (has_shape ops) (at AbbrevShape first)) a fault b → Why (entry room first id definitions) a fault b
 unfolding by_definition
-shapeless_entry limit first id room scope definitions ops a other force is found shape live =
-    found_entry limit first id room scope definitions ops a (Err (Refused AbbrevShape first)) (failed_reader a) other force is found
-    (fault_then (test (has_shape ops) (at AbbrevShape first)) (λ x. abbreviated first room ops) a (Refused AbbrevShape first) (failed_reader a) (fails_here (has_shape ops) AbbrevShape first a shape live (λ e. refl)))
+shapeless_entry room first id definitions ops a fault b other found why =
+    found_entry room first id definitions ops a (Err fault) b other found (fault_then (test (has_shape ops) (at AbbrevShape first)) (λ x. abbreviated first room ops) a fault b why)
 
-pub no_entry : (limit first id : ℕ) (scope : Scope) (definitions : List (List Op)) (a : Reader) → id ≢ 3 → scope.definitions ≡ definitions → slice_get definitions (id - 4) ≡ None → a.live ≡ true → Why (entry limit first id scope) a (Refused UndefinedAbbrev first) (failed_reader a)
+pub no_entry : (room first id : ℕ) (definitions : List (List Op)) (a : Reader) (fault : Fault) (b : Reader) → id ≢ 3 → slice_get definitions (id - 4) ≡ None → Why (test false (at UndefinedAbbrev first)) a fault b → Why (entry room first id definitions) a fault b
 unfolding entry
-no_entry limit first id scope definitions a other force none live =
-    let past : ltb (id - 4) (length scope.definitions) ≡ false = elim (by (ltb (id - 4) (length scope.definitions)) refl) [
+no_entry room first id definitions a fault b other none why =
+    let past : ltb (id - 4) (length definitions) ≡ false = elim (by (ltb (id - 4) (length definitions)) refl) [
       | inl past ↦ past
       | inr contradiction ↦ absurd contradiction
     ] in
-    second_chosen (eqb id 3) (unabbreviated (limit - scope.handed.used)) (choose (ltb (id - 4) (length scope.definitions)) (by_definition first (limit - scope.handed.used) (get_or scope.definitions (id - 4) [])) (refuses (at UndefinedAbbrev first))) a (Err (Refused UndefinedAbbrev first)) (failed_reader a) (ne_eqb id 3 other)
-    (second_chosen (ltb (id - 4) (length scope.definitions)) (by_definition first (limit - scope.handed.used) (get_or scope.definitions (id - 4) [])) (refuses (at UndefinedAbbrev first)) a (Err (Refused UndefinedAbbrev first)) (failed_reader a) past
-    (stops_here a live, λ k. refl))
+    let refused : Why (refuses {A = CodeAndValues} (at UndefinedAbbrev first)) a fault b = same_reading {A = CodeAndValues} (test false (at UndefinedAbbrev first) >>= λ x. refuses (at UndefinedAbbrev first)) (refuses (at UndefinedAbbrev first)) a (Err fault) b (λ p r. refl) (fault_then {B = CodeAndValues} (test false (at UndefinedAbbrev first)) (λ x. refuses (at UndefinedAbbrev first)) a fault b why) in
+    second_chosen (eqb id 3) (unabbreviated room) (choose (ltb (id - 4) (length definitions)) (by_definition first room (get_or definitions (id - 4) [])) (refuses (at UndefinedAbbrev first))) a (Err fault) b (ne_eqb id 3 other)
+    (second_chosen (ltb (id - 4) (length definitions)) (by_definition first room (get_or definitions (id - 4) [])) (refuses (at UndefinedAbbrev first)) a (Err fault) b past refused)
   where
-    by : (b : Bool) → ltb (id - 4) (length scope.definitions) ≡ b → (ltb (id - 4) (length scope.definitions) ≡ false) ⊎ ⊥
+    by : (b : Bool) → ltb (id - 4) (length definitions) ≡ b → (ltb (id - 4) (length definitions) ≡ false) ⊎ ⊥
     by false is = inl is
     by true is =
-        let more : id - 4 < length definitions = subst (λ (ds : List (List Op)). id - 4 < length ds) force (ltb-true (id - 4) (length scope.definitions) is) in
-        let some : None ≡ Some (get_or definitions (id - 4) []) = sym none ∙ slice_get-get_or definitions (id - 4) [] more in
+        let some : None ≡ Some (get_or definitions (id - 4) []) = sym none ∙ slice_get-get_or definitions (id - 4) [] (ltb-true (id - 4) (length definitions) is) in
         absurd cc
+
+-- what adds a record by one rule adds it by another
+pub added_as : {V : Type 0} (took : V → List ℕ → Type 0) (v w : V) (rule other : Grammar CodeAndValues) (room : ℕ) (a b : Reader) → ((r : Result CodeAndValues Fault) → Takes rule a r b → Takes other a r b) → (result : Result ℕ Fault) → Gains took v w (AddsWithin rule room a result b) → Gains took v w (AddsWithin other room a result b)
+added_as took v w rule other room a b so (Ok code) gains = λ before t. let h = gains before t in (h.0, h.1, ((h.2.0.0, h.2.0.1, so (Ok (record { code = code; values = h.2.0.0 })) h.2.0.2), h.2.1))
+added_as took v w rule other room a b so (Err fault) gains = λ before t. let h = gains before t in (h.0, h.1, ((h.2.0.0, h.2.0.1, so (Err fault) h.2.0.2), tt))
+
+-- what fails before a value is read
+pub fails_so : (rule : Grammar CodeAndValues) (room : ℕ) (a : Reader) (fault : Fault) (b : Reader) (before : List ℕ) → Why rule a fault b → AddsWithin rule room a (Err fault) b before before
+fails_so rule room a fault b before why = (([], sym (append-nil before), why), tt)
 
 -- ---- what a BLOCKINFO block describes
 
@@ -182,15 +190,15 @@ define_took shapes first scope a b ops c d after copy new t u same here_is copie
 
 -- ---- a record
 
-pub record_missed : (limit first id : ℕ) (scope : Scope) (a : Reader) (fault : Fault) (b : Reader) → Why (entry limit first id scope) a fault b → Why (record_after limit first id scope) a fault b
+pub record_missed : (limit first id : ℕ) (scope : Scope) (a : Reader) (fault : Fault) (b : Reader) → Why (entry (limit - scope.handed.used) first id scope.definitions) a fault b → Why (record_after limit first id scope) a fault b
 unfolding record_after
 record_missed limit first id scope a fault b h = why (record_after limit first id scope) a fault b (breaks h)
 
-pub record_wrong : (limit first id : ℕ) (scope : Scope) (a : Reader) (e : CodeAndValues) (b : Reader) (fault : Fault) (c : Reader) → Took (entry limit first id scope) a e b → Why (describe scope.info first e) b fault c → Why (record_after limit first id scope) a fault c
+pub record_wrong : (limit first id : ℕ) (scope : Scope) (a : Reader) (e : CodeAndValues) (b : Reader) (fault : Fault) (c : Reader) → Took (entry (limit - scope.handed.used) first id scope.definitions) a e b → Why (describe scope.info first e) b fault c → Why (record_after limit first id scope) a fault c
 unfolding record_after
 record_wrong limit first id scope a e b fault c t h = why (record_after limit first id scope) a fault c (andThen t (here b.position refl (breaks h)))
 
-pub record_took : (limit first id : ℕ) (scope : Scope) (a : Reader) (e : CodeAndValues) (b : Reader) (after : ℕ) (info : Option BlockInfo) (c : Reader) → Took (entry limit first id scope) a e b → after ≡ b.position → Took (describe scope.info first e) b info c
+pub record_took : (limit first id : ℕ) (scope : Scope) (a : Reader) (e : CodeAndValues) (b : Reader) (after : ℕ) (info : Option BlockInfo) (c : Reader) → Took (entry (limit - scope.handed.used) first id scope.definitions) a e b → after ≡ b.position → Took (describe scope.info first e) b info c
     → Took (record_after limit first id scope) a (record { abbreviation = id; code = e.code; values = e.values; first = first; after = after }, record scope { info = info; handed = record { table = scope.handed.table; used = scope.handed.used + length e.values } }) c
 unfolding record_after
 record_took limit first id scope a e b after info c t is u =
@@ -198,13 +206,9 @@ record_took limit first id scope a e b after info c t is u =
     (andThen t (here after is (andThen u (ends u.live))))
 
 -- what is read into what had no values
-pub recorded : (rule : Grammar CodeAndValues) (a : Reader) (result : Result ℕ Fault) (now : List ℕ) (b : Reader) → Recorded (λ r. Takes rule a r b) result [] now → Takes rule a (told_by (λ code. record { code = code; values = now }) result) b
-recorded rule a (Ok code) now b h = rw h.1 h.2
-recorded rule a (Err fault) now b h = h.1
-
-pub recorded_few : {V : Type 0} (took : V → List ℕ → Type 0) (v : V) (room : ℕ) (result : Result ℕ Fault) → Has took v (λ after. OnOk result (length after ≤ 0 + room)) → Has took v (λ after. OnOk result (length after ≤ room))
-recorded_few took v room (Ok code) h = (h.0, h.1, omega (arith, h.2))
-recorded_few took v room (Err fault) h = (h.0, h.1, tt)
+pub added : (rule : Grammar CodeAndValues) (room : ℕ) (a : Reader) (result : Result ℕ Fault) (b : Reader) (now : List ℕ) → AddsWithin rule room a result b [] now → Takes rule a (told_by (λ code. record { code = code; values = now }) result) b
+added rule room a (Ok code) b now h = rw h.0.1 h.0.2
+added rule room a (Err fault) b now h = h.0.2
 
 -- the first value tells which block is described
 pub described_first : (value : Option ℕ) (values : List ℕ) → value ≡ slice_get values 0 → described_value value ≡ described_id values

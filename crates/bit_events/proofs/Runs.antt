@@ -1,12 +1,11 @@
 -- Records that are in sight, gathered one after the other.
-use Rattle.std.proofs.Common.{◌≡◌, ◌≢◌, ℕ, ◌+◌, ◌-◌, ◌<◌, ◌≤◌, Bool, List, [], ◌∷◌, ◌++◌, length, drop, None, Some, Option, Result, Ok, Err, refl, sym, ap, subst, ◌∙◌, arith, append_assoc, length-append, vec_len, get_or, suc}
-use Rattle.std.specs.Prelude.{IfSome, IfOk}
-use Rattle.std.proofs.lemmas.List.{drop_at, append_cancel_left}
+use Rattle.std.proofs.Common.{◌≡◌, ℕ, ◌+◌, ◌-◌, ◌<◌, ◌≤◌, Bool, List, [], ◌∷◌, ◌++◌, length, drop, None, Option, Result, Ok, Err, refl, sym, ap, subst, ◌∙◌, arith, append_assoc, length-append, vec_len, get_or, suc}
+use Rattle.std.specs.Prelude.{IfOk}
+use Rattle.std.proofs.lemmas.List.{drop_at}
 use Rattle.bit_grammar.specs.Grammar as grammar
 use Rattle.bit_grammar.specs.Grammar.{Grammar, gives, ◌>>=◌, reading}
 use Rattle.bit_grammar.specs.Input.{any_bits}
 use Rattle.bit_grammar.specs.Fields.{fixed}
-use Rattle.bit_grammar.specs.Record.{unabbreviated, abbreviated}
 use Rattle.bit_grammar.specs.Terms.{CodeAndValues}
 use Rattle.bit_grammar.specs.Blocks as blocks
 use Rattle.bit_grammar.specs.Terms as terms
@@ -21,8 +20,7 @@ use Rattle.bit_fields.proofs.Composing.{same_reading, took_then, fault_then}
 use Rattle.bit_fields.proofs.Gap.{gap_whole}
 use Rattle.bit_fields.proofs.BitLaws.{drop_more}
 use Rattle.bit_fields.proofs.Glimpses.{glimpsed_forward, glimpsed_passed, took_glimpsed, seen_took, not_caught_up}
-use Rattle.bit_grammar.specs.declared.op.Op.{Op}
-use Rattle.bit_abbrev.specs.Values.{AddsWithin, Gains}
+use Rattle.bit_abbrev.specs.Values.{AddsWithin}
 use Rattle.bit_abbrev.proofs.Buffered.{took_at}
 use Rattle.bit_events.specs.declared.frame.Frame.{Frame}
 use Rattle.bit_events.specs.declared.machine.Machine.{Machine}
@@ -30,7 +28,7 @@ use Rattle.bit_events.specs.FrameView.{frame_shown, frames_shown, info_shown}
 use Rattle.bit_events.specs.Folding.{left_to_tell, GathersSome, TakesRun}
 use Rattle.bit_events.specs.Gathering.{Gathers}
 use Rattle.bit_events.specs.MachineView.{handed_shown, machine_shown, record_of, record_rule, LeavesMachine}
-use Rattle.bit_events.specs.Runs.{AddsBehind, HasOps, ReadsEntry, ReadsTo, after_record, Passed, GathersTo, GathersRun}
+use Rattle.bit_events.specs.Runs.{AddsBehind, ReadsTo, after_record, Passed, GathersTo, GathersRun}
 use Rattle.bit_events.proofs.Folds.{in_block, none_yet, one_event, some_then, step_missed}
 use Rattle.bit_events.proofs.Framing.{none_described, plain_entry, short_entry}
 use Rattle.bit_events.proofs.Framing as framing
@@ -39,7 +37,7 @@ use Rattle.bit_events.proofs.Stepping.{in_then, innermost, after_record as recor
 -- ---- one record
 
 -- a record of a block that is no BLOCKINFO block, after the id
-pub rule_seen : (limit : ℕ) (f : machine.Frame) (outer : List machine.Frame) (handed : Handed) (first id code : ℕ) (list : List ℕ) (b c : InSight) → f.info ≡ None → Took (entry limit first id (scope_of f handed)) (reader_at b) (record { code = code; values = list }) (reader_at c)
+pub rule_seen : (limit : ℕ) (f : machine.Frame) (outer : List machine.Frame) (handed : Handed) (first id code : ℕ) (list : List ℕ) (b c : InSight) → f.info ≡ None → Took (entry (limit - handed.used) first id f.definitions) (reader_at b) (record { code = code; values = list }) (reader_at c)
     → Took (record_rule limit f outer first id handed) (reader_at b) (record_of id list first (code, c.position), after_record f outer handed list) (reader_at c)
 rule_seen limit f outer handed first id code list b c none t =
     record_took limit f outer first id handed (reader_at b) (record { abbreviation = id; code = code; values = list; first = first; after = c.position }) (record scope { info = None; handed = more }) (reader_at c) new
@@ -61,7 +59,7 @@ rule_seen limit f outer handed first id code list b c none t =
     made = ap (λ (info : Option terms.BlockInfo). record { frames = record { head = f.head; definitions = f.definitions; info = info } ∷ outer; handed = more }) none
 
 -- the same with its id
-pub record_seen : (limits : Limits) (f : machine.Frame) (outer : List machine.Frame) (handed : Handed) (id code : ℕ) (list : List ℕ) (a b c : InSight) → f.info ≡ None → 3 ≤ id → Glimpsed (fixed f.head.width) a id b → Took (entry limits.values a.position id (scope_of f handed)) (reader_at b) (record { code = code; values = list }) (reader_at c)
+pub record_seen : (limits : Limits) (f : machine.Frame) (outer : List machine.Frame) (handed : Handed) (id code : ℕ) (list : List ℕ) (a b c : InSight) → f.info ≡ None → 3 ≤ id → Glimpsed (fixed f.head.width) a id b → Took (entry (limits.values - handed.used) a.position id f.definitions) (reader_at b) (record { code = code; values = list }) (reader_at c)
     → Glimpsed (step_of limits (f ∷ outer) handed) a (record_of id list a.position (code, c.position), after_record f outer handed list) c
 record_seen limits f outer handed id code list a b c none most seen t =
     took_glimpsed (step_of limits (f ∷ outer) handed) a (event, new) c
@@ -76,11 +74,11 @@ record_seen limits f outer handed id code list a b c none most seen t =
     new = after_record f outer handed list
 
 -- a record of the innermost block as it is held
-pub held_seen : (limit : ℕ) (m : Machine) (k : ℕ) (f : Frame) (shown : machine.Frame) (outer : List machine.Frame) (room first id code : ℕ) (list : List ℕ) (after used : ℕ) (a : InSight) → length m.frames.items ≡ suc k → f ≡ get_or m.frames.items k f → frames_shown m.frames.items ≡ shown ∷ outer → f.info ≡ None → limit - m.used ≡ room → used ≡ m.used + length list → (reads : ReadsTo f.definitions room id a code list after)
+pub held_seen : (limit : ℕ) (m : Machine) (k : ℕ) (f : Frame) (shown : machine.Frame) (outer : List machine.Frame) (room first id code : ℕ) (list : List ℕ) (after used : ℕ) (a : InSight) → length m.frames.items ≡ suc k → f ≡ get_or m.frames.items k f → frames_shown m.frames.items ≡ shown ∷ outer → f.info ≡ None → limit - m.used ≡ room → used ≡ m.used + length list → (reads : ReadsTo f.definitions room id first a code list after)
     → Glimpsed (record_rule limit shown outer first id (handed_shown m)) a (record_of id list first (code, after), machine_shown (record m { used = used })) reads.0
 held_seen limit m k f shown outer room first id code list after used a n is split none same more reads =
     let inner = innermost m.frames.items k f shown outer n is split in
-    let read : Took (entry limit first id (scope_of shown (handed_shown m))) (reader_at a) (record { code = code; values = list }) (reader_at reads.0) = subst (λ (x : machine.Frame). Took (entry limit first id (scope_of x (handed_shown m))) (reader_at a) (record { code = code; values = list }) (reader_at reads.0)) inner (reads.2.1 limit first (scope_of (frame_shown f) (handed_shown m)) refl same) in
+    let read : Took (entry (limit - m.used) first id shown.definitions) (reader_at a) (record { code = code; values = list }) (reader_at reads.0) = subst (λ (x : machine.Frame). Took (entry (limit - m.used) first id x.definitions) (reader_at a) (record { code = code; values = list }) (reader_at reads.0)) inner (rw same reads.3) in
     let plain : shown.info ≡ None = subst (λ (x : machine.Frame). x.info ≡ None) inner (ap info_shown none) in
     rw (more, split, ← reads.1) (took_glimpsed (record_rule limit shown outer first id (handed_shown m)) a (record_of id list first (code, reads.0.position), after_record shown outer (handed_shown m) list) reads.0
     (rule_seen limit shown outer (handed_shown m) first id code list a reads.0 plain read))
@@ -94,44 +92,9 @@ leaves_after deepest old a b event new c (Err fault) nothing left = tt
 pub nothing_missed : {A : Type 0} (rule : Grammar A) (a : Reader) (fault : Fault) (b : Reader) → Why (gives (tt {0})) a fault b → Why rule a fault b
 nothing_missed rule a fault b w = same_reading (gives (tt {0}) >>= λ v. rule) rule a (Err fault) b (λ p r. refl) (fault_then (gives (tt {0})) (λ v. rule) a fault b w)
 
--- the values of a record are those that were taken
-entry_read : (rule : Grammar CodeAndValues) (room : ℕ) (a : Reader) (code : ℕ) (b : Reader) (before list : List ℕ) → AddsWithin rule room a (Ok code) b before (before ++ list) → Took rule a (record { code = code; values = list }) b
-entry_read rule room a code b before list h = rw (append_cancel_left before list h.0.0 h.0.1) h.0.2
-
--- and they are so many at most
-entry_fits : (rule : Grammar CodeAndValues) (room : ℕ) (a : Reader) (code : ℕ) (b : Reader) (before list : List ℕ) → AddsWithin rule room a (Ok code) b before (before ++ list) → length list ≤ room
-entry_fits rule room a code b before list h = omega (arith, h.1, length-append before list)
-
--- what follows from any answer
-pub each_some : {A : Type 0} (result : Option A) (P Q : A → Type 0) → ((x : A) → P x → Q x) → IfSome result P → IfSome result Q
-each_some (Some x) P Q so h = so x h
-each_some None P Q so h = tt
-
--- an entry that was read without a definition
-pub plain_seen : (limit first id room : ℕ) (scope : Scope) (a b : InSight) (code : ℕ) (list : List ℕ) → id ≡ 3 → limit - scope.handed.used ≡ room → Took (unabbreviated room) (reader_at a) (record { code = code; values = list }) (reader_at b) → Took (entry limit first id scope) (reader_at a) (record { code = code; values = list }) (reader_at b)
-plain_seen limit first id room scope a b code list plain same h = plain_entry limit first id room scope (reader_at a) (Ok (record { code = code; values = list })) (reader_at b) plain same h
-
--- an entry that was read by its operands
-pub entry_seen : (definitions : List (List Op)) (ops : List Op) (limit first id room : ℕ) (scope : Scope) (a b : InSight) (code : ℕ) (list : List ℕ) → id ≢ 3 → HasOps definitions id ops → scope.definitions ≡ definitions → limit - scope.handed.used ≡ room → Took (abbreviated first room ops) (reader_at a) (record { code = code; values = list }) (reader_at b)
-    → Took (entry limit first id scope) (reader_at a) (record { code = code; values = list }) (reader_at b)
-entry_seen definitions ops limit first id room scope a b code list other has force same h =
-    short_entry limit first id room scope definitions ops (reader_at a) (Ok (record { code = code; values = list })) (reader_at b) other force same has.0 has.1 h
-
--- what stands behind other values is what was read
-pub behind_plain : {V : Type 0} (took : V → List ℕ → Type 0) (old new : V) (definitions : List (List Op)) (room id code : ℕ) (a b : InSight) → id ≡ 3 → Gains took old new (AddsWithin (unabbreviated room) room (reader_at a) (Ok code) (reader_at b)) → Gains took old new (AddsBehind (λ list. ReadsEntry definitions room id a code list b))
-behind_plain took old new definitions room id code a b plain gains before was =
-    let h = gains before was in
-    let list = h.2.0.0 in
-    let read : AddsWithin (unabbreviated room) room (reader_at a) (Ok code) (reader_at b) before (before ++ list) = rw (← h.2.0.1) h.2 in
-    (h.0, h.1, (list, h.2.0.1, (entry_fits (unabbreviated room) room (reader_at a) code (reader_at b) before list read, λ limit first scope force same. plain_seen limit first id room scope a b code list plain same (entry_read (unabbreviated room) room (reader_at a) code (reader_at b) before list read))))
-
-pub behind_short : {V : Type 0} (took : V → List ℕ → Type 0) (old new : V) (definitions : List (List Op)) (ops : List Op) (room id code : ℕ) (a b : InSight) → id ≢ 3 → HasOps definitions id ops → Gains took old new (λ before after. (first : ℕ) → AddsWithin (abbreviated first room ops) room (reader_at a) (Ok code) (reader_at b) before after) → Gains took old new (AddsBehind (λ list. ReadsEntry definitions room id a code list b))
-behind_short took old new definitions ops room id code a b other has gains before was =
-    let h = gains before was in
-    let list = (h.2 0).0.0 in
-    let after : h.0 ≡ before ++ list = (h.2 0).0.1 in
-    let read : (first : ℕ) → AddsWithin (abbreviated first room ops) room (reader_at a) (Ok code) (reader_at b) before (before ++ list) = λ first. rw (← after) (h.2 first) in
-    (h.0, h.1, (list, after, (entry_fits (abbreviated 0 room ops) room (reader_at a) code (reader_at b) before list (read 0), λ limit first scope force same. entry_seen definitions ops limit first id room scope a b code list other has force same (entry_read (abbreviated first room ops) room (reader_at a) code (reader_at b) before list (read first)))))
+-- what was added stands behind the values before
+pub added_behind : (rule : Grammar CodeAndValues) (room : ℕ) (a : Reader) (code : ℕ) (b : Reader) (before after : List ℕ) → AddsWithin rule room a (Ok code) b before after → AddsBehind (λ list. (length list ≤ room) × Took rule a (record { code = code; values = list }) b) before after
+added_behind rule room a code b before after h = (h.0.0, h.0.1, (omega (arith, h.1, ap length h.0.1, length-append before h.0.0), h.0.2))
 
 -- ---- several
 

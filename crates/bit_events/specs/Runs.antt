@@ -1,8 +1,7 @@
 -- Gathering records that are in sight, before a reader takes them.
-use Rattle.std.specs.Prelude.{◌≡◌, ℕ, ◌+◌, ◌-◌, ◌≤◌, List, ◌∷◌, ◌++◌, Bool, true, Some, length, slice_get}
+use Rattle.std.specs.Prelude.{◌≡◌, ℕ, ◌+◌, ◌-◌, ◌≤◌, List, ◌∷◌, ◌++◌, Bool, length}
 use Rattle.bit_grammar.specs.declared.op.Op.{Op}
-use Rattle.bit_grammar.specs.Definition.{has_shape}
-use Rattle.bit_grammar.specs.Blocks.{Limits, Handed, Scope, entry}
+use Rattle.bit_grammar.specs.Blocks.{Limits, Handed, entry}
 use Rattle.bit_grammar.specs.Machine as machine
 use Rattle.bit_grammar.specs.Machine.{Event, step_of}
 use Rattle.bit_fields.specs.Ahead.{InSight, Glimpsed, Sees, reader_further, reader_at}
@@ -13,27 +12,17 @@ use Rattle.bit_events.specs.FrameView.{frame_shown, frames_shown}
 use Rattle.bit_events.specs.Folding.{GathersSome}
 use Rattle.bit_events.specs.MachineView.{record_of}
 
--- these are the operands of the definition that this id has, in a lawful order
-abbrev pub HasOps : (definitions : List (List Op)) → (id : ℕ) → List Op → Type 0
-HasOps definitions id ops = (slice_get definitions (id - 4) ≡ Some ops) × (has_shape ops ≡ true)
-
 -- what was read stands behind the values that were there before
 abbrev pub AddsBehind : (List ℕ → Type 0) → (before after : List ℕ) → Type 0
 AddsBehind Reads before after = (list : List ℕ) × (after ≡ before ++ list) × Reads list
 
--- so a record with this id is read, where these definitions are in force and there is room for so many values
-abbrev pub ReadsEntry : (definitions : List (List Op)) → (room id : ℕ) → InSight → (code : ℕ)
-    → List ℕ → InSight → Type 0
-ReadsEntry definitions room id a code values b = (length values ≤ room)
-    × ((limit first : ℕ) (scope : Scope) → scope.definitions ≡ definitions
-    → limit - scope.handed.used ≡ room → Took (entry limit first id scope) (reader_at a)
-    (record { code = code; values = values }) (reader_at b))
-
--- the same, up to a bit
-abbrev pub ReadsTo : (definitions : List (List Op)) → (room id : ℕ) → InSight → (code : ℕ)
+-- A record with this id, which began at first, is read up to a bit, where these definitions are in force and there is room for so
+-- many values.
+abbrev pub ReadsTo : (definitions : List (List Op)) → (room id first : ℕ) → InSight → (code : ℕ)
     → List ℕ → (after : ℕ) → Type 0
-ReadsTo definitions room id a code values after = (b : InSight) × (b.position ≡ after)
-    × ReadsEntry definitions room id a code values b
+ReadsTo definitions room id first a code values after = (b : InSight) × (b.position ≡ after)
+    × (length values ≤ room) × Took (entry room first id definitions) (reader_at a)
+    (record { code = code; values = values }) (reader_at b)
 
 -- the machine after a record with these values, in the innermost block f, which is no BLOCKINFO block
 abbrev pub after_record : machine.Frame → List machine.Frame → Handed → List ℕ → machine.Machine

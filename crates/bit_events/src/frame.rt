@@ -1,17 +1,18 @@
 ghost use Rattle.std.specs.Prelude.{◌≡◌, ◌-◌, ◌+◌, ◌≤◌, true, [], ℕ, List, Some, OnOk, IsSome, length, unwrap_or, slice_get};
 ghost use Rattle.std.specs.Option.{option_copied};
 ghost use Rattle.bit_grammar.specs.Blocks as blocks;
-ghost use Rattle.bit_grammar.specs.Blocks.{Handed, Scope, defined, define, describe, entry, record_after, may_define};
+ghost use Rattle.bit_grammar.specs.Blocks.{Handed, defined, define, describe, record_after, may_define};
 ghost use Rattle.bit_grammar.specs.Machine.{scope_of};
 ghost use Rattle.bit_fields.specs.Reader.{Takes, told_by};
 ghost use Rattle.bit_abbrev.specs.Values.{Has};
 ghost use Rattle.bit_events.specs.Firsts.{TookWithFirst};
 ghost use Rattle.bit_events.specs.FrameView.{describing_shown, info_shown, described_value, frame_shown, newest_in};
 
+use crate::entry::read_entry;
 use crate::head::BlockHead;
 use crate::heads::or_memory_fault;
 use crate::with_first::WithFirst;
-use bit_abbrev::{Abbrev, InForce, InfoTable, read_abbreviated, read_define, read_unabbreviated};
+use bit_abbrev::{Abbrev, InForce, InfoTable, read_define};
 use bit_fields::{BitReader, Fault, Reason, Shapes, Source, ValueTaker};
 use bit_grammar::SET_BID;
 use std::alloc::{AllocError, Global};
@@ -104,44 +105,6 @@ pub(crate) fn define<S: Source>(
     Ok(after)
 }
 
-/// Reads the code and the values of a record, after its id, which began at a bit. What takes its values has none before.
-fn entry<S: Source, V: ValueTaker>(
-    reader: &mut BitReader<S>,
-    definitions: &InForce,
-    room: u64,
-    values: &mut V,
-    id: u32,
-    first: u64,
-) -> Result<u64, Fault>
-    requires live { reader.old.live ≡ true }
-    requires none { V.took values.old [] }
-    requires id { 3 ≤ id }
-    ensures takes { Has V.took values.new (λ list. (limit : ℕ) (scope : Scope)
-        → scope.definitions ≡ definitions.now → limit - scope.handed.used ≡ room
-        → Takes (entry limit first id scope) reader.old
-        (told_by (λ code. record { code = code; values = list }) result) reader.new) }
-    ensures few { Has V.took values.new (λ list. OnOk result (length list ≤ room)) }
-{
-    if id == 3 {
-        return read_unabbreviated(reader, room, values);
-    }
-    match definitions.get((id - 4) as usize) {
-        Some(abbrev) => {
-            if !abbrev.is_usable() {
-                return Err(reader.fail(Fault::Refused {
-                    reason: Reason::AbbrevShape,
-                    bit: first,
-                }));
-            }
-            read_abbreviated(reader, abbrev, first, room, values)
-        }
-        None => Err(reader.fail(Fault::Refused {
-            reason: Reason::UndefinedAbbrev,
-            bit: first,
-        })),
-    }
-}
-
 /// The block id that the first of a record's values is, if there is one and it is an id.
 fn described_id(value: Option<u64>) -> Option<u32>
     ensures { result ≡ described_value value }
@@ -225,7 +188,8 @@ pub(crate) fn record_after<S: Source, V: ValueTaker>(
     ensures few { Has V.took values.new.taker (λ list. OnOk result (length list ≤ room)) }
     ensures head { frame.new.head ≡ frame.old.head }
 {
-    let code = entry(reader, &frame.definitions, room, values, id, first)?;
+    let definitions = &frame.definitions;
+    let code = read_entry::<V, _, InForce, _>(reader, definitions, room, id, first, values)?;
     let after = reader.position();
     describe(reader, &mut frame.info, first, code, values.first)?;
     Ok((code, after))

@@ -16,6 +16,7 @@
 #![tactic(auto)]
 
 mod checking;
+mod entry;
 mod event;
 mod events;
 #[cfg(test)]

@@ -17,9 +17,9 @@ use crate::event::{Event, RecordHead};
 use crate::frame::{Describing, Frame, define, record_after};
 use crate::head::BlockHead;
 use crate::heads::{block_head, end_of_block, or_memory_fault};
-use crate::running::{glance_next, glance_one};
+use crate::running::{item_ahead, record_ahead};
 use crate::with_first::WithFirst;
-use bit_abbrev::{Abbrev, InfoTable, SharedInfo};
+use bit_abbrev::{Abbrev, InForce, InfoTable, SharedInfo};
 use bit_fields::{Ahead, BitReader, Fault, Limits, Reason, Source, ValueKeeper, ValueTaker};
 use std::alloc::{AllocError, Global};
 
@@ -309,7 +309,8 @@ impl Machine {
         values.taker.truncate(0);
         let ahead = Ahead::new(reader.sight()?);
         let start = ahead.position();
-        let Some((code, after)) = glance_one(ahead, &frame.definitions, room, id, &mut values.taker)
+        let taker = &mut values.taker;
+        let Some((code, after)) = record_ahead(ahead, &frame.definitions, room, id, first, taker)
         else {
             return self.note(reader, limits, id, first, values);
         };
@@ -349,7 +350,8 @@ impl Machine {
         }
         let room = self.room(limits);
         let first = ahead.position();
-        let (abbrev, code) = glance_next(ahead, frame, room, values)?;
+        let definitions = &frame.definitions;
+        let (abbrev, code) = item_ahead::<V, InForce, V>(ahead, frame, definitions, room, values)?;
         let after = ahead.position();
         self.used += values.count() - before;
         Some(RecordHead {

@@ -111,10 +111,6 @@ from_here after a (Err OutputTooLong) b t = t
 pub holds_then : {A : Type 0} (holds : Bool) (fault : grammar.Fault) (rule : Grammar A) (a : Reader) (result : Result A Fault) (b : Reader) → holds ≡ true → Takes rule a result b → Takes (test holds fault >> rule) a result b
 holds_then holds fault rule a result b is t = same_reading rule (test holds fault >> rule) a result b (λ p r. rw is refl) t
 
--- a judgement that fails, where its fault has nothing to do with the limit on bytes: the reader is made to fail
-pub fails_here : (holds : Bool) (reason : Reason) (bit : ℕ) (a : Reader) → holds ≡ false → a.live ≡ true → ((e : Extent) → within e reason bit ≡ at reason bit) → Why (test holds (at reason bit)) a (Refused reason bit) (failed_reader a)
-fails_here holds reason bit a is live stays = (stops_here a live, λ k. rw is (stays a.extent))
-
 -- which of two rules is read
 pub first_chosen : {A : Type 0} (b : Bool) (yes_rule no_rule : Grammar A) (a : Reader) (result : Result A Fault) (c : Reader) → b ≡ true → Takes yes_rule a result c → Takes (choose b yes_rule no_rule) a result c
 first_chosen b yes_rule no_rule a result c is t = same_reading yes_rule (choose b yes_rule no_rule) a result c (λ p r. rw is refl) t

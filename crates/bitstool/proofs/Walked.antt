@@ -50,10 +50,6 @@ pub then_none : (a b : Kinds) → or_else a b ≡ [] → b ≡ []
 then_none [] b e = e
 then_none (k ∷ ks) b e = absurd (not_nil k ks e)
 
-pub cond_none : (k : ErrorKind) (b : Bool) (x : Kinds) → cond b (k ∷ []) x ≡ [] → b ≡ false
-cond_none k false x e = refl
-cond_none k true x e = absurd (not_nil k [] e)
-
 -- a value for each case of a test
 pub either : {X : Type 0} (P : X → Type 0) (b : Bool) (x y : X) → (b ≡ true → P x) → (b ≡ false → P y) → P (cond b x y)
 either P true x y is_so is_not = is_so refl

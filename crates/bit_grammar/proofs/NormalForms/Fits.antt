@@ -174,7 +174,7 @@ nothing_fit : (info : Option BlockInfo) → InfoFit info empty
 nothing_fit None = tt
 nothing_fit (Some info) = tt
 
-entry_64 : (limit first id : ℕ) (scope : Scope) (p : ℕ) (s : List Bool) (e : CodeAndValues) → LawfulScope scope → Spells (entry limit first id scope) p s e → Entry64 e
+entry_64 : (limit first id : ℕ) (scope : Scope) (p : ℕ) (s : List Bool) (e : CodeAndValues) → LawfulScope scope → Spells (entry (limit - scope.handed.used) first id scope.definitions) p s e → Entry64 e
 unfolding entry by_definition
 entry_64 limit first id scope p s e ok (inl k) = unabbreviated_64 _ p s e k.1
 entry_64 limit first id scope p s e ok (inr (other, inl k)) = abbreviated_64 first _ (get_or scope.definitions (id - 4) []) _ _ e (one_of scope.definitions (id - 4) ok.definitions) k.1.5

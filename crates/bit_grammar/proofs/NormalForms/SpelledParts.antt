@@ -81,7 +81,7 @@ unfolding value_count
 count_spelled room n p fits small = here_spelled _ (then_last _ (short_spelled 6 n p (omega arith) small) (judge_spelled _ _ _ (is_le n room fits) given))
 
 pub entry_spelled : (limit first code : ℕ) (values : List ℕ) (scope : Scope) (p : ℕ) → code < 2 ^ 64 → AllByRecursion (λ v. v < 2 ^ 64) values → scope.handed.used + length values ≤ limit → limit < 2 ^ 64
-    → Spelled (entry limit first 3 scope) p (entry_text code values) (record { code = code; values = values })
+    → Spelled (entry (limit - scope.handed.used) first 3 scope.definitions) p (entry_text code values) (record { code = code; values = values })
 unfolding entry unabbreviated
 entry_spelled limit first code values scope p small all fits capped =
     first_chosen _ refl (then_spelled _ (short_spelled 6 code p (omega arith) small)

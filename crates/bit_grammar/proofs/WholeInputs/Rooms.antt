@@ -119,7 +119,7 @@ pub record EntryFitted (limit used : ℕ) (e : CodeAndValues) (Again : ℕ → T
   pub within : used ≤ limit → used + length e.values ≤ limit
   pub again : (b : ℕ) → used + length e.values ≤ b → Again b
 
-pub entry_fitted : (limit first id : ℕ) (scope : Scope) (p : ℕ) (s : List Bool) (e : CodeAndValues) → Spells (entry limit first id scope) p s e → EntryFitted limit scope.handed.used e (λ b. Spells (entry b first id scope) p s e)
+pub entry_fitted : (limit first id : ℕ) (scope : Scope) (p : ℕ) (s : List Bool) (e : CodeAndValues) → Spells (entry (limit - scope.handed.used) first id scope.definitions) p s e → EntryFitted limit scope.handed.used e (λ b. Spells (entry (b - scope.handed.used) first id scope.definitions) p s e)
 unfolding entry
 entry_fitted limit first id scope p s e (inl k) = record {
   within = λ fits. omega (arith, fits, unabbreviated_bounded.within _ p s e k.1);

@@ -58,7 +58,7 @@ is_by_definition : (first room : ℕ) (ops : List Op) (p : ℕ) (s : List Bool) 
 unfolding by_definition
 is_by_definition first room ops p s e definable order is fits = judge_spelled _ _ _ (shape_of ops order) (record { is = is_abbreviated first room ops p s e (lawful_of ops definable order) is fits })
 
-pub entry_is : (limit first id width : ℕ) (scope : Scope) (p : ℕ) (s : List Bool) (e : CodeAndValues) → 3 ≤ id → LawfulContext (context_of width scope) → Spelled (entry limit first id scope) p s e → IsRecord (context_of width scope) id p e s
+pub entry_is : (limit first id width : ℕ) (scope : Scope) (p : ℕ) (s : List Bool) (e : CodeAndValues) → 3 ≤ id → LawfulContext (context_of width scope) → Spelled (entry (limit - scope.handed.used) first id scope.definitions) p s e → IsRecord (context_of width scope) id p e s
 unfolding entry
 entry_is limit first id width scope p s e big ok h =
     elim (chosen h) [
@@ -75,7 +75,7 @@ entry_is limit first id width scope p s e big ok h =
           ]
     ]
 
-pub is_entry : (limit first id width : ℕ) (scope : Scope) (p : ℕ) (s : List Bool) (e : CodeAndValues) → LawfulContext (context_of width scope) → scope.handed.used + length e.values ≤ limit → IsRecord (context_of width scope) id p e s → Spelled (entry limit first id scope) p s e
+pub is_entry : (limit first id width : ℕ) (scope : Scope) (p : ℕ) (s : List Bool) (e : CodeAndValues) → LawfulContext (context_of width scope) → scope.handed.used + length e.values ≤ limit → IsRecord (context_of width scope) id p e s → Spelled (entry (limit - scope.handed.used) first id scope.definitions) p s e
 unfolding entry
 is_entry limit first id width scope p s e ok fits (inl k) = first_chosen _ (ap (λ (n : ℕ). eqb n 3) k.0) (record { is = is_unabbreviated _ p s e k.1 (omega (arith, fits)) })
 is_entry limit first id width scope p s e ok fits (inr k) =

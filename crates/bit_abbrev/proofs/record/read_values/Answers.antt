@@ -25,16 +25,16 @@ returns-in_err-read_singles-clause-adds g c =
 pub read_array-requires-clause-element : goal.read_array-requires-clause-element
 read_array-requires-clause-element g c = rw c.requires.singles (array_behind c.args.ops.now c.requires.order (omega (arith, c.requires.singles))).1
 
-pub returns-in-0-clause-adds : goal.returns-in-0-clause-adds
-returns-in-0-clause-adds g c = λ before t.
+pub returns-then-last-eq0-clause-adds : goal.returns-then-last-eq0-clause-adds
+returns-then-last-eq0-clause-adds g c = λ before t.
     let ops = c.args.ops.now in
     let count = singles ops in
     let first = rw c.requires.singles at (c.in_ok-read_singles.ensures.adds (c.args.room - count) (drop count ops)) in
     let h = first before t in
     (h.0, h.1, front_is_all c.args.room ops (g.B.Bits.as_reader c.args.bits.now) (g.B.Bits.as_reader c.read_singles.new.bits) before h.0 c.requires.fits (omega (arith, c.requires.singles)) h.2)
 
-pub returns-in-1-clause-adds : goal.returns-in-1-clause-adds
-returns-in-1-clause-adds g c =
+pub returns-then-last-eq1-clause-adds : goal.returns-then-last-eq1-clause-adds
+returns-then-last-eq1-clause-adds g c =
     let ops = c.args.ops.now in
     let count = singles ops in
     let room = c.args.room - count in
@@ -52,8 +52,8 @@ returns-in-1-clause-adds g c =
     (k.0, k.1, front_then c.args.room ops a b before h.0 k.0 r d c.requires.fits h.2 (subst (λ (tail : List Op). AddsFew (values_of room tail) room b r d h.0 k.0) (sym next) k.2)))
     blob
 
-pub returns-in_default-clause-adds : goal.returns-in_default-clause-adds
-returns-in_default-clause-adds g c =
+pub returns-clause-adds : goal.returns-clause-adds
+returns-clause-adds g c =
     let ops = c.args.ops.now in
     let count = singles ops in
     let room = c.args.room - count in

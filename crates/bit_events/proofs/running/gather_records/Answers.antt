@@ -13,8 +13,8 @@ loop-id-init g c = record {
   took = c.requires.took;
 }
 
-pub glance_item-requires-clause-took : goal.glance_item-requires-clause-took
-glance_item-requires-clause-took g c = (let was = c.loop-id.invariant.took in ([], c.truncate.ensures [] was.0 was.1 refl))
+pub item_ahead-requires-clause-took : goal.item_ahead-requires-clause-took
+item_ahead-requires-clause-took g c = (let was = c.loop-id.invariant.took in ([], c.truncate.ensures [] was.0 was.1 refl))
 
 pub returns-in_default-clause-took : goal.returns-in_default-clause-took
 returns-in_default-clause-took g c = (let was = c.loop-id.invariant.took in c.in_default.ensures.keeps [] (c.truncate.ensures [] was.0 was.1 refl))
@@ -22,25 +22,25 @@ returns-in_default-clause-took g c = (let was = c.loop-id.invariant.took in c.in
 pub overflow_add-spent : goal.overflow_add-spent
 overflow_add-spent g c =
     let was = c.loop-id.invariant.took in
-    let h = c.in-Some.ensures.glimpsed [] (c.truncate.ensures [] was.0 was.1 refl) in
-    let taken = subst (g.G.Values.ValueTaker.took c.glance_item.new.values) h.2.1 h.1 in
+    let h = c.in-Some.ensures.sees [] (c.truncate.ensures [] was.0 was.1 refl) in
+    let taken = subst (g.G.Values.ValueTaker.took c.item_ahead.new.values) h.2.1 h.1 in
     omega (arith, c.count-count.ensures h.2.0 taken, h.2.2.0, c.loop-id.invariant.room, c.values.ensures.capped, c.loop-id.auto.spent-fits)
 
 pub returns-in_err-record-clause-took : goal.returns-in_err-record-clause-took
 returns-in_err-record-clause-took g c =
     let was = c.loop-id.invariant.took in
-    let h = c.in-Some.ensures.glimpsed [] (c.truncate.ensures [] was.0 was.1 refl) in
-    c.in_err-record.ensures.took (h.2.0, subst (g.G.Values.ValueTaker.took c.glance_item.new.values) h.2.1 h.1)
+    let h = c.in-Some.ensures.sees [] (c.truncate.ensures [] was.0 was.1 refl) in
+    c.in_err-record.ensures.took (h.2.0, subst (g.G.Values.ValueTaker.took c.item_ahead.new.values) h.2.1 h.1)
 
 pub loop-id-preserved : goal.loop-id-preserved
 loop-id-preserved g c =
     let was = c.loop-id.invariant.took in
-    let h = c.in-Some.ensures.glimpsed [] (c.truncate.ensures [] was.0 was.1 refl) in
+    let h = c.in-Some.ensures.sees [] (c.truncate.ensures [] was.0 was.1 refl) in
     let list : List ℕ = h.2.0 in
-    let taken = subst (g.G.Values.ValueTaker.took c.glance_item.new.values) h.2.1 h.1 in
+    let taken = subst (g.G.Values.ValueTaker.took c.item_ahead.new.values) h.2.1 h.1 in
     let seen = h.2.2 in
     let b = c.loop-id.ahead in
-    let d = c.glance_item.new.ahead in
+    let d = c.item_ahead.new.ahead in
     let more : c.loop-id.spent + c.count-count.result ≡ c.loop-id.spent + length list = omega (arith, c.count-count.ensures list taken, seen.0, c.values.ensures.capped) in
     let event : record_of c.in-Some.id list c.loop-id.first (c.in-Some.code, c.position-after.result) ≡ record_of c.in-Some.id list b.position (c.in-Some.code, d.position) = rw (c.loop-id.invariant.first, c.position-after.ensures) refl in
     record {

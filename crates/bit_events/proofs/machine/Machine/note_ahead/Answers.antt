@@ -11,7 +11,7 @@ use Rattle.bit_events.proofs.machine.Machine.note_ahead.Goals as goal
 pub overflow_add-self : goal.overflow_add-self
 overflow_add-self g c =
     let was = c.requires.took in
-    let h = c.in_ok-abbrev.ensures.glimpsed was.0 was.1 in
+    let h = c.in_ok-abbrev.ensures.sees was.0 was.1 in
     let many = counted_behind was.0 h.0 h.2.0 c.count-before.result c.count.result (c.count-before.ensures was.0 was.1) (c.count.ensures h.0 h.1) h.2.1 (omega (arith, c.if-before-gt-MOST_BEFORE.false)) (omega (arith, h.2.2.0, c.room-room.ensures.capped, c.room-room.ensures.room)) in
     omega (arith, many, h.2.2.0, c.room-room.ensures.capped, c.room-room.ensures.room, c.room-room.ensures.used)
 
@@ -20,7 +20,7 @@ returns-clause-glimpsed g c = λ before was.
     let m = c.args.self.now in
     let k = length m.frames.items - 1 in
     let f = c.in-Some.frame.now in
-    let h = c.in_ok-abbrev.ensures.glimpsed before was in
+    let h = c.in_ok-abbrev.ensures.sees before was in
     let list : List ℕ = h.2.0 in
     let used : ℕ = m.used + (c.count.result - c.count-before.result) in
     let outer : List machine.Frame = frames_onto (take k m.frames.items) [] in

@@ -1,11 +1,9 @@
 use Rattle.std.proofs.Common.{◌≡◌, ◌-◌, ◌+◌, ◌≤◌, ◌^◌, ℕ, [], length, min, arith, refl, sym, ap, subst, ◌∙◌, None, Some, Option, is_some, false}
 use Rattle.std.proofs.lemmas.Result.{err_from_is_err_and}
-use Rattle.bit_grammar.specs.Blocks.{Handed}
 use Rattle.bit_grammar.specs.Machine as machine
 use Rattle.bit_grammar.specs.Machine.{Event, scope_of}
 use Rattle.bit_fields.specs.Ahead.{InSight, Glimpsed}
 use Rattle.bit_fields.proofs.Glimpses.{nothing_then, shown_caught_up, shown_not_caught_up}
-use Rattle.bit_events.specs.FrameView.{frame_shown}
 use Rattle.bit_events.specs.MachineView.{handed_shown, record_rule, machine_shown, record_of}
 use Rattle.bit_events.proofs.Runs.{held_seen, leaves_after, nothing_missed}
 use Rattle.bit_events.proofs.machine.Machine.note_in_sight.Goals as goal
@@ -24,38 +22,35 @@ returns-in_err-sight-clause-takes g c =
     let shows = rw c.in_err-sight.was at c.sight.follows.holds-at-none in
     ([], c.truncate.ensures [] c.requires.took.0 c.requires.took.1 refl, λ f outer split. rw (p.1, p.2) (nothing_missed (record_rule c.args.limits.now.values f outer c.args.first c.args.id (handed_shown c.args.self.now)) c.args.reader.now c.in_err-sight.field-0.0 c.sight.follows.lender-at-none shows))
 
-pub glance_one-requires-clause-none : goal.glance_one-requires-clause-none
-glance_one-requires-clause-none g c = c.truncate.ensures [] c.requires.took.0 c.requires.took.1 refl
+pub record_ahead-requires-clause-none : goal.record_ahead-requires-clause-none
+record_ahead-requires-clause-none g c = c.truncate.ensures [] c.requires.took.0 c.requires.took.1 refl
 
-pub returns-in_default-glance_one-clause-takes : goal.returns-in_default-glance_one-clause-takes
-returns-in_default-glance_one-clause-takes g c =
-    let noted = c.note-in_default-glance_one.ensures.takes in
+pub returns-in_default-record_ahead-clause-takes : goal.returns-in_default-record_ahead-clause-takes
+returns-in_default-record_ahead-clause-takes g c =
+    let noted = c.note-in_default-record_ahead.ensures.takes in
     let b = c.sight.follows.lender-at-none in
     let shows = rw c.in_ok-sight.was at c.sight.follows.holds-at-none in (
       noted.0,
       noted.1,
-      λ f outer split. nothing_then (record_rule c.args.limits.now.values f outer c.args.first c.args.id (handed_shown c.args.self.now)) c.args.reader.now b _ c.note-in_default-glance_one.new.reader shows.nothing (noted.2 f outer split),
+      λ f outer split. nothing_then (record_rule c.args.limits.now.values f outer c.args.first c.args.id (handed_shown c.args.self.now)) c.args.reader.now b _ c.note-in_default-record_ahead.new.reader shows.nothing (noted.2 f outer split),
     )
 
-pub returns-in_default-glance_one-clause-leaves : goal.returns-in_default-glance_one-clause-leaves
-returns-in_default-glance_one-clause-leaves g c = λ deepest list.
+pub returns-in_default-record_ahead-clause-leaves : goal.returns-in_default-record_ahead-clause-leaves
+returns-in_default-record_ahead-clause-leaves g c = λ deepest list.
     let shows = rw c.in_ok-sight.was at c.sight.follows.holds-at-none in
-    leaves_after deepest c.args.self.now c.args.reader.now c.sight.follows.lender-at-none (record_of c.args.id list c.args.first) c.note-in_default-glance_one.new.self c.note-in_default-glance_one.new.reader c.note-in_default-glance_one.result shows.nothing (c.note-in_default-glance_one.ensures.leaves deepest list)
+    leaves_after deepest c.args.self.now c.args.reader.now c.sight.follows.lender-at-none (record_of c.args.id list c.args.first) c.note-in_default-record_ahead.new.self c.note-in_default-record_ahead.new.reader c.note-in_default-record_ahead.result shows.nothing (c.note-in_default-record_ahead.ensures.leaves deepest list)
 
 pub overflow_sub-after : goal.overflow_sub-after
 overflow_sub-after g c =
-    let h = c.in-Some-glance_one.ensures.glimpsed in
-    let reads = h.2 in
-    let some : Handed = record { table = λ id. []; used = 0 } in
-    let all : c.room-room.result - 0 ≡ c.room-room.result = omega arith in
-    omega (arith, (reads.2.1 c.room-room.result 0 (scope_of (frame_shown c.in-Some.frame.now) some) refl all).forward, reads.1, c.position-start.ensures)
+    let reads = c.in-Some-record_ahead.ensures.reads.2 in
+    omega (arith, reads.3.forward, reads.1, c.position-start.ensures)
 
 pub returns-in_err-catch_up-clause-takes : goal.returns-in_err-catch_up-clause-takes
 returns-in_err-catch_up-clause-takes g c =
     let p = err_from_is_err_and c.from_residual-in_err-catch_up.result c.from_residual-in_err-catch_up.ensures.1 in
     let m = c.args.self.now in
     let k = length m.frames.items - 1 in
-    let h = c.in-Some-glance_one.ensures.glimpsed in
+    let h = c.in-Some-record_ahead.ensures.reads in
     let shows = rw c.in_ok-sight.was at c.sight.follows.holds-at-none in
     let item = rw c.deref.ensures.value at c.in-Some.ensures.item.1 in
     let none : c.in-Some.frame.now.info ≡ None = not_some c.in-Some.frame.now.info (sym c.is_some.ensures ∙ c.if-is_some.false) in
@@ -64,8 +59,8 @@ returns-in_err-catch_up-clause-takes g c =
       h.1,
       λ f outer split.
           let rule = record_rule c.args.limits.now.values f outer c.args.first c.args.id (handed_shown m) in
-          let value : Event × machine.Machine = (record_of c.args.id h.0 c.args.first (c.in-Some-glance_one.code, c.in-Some-glance_one.after), machine_shown (record m { used = m.used + length h.0 })) in
-          let seen : Glimpsed rule c.new-ahead.result value h.2.0 = held_seen c.args.limits.now.values m k c.in-Some.frame.now f outer c.room-room.result c.args.first c.args.id c.in-Some-glance_one.code h.0 c.in-Some-glance_one.after (m.used + length h.0) c.new-ahead.result (omega (arith, c.requires.some, m.frames.ok.0)) item split none (sym c.room-room.ensures.room) refl h.2 in
+          let value : Event × machine.Machine = (record_of c.args.id h.0 c.args.first (c.in-Some-record_ahead.code, c.in-Some-record_ahead.after), machine_shown (record m { used = m.used + length h.0 })) in
+          let seen : Glimpsed rule c.new-ahead.result value h.2.0 = held_seen c.args.limits.now.values m k c.in-Some.frame.now f outer c.room-room.result c.args.first c.args.id c.in-Some-record_ahead.code h.0 c.in-Some-record_ahead.after (m.used + length h.0) c.new-ahead.result (omega (arith, c.requires.some, m.frames.ok.0)) item split none (sym c.room-room.ensures.room) refl h.2 in
           rw (p.1, p.2) (shown_not_caught_up rule c.args.reader.now c.in_ok-sight.field-0 value h.2.0 c.sight.follows.lender-at-none c.in_err-catch_up.field-0.0 c.catch_up.new.self rule shows (subst (λ (a : InSight). Glimpsed rule a value h.2.0) c.new-ahead.ensures seen) (rw (h.2.1, sym start) c.in_err-catch_up.ensures.takes)),
     )
 
@@ -73,8 +68,8 @@ pub returns-clause-takes : goal.returns-clause-takes
 returns-clause-takes g c =
     let m = c.args.self.now in
     let k = length m.frames.items - 1 in
-    let h = c.in-Some-glance_one.ensures.glimpsed in
-    let few = h.2.2.0 in
+    let h = c.in-Some-record_ahead.ensures.reads in
+    let few = h.2.2 in
     let shows = rw c.in_ok-sight.was at c.sight.follows.holds-at-none in
     let item = rw c.deref.ensures.value at c.in-Some.ensures.item.1 in
     let none : c.in-Some.frame.now.info ≡ None = not_some c.in-Some.frame.now.info (sym c.is_some.ensures ∙ c.if-is_some.false) in
@@ -84,7 +79,7 @@ returns-clause-takes g c =
       h.1,
       λ f outer split.
           let rule = record_rule c.args.limits.now.values f outer c.args.first c.args.id (handed_shown m) in
-          let value : Event × machine.Machine = (record_of c.args.id h.0 c.args.first (c.in-Some-glance_one.code, c.in-Some-glance_one.after), machine_shown (record m { used = m.used + c.count-count.result })) in
-          let seen : Glimpsed rule c.new-ahead.result value h.2.0 = held_seen c.args.limits.now.values m k c.in-Some.frame.now f outer c.room-room.result c.args.first c.args.id c.in-Some-glance_one.code h.0 c.in-Some-glance_one.after (m.used + c.count-count.result) c.new-ahead.result (omega (arith, c.requires.some, m.frames.ok.0)) item split none (sym c.room-room.ensures.room) (omega (arith, many)) h.2 in
+          let value : Event × machine.Machine = (record_of c.args.id h.0 c.args.first (c.in-Some-record_ahead.code, c.in-Some-record_ahead.after), machine_shown (record m { used = m.used + c.count-count.result })) in
+          let seen : Glimpsed rule c.new-ahead.result value h.2.0 = held_seen c.args.limits.now.values m k c.in-Some.frame.now f outer c.room-room.result c.args.first c.args.id c.in-Some-record_ahead.code h.0 c.in-Some-record_ahead.after (m.used + c.count-count.result) c.new-ahead.result (omega (arith, c.requires.some, m.frames.ok.0)) item split none (sym c.room-room.ensures.room) (omega (arith, many)) h.2 in
           shown_caught_up rule c.args.reader.now c.in_ok-sight.field-0 value h.2.0 c.sight.follows.lender-at-none c.catch_up.new.self shows (subst (λ (a : InSight). Glimpsed rule a value h.2.0) c.new-ahead.ensures seen) (rw (h.2.1, sym start) c.in_ok-catch_up.ensures.takes),
     )

@@ -1,0 +1,39 @@
+//! Reading the code and the values of a record by its abbreviation id, wherever its bits come from.
+
+ghost use Rattle.std.specs.Prelude.{◌≡◌, ◌≤◌, true};
+ghost use Rattle.bit_grammar.specs.Blocks.{entry};
+ghost use Rattle.bit_abbrev.specs.Bits.{Answers};
+ghost use Rattle.bit_abbrev.specs.Values.{AddsWithin, Gains, Keeps};
+
+use bit_abbrev::{Lookup, Runs, read_plain, read_record};
+use bit_fields::{Reason, ValueTaker};
+
+/// Reads the code and the values of a record, after its abbreviation id, where the record began at a bit: hands its values on, for
+/// which there is so much room, and answers its code. Where it fails, some of its values may be added. `U` is whom it is compiled
+/// for. Source: "Abbreviation IDs".
+#[inline(always)]
+pub(crate) fn read_entry<U, B: Runs, D: Lookup, V: ValueTaker>(
+    bits: &mut B,
+    definitions: &D,
+    room: u64,
+    id: u32,
+    first: u64,
+    values: &mut V,
+) -> Result<u64, B::Miss>
+    requires live { (B.as_reader bits.old).live ≡ true }
+    requires id { 3 ≤ id }
+    ensures adds { Answers B.faults (λ r. Gains V.took values.old values.new
+        (AddsWithin (entry room first id (D.listed definitions.now)) room (B.as_reader bits.old)
+        r (B.as_reader bits.new))) result }
+    ensures keeps { Keeps V.took values.old values.new }
+{
+    if id == 3 {
+        return read_plain::<U, B, V>(bits, room, values);
+    }
+    let Some(abbrev) = definitions.look_up((id - 4) as usize) else {
+        bits.judge(false, Reason::UndefinedAbbrev, first)?;
+        unreachable!();
+    };
+    bits.judge(abbrev.is_usable(), Reason::AbbrevShape, first)?;
+    read_record::<U, B, V>(bits, abbrev.lawful_ops(), first, room, values)
+}
