@@ -36,7 +36,14 @@ pub(crate) fn record_ahead<V: ValueTaker>(
     ensures took { TookSome V.took values.new }
 {
     let mut ahead = ahead;
-    match read_entry::<V, Ahead<'_>, InForce, V>(&mut ahead, definitions, room, id, first, values) {
+    match read_entry::<(), Ahead<'_>, InForce, V>(
+        &mut ahead,
+        definitions,
+        room,
+        id,
+        first,
+        values,
+    ) {
         Ok(code) => Some((code, ahead.position())),
         Err(_) => None,
     }
