@@ -134,7 +134,7 @@ impl<'a> Lookup for Definitions<'a> {
     }
 }
 
-/// It finds the list of the table anew each time, which costs more than once for many look-ups, and less for none.
+/// Each look-up searches the table. For many, `InForce::all` searches it once.
 impl Lookup for InForce {
     ghost listed = { λ definitions. definitions };
 

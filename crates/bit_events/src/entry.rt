@@ -8,9 +8,9 @@ ghost use Rattle.bit_abbrev.specs.Values.{AddsWithin, Gains, Keeps};
 use bit_abbrev::{Lookup, Runs, read_plain, read_record};
 use bit_fields::{Reason, ValueTaker};
 
-/// Reads the code and the values of a record, after its abbreviation id, where the record began at a bit: hands its values on, for
-/// which there is so much room, and answers its code. Where it fails, some of its values may be added. `U` is whom it is compiled
-/// for. Source: "Abbreviation IDs".
+/// Reads the code and the values of a record after its abbreviation id: hands the values on and answers the code. The record began
+/// at the bit `first`, and there is room for `room` values. Where it fails, some of its values may be added. `U` is whom it is
+/// compiled for. Source: "Abbreviation IDs".
 #[inline(always)]
 pub(crate) fn read_entry<U, B: Runs, D: Lookup, V: ValueTaker>(
     bits: &mut B,

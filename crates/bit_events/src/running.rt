@@ -19,7 +19,8 @@ use bit_fields::{Ahead, Limits, ValueTaker};
 use std::alloc::AllocError;
 
 /// Reads one buffered record after its id, where the record began at a bit, and answers its code and the bit behind it. The values
-/// are those of the record alone. It has what is ahead for itself.
+/// are those of the record alone. It has what is ahead for itself. The `()` gives it a copy of what it calls, apart from that of
+/// `SliceEvents`.
 #[inline(never)]
 pub(crate) fn record_ahead<V: ValueTaker>(
     ahead: Ahead<'_>,
