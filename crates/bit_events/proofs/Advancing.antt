@@ -1,5 +1,5 @@
 -- The next event of a stream, as what is to come of it has it.
-use Rattle.std.proofs.Common.{◌≡◌, ℕ, ◌-◌, ◌^◌, ◌<◌, Bool, true, false, List, [], ◌∷◌, length, Option, Some, None, IsSome, Ok, Err, refl, sym, ap, subst, ◌∙◌, arith, vec_len}
+use Rattle.std.proofs.Common.{◌≡◌, ℕ, ◌-◌, ◌^◌, ◌<◌, ◌≤◌, Bool, true, false, List, [], ◌∷◌, length, Option, Some, None, IsSome, Ok, Err, refl, sym, ap, subst, ◌∙◌, arith, vec_len}
 use Rattle.std.specs.Option.{option_map}
 use Rattle.bit_grammar.specs.Grammar as grammar
 use Rattle.bit_grammar.specs.Grammar.{at, reading}
@@ -10,28 +10,28 @@ use Rattle.bit_grammar.specs.Steps.{AreWide}
 use Rattle.bit_grammar.specs.Input.{front_of}
 use Rattle.bit_grammar.specs.Normal.{Capped}
 use Rattle.bit_grammar.specs.Outlook.{outlook}
-use Rattle.bit_grammar.proofs.Events.Machines.{Step, comes}
+use Rattle.bit_grammar.proofs.Events.Machines as machines
+use Rattle.bit_grammar.proofs.Events.Machines.{comes}
 use Rattle.bit_fields.specs.declared.fault.Fault.{Fault}
 use Rattle.bit_fields.specs.declared.fault.Fault.TheVariants.{Refused, Read, Write, Memory, OutputTooLong, Failed}
 use Rattle.bit_fields.specs.declared.head.Head.{Head}
 use Rattle.bit_fields.specs.Devices.{Incoming, Fails, known_bytes}
 use Rattle.bit_fields.specs.Reader as fields
-use Rattle.bit_fields.specs.Reader.{Reader, Extent, TellsBytes, GoesOn, Took, Why, within}
+use Rattle.bit_fields.specs.Reader.{Reader, Extent, TellsBytes, GoesOn, StopsReading, Loses, Took, Why}
 use Rattle.bit_fields.specs.Opening as opening
 use Rattle.bit_fields.specs.Opening.{head_told, OpenedInput, fresh, beginning, Beginning, wrapper_of, end_of_stream}
 use Rattle.bit_fields.specs.Ending.{Stays}
 use Rattle.bit_fields.proofs.InflowLaws.{Spends-trans, fails_later}
 use Rattle.bit_events.specs.declared.frame.Frame.{Frame}
-use Rattle.bit_events.specs.declared.machine.Found.{Found}
+use Rattle.bit_events.specs.declared.machine.Step.{Step}
 use Rattle.bit_events.specs.declared.machine.Machine.{Machine}
 use Rattle.bit_events.specs.FrameView.{frame_shown, frames_onto, frames_shown}
-use Rattle.bit_events.specs.declared.machine.Found.TheVariants as found
-use Rattle.bit_events.specs.declared.machine.Aside.TheVariants.{Enter, Define, Leave}
+use Rattle.bit_events.specs.declared.machine.Step.TheVariants as found
 use Rattle.bit_events.specs.Coming.{held_after}
-use Rattle.bit_events.specs.MachineView.{machine_shown, definition_of, found_shown, found_lent, after_found, HoldsDefinition, LeavesMachine}
+use Rattle.bit_events.specs.MachineView.{machine_shown, definition_of, step_shown, step_lent, KeepsValues, HoldsDefinition, LeavesMachine}
 use Rattle.bit_events.specs.Coming.{over as over_stage}
-use Rattle.bit_events.specs.Coming.{failed, Goes, GivesEvent, EndsEvents, BreaksOff, StopsEvents, LosesEvents, event_before, end_at, end_by, told_of}
-use Rattle.bit_events.specs.Folding.{left_to_tell}
+use Rattle.bit_events.specs.Coming.{failed, Goes, GivesEvent, EndsEvents, BreaksOff, StopsEvents, event_before, end_at, end_by, told_of}
+use Rattle.bit_events.specs.Next.{left_to_tell, FindsEvent, FindsEnd, FindsFault}
 use Rattle.bit_events.specs.Events.{stage_of, coming_of, IsEvents, Over, Shuts, Begun, DeclinesEvents}
 use Rattle.bit_events.proofs.Beginnings.{outlook_begun, outlook_declined}
 
@@ -81,7 +81,7 @@ told_fault : (limits : Limits) (e : Extent) (m : machine.Machine) (p : ℕ) (lef
 told_fault limits e m p left reason bit ids more breaks =
     ap (told_until e) (comes limits m p left ids more) ∙ go (reading (step limits m) p left) breaks
   where
-    go : (read : Step) → fields.Breaks e read reason bit → told_until e (told_of_step (to_come limits) read) ≡ ([], broke (at reason bit))
+    go : (read : machines.Step) → fields.Breaks e read reason bit → told_until e (told_of_step (to_come limits) read) ≡ ([], broke (at reason bit))
     go (Ok x) k = absurd k
     go (Err fault) k = ap (λ (f : grammar.Fault). ([], broke f)) k
 
@@ -129,78 +129,53 @@ pub shut_told : (limits : Limits) (m : Machine) (a : Reader) (ending : Ending) �
 shut_told limits m a ending none empty is =
     told_end limits a.extent (machine_shown m) a.position a.left (shown_none m.frames.items (sym m.frames.ok.0 ∙ none)) empty ∙ ap (λ (e : Ending). ([], e)) is
 
-stops : (limits : Limits) (head : Head) (m new : Machine) (vs ws : List ℕ) (found next_found : Option Found) (a b c : Reader) → Stays a b → fields.StopsReading b c → StopsEvents (coming_of false limits head m vs found a.position a) (coming_of false limits head new ws next_found a.position c)
-stops limits head m new vs ws found next_found a b c h s = record { went = rw h.was_live refl; stopped = rw s.failed refl; head = refl; position = refl; pays = pays_both a b c h.goes_on s.goes_on }
+pub stops_after : (a b c : Reader) → Stays a b → StopsReading b c → StopsReading a c
+stops_after a b c p s = record { was_live = p.was_live; failed = s.failed; goes_on = pays_both a b c p.goes_on s.goes_on }
 
-loses : (limits : Limits) (head : Head) (m new : Machine) (vs ws : List ℕ) (found next_found : Option Found) (a b c : Reader) → Stays a b → fields.Loses b c → LosesEvents (coming_of false limits head m vs found a.position a) (coming_of false limits head new ws next_found a.position c)
-loses limits head m new vs ws found next_found a b c h s = record { went = rw h.was_live refl; stopped = rw s.failed refl; head = refl; position = refl; fails = loses_both a b c h.goes_on s.fails }
+pub loses_after : (a b c : Reader) → Stays a b → Loses b c → Loses a c
+loses_after a b c p s = record { was_live = p.was_live; failed = s.failed; fails = loses_both a b c p.goes_on s.fails }
+
+pub leaves_later : {deepest : ℕ} {old new : Machine} {event : Event} (a b c : Reader) → a.position ≤ b.position → LeavesMachine deepest old b event new c → LeavesMachine deepest old a event new c
+leaves_later a b c forward left = record { stands = left.stands; opens = left.opens; forward = omega (arith, forward, left.forward); aligned = left.aligned; holds = left.holds }
 
 -- an event came
-gives : (limits : Limits) (head : Head) (m new : Machine) (vs ws : List ℕ) (found : Option Found) (next_found : Found) (a b c : Reader) → Ready m a b
-    → Took (step limits (machine_shown m)) b (after_found new ws next_found) c → LeavesMachine limits.depth m b (found_shown new ws next_found) new c → ws ≡ held_after (found_shown new ws next_found) vs → b.position < c.position → c.position < 2 ^ 64
-    → GivesEvent (coming_of false limits head m vs found a.position a) (found_shown new ws next_found) (coming_of false limits head new ws (Some next_found) c.position c)
-gives limits head m new vs ws found next_found a b c h took leaves held forward below = record {
-  went = rw h.0.was_live refl;
-  goes = rw took.live refl;
+pub finds_event : (limits : Limits) (m n : Machine) (event : Event) (a b c : Reader) → Ready m a b → Took (step limits (machine_shown m)) b (event, machine_shown n) c → LeavesMachine limits.depth m b event n c → FindsEvent limits m a event n c
+finds_event limits m n event a b c h took leaves = record {
+  was_live = h.0.was_live;
+  live = took.live;
   pays = pays_both a b c h.0.goes_on took.goes_on;
-  head = refl;
-  stands = leaves.stands;
-  depth = leaves.opens;
-  deepest = refl;
-  held = held;
-  forward = omega (arith, h.0.position, forward);
-  below = below;
-  told = λ tells. event_told limits m new (found_shown new ws next_found) a b c h took tells;
+  leaves = leaves_later a b c (omega (arith, h.0.position)) leaves;
+  told = λ tells. event_told limits m n event a b c h took tells;
 }
 
 -- no event came
-misses : (limits : Limits) (head : Head) (m new : Machine) (vs ws : List ℕ) (found next_found : Option Found) (a b c : Reader) (fault : Fault) → Ready m a b
-    → Why (step limits (machine_shown m)) b fault c → BreaksOff (coming_of false limits head m vs found a.position a) fault (coming_of false limits head new ws next_found a.position c)
-misses limits head m new vs ws found next_found a b c (Refused reason bit) h why = (stops limits head m new vs ws found next_found a b c h.0 why.0, λ tells. break_told limits m reason bit a b h why.1 tells)
-misses limits head m new vs ws found next_found a b c Read h why = loses limits head m new vs ws found next_found a b c h.0 why
-misses limits head m new vs ws found next_found a b c Memory h why = stops limits head m new vs ws found next_found a b c h.0 why
-misses limits head m new vs ws found next_found a b c Failed h why = absurd (dead b.live h.0.live why.0)
-misses limits head m new vs ws found next_found a b c Write h why = absurd why
-misses limits head m new vs ws found next_found a b c OutputTooLong h why = absurd why
-
-still : (live : Bool) → live ≡ true → stage_of false live ≡ failed → ⊥
-still true is e = cc
-still false is e = cc
-
-begun : (live : Bool) → stage_of false live ≡ over_stage → ⊥
-begun true e = cc
-begun false e = cc
+pub finds_fault : (limits : Limits) (m : Machine) (a b : Reader) (fault : Fault) (c : Reader) → Ready m a b → Why (step limits (machine_shown m)) b fault c → FindsFault limits m a fault c
+finds_fault limits m a b (Refused reason bit) c h why = (stops_after a b c h.0 why.0, λ tells. break_told limits m reason bit a b h why.1 tells)
+finds_fault limits m a b Read c h why = loses_after a b c h.0 why
+finds_fault limits m a b Memory c h why = stops_after a b c h.0 why
+finds_fault limits m a b Failed c h why = dead b.live h.0.live why.0
+finds_fault limits m a b Write c h why = why
+finds_fault limits m a b OutputTooLong c h why = why
 
 -- the input ends
-ends : (limits : Limits) (head : Head) (m : Machine) (vs : List ℕ) (found : Option Found) (a c : Reader) → vec_len m.frames ≡ 0 → a.live ≡ true → Over a c
-    → EndsEvents (coming_of false limits head m vs found a.position a) (coming_of true limits head m vs None a.position c)
-ends limits head m vs found a c none live over = record {
-  held_on = λ e. still a.live live e;
-  ends = refl;
-  again = λ e. absurd (begun a.live e);
-  pays = over.stops.goes_on;
-  head = refl;
-  depth = none;
-  none_open = none;
-  told = λ tells. (told tells, refl);
-  none = λ _ tells. over.none tells;
+pub finds_end : (limits : Limits) (m : Machine) (a c : Reader) → vec_len m.frames ≡ 0 → Over a c → FindsEnd limits m a m c
+finds_end limits m a c none over = record {
+  stops = over.stops;
+  position = over.position;
+  outside = none;
+  same = refl;
+  told = λ tells. (let o = over.told tells in shut_told limits m a (accepted a.position) none o.0 o.1);
+  none = over.none;
 }
-  where
-    told : TellsBytes a → left_to_tell limits m a ≡ ([], accepted a.position)
-    told tells = (let o = over.told tells in shut_told limits m a (accepted a.position) none o.0 o.1)
 
 -- outside of all blocks no event came
-refuses : (limits : Limits) (head : Head) (m : Machine) (vs : List ℕ) (found : Option Found) (a c : Reader) (fault : Fault) → vec_len m.frames ≡ 0 → Shuts true a (Err fault) c
-    → BreaksOff (coming_of false limits head m vs found a.position a) fault (coming_of false limits head m vs found a.position c)
-refuses limits head m vs found a c (Refused reason bit) none (_, s, told) = (
-  record { went = rw s.was_live refl; stopped = rw s.failed refl; head = refl; position = refl; pays = s.goes_on },
-  λ tells. shut_told limits m a (broke (at reason bit)) none (told tells).0 (told tells).1,
-)
-refuses limits head m vs found a c Read none (_, s) = record { went = rw s.was_live refl; stopped = rw s.failed refl; head = refl; position = refl; fails = s.fails }
-refuses limits head m vs found a c Memory none h = absurd h
-refuses limits head m vs found a c Failed none h = absurd h
-refuses limits head m vs found a c Write none h = absurd h
-refuses limits head m vs found a c OutputTooLong none h = absurd h
+pub finds_shut : (limits : Limits) (m : Machine) (a c : Reader) (outside : Bool) (fault : Fault) → (outside ≡ true → vec_len m.frames ≡ 0) → Shuts outside a (Err fault) c → FindsFault limits m a fault c
+finds_shut limits m a c outside (Refused reason bit) out (o, s, told) = (s, λ tells. shut_told limits m a (broke (at reason bit)) (out o) (told tells).0 (told tells).1)
+finds_shut limits m a c outside Read out (o, s) = s
+finds_shut limits m a c outside Memory out h = absurd h
+finds_shut limits m a c outside Failed out h = h
+finds_shut limits m a c outside Write out h = h
+finds_shut limits m a c outside OutputTooLong out h = h
 
 -- ---- the beginning
 
@@ -241,67 +216,97 @@ declined limits i OutputTooLong now low h = absurd h
 
 -- ---- as the program keeps it
 
--- a definition that is at hand is lent
-lends : (m : Machine) (values : List ℕ) (f : Found) → HoldsDefinition m (found_shown m values f) → found_lent m values f ≡ Some (found_shown m values f)
-lends m values (found.Aside (Enter id width first body)) h = refl
-lends m values (found.Aside (Define first after)) h = ap (option_map (definition_of first after)) h
-lends m values (found.Aside (Leave after)) h = refl
-lends m values (found.Record id code first after) h = refl
+-- a definition that the machine holds is lent
+lends : (m : Machine) (values : List ℕ) (step : Step) → HoldsDefinition m (step_shown m values step) → step_lent m values step ≡ Some (step_shown m values step)
+lends m values (found.Enter id width first body) h = refl
+lends m values (found.Define first after) h = ap (option_map (definition_of first after)) h
+lends m values (found.Record head) h = refl
+lends m values (found.Leave after) h = refl
+
+-- the values that are kept after a step
+pub values_held : {V : Type 0} (kept : V → List ℕ) (n : Machine) (step : Step) (v w : V) → KeepsValues step v w → kept w ≡ held_after (step_shown n (kept w) step) (kept v)
+values_held kept n (found.Enter id width first body) v w e = ap kept e
+values_held kept n (found.Define first after) v w e = ap kept e
+values_held kept n (found.Record head) v w e = refl
+values_held kept n (found.Leave after) v w e = ap kept e
 
 -- an event came, and it is lent
-pub kept_goes : (is_over : Bool) (limits : Limits) (head : Head) (m new : Machine) (vs ws : List ℕ) (found : Option Found) (next_found : Found) (a b c : Reader) (outside : Bool) → is_over ≡ false
-    → (vec_len m.frames ≡ 0 → outside ≡ true) → Shuts outside a (Ok false) b → Took (step limits (machine_shown m)) b (after_found new ws next_found) c → LeavesMachine limits.depth m b (found_shown new ws next_found) new c → ws ≡ held_after (found_shown new ws next_found) vs
-    → b.position < c.position → c.position < 2 ^ 64
-    → Goes (coming_of is_over limits head m vs found a.position a) (Ok (found_lent new ws next_found)) (coming_of is_over limits head new ws (Some next_found) c.position c)
-kept_goes is_over limits head m new vs ws found next_found a b c outside e out shut took leaves held forward below =
-    subst (λ (o : Option Event). Goes (coming_of is_over limits head m vs found a.position a) (Ok o) (coming_of is_over limits head new ws (Some next_found) c.position c)) (sym (lends new ws next_found leaves.holds))
-    (subst (λ (x : Bool). GivesEvent (coming_of x limits head m vs found a.position a) (found_shown new ws next_found) (coming_of x limits head new ws (Some next_found) c.position c)) (sym e)
-    (gives limits head m new vs ws found next_found a b c (shut.0, λ none. shut.1 (out none)) took leaves held forward below))
+pub kept_goes : (is_over now_over : Bool) (limits : Limits) (head : Head) (m n : Machine) (vs ws : List ℕ) (found : Option Step) (next : Step) (place there : ℕ) (a c : Reader) → is_over ≡ false → now_over ≡ false → place ≡ a.position → there ≡ c.position → FindsEvent limits m a (step_shown n ws next) n c → ws ≡ held_after (step_shown n ws next) vs → a.position < c.position → there < 2 ^ 64
+    → Goes (coming_of is_over limits head m vs found place a) (Ok (step_lent n ws next)) (coming_of now_over limits head n ws (Some next) there c)
+kept_goes is_over now_over limits head m n vs ws found next place there a c e now_e here is_there finds held forward below =
+    subst (λ (o : Option Event). Goes (coming_of is_over limits head m vs found place a) (Ok o) (coming_of now_over limits head n ws (Some next) there c)) (sym (lends n ws next finds.leaves.holds))
+    (subst (λ (x : Bool). GivesEvent (coming_of x limits head m vs found place a) (step_shown n ws next) (coming_of now_over limits head n ws (Some next) there c)) (sym e)
+    (subst (λ (x : Bool). GivesEvent (coming_of false limits head m vs found place a) (step_shown n ws next) (coming_of x limits head n ws (Some next) there c)) (sym now_e) given))
+  where
+    given : GivesEvent (coming_of false limits head m vs found place a) (step_shown n ws next) (coming_of false limits head n ws (Some next) there c)
+    given = record {
+      went = rw finds.was_live refl;
+      goes = rw finds.live refl;
+      pays = finds.pays;
+      head = refl;
+      stands = finds.leaves.stands;
+      depth = finds.leaves.opens;
+      deepest = refl;
+      held = held;
+      forward = omega (arith, here, is_there, forward);
+      below = below;
+      told = finds.told;
+    }
+
+-- it takes and asks for what another one does, wherever it stands
+pub record IsLike (a b : Reader) : Type 0 where
+  pub live : b.live ≡ a.live
+  pub incoming : b.incoming ≡ a.incoming
+  pub budget : b.budget ≡ a.budget
+
+pays_like : (a b c : Reader) → IsLike b c → GoesOn a b → GoesOn a c
+pays_like a b c like pays = rw (like.incoming, like.budget) pays
 
 -- no event came
-pub kept_misses : (is_over : Bool) (limits : Limits) (head : Head) (m new : Machine) (vs ws : List ℕ) (found : Option Found) (a b c : Reader) (outside : Bool) (fault : Fault) → is_over ≡ false
-    → (vec_len m.frames ≡ 0 → outside ≡ true) → Shuts outside a (Ok false) b → Why (step limits (machine_shown m)) b fault c
-    → BreaksOff (coming_of is_over limits head m vs found a.position a) fault (coming_of is_over limits head new ws found a.position c)
-kept_misses is_over limits head m new vs ws found a b c outside fault e out shut why =
-    subst (λ (x : Bool). BreaksOff (coming_of x limits head m vs found a.position a) fault (coming_of x limits head new ws found a.position c)) (sym e)
-    (misses limits head m new vs ws found found a b c fault (shut.0, λ none. shut.1 (out none)) why)
+pub kept_misses : (is_over : Bool) (limits : Limits) (head : Head) (m n : Machine) (vs ws : List ℕ) (found : Option Step) (place : ℕ) (a b c : Reader) (fault : Fault) → is_over ≡ false → FindsFault limits m a fault b → IsLike b c → BreaksOff (coming_of is_over limits head m vs found place a) fault (coming_of is_over limits head n ws found place c)
+kept_misses is_over limits head m n vs ws found place a b c fault e finds like =
+    subst (λ (x : Bool). BreaksOff (coming_of x limits head m vs found place a) fault (coming_of x limits head n ws found place c)) (sym e) (go fault finds)
+  where
+    stops : StopsReading a b → StopsEvents (coming_of false limits head m vs found place a) (coming_of false limits head n ws found place c)
+    stops s = record { went = rw s.was_live refl; stopped = rw (like.live, s.failed) refl; head = refl; position = refl; pays = pays_like a b c like s.goes_on }
+
+    go : (f : Fault) → FindsFault limits m a f b → BreaksOff (coming_of false limits head m vs found place a) f (coming_of false limits head n ws found place c)
+    go (Refused reason bit) (s, told) = (stops s, told)
+    go Read s = record { went = rw s.was_live refl; stopped = rw (like.live, s.failed) refl; head = refl; position = refl; fails = rw (like.incoming, like.budget) s.fails }
+    go Memory s = stops s
+    go Failed h = absurd h
+    go Write h = h
+    go OutputTooLong h = h
+
+still : (live : Bool) → live ≡ true → stage_of false live ≡ failed → ⊥
+still true is e = cc
+still false is e = cc
+
+begun : (live : Bool) → stage_of false live ≡ over_stage → ⊥
+begun true e = cc
+begun false e = cc
 
 -- the input ends
-pub kept_ends : (is_over : Bool) (limits : Limits) (head : Head) (m : Machine) (vs : List ℕ) (found : Option Found) (a c : Reader) (outside : Bool) → is_over ≡ false → (outside ≡ true → vec_len m.frames ≡ 0)
-    → Shuts outside a (Ok true) c → EndsEvents (coming_of is_over limits head m vs found a.position a) (coming_of true limits head m vs None a.position c)
-kept_ends is_over limits head m vs found a c outside e out shut =
-    subst (λ (x : Bool). EndsEvents (coming_of x limits head m vs found a.position a) (coming_of true limits head m vs None a.position c)) (sym e)
-    (ends limits head m vs found a c (out shut.0) shut.1.stops.was_live shut.1)
-
-was_outside : (outside : Bool) (a : Reader) (fault : Fault) (c : Reader) → Shuts outside a (Err fault) c → outside ≡ true
-was_outside outside a (Refused reason bit) c h = h.0
-was_outside outside a Read c h = h.0
-was_outside outside a Memory c h = absurd h
-was_outside outside a Failed c h = absurd h
-was_outside outside a Write c h = absurd h
-was_outside outside a OutputTooLong c h = absurd h
-
--- the reader had not failed before
-pub shut_live : (outside : Bool) (a : Reader) (fault : Fault) (c : Reader) → Shuts outside a (Err fault) c → a.live ≡ true
-shut_live outside a (Refused reason bit) c h = h.1.was_live
-shut_live outside a Read c h = h.1.was_live
-shut_live outside a Memory c h = absurd h
-shut_live outside a Failed c h = absurd h
-shut_live outside a Write c h = absurd h
-shut_live outside a OutputTooLong c h = absurd h
-
--- outside of all blocks no event came
-pub kept_refuses : (is_over : Bool) (limits : Limits) (head : Head) (m : Machine) (vs : List ℕ) (found : Option Found) (a c : Reader) (outside : Bool) (fault : Fault) → is_over ≡ false → (outside ≡ true → vec_len m.frames ≡ 0)
-    → Shuts outside a (Err fault) c → BreaksOff (coming_of is_over limits head m vs found a.position a) fault (coming_of is_over limits head m vs found a.position c)
-kept_refuses is_over limits head m vs found a c outside fault e out shut =
-    let outside_so = was_outside outside a fault c shut in
-    subst (λ (x : Bool). BreaksOff (coming_of x limits head m vs found a.position a) fault (coming_of x limits head m vs found a.position c)) (sym e)
-    (refuses limits head m vs found a c fault (out outside_so) (subst (λ (o : Bool). Shuts o a (Err fault) c) outside_so shut))
+pub kept_ends : (is_over now_over : Bool) (limits : Limits) (head : Head) (m n : Machine) (vs ws : List ℕ) (found : Option Step) (place there : ℕ) (a b c : Reader) → is_over ≡ false → now_over ≡ true → place ≡ a.position → there ≡ place → FindsEnd limits m a n b → IsLike b c
+    → EndsEvents (coming_of is_over limits head m vs found place a) (coming_of now_over limits head n ws None there c)
+kept_ends is_over now_over limits head m n vs ws found place there a b c e now_e here is_there finds like =
+    subst (λ (x : Bool). EndsEvents (coming_of x limits head m vs found place a) (coming_of now_over limits head n ws None there c)) (sym e)
+    (subst (λ (x : Bool). EndsEvents (coming_of false limits head m vs found place a) (coming_of x limits head n ws None there c)) (sym now_e) record {
+      held_on = λ was. still a.live finds.stops.was_live was;
+      ends = refl;
+      again = λ was. absurd (begun a.live was);
+      pays = pays_like a b c like finds.stops.goes_on;
+      head = refl;
+      depth = finds.outside;
+      none_open = ap (λ (x : Machine). vec_len x.frames) finds.same ∙ finds.outside;
+      told = λ tells. (finds.told tells ∙ ap (λ (p : ℕ). ([], accepted p)) (sym (is_there ∙ here)), refl);
+      none = λ _ tells. rw like.incoming (finds.none tells);
+    })
 
 -- what holds where the input has ended
-pub closed : (m : Machine) (a c : Reader) (outside : Bool) (place : ℕ) → (outside ≡ true → vec_len m.frames ≡ 0) → Shuts outside a (Ok true) c → IsEvents true m None place c
-closed m a c outside place out shut = record {
-  stands = λ live. absurd (dead c.live live shut.1.stops.failed);
-  aligned = λ live. absurd (dead c.live live shut.1.stops.failed);
-  closed = λ _. record { frames = out shut.0; last = refl };
+pub closed : {limits : Limits} (m n : Machine) (a b : Reader) (place : ℕ) → FindsEnd limits m a n b → IsEvents true n None place b
+closed m n a b place finds = record {
+  stands = λ live. absurd (dead b.live live finds.stops.failed);
+  aligned = λ live. absurd (dead b.live live finds.stops.failed);
+  closed = λ _. record { frames = ap (λ (x : Machine). vec_len x.frames) finds.same ∙ finds.outside; last = refl };
 }

@@ -1,6 +1,5 @@
 -- Records that are in sight, gathered one after the other.
 use Rattle.std.proofs.Common.{◌≡◌, ℕ, ◌+◌, ◌-◌, ◌<◌, ◌≤◌, Bool, List, [], ◌∷◌, ◌++◌, length, drop, None, Option, Result, Ok, Err, refl, sym, ap, subst, ◌∙◌, arith, append_assoc, length-append, vec_len, get_or, suc}
-use Rattle.std.specs.Prelude.{IfOk}
 use Rattle.std.proofs.lemmas.List.{drop_at}
 use Rattle.bit_grammar.specs.Grammar as grammar
 use Rattle.bit_grammar.specs.Grammar.{Grammar, gives, ◌>>=◌, reading}
@@ -25,11 +24,13 @@ use Rattle.bit_abbrev.proofs.Buffered.{took_at}
 use Rattle.bit_events.specs.declared.frame.Frame.{Frame}
 use Rattle.bit_events.specs.declared.machine.Machine.{Machine}
 use Rattle.bit_events.specs.FrameView.{frame_shown, frames_shown, info_shown}
-use Rattle.bit_events.specs.Folding.{left_to_tell, GathersSome, TakesRun}
+use Rattle.bit_events.specs.Folding.{GathersSome, TakesRun}
+use Rattle.bit_events.specs.Next.{left_to_tell}
 use Rattle.bit_events.specs.Gathering.{Gathers}
 use Rattle.bit_events.specs.MachineView.{handed_shown, machine_shown, record_of, record_rule, LeavesMachine}
 use Rattle.bit_events.specs.Runs.{AddsBehind, ReadsTo, after_record, Passed, GathersTo, GathersRun}
-use Rattle.bit_events.proofs.Folds.{in_block, none_yet, one_event, some_then, step_missed}
+use Rattle.bit_events.proofs.Advancing.{finds_event, finds_fault}
+use Rattle.bit_events.proofs.Folds.{in_block, none_yet, one_event, some_then, none_found}
 use Rattle.bit_events.proofs.Framing.{none_described, plain_entry, short_entry}
 use Rattle.bit_events.proofs.Framing as framing
 use Rattle.bit_events.proofs.Stepping.{in_then, innermost, after_record as record_follows, record_took, other_than, length-frames}
@@ -83,11 +84,6 @@ held_seen limit m k f shown outer room first id code list after used a n is spli
     rw (more, split, ← reads.1) (took_glimpsed (record_rule limit shown outer first id (handed_shown m)) a (record_of id list first (code, reads.0.position), after_record shown outer (handed_shown m) list) reads.0
     (rule_seen limit shown outer (handed_shown m) first id code list a reads.0 plain read))
 
--- what a call leaves after one that took nothing
-pub leaves_after : (deepest : ℕ) (old : Machine) (a b : Reader) (event : (ℕ × ℕ) → Event) (new : Machine) (c : Reader) (result : Result (ℕ × ℕ) Fault) → TookNothing a b → IfOk result (λ read. LeavesMachine deepest old b (event read) new c) → IfOk result (λ read. LeavesMachine deepest old a (event read) new c)
-leaves_after deepest old a b event new c (Ok read) nothing left = record { stands = left.stands; opens = left.opens; forward = omega (arith, nothing.forward, left.forward); aligned = left.aligned; holds = left.holds }
-leaves_after deepest old a b event new c (Err fault) nothing left = tt
-
 -- what was not asked for a bit did not break a rule
 pub nothing_missed : {A : Type 0} (rule : Grammar A) (a : Reader) (fault : Fault) (b : Reader) → Why (gives (tt {0})) a fault b → Why rule a fault b
 nothing_missed rule a fault b w = same_reading (gives (tt {0}) >>= λ v. rule) rule a (Err fault) b (λ p r. refl) (fault_then (gives (tt {0})) (λ v. rule) a fault b w)
@@ -98,7 +94,7 @@ added_behind rule room a code b before after h = (h.0.0, h.0.1, (omega (arith, h
 
 -- ---- several
 
-advanced_both : (r : Reader) (n m k : ℕ) → n + m ≡ k → reader_further (reader_further r n) m ≡ reader_further r k
+pub advanced_both : (r : Reader) (n m k : ℕ) → n + m ≡ k → reader_further (reader_further r n) m ≡ reader_further r k
 advanced_both r n m k all =
     let place : r.position + n + m ≡ r.position + k = omega (arith, all) in
     rw (place, drop_more n m r.left, all) refl
@@ -128,18 +124,21 @@ one_seen : {G : Type 0} (gathered : G → List Event → G → Type 0) (limits :
     → Sees r b → Glimpsed (step_of limits (f ∷ outer) (machine_shown m).handed) b (record_of id list b.position (code, c.position), after_record f outer (machine_shown m).handed list) c → Gathers gathered g (record_of id list b.position (code, c.position)) h
     → GathersSome gathered limits m r g n (reader_further r (c.position - b.position)) h
 one_seen gathered limits m n outer f g h id code list r b c split same made forward sees seen gathers =
-    one_event gathered limits m r r g n (reader_further r (c.position - b.position)) h (in_block m r sees.live some) (record { event = event; took = took; leaves = leaves; gathers = gathers })
+    one_event gathered limits m r g event n after h (finds_event limits m n event r r after (in_block m r sees.live some) took leaves) gathers
   where
     event : Event
     event = record_of id list b.position (code, c.position)
 
+    after : Reader
+    after = reader_further r (c.position - b.position)
+
     some : 0 < vec_len m.frames
     some = omega (arith, m.frames.ok.0, length-frames m.frames.items, ap length split)
 
-    took : Took (step_of limits (machine_shown m).frames (machine_shown m).handed) r (event, machine_shown n) (reader_further r (c.position - b.position))
+    took : Took (step_of limits (machine_shown m).frames (machine_shown m).handed) r (event, machine_shown n) after
     took = rw (split, made) (seen_took (step_of limits (f ∷ outer) (machine_shown m).handed) r b (event, after_record f outer (machine_shown m).handed list) c sees seen).0
 
-    leaves : LeavesMachine limits.depth m r event n (reader_further r (c.position - b.position))
+    leaves : LeavesMachine limits.depth m r event n after
     leaves = record { stands = some; opens = ap vec_len same; forward = omega arith; aligned = λ none. absurd (omega (arith, some, none, ap vec_len same)); holds = tt }
 
 -- one more
@@ -227,4 +226,4 @@ run_gathered gathered limits f m outer a g b sight used after h result c split n
 
     go : (result : Result (Unit {0}) Fault) → Takes (any_bits (run.0.position - sight.position)) a result c → TakesRun gathered limits m a g result (record m { used = used }) c h
     go (Ok x) t = run_taken gathered limits m a g (record m { used = used }) h sight run.0 c some run.2.passed sees (run.2.gathers m outer a split refl sees).0 t
-    go (Err fault) t = step_missed limits m a a fault c (in_block m a nothing.was_live some) (not_caught_up (any_bits (run.0.position - sight.position)) a sight tt run.0 fault c (step limits (machine_shown m)) sees (any_seen sight run.0 run.2.passed) t)
+    go (Err fault) t = none_found limits m a fault c (finds_fault limits m a a fault c (in_block m a nothing.was_live some) (not_caught_up (any_bits (run.0.position - sight.position)) a sight tt run.0 fault c (step limits (machine_shown m)) sees (any_seen sight run.0 run.2.passed) t))

@@ -1,6 +1,6 @@
 -- One step of the machine: what its parts take, by the rule for a step.
-use Rattle.std.proofs.Common.{◌≡◌, ℕ, zero, suc, ◌+◌, ◌<◌, ◌≤◌, Bool, true, false, not, is_some, eqb, ltb, List, [], ◌∷◌, ◌++◌, length, get_or, take, set, Option, Some, None, Result, Ok, IsSome, is_none, refl, sym, ap, ◌∙◌, subst, arith}
-use Rattle.std.specs.Prelude.{unwrap_or}
+use Rattle.std.proofs.Common.{◌≡◌, ℕ, zero, suc, ◌+◌, ◌<◌, ◌≤◌, Bool, true, false, not, is_some, eqb, ltb, List, [], ◌∷◌, ◌++◌, length, get_or, take, set, Option, Some, None, Result, Ok, Err, IsSome, is_none, refl, sym, ap, ◌∙◌, subst, arith}
+use Rattle.std.specs.Prelude.{unwrap_or, IfOk, OnOk}
 use Rattle.std.proofs.lemmas.Bool.{ne_eqb}
 use Rattle.bit_grammar.specs.declared.shapes.Shapes.{Shapes}
 use Rattle.bit_grammar.specs.declared.op.Op.{Op}
@@ -15,14 +15,15 @@ use Rattle.bit_grammar.specs.Machine.{Event, enters, defines, notes, leaves, sco
 use Rattle.bit_fields.specs.declared.fault.Fault.{Fault}
 use Rattle.bit_fields.specs.declared.fault.Fault.TheVariants.{Memory}
 use Rattle.bit_fields.specs.Reader.{Reader, Took, Why, Takes, failed_reader}
-use Rattle.bit_events.specs.declared.head.BlockHead.{BlockHead}
 use Rattle.bit_events.specs.declared.frame.Frame.{Frame}
 use Rattle.bit_events.specs.declared.frame.Describing.{Describing}
 use Rattle.bit_events.specs.declared.machine.Machine.{Machine}
-use Rattle.bit_events.specs.declared.machine.Aside.TheVariants.{Define}
+use Rattle.bit_events.specs.declared.machine.Step.{Step}
+use Rattle.bit_events.specs.declared.machine.Step.TheVariants.{Define}
+use Rattle.bit_events.specs.declared.machine.Step.TheVariants as found
 use Rattle.bit_events.specs.HeadView.{head_shown}
 use Rattle.bit_events.specs.FrameView.{info_shown, frame_shown, newest_in, frames_onto, frames_shown}
-use Rattle.bit_events.specs.MachineView.{newest, aside_shown, innermost_head, HoldsDefinition, end_rule, define_rule, record_rule}
+use Rattle.bit_events.specs.MachineView.{newest, step_shown, KeepsValues, innermost_head, HoldsDefinition, LeavesMachine, end_rule, define_rule, record_rule}
 use Rattle.bit_events.proofs.Telling.{told, why, answers, andThen, breaks, ends, here, first_rule, second_rule, without_memory}
 
 -- ---- the open blocks
@@ -262,10 +263,6 @@ held_end_took frames others f shown outer handed a after b c new is split t same
 pub head_held : (frames : List Frame) (k : ℕ) (f : Frame) → length frames ≡ suc k → f ≡ get_or frames k f → Some (head_shown f.head) ≡ innermost_head (frames_shown frames)
 head_held frames k f n is = sym (ap innermost_head (frames-some frames k f n is))
 
--- another block with the same head in its place keeps it
-pub head_kept : (frames : List Frame) (k : ℕ) (f new : Frame) → length frames ≡ suc k → f ≡ get_or frames k f → new.head ≡ f.head → innermost_head (frames_shown (set frames k new)) ≡ innermost_head (frames_shown frames)
-head_kept frames k f new n is same = ap innermost_head (frames_onto-set frames k new [] n) ∙ ap (λ (h : BlockHead). Some (head_shown h)) same ∙ head_held frames k f n is
-
 -- a block stands first where its head is known
 pub record Innermost (frames : List machine.Frame) (head : blocks.BlockHead) : Type 0 where
   pub f : machine.Frame
@@ -283,5 +280,27 @@ newest_some : (o : Option (List Op)) → IsSome o → o ≡ Some (unwrap_or o []
 newest_some None some = absurd cc
 newest_some (Some ops) some = refl
 
-pub definition_held : (m : Machine) (first after : ℕ) → IsSome (newest (frames_shown m.frames.items)) → HoldsDefinition m (aside_shown m (Define first after))
-definition_held m first after some = newest_some (newest (frames_shown m.frames.items)) some
+pub definition_held : (m : Machine) (list : List ℕ) (first after : ℕ) → IsSome (newest (frames_shown m.frames.items)) → HoldsDefinition m (step_shown m list (Define first after))
+definition_held m list first after some = newest_some (newest (frames_shown m.frames.items)) some
+
+-- what a call leaves that began further on
+pub left_later : {X : Type 0} (deepest : ℕ) (old : Machine) (a b : Reader) (event : X → Event) (new : Machine) (c : Reader) (result : Result X Fault) → a.position ≤ b.position → IfOk result (λ x. LeavesMachine deepest old b (event x) new c) → IfOk result (λ x. LeavesMachine deepest old a (event x) new c)
+left_later deepest old a b event new c (Ok x) forward left = record { stands = left.stands; opens = left.opens; forward = omega (arith, forward, left.forward); aligned = left.aligned; holds = left.holds }
+left_later deepest old a b event new c (Err fault) forward left = tt
+
+pub moved_later : {X : Type 0} (deepest : ℕ) (old : Machine) (a b : Reader) (event : X → Event) (new : Machine) (c : Reader) (result : Result X Fault) → a.position < b.position → IfOk result (λ x. LeavesMachine deepest old b (event x) new c) → OnOk result (a.position < c.position)
+moved_later deepest old a b event new c (Ok x) forward left = omega (arith, forward, left.forward)
+moved_later deepest old a b event new c (Err fault) forward left = tt
+
+-- ---- what takes values
+
+-- what was not asked is kept
+kept : {V : Type 0} (v : V) (step : Step) → KeepsValues step v v
+kept v (found.Enter id width first body) = refl
+kept v (found.Define first after) = refl
+kept v (found.Record head) = tt
+kept v (found.Leave after) = refl
+
+pub kept_alone : {V : Type 0} (v : V) (result : Result Step Fault) → IfOk result (λ step. KeepsValues step v v)
+kept_alone v (Ok step) = kept v step
+kept_alone v (Err fault) = tt

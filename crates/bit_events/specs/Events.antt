@@ -15,10 +15,10 @@ use Rattle.bit_fields.specs.Reader.{Reader, TellsBytes, StopsReading, Loses}
 use Rattle.bit_fields.specs.Ending.{Stays}
 use Rattle.bit_fields.specs.Opening.{head_told}
 use Rattle.bit_events.specs.declared.event.Event.{Event}
-use Rattle.bit_events.specs.declared.machine.Found.{Found}
+use Rattle.bit_events.specs.declared.machine.Step.{Step}
 use Rattle.bit_events.specs.declared.machine.Machine.{Machine}
 use Rattle.bit_events.specs.EventView.{lent, shown_if_any}
-use Rattle.bit_events.specs.MachineView.{machine_shown, found_lent}
+use Rattle.bit_events.specs.MachineView.{machine_shown, step_lent}
 use Rattle.bit_events.specs.Coming.{Stage, going, over, failed, Coming, end_at, told_of, Goes}
 
 -- ---- what the program keeps
@@ -32,11 +32,11 @@ abbrev pub told_from : (is_over : Bool) → Limits → Machine → (place : ℕ)
 told_from true limits m place r = ([], accepted place)
 told_from false limits m place r = told_of limits r.extent (machine_shown m) r.position r.left
 
-abbrev pub last_of : Machine → List ℕ → Option Found → Option machine.Event
+abbrev pub last_of : Machine → List ℕ → Option Step → Option machine.Event
 last_of m values None = None
-last_of m values (Some found) = found_lent m values found
+last_of m values (Some step) = step_lent m values step
 
-abbrev pub coming_of : (is_over : Bool) → Limits → Head → Machine → (values : List ℕ) → Option Found
+abbrev pub coming_of : (is_over : Bool) → Limits → Head → Machine → (values : List ℕ) → Option Step
     → (place : ℕ) → Reader → Coming
 coming_of is_over limits head m values found place r = record {
   stage = stage_of is_over r.live;
@@ -52,12 +52,12 @@ coming_of is_over limits head m values found place r = record {
 }
 
 -- no block is open, and no event is kept, where the whole input was accepted
-pub record IsClosed (m : Machine) (found : Option Found) : Type 0 where
+pub record IsClosed (m : Machine) (found : Option Step) : Type 0 where
   pub frames : vec_len m.frames ≡ 0
   pub last : found ≡ None
 
 -- what holds between calls: the reader stands behind the last event, and outside of all blocks at a byte
-pub record IsEvents (is_over : Bool) (m : Machine) (found : Option Found) (place : ℕ)
+pub record IsEvents (is_over : Bool) (m : Machine) (found : Option Step) (place : ℕ)
     (r : Reader) : Type 0 where
   pub stands : r.live ≡ true → place ≡ r.position
   pub aligned : r.live ≡ true → vec_len m.frames ≡ 0 → r.position % 8 ≡ 0

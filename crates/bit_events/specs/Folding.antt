@@ -1,44 +1,18 @@
 -- Reading an input into what gathers its events.
-use Rattle.std.specs.Prelude.{◌≡◌, ℕ, ◌<◌, ◌≤◌, ◌%◌, true, List, [], ◌++◌, vec_len, Result, Ok, Err}
-use Rattle.bit_grammar.specs.Grammar.{Grammar, at}
+use Rattle.std.specs.Prelude.{◌≡◌, ℕ, ◌<◌, ◌≤◌, ◌%◌, Bool, true, false, List, [], ◌++◌, vec_len, Result, Ok, Err}
+use Rattle.bit_grammar.specs.Grammar.{at}
 use Rattle.bit_grammar.specs.Blocks.{Limits}
 use Rattle.bit_grammar.specs.Input.{SpellsInput}
 use Rattle.bit_grammar.specs.Terms.{Head, Marked}
 use Rattle.bit_grammar.specs.Normal.{Capped}
-use Rattle.bit_grammar.specs.Machine as machine
-use Rattle.bit_grammar.specs.Machine.{Event, flat, accepted, broke, Told}
+use Rattle.bit_grammar.specs.Machine.{Event, flat, accepted, broke}
 use Rattle.bit_fields.specs.declared.fault.Fault.{Fault}
 use Rattle.bit_fields.specs.declared.fault.Fault.TheVariants.{Refused, Read, Write, Memory, OutputTooLong, Failed}
 use Rattle.bit_fields.specs.Devices.{Fails, known_bytes}
-use Rattle.bit_fields.specs.Reader.{Reader, TellsBytes, GoesOn, Took, Why}
+use Rattle.bit_fields.specs.Reader.{Reader, TellsBytes, GoesOn}
 use Rattle.bit_events.specs.declared.machine.Machine.{Machine}
-use Rattle.bit_events.specs.Coming.{told_of}
-use Rattle.bit_events.specs.Gathering.{left_open, Gathers}
-use Rattle.bit_events.specs.MachineView.{machine_shown, LeavesMachine}
-
--- the events to come, and their end, of what is left of a stream
-abbrev pub left_to_tell : Limits → Machine → Reader → Told
-left_to_tell limits m r = told_of limits r.extent (machine_shown m) r.position r.left
-
--- ---- one event
-
--- an event was read by this rule, and gathered
-pub record GathersOne {G : Type 0} (gathered : G → List Event → G → Type 0) (deepest : ℕ)
-    (rule : Grammar (Event × machine.Machine)) (m : Machine) (a : Reader) (g : G) (n : Machine)
-    (b : Reader) (h : G) : Type 0 where
-  pub event : Event
-  pub took : Took rule a (event, machine_shown n) b
-  pub leaves : LeavesMachine deepest m a event n b
-  pub gathers : Gathers gathered g event h
-
--- reading an event by this rule, and gathering it
-abbrev pub TakesOne : {G : Type 0} → (G → List Event → G → Type 0) → (deepest : ℕ)
-    → Grammar (Event × machine.Machine) → Machine → Reader → G → Result (Unit {0}) Fault → Machine
-    → Reader → G → Type 0
-TakesOne gathered deepest rule m a g (Ok _) n b h = GathersOne gathered deepest rule m a g n b h
-TakesOne gathered deepest rule m a g (Err fault) n b h = Why rule a fault b
-
--- ---- several
+use Rattle.bit_events.specs.Gathering.{left_open}
+use Rattle.bit_events.specs.Next.{left_to_tell}
 
 -- these events came and were gathered, and others are left
 pub record GathersSome {G : Type 0} (gathered : G → List Event → G → Type 0) (limits : Limits)
@@ -75,17 +49,19 @@ MissesEvents limits m a Failed b = ⊥
 MissesEvents limits m a Write b = ⊥
 MissesEvents limits m a OutputTooLong b = ⊥
 
-abbrev pub TakesSome : {G : Type 0} → (G → List Event → G → Type 0) → Limits → Machine → Reader → G
-    → Result (Unit {0}) Fault → Machine → Reader → G → Type 0
-TakesSome gathered limits m a g (Ok _) n b h = GathersSome gathered limits m a g n b h
-    × (a.position < b.position)
-TakesSome gathered limits m a g (Err fault) n b h = MissesEvents limits m a fault b
-
 -- a run of records that came and were gathered, possibly none
 abbrev pub TakesRun : {G : Type 0} → (G → List Event → G → Type 0) → Limits → Machine → Reader → G
     → Result (Unit {0}) Fault → Machine → Reader → G → Type 0
 TakesRun gathered limits m a g (Ok _) n b h = GathersSome gathered limits m a g n b h
 TakesRun gathered limits m a g (Err fault) n b h = MissesEvents limits m a fault b
+
+-- one more event came and was gathered, or none was left
+abbrev pub TakesNext : {G : Type 0} → (G → List Event → G → Type 0) → Limits → Machine → Reader → G
+    → Result Bool Fault → Machine → Reader → G → Type 0
+TakesNext gathered limits m a g (Ok true) n b h = GathersSome gathered limits m a g n b h
+    × (a.position < b.position)
+TakesNext gathered limits m a g (Ok false) n b h = GathersAll gathered limits m a g b h
+TakesNext gathered limits m a g (Err fault) n b h = MissesEvents limits m a fault b
 
 abbrev pub TakesAll : {G : Type 0} → (G → List Event → G → Type 0) → Limits → Machine → Reader → G
     → Result (Unit {0}) Fault → Reader → G → Type 0

@@ -4,6 +4,7 @@ pub mod Events
 pub mod FrameView
 pub mod HeadView
 pub mod MachineView
+pub mod Next
 pub mod Reading
 pub mod Gathering
 pub mod Folding

@@ -12,10 +12,8 @@ use Rattle.bit_fields.specs.Reader.{Reader}
 use Rattle.bit_abbrev.specs.Table.{definitions_at}
 use Rattle.bit_events.specs.FrameView.{newest_in, frames_shown}
 use Rattle.bit_events.specs.declared.machine.Machine.{Machine}
-use Rattle.bit_events.specs.declared.machine.Aside.{Aside}
-use Rattle.bit_events.specs.declared.machine.Aside.TheVariants.{Enter, Define, Leave}
-use Rattle.bit_events.specs.declared.machine.Found.{Found}
-use Rattle.bit_events.specs.declared.machine.Found.TheVariants as found
+use Rattle.bit_events.specs.declared.machine.Step.{Step}
+use Rattle.bit_events.specs.declared.machine.Step.TheVariants as found
 
 abbrev pub handed_shown : Machine → Handed
 handed_shown m = record { table = definitions_at m.table; used = m.used }
@@ -38,41 +36,36 @@ abbrev pub record_of : (id : ℕ) → List ℕ → (first : ℕ) → (read : ℕ
 record_of id values first read = notes (record
     { abbreviation = id; code = read.0; values = values; first = first; after = read.1 })
 
--- an event that is no record, where a definition is the machine's newest one
-abbrev pub aside_shown : Machine → Aside → Event
-aside_shown m (Enter id width first body) = enters
+-- what a step found, with these values of a record; a definition is the machine's newest one
+abbrev pub step_shown : Machine → List ℕ → Step → Event
+step_shown m values (found.Enter id width first body) = enters
     (record { id = id; width = width; first = first; body = body })
-aside_shown m (Define first after) = definition_of first after
+step_shown m values (found.Define first after) = definition_of first after
     (unwrap_or (newest (frames_shown m.frames.items)) [])
-aside_shown m (Leave after) = leaves after
+step_shown m values (found.Record head) = record_of head.«abbrev» values head.first
+    (head.code, head.after)
+step_shown m values (found.Leave after) = leaves after
 
--- an event that was found, with these values
-abbrev pub found_shown : Machine → List ℕ → Found → Event
-found_shown m values (found.Aside aside) = aside_shown m aside
-found_shown m values (found.Record id code first after) = record_of id values first (code, after)
-
--- the same as they are lent, where the machine has what belongs to them
-abbrev pub aside_lent : Machine → Aside → Option Event
-aside_lent m (Define first after) = option_map (definition_of first after)
+-- the same as it is lent, where the machine has what belongs to it
+abbrev pub step_lent : Machine → List ℕ → Step → Option Event
+step_lent m values (found.Define first after) = option_map (definition_of first after)
     (newest (frames_shown m.frames.items))
-aside_lent m aside = Some (aside_shown m aside)
-
-abbrev pub found_lent : Machine → List ℕ → Found → Option Event
-found_lent m values (found.Aside aside) = aside_lent m aside
-found_lent m values f = Some (found_shown m values f)
+step_lent m values step = Some (step_shown m values step)
 
 -- an event, and the machine after it
-abbrev pub after_aside : Machine → Aside → Event × machine.Machine
-after_aside m aside = (aside_shown m aside, machine_shown m)
-
-abbrev pub after_found : Machine → List ℕ → Found → Event × machine.Machine
-after_found m values f = (found_shown m values f, machine_shown m)
+abbrev pub after_step : Machine → List ℕ → Step → Event × machine.Machine
+after_step m values step = (step_shown m values step, machine_shown m)
 
 -- ---- values
 
 -- it took some values
 abbrev pub TookSome : {V : Type 0} → (took : V → List ℕ → Type 0) → V → Type 0
 TookSome took taker = (values : List ℕ) × took taker values
+
+-- a step that found no record leaves what takes values as it was
+abbrev pub KeepsValues : {V : Type 0} → Step → (old new : V) → Type 0
+KeepsValues (found.Record head) old new = Unit {0}
+KeepsValues step old new = new ≡ old
 
 -- ---- what an event leaves
 

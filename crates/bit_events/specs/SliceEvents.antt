@@ -2,7 +2,7 @@
 use Rattle.std.specs.Prelude.{◌≡◌, ◌-◌, ◌%◌, ◌≤◌, Bool, true, Option, vec_len, length}
 use Rattle.bit_fields.specs.Ahead.{InSight, Sees, reader_further}
 use Rattle.bit_fields.specs.Reader.{Reader, TellsBytes}
-use Rattle.bit_events.specs.declared.machine.Found.{Found}
+use Rattle.bit_events.specs.declared.machine.Step.{Step}
 use Rattle.bit_events.specs.declared.machine.Machine.{Machine}
 use Rattle.bit_events.specs.Events.{IsClosed}
 
@@ -12,7 +12,7 @@ reader_seen r a = reader_further r (a.position - r.position)
 
 -- what holds between calls: a reader that has not failed would see what comes behind the events so far, and outside of all blocks
 -- that begins at a byte
-pub record SeesEvents (is_over : Bool) (m : Machine) (found : Option Found) (r : Reader)
+pub record SeesEvents (is_over : Bool) (m : Machine) (found : Option Step) (r : Reader)
     (a : InSight) : Type 0 where
   pub behind : r.live ≡ true → r.position ≤ a.position
   pub there : r.live ≡ true → TellsBytes r → a.position - r.position ≤ length r.left

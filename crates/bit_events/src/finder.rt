@@ -8,7 +8,7 @@ ghost use Rattle.bit_events.specs.EventView.{shown_if_any};
 ghost use Rattle.bit_events.specs.Events.{Finds, LendsAs, Shuts, Begun, DeclinesEvents};
 
 use crate::event::Event;
-use crate::machine::{Found, Machine};
+use crate::machine::{Machine, Step};
 use crate::with_first::WithFirst;
 use bit_fields::{BitReader, Fault, Head, Limits, PackedValues, Source, ValueKeeper};
 use std::alloc::Global;
@@ -28,7 +28,7 @@ pub struct EventFinder<S: Source, V: ValueKeeper> {
     /// The values of the record that was found last.
     values: WithFirst<V>,
     /// The event that was found last.
-    found: Option<Found>,
+    found: Option<Step>,
     /// The bit behind that event, or behind the head where none was found yet.
     reached: u64,
     /// The whole input is accepted.
@@ -45,36 +45,6 @@ impl<S: Source, V: ValueKeeper> Model for EventFinder<S, V> {
         e.reached e.reader };
 
     ghost invariant = { λ e. IsEvents e.over e.machine e.found e.reached e.reader };
-}
-
-/// Outside of all blocks: whether the stream has no byte left, and then whether its whole input is accepted.
-#[cold]
-#[inline(never)]
-fn shuts_outside<S: Source>(reader: &mut BitReader<S>) -> Result<bool, Fault>
-    requires live { reader.old.live ≡ true }
-    requires aligned { reader.old.position % 8 ≡ 0 }
-    ensures { Shuts true reader.old result reader.new }
-{
-    // Here the position and the bits that are left reach as far as the stream and the limit on bytes.
-    let _position = reader.position();
-    if !reader.at_end()? {
-        return Ok(false);
-    }
-    reader.close()?;
-    Ok(true)
-}
-
-/// The same where a block may be open, which shuts nothing.
-#[inline(always)]
-pub(crate) fn shuts<S: Source>(reader: &mut BitReader<S>, outside: bool) -> Result<bool, Fault>
-    requires live { reader.old.live ≡ true }
-    requires aligned { outside ≡ true → reader.old.position % 8 ≡ 0 }
-    ensures { Shuts outside reader.old result reader.new }
-{
-    if !outside {
-        return Ok(false);
-    }
-    shuts_outside(reader)
 }
 
 impl<S: Source, V: ValueKeeper> EventFinder<S, V> {
@@ -144,13 +114,7 @@ impl<S: Source, V: ValueKeeper> EventFinder<S, V> {
         if !self.reader.is_live() {
             return Err(Fault::Failed);
         }
-        let outside = self.machine.is_outside();
-        if shuts(&mut self.reader, outside)? {
-            self.found = None;
-            self.over = true;
-            return Ok(());
-        }
-        let found = self.machine.step(
+        self.found = self.machine.next(
             self.alloc,
             &mut self.reader,
             &self.limits,
@@ -158,7 +122,7 @@ impl<S: Source, V: ValueKeeper> EventFinder<S, V> {
         )?;
         // Positions are below 2^64 and rise, so that the events end.
         self.reached = self.reader.position();
-        self.found = Some(found);
+        self.over = self.found.is_none();
         Ok(())
     }
 

@@ -1,21 +1,15 @@
 //! Reading a whole input into what gathers its events.
 
-ghost use Rattle.std.specs.Prelude.{◌≡◌, ◌<◌, ◌≤◌, ◌%◌, true, ℕ, List, [], ◌∷◌, OnOk, IfOk, vec_len};
-ghost use Rattle.bit_grammar.specs.Machine as machine;
-ghost use Rattle.bit_grammar.specs.Machine.{scope_of, step_after, step_top};
+ghost use Rattle.std.specs.Prelude.{◌≡◌, ◌%◌, true, ℕ, List, [], OnOk, IfOk, vec_len};
 ghost use Rattle.bit_fields.specs.Opening.{head_told};
-ghost use Rattle.bit_events.specs.Folding.{TakesOne, TakesRun, TakesSome, TakesAll, Gathered, GatheredSome};
-ghost use Rattle.bit_events.specs.FrameView.{frames_shown};
+ghost use Rattle.bit_events.specs.Folding.{TakesRun, TakesNext, TakesAll, Gathered, GatheredSome};
 ghost use Rattle.bit_events.specs.Gathering.{Gathers};
-ghost use Rattle.bit_events.specs.HeadView.{head_shown};
-ghost use Rattle.bit_events.specs.MachineView.{aside_shown, handed_shown, innermost_head, record_rule, HoldsDefinition, TookSome};
+ghost use Rattle.bit_events.specs.MachineView.{step_shown, HoldsDefinition, TookSome};
 ghost use Rattle.bit_events.specs.Reading.{ReadsWhole};
 
-use crate::finder::shuts;
 use crate::gatherer::Gatherer;
-use crate::head::BlockHead;
 use crate::heads::or_memory_fault;
-use crate::machine::{Aside, Machine};
+use crate::machine::{Machine, Step};
 use crate::running::gather_records;
 use crate::with_first::WithFirst;
 use bit_fields::{Ahead, BitReader, Fault, Head, Limits, Source};
@@ -37,110 +31,51 @@ struct Folding<S: Source, G: Gatherer> {
     gatherer: G,
 }
 
-/// Hands on what was found that is no record.
-fn hand_on<G: Gatherer>(gatherer: &mut G, machine: &Machine, aside: Aside) -> Result<(), AllocError>
-    requires { HoldsDefinition machine.now (aside_shown machine.now aside) }
-    ensures { OnOk result (Gathers G.gathered gatherer.old (aside_shown machine.now aside)
-        gatherer.new) }
+/// Hands on what a step found, and the values of a record.
+fn hand_on<G: Gatherer>(
+    gatherer: &mut G,
+    machine: &Machine,
+    step: Step,
+    values: &mut G::Values,
+) -> Result<(), AllocError>
+    requires holds { HoldsDefinition machine.now (step_shown machine.now [] step) }
+    requires took { TookSome G.Values.took values.old }
+    ensures gathers { OnOk result ((list : List ℕ) → G.Values.took values.old list
+        → Gathers G.gathered gatherer.old (step_shown machine.now list step) gatherer.new) }
+    ensures took { TookSome G.Values.took values.new }
 {
-    match aside {
-        Aside::Enter {
+    match step {
+        Step::Enter {
             id,
             width,
             first,
             body,
         } => gatherer.enter(id, width, first, body),
-        Aside::Define { first, after } => match machine.newest() {
+        Step::Define { first, after } => match machine.newest() {
             Some(abbrev) => gatherer.define(abbrev, first, after),
             None => unreachable!(),
         },
-        Aside::Leave { after } => gatherer.leave(after),
+        Step::Record(head) => gatherer.record(
+            head.abbrev,
+            head.code,
+            values,
+            head.first,
+            head.after,
+        ),
+        Step::Leave { after } => gatherer.leave(after),
     }
 }
 
 impl<S: Source, G: Gatherer> Folding<S, G> {
-    /// Gathers a record of the innermost block, after its id, which began at a bit.
-    #[inline]
-    fn gather_record(
-        &mut self,
-        limits: &Limits,
-        id: u32,
-        first: u64,
-        values: &mut WithFirst<G::Values>,
-    ) -> Result<(), Fault>
-        requires live { self.old.reader.live ≡ true }
-        requires some { 0 < vec_len self.old.machine.frames }
-        requires id { 3 ≤ id }
-        requires took { TookSome G.Values.took values.old.taker }
-        ensures took { TookSome G.Values.took values.new.taker }
-        ensures takes { (f : machine.Frame) (outer : List machine.Frame)
-            → frames_shown self.old.machine.frames.items ≡ f ∷ outer
-            → TakesOne G.gathered limits.now.depth
-            (record_rule limits.now.values f outer first id (handed_shown self.old.machine))
-            self.old.machine self.old.reader self.old.gatherer result self.new.machine
-            self.new.reader self.new.gatherer }
-        ensures head { OnOk result (innermost_head (frames_shown self.new.machine.frames.items)
-            ≡ innermost_head (frames_shown self.old.machine.frames.items)) }
-    {
-        let (code, after) = self
-            .machine
-            .note(&mut self.reader, limits, id, first, values)?;
-        let done = self
-            .gatherer
-            .record(id, code, &mut values.taker, first, after);
-        or_memory_fault(&mut self.reader, done)
-    }
-
-    /// Gathers what is no record in the innermost block, after its id, which began at a bit.
-    #[cold]
-    #[inline(never)]
-    fn gather_aside(
-        &mut self,
-        alloc: Global,
-        limits: &Limits,
-        id: u64,
-        first: u64,
-    ) -> Result<(), Fault>
-        requires live { self.old.reader.live ≡ true }
-        requires some { 0 < vec_len self.old.machine.frames }
-        requires id { id < 3 }
-        ensures { (f : machine.Frame) (outer : List machine.Frame)
-            → frames_shown self.old.machine.frames.items ≡ f ∷ outer
-            → TakesOne G.gathered limits.now.depth
-            (step_after limits.now f.head outer first (scope_of f (handed_shown self.old.machine))
-            id) self.old.machine self.old.reader self.old.gatherer result self.new.machine
-            self.new.reader self.new.gatherer }
-    {
-        let aside = self
-            .machine
-            .step_aside(alloc, &mut self.reader, limits, id, first)?;
-        let done = hand_on(&mut self.gatherer, &self.machine, aside);
-        or_memory_fault(&mut self.reader, done)
-    }
-
-    /// Gathers the beginning of a block at the top.
-    fn gather_top(&mut self, alloc: Global, limits: &Limits) -> Result<(), Fault>
-        requires { vec_len self.old.machine.frames ≡ 0 }
-        ensures takes { TakesOne G.gathered limits.now.depth
-            (step_top limits.now (handed_shown self.old.machine)) self.old.machine self.old.reader
-            self.old.gatherer result self.new.machine self.new.reader self.new.gatherer }
-        ensures moves { OnOk result (self.old.reader.position < self.new.reader.position) }
-    {
-        let aside = self.machine.step_top(alloc, &mut self.reader, limits)?;
-        let done = hand_on(&mut self.gatherer, &self.machine, aside);
-        or_memory_fault(&mut self.reader, done)
-    }
-
     /// Gathers records of the innermost block that lie in memory whole, possibly none. Those of a BLOCKINFO block, each of which
     /// may tell which block is described, are left.
     fn gather_run(&mut self, limits: &Limits, values: &mut G::Values) -> Result<(), Fault>
         requires live { self.old.reader.live ≡ true }
         requires took { TookSome G.Values.took values.old }
-        requires some { 0 < vec_len self.old.machine.frames }
+        requires aligned { vec_len self.old.machine.frames ≡ 0 → self.old.reader.position % 8 ≡ 0 }
         ensures took { TookSome G.Values.took values.new }
         ensures takes { TakesRun G.gathered limits.now self.old.machine self.old.reader
             self.old.gatherer result self.new.machine self.new.reader self.new.gatherer }
-        ensures frames { self.new.machine.frames ≡ self.old.machine.frames }
     {
         let Some(frame) = self.machine.frames.last() else {
             return Ok(());
@@ -157,34 +92,29 @@ impl<S: Source, G: Gatherer> Folding<S, G> {
         }
     }
 
-    /// Gathers records of the innermost block, whose head this is, and what comes first that is none.
-    fn gather_block(
+    /// Gathers the next event, and answers whether there was one.
+    fn gather_next(
         &mut self,
         alloc: Global,
         limits: &Limits,
-        head: BlockHead,
         values: &mut WithFirst<G::Values>,
-    ) -> Result<(), Fault>
+    ) -> Result<bool, Fault>
         requires live { self.old.reader.live ≡ true }
         requires took { TookSome G.Values.took values.old.taker }
-        requires head { innermost_head (frames_shown self.old.machine.frames.items)
-            ≡ Some (head_shown head) }
+        requires aligned { vec_len self.old.machine.frames ≡ 0 → self.old.reader.position % 8 ≡ 0 }
         ensures took { TookSome G.Values.took values.new.taker }
-        ensures takes { TakesSome G.gathered limits.now self.old.machine self.old.reader
+        ensures takes { TakesNext G.gathered limits.now self.old.machine self.old.reader
             self.old.gatherer result self.new.machine self.new.reader self.new.gatherer }
     {
-        loop {
-            self.gather_run(limits, &mut values.taker)?;
-            let first = self.reader.position();
-            let id = self.reader.fixed(u32::from(head.width))?;
-            if id < 3 {
-                return self.gather_aside(alloc, limits, id, first);
-            }
-            self.gather_record(limits, id as u32, first, values)?;
-        }
+        let Some(step) = self.machine.next(alloc, &mut self.reader, limits, values)? else {
+            return Ok(false);
+        };
+        let done = hand_on(&mut self.gatherer, &self.machine, step, &mut values.taker);
+        or_memory_fault(&mut self.reader, done)?;
+        Ok(true)
     }
 
-    /// Gathers all events.
+    /// Gathers all events: runs of records, and one by one what stands between them.
     fn gather(
         &mut self,
         alloc: Global,
@@ -197,17 +127,13 @@ impl<S: Source, G: Gatherer> Folding<S, G> {
         ensures { TakesAll G.gathered limits.now self.old.machine self.old.reader self.old.gatherer
             result self.new.reader self.new.gatherer }
     {
-        loop {
+        'events: loop {
+            self.gather_run(limits, &mut values.taker)?;
             // Positions are below 2^64 and rise, so that the events end.
             let _position = self.reader.position();
-            let Some(head) = self.machine.innermost() else {
-                if shuts(&mut self.reader, true)? {
-                    return Ok(());
-                }
-                self.gather_top(alloc, limits)?;
-                continue;
-            };
-            self.gather_block(alloc, limits, head, values)?;
+            if !self.gather_next(alloc, limits, values)? {
+                return Ok(());
+            }
         }
     }
 }

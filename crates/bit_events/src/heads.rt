@@ -1,6 +1,7 @@
-ghost use Rattle.std.specs.Prelude.{◌≡◌, ◌+◌, ◌*◌, ◌≤◌, ◌%◌, OnOk, IfOk, IfErr, ◌==◌, ◌&&◌, nat_le};
+ghost use Rattle.std.specs.Prelude.{◌≡◌, ◌+◌, ◌*◌, ◌≤◌, ◌%◌, OnOk, IfOk, IfErr, ◌==◌, ◌&&◌, nat_le, true};
 ghost use Rattle.bit_grammar.specs.Blocks.{block_id, new_width, block_head, end_of_block};
 ghost use Rattle.bit_fields.specs.Reader.{Takes, told_by, failed_reader};
+ghost use Rattle.bit_events.specs.Events.{Shuts};
 ghost use Rattle.bit_events.specs.HeadView.{head_shown};
 
 use crate::head::BlockHead;
@@ -93,4 +94,34 @@ pub(crate) fn end_of_block<S: Source>(
     let after = reader.position();
     reader.judge(ends_at(head, after), Reason::BlockLength, head.length_at)?;
     Ok(after)
+}
+
+/// Outside of all blocks: whether the stream has no byte left, and then whether its whole input is accepted.
+#[cold]
+#[inline(never)]
+fn shuts_outside<S: Source>(reader: &mut BitReader<S>) -> Result<bool, Fault>
+    requires live { reader.old.live ≡ true }
+    requires aligned { reader.old.position % 8 ≡ 0 }
+    ensures { Shuts true reader.old result reader.new }
+{
+    // Here the position and the bits that are left reach as far as the stream and the limit on bytes.
+    let _position = reader.position();
+    if !reader.at_end()? {
+        return Ok(false);
+    }
+    reader.close()?;
+    Ok(true)
+}
+
+/// The same where a block may be open, which shuts nothing.
+#[inline(always)]
+pub(crate) fn shuts<S: Source>(reader: &mut BitReader<S>, outside: bool) -> Result<bool, Fault>
+    requires live { reader.old.live ≡ true }
+    requires aligned { outside ≡ true → reader.old.position % 8 ≡ 0 }
+    ensures { Shuts outside reader.old result reader.new }
+{
+    if !outside {
+        return Ok(false);
+    }
+    shuts_outside(reader)
 }

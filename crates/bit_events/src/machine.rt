@@ -1,4 +1,4 @@
-ghost use Rattle.std.specs.Prelude.{◌≡◌, ◌<◌, ◌≤◌, ◌+◌, ◌-◌, ◌^◌, true, [], ℕ, List, OnOk, IfOk, vec_len, is_none, IfSome, IfNone, OnSome, IsTrue, ◌↔◌};
+ghost use Rattle.std.specs.Prelude.{◌≡◌, ◌<◌, ◌≤◌, ◌+◌, ◌-◌, ◌^◌, ◌%◌, true, [], ℕ, List, OnOk, IfOk, vec_len, is_none, IfSome, IfNone, OnSome, IsTrue, ◌↔◌};
 ghost use Rattle.std.specs.Option.{option_copied, option_map};
 ghost use Rattle.bit_grammar.specs.Blocks.{enter, leave};
 ghost use Rattle.bit_grammar.specs.Terms.{info_for};
@@ -6,29 +6,30 @@ ghost use Rattle.bit_grammar.specs.Machine.{at_start, open_block, open_nested, s
 ghost use Rattle.bit_fields.specs.Reader.{Takes, told_by};
 ghost use Rattle.bit_fields.specs.Ahead.{Glimpsed};
 ghost use Rattle.bit_abbrev.specs.Values.{Gains, Has, Keeps};
-ghost use Rattle.bit_events.specs.Coming.{held_after};
+ghost use Rattle.bit_events.specs.Next.{FindsNext};
 ghost use Rattle.bit_events.specs.EventView.{shown_if_any};
 ghost use Rattle.bit_events.specs.HeadView.{head_shown};
 ghost use Rattle.bit_events.specs.FrameView.{info_shown, frames_shown};
 ghost use Rattle.bit_events.specs.Runs.{AddsBehind};
-ghost use Rattle.bit_events.specs.MachineView.{handed_shown, machine_shown, newest, aside_shown, aside_lent, found_shown, found_lent, after_aside, after_found, record_of, innermost_head, LeavesMachine, TookSome, InBlock, end_rule, define_rule, record_rule};
+ghost use Rattle.bit_events.specs.MachineView.{handed_shown, machine_shown, newest, step_shown, step_lent, after_step, KeepsValues, record_of, innermost_head, LeavesMachine, TookSome, InBlock, end_rule, define_rule, record_rule};
 
 use crate::event::{Event, RecordHead};
 use crate::frame::{Describing, Frame, define, record_after};
 use crate::head::BlockHead;
-use crate::heads::{block_head, end_of_block, or_memory_fault};
+use crate::heads::{block_head, end_of_block, or_memory_fault, shuts};
 use crate::running::{item_ahead, record_ahead};
 use crate::with_first::WithFirst;
 use bit_abbrev::{Abbrev, InForce, InfoTable, SharedInfo};
-use bit_fields::{Ahead, BitReader, Fault, Limits, Reason, Source, ValueKeeper, ValueTaker};
+use bit_fields::{Ahead, BitReader, Fault, Limits, Reason, Source, ValueTaker};
 use std::alloc::{AllocError, Global};
 
 /// How many values may stand before those of a record that is read ahead, so that all can be counted.
 const MOST_BEFORE: u64 = 1 << 63;
 
-/// An event that is no record. Of a definition, which is the newest one, the machine holds the operands.
+/// What one step of the machine found: an event without what is lent with it, the values of a record and the operands of a
+/// definition. The machine holds the definition as the newest one of its block.
 #[derive(Clone, Copy)]
-pub(crate) enum Aside {
+pub(crate) enum Step {
     Enter {
         id: u32,
         width: u8,
@@ -39,19 +40,8 @@ pub(crate) enum Aside {
         first: u64,
         after: u64,
     },
+    Record(RecordHead),
     Leave {
-        after: u64,
-    },
-}
-
-/// An event, without what is lent with it: the values of a record, and a definition.
-#[derive(Clone, Copy)]
-pub(crate) enum Found {
-    Aside(Aside),
-    Record {
-        abbrev: u32,
-        code: u64,
-        first: u64,
         after: u64,
     },
 }
@@ -118,19 +108,19 @@ impl Machine {
         reader: &mut BitReader<S>,
         limits: &Limits,
         first: u64,
-    ) -> Result<Aside, Fault>
+    ) -> Result<Step, Fault>
         requires { reader.old.live ≡ true }
-        ensures takes { Takes (open_block limits.now (frames_shown self.old.frames.items) first
-            (handed_shown self.old))
-            reader.old (told_by (after_aside self.new) result) reader.new }
-        ensures leaves { IfOk result (λ aside. LeavesMachine limits.now.depth self.old reader.old
-            (aside_shown self.new aside) self.new reader.new) }
+        ensures takes { (list : List ℕ) → Takes (open_block limits.now
+            (frames_shown self.old.frames.items) first (handed_shown self.old)) reader.old
+            (told_by (after_step self.new list) result) reader.new }
+        ensures leaves { (list : List ℕ) → IfOk result (λ step. LeavesMachine limits.now.depth
+            self.old reader.old (step_shown self.new list step) self.new reader.new) }
     {
         let fits = self.frames.len() < limits.depth() as usize;
         reader.judge(fits, Reason::TooDeep, first)?;
         let head = block_head(reader)?;
         or_memory_fault(reader, self.enter(alloc, head))?;
-        Ok(Aside::Enter {
+        Ok(Step::Enter {
             id: head.id,
             width: head.width,
             first,
@@ -145,14 +135,14 @@ impl Machine {
         reader: &mut BitReader<S>,
         limits: &Limits,
         first: u64,
-    ) -> Result<Aside, Fault>
+    ) -> Result<Step, Fault>
         requires live { reader.old.live ≡ true }
         requires some { 0 < vec_len self.old.frames }
-        ensures takes { InBlock self.old (λ f outer. Takes
+        ensures takes { (list : List ℕ) → InBlock self.old (λ f outer. Takes
             (open_nested limits.now f.head outer first (scope_of f (handed_shown self.old)))
-            reader.old (told_by (after_aside self.new) result) reader.new) }
-        ensures leaves { IfOk result (λ aside. LeavesMachine limits.now.depth self.old reader.old
-            (aside_shown self.new aside) self.new reader.new) }
+            reader.old (told_by (after_step self.new list) result) reader.new) }
+        ensures leaves { (list : List ℕ) → IfOk result (λ step. LeavesMachine limits.now.depth
+            self.old reader.old (step_shown self.new list step) self.new reader.new) }
     {
         let plain = self.is_plain();
         reader.judge(plain, Reason::NestedInBlockInfo, first)?;
@@ -175,14 +165,14 @@ impl Machine {
         &mut self,
         alloc: Global,
         reader: &mut BitReader<S>,
-    ) -> Result<Aside, Fault>
+    ) -> Result<Step, Fault>
         requires live { reader.old.live ≡ true }
         requires some { 0 < vec_len self.old.frames }
-        ensures takes { InBlock self.old (λ f outer. Takes
+        ensures takes { (list : List ℕ) → InBlock self.old (λ f outer. Takes
             (end_rule f outer (handed_shown self.old))
-            reader.old (told_by (after_aside self.new) result) reader.new) }
-        ensures leaves { (deepest : ℕ) → IfOk result
-            (λ aside. LeavesMachine deepest self.old reader.old (aside_shown self.new aside)
+            reader.old (told_by (after_step self.new list) result) reader.new) }
+        ensures leaves { (deepest : ℕ) (list : List ℕ) → IfOk result
+            (λ step. LeavesMachine deepest self.old reader.old (step_shown self.new list step)
             self.new reader.new) }
     {
         let Some(frame) = self.frames.pop() else {
@@ -190,7 +180,7 @@ impl Machine {
         };
         let after = end_of_block(reader, frame.head)?;
         or_memory_fault(reader, self.leave(alloc, frame.info))?;
-        Ok(Aside::Leave { after })
+        Ok(Step::Leave { after })
     }
 
     /// Takes the table that a BLOCKINFO block made.
@@ -218,21 +208,21 @@ impl Machine {
         reader: &mut BitReader<S>,
         limits: &Limits,
         first: u64,
-    ) -> Result<Aside, Fault>
+    ) -> Result<Step, Fault>
         requires live { reader.old.live ≡ true }
         requires some { 0 < vec_len self.old.frames }
-        ensures takes { InBlock self.old (λ f outer. Takes
+        ensures takes { (list : List ℕ) → InBlock self.old (λ f outer. Takes
             (define_rule limits.now.shapes f outer first (handed_shown self.old))
-            reader.old (told_by (after_aside self.new) result) reader.new) }
-        ensures leaves { (deepest : ℕ) → IfOk result
-            (λ aside. LeavesMachine deepest self.old reader.old (aside_shown self.new aside)
+            reader.old (told_by (after_step self.new list) result) reader.new) }
+        ensures leaves { (deepest : ℕ) (list : List ℕ) → IfOk result
+            (λ step. LeavesMachine deepest self.old reader.old (step_shown self.new list step)
             self.new reader.new) }
     {
         let Some(frame) = self.frames.last_mut() else {
             unreachable!();
         };
         let after = define(alloc, reader, limits.shapes(), frame, first)?;
-        Ok(Aside::Define { first, after })
+        Ok(Step::Define { first, after })
     }
 
     /// How many values there is still room for.
@@ -266,8 +256,6 @@ impl Machine {
         ensures leaves { (deepest : ℕ) (list : List ℕ)
             → IfOk result (λ read. LeavesMachine deepest self.old reader.old
             (record_of id list first read) self.new reader.new) }
-        ensures head { OnOk result (innermost_head (frames_shown self.new.frames.items)
-            ≡ innermost_head (frames_shown self.old.frames.items)) }
     {
         let room = self.room(limits);
         values.clear();
@@ -373,15 +361,15 @@ impl Machine {
         limits: &Limits,
         id: u64,
         first: u64,
-    ) -> Result<Aside, Fault>
+    ) -> Result<Step, Fault>
         requires live { reader.old.live ≡ true }
         requires some { 0 < vec_len self.old.frames }
         requires id { id < 3 }
-        ensures takes { InBlock self.old (λ f outer. Takes
+        ensures takes { (list : List ℕ) → InBlock self.old (λ f outer. Takes
             (step_after limits.now f.head outer first (scope_of f (handed_shown self.old)) id)
-            reader.old (told_by (after_aside self.new) result) reader.new) }
-        ensures leaves { IfOk result (λ aside. LeavesMachine limits.now.depth self.old reader.old
-            (aside_shown self.new aside) self.new reader.new) }
+            reader.old (told_by (after_step self.new list) result) reader.new) }
+        ensures leaves { (list : List ℕ) → IfOk result (λ step. LeavesMachine limits.now.depth
+            self.old reader.old (step_shown self.new list step) self.new reader.new) }
     {
         if id == 0 {
             return self.end_block(alloc, reader);
@@ -393,40 +381,38 @@ impl Machine {
     }
 
     /// Reads one item of the innermost block, or its end.
-    fn step_in<S: Source, V: ValueKeeper>(
+    fn step_in<S: Source, V: ValueTaker>(
         &mut self,
         alloc: Global,
         reader: &mut BitReader<S>,
         limits: &Limits,
         head: BlockHead,
         values: &mut WithFirst<V>,
-    ) -> Result<Found, Fault>
-        requires { 0 < vec_len self.old.frames }
-        ensures takes { InBlock self.old (λ f outer. f.head ≡ head_shown head
+    ) -> Result<Step, Fault>
+        requires some { 0 < vec_len self.old.frames }
+        requires took { TookSome V.took values.old.taker }
+        ensures takes { Has V.took values.new.taker (λ list. InBlock self.old (λ f outer.
+            f.head ≡ head_shown head
             → Takes (step_in limits.now f.head outer (scope_of f (handed_shown self.old)))
-            reader.old (told_by (after_found self.new (V.kept values.new.taker)) result)
-            reader.new) }
-        ensures leaves { IfOk result (λ found. LeavesMachine limits.now.depth self.old reader.old
-            (found_shown self.new (V.kept values.new.taker) found) self.new reader.new) }
-        ensures holds { IfOk result (λ found. V.kept values.new.taker
-            ≡ held_after (found_shown self.new (V.kept values.new.taker) found)
-            (V.kept values.old.taker)) }
+            reader.old (told_by (after_step self.new list) result) reader.new)) }
+        ensures leaves { (list : List ℕ) → IfOk result (λ step. LeavesMachine limits.now.depth
+            self.old reader.old (step_shown self.new list step) self.new reader.new) }
+        ensures keeps { IfOk result (λ step. KeepsValues step values.old.taker values.new.taker) }
         ensures moves { OnOk result (reader.old.position < reader.new.position) }
     {
         let first = reader.position();
         let id = reader.fixed(u32::from(head.width))?;
         if id < 3 {
-            let aside = self.step_aside(alloc, reader, limits, id, first)?;
-            return Ok(Found::Aside(aside));
+            return self.step_aside(alloc, reader, limits, id, first);
         }
         let abbrev = id as u32;
         let (code, after) = self.note_in_sight(reader, limits, abbrev, first, values)?;
-        Ok(Found::Record {
+        Ok(Step::Record(RecordHead {
             abbrev,
             code,
             first,
             after,
-        })
+        }))
     }
 
     /// Reads the beginning of a block at the top.
@@ -437,12 +423,12 @@ impl Machine {
         alloc: Global,
         reader: &mut BitReader<S>,
         limits: &Limits,
-    ) -> Result<Aside, Fault>
+    ) -> Result<Step, Fault>
         requires { vec_len self.old.frames ≡ 0 }
-        ensures takes { Takes (step_top limits.now (handed_shown self.old)) reader.old
-            (told_by (after_aside self.new) result) reader.new }
-        ensures leaves { IfOk result (λ aside. LeavesMachine limits.now.depth self.old reader.old
-            (aside_shown self.new aside) self.new reader.new) }
+        ensures takes { (list : List ℕ) → Takes (step_top limits.now (handed_shown self.old))
+            reader.old (told_by (after_step self.new list) result) reader.new }
+        ensures leaves { (list : List ℕ) → IfOk result (λ step. LeavesMachine limits.now.depth
+            self.old reader.old (step_shown self.new list step) self.new reader.new) }
         ensures moves { OnOk result (reader.old.position < reader.new.position) }
     {
         let first = reader.position();
@@ -464,30 +450,53 @@ impl Machine {
         }
     }
 
-    /// Finds one event. The values of a record are those that the list holds then.
-    pub(crate) fn step<S: Source, V: ValueKeeper>(
+    /// Takes one step: reads one item of the innermost block or its end, or a block's beginning at the top. Of a record the values
+    /// are then those that the list holds; another step leaves them.
+    fn step<S: Source, V: ValueTaker>(
         &mut self,
         alloc: Global,
         reader: &mut BitReader<S>,
         limits: &Limits,
         values: &mut WithFirst<V>,
-    ) -> Result<Found, Fault>
-        ensures takes { Takes (step limits.now (machine_shown self.old)) reader.old
-            (told_by (after_found self.new (V.kept values.new.taker)) result) reader.new }
-        ensures leaves { IfOk result (λ found. LeavesMachine limits.now.depth self.old reader.old
-            (found_shown self.new (V.kept values.new.taker) found) self.new reader.new) }
-        ensures holds { IfOk result (λ found. V.kept values.new.taker
-            ≡ held_after (found_shown self.new (V.kept values.new.taker) found)
-            (V.kept values.old.taker)) }
+    ) -> Result<Step, Fault>
+        requires took { TookSome V.took values.old.taker }
+        ensures takes { Has V.took values.new.taker (λ list. Takes
+            (step limits.now (machine_shown self.old)) reader.old
+            (told_by (after_step self.new list) result) reader.new) }
+        ensures leaves { (list : List ℕ) → IfOk result (λ step. LeavesMachine limits.now.depth
+            self.old reader.old (step_shown self.new list step) self.new reader.new) }
+        ensures keeps { IfOk result (λ step. KeepsValues step values.old.taker values.new.taker) }
         ensures moves { OnOk result (reader.old.position < reader.new.position) }
     {
         match self.innermost() {
             Some(head) => self.step_in(alloc, reader, limits, head, values),
-            None => {
-                let aside = self.step_top(alloc, reader, limits)?;
-                Ok(Found::Aside(aside))
-            }
+            None => self.step_top(alloc, reader, limits),
         }
+    }
+
+    /// Finds the next event, or nothing where the whole input is accepted. All ways over events go on by this call. Of a record the
+    /// values are then those that the list holds; another event leaves them.
+    pub(crate) fn next<S: Source, V: ValueTaker>(
+        &mut self,
+        alloc: Global,
+        reader: &mut BitReader<S>,
+        limits: &Limits,
+        values: &mut WithFirst<V>,
+    ) -> Result<Option<Step>, Fault>
+        requires live { reader.old.live ≡ true }
+        requires aligned { vec_len self.old.frames ≡ 0 → reader.old.position % 8 ≡ 0 }
+        requires took { TookSome V.took values.old.taker }
+        ensures finds { Has V.took values.new.taker (λ list. FindsNext limits.now self.old
+            reader.old list result self.new reader.new) }
+        ensures keeps { IfOk result (λ found. IfSome found (λ step. KeepsValues step
+            values.old.taker values.new.taker)) }
+    {
+        let outside = self.is_outside();
+        if shuts(reader, outside)? {
+            return Ok(None);
+        }
+        let step = self.step(alloc, reader, limits, values)?;
+        Ok(Some(step))
     }
 
     /// The definition that stands last where the innermost block puts one.
@@ -508,13 +517,15 @@ impl Machine {
     }
 }
 
-impl Aside {
-    /// The event, with the definition that the machine holds.
-    fn event<'a, L>(&self, machine: &'a Machine) -> Option<Event<'a, L>>
-        ensures { (told : L → List ℕ) → shown_if_any told result ≡ aside_lent machine.now self.now }
+impl Step {
+    /// The event, with what is lent with it: these values, and the definition that the machine holds.
+    #[inline(always)]
+    pub(crate) fn event<'a, L: Drop>(&self, machine: &'a Machine, values: L) -> Option<Event<'a, L>>
+        ensures { (told : L → List ℕ) → shown_if_any told result
+            ≡ step_lent machine.now (told values) self.now }
     {
         match *self {
-            Aside::Enter {
+            Step::Enter {
                 id,
                 width,
                 first,
@@ -525,7 +536,7 @@ impl Aside {
                 first,
                 body,
             }),
-            Aside::Define { first, after } => match machine.newest() {
+            Step::Define { first, after } => match machine.newest() {
                 Some(abbrev) => Some(Event::Define {
                     abbrev,
                     first,
@@ -533,32 +544,14 @@ impl Aside {
                 }),
                 None => None,
             },
-            Aside::Leave { after } => Some(Event::Leave { after }),
-        }
-    }
-}
-
-impl Found {
-    /// The event, with what is lent with it.
-    #[inline(always)]
-    pub(crate) fn event<'a, L: Drop>(&self, machine: &'a Machine, values: L) -> Option<Event<'a, L>>
-        ensures { (told : L → List ℕ) → shown_if_any told result
-            ≡ found_lent machine.now (told values) self.now }
-    {
-        match *self {
-            Found::Aside(aside) => aside.event(machine),
-            Found::Record {
-                abbrev,
-                code,
-                first,
-                after,
-            } => Some(Event::Record {
-                abbrev,
-                code,
+            Step::Record(head) => Some(Event::Record {
+                abbrev: head.abbrev,
+                code: head.code,
                 values,
-                first,
-                after,
+                first: head.first,
+                after: head.after,
             }),
+            Step::Leave { after } => Some(Event::Leave { after }),
         }
     }
 }

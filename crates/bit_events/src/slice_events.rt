@@ -13,8 +13,8 @@ ghost use Rattle.bit_events.specs.MachineView.{record_of, TookSome};
 ghost use Rattle.bit_events.specs.Runs.{AddsBehind};
 
 use crate::event::RecordHead;
-use crate::finder::{PackedEvent, shuts};
-use crate::machine::{Found, Machine};
+use crate::finder::PackedEvent;
+use crate::machine::{Machine, Step};
 use crate::with_first::WithFirst;
 use bit_fields::{
     Ahead, BitReader, Fault, Head, Limits, PackedValues, SliceSource, Source, ValueTaker,
@@ -39,7 +39,7 @@ pub struct SliceEvents<'a> {
     /// The values of the record that the reader found last.
     values: WithFirst<PackedValues>,
     /// The event that the reader found last, where no record was read behind it.
-    found: Option<Found>,
+    found: Option<Step>,
     /// The whole input is accepted.
     over: bool,
 }
@@ -141,20 +141,19 @@ impl<'a> SliceEvents<'a> {
         }
         self.reader
             .catch_up(self.ahead.position() - self.reader.position())?;
-        let outside = self.machine.is_outside();
-        if shuts(&mut self.reader, outside)? {
-            self.found = None;
-            self.over = true;
-            return Ok(());
-        }
-        let found = self.machine.step(
+        let Some(step) = self.machine.next(
             self.alloc,
             &mut self.reader,
             &self.limits,
             &mut self.values,
-        )?;
+        )?
+        else {
+            self.found = None;
+            self.over = true;
+            return Ok(());
+        };
         self.ahead = Ahead::new(self.reader.sight_in_slice());
-        self.found = Some(found);
+        self.found = Some(step);
         Ok(())
     }
 

@@ -1,12 +1,25 @@
-use Rattle.std.proofs.Common.{◌≡◌, Some, sym}
+use Rattle.std.proofs.Common.{◌≡◌, ℕ, List, Some, sym}
 use Rattle.bit_events.specs.FrameView.{frames_shown}
 use Rattle.bit_events.specs.MachineView.{newest}
+use Rattle.bit_events.proofs.Folds.{for_each}
 use Rattle.bit_events.proofs.folding.hand_on.Goals as goal
 
-pub returns-in-Some : goal.returns-in-Some
-returns-in-Some g c =
-    let held : newest (frames_shown c.args.machine.now.frames.items) ≡ Some c.in-Some.abbrev.now = sym c.in-Some.ensures in
-    rw (c.in-Define.is, held) c.define.ensures
+pub unreachable-requires : goal.unreachable-requires
+unreachable-requires g c =
+    let held = rw c.in-Define.is at c.requires.holds in
+    let none = c.in-None.ensures in
+    cc
 
-pub returns-in-Leave : goal.returns-in-Leave
-returns-in-Leave g c = rw c.in-Leave.is c.leave.ensures
+pub returns-in-Enter-clause-gathers : goal.returns-in-Enter-clause-gathers
+returns-in-Enter-clause-gathers g c = rw c.in-Enter.is (for_each _ (λ (list : List ℕ). g.G.Values.ValueTaker.took c.args.values.now list) c.enter.result c.enter.ensures)
+
+pub returns-in-Some-clause-gathers : goal.returns-in-Some-clause-gathers
+returns-in-Some-clause-gathers g c =
+    let held : newest (frames_shown c.args.machine.now.frames.items) ≡ Some c.in-Some.abbrev.now = sym c.in-Some.ensures in
+    rw (c.in-Define.is, held) (for_each _ (λ (list : List ℕ). g.G.Values.ValueTaker.took c.args.values.now list) c.define.result c.define.ensures)
+
+pub returns-in-Record-clause-gathers : goal.returns-in-Record-clause-gathers
+returns-in-Record-clause-gathers g c = rw c.in-Record.is c.record.ensures.gathers
+
+pub returns-in-Leave-clause-gathers : goal.returns-in-Leave-clause-gathers
+returns-in-Leave-clause-gathers g c = rw c.in-Leave.is (for_each _ (λ (list : List ℕ). g.G.Values.ValueTaker.took c.args.values.now list) c.leave.result c.leave.ensures)

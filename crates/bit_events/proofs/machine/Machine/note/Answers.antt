@@ -2,7 +2,7 @@ use Rattle.std.proofs.Common.{◌≡◌, ◌-◌, ◌+◌, ◌^◌, ◌≤◌, �
 use Rattle.std.proofs.lemmas.Result.{err_from_is_err_and}
 use Rattle.bit_abbrev.specs.Table.{definitions_at}
 use Rattle.bit_events.specs.MachineView.{handed_shown}
-use Rattle.bit_events.proofs.Stepping.{head_kept, held_record_missed, held_record_took}
+use Rattle.bit_events.proofs.Stepping.{held_record_missed, held_record_took}
 use Rattle.bit_events.proofs.machine.Machine.note.Goals as goal
 
 -- a number of values that has room is told whole
@@ -47,6 +47,3 @@ returns-clause-leaves g c = λ deepest list.
       aligned = λ none. absurd (omega (arith, c.requires.some, none));
       holds = tt;
     }
-
-pub returns-clause-head : goal.returns-clause-head
-returns-clause-head g c = head_kept c.args.self.now.frames.items (vec_len c.args.self.now.frames - 1) c.in-Some.frame.now c.record_after.new.frame (omega (arith, c.requires.some, c.args.self.now.frames.ok.0)) c.in-Some.ensures.value c.in_ok-code.ensures.head

@@ -5,7 +5,8 @@ use Rattle.bit_grammar.specs.Machine.{Event, scope_of}
 use Rattle.bit_fields.specs.Ahead.{InSight, Glimpsed}
 use Rattle.bit_fields.proofs.Glimpses.{nothing_then, shown_caught_up, shown_not_caught_up}
 use Rattle.bit_events.specs.MachineView.{handed_shown, record_rule, machine_shown, record_of}
-use Rattle.bit_events.proofs.Runs.{held_seen, leaves_after, nothing_missed}
+use Rattle.bit_events.proofs.Runs.{held_seen, nothing_missed}
+use Rattle.bit_events.proofs.Stepping.{left_later}
 use Rattle.bit_events.proofs.machine.Machine.note_in_sight.Goals as goal
 
 -- a number of values that has room is told whole
@@ -38,7 +39,7 @@ returns-in_default-record_ahead-clause-takes g c =
 pub returns-in_default-record_ahead-clause-leaves : goal.returns-in_default-record_ahead-clause-leaves
 returns-in_default-record_ahead-clause-leaves g c = λ deepest list.
     let shows = rw c.in_ok-sight.was at c.sight.follows.holds-at-none in
-    leaves_after deepest c.args.self.now c.args.reader.now c.sight.follows.lender-at-none (record_of c.args.id list c.args.first) c.note-in_default-record_ahead.new.self c.note-in_default-record_ahead.new.reader c.note-in_default-record_ahead.result shows.nothing (c.note-in_default-record_ahead.ensures.leaves deepest list)
+    left_later deepest c.args.self.now c.args.reader.now c.sight.follows.lender-at-none (record_of c.args.id list c.args.first) c.note-in_default-record_ahead.new.self c.note-in_default-record_ahead.new.reader c.note-in_default-record_ahead.result shows.nothing.forward (c.note-in_default-record_ahead.ensures.leaves deepest list)
 
 pub overflow_sub-after : goal.overflow_sub-after
 overflow_sub-after g c =

@@ -9,35 +9,35 @@ use Rattle.bit_events.proofs.Stepping.{length-frames, open_judged, open_missed, 
 use Rattle.bit_events.proofs.machine.Machine.open_block.Goals as goal
 
 pub returns-in_err-judge-clause-takes : goal.returns-in_err-judge-clause-takes
-returns-in_err-judge-clause-takes g c =
+returns-in_err-judge-clause-takes g c = λ list.
     let p = err_from_is_err_and c.from_residual.result c.from_residual.ensures.1 in
     let count : c.len.result ≡ length (frames_shown c.args.self.now.frames.items) = omega (arith, length-frames c.args.self.now.frames.items, c.len.ensures, c.args.self.now.frames.ok.0) in
     let judged = rw (count, c.depth.ensures.depth) at c.in_err-judge.ensures.takes in
     rw (p.1, p.2) (open_judged c.args.limits.now (frames_shown c.args.self.now.frames.items) c.args.first (handed_shown c.args.self.now) c.args.reader.now c.in_err-judge.field-0.0 c.judge.new.self judged)
 
 pub returns-in_err-head-clause-takes : goal.returns-in_err-head-clause-takes
-returns-in_err-head-clause-takes g c =
+returns-in_err-head-clause-takes g c = λ list.
     let p = err_from_is_err_and c.from_residual-in_err-head.result c.from_residual-in_err-head.ensures.1 in
     let count : c.len.result ≡ length (frames_shown c.args.self.now.frames.items) = omega (arith, length-frames c.args.self.now.frames.items, c.len.ensures, c.args.self.now.frames.ok.0) in
     let judged = rw (count, c.depth.ensures.depth) at c.in_ok-judge.ensures.takes in
     rw (p.1, p.2) (open_missed c.args.limits.now (frames_shown c.args.self.now.frames.items) c.args.first (handed_shown c.args.self.now) c.args.reader.now c.judge.new.self c.in_err-head.field-0.0 c.block_head.new.reader judged c.in_err-head.ensures)
 
 pub returns-in_err-or_memory_fault-clause-takes : goal.returns-in_err-or_memory_fault-clause-takes
-returns-in_err-or_memory_fault-clause-takes g c =
+returns-in_err-or_memory_fault-clause-takes g c = λ list.
     let p = err_from_is_err_and c.from_residual-in_err-or_memory_fault.result c.from_residual-in_err-or_memory_fault.ensures.1 in
     let count : c.len.result ≡ length (frames_shown c.args.self.now.frames.items) = omega (arith, length-frames c.args.self.now.frames.items, c.len.ensures, c.args.self.now.frames.ok.0) in
     let judged = rw (count, c.depth.ensures.depth) at c.in_ok-judge.ensures.takes in
     rw (p.1, p.2, c.in_err-or_memory_fault.ensures.err.0) (open_lost c.args.limits.now (frames_shown c.args.self.now.frames.items) c.args.first (handed_shown c.args.self.now) c.args.reader.now c.judge.new.self (head_shown c.in_ok-head.head) c.block_head.new.reader c.or_memory_fault.new.reader judged c.in_ok-head.ensures c.in_err-or_memory_fault.ensures.err.1)
 
 pub returns-clause-takes : goal.returns-clause-takes
-returns-clause-takes g c =
+returns-clause-takes g c = λ list.
     let count : c.len.result ≡ length (frames_shown c.args.self.now.frames.items) = omega (arith, length-frames c.args.self.now.frames.items, c.len.ensures, c.args.self.now.frames.ok.0) in
     let judged = rw (count, c.depth.ensures.depth) at c.in_ok-judge.ensures.takes in
     let made = rw c.in_ok-or_memory_fault.ensures.ok.0 at c.enter.ensures.made in
     open_took c.args.limits.now (frames_shown c.args.self.now.frames.items) c.args.first (handed_shown c.args.self.now) c.args.reader.now c.judge.new.self (head_shown c.in_ok-head.head) c.block_head.new.reader c.or_memory_fault.new.reader (machine_shown c.enter.new.self) judged c.in_ok-head.ensures c.in_ok-or_memory_fault.ensures.ok.1 made
 
 pub returns-clause-leaves : goal.returns-clause-leaves
-returns-clause-leaves g c =
+returns-clause-leaves g c = λ list.
     let fits : c.len.result < c.depth.result = ltb-true c.len.result c.depth.result c.in_ok-judge.ensures.holds in
     let more = rw c.in_ok-or_memory_fault.ensures.ok.0 at c.enter.ensures.more in
     record {

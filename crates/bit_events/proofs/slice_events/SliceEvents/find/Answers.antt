@@ -1,12 +1,15 @@
-use Rattle.std.proofs.Common.{◌≡◌, ◌-◌, ◌∙◌, ℕ, Bool, arith, subst, sym, Some, Ok}
+use Rattle.std.proofs.Common.{◌≡◌, ◌-◌, ◌∙◌, ℕ, List, true, Option, None, Some, Ok, Err, arith, refl, subst, sym}
 use Rattle.std.proofs.lemmas.Result.{err_from_is_err_and}
 use Rattle.bit_grammar.specs.Input.{any_bits}
-use Rattle.bit_fields.specs.Reader.{Why, Took}
+use Rattle.bit_fields.specs.Reader.{Reader, Why}
+use Rattle.bit_events.specs.declared.machine.Step.{Step}
 use Rattle.bit_events.specs.Coming.{Coming, Goes}
-use Rattle.bit_events.specs.MachineView.{found_lent}
-use Rattle.bit_events.specs.Events.{coming_of, Shuts}
+use Rattle.bit_events.specs.Events.{coming_of}
+use Rattle.bit_events.specs.MachineView.{step_shown, step_lent}
+use Rattle.bit_events.specs.Next.{FindsEvent, FindsNext}
 use Rattle.bit_events.specs.SliceEvents.{reader_seen}
-use Rattle.bit_events.proofs.InSlices.{caught_up_to, not_caught, refused_seen, over_seen, missed_seen, found_seen}
+use Rattle.bit_events.proofs.Advancing.{kept_goes, kept_misses, kept_ends, values_held}
+use Rattle.bit_events.proofs.InSlices.{found_behind, seen_at, nothing_seen, not_caught, like_seen}
 use Rattle.bit_events.proofs.slice_events.SliceEvents.find.Goals as goal
 
 pub returns-in_err-catch_up : goal.returns-in_err-catch_up
@@ -16,48 +19,34 @@ returns-in_err-catch_up c =
     let live = sym c.is_live.ensures ∙ c.if-not-is_live.false in
     let bits : c.position.result - c.position-2.result ≡ s.ahead.position - s.reader.position = omega (arith, c.position.ensures, c.position-2.ensures.position) in
     let why = subst (λ (n : ℕ). Why (any_bits n) s.reader c.in_err-catch_up.field-0.0 c.catch_up.new.self) bits c.in_err-catch_up.ensures.takes in
-    rw (← c.self.view_is, p.1, p.2) (not_caught s.over s.limits s.head s.machine s.values.taker s.found s.reader s.ahead c.in_err-catch_up.field-0.0 c.catch_up.new.self live c.if-self.false c.self.invariant why)
+    rw (← c.self.view_is, p.1, p.2) (kept_misses s.over s.limits s.head s.machine s.machine s.values.taker s.values.taker s.found s.ahead.position (reader_seen s.reader s.ahead) c.catch_up.new.self (reader_seen c.catch_up.new.self s.ahead) c.in_err-catch_up.field-0.0 c.if-self.false (not_caught s.limits s.machine s.reader s.ahead c.in_err-catch_up.field-0.0 c.catch_up.new.self live c.self.invariant why) (like_seen c.catch_up.new.self s.ahead))
 
-pub returns-in_err-shuts : goal.returns-in_err-shuts
-returns-in_err-shuts c =
-    let p = err_from_is_err_and c.from_residual-in_err-shuts.result c.from_residual-in_err-shuts.ensures.1 in
+pub returns-in_err-step : goal.returns-in_err-step
+returns-in_err-step c =
+    let p = err_from_is_err_and c.from_residual-in_err-step.result c.from_residual-in_err-step.ensures.1 in
     let s = c.self.inside in
     let live = sym c.is_live.ensures ∙ c.if-not-is_live.false in
-    let bits : c.position.result - c.position-2.result ≡ s.ahead.position - s.reader.position = omega (arith, c.position.ensures, c.position-2.ensures.position) in
-    let took = subst (λ (n : ℕ). Took (any_bits n) s.reader tt c.catch_up.new.self) bits c.in_ok-catch_up.ensures.takes in
-    let stays = caught_up_to s.reader s.ahead c.catch_up.new.self live c.self.invariant took (omega (arith, c.in_ok-catch_up.ensures.moves, bits)) in
-    rw (← c.self.view_is, p.1, p.2) (refused_seen s.over s.limits s.head s.machine s.values.taker s.found s.reader s.ahead c.catch_up.new.self c.shuts.new.reader c.is_outside-outside.result c.in_err-shuts.field-0.0 live c.if-self.false c.self.invariant stays c.is_outside-outside.ensures.0 c.in_err-shuts.ensures)
+    let finds = found_behind s.limits s.machine c.next.new.self s.reader s.ahead c.catch_up.new.self c.next.new.reader c.in_err-step.ensures.finds.0 (c.position.result - c.position-2.result) (Err c.in_err-step.field-0.0) live c.self.invariant (omega (arith, c.position.ensures, c.position-2.ensures.position)) c.in_ok-catch_up.ensures.takes c.in_ok-catch_up.ensures.moves c.in_err-step.ensures.finds.2 in
+    rw (← c.self.view_is, p.1, p.2) (kept_misses s.over s.limits s.head s.machine c.next.new.self s.values.taker c.next.new.values.taker s.found s.ahead.position (reader_seen s.reader s.ahead) c.next.new.reader (reader_seen c.next.new.reader s.ahead) c.in_err-step.field-0.0 c.if-self.false finds (like_seen c.next.new.reader s.ahead))
 
-pub returns-then-branch : goal.returns-then-branch
-returns-then-branch c =
+pub returns-in_default : goal.returns-in_default
+returns-in_default c =
     let s = c.self.inside in
     let live = sym c.is_live.ensures ∙ c.if-not-is_live.false in
-    let bits : c.position.result - c.position-2.result ≡ s.ahead.position - s.reader.position = omega (arith, c.position.ensures, c.position-2.ensures.position) in
-    let took = subst (λ (n : ℕ). Took (any_bits n) s.reader tt c.catch_up.new.self) bits c.in_ok-catch_up.ensures.takes in
-    let stays = caught_up_to s.reader s.ahead c.catch_up.new.self live c.self.invariant took (omega (arith, c.in_ok-catch_up.ensures.moves, bits)) in
-    let shut = subst (λ (b : Bool). Shuts c.is_outside-outside.result c.catch_up.new.self (Ok b) c.shuts.new.reader) c.if-branch.true c.in_ok-shuts.ensures in
-    rw (← c.self.view_is) (over_seen s.over s.limits s.head s.machine s.values.taker s.found s.reader s.ahead c.catch_up.new.self c.shuts.new.reader c.is_outside-outside.result live c.if-self.false c.self.invariant stays c.is_outside-outside.ensures.0 shut)
-
-pub returns-in_err-found : goal.returns-in_err-found
-returns-in_err-found c =
-    let p = err_from_is_err_and c.from_residual-in_err-found.result c.from_residual-in_err-found.ensures.1 in
-    let s = c.self.inside in
-    let live = sym c.is_live.ensures ∙ c.if-not-is_live.false in
-    let bits : c.position.result - c.position-2.result ≡ s.ahead.position - s.reader.position = omega (arith, c.position.ensures, c.position-2.ensures.position) in
-    let took = subst (λ (n : ℕ). Took (any_bits n) s.reader tt c.catch_up.new.self) bits c.in_ok-catch_up.ensures.takes in
-    let stays = caught_up_to s.reader s.ahead c.catch_up.new.self live c.self.invariant took (omega (arith, c.in_ok-catch_up.ensures.moves, bits)) in
-    let shut = subst (λ (b : Bool). Shuts c.is_outside-outside.result c.catch_up.new.self (Ok b) c.shuts.new.reader) c.if-branch.false c.in_ok-shuts.ensures in
-    rw (← c.self.view_is, p.1, p.2) (missed_seen s.over s.limits s.head s.machine c.step.new.self s.values.taker c.step.new.values.taker s.found s.reader s.ahead c.catch_up.new.self c.shuts.new.reader c.step.new.reader c.is_outside-outside.result c.in_err-found.field-0.0 live c.if-self.false c.self.invariant stays c.is_outside-outside.ensures.1 shut c.in_err-found.ensures.takes)
+    let given = subst (λ (o : Option Step). FindsNext s.limits s.machine c.catch_up.new.self c.in_ok-step.ensures.finds.0 (Ok o) c.next.new.self c.next.new.reader) c.in_default.is c.in_ok-step.ensures.finds.2 in
+    let finds = found_behind s.limits s.machine c.next.new.self s.reader s.ahead c.catch_up.new.self c.next.new.reader c.in_ok-step.ensures.finds.0 (c.position.result - c.position-2.result) (Ok None) live c.self.invariant (omega (arith, c.position.ensures, c.position-2.ensures.position)) c.in_ok-catch_up.ensures.takes c.in_ok-catch_up.ensures.moves given in
+    rw (← c.self.view_is) (kept_ends s.over true s.limits s.head s.machine c.next.new.self s.values.taker c.next.new.values.taker s.found s.ahead.position s.ahead.position (reader_seen s.reader s.ahead) c.next.new.reader (reader_seen c.next.new.reader s.ahead) c.if-self.false refl (sym (seen_at live c.self.invariant)) refl finds (like_seen c.next.new.reader s.ahead))
 
 pub returns : goal.returns
 returns c =
     let s = c.self.inside in
     let live = sym c.is_live.ensures ∙ c.if-not-is_live.false in
-    let bits : c.position.result - c.position-2.result ≡ s.ahead.position - s.reader.position = omega (arith, c.position.ensures, c.position-2.ensures.position) in
-    let took = subst (λ (n : ℕ). Took (any_bits n) s.reader tt c.catch_up.new.self) bits c.in_ok-catch_up.ensures.takes in
-    let stays = caught_up_to s.reader s.ahead c.catch_up.new.self live c.self.invariant took (omega (arith, c.in_ok-catch_up.ensures.moves, bits)) in
-    let shut = subst (λ (b : Bool). Shuts c.is_outside-outside.result c.catch_up.new.self (Ok b) c.shuts.new.reader) c.if-branch.false c.in_ok-shuts.ensures in
-    let e = c.in_ok-found.ensures in
-    let there : c.step.new.reader.position ≡ c.new-self-inside.result.position = rw (c.new-self-inside.ensures) c.sight_in_slice.ensures.sees.position in
-    subst (λ (old : Coming). Goes old (Ok (found_lent c.step.new.self c.step.new.values.taker c.in_ok-found.found)) (coming_of s.over s.limits s.head c.step.new.self c.step.new.values.taker (Some c.in_ok-found.found) c.new-self-inside.result.position (reader_seen c.step.new.reader c.new-self-inside.result))) c.self.view_is
-    (found_seen s.over s.limits s.head s.machine c.step.new.self s.values.taker c.step.new.values.taker s.found c.in_ok-found.found s.reader s.ahead c.catch_up.new.self c.shuts.new.reader c.step.new.reader c.new-self-inside.result c.is_outside-outside.result live c.if-self.false c.self.invariant stays c.is_outside-outside.ensures.1 shut e.takes e.leaves e.holds e.moves (omega (arith, c.sight_in_slice.ensures.sees.position, c.sight_in_slice.ensures.lawful.fits)) there)
+    let next = c.new-self-inside.result in
+    let given = subst (λ (o : Option Step). FindsNext s.limits s.machine c.catch_up.new.self c.in_ok-step.ensures.finds.0 (Ok o) c.next.new.self c.next.new.reader) c.in-Some.is c.in_ok-step.ensures.finds.2 in
+    let finds = found_behind s.limits s.machine c.next.new.self s.reader s.ahead c.catch_up.new.self c.next.new.reader c.in_ok-step.ensures.finds.0 (c.position.result - c.position-2.result) (Ok (Some c.in-Some.step)) live c.self.invariant (omega (arith, c.position.ensures, c.position-2.ensures.position)) c.in_ok-catch_up.ensures.takes c.in_ok-catch_up.ensures.moves given in
+    let there : c.next.new.reader.position ≡ next.position = rw (c.new-self-inside.ensures) c.sight_in_slice.ensures.sees.position in
+    let keeps = rw c.in-Some.is at c.in_ok-step.ensures.keeps in
+    let event = subst (λ (list : List ℕ). FindsEvent s.limits s.machine (reader_seen s.reader s.ahead) (step_shown c.next.new.self list c.in-Some.step) c.next.new.self c.next.new.reader) (sym c.in_ok-step.ensures.finds.1) finds.0 in
+    subst (λ (old : Coming). Goes old (Ok (step_lent c.next.new.self c.next.new.values.taker c.in-Some.step)) (coming_of s.over s.limits s.head c.next.new.self c.next.new.values.taker (Some c.in-Some.step) next.position (reader_seen c.next.new.reader next))) c.self.view_is
+    (subst (λ (r : Reader). Goes (coming_of s.over s.limits s.head s.machine s.values.taker s.found s.ahead.position (reader_seen s.reader s.ahead)) (Ok (step_lent c.next.new.self c.next.new.values.taker c.in-Some.step)) (coming_of s.over s.limits s.head c.next.new.self c.next.new.values.taker (Some c.in-Some.step) next.position r)) (sym (nothing_seen c.next.new.reader next there))
+    (kept_goes s.over s.over s.limits s.head s.machine c.next.new.self s.values.taker c.next.new.values.taker s.found c.in-Some.step s.ahead.position next.position (reader_seen s.reader s.ahead) c.next.new.reader c.if-self.false c.if-self.false (sym (seen_at live c.self.invariant)) (sym there) event (values_held (λ (v : List ℕ). v) c.next.new.self c.in-Some.step s.values.taker c.next.new.values.taker keeps) finds.1 (omega (arith, there, c.sight_in_slice.ensures.sees.position, c.sight_in_slice.ensures.lawful.fits))))
