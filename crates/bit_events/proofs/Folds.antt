@@ -31,10 +31,14 @@ pub open_behind-push : (events : List Event) (event : Event) (count : ℕ) → o
 open_behind-push [] event count = refl
 open_behind-push (first ∷ events) event count = open_behind-push events event (open_after first count)
 
+-- what is shown for each list that was taken
+pub each_list : (Taken P : List ℕ → Type 0) (result : Result (Unit {0}) AllocError) → ((list : List ℕ) → Taken list → OnOk result (P list)) → OnOk result ((list : List ℕ) → Taken list → P list)
+each_list Taken P (Ok x) each = each
+each_list Taken P (Err e) each = tt
+
 -- what holds whatever was taken
 pub for_each : (P : Type 0) (Taken : List ℕ → Type 0) (result : Result (Unit {0}) AllocError) → OnOk result P → OnOk result ((list : List ℕ) → Taken list → P)
-for_each P Taken (Ok x) holds = λ list took. holds
-for_each P Taken (Err e) holds = tt
+for_each P Taken result holds = each_list Taken (λ _. P) result (λ list took. holds)
 
 -- ---- events, one after the other
 
