@@ -12,9 +12,8 @@ ghost use Rattle.bit_abbrev.specs.Values.{AddsAll, AddsSome, Gains, Keeps, Lengt
 
 use crate::bits::{Bits, NotBuffered};
 use crate::record::{read_scalar, read_zeros};
-use bit_fields::{Ahead, BitReader, Fault, Source, ValueTaker};
+use bit_fields::{Ahead, BitReader, Fault, NotTaken, Source, ValueTaker};
 use bit_grammar::Op;
-use std::alloc::AllocError;
 
 /// The greatest number of fields that are skipped at once.
 const MOST_SKIPPED: u64 = u32::MAX as u64;
@@ -106,14 +105,14 @@ impl<S: Source> Runs for BitReader<S> {
 /// Reads fields of an operand, at most `most`, up to the first one that is not buffered whole: how many. Numbers in chunks of 6
 /// bits, as most are, are read in the caller.
 ///
-/// It fails where memory is refused, and some values may then be added.
+/// If a value is not taken, some before it may be added.
 #[inline(always)]
 fn read_run<V: ValueTaker>(
     ahead: &mut Ahead<'_>,
     most: u64,
     element: Op,
     values: &mut V,
-) -> Result<u64, AllocError>
+) -> Result<u64, NotTaken>
     requires element { IsElement element }
     requires lawful { HasLawfulValue element }
     ensures adds { IfOk result (λ count. Gains V.took values.old values.new
@@ -137,7 +136,7 @@ fn read_run_apart<'a, V: ValueTaker>(
     most: u64,
     element: Op,
     values: &mut V,
-) -> Result<(u64, Ahead<'a>), AllocError>
+) -> Result<(u64, Ahead<'a>), NotTaken>
     requires element { IsElement element }
     requires lawful { HasLawfulValue element }
     ensures adds { IfOk result (λ read. Gains V.took values.old values.new
@@ -164,7 +163,7 @@ fn read_fields<V: ValueTaker>(
     most: u64,
     element: Op,
     values: &mut V,
-) -> Result<u64, AllocError>
+) -> Result<u64, NotTaken>
     requires element { IsElement element }
     requires lawful { HasLawfulValue element }
     ensures adds { IfOk result (λ count. Gains V.took values.old values.new
@@ -187,7 +186,7 @@ fn read_each<V: ValueTaker>(
     most: u64,
     element: Op,
     values: &mut V,
-) -> Result<u64, AllocError>
+) -> Result<u64, NotTaken>
     requires { HasLawfulValue element }
     ensures adds { IfOk result (λ count. Gains V.took values.old values.new
         (AddsAll (scalar element) count (reader_at ahead.old) (Ok tt) (reader_at ahead.new))) }
@@ -269,7 +268,7 @@ fn read_bytes<V: ValueTaker>(
     ahead: &mut Ahead<'_>,
     most: u64,
     values: &mut V,
-) -> Result<u64, AllocError>
+) -> Result<u64, NotTaken>
     ensures adds { IfOk result (λ count. Gains V.took values.old values.new
         (AddsAll (fixed 8) count (reader_at ahead.old) (Ok tt) (reader_at ahead.new))) }
     ensures most { IfOk result (λ count. count ≤ most) }
@@ -288,7 +287,7 @@ fn read_held_bytes<V: ValueTaker>(
     ahead: &mut Ahead<'_>,
     most: u64,
     values: &mut V,
-) -> Result<u64, AllocError>
+) -> Result<u64, NotTaken>
     ensures adds { IfOk result (λ count. Gains V.took values.old values.new
         (AddsAll (fixed 8) count (reader_at ahead.old) (Ok tt) (reader_at ahead.new))) }
     ensures most { IfOk result (λ count. count ≤ most) }

@@ -2,8 +2,7 @@ ghost use Rattle.std.specs.Prelude.{◌≡◌, [], None};
 ghost use Rattle.bit_events.specs.MachineView.{TookSome};
 ghost use Rattle.bit_events.specs.Firsts.{TookWithFirst};
 
-use bit_fields::ValueTaker;
-use std::alloc::AllocError;
+use bit_fields::{NotTaken, ValueTaker};
 
 /// What takes the values of a record, and the first one, which in a BLOCKINFO block may tell which block is described. So the
 /// first one is not passed over.
@@ -38,7 +37,7 @@ impl<V: ValueTaker> ValueTaker for WithFirst<V> {
     ghost took = { TookWithFirst V.took };
 
     #[inline]
-    fn take(&mut self, value: u64) -> Result<(), AllocError> {
+    fn take(&mut self, value: u64) -> Result<(), NotTaken> {
         self.taker.take(value)?;
         if self.first.is_none() {
             self.first = Some(value);
@@ -46,7 +45,7 @@ impl<V: ValueTaker> ValueTaker for WithFirst<V> {
         Ok(())
     }
 
-    fn take_bytes(&mut self, bytes: &[u8]) -> Result<(), AllocError> {
+    fn take_bytes(&mut self, bytes: &[u8]) -> Result<(), NotTaken> {
         if self.first.is_some() {
             return self.taker.take_bytes(bytes);
         }

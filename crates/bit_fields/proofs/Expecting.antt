@@ -1,6 +1,6 @@
 -- Values that are expected to be the next of others.
 use Rattle.std.proofs.Common.{◌≡◌, ◌≢◌, ℕ, ◌+◌, ◌-◌, ◌<◌, ◌≤◌, ◌^◌, ◌⊎◌, min, List, [], ◌∷◌, ◌++◌, length, take, drop, slice_get, Bool, true, false, not, Option, Some, Result, Ok, Err, IsOk, OnOk, refl, sym, ap, ◌∙◌, subst, inl, inr, arith, append_assoc}
-use Rattle.std.specs.declared.alloc.AllocError.{AllocError}
+use Rattle.bit_fields.specs.declared.values.NotTaken.{NotTaken}
 use Rattle.std.specs.Str.{bytes_eq}
 use Rattle.std.proofs.Math.Seq.{take-add, take-append-add}
 use Rattle.std.proofs.lemmas.Bool.{cases_lt}
@@ -64,7 +64,7 @@ taken_further e values list had next =
     ∙ ap (λ (s : List ℕ). e.others ++ (take e.taken e.others ++ s)) (sym next) ∙ ap (λ (s : List ℕ). e.others ++ s) (sym (take-add e.taken (length values) e.others))
 
 -- the same of one of them
-pub one_taken : (r : Result (Unit {0}) AllocError) (value : ℕ) (old new : Expected) → OnOk r (new ≡ further old 1) → (IsOk r → AreNext old (value ∷ [])) → OnOk r ((values : List ℕ) → HasTaken old values → HasTaken new (values ++ value ∷ []))
+pub one_taken : (r : Result (Unit {0}) NotTaken) (value : ℕ) (old new : Expected) → OnOk r (new ≡ further old 1) → (IsOk r → AreNext old (value ∷ [])) → OnOk r ((values : List ℕ) → HasTaken old values → HasTaken new (values ++ value ∷ []))
 one_taken (Ok _) value old new is next = λ values had. subst (λ (e : Expected). HasTaken e (values ++ value ∷ [])) (sym is) (taken_further old (value ∷ []) values had (next refl))
 one_taken (Err _) value old new is next = tt
 

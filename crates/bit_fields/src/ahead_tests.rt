@@ -1,8 +1,8 @@
 //! Fields read from what is in sight, against fields that the reader reads.
 
 use crate::tests::{after_magic, in_steps, shown_source};
-use crate::{Ahead, BitReader, Fault, Limits, SliceSource, Source, ValueTaker};
-use std::alloc::{AllocError, Global};
+use crate::{Ahead, BitReader, Fault, Limits, NotTaken, SliceSource, Source, ValueTaker};
+use std::alloc::Global;
 use std::process::Abort;
 
 /// Bits of every kind of field; numbers of one chunk, of few and of many.
@@ -226,11 +226,11 @@ fn failed_sights(rt: HostRuntime) {
 }
 
 /// The bytes that are in sight: those in the window, two behind them, and the others.
-fn bytes_told(alloc: Global, mut ahead: Ahead<'_>) -> Result<Vec<u64>, AllocError> {
+fn bytes_told(alloc: Global, mut ahead: Ahead<'_>) -> Result<Vec<u64>, NotTaken> {
     let mut told = Vec::new(alloc);
     for _ in 0..8 {
         match ahead.held_byte() {
-            Some(byte) => told.push(byte)?,
+            Some(byte) => told.take(byte)?,
             None => break,
         }
     }
@@ -243,13 +243,13 @@ fn bytes_told(alloc: Global, mut ahead: Ahead<'_>) -> Result<Vec<u64>, AllocErro
 fn told_behind_one<S: Source>(
     alloc: Global,
     reader: &mut BitReader<S>,
-) -> Result<Vec<u64>, AllocError> {
+) -> Result<Vec<u64>, NotTaken> {
     let Ok(_) = reader.fixed(8) else {
-        return Err(AllocError);
+        return Err(NotTaken::OutOfMemory);
     };
     match reader.sight() {
         Ok(sight) => bytes_told(alloc, Ahead::new(sight)),
-        Err(_) => Err(AllocError),
+        Err(_) => Err(NotTaken::OutOfMemory),
     }
 }
 
@@ -267,19 +267,16 @@ fn bytes_in_sight(rt: HostRuntime) {
 }
 
 /// The bytes that a reader of a slice lends behind a number of eight bits, told once it has gone on to the end.
-fn told_later(
-    alloc: Global,
-    mut reader: BitReader<SliceSource<'_>>,
-) -> Result<Vec<u64>, AllocError> {
+fn told_later(alloc: Global, mut reader: BitReader<SliceSource<'_>>) -> Result<Vec<u64>, NotTaken> {
     let Ok(_) = reader.fixed(8) else {
-        return Err(AllocError);
+        return Err(NotTaken::OutOfMemory);
     };
     if !reader.is_live() {
-        return Err(AllocError);
+        return Err(NotTaken::OutOfMemory);
     }
     let sight = reader.sight_in_slice();
     let Ok(()) = reader.catch_up(104) else {
-        return Err(AllocError);
+        return Err(NotTaken::OutOfMemory);
     };
     bytes_told(alloc, Ahead::new(sight))
 }
@@ -292,7 +289,7 @@ fn bytes_within_a_limit(rt: HostRuntime) {
     let limits = Limits::new(18, 1, 1).expect(&rt, "within the caps");
     let told = match BitReader::start(source, limits) {
         Ok((reader, _)) => told_later(rt.alloc(), reader),
-        Err(_) => Err(AllocError),
+        Err(_) => Err(NotTaken::OutOfMemory),
     };
     let wanted: [u64; 13] = [1, 2, 3, 4, 5, 6, 7, 8, 9, 10, 11, 12, 13];
     assert!(rt; told.expect(&rt, "memory").as_slice() == wanted.as_slice());

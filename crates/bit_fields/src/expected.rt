@@ -5,15 +5,14 @@ ghost use Rattle.bit_fields.specs.Packed.{StandAt};
 ghost use Rattle.bit_fields.specs.Expected.{HasTaken, AreNext, further};
 
 use crate::packed::PackedValues;
-use crate::values::ValueTaker;
-use std::alloc::AllocError;
+use crate::values::{NotTaken, ValueTaker};
 use std::marker::Model;
 
 /// How many values are expected, at most: so many that they can be counted twice.
 const MOST: u64 = 1 << 62;
 
 /// What takes the values of a record that are expected to be those of another one: it takes each value that is the next of the
-/// others, and no other value, of which it says that memory is refused. So nothing is held of what is read.
+/// others, and declines any other value. So nothing is held of what is read.
 ///
 /// The others themselves stand first among the values that it took, and so they are counted too: those that are read stand
 /// behind them, and `front_of` tells how many they are.
@@ -123,14 +122,14 @@ impl<'a> ExpectedValues<'a> {
 
     /// Takes a value that is not near, if it is next.
     #[inline(never)]
-    fn take_far(&mut self, value: u64) -> Result<(), AllocError>
+    fn take_far(&mut self, value: u64) -> Result<(), NotTaken>
         ensures ok { OnOk result (self.new ≡ further self.old 1) }
         ensures err { OnErr result (self.new ≡ self.old) }
         ensures next { IsOk result ↔ AreNext self.old (value ∷ []) }
     {
         let taken = self.taken();
         if taken >= self.expected || self.others.get(taken) != Some(value) {
-            return Err(AllocError);
+            return Err(NotTaken::Declined);
         }
         self.move_to(taken + 1);
         Ok(())
@@ -149,7 +148,7 @@ impl<'a> ExpectedValues<'a> {
 
     /// Takes the first of some bytes, at least one: those that can be compared at once. Answers how many.
     #[inline(always)]
-    fn take_some(&mut self, bytes: &[u8]) -> Result<usize, AllocError>
+    fn take_some(&mut self, bytes: &[u8]) -> Result<usize, NotTaken>
         requires { 0 < length bytes.now }
         ensures count { IfOk result (λ count. (0 < count) × (count ≤ length bytes.now)) }
         ensures ok { IfOk result (λ count. (self.new ≡ further self.old count)
@@ -163,7 +162,7 @@ impl<'a> ExpectedValues<'a> {
             return Ok(1);
         }
         if &bytes[..count] != &held[..count] {
-            return Err(AllocError);
+            return Err(NotTaken::Declined);
         }
         self.move_to(self.taken() + count as u64);
         Ok(count)
@@ -174,7 +173,7 @@ impl<'a> ValueTaker for ExpectedValues<'a> {
     ghost took = { HasTaken };
 
     #[inline(always)]
-    fn take(&mut self, value: u64) -> Result<(), AllocError>
+    fn take(&mut self, value: u64) -> Result<(), NotTaken>
         ensures ok { OnOk result ((values : List ℕ) → HasTaken self.old values
             → HasTaken self.new (values ++ value ∷ [])) }
         ensures err { OnErr result
@@ -191,7 +190,7 @@ impl<'a> ValueTaker for ExpectedValues<'a> {
     }
 
     /// Those that are held in a byte each are compared as they lie there.
-    fn take_bytes(&mut self, bytes: &[u8]) -> Result<(), AllocError>
+    fn take_bytes(&mut self, bytes: &[u8]) -> Result<(), NotTaken>
         ensures ok { OnOk result ((values : List ℕ) → HasTaken self.old values
             → HasTaken self.new (values ++ bytes.now)) }
         ensures err { OnErr result ((values : List ℕ) → HasTaken self.old values

@@ -1,6 +1,6 @@
 //! Values that are compared with those of another record while they are read.
 
-use crate::{ExpectedValues, PackedValues, ValueKeeper, ValueTaker};
+use crate::{ExpectedValues, NotTaken, PackedValues, ValueKeeper, ValueTaker};
 use std::alloc::{AllocError, Global};
 
 /// How many values there are, and how many zeros that are taken at once behind them.
@@ -30,7 +30,7 @@ fn value_at(place: u64) -> u64 {
 }
 
 /// So many of these values, zeros that are taken at once, and two more where there are any.
-fn record_of(alloc: Global, record: (u64, u64)) -> Result<PackedValues, AllocError> {
+fn record_of(alloc: Global, record: (u64, u64)) -> Result<PackedValues, NotTaken> {
     let (count, zeros) = record;
     let mut values = PackedValues::empty(alloc);
     for place in 0..count {
@@ -62,7 +62,7 @@ fn takes(expected: &mut ExpectedValues<'_>, others: &PackedValues, first: u64, e
 }
 
 /// Whether the values of a record are taken one by one, all of them, and none behind them.
-fn takes_all(alloc: Global, record: (u64, u64)) -> Result<bool, AllocError> {
+fn takes_all(alloc: Global, record: (u64, u64)) -> Result<bool, NotTaken> {
     let others = record_of(alloc, record)?;
     let count = others.len();
     let mut expected = ExpectedValues::new(&others);
@@ -107,7 +107,7 @@ fn takes_bytes(
     record: (u64, u64),
     size: usize,
     other: u64,
-) -> Result<bool, AllocError> {
+) -> Result<bool, NotTaken> {
     let others = record_of(alloc, record)?;
     let count = others.len();
     let Some(first) = others.get(0) else {
@@ -145,7 +145,7 @@ fn taken_again(
     taken: u64,
     count: u64,
     from: u64,
-) -> Result<(u64, bool, Option<u64>), AllocError> {
+) -> Result<(u64, bool, Option<u64>), NotTaken> {
     let others = record_of(alloc, (100, 0))?;
     let mut expected = ExpectedValues::new(&others);
     let before = takes(&mut expected, &others, 0, taken);
@@ -168,7 +168,7 @@ fn values_taken_again(rt: HostRuntime) {
 }
 
 /// How many values of a record it has, and of another one, where all of the first were taken.
-fn fronts(alloc: Global, count: u64, other: u64) -> Result<[Option<u64>; 2], AllocError> {
+fn fronts(alloc: Global, count: u64, other: u64) -> Result<[Option<u64>; 2], NotTaken> {
     let others = record_of(alloc, (count, 0))?;
     let second = record_of(alloc, (other, 0))?;
     let mut expected = ExpectedValues::new(&others);

@@ -64,6 +64,6 @@ pub use reader::BitReader;
 pub use sink::{Sink, SinkFailed, VecSink, WriteSink};
 pub use source::{BufSource, ReadSource, SliceSource, Source, SourceFailed};
 pub use text::BitText;
-pub use values::{ValueCount, ValueTaker};
+pub use values::{NotTaken, ValueCount, ValueTaker};
 pub use writer::BitWriter;
 pub use writer_laws::{bytes_of_writing, write_nothing, write_then_stop, write_then_write};

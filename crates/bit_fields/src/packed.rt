@@ -5,8 +5,8 @@ ghost use Rattle.std.proofs.Math.ListN.{replicate};
 ghost use Rattle.bit_fields.specs.Packed.{first_apart, StandAt};
 
 use crate::settled::{BATCH, SettledValues};
-use crate::values::ValueTaker;
-use std::alloc::{AllocError, Global};
+use crate::values::{NotTaken, ValueTaker};
+use std::alloc::Global;
 use std::marker::Model;
 
 /// Values in their parts, which stand behind one another: numbers, bytes, so many zeros, and the last ones as numbers.
@@ -171,7 +171,7 @@ impl PackedValues {
     }
 
     /// Takes values of one byte each, one after the other.
-    fn take_each(&mut self, bytes: &[u8]) -> Result<(), AllocError>
+    fn take_each(&mut self, bytes: &[u8]) -> Result<(), NotTaken>
         ensures ok { OnOk result (self.new ≡ self.old ++ bytes.now) }
         ensures err { OnErr result ((some : List ℕ) × (self.new ≡ self.old ++ some)) }
     {
@@ -208,7 +208,7 @@ impl ValueTaker for PackedValues {
     ghost took = { λ v values. v ≡ values };
 
     #[inline(always)]
-    fn take(&mut self, value: u64) -> Result<(), AllocError> {
+    fn take(&mut self, value: u64) -> Result<(), NotTaken> {
         if self.held >= BATCH {
             self.settled.add(&self.recent)?;
             self.held = 0;
@@ -220,7 +220,7 @@ impl ValueTaker for PackedValues {
 
     /// Whole batches are packed as they lie there, and the values before and behind them taken one by one: so the same values are
     /// packed in the same batches however they came.
-    fn take_bytes(&mut self, bytes: &[u8]) -> Result<(), AllocError> {
+    fn take_bytes(&mut self, bytes: &[u8]) -> Result<(), NotTaken> {
         let (front, rest) = bytes.split_at(bytes.len().min(BATCH - self.held));
         self.take_each(front)?;
         if rest.is_empty() {

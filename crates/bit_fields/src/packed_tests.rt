@@ -1,7 +1,7 @@
 //! Values in little memory: in which parts they are held, and where they differ.
 
-use crate::{PackedValues, ValueCount, ValueKeeper, ValueTaker};
-use std::alloc::{AllocError, Global};
+use crate::{NotTaken, PackedValues, ValueCount, ValueKeeper, ValueTaker};
+use std::alloc::Global;
 use std::fmt::Write;
 use std::process::Abort;
 
@@ -9,7 +9,7 @@ use std::process::Abort;
 type Taken<'a> = (&'a [u64], u64, &'a [u64]);
 
 /// Has these values taken.
-fn take_all(values: &mut PackedValues, from: &[u64]) -> Result<(), AllocError> {
+fn take_all(values: &mut PackedValues, from: &[u64]) -> Result<(), NotTaken> {
     for value in from {
         values.take(*value)?;
     }
@@ -17,7 +17,7 @@ fn take_all(values: &mut PackedValues, from: &[u64]) -> Result<(), AllocError> {
 }
 
 /// These values.
-fn values_of(alloc: Global, taken: Taken<'_>) -> Result<PackedValues, AllocError> {
+fn values_of(alloc: Global, taken: Taken<'_>) -> Result<PackedValues, NotTaken> {
     let (front, zeros, back) = taken;
     let mut values = PackedValues::empty(alloc);
     take_all(&mut values, front)?;
@@ -29,7 +29,7 @@ fn values_of(alloc: Global, taken: Taken<'_>) -> Result<PackedValues, AllocError
 }
 
 /// The parts of values as text, before and behind the last step.
-fn parts_told(alloc: Global, count: u64) -> Result<String, AllocError> {
+fn parts_told(alloc: Global, count: u64) -> Result<String, NotTaken> {
     let mut values = values_of(alloc, (&[1, 256], 2, &[7]))?;
     let _ = values.pass_zeros(3);
     let mut text = String::new(alloc);
@@ -87,7 +87,7 @@ fn lengths(
     alloc: Global,
     last: u64,
     first: u64,
-) -> Result<(usize, usize, usize, Option<u64>), AllocError> {
+) -> Result<(usize, usize, usize, Option<u64>), NotTaken> {
     let mut values = PackedValues::empty(alloc);
     for value in (first..=last).rev() {
         values.take(value)?;
@@ -114,7 +114,7 @@ fn apart(
     alloc: Global,
     first: Taken<'_>,
     second: Taken<'_>,
-) -> Result<(Option<u64>, bool), AllocError> {
+) -> Result<(Option<u64>, bool), NotTaken> {
     let first = values_of(alloc, first)?;
     let second = values_of(alloc, second)?;
     Ok((first.first_apart(&second), first.is(&second)))
@@ -150,7 +150,7 @@ fn values_beside_others(rt: HostRuntime) {
 }
 
 /// How many values there are after many were dropped and one was taken.
-fn many_told(alloc: Global) -> Result<(u64, Option<u64>), AllocError> {
+fn many_told(alloc: Global) -> Result<(u64, Option<u64>), NotTaken> {
     let mut values = PackedValues::empty(alloc);
     for value in 0..70000 {
         values.take(value)?;
@@ -166,7 +166,7 @@ fn many_values(rt: HostRuntime) {
 }
 
 /// How many values there are where bytes were taken behind a value and a zero.
-fn bytes_behind<V: ValueTaker>(values: &mut V) -> Result<u64, AllocError> {
+fn bytes_behind<V: ValueTaker>(values: &mut V) -> Result<u64, NotTaken> {
     values.take(300)?;
     values.take(0)?;
     values.take_bytes(&[7, 0, 255])?;
@@ -176,7 +176,7 @@ fn bytes_behind<V: ValueTaker>(values: &mut V) -> Result<u64, AllocError> {
 
 /// The same where they are counted, kept in a list, and kept in little memory behind zeros that were taken at once: how many
 /// there are in each, whether the list is right, and the first place at which the others are not.
-fn bytes_taken(alloc: Global) -> Result<([u64; 3], bool, Option<u64>), AllocError> {
+fn bytes_taken(alloc: Global) -> Result<([u64; 3], bool, Option<u64>), NotTaken> {
     let mut counted = ValueCount::new();
     let mut list: Vec<u64> = Vec::new(alloc);
     let mut packed = values_of(alloc, (&[], 2, &[]))?;
@@ -197,7 +197,7 @@ fn bytes_are_values(rt: HostRuntime) {
 }
 
 /// How long the parts are of a number and 300 bytes behind it, which come as a slice or one by one.
-fn lengths_behind(alloc: Global, as_slice: bool) -> Result<[usize; 3], AllocError> {
+fn lengths_behind(alloc: Global, as_slice: bool) -> Result<[usize; 3], NotTaken> {
     let mut values = PackedValues::empty(alloc);
     values.take(256)?;
     if as_slice {

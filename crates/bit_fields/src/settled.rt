@@ -4,6 +4,7 @@ ghost use Rattle.std.specs.Prelude.{◌≡◌, ◌+◌, ◌-◌, ◌<◌, ◌≤
 ghost use Rattle.std.proofs.Math.ListN.{replicate};
 ghost use Rattle.bit_fields.specs.Packed.{StandAt};
 
+use crate::values::NotTaken;
 use std::alloc::{AllocError, Global};
 use std::marker::Model;
 
@@ -292,16 +293,16 @@ impl SettledValues {
         self.numbers.bytes_from(place)
     }
 
-    /// Adds values. Where memory is refused, or there were too many to be counted then, these are what they were.
+    /// Adds values. It declines more than can be counted. If it adds none, these are what they were.
     #[cold]
     #[inline(never)]
-    pub(crate) fn add(&mut self, values: &[u64]) -> Result<(), AllocError>
+    pub(crate) fn add(&mut self, values: &[u64]) -> Result<(), NotTaken>
         requires { length values.now ≤ 64 }
         ensures ok { OnOk result (self.new ≡ self.old ++ values.now) }
         ensures err { OnErr result (self.new ≡ self.old) }
     {
         if self.count > MOST - values.len() as u64 {
-            return Err(AllocError);
+            return Err(NotTaken::Declined);
         }
         self.numbers.fill(self.count)?;
         self.numbers.push_all(values)?;
@@ -309,14 +310,13 @@ impl SettledValues {
         Ok(())
     }
 
-    /// Adds values of one byte each. Where memory is refused, or there were too many to be counted then, these are what they
-    /// were.
-    pub(crate) fn add_bytes(&mut self, bytes: &[u8]) -> Result<(), AllocError>
+    /// Adds values of one byte each, as `add` does.
+    pub(crate) fn add_bytes(&mut self, bytes: &[u8]) -> Result<(), NotTaken>
         ensures ok { OnOk result (self.new ≡ self.old ++ bytes.now) }
         ensures err { OnErr result (self.new ≡ self.old) }
     {
         if self.count > MOST.saturating_sub(bytes.len() as u64) {
-            return Err(AllocError);
+            return Err(NotTaken::Declined);
         }
         self.numbers.fill(self.count)?;
         self.numbers.push_bytes(bytes)?;

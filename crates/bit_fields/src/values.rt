@@ -5,23 +5,38 @@ ghost use Rattle.std.proofs.Math.ListN.{replicate};
 
 use std::alloc::AllocError;
 
-/// What takes the values of a record while they are read, one behind the other: a list that keeps them, or a count. It may also
-/// refuse a value that it does not want, as where memory is refused, and has then what it had.
+/// Why a value was not taken.
+#[derive(Clone, Copy, Debug, PartialEq, Eq, Drop)]
+pub enum NotTaken {
+    /// It is not one that is wanted here, or one more than can be counted.
+    Declined,
+    /// An allocation failed.
+    OutOfMemory,
+}
+
+impl From<AllocError> for NotTaken {
+    fn from(_: AllocError) -> NotTaken {
+        NotTaken::OutOfMemory
+    }
+}
+
+/// What takes the values of a record while they are read, in order: a list that keeps them, or a count. After a value that it did
+/// not take it has what it had.
 pub trait ValueTaker {
     ghost use Rattle.std.specs.Prelude.{ℕ, List};
 
     // Whether these are the values that it took.
     ghost took: { Self → List ℕ → Type 0 };
 
-    /// Takes a value. Where memory is refused it has what it had.
-    fn take(&mut self, value: u64) -> Result<(), AllocError>
+    /// Takes a value.
+    fn take(&mut self, value: u64) -> Result<(), NotTaken>
         ensures ok { OnOk result ((values : List ℕ) → took self.old values
             → took self.new (values ++ value ∷ [])) }
         ensures err { OnErr result
             ((values : List ℕ) → took self.old values → took self.new values) };
 
-    /// Takes values of one byte each. Where memory is refused some values may stand behind what it had.
-    fn take_bytes(&mut self, bytes: &[u8]) -> Result<(), AllocError>
+    /// Takes values of one byte each. If it does not take all, it may have added some of them.
+    fn take_bytes(&mut self, bytes: &[u8]) -> Result<(), NotTaken>
         ensures ok { OnOk result ((values : List ℕ) → took self.old values
             → took self.new (values ++ bytes.now)) }
         ensures err { OnErr result ((values : List ℕ) → took self.old values
@@ -67,9 +82,8 @@ impl ValueTaker for Vec<u64> {
     ghost took = { λ v values. v.items ≡ values };
 
     #[inline]
-    fn take(&mut self, value: u64) -> Result<(), AllocError> {
-        self.push(value)?;
-        Ok(())
+    fn take(&mut self, value: u64) -> Result<(), NotTaken> {
+        self.push(value).map_err(|_| NotTaken::OutOfMemory)
     }
 
     #[inline]
@@ -107,13 +121,13 @@ impl ValueTaker for ValueCount {
     ghost took = { λ c values. c.count ≡ min (length values) (2 ^ 64 - 1) };
 
     #[inline]
-    fn take(&mut self, _value: u64) -> Result<(), AllocError> {
+    fn take(&mut self, _value: u64) -> Result<(), NotTaken> {
         self.count = self.count.saturating_add(1);
         Ok(())
     }
 
     #[inline]
-    fn take_bytes(&mut self, bytes: &[u8]) -> Result<(), AllocError> {
+    fn take_bytes(&mut self, bytes: &[u8]) -> Result<(), NotTaken> {
         self.count = self.count.saturating_add(bytes.len() as u64);
         Ok(())
     }

@@ -3,7 +3,7 @@ ghost use Rattle.bit_norm.specs.Building.{HoldsText, HasTaken};
 ghost use Rattle.bit_norm.specs.declared.form_values.Holding.TheVariants.{All, Unknown};
 ghost use Rattle.bit_grammar.specs.Normal.{most_bytes, values_bits};
 
-use bit_fields::{BitText, Limits, ValueTaker};
+use bit_fields::{BitText, Limits, NotTaken, ValueTaker};
 use std::alloc::{AllocError, Global};
 
 /// How many values are held as numbers before they become text.
@@ -187,7 +187,7 @@ impl ValueTaker for FormValues {
     ghost took = { HasTaken };
 
     #[inline(always)]
-    fn take(&mut self, value: u64) -> Result<(), AllocError> {
+    fn take(&mut self, value: u64) -> Result<(), NotTaken> {
         self.make_room()?;
         self.numbers[self.held] = value;
         self.held += 1;
