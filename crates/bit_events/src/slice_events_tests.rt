@@ -4,7 +4,7 @@ use crate::events_tests::{
     AT_USE, EVENTS, MIXED, MIXED_ENDS, MIXED_FRONT, agrees, bytes_of, told_of_fault,
 };
 use crate::{Event, PackedEvent, RecordHead, SliceEvents};
-use bit_fields::{ExpectedValues, Limits, PackedValues, SliceSource, ValueTaker};
+use bit_fields::{ExpectedValues, Limits, NotTaken, PackedValues, SliceSource, ValueTaker};
 use std::alloc::{AllocError, Global};
 use std::fmt::Write;
 use std::process::Abort;
@@ -238,18 +238,18 @@ fn records_that_lie_there(rt: HostRuntime) {
 
 /// How many of these values the first record with a blob has, where it is read beside them; then the values of the record that
 /// comes next.
-fn beside(alloc: Global, bytes: &[u8], wanted: &[u64]) -> Result<(u64, Vec<u64>), AllocError> {
+fn beside(alloc: Global, bytes: &[u8], wanted: &[u64]) -> Result<(u64, Vec<u64>), NotTaken> {
     let mut others = PackedValues::new(alloc);
     for value in wanted {
         others.take(*value)?;
     }
     let start = SliceEvents::start(alloc, SliceSource::new(bytes), Limits::usual());
     let Ok(mut events) = start else {
-        return Err(AllocError);
+        return Err(NotTaken::OutOfMemory);
     };
     for _ in 0..3 {
         if events.next().is_err() {
-            return Err(AllocError);
+            return Err(NotTaken::OutOfMemory);
         }
     }
     let mut expected = ExpectedValues::new(&others);
@@ -259,7 +259,7 @@ fn beside(alloc: Global, bytes: &[u8], wanted: &[u64]) -> Result<(u64, Vec<u64>)
     };
     match events.next() {
         Ok(Some(Event::Record { values, .. })) => Ok((count, numbers_of(alloc, values)?)),
-        _ => Err(AllocError),
+        _ => Err(NotTaken::OutOfMemory),
     }
 }
 
