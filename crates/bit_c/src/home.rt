@@ -1,7 +1,7 @@
 //! What a handle leads to.
 
 use bit_events::Events;
-use bit_fields::{Fault, SliceSource, VecSink};
+use bit_fields::{Fault, SliceSource};
 
 /// The events of bytes that stay where they are, and the fault that was met.
 #[derive(Drop)]
@@ -14,5 +14,5 @@ pub struct Reading {
 #[derive(Drop)]
 pub enum Home {
     Reading(Reading),
-    Text(VecSink),
+    Text(Vec<u8>),
 }

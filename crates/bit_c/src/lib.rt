@@ -26,9 +26,11 @@ mod parts;
 mod reading;
 mod reasons;
 mod room;
+mod room_sink;
 #[cfg(test)]
 mod tests;
 mod texts;
+mod took;
 
 pub use analysing::{BsBlockRow, BsCodeRow, BsTally, bs_analyse};
 pub use checking::bs_check;
