@@ -320,7 +320,7 @@ struct bs_operand {
 };
 
 /* The magic of a stream, its first byte first. */
-struct bs_magic {
+struct bs_magic_bytes {
     uint8_t bytes[4];
 };
 
@@ -348,7 +348,7 @@ uint32_t bs_operands(struct bs_handle *handle, struct bs_operand *room, size_t r
 
 /* Tells the magic of the stream: BS_DONE, from bs_open on, and also after a fault; or BS_CLOSED, also where the handle holds a text, and
    then the magic is as it was. */
-uint32_t bs_magic(struct bs_handle *handle, struct bs_magic *magic, struct bs_fault *fault);
+uint32_t bs_magic(struct bs_handle *handle, struct bs_magic_bytes *magic, struct bs_fault *fault);
 
 /* Closes a handle, and frees what it holds. Of a closed one nothing is done. */
 void bs_close(struct bs_handle *handle);

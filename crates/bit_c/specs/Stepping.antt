@@ -10,7 +10,7 @@ use Rattle.bit_fields.specs.Opening.{magic_number}
 use Rattle.bit_fields.specs.Devices.{Incoming}
 use Rattle.bit_events.specs.Coming.{Coming, Goes}
 use Rattle.bit_events.specs.Events.{Begun}
-use Rattle.bit_c.specs.declared.asking.BsMagic.{BsMagic}
+use Rattle.bit_c.specs.declared.asking.BsMagicBytes.{BsMagicBytes}
 use Rattle.bit_c.specs.declared.event.BsEvent.{BsEvent}
 use Rattle.bit_c.specs.declared.home.Home.{Home}
 use Rattle.bit_c.specs.declared.home.Home.TheVariants as home
@@ -174,7 +174,7 @@ ListsOf held None old needed new outcome = (outcome ≡ Closed) × LeavesRoom ol
 ListsOf held (Some reading) old needed new outcome = Lists held reading old needed new outcome
 
 -- The magic of the stream was told; or the handle is closed or holds a text, which is said, and nothing was told.
-abbrev pub TellsMagic : Option Reading → BsMagic → BsMagic → Outcome → Type 0
+abbrev pub TellsMagic : Option Reading → BsMagicBytes → BsMagicBytes → Outcome → Type 0
 TellsMagic None old new outcome = (outcome ≡ Closed) × (new ≡ old)
 TellsMagic (Some reading) old new outcome = (outcome ≡ Done)
     × (magic_number new.bytes ≡ reading.events.head.magic)

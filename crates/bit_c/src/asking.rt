@@ -15,7 +15,7 @@ use std::alloc::Global;
 /// The magic of a stream, its first byte first.
 #[repr(C)]
 #[derive(Clone, Copy)]
-pub struct BsMagic {
+pub struct BsMagicBytes {
     pub bytes: [u8; 4],
 }
 
@@ -144,12 +144,12 @@ pub extern "C" fn bs_operands(
 }
 
 /// Tells the magic of the stream whose events a handle leads to.
-fn magic_in(home: &Home, magic: &mut BsMagic) -> Outcome
+fn magic_in(home: &Home, magic: &mut BsMagicBytes) -> Outcome
     ensures { TellsMagic (reading_of (Some home.now)) magic.old magic.new result }
 {
     match home {
         Home::Reading(reading) => {
-            *magic = BsMagic {
+            *magic = BsMagicBytes {
                 bytes: reading.events.head().magic,
             };
             Outcome::Done
@@ -159,7 +159,7 @@ fn magic_in(home: &Home, magic: &mut BsMagic) -> Outcome
 }
 
 /// The same of a handle, which stays as it is.
-fn magic_of(alloc: Global, handle: &mut BsHandle, magic: &mut BsMagic) -> Outcome
+fn magic_of(alloc: Global, handle: &mut BsHandle, magic: &mut BsMagicBytes) -> Outcome
     ensures kept { handle.new.inner.home ≡ handle.old.inner.home }
     ensures tells { TellsMagic (reading_of handle.old.inner.home) magic.old magic.new result }
 {
@@ -178,7 +178,7 @@ fn magic_of(alloc: Global, handle: &mut BsHandle, magic: &mut BsMagic) -> Outcom
 pub extern "C" fn bs_magic(
     alloc: Global,
     handle: &mut BsHandle,
-    magic: &mut BsMagic,
+    magic: &mut BsMagicBytes,
     fault: &mut BsFault,
 ) -> u32
     ensures kept { handle.new.inner.home ≡ handle.old.inner.home }

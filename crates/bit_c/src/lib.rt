@@ -35,7 +35,7 @@ mod texts;
 mod took;
 
 pub use analysing::{BsBlockRow, BsCodeRow, BsTally, bs_analyse};
-pub use asking::{BsMagic, bs_magic, bs_operands, bs_values};
+pub use asking::{BsMagicBytes, bs_magic, bs_operands, bs_values};
 pub use checking::bs_check;
 pub use comparing::{bs_first_difference, bs_same};
 pub use difference::{BsDifference, BsOpenBlock, BsStanding, BsValueDifference};

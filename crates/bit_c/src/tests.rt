@@ -4,10 +4,11 @@ use crate::difference::NO_DIFFERENCE;
 use crate::event::NONE;
 use crate::handle::closed_handle;
 use crate::{
-    BsBlockRow, BsCodeRow, BsEvent, BsFault, BsHandle, BsLeftOut, BsLimits, BsMagic, BsOpenBlock,
-    BsOperand, BsRecordName, BsTally, bs_analyse, bs_check, bs_close, bs_first_difference,
-    bs_hold_normal, bs_hold_report, bs_hold_show, bs_magic, bs_next, bs_normal, bs_open,
-    bs_operands, bs_report, bs_same, bs_show, bs_text, bs_usual_limits, bs_values,
+    BsBlockRow, BsCodeRow, BsEvent, BsFault, BsHandle, BsLeftOut, BsLimits, BsMagicBytes,
+    BsOpenBlock, BsOperand, BsRecordName, BsTally, bs_analyse, bs_check, bs_close,
+    bs_first_difference, bs_hold_normal, bs_hold_report, bs_hold_show, bs_magic, bs_next,
+    bs_normal, bs_open, bs_operands, bs_report, bs_same, bs_show, bs_text, bs_usual_limits,
+    bs_values,
 };
 use std::alloc::Global;
 
@@ -186,7 +187,7 @@ fn what_is_read(rt: HostRuntime) {
 #[test]
 fn what_is_defined(rt: HostRuntime) {
     let (mut handle, _) = closed_handle(rt.alloc());
-    let (mut fault, mut needed, mut magic) = (NO_FAULT, 0, BsMagic { bytes: [0; 4] });
+    let (mut fault, mut needed, mut magic) = (NO_FAULT, 0, BsMagicBytes { bytes: [0; 4] });
     let mut room = [BsOperand { kind: 9, value: 9 }; 3];
     let opened = bs_open(rt.alloc(), &DEFINES, &usual(), &mut handle, &mut fault);
     let told = bs_magic(rt.alloc(), &mut handle, &mut magic, &mut fault);

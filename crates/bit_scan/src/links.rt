@@ -67,6 +67,10 @@ fn fill(links: &mut Vec<u32>, len: usize) -> Result<(), AllocError>
     ensures len { OnOk result (len ≤ length links.new.items) }
 {
     if links.len() < len {
+        // The lists of links are many, so that doubling would leave much unused.
+        if links.capacity() < len {
+            links.reserve_exact((len - links.len()).saturating_add(len / 8))?;
+        }
         links.resize(len, 0)?;
     }
     Ok(())

@@ -45,13 +45,13 @@ fn slot_of(row: usize, code: u64) -> usize
     row % 32 * 64 + (code % 64) as usize
 }
 
-/// Has room for one more row. The lists of rows are many or long, so they grow by a quarter.
+/// Has room for one more row. The lists of rows are many, so that doubling would leave much unused.
 #[inline(always)]
 fn make_room<T>(rows: &mut Vec<T>) -> Result<(), AllocError>
     ensures { rows.new.items ≡ rows.old.items }
 {
     if rows.len() == rows.capacity() {
-        rows.reserve_exact(rows.len() / 4 + 1)?;
+        rows.reserve_exact(rows.len() / 8 + 1)?;
     }
     Ok(())
 }
