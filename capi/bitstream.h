@@ -131,7 +131,7 @@ uint32_t bs_normal(const uint8_t *bytes, size_t bytes_len, const struct bs_limit
 
 /* The same of the report of an analysis, as `bitstool analyse` prints it, which is never BS_TOO_LONG or BS_NAMES.
 
-   Reads the bytes once. Holds D and the rows of the analysis, at most 60 bytes for a byte of input; and the report if it fits the
+   Reads the bytes once. Holds D and the rows of the analysis, at most 30 bytes for a byte of input; and the report if it fits the
    room. */
 uint32_t bs_report(const uint8_t *bytes, size_t bytes_len, const struct bs_limits *limits, uint8_t *room, size_t room_len,
                    size_t *needed, struct bs_fault *fault);
@@ -251,7 +251,7 @@ struct bs_code_row {
 /* Analyses bytes, and tells the magic, the bits and how many rows there are. The rows, in order of first entry, go into the rooms,
    all of them or none: BS_DONE, or BS_ROOM; or BS_REFUSED, BS_MEMORY, BS_LIMITS, and then the tally is all zeros.
 
-   Reads the bytes once. Holds D and the rows, at most 60 bytes for a byte of input, and at the end the rows once more as the rooms
+   Reads the bytes once. Holds D and the rows, at most 30 bytes for a byte of input, and at the end the rows once more as the rooms
    take them. */
 uint32_t bs_analyse(const uint8_t *bytes, size_t bytes_len, const struct bs_limits *limits, struct bs_tally *tally,
                     struct bs_block_row *block_room, size_t block_room_len, struct bs_code_row *code_room, size_t code_room_len,
