@@ -14,6 +14,12 @@
    Calls in several threads do not disturb each other; a handle is used by the thread that opened it, one call at a time.
    No call keeps what it is passed, but bs_open, which says so.
 
+   What a call costs. Reading an input takes time in proportion to its bytes and its values; an array of values that take no bits has
+   up to the limit on values of them in a few bytes. Each call says how often it reads, and what memory it takes beside what the caller
+   holds: n for the bytes of an input; D for the definitions in force, at most 120 bytes for a byte of input that defines; V for the
+   values of one record, at most 8 bytes each; N for the names of what is left out, 80 bytes each; and a few kilobytes. Memory is given
+   back when a call ends, but for what a handle holds.
+
    The library needs an x86-64 processor of level v2, with SSE4.2 and POPCNT; on an older one a call can end the program by SIGILL. It
    calls malloc, realloc, free and the memory functions of C, and nothing else: it opens no file, prints nothing, and sets no signal
    handler. */
@@ -99,7 +105,7 @@ struct bs_bytes {
 #define BS_NO_BYTES {NULL, 0}
 
 /* The version of these calls, structures and numbers, and that of a library. They are the same where a program was built for the
-   library that it runs with. */
+   library that it runs with. A call that is added does not change it. */
 #define BS_VERSION 2
 uint32_t bs_version(void);
 
@@ -110,25 +116,37 @@ void bs_usual_limits(struct bs_limits *limits);
    the number. */
 void bs_reason_name(uint32_t number, struct bs_bytes *name);
 
-/* Whether bytes are accepted: BS_DONE, or BS_REFUSED, BS_MEMORY, BS_LIMITS. */
+/* Whether bytes are accepted: BS_DONE, or BS_REFUSED, BS_MEMORY, BS_LIMITS. Reads the bytes once, and holds D. */
 uint32_t bs_check(const uint8_t *bytes, size_t bytes_len, const struct bs_limits *limits, struct bs_fault *fault);
 
-/* Puts the normal form of what bytes hold, whole or without what is left out, into the room, and tells in `needed` how many bytes
-   it has: BS_DONE, or BS_ROOM; or BS_REFUSED, BS_TOO_LONG, BS_MEMORY, BS_LIMITS, BS_NAMES, and then `needed` is 0 and the room as
-   it was. */
+/* Puts the normal form of what bytes hold, whole or without what is left out, at the front of the room, and sets `needed` to the
+   number of its bytes; the rest of the room stays as it was: BS_DONE. Or BS_ROOM: the room is too small, `needed` is set, and the room
+   is as it was. Or BS_REFUSED, BS_TOO_LONG, BS_MEMORY, BS_LIMITS, BS_NAMES: `needed` is 0, and the room is as it was.
+
+   Reads the bytes once, whatever the room, so asking for the length with room 0 takes as long as the form. Holds D, N and the form,
+   which may be much longer than the input and is at most the limit on bytes; and the form once more if it fits the room. If the
+   length is not known, bs_hold_normal makes the form once. */
 uint32_t bs_normal(const uint8_t *bytes, size_t bytes_len, const struct bs_limits *limits, const struct bs_left_out *left_out,
                    uint8_t *room, size_t room_len, size_t *needed, struct bs_fault *fault);
 
-/* The same of the report of an analysis, as `bitstool analyse` prints it. */
+/* The same of the report of an analysis, as `bitstool analyse` prints it, which is never BS_TOO_LONG or BS_NAMES.
+
+   Reads the bytes once. Holds D and the rows of the analysis, at most 30 bytes for a byte of input; and the report if it fits the
+   room. */
 uint32_t bs_report(const uint8_t *bytes, size_t bytes_len, const struct bs_limits *limits, uint8_t *room, size_t room_len,
                    size_t *needed, struct bs_fault *fault);
 
-/* The same of the listing, as `bitstool show` prints it, whole or without what is left out. */
+/* The same of the listing, as `bitstool show` prints it, whole or without what is left out, which is never BS_TOO_LONG.
+
+   Reads the bytes twice, to judge them and to list them. Holds n, D, V and N; and the listing if it fits the room. A longer one is
+   counted and not held: the listing of a record has 2 to 21 bytes a value. */
 uint32_t bs_show(const uint8_t *bytes, size_t bytes_len, const struct bs_limits *limits, const struct bs_left_out *left_out,
                  uint8_t *room, size_t room_len, size_t *needed, struct bs_fault *fault);
 
-/* Whether two inputs have the same magic and the same blocks and records, whole or without what is left out: BS_DONE where they
-   have, BS_DIFFERENT, or BS_REFUSED, BS_MEMORY, BS_LIMITS, BS_NAMES. The second is refused only where the first is accepted. */
+/* Whether two inputs have the same magic and the same blocks and records, whole or without what is left out: BS_DONE if they
+   have, BS_DIFFERENT, or BS_REFUSED, BS_MEMORY, BS_LIMITS, BS_NAMES. The second is refused only if the first is accepted.
+
+   Reads the first twice, the second time in step with the second, which it reads once. Holds D of both, V of one record, and N. */
 uint32_t bs_same(const uint8_t *first, size_t first_len, const uint8_t *second, size_t second_len, const struct bs_limits *limits,
                  const struct bs_left_out *left_out, struct bs_fault *fault);
 
@@ -194,7 +212,7 @@ struct bs_difference {
 /* Compares two inputs, and tells where they first differ: BS_DIFFERENT, and the blocks that are open there, the outermost first, stand
    in the room; or BS_ROOM, where it does not hold them and is as it was, and all else is told. Or BS_DONE where they do not differ, or
    BS_REFUSED, BS_MEMORY, BS_LIMITS, BS_NAMES as bs_same; then the difference is all zeros, and the room as it was. A room for 255
-   blocks holds all that can be. */
+   blocks holds all that can be. Reads and holds what bs_same does. */
 uint32_t bs_first_difference(const uint8_t *first, size_t first_len, const uint8_t *second, size_t second_len,
                              const struct bs_limits *limits, const struct bs_left_out *left_out, struct bs_difference *difference,
                              struct bs_open_block *open_room, size_t open_room_len, struct bs_fault *fault);
@@ -231,7 +249,10 @@ struct bs_code_row {
 };
 
 /* Analyses bytes, and tells the magic, the bits and how many rows there are. The rows, in order of first entry, go into the rooms,
-   all of them or none: BS_DONE, or BS_ROOM; or BS_REFUSED, BS_MEMORY, BS_LIMITS, and then the tally is all zeros. */
+   all of them or none: BS_DONE, or BS_ROOM; or BS_REFUSED, BS_MEMORY, BS_LIMITS, and then the tally is all zeros.
+
+   Reads the bytes once. Holds D and the rows, at most 30 bytes for a byte of input, and at the end the rows once more as the rooms
+   take them. */
 uint32_t bs_analyse(const uint8_t *bytes, size_t bytes_len, const struct bs_limits *limits, struct bs_tally *tally,
                     struct bs_block_row *block_room, size_t block_room_len, struct bs_code_row *code_room, size_t code_room_len,
                     struct bs_fault *fault);
@@ -244,7 +265,9 @@ struct bs_handle {
 };
 
 /* Makes a text, as bs_normal, bs_report and bs_show do, and holds it behind the handle: BS_DONE; or what these say but BS_ROOM, and
-   then the handle is closed. A handle that is open is closed before. So a text is made once, and there can be room for it. */
+   then the handle is closed. A handle that is open is closed before. So a text is made once, and there can be room for it.
+
+   Read what these calls do with a room that is large enough, and hold the same; the handle then holds the text alone. */
 uint32_t bs_hold_normal(const uint8_t *bytes, size_t bytes_len, const struct bs_limits *limits, const struct bs_left_out *left_out,
                         struct bs_handle *handle, struct bs_fault *fault);
 uint32_t bs_hold_report(const uint8_t *bytes, size_t bytes_len, const struct bs_limits *limits, struct bs_handle *handle,
@@ -253,7 +276,7 @@ uint32_t bs_hold_show(const uint8_t *bytes, size_t bytes_len, const struct bs_li
                       struct bs_handle *handle, struct bs_fault *fault);
 
 /* Puts the text that is held into the room, and tells in `needed` how many bytes it has: BS_DONE, or BS_ROOM; or BS_CLOSED where the
-   handle holds no text. The handle stays open, until bs_close gives the text back. */
+   handle holds no text. The handle stays open, until bs_close gives the text back. Copies, and holds nothing. */
 uint32_t bs_text(struct bs_handle *handle, uint8_t *room, size_t room_len, size_t *needed, struct bs_fault *fault);
 
 enum {
@@ -280,19 +303,52 @@ struct bs_event {
     uint64_t after;
 };
 
+/* An operand of a definition. */
+enum {
+    BS_LITERAL = 0,
+    /* The numbers that the format has for these. */
+    BS_FIXED = 1,
+    BS_VBR = 2,
+    BS_ARRAY = 3,
+    BS_CHAR6 = 4,
+    BS_BLOB = 5
+};
+struct bs_operand {
+    uint32_t kind;
+    /* Of a literal its value, of BS_FIXED and BS_VBR the width in bits, else 0. */
+    uint64_t value;
+};
+
+/* The magic of a stream, its first byte first. */
+struct bs_magic_bytes {
+    uint8_t bytes[4];
+};
+
 /* Begins the events of bytes: BS_DONE; or BS_REFUSED, BS_MEMORY, BS_LIMITS, and then the handle is closed. A handle that is open is
-   closed before. The bytes stay where and as they are until the handle is closed. */
+   closed before. The bytes stay where and as they are until the handle is closed.
+
+   Reads the magic, and a wrapper if there is one. All events together read the bytes once; the handle holds D and V, and 16 bytes for
+   each operand of the last definition. */
 uint32_t bs_open(const uint8_t *bytes, size_t bytes_len, const struct bs_limits *limits, struct bs_handle *handle,
                  struct bs_fault *fault);
 
 /* The next event: BS_DONE, with an event of kind BS_OVER where no event is left and the whole input is accepted, and then that
    again ever after. Or BS_REFUSED or BS_MEMORY, and then the same with the same fault ever after; or BS_CLOSED, also where the handle
-   holds a text. These leave the event as it was. */
+   holds a text. These leave the event as it was. Reads the bytes of the event. */
 uint32_t bs_next(struct bs_handle *handle, struct bs_event *event, struct bs_fault *fault);
 
 /* Puts the values of the record that was given last into the room, and tells in `needed` how many they are, 0 where no record was
-   given: BS_DONE, or BS_ROOM; or what bs_next says after a fault or of a closed handle. */
+   given: BS_DONE, or BS_ROOM; or what bs_next says after a fault or of a closed handle, and then `needed` is 0. Copies, and holds
+   nothing. */
 uint32_t bs_values(struct bs_handle *handle, uint64_t *room, size_t room_len, size_t *needed, struct bs_fault *fault);
+
+/* The same of the operands of the definition that was given last, and `needed` is 0 where the event that was given last is no
+   definition. */
+uint32_t bs_operands(struct bs_handle *handle, struct bs_operand *room, size_t room_len, size_t *needed, struct bs_fault *fault);
+
+/* Tells the magic of the stream: BS_DONE, from bs_open on, and also after a fault; or BS_CLOSED, also where the handle holds a text, and
+   then the magic is as it was. */
+uint32_t bs_magic(struct bs_handle *handle, struct bs_magic_bytes *magic, struct bs_fault *fault);
 
 /* Closes a handle, and frees what it holds. Of a closed one nothing is done. */
 void bs_close(struct bs_handle *handle);

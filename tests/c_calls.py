@@ -53,6 +53,14 @@ class Event(Structure):
     _fields_ = [("kind", c_uint32), ("id", c_uint32), ("width", c_uint32), ("code", c_uint64), ("count", c_size_t), ("first", c_uint64), ("after", c_uint64)]
 
 
+class Operand(Structure):
+    _fields_ = [("kind", c_uint32), ("value", c_uint64)]
+
+
+class Magic(Structure):
+    _fields_ = [("bytes", c_uint8 * 4)]
+
+
 class OpenBlock(Structure):
     _fields_ = [("id", c_uint32), ("items", c_uint64)]
 
@@ -293,10 +301,36 @@ class Library:
             return told, list(held)
         return told, []
 
+    def operands(self, reader):
+        """The operands of the event that was given last, as the program prints them: asked with no room, with one place too few, and
+        with room for all."""
+        needed = c_size_t(77)
+        told, room = self.ask("bs_operands", byref(reader), room_of(Operand, 0), c_size_t(0), byref(needed)), needed.value
+        if told.status not in (DONE, ROOM) or (told.status == ROOM) != (room > 0):
+            return f"status {told.status}, {room} operands"
+        held = room_of(Operand, room)
+        ctypes.memset(held, 0xA5, ctypes.sizeof(held))
+        if room:
+            few = self.ask("bs_operands", byref(reader), held, c_size_t(room - 1), byref(needed))
+            if (few, needed.value, set(bytes_of(held))) != (told, room, {0xA5}):
+                return "a room that is too small was written to"
+            self.ask("bs_operands", byref(reader), held, c_size_t(room), byref(needed))
+        names = ("literal", "fixed", "vbr", "array", "char6", "blob")
+        shown = [f"{names[it.kind]} {it.value}" if it.kind < 3 else names[it.kind] * (it.value == 0) for it in held[:room]]
+        return " ".join(["", ", ".join(shown)]) if room else ""
+
+    def magic(self, reader):
+        """The magic of the stream that a reader reads."""
+        magic = Magic()
+        told = self.ask("bs_magic", byref(reader), byref(magic))
+        return bytes(magic.bytes).hex() if told == Told(DONE, 0, 0, 0) else told
+
     def events(self, given, options=()):
-        """The lines that the events make, but those of the magic and the operands, and how they ended."""
+        """The lines that the events make, but the bit of the first, and how they ended."""
         limits, reader, event, lines, depth = self.limits(options), Handle(), Event(), [], 0
         told = self.ask("bs_open", given, c_size_t(len(given)), byref(limits), byref(reader))
+        if told.status == DONE:
+            lines.append(f"magic {self.magic(reader)}")
         while told.status == DONE:
             told = self.ask("bs_next", byref(reader), byref(event))
             if told.status != DONE or event.kind == OVER:
@@ -314,7 +348,7 @@ class Library:
         if event.kind == RECORD:
             said, values = self.values(reader)
             return " ".join(map(str, ["record", event.code, "by", event.id, "count", event.count, *values])) if said.status == DONE else str(said)
-        return {DEFINE: "define", LEAVE: "end"}.get(event.kind, f"kind {event.kind}")
+        return {DEFINE: "define", LEAVE: "end"}.get(event.kind, f"kind {event.kind}") + self.operands(reader)
 
     def ending(self, reader, told):
         """What a reader says at its end: twice the same again, and then closed, and closed again."""
@@ -322,9 +356,13 @@ class Library:
         said = [self.ask("bs_next", byref(reader), byref(event)) for _ in range(2)]
         if told.status not in (DONE,):
             said.append(self.values(reader)[0])
+            said.append(self.ask("bs_operands", byref(reader), room_of(Operand, 0), c_size_t(0), byref(c_size_t())))
+        still = reader.live and isinstance(self.magic(reader), Told)
         wanted = [told if reader.live else Told(CLOSED, 0, 0, 0)] * len(said)
         closed = []
         for _ in range(2):
             self.calls.bs_close(byref(reader))
-            closed += [self.ask("bs_next", byref(reader), byref(event)).status, self.values(reader)[0].status]
-        return said == wanted and closed == [CLOSED] * 4 and not reader.live
+            closed += [self.ask("bs_next", byref(reader), byref(event)).status, self.values(reader)[0].status,
+                       self.ask("bs_operands", byref(reader), room_of(Operand, 0), c_size_t(0), byref(c_size_t())).status,
+                       self.ask("bs_magic", byref(reader), byref(Magic())).status]
+        return said == wanted and not still and closed == [CLOSED] * 8 and not reader.live

@@ -74,16 +74,23 @@ static uint64_t ask_events(const struct file *file, const struct bs_limits *limi
     struct bs_handle handle = {0};
     struct bs_fault fault;
     struct bs_event event = {0};
+    struct bs_magic_bytes magic = {{0}};
+    struct bs_operand operands[64];
     uint64_t values[64];
     size_t count = 0;
+    memset(operands, 0, sizeof operands);
     count_memory(1);
     uint32_t status = noted(bs_open(file->at, file->len, limits, &handle, &fault));
+    if (status == BS_DONE) noted(bs_magic(&handle, &magic, &fault));
     while (status == BS_DONE) {
         status = noted(bs_next(&handle, &event, &fault));
         sum = mixed(mixed(mixed(sum, status), event.kind), event.after);
         if (status != BS_DONE || event.kind == BS_OVER) break;
         if (event.kind == BS_RECORD && bs_values(&handle, values, 64, &count, &fault) == BS_DONE) {
             for (size_t i = 0; i < count; i++) sum = mixed(sum, values[i]);
+        }
+        if (event.kind == BS_DEFINE && bs_operands(&handle, operands, 64, &count, &fault) == BS_DONE) {
+            for (size_t i = 0; i < count; i++) sum = mixed(mixed(sum, operands[i].kind), operands[i].value);
         }
     }
     bs_close(&handle);

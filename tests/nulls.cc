@@ -49,6 +49,7 @@ int main() {
     is("bs_open", bs_open(at, len, &limits, &handle, &fault), BS_DONE);
     is("bs_next", bs_next(&handle, &event, &fault), BS_DONE);
     is("bs_values", bs_values(&handle, nullptr, 0, &needed, &fault), BS_DONE);
+    is("bs_operands", bs_operands(&handle, nullptr, 0, &needed, &fault), BS_DONE);
     bs_close(&handle);
     return failures != 0;
 }

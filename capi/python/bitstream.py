@@ -1,6 +1,6 @@
 """Streams in the LLVM bitstream container, by the C library libbitstream.so.
 
-`check`, `normal`, `show`, `report`, `same`, `first_difference` and `events` take bytes, or anything that `bytes` takes. A refused
+`check`, `normal`, `show`, `report`, `same`, `first_difference`, `magic` and `events` take bytes, or anything that `bytes` takes. A refused
 input raises `Refused`, which has the reason and the bit. The library is the file that the variable BITSTREAM_LIBRARY names, else
 the one below the prefix that this module is installed in, else the one that the system's loader finds."""
 import ctypes
@@ -14,6 +14,7 @@ _DONE, _DIFFERENT, _REFUSED, _MEMORY, _TOO_LONG, _LIMITS, _ROOM, _CLOSED, _NAMES
 _TEXTS = {_TOO_LONG: "normal form longer than the limit", _LIMITS: "a limit is past its cap",
           _CLOSED: "the handle is closed", _NAMES: "a name of records of BLOCKINFO blocks"}
 _DEPTH = 255
+_OPERANDS = ("literal", "fixed", "vbr", "array", "char6", "blob")
 
 
 class Limits(Structure):
@@ -49,6 +50,14 @@ class _Handle(Structure):
 class _Event(Structure):
     _fields_ = [("kind", c_uint32), ("id", c_uint32), ("width", c_uint32), ("code", c_uint64), ("count", c_size_t),
                 ("first", c_uint64), ("after", c_uint64)]
+
+
+class _Operand(Structure):
+    _fields_ = [("kind", c_uint32), ("value", c_uint64)]
+
+
+class _Magic(Structure):
+    _fields_ = [("bytes", c_uint8 * 4)]
 
 
 class _OpenBlock(Structure):
@@ -89,8 +98,9 @@ class LeftOut(NamedTuple):
 
 
 class Event(NamedTuple):
-    """An event: "block" with the block's id, "define", "record" with its abbreviation id, code and values, or "end"; and the bit at
-    which it begins, 0 for an end, and the bit after it. What its kind does not have is 0 or empty."""
+    """An event: "block" with the block's id, "define" with its operands, "record" with its abbreviation id, code and values, or "end";
+    and the bit at which it begins, 0 for an end, and the bit after it. What its kind does not have is 0 or empty. An operand is
+    ("literal", value), ("fixed", width), ("vbr", width), ("array", 0), ("char6", 0) or ("blob", 0)."""
     kind: str
     first: int
     after: int
@@ -98,6 +108,7 @@ class Event(NamedTuple):
     width: int = 0
     code: int = 0
     values: Tuple[int, ...] = ()
+    operands: Tuple[Tuple[str, int], ...] = ()
 
 
 class Standing(NamedTuple):
@@ -221,6 +232,26 @@ def _values(handle, count):
     return tuple(room)
 
 
+def _operands(handle):
+    needed, none = c_size_t(), (_Operand * 0)()
+    if _ask("bs_operands", byref(handle), none, c_size_t(0), byref(needed)) == _DONE:
+        return ()
+    room = (_Operand * needed.value)()
+    _ask("bs_operands", byref(handle), room, needed, byref(needed))
+    return tuple((_OPERANDS[it.kind], it.value) for it in room)
+
+
+def magic(data, limits=None):
+    """The magic of the stream of an input, of which only this and a wrapper are judged."""
+    handle, found, (given, length) = _Handle(), _Magic(), _input(data)
+    try:
+        _ask("bs_open", given, length, byref(limits or Limits()), byref(handle))
+        _ask("bs_magic", byref(handle), byref(found))
+        return bytes(found.bytes)
+    finally:
+        _calls.bs_close(byref(handle))
+
+
 def events(data, limits=None):
     """Yields the events of an input. Of a refused one it yields those before the fault, and then raises Refused."""
     handle, event, (given, length) = _Handle(), _Event(), _input(data)
@@ -232,6 +263,7 @@ def events(data, limits=None):
                 return
             kind = ("", "block", "define", "record", "end")[event.kind]
             values = _values(handle, event.count) if kind == "record" else ()
-            yield Event(kind, event.first, event.after, event.id, event.width, event.code, values)
+            operands = _operands(handle) if kind == "define" else ()
+            yield Event(kind, event.first, event.after, event.id, event.width, event.code, values, operands)
     finally:
         _calls.bs_close(byref(handle))

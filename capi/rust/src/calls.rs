@@ -45,6 +45,19 @@ pub struct Event {
 
 #[repr(C)]
 #[derive(Clone, Copy, Default)]
+pub struct Operand {
+    pub kind: u32,
+    pub value: u64,
+}
+
+#[repr(C)]
+#[derive(Default)]
+pub struct Magic {
+    pub bytes: [u8; 4],
+}
+
+#[repr(C)]
+#[derive(Clone, Copy, Default)]
 pub struct OpenBlock {
     pub id: u32,
     pub items: u64,
@@ -101,5 +114,7 @@ extern "C" {
     pub fn bs_open(bytes: *const u8, len: usize, limits: &Limits, handle: &mut Handle, fault: &mut Fault) -> u32;
     pub fn bs_next(handle: &mut Handle, event: &mut Event, fault: &mut Fault) -> u32;
     pub fn bs_values(handle: &mut Handle, room: *mut u64, room_len: usize, needed: &mut usize, fault: &mut Fault) -> u32;
+    pub fn bs_operands(handle: &mut Handle, room: *mut Operand, room_len: usize, needed: &mut usize, fault: &mut Fault) -> u32;
+    pub fn bs_magic(handle: &mut Handle, magic: &mut Magic, fault: &mut Fault) -> u32;
     pub fn bs_close(handle: &mut Handle);
 }

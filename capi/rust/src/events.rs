@@ -7,9 +7,32 @@ use std::marker::PhantomData;
 #[derive(Clone, Debug, PartialEq, Eq)]
 pub enum Event {
     Enter { id: u32, width: u32, first: u64, after: u64 },
-    Define { first: u64, after: u64 },
+    Define { operands: Vec<Operand>, first: u64, after: u64 },
     Record { abbreviation: u32, code: u64, values: Vec<u64>, first: u64, after: u64 },
     Leave { after: u64 },
+}
+
+/// An operand of a definition: a literal's value, or a width in bits.
+#[derive(Clone, Copy, Debug, PartialEq, Eq)]
+pub enum Operand {
+    Literal(u64),
+    Fixed(u8),
+    Vbr(u8),
+    Array,
+    Char6,
+    Blob,
+}
+
+fn operand_of(it: &calls::Operand) -> Operand {
+    match it.kind {
+        0 => Operand::Literal(it.value),
+        // Widths are at most 64.
+        1 => Operand::Fixed(it.value as u8),
+        2 => Operand::Vbr(it.value as u8),
+        3 => Operand::Array,
+        4 => Operand::Char6,
+        _ => Operand::Blob,
+    }
 }
 
 /// Iterates over the events of an input. Of a refused one it gives those before the fault, and then the error once.
@@ -36,6 +59,25 @@ impl<'a> Events<'a> {
         Ok(values)
     }
 
+    /// The magic of the stream, its first byte first.
+    pub fn magic(&mut self) -> [u8; 4] {
+        let (mut magic, mut fault) = (calls::Magic::default(), Fault::default());
+        // SAFETY: the handle is open, so the call cannot fail.
+        unsafe { calls::bs_magic(&mut self.held.0, &mut magic, &mut fault) };
+        magic.bytes
+    }
+
+    fn operands(&mut self) -> Result<Vec<Operand>, Error> {
+        let (mut needed, mut fault) = (0, Fault::default());
+        // SAFETY: an empty room may have any pointer.
+        unsafe { calls::bs_operands(&mut self.held.0, std::ptr::null_mut(), 0, &mut needed, &mut fault) };
+        let mut room = vec![calls::Operand::default(); needed];
+        // SAFETY: the room is initialised, and borrowed alone.
+        let status = unsafe { calls::bs_operands(&mut self.held.0, room.as_mut_ptr(), needed, &mut needed, &mut fault) };
+        ended(status, &fault)?;
+        Ok(room.iter().map(operand_of).collect())
+    }
+
     fn step(&mut self) -> Result<Option<Event>, Error> {
         let (mut it, mut fault) = (calls::Event::default(), Fault::default());
         // SAFETY: the handle is open.
@@ -44,7 +86,7 @@ impl<'a> Events<'a> {
         let calls::Event { kind, id, width, code, count, first, after } = it;
         Ok(match kind {
             1 => Some(Event::Enter { id, width, first, after }),
-            2 => Some(Event::Define { first, after }),
+            2 => Some(Event::Define { operands: self.operands()?, first, after }),
             3 => Some(Event::Record { abbreviation: id, code, values: self.values(count)?, first, after }),
             4 => Some(Event::Leave { after }),
             _ => None,

@@ -4,7 +4,7 @@ mod difference;
 mod events;
 
 pub use difference::{first_difference, Difference, Standing};
-pub use events::{Event, Events};
+pub use events::{Event, Events, Operand};
 
 use calls::{Fault, Handle};
 use std::fmt;

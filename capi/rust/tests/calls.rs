@@ -1,5 +1,5 @@
 //! Each call, on a stream of one record that is abbreviated in no way, and on a broken one.
-use bitstream::{check, first_difference, normal, report, same, show, Error, Event, Events, LeftOut, Limits, RecordName, Standing};
+use bitstream::{check, first_difference, normal, report, same, show, Error, Event, Events, LeftOut, Limits, Operand, RecordName, Standing};
 
 /// A block with id 8 whose ids are 3 bits wide, and in it record 1 with the value `value`.
 fn stream(value: u8) -> Vec<u8> {
@@ -29,6 +29,15 @@ fn differences_and_names() {
     assert_eq!(first_difference(&given, b"DIAG", &limits, &left_out), Ok(None));
     let info = LeftOut { records: &[RecordName { block: 0, code: 1 }], ..whole };
     assert_eq!(same(&given, &given, &limits, &info), Err(Error::Names));
+}
+
+#[test]
+fn definitions() {
+    let given = b"DIAG\x21\x08\0\0\x01\0\0\0\x8e\x05\x46\x06";
+    let mut events = Events::new(given, &Limits::default()).unwrap();
+    assert_eq!(events.magic(), *b"DIAG");
+    let Some(Ok(Event::Define { operands, first: 96, .. })) = events.nth(1) else { panic!() };
+    assert_eq!(operands, [Operand::Literal(5), Operand::Array, Operand::Vbr(6)]);
 }
 
 #[test]

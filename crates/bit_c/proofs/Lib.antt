@@ -3,3 +3,4 @@ pub mod Compared
 pub mod Handed
 pub mod Inputs
 pub mod Making
+pub mod Walks

@@ -13,11 +13,19 @@ use Rattle.bit_norm.specs.Whole.{Normalises}
 use Rattle.bit_scan.specs.Reporting.{Reports}
 use Rattle.bit_scan.specs.Showing.{Shows}
 use Rattle.bit_c.specs.declared.outcome.Outcome.{Outcome}
+use Rattle.bit_c.specs.declared.outcome.Outcome.TheVariants.{Memory}
+use Rattle.bit_c.specs.declared.texts.Text.{Text}
 use Rattle.bit_c.specs.declared.texts.Text.TheVariants.{Form, Report, Listing}
 use Rattle.bit_c.specs.Texts.{IsTextOf, FailsText}
 use Rattle.bit_c.specs.Ending.{ended_by}
 use Rattle.bit_c.specs.Handing.{Makes}
 use Rattle.bit_c.proofs.Inputs.{known}
+
+-- there may be no memory for any text
+pub no_memory : (text : Text) (setting : Setting) (limits : blocks.Limits) (bytes : List ℕ) → FailsText text setting limits bytes Memory
+no_memory Form setting limits bytes = tt
+no_memory Report setting limits bytes = tt
+no_memory Listing setting limits bytes = tt
 
 by_fault : (setting : Setting) (limits : blocks.Limits) (i now : Incoming) (bytes : List ℕ) (old new : Outgoing) (why : Fault) (text : Option (List ℕ)) → i.to_come ≡ Some bytes
     → Normalises setting limits i old (Err why) now new → Makes (IsTextOf Form setting limits bytes) (FailsText Form setting limits bytes) (ended_by 0 why) text

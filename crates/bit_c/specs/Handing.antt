@@ -1,7 +1,7 @@
 -- What is handed out into the caller's room.
 use Rattle.std.specs.Prelude.{◌≡◌, ◌<◌, ◌≤◌, ◌++◌, ℕ, Bool, true, false, List, length, drop, Option, Some, None}
 use Rattle.bit_c.specs.declared.outcome.Outcome.{Outcome}
-use Rattle.bit_c.specs.declared.outcome.Outcome.TheVariants.{Done, Room}
+use Rattle.bit_c.specs.declared.outcome.Outcome.TheVariants.{Done, Memory, Room}
 
 -- the room has enough, and the items stand at its front; or it has not, and is as it was
 abbrev pub FillsRoom : {A : Type 0} → List A → List A → Bool → List A → Type 0
@@ -19,9 +19,14 @@ HandsOut items old needed new outcome = ⊥
 abbrev pub LeavesRoom : {A : Type 0} → List A → ℕ → List A → Type 0
 LeavesRoom old needed new = (needed ≡ 0) × (new ≡ old)
 
+-- a text was handed out, or the room has not enough for it; or there was no memory
+abbrev pub HandsKept : List ℕ → List ℕ → ℕ → List ℕ → Outcome → Type 0
+HandsKept text old needed new Memory = LeavesRoom old needed new
+HandsKept text old needed new outcome = HandsOut text old needed new outcome
+
 -- What a call made was handed out, where it was done.
 abbrev pub Hands : Outcome → Option (List ℕ) → List ℕ → ℕ → List ℕ → Outcome → Type 0
-Hands Done (Some text) old needed new outcome = HandsOut text old needed new outcome
+Hands Done (Some text) old needed new outcome = HandsKept text old needed new outcome
 Hands Done None old needed new outcome = ⊥
 Hands made text old needed new outcome = LeavesRoom old needed new × (outcome ≡ made)
 

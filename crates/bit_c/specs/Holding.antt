@@ -12,14 +12,14 @@ use Rattle.bit_c.specs.Texts.{IsTextOf, FailsText}
 
 -- a text was put behind a handle; or there was no memory, and it is closed
 abbrev pub PutsBehind : List ℕ → Option Home → Outcome → Type 0
-PutsBehind text (Some (home.Text made)) Done = made.bytes.items ≡ text
+PutsBehind text (Some (home.Text made)) Done = made.items ≡ text
 PutsBehind text None Memory = ⊤
 PutsBehind text new outcome = ⊥
 
 -- The text was made and is held behind a handle; or it was not, for this reason, and the handle is closed.
 abbrev pub Holds : Text → Setting → blocks.Limits → List ℕ → Option Home → Outcome → Type 0
 Holds text setting limits bytes (Some (home.Text made)) Done = IsTextOf text setting limits bytes
-    made.bytes.items
+    made.items
 Holds text setting limits bytes (Some other) outcome = ⊥
 Holds text setting limits bytes None outcome = FailsText text setting limits bytes outcome
 

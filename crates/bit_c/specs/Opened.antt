@@ -14,4 +14,4 @@ reading_of (Some (home.Text text)) = None
 abbrev pub text_of : Option Home → Option (List ℕ)
 text_of None = None
 text_of (Some (home.Reading reading)) = None
-text_of (Some (home.Text text)) = Some text.bytes.items
+text_of (Some (home.Text text)) = Some text.items

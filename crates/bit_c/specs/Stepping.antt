@@ -1,15 +1,21 @@
 -- Events one at a time, as C sees them.
-use Rattle.std.specs.Prelude.{◌≡◌, ℕ, List, [], length, Option, Some, None, Result, Ok, Err, MatchOption}
+use Rattle.std.specs.Prelude.{◌≡◌, ◌⊎◌, ℕ, List, [], length, map, Option, Some, None, Result, Ok, Err, MatchOption}
 use Rattle.bit_grammar.specs.Blocks as blocks
 use Rattle.bit_grammar.specs.Machine.{Event, enters, defines, notes, leaves}
+use Rattle.bit_grammar.specs.declared.op.Op.{Op}
+use Rattle.bit_grammar.specs.declared.op.Op.TheVariants.{Literal, Fixed, Vbr, Array, Char6, Blob}
 use Rattle.bit_fields.specs.declared.fault.Fault.{Fault}
+use Rattle.bit_fields.specs.declared.fault.Fault.TheVariants.{Memory}
+use Rattle.bit_fields.specs.Opening.{magic_number}
 use Rattle.bit_fields.specs.Devices.{Incoming}
 use Rattle.bit_events.specs.Coming.{Coming, Goes}
 use Rattle.bit_events.specs.Events.{Begun}
+use Rattle.bit_c.specs.declared.asking.BsMagicBytes.{BsMagicBytes}
 use Rattle.bit_c.specs.declared.event.BsEvent.{BsEvent}
 use Rattle.bit_c.specs.declared.home.Home.{Home}
 use Rattle.bit_c.specs.declared.home.Home.TheVariants as home
 use Rattle.bit_c.specs.declared.home.Reading.{Reading}
+use Rattle.bit_c.specs.declared.operand.BsOperand.{BsOperand}
 use Rattle.bit_c.specs.declared.outcome.Outcome.{Outcome}
 use Rattle.bit_c.specs.declared.outcome.Outcome.TheVariants.{Done, Closed}
 use Rattle.bit_c.specs.Calls.{FailsCall}
@@ -57,10 +63,34 @@ event_told (Some (leaves after)) = record {
   after = after;
 }
 
--- what a call for the next event does, which shows it
-abbrev pub Gets : Coming → Result BsEvent Fault → Coming → Type 0
-Gets old (Ok e) new = (event : Option Event) × (e ≡ event_told event) × Goes old (Ok event) new
-Gets old (Err fault) new = Goes old (Err fault) new
+-- an operand as it is shown: the format's number of its kind, which a literal does not have
+abbrev pub operand_told : Op → BsOperand
+operand_told (Literal value) = record { kind = 0; value = value }
+operand_told (Fixed width) = record { kind = 1; value = width }
+operand_told (Vbr width) = record { kind = 2; value = width }
+operand_told Array = record { kind = 3; value = 0 }
+operand_told Char6 = record { kind = 4; value = 0 }
+operand_told Blob = record { kind = 5; value = 0 }
+
+-- the operands of an event, which only a definition has
+abbrev pub operands_in : Event → List BsOperand
+operands_in (defines mark) = map operand_told mark.ops
+operands_in (enters o) = []
+operands_in (notes mark) = []
+operands_in (leaves after) = []
+
+abbrev pub operands_if_any : Option Event → List BsOperand
+operands_if_any None = []
+operands_if_any (Some event) = operands_in event
+
+-- What a call for the next event does, which shows it and its operands. Where there is no memory for the operands, the event is
+-- lost.
+abbrev pub Gets : Coming → Result BsEvent Fault → List BsOperand → Coming → Type 0
+Gets old (Ok e) operands new = (event : Option Event) × (e ≡ event_told event)
+    × (operands ≡ operands_if_any event) × Goes old (Ok event) new
+Gets old (Err Memory) operands new = Goes old (Err Memory) new
+    ⊎ ((event : Event) × Goes old (Ok (Some event)) new)
+Gets old (Err fault) operands new = Goes old (Err fault) new
 
 -- ---- a handle
 
@@ -70,12 +100,13 @@ whole bytes = record { to_come = Some bytes; pulls = 0; failures = 0; accounts =
 
 -- the events of the bytes were begun; or not, for this reason
 abbrev pub BeginsReading : blocks.Limits → List ℕ → Result Reading Outcome → Type 0
-BeginsReading limits bytes (Ok new) = (new.fault ≡ None) × Begun limits (whole bytes) new.events
+BeginsReading limits bytes (Ok new) = (new.fault ≡ None) × (new.operands.items ≡ [])
+    × Begun limits (whole bytes) new.events
 BeginsReading limits bytes (Err outcome) = FailsCall limits bytes outcome
 
 -- The events of the bytes are begun behind a handle; or it is closed, for this reason.
 abbrev pub OpensHandle : blocks.Limits → List ℕ → Option Reading → Outcome → Type 0
-OpensHandle limits bytes (Some new) Done = (new.fault ≡ None)
+OpensHandle limits bytes (Some new) Done = (new.fault ≡ None) × (new.operands.items ≡ [])
     × Begun limits (whole bytes) new.events
 OpensHandle limits bytes (Some new) outcome = ⊥
 OpensHandle limits bytes None outcome = FailsCall limits bytes outcome
@@ -92,7 +123,7 @@ KeepsAnswer old before (Err fault) new after outcome = (outcome ≡ ended_by 0 f
 abbrev pub GoesOnReading : (old : Reading) → (before : BsEvent) → Reading → BsEvent → Outcome
     → Type 0
 GoesOnReading old before new after outcome = (answer : Result BsEvent Fault)
-    × Gets old.events answer new.events × KeepsAnswer old before answer new after outcome
+    × Gets old.events answer new.operands.items new.events × KeepsAnswer old before answer new after outcome
 
 -- a call for the next event of events that met a fault says that fault again, and changes nothing
 abbrev pub SaysAgain : Reading → BsEvent → Fault → Reading → BsEvent → Outcome → Type 0
@@ -119,15 +150,31 @@ NextsIn (home.Text old) before (home.Text new) after outcome = (outcome ≡ Clos
     × (new ≡ old)
 NextsIn old before new after outcome = ⊥
 
--- ---- values
+-- ---- what is asked between two events
 
--- those of the record that was given last were handed out; or the fault that was met was said, and nothing was
-abbrev pub Lists : Reading → List ℕ → ℕ → List ℕ → Outcome → Type 0
-Lists reading old needed new outcome = MatchOption reading.fault
-    (HandsOut reading.events.held old needed new outcome)
+-- the values of the record that was given last
+abbrev pub values_held : Reading → List ℕ
+values_held reading = reading.events.held
+
+-- the operands of the event that was given last
+abbrev pub operands_held : Reading → List BsOperand
+operands_held reading = reading.operands.items
+
+-- these were handed out; or the fault that was met was said, and nothing was
+abbrev pub Lists : {A : Type 0} → (Reading → List A) → Reading → List A → ℕ → List A → Outcome
+    → Type 0
+Lists held reading old needed new outcome = MatchOption reading.fault
+    (HandsOut (held reading) old needed new outcome)
     (λ fault. (outcome ≡ ended_by 0 fault) × LeavesRoom old needed new)
 
 -- the same of a handle; a closed one says that it is
-abbrev pub ListsOf : Option Reading → List ℕ → ℕ → List ℕ → Outcome → Type 0
-ListsOf None old needed new outcome = (outcome ≡ Closed) × LeavesRoom old needed new
-ListsOf (Some reading) old needed new outcome = Lists reading old needed new outcome
+abbrev pub ListsOf : {A : Type 0} → (Reading → List A) → Option Reading → List A → ℕ → List A
+    → Outcome → Type 0
+ListsOf held None old needed new outcome = (outcome ≡ Closed) × LeavesRoom old needed new
+ListsOf held (Some reading) old needed new outcome = Lists held reading old needed new outcome
+
+-- The magic of the stream was told; or the handle is closed or holds a text, which is said, and nothing was told.
+abbrev pub TellsMagic : Option Reading → BsMagicBytes → BsMagicBytes → Outcome → Type 0
+TellsMagic None old new outcome = (outcome ≡ Closed) × (new ≡ old)
+TellsMagic (Some reading) old new outcome = (outcome ≡ Done)
+    × (magic_number new.bytes ≡ reading.events.head.magic)

@@ -4,8 +4,10 @@ ghost use Rattle.std.specs.Prelude.{◌≡◌, None, Some};
 ghost use Rattle.bit_events.specs.EventView.{event_shown};
 ghost use Rattle.bit_c.specs.Stepping.{Gets, event_told};
 
+use crate::operand::{BsOperand, put_operands};
 use bit_events::{Event, Events};
 use bit_fields::{Fault, SliceSource};
+use std::alloc::AllocError;
 
 const OVER: u32 = 0;
 
@@ -100,12 +102,19 @@ fn event_of(event: Event<'_>) -> BsEvent
     }
 }
 
-/// The next event as C sees it.
-pub(crate) fn next_of(events: &mut Events<SliceSource<'static>>) -> Result<BsEvent, Fault>
-    ensures { Gets events.old result events.new }
+/// The next event as C sees it. Its operands, where it is a definition, come in the place of those that are there.
+pub(crate) fn next_of(
+    events: &mut Events<SliceSource<'static>>,
+    operands: &mut Vec<BsOperand>,
+) -> Result<BsEvent, Fault>
+    ensures { Gets events.old result operands.new.items events.new }
 {
+    operands.clear();
     match events.next()? {
-        Some(event) => Ok(event_of(event)),
+        Some(event) => match put_operands(operands, event) {
+            Ok(()) => Ok(event_of(event)),
+            Err(AllocError) => Err(Fault::Memory),
+        },
         None => Ok(NONE),
     }
 }

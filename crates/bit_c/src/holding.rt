@@ -14,22 +14,35 @@ use crate::left_out::{BsLeftOut, asked_of};
 use crate::limits::BsLimits;
 use crate::outcome::{BsFault, Outcome};
 use crate::room::hand_out;
+use crate::room_sink::RoomSink;
 use crate::texts::{Text, make};
-use bit_fields::{Limits, VecSink};
+use bit_fields::Limits;
 use bit_norm::Info;
 use std::alloc::Global;
 
 /// Puts a text behind a handle that is closed.
-fn put_behind(alloc: Global, made: VecSink, handle: &mut BsHandle) -> Outcome
+fn put_behind(alloc: Global, text: Vec<u8>, handle: &mut BsHandle) -> Outcome
     requires { handle.old.inner.home ≡ None }
-    ensures { PutsBehind made.bytes.items handle.new.inner.home result }
+    ensures { PutsBehind text.items handle.new.inner.home result }
 {
-    match Box::new(alloc, Home::Text(made)) {
+    match Box::new(alloc, Home::Text(text)) {
         Ok(home) => {
             *handle = handle_of(home);
             Outcome::Done
         }
         Err(_) => Outcome::Memory,
+    }
+}
+
+/// Puts the text that a sink kept behind a handle that is closed.
+fn put_kept(alloc: Global, made: RoomSink, handle: &mut BsHandle) -> Outcome
+    requires { handle.old.inner.home ≡ None }
+    ensures { PutsBehind made.took.bytes handle.new.inner.home result }
+{
+    match made.into_kept() {
+        Some(text) => put_behind(alloc, text, handle),
+        // A sink for the largest room keeps every text.
+        None => Outcome::Memory,
     }
 }
 
@@ -45,9 +58,9 @@ fn hold(
     requires { handle.old.inner.home ≡ None }
     ensures { Holds text (setting_of info.entry) limits bytes.now handle.new.inner.home result }
 {
-    let (outcome, made) = make(alloc, bytes, limits, text, info);
+    let (outcome, made) = make(alloc, bytes, limits, text, info, usize::MAX);
     match outcome {
-        Outcome::Done => put_behind(alloc, made, handle),
+        Outcome::Done => put_kept(alloc, made, handle),
         other => other,
     }
 }
@@ -145,7 +158,7 @@ fn tell_in(home: &Home, room: &mut [u8], needed: &mut usize) -> Outcome
     ensures { TellsText (text_of (Some home.now)) room.old needed.new room.new result }
 {
     match home {
-        Home::Text(made) => hand_out(made.bytes(), room, needed),
+        Home::Text(text) => hand_out(text.as_slice(), room, needed),
         Home::Reading(_) => {
             *needed = 0;
             Outcome::Closed

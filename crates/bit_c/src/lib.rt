@@ -11,6 +11,7 @@
 #![tactic(auto)]
 
 mod analysing;
+mod asking;
 mod checking;
 mod comparing;
 mod difference;
@@ -21,16 +22,20 @@ mod home;
 mod inner;
 mod left_out;
 mod limits;
+mod operand;
 mod outcome;
 mod parts;
 mod reading;
 mod reasons;
 mod room;
+mod room_sink;
 #[cfg(test)]
 mod tests;
 mod texts;
+mod took;
 
 pub use analysing::{BsBlockRow, BsCodeRow, BsTally, bs_analyse};
+pub use asking::{BsMagicBytes, bs_magic, bs_operands, bs_values};
 pub use checking::bs_check;
 pub use comparing::{bs_first_difference, bs_same};
 pub use difference::{BsDifference, BsOpenBlock, BsStanding, BsValueDifference};
@@ -39,7 +44,8 @@ pub use handle::BsHandle;
 pub use holding::{bs_hold_normal, bs_hold_report, bs_hold_show, bs_text};
 pub use left_out::{BsLeftOut, BsRecordName};
 pub use limits::{BsLimits, bs_usual_limits};
+pub use operand::BsOperand;
 pub use outcome::BsFault;
-pub use reading::{bs_close, bs_next, bs_open, bs_values};
+pub use reading::{bs_close, bs_next, bs_open};
 pub use reasons::{bs_reason_name, bs_version};
 pub use texts::{bs_normal, bs_report, bs_show};

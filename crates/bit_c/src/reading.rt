@@ -1,17 +1,16 @@
 //! The calls of the reader of events.
 
-ghost use Rattle.std.specs.Prelude.{◌≡◌, None, Some};
+ghost use Rattle.std.specs.Prelude.{◌≡◌, None};
 ghost use Rattle.bit_c.specs.Ending.{EndsCall};
 ghost use Rattle.bit_c.specs.Limiting.{Within, limits_told};
 ghost use Rattle.bit_c.specs.Opened.{reading_of};
-ghost use Rattle.bit_c.specs.Stepping.{BeginsReading, Lists, ListsOf, Nexts, NextsIn, OpensHandle, StepsReading};
+ghost use Rattle.bit_c.specs.Stepping.{BeginsReading, Nexts, NextsIn, OpensHandle, StepsReading};
 
 use crate::event::{BsEvent, next_of};
 use crate::handle::{BsHandle, handle_of, take_out};
 use crate::home::{Home, Reading};
 use crate::limits::BsLimits;
 use crate::outcome::{BsFault, Outcome};
-use crate::room::hand_out;
 use bit_events::Events;
 use bit_fields::{Limits, SliceSource};
 use std::alloc::Global;
@@ -24,6 +23,7 @@ fn begin(alloc: Global, bytes: &'static [u8], limits: Limits) -> Result<Reading,
         Ok(events) => Ok(Reading {
             events,
             fault: None,
+            operands: Vec::new(alloc),
         }),
         Err((fault, _)) => Err(Outcome::of(0, fault)),
     }
@@ -87,7 +87,7 @@ fn step(reading: &mut Reading, event: &mut BsEvent) -> Outcome
     if let Some(fault) = reading.fault {
         return Outcome::of(0, fault);
     }
-    match next_of(&mut reading.events) {
+    match next_of(&mut reading.events, &mut reading.operands) {
         Ok(found) => {
             *event = found;
             Outcome::Done
@@ -136,64 +136,6 @@ pub extern "C" fn bs_next(
         (reading_of handle.new.inner.home) event.new) }
 {
     step_of(alloc, handle, event).tell(fault)
-}
-
-/// Hands out the values of the record that was given last.
-fn list(reading: &Reading, room: &mut [u64], needed: &mut usize) -> Outcome
-    ensures { Lists reading.now room.old needed.new room.new result }
-{
-    if let Some(fault) = reading.fault {
-        *needed = 0;
-        return Outcome::of(0, fault);
-    }
-    hand_out(reading.events.values(), room, needed)
-}
-
-/// The same of what a handle leads to.
-fn list_in(home: &Home, room: &mut [u64], needed: &mut usize) -> Outcome
-    ensures { ListsOf (reading_of (Some home.now)) room.old needed.new room.new result }
-{
-    match home {
-        Home::Reading(reading) => list(reading, room, needed),
-        Home::Text(_) => {
-            *needed = 0;
-            Outcome::Closed
-        }
-    }
-}
-
-/// The same of a handle, which stays as it is.
-fn list_of(alloc: Global, handle: &mut BsHandle, room: &mut [u64], needed: &mut usize) -> Outcome
-    ensures kept { handle.new.inner.home ≡ handle.old.inner.home }
-    ensures lists { ListsOf (reading_of handle.old.inner.home) room.old needed.new room.new result }
-{
-    match take_out(alloc, handle) {
-        Some(home) => {
-            let outcome = list_in(&home, room, needed);
-            *handle = handle_of(home);
-            outcome
-        }
-        None => {
-            *needed = 0;
-            Outcome::Closed
-        }
-    }
-}
-
-/// Puts the values of the record that was given last into the caller's room, and tells how many they are.
-#[unsafe(no_mangle)]
-pub extern "C" fn bs_values(
-    alloc: Global,
-    handle: &mut BsHandle,
-    room: &mut [u64],
-    needed: &mut usize,
-    fault: &mut BsFault,
-) -> u32
-    ensures kept { handle.new.inner.home ≡ handle.old.inner.home }
-    ensures lists { EndsCall result fault.new
-        (ListsOf (reading_of handle.old.inner.home) room.old needed.new room.new) }
-{
-    list_of(alloc, handle, room, needed).tell(fault)
 }
 
 /// Closes a handle, of events or of a text, and frees what it leads to. Closing one that is closed does nothing.

@@ -1,10 +1,11 @@
 //! The caller's room.
 
 ghost use Rattle.std.specs.Prelude.{◌≤◌, length, true};
-ghost use Rattle.bit_c.specs.Handing.{FillsRoom, Hands, HandsOut};
+ghost use Rattle.bit_c.specs.Handing.{FillsRoom, Hands, HandsKept, HandsOut};
 
 use crate::outcome::Outcome;
-use bit_fields::{Sink, VecSink};
+use crate::room_sink::RoomSink;
+use bit_fields::Sink;
 
 /// Puts items at the front of the caller's room.
 pub(crate) fn put<T: Copy>(items: &[T], room: &mut [T])
@@ -26,13 +27,35 @@ pub(crate) fn hand_out<T: Copy>(items: &[T], room: &mut [T], needed: &mut usize)
     Outcome::Done
 }
 
+/// Puts what a sink for the caller's room kept at the front of the room, where it has enough, and tells how many bytes the sink
+/// took.
+fn hand_kept(made: &RoomSink, room: &mut [u8], needed: &mut usize) -> Outcome
+    ensures { HandsKept made.now.took.bytes room.old needed.new room.new result }
+{
+    if let Some(text) = made.kept() {
+        return hand_out(text, room, needed);
+    }
+    if made.taken() > room.len() {
+        *needed = made.taken();
+        return Outcome::Room;
+    }
+    // A sink for this room keeps a text that fits it.
+    *needed = 0;
+    Outcome::Memory
+}
+
 /// Puts what a call made at the front of the caller's room, where it was done; else leaves the room as it was.
-pub(crate) fn hand(outcome: Outcome, made: &VecSink, room: &mut [u8], needed: &mut usize) -> Outcome
-    ensures { Hands outcome (⟦<VecSink as Sink>⟧.outgoing made.now).bytes room.old needed.new
+pub(crate) fn hand(
+    outcome: Outcome,
+    made: &RoomSink,
+    room: &mut [u8],
+    needed: &mut usize,
+) -> Outcome
+    ensures { Hands outcome (⟦<RoomSink as Sink>⟧.outgoing made.now).bytes room.old needed.new
         room.new result }
 {
     match outcome {
-        Outcome::Done => hand_out(made.bytes(), room, needed),
+        Outcome::Done => hand_kept(made, room, needed),
         other => {
             *needed = 0;
             other

@@ -4,10 +4,11 @@ use crate::difference::NO_DIFFERENCE;
 use crate::event::NONE;
 use crate::handle::closed_handle;
 use crate::{
-    BsBlockRow, BsCodeRow, BsEvent, BsFault, BsHandle, BsLeftOut, BsLimits, BsOpenBlock,
-    BsRecordName, BsTally, bs_analyse, bs_check, bs_close, bs_first_difference, bs_hold_normal,
-    bs_hold_report, bs_hold_show, bs_next, bs_normal, bs_open, bs_report, bs_same, bs_show,
-    bs_text, bs_usual_limits, bs_values,
+    BsBlockRow, BsCodeRow, BsEvent, BsFault, BsHandle, BsLeftOut, BsLimits, BsMagicBytes,
+    BsOpenBlock, BsOperand, BsRecordName, BsTally, bs_analyse, bs_check, bs_close,
+    bs_first_difference, bs_hold_normal, bs_hold_report, bs_hold_show, bs_magic, bs_next,
+    bs_normal, bs_open, bs_operands, bs_report, bs_same, bs_show, bs_text, bs_usual_limits,
+    bs_values,
 };
 use std::alloc::Global;
 
@@ -158,6 +159,11 @@ fn what_is_counted(rt: HostRuntime) {
     assert!(rt; status == 0 && tally.bits == 128 && blocks[0].values == 1 && codes[0].code == 1);
 }
 
+/// A magic, and block 8 with a definition: the literal 5, and an array of VBR 6.
+static DEFINES: [u8; 16] = [
+    0x42, 0x43, 0xC0, 0xDE, 0x21, 0x08, 0x00, 0x00, 0x01, 0x00, 0x00, 0x00, 0x8E, 0x05, 0x46, 0x06,
+];
+
 /// The kind and the number of values of the next event.
 fn next(alloc: Global, handle: &mut BsHandle) -> (u32, u32, usize) {
     let (mut event, mut fault) = (NONE, NO_FAULT);
@@ -176,4 +182,26 @@ fn what_is_read(rt: HostRuntime) {
     assert!(rt; values == 0 && needed == 1 && room == [30, 0]);
     bs_close(rt.alloc(), &mut handle);
     assert!(rt; next(rt.alloc(), &mut handle) == (7, 0, 0));
+}
+
+#[test]
+fn what_is_defined(rt: HostRuntime) {
+    let (mut handle, _) = closed_handle(rt.alloc());
+    let (mut fault, mut needed, mut magic) = (NO_FAULT, 0, BsMagicBytes { bytes: [0; 4] });
+    let mut room = [BsOperand { kind: 9, value: 9 }; 3];
+    let opened = bs_open(rt.alloc(), &DEFINES, &usual(), &mut handle, &mut fault);
+    let told = bs_magic(rt.alloc(), &mut handle, &mut magic, &mut fault);
+    assert!(rt; opened == 0 && told == 0 && magic.bytes == [0x42, 0x43, 0xC0, 0xDE]);
+    let kinds = [
+        next(rt.alloc(), &mut handle).1,
+        next(rt.alloc(), &mut handle).1,
+    ];
+    let status = bs_operands(rt.alloc(), &mut handle, &mut room, &mut needed, &mut fault);
+    assert!(rt; kinds == [1, 2] && status == 0 && needed == 3);
+    assert!(rt; [room[0].kind, room[1].kind, room[2].kind] == [0, 3, 2]);
+    assert!(rt; [room[0].value, room[1].value, room[2].value] == [5, 0, 6]);
+    let after = next(rt.alloc(), &mut handle).1;
+    let none = bs_operands(rt.alloc(), &mut handle, &mut room, &mut needed, &mut fault);
+    assert!(rt; after == 4 && none == 0 && needed == 0);
+    bs_close(rt.alloc(), &mut handle);
 }

@@ -11,7 +11,8 @@ use crate::left_out::{BsLeftOut, asked_of};
 use crate::limits::BsLimits;
 use crate::outcome::{BsFault, Outcome};
 use crate::room::hand;
-use bit_fields::{Limits, Sink, SliceSource, VecSink};
+use crate::room_sink::RoomSink;
+use bit_fields::{Limits, Sink, SliceSource};
 use bit_norm::{Info, normalise};
 use bit_scan::{write_report, write_show};
 use std::alloc::Global;
@@ -26,14 +27,20 @@ pub(crate) enum Text {
     Listing,
 }
 
-/// Makes the normal form of what bytes hold.
-fn form_of(alloc: Global, bytes: &[u8], limits: Limits, info: Info<'_>) -> (Outcome, VecSink)
+/// Makes the normal form of what bytes hold, for a room of so many bytes.
+fn form_of(
+    alloc: Global,
+    bytes: &[u8],
+    limits: Limits,
+    info: Info<'_>,
+    room: usize,
+) -> (Outcome, RoomSink)
     ensures { let setting = setting_of info.entry
         in Makes (IsTextOf TextTold.Form setting limits bytes.now)
         (FailsText TextTold.Form setting limits bytes.now) result.0
-        (⟦<VecSink as Sink>⟧.outgoing result.1).bytes }
+        (⟦<RoomSink as Sink>⟧.outgoing result.1).bytes }
 {
-    let sink = VecSink::new(alloc);
+    let sink = RoomSink::new(alloc, room);
     let (answer, _, sink) = normalise(alloc, SliceSource::new(bytes), sink, limits, info);
     match answer {
         Ok(_) => (Outcome::Done, sink),
@@ -41,13 +48,13 @@ fn form_of(alloc: Global, bytes: &[u8], limits: Limits, info: Info<'_>) -> (Outc
     }
 }
 
-/// Makes the report of what bytes hold.
-fn report_of(alloc: Global, bytes: &[u8], limits: Limits) -> (Outcome, VecSink)
+/// Makes the report of what bytes hold, for a room of so many bytes.
+fn report_of(alloc: Global, bytes: &[u8], limits: Limits, room: usize) -> (Outcome, RoomSink)
     ensures { Makes (IsTextOf TextTold.Report keep limits bytes.now)
         (FailsText TextTold.Report keep limits bytes.now) result.0
-        (⟦<VecSink as Sink>⟧.outgoing result.1).bytes }
+        (⟦<RoomSink as Sink>⟧.outgoing result.1).bytes }
 {
-    let sink = VecSink::new(alloc);
+    let sink = RoomSink::new(alloc, room);
     let (answer, _, sink) = write_report(alloc, SliceSource::new(bytes), sink, limits);
     match answer {
         Ok(()) => (Outcome::Done, sink),
@@ -55,14 +62,20 @@ fn report_of(alloc: Global, bytes: &[u8], limits: Limits) -> (Outcome, VecSink)
     }
 }
 
-/// Makes the listing of what bytes hold.
-fn listing_of(alloc: Global, bytes: &[u8], limits: Limits, info: Info<'_>) -> (Outcome, VecSink)
+/// Makes the listing of what bytes hold, for a room of so many bytes.
+fn listing_of(
+    alloc: Global,
+    bytes: &[u8],
+    limits: Limits,
+    info: Info<'_>,
+    room: usize,
+) -> (Outcome, RoomSink)
     ensures { let setting = setting_of info.entry
         in Makes (IsTextOf TextTold.Listing setting limits bytes.now)
         (FailsText TextTold.Listing setting limits bytes.now) result.0
-        (⟦<VecSink as Sink>⟧.outgoing result.1).bytes }
+        (⟦<RoomSink as Sink>⟧.outgoing result.1).bytes }
 {
-    let sink = VecSink::new(alloc);
+    let sink = RoomSink::new(alloc, room);
     let (answer, _, sink) = write_show(alloc, SliceSource::new(bytes), sink, limits, info);
     match answer {
         Ok(()) => (Outcome::Done, sink),
@@ -70,22 +83,23 @@ fn listing_of(alloc: Global, bytes: &[u8], limits: Limits, info: Info<'_>) -> (O
     }
 }
 
-/// Makes a text of what bytes hold.
+/// Makes a text of what bytes hold, for a room of so many bytes.
 pub(crate) fn make(
     alloc: Global,
     bytes: &[u8],
     limits: Limits,
     text: Text,
     info: Info<'_>,
-) -> (Outcome, VecSink)
+    room: usize,
+) -> (Outcome, RoomSink)
     ensures { let setting = setting_of info.entry
         in Makes (IsTextOf text setting limits bytes.now) (FailsText text setting limits bytes.now)
-        result.0 (⟦<VecSink as Sink>⟧.outgoing result.1).bytes }
+        result.0 (⟦<RoomSink as Sink>⟧.outgoing result.1).bytes }
 {
     match text {
-        Text::Form => form_of(alloc, bytes, limits, info),
-        Text::Report => report_of(alloc, bytes, limits),
-        Text::Listing => listing_of(alloc, bytes, limits, info),
+        Text::Form => form_of(alloc, bytes, limits, info, room),
+        Text::Report => report_of(alloc, bytes, limits, room),
+        Text::Listing => listing_of(alloc, bytes, limits, info, room),
     }
 }
 
@@ -102,7 +116,7 @@ fn give(
     ensures { GivesText text (setting_of info.entry) limits bytes.now room.old needed.new room.new
         result }
 {
-    let (outcome, made) = make(alloc, bytes, limits, text, info);
+    let (outcome, made) = make(alloc, bytes, limits, text, info, room.len());
     hand(outcome, &made, room, needed)
 }
 

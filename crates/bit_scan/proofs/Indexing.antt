@@ -1,24 +1,10 @@
--- One more key, and its place.
-use Rattle.std.proofs.Common.{◌≡◌, ℕ, zero, suc, ◌<◌, Bool, true, false, cond, List, [], ◌∷◌, ◌++◌, length, Option, Some, None, refl, sym, ap, ◌∙◌, slice_get, arith, inl, inr}
-use Rattle.std.specs.BTreeMap.{is_at}
-use Rattle.std.specs.Cmp.{nat_cmp_is}
-use Rattle.std.specs.Ordering.{nat_cmp, is_eq}
-use Rattle.std.specs.declared.cmp.Ordering.TheVariants.{Less, Equal, Greater}
-use Rattle.std.proofs.lemmas.Bool.{cases_lt}
-use Rattle.bit_grammar.proofs.Tallying.Sums.{compare, are_same, are_other}
+-- One more key, and a link to its place.
+use Rattle.std.proofs.Common.{◌≡◌, ◌⊎◌, ℕ, zero, suc, ◌+◌, ◌-◌, ◌*◌, ◌/◌, ◌%◌, ◌<◌, List, [], ◌∷◌, ◌++◌, length, Some, refl, sym, ap, ◌∙◌, subst, slice_get, slice_index, arith, inl, inr}
+use Rattle.std.specs.Prelude.{OnOk, Result, Ok, Err}
 use Rattle.std.specs.Map.{keys_of}
 use Rattle.std.proofs.lemmas.Option.{slice_get_within}
 use Rattle.bit_scan.proofs.Changing.{keys_push, keys_length}
-use Rattle.bit_scan.specs.Indexed.{IsAbsent, AreDistinct, place_in, IsIndexed}
-
-at_same : (k q : ℕ) → k ≡ q → is_at (nat_cmp k) q ≡ true
-at_same k q same = sym (ap is_eq (nat_cmp_is k q Equal same))
-
-at_other : (k q : ℕ) → (k ≡ q → ⊥) → is_at (nat_cmp k) q ≡ false
-at_other k q other = elim (cases_lt k q) [
-  | inl below ↦ sym (ap is_eq (nat_cmp_is k q Less below))
-  | inr not ↦ (let above : q < k = omega (arith, other) in sym (ap is_eq (nat_cmp_is k q Greater above)))
-]
+use Rattle.bit_scan.specs.Indexed.{IsAbsent, AreDistinct, Leads, Reaches, IsIndexed, KeepsLinks, IsFree}
 
 absent_push : (keys : List ℕ) (y k : ℕ) → IsAbsent y keys → (y ≡ k → ⊥) → IsAbsent y (keys ++ k ∷ [])
 absent_push [] y k h other = (other, tt)
@@ -28,42 +14,48 @@ distinct_push : (keys : List ℕ) (k : ℕ) → AreDistinct keys → IsAbsent k 
 distinct_push [] k d h = (tt, tt)
 distinct_push (y ∷ keys) k d h = (absent_push keys y k d.0 (λ e. h.0 (sym e)), distinct_push keys k d.1 h.1)
 
-last_there : (keys : List ℕ) (k : ℕ) → slice_get (keys ++ k ∷ []) (length keys) ≡ Some k
-last_there [] k = refl
-last_there (y ∷ keys) k = last_there keys k
+-- a key of the longer list is one of the shorter, or the last
+one_of : (keys : List ℕ) (k q i : ℕ) → slice_get (keys ++ k ∷ []) i ≡ Some q → (slice_get keys i ≡ Some q) ⊎ ((i ≡ length keys) × (k ≡ q))
+one_of [] k q zero h = inr (refl, cc)
+one_of [] k q (suc i) h = absurd cc
+one_of (y ∷ keys) k q zero h = inl h
+one_of (y ∷ keys) k q (suc i) h = elim (one_of keys k q i h) [ inl there ↦ inl there | inr last ↦ inr (ap suc last.0, last.1) ]
 
-still_there : (keys : List ℕ) (k q i : ℕ) → slice_get keys i ≡ Some q → slice_get (keys ++ k ∷ []) i ≡ Some q
-still_there [] k q i h = absurd cc
-still_there (y ∷ keys) k q zero h = h
-still_there (y ∷ keys) k q (suc i) h = still_there keys k q i h
+-- what is reached is still reached once more links lead to rows
+still : (n : ℕ) (old new : List ℕ) (slot rest place : ℕ) → KeepsLinks old new → Reaches n old slot rest place → Reaches n new slot rest place
+still zero old new slot rest place keeps h =
+    let same : slice_index new slot ≡ slice_index old slot = keeps slot h.0 in
+    (subst (λ (x : ℕ). (slot + 1) / 2 < x) (sym same) h.0, same ∙ h.1)
+still (suc n) old new slot rest place keeps h =
+    let same : slice_index new slot ≡ slice_index old slot = keeps slot h.0 in (
+      subst (λ (x : ℕ). (slot + 1) / 2 < x) (sym same) h.0,
+      subst (λ (x : ℕ). Reaches n new (2 * x - 1 + rest % 2) (rest / 2) place) (sym same) (still n old new (2 * slice_index old slot - 1 + rest % 2) (rest / 2) place keeps h.1),
+    )
 
-pub indexed_push : (keys : List ℕ) (old new : List (ℕ × ℕ)) (k : ℕ) → IsIndexed keys old → IsAbsent k keys → ((q : ℕ) → place_in new q ≡ cond (is_at (nat_cmp k) q) (Some (length keys)) (place_in old q)) → IsIndexed (keys ++ k ∷ []) new
-indexed_push keys old new k ix none puts = record { found = found; absent = absent; distinct = distinct_push keys k ix.distinct none }
-  where
-    here : (q : ℕ) → k ≡ q → place_in new q ≡ Some (length keys)
-    here q same = puts q ∙ ap (λ (b : Bool). cond b (Some (length keys)) (place_in old q)) (at_same k q same)
+pub still_indexed : (keys old new : List ℕ) → IsIndexed keys old → KeepsLinks old new → IsIndexed keys new
+still_indexed keys old new ix keeps = record { reached = λ k place is. let r = ix.reached k place is in (r.0, still r.0 old new 0 k place keeps r.1); distinct = ix.distinct }
 
-    there : (q : ℕ) → (k ≡ q → ⊥) → place_in new q ≡ place_in old q
-    there q other = puts q ∙ ap (λ (b : Bool). cond b (Some (length keys)) (place_in old q)) (at_other k q other)
+indexed_push : (keys old new : List ℕ) (k slot : ℕ) → IsIndexed keys old → IsFree keys old k slot → KeepsLinks old new → Leads new slot → slice_index new slot ≡ length keys + 1 → IsIndexed (keys ++ k ∷ []) new
+indexed_push keys old new k slot ix free keeps leads is = record {
+  reached = λ q place at.
+      elim (one_of keys k q place at) [
+        | inl there ↦ (let r = ix.reached q place there in (r.0, still r.0 old new 0 q place keeps r.1))
+        | inr last ↦ (let r = free.leads new place keeps leads (is ∙ ap (λ (n : ℕ). n + 1) (sym last.0)) in (r.0, subst (λ (x : ℕ). Reaches r.0 new 0 x place) last.1 r.1))
+      ];
+  distinct = distinct_push keys k ix.distinct free.absent;
+}
 
-    found : (q i : ℕ) → place_in new q ≡ Some i → slice_get (keys ++ k ∷ []) i ≡ Some q
-    found q i h = elim (compare k q) [
-      | are_same same ↦ (let is : ◌≡◌ {A = Option ℕ} (Some (length keys)) (Some i) = sym (here q same) ∙ h in let at : length keys ≡ i = cc in rw (← at, ← same) (last_there keys k))
-      | are_other other ↦ still_there keys k q i (ix.found q i (sym (there q other) ∙ h))
-    ]
-
-    absent : (q : ℕ) → place_in new q ≡ None → IsAbsent q (keys ++ k ∷ [])
-    absent q h = elim (compare k q) [
-      | are_same same ↦ (let is : ◌≡◌ {A = Option ℕ} (Some (length keys)) None = sym (here q same) ∙ h in absurd cc)
-      | are_other other ↦ absent_push keys q k (ix.absent q (sym (there q other) ∙ h)) (λ e. other (sym e))
-    ]
+-- what follows on success
+pub on_success : {T E P Q : Type 0} (r : Result T E) → (P → Q) → OnOk r P → OnOk r Q
+on_success (Ok x) follows h = follows h
+on_success (Err e) follows h = h
 
 -- a place that was found is one of the rows
-pub place_within : {V : Type 0} (es : List (ℕ × V)) (index : List (ℕ × ℕ)) (k i : ℕ) → IsIndexed (keys_of es) index → Some i ≡ place_in index k → i < length es
-place_within es index k i ix at = omega (arith, slice_get_within (keys_of es) i k (ix.found k i (sym at)), keys_length es)
+pub place_within : {V : Type 0} (es : List (ℕ × V)) (k i : ℕ) → slice_get (keys_of es) i ≡ Some k → i < length es
+place_within es k i at = omega (arith, slice_get_within (keys_of es) i k at, keys_length es)
 
--- a row was pushed, and its place put into the map
-pub row_pushed : {V : Type 0} (es : List (ℕ × V)) (old new : List (ℕ × ℕ)) (k place : ℕ) (v : V) → IsIndexed (keys_of es) old → IsAbsent k (keys_of es) → place ≡ length es → ((q : ℕ) → place_in new q ≡ cond (is_at (nat_cmp k) q) (Some place) (place_in old q))
+-- a row was pushed, and a link leads to it
+pub row_pushed : {V : Type 0} (es : List (ℕ × V)) (old new : List ℕ) (k slot place : ℕ) (v : V) → IsIndexed (keys_of es) old → IsFree (keys_of es) old k slot → place ≡ length es → KeepsLinks old new → Leads new slot → slice_index new slot ≡ place + 1
     → IsIndexed (keys_of (es ++ (k, v) ∷ [])) new
-row_pushed es old new k place v ix none is puts =
-    rw (keys_push es k v) (indexed_push (keys_of es) old new k ix none (λ q. puts q ∙ ap (λ (n : ℕ). cond (is_at (nat_cmp k) q) (Some n) (place_in old q)) (is ∙ sym (keys_length es))))
+row_pushed es old new k slot place v ix free at keeps leads is =
+    rw (keys_push es k v) (indexed_push (keys_of es) old new k slot ix free keeps leads (is ∙ ap (λ (n : ℕ). n + 1) (at ∙ sym (keys_length es))))

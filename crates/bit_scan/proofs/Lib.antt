@@ -18,3 +18,4 @@ pub mod Analysed
 pub mod Showings
 pub mod Parted
 pub mod Tellings
+pub mod Walks

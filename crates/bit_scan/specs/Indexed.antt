@@ -1,8 +1,7 @@
--- Keys in order of first use, and a map from each to its place.
-use Rattle.std.specs.Prelude.{◌≡◌, ℕ, List, [], ◌∷◌, Option, Some, None, slice_get}
-use Rattle.std.specs.BTreeMap.{is_at}
-use Rattle.std.specs.Map.{lookup}
-use Rattle.std.specs.Ordering.{nat_cmp}
+-- Keys in order of first use, and links by which the place of each is found.
+use Rattle.std.specs.Prelude.{◌≡◌, ℕ, zero, suc, ◌+◌, ◌-◌, ◌*◌, ◌/◌, ◌%◌, ◌<◌, List, [], ◌∷◌, Some, slice_get, slice_index}
+use Rattle.bit_scan.specs.declared.links.Spot.{Spot}
+use Rattle.bit_scan.specs.declared.links.Spot.TheVariants.{Row, Link}
 
 -- a key is not among these
 abbrev pub IsAbsent : ℕ → List ℕ → Type 0
@@ -14,12 +13,36 @@ abbrev pub AreDistinct : List ℕ → Type 0
 AreDistinct [] = Unit {0}
 AreDistinct (y ∷ keys) = IsAbsent y keys × AreDistinct keys
 
--- what a map that is kept in order has at a key
-abbrev pub place_in : List (ℕ × ℕ) → ℕ → Option ℕ
-place_in index k = lookup (is_at (nat_cmp k)) index
+-- the link at a slot leads to a row, which stands behind the one that the link is of
+abbrev pub Leads : List ℕ → ℕ → Type 0
+Leads links slot = (slot + 1) / 2 < slice_index links slot
 
--- the map has the place of each key, and nothing else
-pub record IsIndexed (keys : List ℕ) (index : List (ℕ × ℕ)) : Type 0 where
-  pub found : (k i : ℕ) → place_in index k ≡ Some i → slice_get keys i ≡ Some k
-  pub absent : (k : ℕ) → place_in index k ≡ None → IsAbsent k keys
+-- so many links lead from a slot to the row at a place, by the bits of a number
+abbrev pub Reaches : ℕ → List ℕ → (slot rest place : ℕ) → Type 0
+Reaches zero links slot rest place = Leads links slot × (slice_index links slot ≡ place + 1)
+Reaches (suc n) links slot rest place = Leads links slot
+    × Reaches n links (2 * slice_index links slot - 1 + rest % 2) (rest / 2) place
+
+abbrev pub IsReached : List ℕ → (slot rest place : ℕ) → Type 0
+IsReached links slot rest place = (n : ℕ) × Reaches n links slot rest place
+
+-- the bits of each key lead to its place
+pub record IsIndexed (keys : List ℕ) (links : List ℕ) : Type 0 where
+  pub reached : (k place : ℕ) → slice_get keys place ≡ Some k → IsReached links 0 k place
   pub distinct : AreDistinct keys
+
+-- links that lead to rows stay as they are
+abbrev pub KeepsLinks : List ℕ → List ℕ → Type 0
+KeepsLinks old new = (slot : ℕ) → Leads old slot → slice_index new slot ≡ slice_index old slot
+
+-- a key is not there, and a link at this slot would be what leads to it
+pub record IsFree (keys links : List ℕ) (k slot : ℕ) : Type 0 where
+  pub absent : IsAbsent k keys
+  pub none : Leads links slot → ⊥
+  pub leads : (new : List ℕ) (place : ℕ) → KeepsLinks links new → Leads new slot
+      → slice_index new slot ≡ place + 1 → IsReached new 0 k place
+
+-- where a key was found
+abbrev pub Finds : (keys links : List ℕ) → ℕ → Spot → Type 0
+Finds keys links k (Row place) = slice_get keys place ≡ Some k
+Finds keys links k (Link slot) = IsFree keys links k slot

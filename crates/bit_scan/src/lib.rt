@@ -1,9 +1,9 @@
 //! What a stream holds, in numbers and as text. Begin with `analyse`, which counts by block id and record code, `write_show`,
 //! which lists a tree, and `write_events`, which lists events as they are read.
 //!
-//! `analyse` is a fold into a counter: rows in order of first entry, with an ordered map from keys to places. An open block keeps
-//! the place of its row, and a row the places of recent codes; each such place is judged by the key there. Counts saturate, and
-//! `numbers_fit` says that no accepted input gets there.
+//! `analyse` is a fold into a counter: rows in order of first entry, found by a tree of links (`links`). An open block keeps the place
+//! of its row, and one table for all rows keeps the places of recent codes; each such place is judged by the key there. Counts
+//! saturate, and `numbers_fit` says that no accepted input gets there.
 //!
 //! `write_show` keeps the bytes that `check_keeping` accepts and prints them as they are read again, without a tree.
 //! `write_events` prints each event of `PackedEvents` as it comes. Lines are made in a string and put in pieces of about 8 KiB.
@@ -14,6 +14,7 @@ mod analysis;
 mod counter;
 mod laws;
 mod lines;
+mod links;
 mod listing;
 mod printer;
 mod reporting;

@@ -1,6 +1,6 @@
-ghost use Rattle.std.specs.Prelude.{◌≡◌, ◌↔◌, ◌<◌, ℕ, map, length, slice_get, List, [], Some, IsTrue, OnOk};
+ghost use Rattle.std.specs.Prelude.{◌≡◌, ◌<◌, ◌++◌, ◌∷◌, ℕ, map, length, slice_get, List, [], Some, OnOk};
 ghost use Rattle.std.specs.Map.{keys_of};
-ghost use Rattle.bit_scan.specs.Indexed.{IsAbsent, AreDistinct, IsIndexed};
+ghost use Rattle.bit_scan.specs.Indexed.{AreDistinct, IsFree, IsIndexed};
 ghost use Rattle.bit_grammar.specs.Tally.{CodeTally, BlockTally};
 ghost use Rattle.bit_grammar.specs.Counting.{fresh_row, with_row};
 ghost use Rattle.bit_scan.specs.Additions.{with_added};
@@ -8,8 +8,8 @@ ghost use Rattle.bit_scan.specs.CodesView.{code_tallies, with_use, CountsUse};
 ghost use Rattle.bit_scan.specs.Cut.{cut_code, cut_row, cut_rows};
 ghost use Rattle.bit_scan.specs.Rows.{block_tally, block_tallies, AddsToRow};
 
+use crate::links::{Keyed, Spot, find, is_at, lead};
 use std::alloc::{AllocError, Global};
-use std::collections::BTreeMap;
 use std::marker::Model;
 
 /// What the records with one code add up to, in blocks with one id.
@@ -21,17 +21,46 @@ pub struct CodeRow {
     pub bits: u64,
 }
 
-/// How many places of rows are remembered.
-const REMEMBERED: usize = 64;
+impl Keyed for (u64, CodeRow) {
+    ghost key = { λ e. e.0 };
+
+    #[inline(always)]
+    fn key(&self) -> u64 {
+        self.0
+    }
+}
+
+/// How many places of rows of codes are remembered.
+const REMEMBERED: usize = 2048;
+
+/// By the low bits of a row's place and of a code, the place of the row of codes that was found last there. A place that is another
+/// code's costs a look-up, and changes no answer.
+type Places = [u8; REMEMBERED];
+
+/// Where the place of a code is remembered.
+#[inline(always)]
+fn slot_of(row: usize, code: u64) -> usize
+    ensures { result < 2048 }
+{
+    row % 32 * 64 + (code % 64) as usize
+}
+
+/// Has room for one more row. The lists of rows are many, so that doubling would leave much unused.
+#[inline(always)]
+fn make_room<T>(rows: &mut Vec<T>) -> Result<(), AllocError>
+    ensures { rows.new.items ≡ rows.old.items }
+{
+    if rows.len() == rows.capacity() {
+        rows.reserve_exact(rows.len() / 8 + 1)?;
+    }
+    Ok(())
+}
 
 /// A row for each code of records, in order of first use.
 #[derive(Drop)]
 pub struct Codes {
     rows: Vec<(u64, CodeRow)>,
-    index: BTreeMap<u64, usize>,
-    /// By the low bits of a code, the place of the row that was found last for a code with these bits. A place that is
-    /// another code's costs a look-up, and changes no answer.
-    places: [u8; REMEMBERED],
+    links: Vec<u32>,
 }
 
 impl Model for Codes {
@@ -45,18 +74,7 @@ impl Model for Codes {
 
     ghost view = { λ codes. codes.rows.items };
 
-    ghost invariant = { λ codes. IsIndexed (keys_of codes.rows.items) codes.index.entries };
-}
-
-/// Whether the row at a place is that of a code.
-#[inline(always)]
-fn is_code_at(rows: &[(u64, CodeRow)], place: usize, code: u64) -> bool
-    ensures { IsTrue result ↔ (slice_get (keys_of rows.now) place ≡ Some code) }
-{
-    match rows.get(place) {
-        Some((at, _)) => *at == code,
-        None => false,
-    }
+    ghost invariant = { λ codes. IsIndexed (keys_of codes.rows.items) codes.links.items };
 }
 
 /// Counts one more record in the row at a place.
@@ -77,20 +95,22 @@ fn count_at(rows: &mut [(u64, CodeRow)], place: usize, bits: u64)
 /// Begins the row of a code that has none, at the end, with one record, and answers its place.
 fn begin_code(
     rows: &mut Vec<(u64, CodeRow)>,
-    index: &mut BTreeMap<u64, usize>,
+    links: &mut Vec<u32>,
+    slot: usize,
     code: u64,
     bits: u64,
 ) -> Result<usize, AllocError>
-    requires indexed { IsIndexed (keys_of rows.old.items) index.old.entries }
-    requires absent { IsAbsent code (keys_of rows.old.items) }
-    ensures indexed { IsIndexed (keys_of rows.new.items) index.new.entries }
+    requires indexed { IsIndexed (keys_of rows.old.items) links.old.items }
+    requires free { IsFree (keys_of rows.old.items) links.old.items code slot }
+    ensures indexed { IsIndexed (keys_of rows.new.items) links.new.items }
     ensures counts { CountsUse code bits rows.old.items result rows.new.items }
 {
     let place = rows.len();
+    make_room(rows)?;
     rows.push((code, CodeRow { count: 1, bits }))?;
-    match index.insert(code, place) {
-        Ok(_) => Ok(place),
-        Err(_) => {
+    match lead(links, slot, place) {
+        Ok(()) => Ok(place),
+        Err(AllocError) => {
             rows.truncate(place);
             Err(AllocError)
         }
@@ -100,20 +120,20 @@ fn begin_code(
 /// Counts one more record in the row of its code, which is a new one at the end if there is none, and answers the row's place.
 fn count_by_code(
     rows: &mut Vec<(u64, CodeRow)>,
-    index: &mut BTreeMap<u64, usize>,
+    links: &mut Vec<u32>,
     code: u64,
     bits: u64,
 ) -> Result<usize, AllocError>
-    requires { IsIndexed (keys_of rows.old.items) index.old.entries }
-    ensures indexed { IsIndexed (keys_of rows.new.items) index.new.entries }
+    requires { IsIndexed (keys_of rows.old.items) links.old.items }
+    ensures indexed { IsIndexed (keys_of rows.new.items) links.new.items }
     ensures counts { CountsUse code bits rows.old.items result rows.new.items }
 {
-    match index.get(&code) {
-        Some(place) => {
-            count_at(rows, *place, bits);
-            Ok(*place)
+    match find(rows, links, code) {
+        Spot::Row(place) => {
+            count_at(rows, place, bits);
+            Ok(place)
         }
-        None => begin_code(rows, index, code, bits),
+        Spot::Link(slot) => begin_code(rows, links, slot, code, bits),
     }
 }
 
@@ -124,8 +144,7 @@ impl Codes {
     {
         Codes {
             rows: Vec::new(alloc),
-            index: BTreeMap::new(alloc),
-            places: [0; REMEMBERED],
+            links: Vec::new(alloc),
         }
     }
 
@@ -139,24 +158,24 @@ impl Codes {
     /// Counts one more record, and remembers the place of its row.
     #[cold]
     #[inline(never)]
-    fn add_by_code(&mut self, code: u64, bits: u64) -> Result<(), AllocError>
+    fn add_by_code(&mut self, place: &mut u8, code: u64, bits: u64) -> Result<(), AllocError>
         ensures { CountsUse code bits self.old result self.new }
     {
-        let place = count_by_code(&mut self.rows, &mut self.index, code, bits)?;
-        self.places[(code % 64) as usize] = u8::try_from(place).unwrap_or(0);
+        let found = count_by_code(&mut self.rows, &mut self.links, code, bits)?;
+        *place = u8::try_from(found).unwrap_or(0);
         Ok(())
     }
 
-    /// Counts one more record.
+    /// Counts one more record, whose row may be at the place that is remembered.
     #[inline(always)]
-    fn add(&mut self, code: u64, bits: u64) -> Result<(), AllocError>
+    fn add(&mut self, place: &mut u8, code: u64, bits: u64) -> Result<(), AllocError>
         ensures { CountsUse code bits self.old result self.new }
     {
-        let place = usize::from(self.places[(code % 64) as usize]);
-        if !is_code_at(&self.rows, place, code) {
-            return self.add_by_code(code, bits);
+        let likely = usize::from(*place);
+        if !is_at(&self.rows, likely, code) {
+            return self.add_by_code(place, code, bits);
         }
-        count_at(&mut self.rows, place, bits);
+        count_at(&mut self.rows, likely, bits);
         Ok(())
     }
 }
@@ -215,9 +234,14 @@ impl BlockRow {
         }
     }
 
-    /// Counts what an event adds. A sum that would pass the greatest number stays there.
+    /// Counts what an event adds to the row at a place. A sum that would pass the greatest number stays there.
     #[inline(always)]
-    fn add(&mut self, addition: Addition) -> Result<(), AllocError>
+    fn add(
+        &mut self,
+        places: &mut Places,
+        place: usize,
+        addition: Addition,
+    ) -> Result<(), AllocError>
         ensures { (id : ℕ) (tally : BlockTally) → block_tally (id, self.old) ≡ cut_row tally
             → OnOk result (block_tally (id, self.new) ≡ cut_row (with_added addition tally)) }
     {
@@ -237,7 +261,8 @@ impl BlockRow {
                 values,
                 bits,
             } => {
-                self.codes.add(code, bits)?;
+                self.codes
+                    .add(&mut places[slot_of(place, code)], code, bits)?;
                 self.records = self.records.saturating_add(1);
                 self.abbreviated = self.abbreviated.saturating_add(u64::from(abbreviated));
                 self.values = self.values.saturating_add(values);
@@ -247,20 +272,23 @@ impl BlockRow {
     }
 }
 
-/// Whether the row at a place is that of an id.
-#[inline(always)]
-fn is_id_at(rows: &[(u32, BlockRow)], place: usize, id: u32) -> bool
-    ensures { IsTrue result ↔ (slice_get (keys_of rows.now) place ≡ Some id) }
-{
-    match rows.get(place) {
-        Some((at, _)) => *at == id,
-        None => false,
+impl Keyed for (u32, BlockRow) {
+    ghost key = { λ e. e.0 };
+
+    #[inline(always)]
+    fn key(&self) -> u64 {
+        u64::from(self.0)
     }
 }
 
 /// Counts what an event adds to the row at a place.
 #[inline(always)]
-fn add_at(rows: &mut [(u32, BlockRow)], place: usize, addition: Addition) -> Result<(), AllocError>
+fn add_at(
+    rows: &mut [(u32, BlockRow)],
+    places: &mut Places,
+    place: usize,
+    addition: Addition,
+) -> Result<(), AllocError>
     requires { place < length rows.old }
     ensures keys { keys_of rows.new ≡ keys_of rows.old }
     ensures adds { (id : ℕ) (tallies : List BlockTally) → AreDistinct (keys_of rows.old)
@@ -270,31 +298,30 @@ fn add_at(rows: &mut [(u32, BlockRow)], place: usize, addition: Addition) -> Res
         ≡ cut_rows (with_row (with_added addition) id tallies)) }
 {
     let (_, row) = &mut rows[place];
-    row.add(addition)
+    row.add(places, place, addition)
 }
 
 /// Begins the row of an id that has none, at the end, with what an event adds, and answers its place.
 #[cold]
 #[inline(never)]
 fn begin_row(
-    alloc: Global,
     rows: &mut Vec<(u32, BlockRow)>,
-    index: &mut BTreeMap<u32, usize>,
+    links: &mut Vec<u32>,
+    slot: usize,
     id: u32,
-    addition: Addition,
+    row: BlockRow,
 ) -> Result<usize, AllocError>
-    requires indexed { IsIndexed (keys_of rows.old.items) index.old.entries }
-    requires absent { IsAbsent id (keys_of rows.old.items) }
-    ensures indexed { IsIndexed (keys_of rows.new.items) index.new.entries }
-    ensures adds { AddsToRow addition id rows.old.items result rows.new.items }
+    requires indexed { IsIndexed (keys_of rows.old.items) links.old.items }
+    requires free { IsFree (keys_of rows.old.items) links.old.items id slot }
+    ensures indexed { IsIndexed (keys_of rows.new.items) links.new.items }
+    ensures pushed { OnOk result (rows.new.items ≡ rows.old.items ++ (id, row) ∷ []) }
 {
     let place = rows.len();
-    let mut row = BlockRow::new(alloc);
-    row.add(addition)?;
+    make_room(rows)?;
     rows.push((id, row))?;
-    match index.insert(id, place) {
-        Ok(_) => Ok(place),
-        Err(_) => {
+    match lead(links, slot, place) {
+        Ok(()) => Ok(place),
+        Err(AllocError) => {
             rows.truncate(place);
             Err(AllocError)
         }
@@ -306,7 +333,8 @@ fn begin_row(
 pub(crate) struct BlockRows {
     alloc: Global,
     rows: Vec<(u32, BlockRow)>,
-    index: BTreeMap<u32, usize>,
+    links: Vec<u32>,
+    places: Places,
 }
 
 impl Model for BlockRows {
@@ -320,7 +348,7 @@ impl Model for BlockRows {
 
     ghost view = { λ all. all.rows.items };
 
-    ghost invariant = { λ all. IsIndexed (keys_of all.rows.items) all.index.entries };
+    ghost invariant = { λ all. IsIndexed (keys_of all.rows.items) all.links.items };
 }
 
 impl BlockRows {
@@ -331,7 +359,8 @@ impl BlockRows {
         BlockRows {
             alloc,
             rows: Vec::new(alloc),
-            index: BTreeMap::new(alloc),
+            links: Vec::new(alloc),
+            places: [0; REMEMBERED],
         }
     }
 
@@ -340,13 +369,16 @@ impl BlockRows {
     pub(crate) fn add_by_id(&mut self, id: u32, addition: Addition) -> Result<usize, AllocError>
         ensures { AddsToRow addition id self.old result self.new }
     {
-        match self.index.get(&id) {
-            Some(place) => {
-                let place = *place;
-                add_at(&mut self.rows, place, addition)?;
+        match find(&self.rows, &self.links, u64::from(id)) {
+            Spot::Row(place) => {
+                add_at(&mut self.rows, &mut self.places, place, addition)?;
                 Ok(place)
             }
-            None => begin_row(self.alloc, &mut self.rows, &mut self.index, id, addition),
+            Spot::Link(slot) => {
+                let mut row = BlockRow::new(self.alloc);
+                row.add(&mut self.places, self.rows.len(), addition)?;
+                begin_row(&mut self.rows, &mut self.links, slot, id, row)
+            }
         }
     }
 
@@ -360,8 +392,8 @@ impl BlockRows {
     ) -> Result<(), AllocError>
         ensures { AddsToRow addition id self.old result self.new }
     {
-        if is_id_at(&self.rows, place, id) {
-            return add_at(&mut self.rows, place, addition);
+        if is_at(&self.rows, place, u64::from(id)) {
+            return add_at(&mut self.rows, &mut self.places, place, addition);
         }
         self.add_by_id(id, addition)?;
         Ok(())
