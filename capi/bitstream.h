@@ -1,28 +1,28 @@
 /* Calls on streams in the LLVM bitstream container: check, normal form, comparison, analysis, listing and events.
 
    Each call is a function of Rattle whose contract is proved: docs/PROMISES.md lists them. Before it, a few lines of C replace null
-   pointers that have the length 0. What a caller owes is not checked by anything, and if it is not kept, the behaviour of a call is
+   pointers that have the length 0. The caller's obligations are not checked. If one is not kept, the behaviour of a call is
    undefined:
 
-   - A pointer leads to what its type says, aligned, and is not null. A pointer with a length leads to an array of that length, and
-     may be null if the length is 0. Lengths are below 2^63 bytes. What is not const is initialised, and no two arguments that are
-     not const overlap, nor one that is not const and one that is.
+   - A pointer points to an aligned object of its type, and is not null. A pointer with a length points to an array of that length,
+     and may be null if the length is 0. Lengths are below 2^63 bytes. Objects that are not const are initialised. No argument that
+     is not const overlaps another argument.
    - A bool is 0 or 1.
    - malloc, realloc and free of the program are of one allocator, and align a block to each power of two up to 16 that divides
      its size. No call is made from a signal handler, or from the forked child of a process with threads.
 
-   Calls in several threads do not disturb each other; a handle is used by the thread that opened it, one call at a time.
-   No call keeps what it is passed, but bs_open, which says so.
+   Calls in several threads do not disturb each other. A handle is used only by the thread that opened it, one call at a time.
+   No call keeps a pointer that it is passed, except bs_open.
 
-   What a call costs. Reading an input takes time in proportion to its bytes and its values; an array of values that take no bits has
-   up to the limit on values of them in a few bytes. Each call says how often it reads, and what memory it takes beside what the caller
-   holds: n for the bytes of an input; D for the definitions in force, at most 120 bytes for a byte of input that defines; V for the
-   values of one record, at most 8 bytes each; N for the names of what is left out, 80 bytes each; and a few kilobytes. Memory is given
-   back when a call ends, but for what a handle holds.
+   Costs of a call. Reading an input takes time in proportion to its bytes and its values. An array of values that take no bits can
+   have as many values as the limit permits in a few bytes. The comment of each call gives how often it reads, and the memory that
+   it takes beside the caller's: n for the bytes of an input; D for the definitions in force, at most 120 bytes for each byte of
+   input that defines; V for the values of one record, at most 8 bytes each; N for the names of what is left out, 80 bytes each; and
+   a few kilobytes. A call frees its memory when it ends, except what a handle holds.
 
-   The library needs an x86-64 processor of level v2, with SSE4.2 and POPCNT; on an older one a call can end the program by SIGILL. It
-   calls malloc, realloc, free and the memory functions of C, and nothing else: it opens no file, prints nothing, and sets no signal
-   handler. */
+   The library needs an x86-64 processor of level v2, with SSE4.2 and POPCNT; on an older one a call can end the program by SIGILL.
+   It calls malloc, realloc, free and the memory functions of C, and nothing else: it opens no file, prints nothing, and sets no
+   signal handler. */
 #ifndef BITSTREAM_H
 #define BITSTREAM_H
 
@@ -37,48 +37,50 @@ extern "C" {
 /* How a call ended. */
 enum {
     BS_DONE = 0,
-    /* Two inputs do not hold the same. */
+    /* Two inputs differ. */
     BS_DIFFERENT = 1,
-    /* An input breaks a rule, as the fault says. */
+    /* An input breaks a rule. The fault has the reason and the bit. */
     BS_REFUSED = 2,
-    /* A request for memory was refused. */
+    /* An allocation failed. */
     BS_MEMORY = 3,
     /* The normal form has more bytes than the limit. */
     BS_TOO_LONG = 4,
     /* A limit is past its cap. */
     BS_LIMITS = 5,
-    /* The room does not hold what was to be put there; how much is needed was told, and the room is as it was. */
+    /* The room is too small. The needed size was set, and the room is unchanged. */
     BS_ROOM = 6,
     /* The handle is closed, or holds something else. */
     BS_CLOSED = 7,
     /* Records of BLOCKINFO blocks are named to be left out. */
-    BS_NAMES = 8
+    BS_NAMES = 8,
+    /* A call of a writer does not fit: no tree within the limits has that item there. The writer is unchanged. */
+    BS_UNFIT = 9
 };
 
-/* How much of an input is taken: the bytes of the whole input, wrapper included, at most 17179869180; the depth of blocks, where
-   one at the top has depth 1, at most 255; the values of all records, at most 4294967295. */
+/* The limits on an input: the bytes of the whole input, wrapper included, at most 17179869180; the depth of blocks, with depth 1
+   for a block at the top, at most 255; the values of all records, at most 4294967295. */
 struct bs_limits {
     uint64_t bytes;
     uint32_t depth;
     uint64_t values;
-    /* Whether definitions whose operands are in no lawful order are taken, and judged where a record uses them, as LLVM's reader
-       does; else they are refused where they stand. */
+    /* If true, a definition whose operands are in no lawful order is accepted, and judged when a record uses it, as LLVM's reader
+       does. If false, it is refused at the definition. */
     bool shapes_at_use;
 };
 
-/* Names records: those with this code that stand directly in blocks with this id. Block 0 is for no name, since what would be left
-   of a BLOCKINFO block is none: a call that is passed such a name answers BS_NAMES. */
+/* Names records: those with this code directly in blocks with this id. No name may have block 0, because without some of its
+   records a BLOCKINFO block is none: a call with such a name returns BS_NAMES. */
 struct bs_record_name {
     uint32_t block;
     uint64_t code;
 };
 
-/* What of an input is left out. Begin with BS_WHOLE, which is all zeros and leaves out nothing. A call puts the names in order once,
-   so a block or a record is looked up in a time that hardly grows with their number. */
+/* The part of an input that is left out. Begin with BS_WHOLE, which is all zeros and leaves out nothing. A call sorts the names
+   once, so the time to look up a block or a record hardly grows with their number. */
 struct bs_left_out {
-    /* The BLOCKINFO blocks, as where block 0 is named. */
+    /* The BLOCKINFO blocks, as if block 0 were named. */
     bool info;
-    /* The blocks with these ids, at any depth and with all that they hold. */
+    /* The blocks with these ids, at any depth and with all in them. */
     const uint32_t *blocks;
     size_t blocks_len;
     /* The records with these names. */
@@ -87,7 +89,7 @@ struct bs_left_out {
 };
 #define BS_WHOLE {false, NULL, 0, NULL, 0}
 
-/* Why an input was refused; all zeros where none was. */
+/* The reason why an input was refused. All zeros if none was refused. */
 struct bs_fault {
     /* The number of the reason, from 1 to 22. */
     uint32_t reason;
@@ -104,42 +106,42 @@ struct bs_bytes {
 };
 #define BS_NO_BYTES {NULL, 0}
 
-/* The version of these calls, structures and numbers, and that of a library. They are the same where a program was built for the
-   library that it runs with. A call that is added does not change it. */
+/* The version of these calls, structures and numbers, and that of a library. They are the same if a program was built for the
+   library that it runs with. An added call does not change the version. */
 #define BS_VERSION 2
 uint32_t bs_version(void);
 
-/* Sets limits to those that serve most inputs: 1073741824 bytes, depth 64, 134217728 values, and shapes not judged at their use. */
+/* Sets limits that suit most inputs: 1073741824 bytes, depth 64, 134217728 values, and shapes not judged at their use. */
 void bs_usual_limits(struct bs_limits *limits);
 
-/* Sets a name, which lives as long as the library, to that of a reason, without a zero at its end; to no bytes where no reason has
-   the number. */
+/* Sets a name to that of a reason, without a zero at its end, or to no bytes if no reason has the number. The name lives as long as
+   the library. */
 void bs_reason_name(uint32_t number, struct bs_bytes *name);
 
 /* Whether bytes are accepted: BS_DONE, or BS_REFUSED, BS_MEMORY, BS_LIMITS. Reads the bytes once, and holds D. */
 uint32_t bs_check(const uint8_t *bytes, size_t bytes_len, const struct bs_limits *limits, struct bs_fault *fault);
 
-/* Puts the normal form of what bytes hold, whole or without what is left out, at the front of the room, and sets `needed` to the
-   number of its bytes; the rest of the room stays as it was: BS_DONE. Or BS_ROOM: the room is too small, `needed` is set, and the room
-   is as it was. Or BS_REFUSED, BS_TOO_LONG, BS_MEMORY, BS_LIMITS, BS_NAMES: `needed` is 0, and the room is as it was.
+/* Puts the normal form of the bytes, whole or without what is left out, at the start of the room, and sets `needed` to its length
+   in bytes. The rest of the room is unchanged: BS_DONE. Or BS_ROOM: the room is too small, `needed` is set, and the room is
+   unchanged. Or BS_REFUSED, BS_TOO_LONG, BS_MEMORY, BS_LIMITS, BS_NAMES: `needed` is 0, and the room is unchanged.
 
-   Reads the bytes once, whatever the room, so asking for the length with room 0 takes as long as the form. Holds D, N and the form,
+   Reads the bytes once for any room, so asking for the length with room 0 takes as long as the form. Holds D, N and the form,
    which may be much longer than the input and is at most the limit on bytes; and the form once more if it fits the room. If the
    length is not known, bs_hold_normal makes the form once. */
 uint32_t bs_normal(const uint8_t *bytes, size_t bytes_len, const struct bs_limits *limits, const struct bs_left_out *left_out,
                    uint8_t *room, size_t room_len, size_t *needed, struct bs_fault *fault);
 
-/* The same of the report of an analysis, as `bitstool analyse` prints it, which is never BS_TOO_LONG or BS_NAMES.
+/* The same for the report of an analysis, as `bitstool analyse` prints it. It never returns BS_TOO_LONG or BS_NAMES.
 
    Reads the bytes once. Holds D and the rows of the analysis, at most 30 bytes for a byte of input; and the report if it fits the
    room. */
 uint32_t bs_report(const uint8_t *bytes, size_t bytes_len, const struct bs_limits *limits, uint8_t *room, size_t room_len,
                    size_t *needed, struct bs_fault *fault);
 
-/* The same of the listing, as `bitstool show` prints it, whole or without what is left out, which is never BS_TOO_LONG.
+/* The same for the listing, as `bitstool show` prints it, whole or without what is left out. It never returns BS_TOO_LONG.
 
-   Reads the bytes twice, to judge them and to list them. Holds n, D, V and N; and the listing if it fits the room. A longer one is
-   counted and not held: the listing of a record has 2 to 21 bytes a value. */
+   Reads the bytes twice, to judge them and to list them. Holds n, D, V and N; and the listing if it fits the room. A longer listing
+   is counted and not held. The listing of a record has 2 to 21 bytes per value. */
 uint32_t bs_show(const uint8_t *bytes, size_t bytes_len, const struct bs_limits *limits, const struct bs_left_out *left_out,
                  uint8_t *room, size_t room_len, size_t *needed, struct bs_fault *fault);
 
@@ -164,30 +166,30 @@ enum {
     BS_STANDS_END = 4
 };
 
-/* A block that is open: its id, and how many items stand before it in the block round it, or at the top. What is left out and
-   definitions are no items. */
+/* An open block: its id, and the number of items before it in the block around it, or at the top. Definitions and what is left out
+   are no items. */
 struct bs_open_block {
     uint32_t id;
     uint64_t items;
 };
 
-/* What stands at a place of an input, and where that begins. What its kind does not name is 0. */
+/* The item at a place of an input, and its first bit. Fields that its kind does not have are 0. */
 struct bs_standing {
-    /* Counted from the first bit of that input. An end begins where the last item before it in its block ended, and where there is
-       none, behind the length of the block, or behind the magic. */
+    /* Counted from the first bit of that input. An end begins where the last item before it in its block ended. If there is no such
+       item, it begins after the length of the block, or after the magic. */
     uint64_t bit;
     uint32_t kind;
     /* The magic of the stream, its first byte first. */
     uint8_t magic[4];
-    /* Of a block its id. */
+    /* The id of a block. */
     uint32_t id;
-    /* Of a record its code, and how many values it has, the code not counted. */
+    /* The code of a record, and the number of its values, the code not counted. */
     uint64_t code;
     uint64_t count;
 };
 
-/* The first values of two records with the same code that differ, counted from 0. All zeros where one list of values is the front
-   of the other, and where there are no two such records. */
+/* The first values of two records with the same code that differ, counted from 0. All zeros if one list of values is a prefix of
+   the other, or if there are no two such records. */
 struct bs_value_difference {
     bool differ;
     uint64_t index;
@@ -195,40 +197,40 @@ struct bs_value_difference {
     uint64_t second;
 };
 
-/* Where two inputs first differ. All zeros where they do not. */
+/* Where two inputs first differ. All zeros if they do not differ. */
 struct bs_difference {
     /* BS_AT_MAGIC or BS_AT_ITEM. */
     uint32_t place;
-    /* How many blocks are open at the place: never more than the limit on depth. */
+    /* The number of open blocks at the place: at most the limit on depth. */
     size_t depth;
-    /* How many items stand before the place in the innermost of them, or at the top. */
+    /* The number of items before the place in the innermost of them, or at the top. */
     uint64_t items;
-    /* What stands there in each input. */
+    /* The item there in each input. */
     struct bs_standing first;
     struct bs_standing second;
     struct bs_value_difference values;
 };
 
-/* Compares two inputs, and tells where they first differ: BS_DIFFERENT, and the blocks that are open there, the outermost first, stand
-   in the room; or BS_ROOM, where it does not hold them and is as it was, and all else is told. Or BS_DONE where they do not differ, or
-   BS_REFUSED, BS_MEMORY, BS_LIMITS, BS_NAMES as bs_same; then the difference is all zeros, and the room as it was. A room for 255
-   blocks holds all that can be. Reads and holds what bs_same does. */
+/* Compares two inputs, and reports where they first differ: BS_DIFFERENT, with the open blocks there in the room, the outermost
+   first. Or BS_ROOM: the room is too small for them and unchanged, and all else is set. Or BS_DONE if they do not differ, or
+   BS_REFUSED, BS_MEMORY, BS_LIMITS, BS_NAMES as bs_same; then the difference is all zeros, and the room is unchanged. A room for
+   255 blocks is always large enough. Reads and holds what bs_same does. */
 uint32_t bs_first_difference(const uint8_t *first, size_t first_len, const uint8_t *second, size_t second_len,
                              const struct bs_limits *limits, const struct bs_left_out *left_out, struct bs_difference *difference,
                              struct bs_open_block *open_room, size_t open_room_len, struct bs_fault *fault);
 
-/* What a stream holds, and how many rows its analysis has. */
+/* The totals of a stream, and the numbers of rows of its analysis. */
 struct bs_tally {
     /* The magic of the stream, its first byte first. */
     uint8_t magic[4];
     /* The bits of the stream, from its magic to its end, without a wrapper. */
     uint64_t bits;
-    /* How many rows of block ids, and of codes over all block ids. */
+    /* The number of rows of block ids, and of codes over all block ids. */
     size_t blocks;
     size_t codes;
 };
 
-/* What the blocks with one id add up to. No number counts what stands in blocks inside them. */
+/* Totals of the blocks with one id. No number counts the items of blocks inside them. */
 struct bs_block_row {
     uint32_t id;
     uint64_t blocks;
@@ -237,18 +239,18 @@ struct bs_block_row {
     uint64_t records;
     uint64_t abbreviated;
     uint64_t values;
-    /* How many of the rows of codes are this one's: they follow those of the row before. */
+    /* The number of rows of codes for this row. They follow those of the row before. */
     size_t codes;
 };
 
-/* What the records with one code add up to, in blocks with one id. */
+/* Totals of the records with one code, in blocks with one id. */
 struct bs_code_row {
     uint64_t code;
     uint64_t count;
     uint64_t bits;
 };
 
-/* Analyses bytes, and tells the magic, the bits and how many rows there are. The rows, in order of first entry, go into the rooms,
+/* Analyses bytes, and sets the magic, the bits and the numbers of rows. The rows, in order of first entry, go into the rooms,
    all of them or none: BS_DONE, or BS_ROOM; or BS_REFUSED, BS_MEMORY, BS_LIMITS, and then the tally is all zeros.
 
    Reads the bytes once. Holds D and the rows, at most 30 bytes for a byte of input, and at the end the rows once more as the rooms
@@ -257,17 +259,17 @@ uint32_t bs_analyse(const uint8_t *bytes, size_t bytes_len, const struct bs_limi
                     struct bs_block_row *block_room, size_t block_room_len, struct bs_code_row *code_room, size_t code_room_len,
                     struct bs_fault *fault);
 
-/* A handle: what the library holds of a text or of the events of bytes. Begin with all zeros, which is a closed one; never copy one.
-   Its fields are the library's. */
+/* A handle: it holds a text, the events of bytes, an input in pieces, or a tree that is written. Begin with all zeros, which is a
+   closed handle. Never copy a handle. Its fields are private to the library. */
 struct bs_handle {
     bool live;
     void *inner;
 };
 
-/* Makes a text, as bs_normal, bs_report and bs_show do, and holds it behind the handle: BS_DONE; or what these say but BS_ROOM, and
-   then the handle is closed. A handle that is open is closed before. So a text is made once, and there can be room for it.
+/* Makes a text, as bs_normal, bs_report and bs_show do, and holds it in the handle: BS_DONE. Or each of their other results except
+   BS_ROOM, and then the handle is closed. An open handle is closed first. So a text is made once, before there is room for it.
 
-   Read what these calls do with a room that is large enough, and hold the same; the handle then holds the text alone. */
+   Reads and holds what these calls do with a room that is large enough; the handle then holds the text alone. */
 uint32_t bs_hold_normal(const uint8_t *bytes, size_t bytes_len, const struct bs_limits *limits, const struct bs_left_out *left_out,
                         struct bs_handle *handle, struct bs_fault *fault);
 uint32_t bs_hold_report(const uint8_t *bytes, size_t bytes_len, const struct bs_limits *limits, struct bs_handle *handle,
@@ -275,12 +277,18 @@ uint32_t bs_hold_report(const uint8_t *bytes, size_t bytes_len, const struct bs_
 uint32_t bs_hold_show(const uint8_t *bytes, size_t bytes_len, const struct bs_limits *limits, const struct bs_left_out *left_out,
                       struct bs_handle *handle, struct bs_fault *fault);
 
-/* Puts the text that is held into the room, and tells in `needed` how many bytes it has: BS_DONE, or BS_ROOM; or BS_CLOSED where the
-   handle holds no text. The handle stays open, until bs_close gives the text back. Copies, and holds nothing. */
+/* Puts the held text into the room, and sets `needed` to its length in bytes: BS_DONE, or BS_ROOM; or BS_CLOSED if the handle holds
+   no text. The handle stays open until bs_close frees the text. Copies, and holds nothing. */
 uint32_t bs_text(struct bs_handle *handle, uint8_t *room, size_t room_len, size_t *needed, struct bs_fault *fault);
 
+/* Puts the next bytes of the held text at the start of the room, and sets `taken` to their number: room_len, or the number of
+   remaining bytes if that is less, so 0 at the end: BS_DONE. The rest of the room is unchanged. Or BS_CLOSED if the handle holds no
+   text, and then `taken` is 0. The first call begins with the first byte, so a text can be written piece by piece with one small
+   room. The handle still holds the whole text, which bs_text copies. Copies, and holds nothing. */
+uint32_t bs_take(struct bs_handle *handle, uint8_t *room, size_t room_len, size_t *taken, struct bs_fault *fault);
+
 enum {
-    /* The whole input is accepted, and no event is left. */
+    /* The whole input is accepted, and no event remains. */
     BS_OVER = 0,
     BS_ENTER = 1,
     BS_DEFINE = 2,
@@ -288,17 +296,17 @@ enum {
     BS_LEAVE = 4
 };
 
-/* An event. What its kind does not name is 0. */
+/* An event. Fields that its kind does not have are 0. */
 struct bs_event {
     uint32_t kind;
-    /* Of a block's beginning the id of the block, of a record its abbreviation id. */
+    /* The id of a block at its beginning, or the abbreviation id of a record. */
     uint32_t id;
-    /* Of a block's beginning the width of its abbreviation ids. */
+    /* The width of a block's abbreviation ids, at its beginning. */
     uint32_t width;
-    /* Of a record its code, and how many values it has, the code not counted. */
+    /* The code of a record, and the number of its values, the code not counted. */
     uint64_t code;
     size_t count;
-    /* The bit at which it begins, of a block's end 0; and the bit behind it, of a block's beginning the first bit of the body. */
+    /* The first bit of the item, 0 for a block's end; and the bit after it, for a block's beginning the first bit of its body. */
     uint64_t first;
     uint64_t after;
 };
@@ -306,7 +314,7 @@ struct bs_event {
 /* An operand of a definition. */
 enum {
     BS_LITERAL = 0,
-    /* The numbers that the format has for these. */
+    /* The numbers of these kinds in the format. */
     BS_FIXED = 1,
     BS_VBR = 2,
     BS_ARRAY = 3,
@@ -315,7 +323,7 @@ enum {
 };
 struct bs_operand {
     uint32_t kind;
-    /* Of a literal its value, of BS_FIXED and BS_VBR the width in bits, else 0. */
+    /* The value of a literal, the width in bits of BS_FIXED and BS_VBR, otherwise 0. */
     uint64_t value;
 };
 
@@ -324,33 +332,85 @@ struct bs_magic_bytes {
     uint8_t bytes[4];
 };
 
-/* Begins the events of bytes: BS_DONE; or BS_REFUSED, BS_MEMORY, BS_LIMITS, and then the handle is closed. A handle that is open is
-   closed before. The bytes stay where and as they are until the handle is closed.
+/* Begins the events of bytes: BS_DONE; or BS_REFUSED, BS_MEMORY, BS_LIMITS, and then the handle is closed. An open handle is closed
+   first. The bytes must stay in place and unchanged until the handle is closed.
 
-   Reads the magic, and a wrapper if there is one. All events together read the bytes once; the handle holds D and V, and 16 bytes for
-   each operand of the last definition. */
+   Reads the magic, and a wrapper if there is one. All events together read the bytes once; the handle holds D and V, and 16 bytes
+   for each operand of the definition returned last. */
 uint32_t bs_open(const uint8_t *bytes, size_t bytes_len, const struct bs_limits *limits, struct bs_handle *handle,
                  struct bs_fault *fault);
 
-/* The next event: BS_DONE, with an event of kind BS_OVER where no event is left and the whole input is accepted, and then that
-   again ever after. Or BS_REFUSED or BS_MEMORY, and then the same with the same fault ever after; or BS_CLOSED, also where the handle
-   holds a text. These leave the event as it was. Reads the bytes of the event. */
+/* The next event: BS_DONE. If no event remains and the whole input is accepted, the event has the kind BS_OVER, now and in each
+   later call. Or BS_REFUSED or BS_MEMORY, and each later call returns the same with the same fault. Or BS_CLOSED, also if the
+   handle holds a text. These leave the event unchanged. Reads the bytes of the event. */
 uint32_t bs_next(struct bs_handle *handle, struct bs_event *event, struct bs_fault *fault);
 
-/* Puts the values of the record that was given last into the room, and tells in `needed` how many they are, 0 where no record was
-   given: BS_DONE, or BS_ROOM; or what bs_next says after a fault or of a closed handle, and then `needed` is 0. Copies, and holds
-   nothing. */
+/* Puts the values of the record returned last into the room, and sets `needed` to their number, 0 if there was none: BS_DONE, or
+   BS_ROOM. After a fault or with a closed handle it returns what bs_next returns, with `needed` 0. Copies, and holds nothing. */
 uint32_t bs_values(struct bs_handle *handle, uint64_t *room, size_t room_len, size_t *needed, struct bs_fault *fault);
 
-/* The same of the operands of the definition that was given last, and `needed` is 0 where the event that was given last is no
-   definition. */
+/* The same for the operands of the definition returned last. `needed` is 0 if the event returned last is no definition. */
 uint32_t bs_operands(struct bs_handle *handle, struct bs_operand *room, size_t room_len, size_t *needed, struct bs_fault *fault);
 
-/* Tells the magic of the stream: BS_DONE, from bs_open on, and also after a fault; or BS_CLOSED, also where the handle holds a text, and
-   then the magic is as it was. */
+/* Sets the magic of the stream: BS_DONE, from bs_open on, and also after a fault. Or BS_CLOSED, also if the handle holds a text,
+   and then the magic is unchanged. */
 uint32_t bs_magic(struct bs_handle *handle, struct bs_magic_bytes *magic, struct bs_fault *fault);
 
-/* Closes a handle, and frees what it holds. Of a closed one nothing is done. */
+/* An input in pieces. A handle gathers the pieces passed to bs_feed, so a caller who reads a stream needs no buffer for all of it.
+   The calls on it return what those on bytes return for all pieces together, for any cut into pieces. One call reads an input from
+   its first bit to its last: so no piece is judged before such a call, the handle holds all n bytes, and there are no events of an
+   input in pieces. With a handle that holds something else, the calls return BS_CLOSED and change nothing. */
+
+/* Adds a piece to the input: BS_DONE. A closed handle begins an input with it. Or BS_MEMORY, and then the input is unchanged, and a
+   closed handle stays closed. Or BS_CLOSED. Copies the piece. Holds at most 2 n bytes, and 3 n while the buffer grows. */
+uint32_t bs_feed(struct bs_handle *handle, const uint8_t *piece, size_t piece_len, struct bs_fault *fault);
+
+/* bs_check and bs_analyse for the input. It stays, so calls can be repeated, and more pieces can be fed. Or BS_CLOSED, also for a
+   closed handle, and then the tally is all zeros. They read and hold what those calls do. */
+uint32_t bs_fed_check(struct bs_handle *handle, const struct bs_limits *limits, struct bs_fault *fault);
+uint32_t bs_fed_analyse(struct bs_handle *handle, const struct bs_limits *limits, struct bs_tally *tally,
+                        struct bs_block_row *block_room, size_t block_room_len, struct bs_code_row *code_room, size_t code_room_len,
+                        struct bs_fault *fault);
+
+/* bs_hold_normal and bs_hold_show for the input: BS_DONE, and then the handle holds the text instead of the input. On each other
+   status the input stays. Or BS_CLOSED, also for a closed handle. They read and hold what those calls do, beside the input. */
+uint32_t bs_fed_normal(struct bs_handle *handle, const struct bs_limits *limits, const struct bs_left_out *left_out,
+                       struct bs_fault *fault);
+uint32_t bs_fed_show(struct bs_handle *handle, const struct bs_limits *limits, const struct bs_left_out *left_out,
+                     struct bs_fault *fault);
+
+/* A writer. Its calls describe a tree item by item, and at the end its handle holds the normal form of that tree: the bytes that
+   bs_normal makes of each input with this tree. They are accepted under the limits of the writer. A call that does not fit returns
+   BS_UNFIT and changes nothing, so the writer can continue. If a call returns BS_MEMORY, the handle is closed. With a handle that
+   holds no writer, a call returns BS_CLOSED and changes nothing.
+
+   Each call takes time in proportion to its arguments. The handle holds the form so far, 16 bytes for each open block, and nothing
+   of the form once that is longer than the limit on bytes. */
+
+/* Begins a tree with a magic: BS_DONE. Or BS_UNFIT for the magic of a wrapper, DE C0 17 0B, or BS_MEMORY, BS_LIMITS; then the
+   handle is closed. An open handle is closed first. The limits are those on the form's bytes, on the depth of blocks and on the
+   values of all records; shapes_at_use has no effect, because the form has no definitions. */
+uint32_t bs_write_open(const struct bs_magic_bytes *magic, const struct bs_limits *limits, struct bs_handle *handle,
+                       struct bs_fault *fault);
+
+/* A block with this id begins, in the innermost open block or at the top: BS_DONE. Or BS_UNFIT if it is deeper than the limit, or
+   if the innermost open block is a BLOCKINFO block, which has the id 0. Or BS_MEMORY, BS_CLOSED. */
+uint32_t bs_write_enter(struct bs_handle *handle, uint32_t id, struct bs_fault *fault);
+
+/* A record of the innermost open block: BS_DONE. Or BS_UNFIT if no block is open, or if the records have more values than the
+   limit. In a BLOCKINFO block also if the first record has another code than 1, or if a record with code 1 has no value or a first
+   value above 4294967295: that value is the id of the described block. Or BS_MEMORY, BS_CLOSED. Reads the values. */
+uint32_t bs_write_record(struct bs_handle *handle, uint64_t code, const uint64_t *values, size_t values_len, struct bs_fault *fault);
+
+/* The innermost open block ends: BS_DONE. Or BS_UNFIT if none is open. Or BS_MEMORY, BS_CLOSED. */
+uint32_t bs_write_leave(struct bs_handle *handle, struct bs_fault *fault);
+
+/* The tree ends, and the handle holds its normal form as a text, for bs_text and bs_take: BS_DONE. Or BS_UNFIT if a block is open.
+   Or BS_TOO_LONG if the form has more bytes than the limit, or BS_MEMORY; then the handle is closed. Or BS_CLOSED. While the text
+   is made, the handle's form is held beside it. */
+uint32_t bs_write_finish(struct bs_handle *handle, struct bs_fault *fault);
+
+/* Closes a handle, and frees what it holds. Does nothing with a closed handle. */
 void bs_close(struct bs_handle *handle);
 
 #ifdef __cplusplus

@@ -10,11 +10,12 @@ _bitstool() {
         words="check normal same analyse show events --help --version"
     else
         case ${COMP_WORDS[1]} in
-            check | analyse) words=$limits ;;
+            check) words=$limits ;;
+            analyse) words="$limits --json" ;;
             show) words="$limits $names" ;;
             normal) words="$limits $names --drop-info" ;;
-            same) words="$limits $names --drop-info --first --where" ;;
-            events) words="$limits --no-values" ;;
+            same) words="$limits $names --drop-info --first --where --json" ;;
+            events) words="$limits --no-values --json" ;;
         esac
     fi
     mapfile -t COMPREPLY < <(compgen -W "$words" -- "$now")

@@ -1,4 +1,4 @@
-"""What llvm-bcanalyzer says of a stream: the tree, and the counts and bits of each block id."""
+"""What llvm-bcanalyzer prints of a stream: the tree, and the counts and bits of each block id."""
 import re
 import subprocess
 from dataclasses import dataclass
@@ -15,7 +15,7 @@ RECORD = re.compile(r"( *)<(?:UnknownCode|[^<>]+ codeid=)(\d+)( abbrevid=\d+)?((
 
 @dataclass
 class Told:
-    """The bits of the stream, a row for each block id, and the lines of a listing; a blob's values are missing there."""
+    """The bits of the stream, a row for each block id, and the lines of a listing without the values of blobs."""
 
     bits: int
     rows: dict
@@ -24,7 +24,7 @@ class Told:
 
 
 def find():
-    """The tool; None, and a line that says why, where it is not there or prints what is not known here."""
+    """The tool; None, and a line with the reason, if it is missing or its output is not known here."""
     tool = find_tool("llvm-bcanalyzer")
     if tool is None:
         skip("no llvm-bcanalyzer")
@@ -32,7 +32,7 @@ def find():
 
 
 def find_of(version):
-    """The same of the tool of a version of LLVM."""
+    """The same for the tool of a version of LLVM."""
     tool = find_all("llvm-bcanalyzer").get(version)
     if tool is None:
         skip(f"no llvm-bcanalyzer of version {version}")
@@ -40,7 +40,7 @@ def find_of(version):
 
 
 def known(tool):
-    """The tool, if there is one and it prints what is known here."""
+    """The tool, if there is one and its output is known here."""
     if tool is None:
         return None
     try:
@@ -54,7 +54,7 @@ def known(tool):
 
 
 def dump_of(tool, stream):
-    """The text that the tool prints of a stream; None where it fails."""
+    """The text that the tool prints of a stream; None if it fails."""
     ran = subprocess.run([tool, "--dump", "--dump-blockinfo", "--non-symbolic"], input=stream, capture_output=True)
     return ran.stdout.decode(errors="replace") if ran.returncode == 0 else None
 
@@ -93,7 +93,7 @@ def read_tree(dump, told):
 
 
 def read_summary(dump, told):
-    """Adds the bits and definitions of each block id; answers the counts and bits of records of each id, by no code."""
+    """Adds the bits and definitions of each block id. Returns the counts and bits of the records of each id, of all codes."""
     summary = dump.split("\nSummary of")[1]
     head, *parts = re.split(r"\n  Block ID #", summary)
     told.bits = int(re.search(r"Total size: (\d+)b", head)[1])
@@ -114,7 +114,7 @@ def read(dump):
 
 
 def is_tree_of(told, listing):
-    """Whether the lines are those of a listing, but for the values of blobs, which the listing has and the tool has not."""
+    """Whether the lines are those of a listing, except for the values of blobs, which only the listing has."""
     lines = listing.split("\n")[1:-1]
     if len(lines) != len(told.lines):
         return False
@@ -125,7 +125,7 @@ def is_tree_of(told, listing):
 
 
 def compare(checks, tool, name, given, report, listing):
-    """Checks the report and the listing of an input by what the tool finds in it."""
+    """Checks the report and the listing of an input against the output of the tool."""
     dump = dump_of(tool, given)
     if not checks.holds(f"{name}: llvm-bcanalyzer reads it", dump is not None):
         return

@@ -1,4 +1,4 @@
-"""The C library by Python's ctypes: each call answers as a run of the program would, so that the two can be compared."""
+"""The C library by Python's ctypes: each call returns what a run of the program would, so that the two can be compared."""
 import ctypes
 import os
 from ctypes import POINTER, Structure, byref, c_bool, c_size_t, c_uint8, c_uint32, c_uint64, c_void_p
@@ -7,7 +7,7 @@ from typing import NamedTuple
 from program import DIFFERENT, REASONS, SAME, TOP, Answer, done
 
 LIBRARY = f"{TOP}/capi/out/libbitstream.so"
-DONE, DIFFERS, REFUSED, MEMORY, TOO_LONG, LIMITS, ROOM, CLOSED, NAMES = range(9)
+DONE, DIFFERS, REFUSED, MEMORY, TOO_LONG, LIMITS, ROOM, CLOSED, NAMES, UNFIT = range(10)
 OVER, ENTER, DEFINE, RECORD, LEAVE = range(5)
 NOWHERE, AT_MAGIC, AT_ITEM = range(3)
 NOTHING, STANDS_MAGIC, STANDS_BLOCK, STANDS_RECORD, STANDS_END = range(5)
@@ -85,7 +85,7 @@ class Setting(NamedTuple):
     records: tuple = ()
 
     def words(self, command):
-        """The options of a command for it: `show` has no `--drop-info`, which says the same as `--drop-block 0`."""
+        """The options of a command for it: `show` has no `--drop-info`, which means the same as `--drop-block 0`."""
         words = (["--drop-block", "0"] if command == "show" else ["--drop-info"]) if self.info else []
         for block in self.blocks:
             words += ["--drop-block", str(block)]
@@ -94,7 +94,7 @@ class Setting(NamedTuple):
         return words
 
     def passed(self):
-        """What a call takes for it."""
+        """The argument of a call for it."""
         blocks, records = room_of(c_uint32, len(self.blocks)), room_of(RecordName, len(self.records))
         for place, block in enumerate(self.blocks):
             blocks[place] = block
@@ -107,7 +107,7 @@ WHOLE = Setting()
 
 
 class Told(NamedTuple):
-    """What a call told: its status, and of a refusal the reason, the input and the bit."""
+    """The result of a call: its status, and of a refusal the reason, the input and the bit."""
 
     status: int
     reason: int
@@ -116,7 +116,7 @@ class Told(NamedTuple):
 
 
 def room_of(kind, count):
-    """Room for so many items, and what a call takes for it: a length of 0 has a pointer that is not null too."""
+    """Room for `count` items, and the arguments of a call for it: a length of 0 has a pointer that is not null too."""
     return (kind * max(count, 1))()
 
 
@@ -125,7 +125,7 @@ def bytes_of(given):
 
 
 def standing_of(standing):
-    """What stands at a place, as the program prints it."""
+    """The item at a place, as the program prints it."""
     if standing.kind == STANDS_MAGIC:
         return f"magic {bytes(standing.magic).hex()}"
     if standing.kind == STANDS_BLOCK:
@@ -178,7 +178,7 @@ class Library:
         return ctypes.string_at(name.at, name.len).decode()
 
     def as_run(self, told, limits, output=b"", which=""):
-        """The run of the program that would have said so."""
+        """The run of the program with the same result."""
         if told.status == DONE:
             return done(output)
         if told.status == REFUSED:
@@ -192,14 +192,14 @@ class Library:
         return self.as_run(self.ask("bs_check", given, c_size_t(len(given)), byref(limits)), limits, b"accepted\n")
 
     def told_text(self, call, given, limits, room, left_out):
-        """A call for a text with so much room: what it told, how much is needed, and what stands in the room."""
+        """A call for a text with this much room: its result, how much is needed, and the contents of the room."""
         held, needed = room_of(c_uint8, room), c_size_t(77)
         ctypes.memset(held, 0xA5, max(room, 1))
         told = self.ask(call, given, c_size_t(len(given)), byref(limits), *left_out, held, c_size_t(room), byref(needed))
         return told, needed.value, bytes(held)
 
     def text(self, call, given, options=(), setting=None):
-        """A text, asked with no room and then with room for it; with one byte too few, nothing may be put there."""
+        """A text, with no room and then with room for it; with one byte too few, nothing may be written there."""
         limits, left_out = self.limits(options), self.left_out(setting)
         told, needed, _ = self.told_text(call, given, limits, 0, left_out)
         if told.status != ROOM:
@@ -209,15 +209,15 @@ class Library:
             return Answer("a room that is too small was written to", held, "")
         told, again, held = self.told_text(call, given, limits, needed + 3, left_out)
         if again != needed or held[needed:] != b"\xa5" * 3:
-            return Answer("what is behind the text was written to", held, "")
+            return Answer("bytes after the text were written", held, "")
         return self.as_run(told, limits, held[:needed])
 
     def left_out(self, setting):
-        """What a call takes for a setting; nothing where it has none."""
+        """The argument of a call for a setting; nothing if it has none."""
         return [] if setting is None else [byref(setting.passed())]
 
     def held(self, call, given, options=(), setting=None):
-        """A text that is held behind a handle, asked with a byte too few and then with room for it; and closed."""
+        """A text that is held by a handle, with room for a byte too few and then with room for it; and closed."""
         limits, handle, needed = self.limits(options), Handle(), c_size_t(77)
         made = self.ask(call, given, c_size_t(len(given)), byref(limits), *self.left_out(setting), byref(handle))
         none = self.ask("bs_text", byref(handle), room_of(c_uint8, 0), c_size_t(0), byref(needed))
@@ -232,19 +232,111 @@ class Library:
             return Answer(f"the library's statuses {found}", b"", "")
         return self.as_run(made, limits, bytes(held))
 
+    def pieces(self, call, given, size, options=(), setting=None):
+        """A text that is held, taken in pieces of one size, and behind its end; then whole again; and of a closed handle."""
+        limits, handle, taken, room = self.limits(options), Handle(), c_size_t(77), room_of(c_uint8, size)
+        made = self.ask(call, given, c_size_t(len(given)), byref(limits), *self.left_out(setting), byref(handle))
+        text, statuses = b"", set()
+        while made.status == DONE:
+            ctypes.memset(room, 0xA5, size)
+            statuses.add(self.ask("bs_take", byref(handle), room, c_size_t(size), byref(taken)).status)
+            if bytes(room[taken.value :]) != b"\xa5" * (size - taken.value):
+                return Answer("what is behind the piece was written to", bytes(room), "")
+            text += bytes(room[: taken.value])
+            if taken.value < size:
+                break
+        for _ in range(2):
+            statuses.add(self.ask("bs_take", byref(handle), room, c_size_t(size * (made.status == DONE)), byref(taken)).status)
+            if taken.value:
+                return Answer(f"{taken.value} bytes behind the end", b"", "")
+        held = room_of(c_uint8, len(text))
+        statuses.add(self.ask("bs_text", byref(handle), held, c_size_t(len(text)), byref(taken)).status)
+        self.calls.bs_close(byref(handle))
+        closed = self.ask("bs_take", byref(handle), room, c_size_t(size), byref(taken)).status
+        if statuses != {made.status if made.status == DONE else CLOSED} or closed != CLOSED or taken.value or bytes(held)[: len(text)] != text:
+            return Answer(f"the library's statuses {statuses}, {closed}", b"", "")
+        return self.as_run(made, limits, text)
+
+    def fed(self, given, size):
+        """A handle that was fed an input in pieces of one size."""
+        handle = Handle()
+        for at in range(0, max(len(given), 1), size):
+            piece = given[at : at + size]
+            if self.ask("bs_feed", byref(handle), piece, c_size_t(len(piece))).status != DONE:
+                self.calls.bs_close(byref(handle))
+        return handle
+
+    def fed_check(self, given, size, options=()):
+        """The answer to an input in pieces, asked twice, and its rows between."""
+        limits, handle = self.limits(options), self.fed(given, size)
+        told = self.ask("bs_fed_check", byref(handle), byref(limits))
+        rows = self.rows_of("bs_fed_analyse", (byref(handle),), options)
+        again = self.ask("bs_fed_check", byref(handle), byref(limits))
+        self.calls.bs_close(byref(handle))
+        return self.as_run(told, limits, b"accepted\n") if again == told else Answer("another answer", b"", ""), rows
+
+    def fed_text(self, call, given, size, options=(), setting=None):
+        """A text of an input in pieces; after another answer the input is asked again, and nothing more is fed to a text."""
+        limits, handle = self.limits(options), self.fed(given, size)
+        checked = self.ask("bs_fed_check", byref(handle), byref(limits))
+        told = self.ask(call, byref(handle), byref(limits), *self.left_out(setting))
+        text = self.text_of(handle)
+        again = self.ask("bs_fed_check", byref(handle), byref(limits))
+        more = self.ask("bs_feed", byref(handle), b"", c_size_t(0)).status
+        self.calls.bs_close(byref(handle))
+        made = told.status == DONE
+        if (again, more) != ((Told(CLOSED, 0, 0, 0), CLOSED) if made else (checked, DONE)) or (text and not made):
+            return Answer(f"the library's statuses {again.status}, {more}", text, "")
+        return self.as_run(told, limits, text)
+
+    def begin(self, magic, limits):
+        """A writer's handle, and the status of the call that began it."""
+        handle = Handle()
+        return handle, self.ask("bs_write_open", byref(Magic((c_uint8 * 4)(*magic))), byref(limits), byref(handle)).status
+
+    def tell(self, handle, call):
+        """The status of a call of a writer: ("enter", id), ("record", code, values), ("leave",) or ("finish",)."""
+        name, *given = call
+        if name == "enter":
+            given = [c_uint32(*given)]
+        if name == "record":
+            code, values = given
+            given = [c_uint64(code), (c_uint64 * max(len(values), 1))(*values), c_size_t(len(values))]
+        return self.ask(f"bs_write_{name}", byref(handle), *given).status
+
+    def text_of(self, handle):
+        """The text that a handle holds."""
+        needed = c_size_t()
+        self.ask("bs_text", byref(handle), room_of(c_uint8, 0), c_size_t(0), byref(needed))
+        held = room_of(c_uint8, needed.value)
+        self.ask("bs_text", byref(handle), held, c_size_t(needed.value), byref(needed))
+        return bytes(held)[: needed.value]
+
+    def written(self, magic, calls, options=()):
+        """The form of a tree that fits, told call by call."""
+        limits = self.limits(options)
+        handle, status = self.begin(magic, limits)
+        statuses = {status, *[self.tell(handle, call) for call in calls]}
+        status = self.tell(handle, ("finish",))
+        form = self.text_of(handle) if status == DONE else b""
+        self.calls.bs_close(byref(handle))
+        if statuses != {DONE}:
+            return Answer(f"the library's statuses {statuses}", b"", "")
+        return self.as_run(Told(status, 0, 0, 0), limits, form)
+
     def same(self, first, second, options=(), setting=WHOLE):
         limits = self.limits(options)
         told = self.ask("bs_same", first, c_size_t(len(first)), second, c_size_t(len(second)), byref(limits), *self.left_out(setting))
         return self.as_comparison(told, limits)
 
     def as_comparison(self, told, limits, lines=b""):
-        """The run of `same` that would have said so, with these lines behind `different`."""
+        """The run of `same` with the same result, with these lines after `different`."""
         if told.status == DIFFERS:
             return DIFFERENT._replace(output=DIFFERENT.output + lines)
         return SAME if told.status == DONE else self.as_run(told, limits, b"", ("first: ", "second: ")[told.input])
 
     def told_difference(self, first, second, limits, setting, room):
-        """A call for a difference with so much room: what it told, the difference, and what stands in the room."""
+        """A call for a difference with this much room: its result, the difference, and the contents of the room."""
         difference, held = Difference(), room_of(OpenBlock, room)
         for place in (difference, held):
             ctypes.memset(byref(place), 0xA5, ctypes.sizeof(place))
@@ -253,7 +345,7 @@ class Library:
         return told, difference, held
 
     def where(self, first, second, options=(), setting=WHOLE):
-        """Where two inputs first differ, asked with no room for the open blocks, with one place too few, and with one more."""
+        """Where two inputs first differ, with no room for the open blocks, with one place too few, and with one more."""
         limits = self.limits(options)
         told, difference, _ = self.told_difference(first, second, limits, setting, 0)
         if told.status not in (DIFFERS, ROOM):
@@ -267,22 +359,25 @@ class Library:
                 return Answer("a room that is too small was written to", b"", "")
         told, again, held = self.told_difference(first, second, limits, setting, depth + 1)
         if bytes_of(again) != bytes_of(difference) or set(bytes_of(held[depth])) != {0xA5}:
-            return Answer("what is behind the blocks was written to", b"", "")
+            return Answer("places after the blocks were written", b"", "")
         return self.as_comparison(told, limits, lines_of(difference, held[:depth]).encode())
 
     def rows(self, given, options=()):
-        """The report that the rows of an analysis make."""
+        """The report of the rows of an analysis."""
+        return self.rows_of("bs_analyse", (given, c_size_t(len(given))), options)
+
+    def rows_of(self, call, input_of, options):
         limits, tally = self.limits(options), Tally()
-        input_of = (given, c_size_t(len(given)), byref(limits), byref(tally))
-        told = self.ask("bs_analyse", *input_of, room_of(BlockRow, 0), c_size_t(0), room_of(CodeRow, 0), c_size_t(0))
+        input_of = (*input_of, byref(limits), byref(tally))
+        told = self.ask(call, *input_of, room_of(BlockRow, 0), c_size_t(0), room_of(CodeRow, 0), c_size_t(0))
         if told.status not in (ROOM, DONE):
             return self.as_run(told, limits)
         blocks, codes = room_of(BlockRow, tally.blocks), room_of(CodeRow, tally.codes)
         if tally.codes:
-            told = self.ask("bs_analyse", *input_of, blocks, c_size_t(tally.blocks), codes, c_size_t(tally.codes - 1))
+            told = self.ask(call, *input_of, blocks, c_size_t(tally.blocks), codes, c_size_t(tally.codes - 1))
             if told.status != ROOM or blocks[0].bits:
                 return Answer("room for too few codes", b"", "")
-        told = self.ask("bs_analyse", *input_of, blocks, c_size_t(tally.blocks), codes, c_size_t(tally.codes))
+        told = self.ask(call, *input_of, blocks, c_size_t(tally.blocks), codes, c_size_t(tally.codes))
         lines, at = [f"magic {bytes(tally.magic).hex()} bits {tally.bits}"], 0
         for row in blocks[: tally.blocks]:
             lines.append(f"block {row.id} count {row.blocks} bits {row.bits} definitions {row.definitions} records {row.records}"
@@ -292,7 +387,7 @@ class Library:
         return self.as_run(told, limits, "".join(line + "\n" for line in lines).encode())
 
     def values(self, reader):
-        """The values of the record that was given last."""
+        """The values of the last record."""
         needed = c_size_t(0)
         told = self.ask("bs_values", byref(reader), room_of(c_uint64, 0), c_size_t(0), byref(needed))
         if told.status == ROOM:
@@ -302,8 +397,7 @@ class Library:
         return told, []
 
     def operands(self, reader):
-        """The operands of the event that was given last, as the program prints them: asked with no room, with one place too few, and
-        with room for all."""
+        """The operands of the last event, as the program prints them: with no room, one place too few, and room for all."""
         needed = c_size_t(77)
         told, room = self.ask("bs_operands", byref(reader), room_of(Operand, 0), c_size_t(0), byref(needed)), needed.value
         if told.status not in (DONE, ROOM) or (told.status == ROOM) != (room > 0):
@@ -326,7 +420,7 @@ class Library:
         return bytes(magic.bytes).hex() if told == Told(DONE, 0, 0, 0) else told
 
     def events(self, given, options=()):
-        """The lines that the events make, but the bit of the first, and how they ended."""
+        """The lines of the events, without the bit of the first, and how they ended."""
         limits, reader, event, lines, depth = self.limits(options), Handle(), Event(), [], 0
         told = self.ask("bs_open", given, c_size_t(len(given)), byref(limits), byref(reader))
         if told.status == DONE:
@@ -342,7 +436,7 @@ class Library:
         return lines, told, self.ending(reader, told)
 
     def event(self, reader, event):
-        """What the line of an event tells."""
+        """The contents of the line of an event."""
         if event.kind == ENTER:
             return f"block {event.id} width {event.width} body {event.after}"
         if event.kind == RECORD:
@@ -351,7 +445,7 @@ class Library:
         return {DEFINE: "define", LEAVE: "end"}.get(event.kind, f"kind {event.kind}") + self.operands(reader)
 
     def ending(self, reader, told):
-        """What a reader says at its end: twice the same again, and then closed, and closed again."""
+        """The results of a reader at its end: twice the same again, then after it is closed, and closed again."""
         event = Event()
         said = [self.ask("bs_next", byref(reader), byref(event)) for _ in range(2)]
         if told.status not in (DONE,):

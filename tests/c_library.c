@@ -1,8 +1,8 @@
-/* What tests/c_library asks of the library in C.
-   memory FILE: refuses each request for memory in turn; each call is to answer BS_MEMORY then, and nothing may leak. It is linked
-   with -Wl,--wrap=malloc,--wrap=realloc,--wrap=free.
-   threads FILE..: four threads ask each file in another order, and each answer has to be that of one thread alone.
-   each FILE..: asks each file once. */
+/* The calls that tests/c_library makes of the library in C.
+   memory FILE: each allocation fails in turn; each call must return BS_MEMORY then, and nothing may leak. It is linked with
+   -Wl,--wrap=malloc,--wrap=realloc,--wrap=free.
+   threads FILE..: four threads take the files in different orders, and each result must be that of one thread alone.
+   each FILE..: makes the calls for each file once. */
 #include "bitstream.h"
 #include <pthread.h>
 #include <stdio.h>
@@ -14,7 +14,7 @@ struct file {
     size_t len;
 };
 
-/* What the calls answered, as one number. */
+/* The results of the calls, as one number. */
 static uint64_t mixed(uint64_t sum, uint64_t number) { return (sum ^ number) * 1099511628211u; }
 
 static uint64_t mixed_text(uint64_t sum, const uint8_t *at, size_t len) {
@@ -22,7 +22,7 @@ static uint64_t mixed_text(uint64_t sum, const uint8_t *at, size_t len) {
     return sum;
 }
 
-/* Whether any call answered that there is no memory. */
+/* Whether any call returned BS_MEMORY. */
 static int lacked;
 
 static uint32_t noted(uint32_t status) {
@@ -40,7 +40,7 @@ static uint8_t *room_for(size_t len) {
 void *__real_malloc(size_t);
 void *__real_realloc(void *, size_t);
 void __real_free(void *);
-/* Volatile, since a compiler takes malloc and free for calls that look at no variable. */
+/* Volatile, because a compiler assumes that malloc and free read no variable. */
 static volatile long left = -1, live;
 static volatile int counted;
 static int refuses(void) { return counted && left >= 0 && left-- == 0; }
@@ -99,7 +99,7 @@ static uint64_t ask_events(const struct file *file, const struct bs_limits *limi
     return mixed(mixed(sum, fault.reason), fault.bit);
 }
 
-/* Names of which some stand in most files, with BLOCKINFO blocks or without. */
+/* Names, some of which occur in most files, with BLOCKINFO blocks or without. */
 static struct bs_left_out some_names(int with_info) {
     static const uint32_t blocks[] = {12, 5};
     static const struct bs_record_name records[] = {{8, 1}, {9, 100}};
@@ -107,7 +107,7 @@ static struct bs_left_out some_names(int with_info) {
     return left_out;
 }
 
-/* A file beside itself with one bit turned, at up to eight places. */
+/* A file compared with itself with one bit turned, at up to eight places. */
 static uint64_t ask_differences(const struct file *file, const struct bs_limits *limits, uint64_t sum) {
     struct bs_left_out left_out = some_names(1);
     struct bs_open_block room[255];
@@ -131,7 +131,7 @@ static uint64_t ask_differences(const struct file *file, const struct bs_limits 
     return sum;
 }
 
-/* The texts go into room for 32 times the file and 64 KiB, which these files need less than. */
+/* The room for texts is 32 times the file and 64 KiB, more than these files need. */
 static uint64_t ask_texts(const struct file *file, const struct bs_limits *limits, uint64_t sum) {
     struct bs_fault fault;
     size_t len = 32 * file->len + 65536, needed = 0;
@@ -150,6 +150,70 @@ static uint64_t ask_texts(const struct file *file, const struct bs_limits *limit
     return sum;
 }
 
+/* The text that is held, in pieces. */
+static uint64_t mixed_pieces(uint64_t sum, struct bs_handle *handle) {
+    struct bs_fault fault;
+    uint8_t room[4095];
+    size_t taken = 0;
+    memset(room, 0, sizeof room);
+    while (bs_take(handle, room, sizeof room, &taken, &fault) == BS_DONE && taken) sum = mixed_text(sum, room, taken);
+    return sum;
+}
+
+/* What a file holds, told to a writer. */
+static uint64_t ask_writer(const struct file *file, const struct bs_limits *limits, uint64_t sum) {
+    struct bs_handle reader = {0}, writer = {0};
+    struct bs_magic_bytes magic = {{0}};
+    struct bs_event event = {0};
+    struct bs_fault fault;
+    size_t most = 8 * file->len + 64, count = 0;
+    uint64_t *values = (uint64_t *)room_for(most * sizeof *values);
+    memset(values, 0, most * sizeof *values);
+    count_memory(1);
+    uint32_t status = noted(bs_open(file->at, file->len, limits, &reader, &fault));
+    if (status == BS_DONE) status = bs_magic(&reader, &magic, &fault);
+    if (status == BS_DONE) status = noted(bs_write_open(&magic, limits, &writer, &fault));
+    while (status == BS_DONE) {
+        status = noted(bs_next(&reader, &event, &fault));
+        if (status != BS_DONE || event.kind == BS_OVER) break;
+        if (event.kind == BS_ENTER) status = bs_write_enter(&writer, event.id, &fault);
+        if (event.kind == BS_RECORD) status = bs_values(&reader, values, most, &count, &fault);
+        if (event.kind == BS_RECORD && status == BS_DONE) status = bs_write_record(&writer, event.code, values, count, &fault);
+        if (event.kind == BS_LEAVE) status = bs_write_leave(&writer, &fault);
+        noted(status);
+    }
+    if (status == BS_DONE) status = noted(bs_write_finish(&writer, &fault));
+    bs_close(&reader);
+    count_memory(0);
+    sum = mixed_pieces(mixed(sum, status), &writer);
+    count_memory(1);
+    bs_close(&writer);
+    count_memory(0);
+    free(values);
+    return sum;
+}
+
+/* A file in pieces. */
+static uint64_t ask_fed(const struct file *file, const struct bs_limits *limits, uint64_t sum) {
+    struct bs_left_out left_out = some_names(1);
+    struct bs_handle handle = {0};
+    struct bs_fault fault;
+    uint32_t status = BS_DONE;
+    count_memory(1);
+    for (size_t at = 0; at < file->len && status == BS_DONE; at += 4095) {
+        size_t rest = file->len - at;
+        status = noted(bs_feed(&handle, file->at + at, rest < 4095 ? rest : 4095, &fault));
+    }
+    if (status == BS_DONE) status = noted(bs_fed_check(&handle, limits, &fault));
+    if (status == BS_DONE) status = noted(bs_fed_normal(&handle, limits, &left_out, &fault));
+    count_memory(0);
+    sum = mixed_pieces(mixed(sum, status), &handle);
+    count_memory(1);
+    bs_close(&handle);
+    count_memory(0);
+    return sum;
+}
+
 static uint64_t ask_held(const struct file *file, const struct bs_limits *limits, uint64_t sum) {
     struct bs_handle handle = {0};
     struct bs_left_out left_out = some_names(0);
@@ -164,7 +228,7 @@ static uint64_t ask_held(const struct file *file, const struct bs_limits *limits
         noted(status);
         if (status == BS_DONE) bs_text(&handle, none, 0, &needed, &fault);
         count_memory(0);
-        sum = mixed(mixed(sum, status), needed);
+        sum = mixed_pieces(mixed(mixed(sum, status), needed), &handle);
     }
     count_memory(1);
     bs_close(&handle);
@@ -197,7 +261,7 @@ static uint64_t ask(const struct file *file) {
     uint64_t sum = mixed(14695981039346656037u, noted(bs_check(file->at, file->len, &limits, &fault)));
     sum = mixed(sum, noted(bs_same(file->at, file->len, file->at, file->len, &limits, &left_out, &fault)));
     count_memory(0);
-    sum = ask_differences(file, &limits, sum);
+    sum = ask_fed(file, &limits, ask_writer(file, &limits, ask_differences(file, &limits, sum)));
     return ask_held(file, &limits, ask_rows(file, &limits, ask_texts(file, &limits, ask_events(file, &limits, sum))));
 }
 
@@ -245,7 +309,7 @@ static int with_refusals(const struct file *file) {
         lacked = 0;
         uint64_t sum = ask(file);
         if (live) {
-            printf("request %ld refused: %ld blocks leak\n", place, live);
+            printf("allocation %ld failed: %ld blocks leak\n", place, live);
             return 1;
         }
         if (left >= 0) {
@@ -253,9 +317,9 @@ static int with_refusals(const struct file *file) {
             printf("%ld requests\n", place);
             return 0;
         }
-        /* A block that was only to shrink may stay as it is. */
+        /* A failed realloc that only shrinks a block may leave it as it is. */
         if (!lacked && sum != wanted[0]) {
-            printf("request %ld refused: another answer\n", place);
+            printf("allocation %ld failed: another result\n", place);
             return 1;
         }
     }

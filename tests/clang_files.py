@@ -42,7 +42,7 @@ int g(void) { return "x"; }
     "plain.c": "int f(int a) { return a + 1; }\n",
 }
 
-# What clang is asked, with the file that it makes.
+# The arguments of clang, with the file that it makes.
 ASKED = {
     "a module at -O0": ("O0.bc", "-O0 -c -emit-llvm list.c -o O0.bc"),
     "a module at -O2": ("O2.bc", "-O2 -c -emit-llvm list.c -o O2.bc"),
@@ -60,13 +60,13 @@ ASKED = {
 }
 
 
-# The files of those that hold a syntax tree.
+# Those of these files that contain a syntax tree.
 TREES = ("a precompiled header", "a precompiled header of C++", "a C++ module's interface")
 
 
 def find_all(name):
-    """The paths of a tool of LLVM by its main version, 0 where it does not tell: first the one that goes by the plain name,
-    and then those that have a version in their names, the newest first."""
+    """The paths of a tool of LLVM by its main version, 0 if that is not known: first the one with the plain name, and then
+    those with a version in their names, the newest first."""
     plain = shutil.which(name)
     numbered = sorted(glob.glob(f"/usr/bin/{name}-[0-9]*") + glob.glob(f"/usr/lib/llvm-*/bin/{name}"), reverse=True)
     found = {}
@@ -76,12 +76,12 @@ def find_all(name):
 
 
 def find_tool(name):
-    """The path of a tool of LLVM, also of one that has a version in its name; None where there is none."""
+    """The path of a tool of LLVM, also of one with a version in its name; None if there is none."""
     return next(iter(find_all(name).values()), None)
 
 
 def version(tool):
-    """The main version of a tool, 0 where it does not tell."""
+    """The main version of a tool, 0 if it is not known."""
     told = re.search(r"version (\d+)", subprocess.run([tool, "--version"], capture_output=True, text=True).stdout)
     return int(told[1]) if told else 0
 

@@ -1,5 +1,5 @@
-// Asks each call of the library with null pointers of length 0, as an empty std::vector gives them, and with all zeros for what is left
-// out: each answers as it does with a pointer that is not null.
+// Makes each call of the library with null pointers of length 0, as an empty std::vector has them, and with all zeros for what is
+// left out: each returns the same as with a pointer that is not null.
 #include "bitstream.h"
 #include <cstdio>
 #include <vector>
@@ -45,11 +45,30 @@ int main() {
     is("bs_hold_report", bs_hold_report(none.data(), 0, &limits, &handle, &fault), BS_REFUSED);
     is("bs_hold_show", bs_hold_show(at, len, &limits, &whole, &handle, &fault), BS_DONE);
     is("bs_text", bs_text(&handle, nullptr, 0, &needed, &fault), BS_ROOM);
+    is("bs_take", bs_take(&handle, nullptr, 0, &needed, &fault), BS_DONE);
     is("bs_open", bs_open(none.data(), 0, &limits, &handle, &fault), BS_REFUSED);
     is("bs_open", bs_open(at, len, &limits, &handle, &fault), BS_DONE);
     is("bs_next", bs_next(&handle, &event, &fault), BS_DONE);
     is("bs_values", bs_values(&handle, nullptr, 0, &needed, &fault), BS_DONE);
     is("bs_operands", bs_operands(&handle, nullptr, 0, &needed, &fault), BS_DONE);
+    bs_close(&handle);
+    is("bs_fed_check", bs_fed_check(&handle, &limits, &fault), BS_CLOSED);
+    is("bs_feed", bs_feed(&handle, none.data(), 0, &fault), BS_DONE);
+    is("bs_fed_check", bs_fed_check(&handle, &limits, &fault), BS_REFUSED);
+    is("bs_feed", bs_feed(&handle, at, len, &fault), BS_DONE);
+    is("bs_fed_analyse", bs_fed_analyse(&handle, &limits, &tally, nullptr, 0, nullptr, 0, &fault), BS_ROOM);
+    is("bs_fed_show", bs_fed_show(&handle, &limits, &whole, &fault), BS_DONE);
+    is("bs_fed_normal", bs_fed_normal(&handle, &limits, &whole, &fault), BS_CLOSED);
+    bs_close(&handle);
+    is("bs_feed", bs_feed(&handle, at, len, &fault), BS_DONE);
+    is("bs_fed_normal", bs_fed_normal(&handle, &limits, &whole, &fault), BS_DONE);
+    const bs_magic_bytes magic = {{'D', 'I', 'A', 'G'}};
+    is("bs_write_open", bs_write_open(&magic, &limits, &handle, &fault), BS_DONE);
+    is("bs_write_record", bs_write_record(&handle, 1, nullptr, 0, &fault), BS_UNFIT);
+    is("bs_write_enter", bs_write_enter(&handle, 8, &fault), BS_DONE);
+    is("bs_write_record", bs_write_record(&handle, 1, nullptr, 0, &fault), BS_DONE);
+    is("bs_write_leave", bs_write_leave(&handle, &fault), BS_DONE);
+    is("bs_write_finish", bs_write_finish(&handle, &fault), BS_DONE);
     bs_close(&handle);
     return failures != 0;
 }

@@ -12,7 +12,7 @@ from typing import NamedTuple
 
 TOP = os.path.dirname(os.path.dirname(os.path.abspath(__file__)))
 PROGRAM = os.path.abspath(sys.argv[1] if len(sys.argv) > 1 else f"{TOP}/crates/bitstool/out/bitstool")
-# A run that takes so many seconds hangs.
+# A run that takes this many seconds hangs.
 LONGEST = 60
 
 REASONS = """Truncated ValueTooWide TopLevel TooDeep BlockId AbbrevWidth DirtyPadding BlockLength UndefinedAbbrev AbbrevEmpty
@@ -25,7 +25,7 @@ WRITE_FAILED = "fault: write failed\n"
 
 
 class Answer(NamedTuple):
-    """How a run ended: its status (minus a signal's number where one ended it), its output, its errors."""
+    """How a run ended: its status (minus a signal's number if one ended it), its output, its errors."""
 
     status: object
     output: bytes
@@ -50,7 +50,7 @@ DIFFERENT = Answer(1, b"different\n", "")
 
 
 def run(words, given=b"", program=PROGRAM, **how):
-    """Runs the program on these words and this input; `how` goes to the process in place of pipes."""
+    """Runs the program with these words and this input; `how` goes to the process in place of pipes."""
     if "stdin" not in how:
         how["input"] = given
     how.setdefault("stdout", subprocess.PIPE)
@@ -63,12 +63,12 @@ def run(words, given=b"", program=PROGRAM, **how):
 
 
 def same(first, second, *words):
-    """Runs the program on two inputs, one behind the other, to compare them."""
+    """Runs the program on two inputs to compare them."""
     return run(["same", "--first", str(len(first)), *words], first + second)
 
 
 def run_in_pieces(words, given, size):
-    """Runs the program on an input that comes through a pipe, `size` bytes at a time: the pipe keeps what was written apart."""
+    """Runs the program on an input from a pipe, `size` bytes at a time: the pipe keeps separate writes separate."""
     reading, writing = os.pipe2(os.O_DIRECT | os.O_CLOEXEC)
 
     def write():
@@ -89,13 +89,13 @@ def run_in_pieces(words, given, size):
 
 
 def refusal_in(answer, bits):
-    """Whether an answer is a refusal: a reason of the list, at a bit of an input of so many bits, and no output."""
+    """Whether a run ended with a refusal: a reason of the list, at a bit of an input of this many bits, and no output."""
     line = re.fullmatch(r"refused: (\w+) at bit (\d+)\n", answer.errors)
     return bool(line) and answer.status == 1 and answer.output == b"" and line[1] in REASONS and int(line[2]) <= bits
 
 
 class Checks:
-    """Counts checks, and tells of those that fail."""
+    """Counts checks, and reports those that fail."""
 
     def __init__(self):
         self.passed = 0
@@ -111,7 +111,7 @@ class Checks:
         return is_well
 
     def equal(self, name, found, wanted):
-        """One check: whether what was found is what is wanted."""
+        """One check: whether the result is the wanted one."""
         return self.holds(name, found == wanted, f"found {found}; wanted {wanted}")
 
     def close(self):
@@ -125,7 +125,7 @@ def skip(why):
 
 
 def need_program():
-    """Ends the script where there is no program."""
+    """Ends the script if there is no program."""
     if not os.access(PROGRAM, os.X_OK):
         print(f"failed: there is no program {PROGRAM}: make builds it\n0 passed, 1 failed", flush=True)
         sys.exit(1)

@@ -1,6 +1,6 @@
-/* Refuses memory to the program that it is loaded into: REFUSE is the number of the request that is refused, from 1 on, and
-   with REFUSE_REST set all behind it are refused too. Each refusal writes one byte to the descriptor REFUSE_TELL: `s` where a
-   block was only to shrink, so that the program can go on without, and otherwise `r`. */
+/* Makes allocations of the program fail that it is loaded into: REFUSE is the number of the allocation that fails, from 1 on, and
+   with REFUSE_REST set all after it fail too. Each failure writes one byte to the descriptor REFUSE_TELL: `s` if a block was
+   only to shrink, so that the program can go on, and otherwise `r`. */
 #define _GNU_SOURCE
 #include <dlfcn.h>
 #include <errno.h>
@@ -22,7 +22,7 @@ __attribute__((constructor)) static void begin(void) {
     asked = 0;
 }
 
-/* Whether this request is refused. */
+/* Whether this allocation fails. */
 static int refuses(const char *kind) {
     asked += 1;
     if (!refused_at || asked < refused_at || (asked > refused_at && !refuses_rest)) return 0;

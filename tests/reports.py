@@ -1,11 +1,12 @@
-"""Reports, listings and events, as the program's `analyse`, `show` and `events` write them, and what one says of the other."""
+"""Reports, listings and events, as the program's `analyse`, `show` and `events` write them, and how they agree."""
+import json
 import re
 from dataclasses import dataclass, field
 
 
 @dataclass
 class Row:
-    """What a report says of the blocks of one id, and of their records: how many of each code, with how many bits."""
+    """The row of a block id in a report, and those of its records: how many of each code, with how many bits."""
 
     blocks: int = 0
     bits: int = 0
@@ -20,7 +21,7 @@ class Row:
         return {code: count for code, (count, _) in self.codes.items()}
 
     def listed(self):
-        """What a listing tells too."""
+        """The numbers that a listing has too."""
         return self.blocks, self.records, self.values, list(self.counts().items())
 
     def adds_up(self):
@@ -33,7 +34,7 @@ BLOCK = re.compile(r"block (\d+) count (\d+) bits (\d+) definitions (\d+) record
 
 
 def parse(report):
-    """The magic, the bits and the rows of a report, by block id; None where a line is not one of a report."""
+    """The magic, the bits and the rows of a report, by block id; None if a line is not one of a report."""
     first, *lines = report.split("\n")
     head = re.fullmatch(r"magic ([0-9a-f]{8}) bits (\d+)", first)
     rows, row = {}, None
@@ -51,7 +52,7 @@ def parse(report):
 
 
 def tally(listing):
-    """What a listing says of each block id, in order of first entry; its rows have no bits and no definitions."""
+    """The rows of a listing for each block id, in order of first entry; they have no bits and no definitions."""
     rows, open_blocks = {}, []
     for line in listing.split("\n")[1:-1]:
         word, number, *values = line.split()
@@ -77,7 +78,7 @@ def stream_of(given):
 
 
 def agrees(report, listing, given):
-    """Whether the report on an input is one, adds up, and says of blocks and records what the listing says."""
+    """Whether the report on an input is one, adds up, and agrees with the listing about blocks and records."""
     told = parse(report)
     if not told or not listing.startswith(f"magic {told[0]}\n"):
         return False
@@ -95,7 +96,7 @@ RECORD = re.compile(r" by \d+ count (\d+)((?: \d+)*)")
 
 
 def listing_of(events):
-    """The listing of the tree that events tell, up to where they end; None where a line is not one of an event."""
+    """The listing of the tree of some events, up to where they end; None if a line is not one of an event."""
     lines = events.split("\n")
     listing = ""
     for line in lines[:-1]:
@@ -120,5 +121,117 @@ def without_values(events):
 
 
 def bits_of(events):
-    """The bits that events tell, in order."""
+    """The bits of events, in order."""
     return [int(line.split()[0]) for line in events.splitlines()]
+
+
+# The keys of each kind of JSON line, in their order, and the line of text that says the same.
+EVENT_LINES = {
+    "magic": ("bit magic", "{bit} magic {magic}"),
+    "block": ("bit depth id width body", "{bit} {indent}block {id} width {width} body {body}"),
+    "define": ("bit depth operands", "{bit} {indent}define {operands}"),
+    "record": ("bit depth code abbreviation count values", "{bit} {indent}record {code} by {abbreviation} count {count}{values}"),
+    "end": ("bit depth", "{bit} {indent}end"),
+    "refused": ("bit reason", "refused: {reason} at bit {bit}"),
+}
+REPORT_LINES = {
+    "stream": ("bits magic", "magic {magic} bits {bits}"),
+    "block": (
+        "id count bits definitions records abbreviated values",
+        "block {id} count {count} bits {bits} definitions {definitions} records {records} abbreviated {abbreviated} values {values}",
+    ),
+    "record": ("block code count bits", "  record {code} count {count} bits {bits}"),
+}
+OPERANDS = {"literal": "value", "fixed": "width", "vbr": "width", "array": "", "char6": "", "blob": ""}
+
+
+def number_in(value):
+    """A number of a JSON line, in digits; None where it is not as it should be: a string of digits exactly from 2^53 on."""
+    is_string = isinstance(value, str)
+    digits = value if is_string else str(value)
+    is_number = type(value) in (int, str) and re.fullmatch(r"0|[1-9][0-9]*", digits)
+    return digits if is_number and is_string == (int(digits) >= 1 << 53) else None
+
+
+def operand_in(operand):
+    """An operand of a JSON line, as text; None where it is none."""
+    kind, *others = operand
+    wanted = OPERANDS.get(operand[kind], None) if kind == "kind" else None
+    if wanted is None or others != wanted.split():
+        return None
+    numbers = [number_in(operand[key]) for key in others]
+    return None if None in numbers else " ".join([operand["kind"], *numbers])
+
+
+def part_in(key, value):
+    """The value of a key of a JSON line, as text; None where it is none."""
+    if key in ("magic", "reason"):
+        return value if isinstance(value, str) and re.fullmatch(r"[0-9A-Za-z]+", value) else None
+    if key == "operands":
+        parts = [operand_in(it) for it in value]
+        return None if None in parts else ", ".join(parts)
+    if key == "values" and isinstance(value, list):
+        parts = [number_in(it) for it in value]
+        return None if None in parts else "".join(f" {it}" for it in parts)
+    return number_in(value)
+
+
+def text_of_line(line, lines):
+    """The line of text that says what a JSON line says; None where that is none of these lines, with its keys in their order and
+    nothing between them."""
+    told = json.loads(line)
+    kind = told.get("kind")
+    keys, text = lines.get(kind, ("", ""))
+    wanted = ["kind", *keys.split()]
+    is_plain = json.dumps(told, separators=(",", ":")) == line
+    if kind not in lines or not is_plain or list(told) not in (wanted, [it for it in wanted if it != "values" or lines is REPORT_LINES]):
+        return None
+    parts = {key: part_in(key, value) for key, value in told.items() if key != "kind"}
+    if None in parts.values():
+        return None
+    return text.format_map({"values": "", "indent": "  " * int(parts.get("depth", 0)), **parts})
+
+
+def text_of_json(output, lines):
+    """The text that says what JSON lines say, and those of it that no line of text on the output says: a refusal."""
+    told = [text_of_line(line, lines) for line in output.splitlines()]
+    if None in told or not (output == "" or output.endswith("\n")):
+        return None
+    is_refused = bool(told) and told[-1].startswith("refused: ")
+    return "".join(f"{it}\n" for it in (told[:-1] if is_refused else told)), f"{told[-1]}\n" if is_refused else ""
+
+
+# The entries of two inputs that differ, as a JSON line has them, and the text that says the same.
+ENTRIES = {
+    "magic": ("bit magic", "magic {magic}"),
+    "block": ("bit id", "block {id}"),
+    "record": ("bit code count", "record {code} count {count}"),
+    "end": ("bit", "end"),
+}
+STEPS = {"magic": ("", "magic"), "block": ("id item", "block {id} item {item}"), "item": ("item", "item {item}")}
+
+
+def object_text(told, kinds, more=()):
+    """The text of an object of one of some kinds, with its keys in their order and perhaps some more; None where it is none."""
+    keys, text = kinds.get(told.get("kind"), (None, ""))
+    if keys is None or list(told) not in (["kind", *keys.split()], ["kind", *keys.split(), *more]):
+        return None
+    parts = {key: part_in(key, value) for key, value in told.items() if key != "kind"}
+    return None if None in parts.values() else text.format_map(parts)
+
+
+def text_of_difference(output):
+    """The lines of text that say what a JSON line says of two inputs; None where it is no such line."""
+    told = json.loads(output)
+    if json.dumps(told, separators=(",", ":")) + "\n" != output:
+        return None
+    if told == {"kind": "same"}:
+        return "same\n"
+    if list(told) != ["kind", "at", "first", "second"] or told["kind"] != "different":
+        return None
+    lines = ["different", "at " + ", ".join(object_text(step, STEPS) for step in told["at"])]
+    for which in ("first", "second"):
+        entry = told[which]
+        value = ", value {index} is {value}".format_map(entry) if "index" in entry else ""
+        lines.append(f"{which} bit {entry['bit']}: {object_text(entry, ENTRIES, ('index', 'value'))}{value}")
+    return "".join(f"{line}\n" for line in lines)

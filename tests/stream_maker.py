@@ -1,4 +1,4 @@
-"""Streams that are made by chance, with the trees that they hold: definitions, widths and spellings of every kind."""
+"""Random streams, with their trees: definitions, widths and spellings of every kind."""
 import random
 from typing import NamedTuple
 
@@ -47,7 +47,7 @@ def left_of(items, blocks, records, around=0):
 
 
 def names_in(items, around=0):
-    """The ids of the blocks of a tree, and the pairs of an id and a code of its records, but those in BLOCKINFO blocks."""
+    """The ids of the blocks of a tree, and the pairs of an id and a code of its records, except those in BLOCKINFO blocks."""
     blocks, records = set(), set()
     for item in items:
         if isinstance(item, Block):
@@ -73,7 +73,7 @@ def write_normal(bits, items):
 
 
 class Maker:
-    """Writes a stream whose codes have at most so many bits, and answers the tree of what it wrote."""
+    """Writes a stream whose codes have at most this many bits, and returns its tree."""
 
     def __init__(self, seed, magic, code_bits):
         self.chance = random.Random(seed)
@@ -82,7 +82,7 @@ class Maker:
         self.table = {}
 
     def number(self, most=64):
-        """A number of at most so many bits, small ones more often."""
+        """A number of at most this many bits, small ones more often."""
         return self.chance.randrange(2 ** self.chance.randint(0, self.chance.randint(0, most)))
 
     def often(self, share):
@@ -105,7 +105,7 @@ class Maker:
         return self.chance.choice([0, 0, 1, 1, 1, 2, 2, 2, 3, 3, 3, 4 + self.number(31)])
 
     def block(self, outer, depth):
-        """A block, where ids around it have the outer width."""
+        """A block; the ids around it have the outer width."""
         number = self.kind()
         width = self.chance.choice([3, 4, 5, 9, 32])
         # (llvm-bcanalyzer's bits of a block leave out its number, so that is spelled in one way only)
@@ -117,7 +117,7 @@ class Maker:
         return Block(number, items)
 
     def info(self, width):
-        """The items of a BLOCKINFO block, whose definitions hold from its end on."""
+        """The items of a BLOCKINFO block, whose definitions are in force from its end on."""
         table, described, items = {}, None, []
         for _ in range(self.chance.randint(0, 8)):
             if described is None or self.often(0.3):
@@ -157,7 +157,7 @@ class Maker:
         return Record(code, values)
 
     def scalar(self, most=64):
-        """An operand for one value, a literal of at most so many bits."""
+        """An operand for one value, a literal of at most this many bits."""
         way = self.chance.choice(["literal", "fixed", "vbr", "char6"])
         widths = {"literal": self.number(most), "fixed": self.chance.randint(1, 32), "vbr": self.chance.randint(2, 32)}
         return Op(way, widths.get(way))
@@ -199,7 +199,7 @@ class Maker:
         return Record(code, values)
 
     def field(self, op, most=64):
-        """One field of a record, with a value of at most so many bits."""
+        """One field of a record, with a value of at most this many bits."""
         if op.way == "literal" or op.given == 0:
             return op.given
         if op.way == "char6":

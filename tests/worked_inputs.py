@@ -1,4 +1,4 @@
-"""Worked inputs and what the program answers to them, written out by hand from the rules of the format.
+"""Worked inputs and their results, written by hand from the rules of the format.
 
 Bytes are in hexadecimal; a word in lower case stands for the bytes that `WORDS` gives, and `00*12` for twelve bytes.
 """
@@ -7,7 +7,7 @@ from dataclasses import dataclass
 WORDS = {
     # The magic of LLVM's bitcode.
     "magic": "42 43 C0 DE",
-    # Block 8 with nothing in it.
+    # An empty block 8.
     "empty": "21 08 00 00 01 00 00 00 00 00 00 00",
     # Block 8 with a record of code 1 and the value 30, in the normal form and with wider ids and more chunks.
     "thirty": "21 08 00 00 01 00 00 00 07 81 07 00",
@@ -20,7 +20,7 @@ WORDS = {
     "use_normal": "21 08 00 00 01 00 00 00 07 01 39 00",
     # The header of a wrapper around 16 bytes.
     "wrapper": "DE C0 17 0B 00 00 00 00 14 00 00 00 10 00 00 00 07 00 00 01",
-    # Block 8 with a definition of eight literals, 1 to 7 behind the code 1, that two records use.
+    # Block 8 with a definition of eight literals, 1 to 7 after the code 1, that two records use.
     "literals": "21 0C 00 00 03 00 00 00 42 03 06 14 38 90 60 41 83 07 24 00",
 }
 
@@ -116,7 +116,7 @@ class Bits:
         return self.fixed(1, *[0] * (-len(self.bits) % 32))
 
     def begin_length(self):
-        """Leaves room for a block's length, and answers where its body begins."""
+        """Leaves room for a block's length, and returns where its body begins."""
         return len(self.fixed(32, 0).bits)
 
     def end_length(self, body):
@@ -159,7 +159,7 @@ def plain_blocks():
         refuses("a length that is one too many", "magic 21 08 00 00 02 00 00 00 00 00 00 00", "BlockLength", 64),
         refuses("a length that is one too few", "magic 21 08 00 00 00 00 00 00 00 00 00 00", "BlockLength", 64),
         refuses("a record by a definition that is nowhere", "magic 21 0C 00 00 01 00 00 00 04 00 00 00", "UndefinedAbbrev", 96),
-        refuses("line feeds behind the last block", "magic empty 0A 0A 0A 0A", "TopLevel", 128),
+        refuses("line feeds after the last block", "magic empty 0A 0A 0A 0A", "TopLevel", 128),
         accepts("another magic", "44 49 41 47 21 0C 00 00 01 00 00 00 0B 02 1E 00", [block(8, record(1, 28))],
                 "44 49 41 47 21 08 00 00 01 00 00 00 07 01 07 00"),
         accepts("the greatest block id", "magic FD FF FF FF 3F 08 00 00 01 00 00 00 00 00 00 00", [block(4294967295)]),
@@ -177,7 +177,7 @@ def cuts_of_one_record():
 
 
 def widths_and_nesting():
-    """Widths of abbreviation ids, and blocks in blocks."""
+    """Widths of abbreviation ids, and nested blocks."""
     nested = "magic 21 04 00 00 04 00 00 00 13 04 00 00 01 00 00 00 00 00 00 00 00 00 00 00"
     deep = "magic " + " ".join(f"21 08 00 00 {word(1 + 3 * (255 - k))}" for k in range(1, 256)) + " 00*1020"
     lines = []
@@ -201,7 +201,7 @@ def widths_and_nesting():
 
 
 def limits():
-    """Limits on depth, values and bytes, judged where they are met."""
+    """Limits on depth, values and bytes, judged where they are reached."""
     eight = record(1, *range(1, 8))
     twice = "magic 21 08 00 00 04 00 00 00 07 47 20 0C 44 61 1C 07 47 20 0C 44 61 1C 00 00"
     return [
@@ -219,7 +219,7 @@ def limits():
         accepts("as many bytes as the limit", "magic empty", [block(8)], options="--bytes 16"),
         refuses("one byte more than the limit", "magic empty", "TooLong", 120, "--bytes 15"),
         refuses("no byte allowed", "magic empty", "TooLong", 0, "--bytes 0"),
-        refuses("line feeds behind the limit", "magic empty 0A 0A 0A 0A", "TooLong", 128, "--bytes 16"),
+        refuses("line feeds after the limit", "magic empty 0A 0A 0A 0A", "TooLong", 128, "--bytes 16"),
         refuses("line feeds, one before the limit", "magic empty 0A 0A 0A 0A", "TopLevel", 128, "--bytes 17"),
     ]
 
@@ -246,7 +246,7 @@ def definitions():
 
 
 def shapes():
-    """Definitions with operands in no lawful order, judged where a record uses them."""
+    """Definitions with operands in no lawful order, judged at a record that uses them."""
     at_use, one = "--shapes-at-use", "magic 21 08 00 00 01 00 00 00 07 01 39 00"
     array, element, blob = "22 03 4C 8E 1C", "1A 03 AC 00", "1A 03 54 0E"
     empty, short = "magic 21 0C 00 00 02 00 00 00", "magic 21 0C 00 00 03 00 00 00"
@@ -316,7 +316,7 @@ def definitions_for_other_blocks():
                 "21 0C 00 00 01 00 00 00 4D 00 00 00", [block(0, record(1, 8), record(1, 8)), block(8, record(2, 9))],
                 "magic 01 08 00 00 02 00 00 00 07 01 72 10 20 00 00 00 21 08 00 00 01 00 00 00 0B 41 02 00",
                 "magic 21 08 00 00 01 00 00 00 0B 41 02 00"),
-        accepts("a BLOCKINFO block in a block reaches the blocks behind it", "magic 21 0C 00 00 08 00 00 00 "
+        accepts("a BLOCKINFO block in a block reaches the blocks after it", "magic 21 0C 00 00 08 00 00 00 "
                 "01 10 00 00 02 00 00 00 07 01 A2 18 20 07 00 00 41 18 00 00 01 00 00 00 24 03 00 00 00 00 00 00",
                 [block(8, *TREE_100)],
                 "magic 21 08 00 00 07 00 00 00 info_normal use_normal 00 00 00 00",
@@ -370,7 +370,7 @@ def wrappers():
         refuses("an offset inside the header", f"{wrapper(offset=16)} magic empty", "WrapperOffset", 64),
         refuses("an offset that is no multiple of 4", f"{wrapper(offset=22)} magic empty", "WrapperOffset", 64),
         refuses("a size that cuts a field", f"{wrapper(size=6)} magic empty 00*12", "Truncated", 206),
-        refuses("a size that cuts a field, by a limit that is met behind it", f"{wrapper(size=6)} magic empty 00*12", "Truncated",
+        refuses("a size that cuts a field, by a limit reached after it", f"{wrapper(size=6)} magic empty 00*12", "Truncated",
                 206, "--bytes 47"),
         refuses("a size that the limit cuts", f"{wrapper(size=6)} magic empty 00*12", "TooLong", 200, "--bytes 25"),
         refuses("the greatest size", f"{wrapper(size=0xFFFFFFFF)} magic empty", "WrapperSize", 96),
@@ -385,7 +385,7 @@ def wrappers():
 
 
 def many_literals(uses, last):
-    """A definition of a code and a thousand values, all literals of value 0, that so many records use."""
+    """A definition of a code and a thousand values, all literals of value 0, that `uses` records use."""
     made = Bits(f"magic 21 0C 00 00 {word(292)}").fixed(3, 2).vbr(5, 1001)
     for _ in range(1001):
         made.fixed(1, 1).vbr(8, 0)
@@ -402,7 +402,7 @@ def many_zeros(uses):
 
 
 def counts_that_lie():
-    """Counts that the input gives and does not keep, and few bits that make many values."""
+    """Numbers of values that the input claims and does not have, and few bits with many values."""
     used = many_literals(100, [0])
     zeros = [block(8, *[record(0, *[0] * 1000)] * 100)]
     return [

@@ -1,8 +1,9 @@
 """Streams in the LLVM bitstream container, by the C library libbitstream.so.
 
-`check`, `normal`, `show`, `report`, `same`, `first_difference`, `magic` and `events` take bytes, or anything that `bytes` takes. A refused
-input raises `Refused`, which has the reason and the bit. The library is the file that the variable BITSTREAM_LIBRARY names, else
-the one below the prefix that this module is installed in, else the one that the system's loader finds."""
+`check`, `normal`, `show`, `report`, `pieces`, `same`, `first_difference`, `magic` and `events` take bytes, or anything that `bytes`
+takes. A refused input raises `Refused`, which has the reason and the bit. `Input` is an input that comes in pieces, and `Writer`
+makes the normal form of a tree item by item. The library is the file that the variable BITSTREAM_LIBRARY names, else the one below
+the prefix that this module is installed in, else the one that the system's loader finds."""
 import ctypes
 import os
 from ctypes import POINTER, Structure, byref, c_bool, c_char_p, c_size_t, c_uint8, c_uint32, c_uint64, c_void_p
@@ -10,7 +11,7 @@ from typing import List, NamedTuple, Optional, Sequence, Tuple
 
 VERSION = 2
 _FILE = "libbitstream.so.%d" % VERSION
-_DONE, _DIFFERENT, _REFUSED, _MEMORY, _TOO_LONG, _LIMITS, _ROOM, _CLOSED, _NAMES = range(9)
+_DONE, _DIFFERENT, _REFUSED, _MEMORY, _TOO_LONG, _LIMITS, _ROOM, _CLOSED, _NAMES, _UNFIT = range(10)
 _TEXTS = {_TOO_LONG: "normal form longer than the limit", _LIMITS: "a limit is past its cap",
           _CLOSED: "the handle is closed", _NAMES: "a name of records of BLOCKINFO blocks"}
 _DEPTH = 255
@@ -18,7 +19,7 @@ _OPERANDS = ("literal", "fixed", "vbr", "array", "char6", "blob")
 
 
 class Limits(Structure):
-    """How much of an input is taken; without arguments, the usual limits."""
+    """The limits on an input; without arguments, the usual limits."""
     _fields_ = [("bytes", c_uint64), ("depth", c_uint32), ("values", c_uint64), ("shapes_at_use", c_bool)]
 
     def __init__(self, **given):
@@ -79,7 +80,7 @@ class _Difference(Structure):
 
 
 class Error(Exception):
-    """A call that gave no answer, for another cause than its input."""
+    """A call failed for another cause than its input."""
 
 
 class Refused(Error):
@@ -90,6 +91,10 @@ class Refused(Error):
         self.reason, self.bit, self.input = reason, bit, input
 
 
+class Unfit(Error):
+    """A call of a writer does not fit: no tree within the limits has that item there."""
+
+
 class LeftOut(NamedTuple):
     """What is left out: the BLOCKINFO blocks, blocks by their ids, records by the id of their block and their code."""
     info: bool = False
@@ -98,9 +103,9 @@ class LeftOut(NamedTuple):
 
 
 class Event(NamedTuple):
-    """An event: "block" with the block's id, "define" with its operands, "record" with its abbreviation id, code and values, or "end";
-    and the bit at which it begins, 0 for an end, and the bit after it. What its kind does not have is 0 or empty. An operand is
-    ("literal", value), ("fixed", width), ("vbr", width), ("array", 0), ("char6", 0) or ("blob", 0)."""
+    """An event: "block" with the block's id, "define" with its operands, "record" with its abbreviation id, code and values, or
+    "end"; and the bit at which it begins, 0 for an end, and the bit after it. Fields that its kind does not have are 0 or empty. An
+    operand is ("literal", value), ("fixed", width), ("vbr", width), ("array", 0), ("char6", 0) or ("blob", 0)."""
     kind: str
     first: int
     after: int
@@ -112,7 +117,7 @@ class Event(NamedTuple):
 
 
 class Standing(NamedTuple):
-    """What is at a place of an input, and the bit where it begins: "magic", "block" with its id, "record" with its code and number of
+    """The item at a place of an input, and its first bit: "magic", "block" with its id, "record" with its code and number of
     values, or "end"."""
     kind: str
     bit: int
@@ -124,7 +129,7 @@ class Standing(NamedTuple):
 
 class Difference(NamedTuple):
     """Where two inputs first differ: the open blocks, each with its id and the number of items before it, the outermost first; the
-    number of items before the place in the innermost; what is there in each input; and of two records with the same code the
+    number of items before the place in the innermost; the item there in each input; and for two records with the same code the
     index of the first values that differ and these two, or None."""
     blocks: List[Tuple[int, int]]
     items: int
@@ -146,7 +151,7 @@ _calls = _library()
 
 
 def _ask(name, *arguments):
-    """The status of a call, where it is no error."""
+    """Returns the status of a call if it is no error."""
     fault = _Fault()
     status = getattr(_calls, name)(*arguments, byref(fault))
     if status == _REFUSED:
@@ -155,13 +160,15 @@ def _ask(name, *arguments):
         raise Refused(ctypes.string_at(reason.at, reason.len).decode(), fault.bit, fault.input)
     if status == _MEMORY:
         raise MemoryError
+    if status == _UNFIT:
+        raise Unfit("no tree within the limits has this there")
     if status in _TEXTS:
         raise Error(_TEXTS[status])
     return status
 
 
 def _input(data):
-    """What a call takes for an input."""
+    """The arguments of a call for an input."""
     data = bytes(data)
     return c_char_p(data), c_size_t(len(data))
 
@@ -171,15 +178,33 @@ def _left_out(given):
     return byref(_LeftOut(given.info, blocks, len(blocks), records, len(records)))
 
 
+def _copied(handle):
+    """The text that a handle holds."""
+    needed = c_size_t()
+    _ask("bs_text", byref(handle), None, c_size_t(0), byref(needed))
+    room = (c_uint8 * needed.value)()
+    _ask("bs_text", byref(handle), room, needed, byref(needed))
+    return bytes(room)
+
+
 def _text(name, data, limits, *left_out):
     """A text that the library makes once and holds until it is copied."""
-    handle, needed = _Handle(), c_size_t()
+    handle = _Handle()
     try:
         _ask(name, *_input(data), byref(limits or Limits()), *left_out, byref(handle))
-        _ask("bs_text", byref(handle), None, c_size_t(0), byref(needed))
-        room = (c_uint8 * needed.value)()
-        _ask("bs_text", byref(handle), room, needed, byref(needed))
-        return bytes(room)
+        return _copied(handle)
+    finally:
+        _calls.bs_close(byref(handle))
+
+
+def pieces(text, data, size=65536, left_out=LeftOut(), limits=None):
+    """Yields the bytes of a text of an input, "normal", "show" or "report", in pieces of `size` bytes, the last one shorter."""
+    handle, room, taken = _Handle(), (c_uint8 * size)(), c_size_t()
+    names = [] if text == "report" else [_left_out(left_out)]
+    try:
+        _ask("bs_hold_" + text, *_input(data), byref(limits or Limits()), *names, byref(handle))
+        while not _ask("bs_take", byref(handle), room, c_size_t(size), byref(taken)) and taken.value:
+            yield bytes(room[: taken.value])
     finally:
         _calls.bs_close(byref(handle))
 
@@ -215,7 +240,7 @@ def _standing(it):
 
 
 def first_difference(first, second, left_out=LeftOut(), limits=None):
-    """Where two inputs first differ, or None."""
+    """Returns where two inputs first differ, or None."""
     difference, room = _Difference(), (_OpenBlock * _DEPTH)()
     status = _ask("bs_first_difference", *_input(first), *_input(second), byref(limits or Limits()), _left_out(left_out),
                   byref(difference), room, c_size_t(_DEPTH))
@@ -242,7 +267,7 @@ def _operands(handle):
 
 
 def magic(data, limits=None):
-    """The magic of the stream of an input, of which only this and a wrapper are judged."""
+    """The magic of the stream of an input. Only the magic and a wrapper are judged."""
     handle, found, (given, length) = _Handle(), _Magic(), _input(data)
     try:
         _ask("bs_open", given, length, byref(limits or Limits()), byref(handle))
@@ -253,7 +278,7 @@ def magic(data, limits=None):
 
 
 def events(data, limits=None):
-    """Yields the events of an input. Of a refused one it yields those before the fault, and then raises Refused."""
+    """Yields the events of an input. If the input is refused, it yields those before the fault, and then raises Refused."""
     handle, event, (given, length) = _Handle(), _Event(), _input(data)
     try:
         _ask("bs_open", given, length, byref(limits or Limits()), byref(handle))
@@ -267,3 +292,85 @@ def events(data, limits=None):
             yield Event(kind, event.first, event.after, event.id, event.width, event.code, values, operands)
     finally:
         _calls.bs_close(byref(handle))
+
+
+def _numbers(given, bits):
+    """Returns these numbers if they fit `bits` bits, which ctypes does not check."""
+    for number in given:
+        if not 0 <= number < 1 << bits:
+            raise Unfit("%d is no number of %d bits" % (number, bits))
+    return given
+
+
+class _Open:
+    """What holds a handle until it is closed."""
+
+    def _taken(self):
+        """The text that the handle holds, as bytes. The handle is closed."""
+        text = _copied(self._handle)
+        self.close()
+        return text
+
+    def close(self):
+        _calls.bs_close(byref(self._handle))
+
+    def __del__(self):
+        self.close()
+
+
+class Input(_Open):
+    """An input that comes in pieces, which are kept until it is closed. A refused input stays."""
+
+    def __init__(self):
+        self._handle = _Handle()
+        self.feed(b"")
+
+    def feed(self, piece):
+        """Adds a piece."""
+        _ask("bs_feed", byref(self._handle), *_input(piece))
+
+    def check(self, limits=None):
+        """Returns if the input is accepted, and raises Refused if not."""
+        _ask("bs_fed_check", byref(self._handle), byref(limits or Limits()))
+
+    def normal(self, left_out=LeftOut(), limits=None):
+        """The normal form, as bytes. The input is closed."""
+        return self._text("bs_fed_normal", left_out, limits)
+
+    def show(self, left_out=LeftOut(), limits=None):
+        """The listing. The input is closed."""
+        return self._text("bs_fed_show", left_out, limits).decode()
+
+    def _text(self, name, left_out, limits):
+        _ask(name, byref(self._handle), byref(limits or Limits()), _left_out(left_out))
+        return self._taken()
+
+
+class Writer(_Open):
+    """Writes the normal form of a tree item by item. An item that no tree within the limits has there raises Unfit and changes
+    nothing; another error closes the writer."""
+
+    def __init__(self, magic=b"BC\xc0\xde", limits=None):
+        self._handle = _Handle()
+        if len(magic) != 4:
+            raise ValueError("a magic has four bytes")
+        _ask("bs_write_open", byref(_Magic((c_uint8 * 4)(*magic))), byref(limits or Limits()), byref(self._handle))
+
+    def enter(self, id):
+        """A block with this id begins."""
+        _ask("bs_write_enter", byref(self._handle), c_uint32(*_numbers([id], 32)))
+
+    def record(self, code, values=()):
+        """A record of the innermost open block."""
+        values = _numbers(list(values), 64)
+        _ask("bs_write_record", byref(self._handle), c_uint64(*_numbers([code], 64)), (c_uint64 * len(values))(*values),
+             c_size_t(len(values)))
+
+    def leave(self):
+        """The innermost open block ends."""
+        _ask("bs_write_leave", byref(self._handle))
+
+    def finish(self):
+        """The normal form of the tree, as bytes. The writer is closed."""
+        _ask("bs_write_finish", byref(self._handle))
+        return self._taken()

@@ -94,7 +94,7 @@ pub struct Difference {
     pub values: Values,
 }
 
-/// A call that makes a text of bytes, and holds it behind a handle.
+/// A call that makes a text of bytes, and holds it in a handle.
 pub type Hold = unsafe extern "C" fn(*const u8, usize, &Limits, &LeftOut, &mut Handle, &mut Fault) -> u32;
 
 #[rustfmt::skip]
@@ -111,10 +111,20 @@ extern "C" {
     pub fn bs_hold_show(bytes: *const u8, len: usize, limits: &Limits, left_out: &LeftOut, handle: &mut Handle, fault: &mut Fault) -> u32;
     pub fn bs_hold_report(bytes: *const u8, len: usize, limits: &Limits, handle: &mut Handle, fault: &mut Fault) -> u32;
     pub fn bs_text(handle: &mut Handle, room: *mut u8, room_len: usize, needed: &mut usize, fault: &mut Fault) -> u32;
+    pub fn bs_take(handle: &mut Handle, room: *mut u8, room_len: usize, taken: &mut usize, fault: &mut Fault) -> u32;
     pub fn bs_open(bytes: *const u8, len: usize, limits: &Limits, handle: &mut Handle, fault: &mut Fault) -> u32;
     pub fn bs_next(handle: &mut Handle, event: &mut Event, fault: &mut Fault) -> u32;
     pub fn bs_values(handle: &mut Handle, room: *mut u64, room_len: usize, needed: &mut usize, fault: &mut Fault) -> u32;
     pub fn bs_operands(handle: &mut Handle, room: *mut Operand, room_len: usize, needed: &mut usize, fault: &mut Fault) -> u32;
     pub fn bs_magic(handle: &mut Handle, magic: &mut Magic, fault: &mut Fault) -> u32;
+    pub fn bs_feed(handle: &mut Handle, piece: *const u8, piece_len: usize, fault: &mut Fault) -> u32;
+    pub fn bs_fed_check(handle: &mut Handle, limits: &Limits, fault: &mut Fault) -> u32;
+    pub fn bs_fed_normal(handle: &mut Handle, limits: &Limits, left_out: &LeftOut, fault: &mut Fault) -> u32;
+    pub fn bs_fed_show(handle: &mut Handle, limits: &Limits, left_out: &LeftOut, fault: &mut Fault) -> u32;
+    pub fn bs_write_open(magic: &Magic, limits: &Limits, handle: &mut Handle, fault: &mut Fault) -> u32;
+    pub fn bs_write_enter(handle: &mut Handle, id: u32, fault: &mut Fault) -> u32;
+    pub fn bs_write_record(handle: &mut Handle, code: u64, values: *const u64, values_len: usize, fault: &mut Fault) -> u32;
+    pub fn bs_write_leave(handle: &mut Handle, fault: &mut Fault) -> u32;
+    pub fn bs_write_finish(handle: &mut Handle, fault: &mut Fault) -> u32;
     pub fn bs_close(handle: &mut Handle);
 }

@@ -2,7 +2,7 @@
 use crate::calls::{self, Fault, OpenBlock};
 use crate::{ended, Error, LeftOut, Limits};
 
-/// What is at a place of an input.
+/// The item at a place of an input.
 #[derive(Clone, Copy, Debug, PartialEq, Eq)]
 pub enum Standing {
     Magic([u8; 4]),
@@ -18,10 +18,10 @@ pub struct Difference {
     pub blocks: Vec<(u32, u64)>,
     /// The number of items before the place in the innermost block, or at the top.
     pub items: u64,
-    /// What is there in each input, and the bit where it begins.
+    /// The item there in each input, and its first bit.
     pub first: (u64, Standing),
     pub second: (u64, Standing),
-    /// Of two records with the same code, the index of the first values that differ, and these.
+    /// For two records with the same code, the index of the first values that differ, and these.
     pub values: Option<(u64, u64, u64)>,
 }
 

@@ -3,7 +3,7 @@ use crate::calls::{self, Fault};
 use crate::{ended, Error, Held, Limits};
 use std::marker::PhantomData;
 
-/// An event: `first` is the bit at which it begins, `after` the bit after it.
+/// An event: `first` is its first bit, `after` the bit after it.
 #[derive(Clone, Debug, PartialEq, Eq)]
 pub enum Event {
     Enter { id: u32, width: u32, first: u64, after: u64 },
@@ -35,7 +35,7 @@ fn operand_of(it: &calls::Operand) -> Operand {
     }
 }
 
-/// Iterates over the events of an input. Of a refused one it gives those before the fault, and then the error once.
+/// Iterates over the events of an input. If the input is refused, it gives those before the fault, and then the error once.
 pub struct Events<'a> {
     held: Held,
     over: bool,

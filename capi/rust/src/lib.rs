@@ -2,14 +2,18 @@
 mod calls;
 mod difference;
 mod events;
+mod input;
+mod writer;
 
 pub use difference::{first_difference, Difference, Standing};
 pub use events::{Event, Events, Operand};
+pub use input::Input;
+pub use writer::Writer;
 
 use calls::{Fault, Handle};
-use std::fmt;
+use std::{fmt, io};
 
-/// How much of an input is taken; the default is the usual limits.
+/// The limits on an input; the default is the usual limits.
 #[repr(C)]
 #[derive(Clone, Copy, Debug)]
 pub struct Limits {
@@ -56,7 +60,7 @@ impl LeftOut<'_> {
     }
 }
 
-/// Why a call gave no answer.
+/// Why a call failed.
 #[derive(Clone, Copy, Debug, PartialEq, Eq)]
 pub enum Error {
     /// An input breaks a rule: its name, the bit, and 0 for the only or the first input, 1 for the second.
@@ -68,6 +72,10 @@ pub enum Error {
     Limits,
     /// Records of BLOCKINFO blocks are named to be left out.
     Names,
+    /// A call of a writer does not fit: no tree within the limits has that item there. The writer is unchanged.
+    Unfit,
+    /// A call of a writer failed before, and closed it.
+    Closed,
 }
 
 impl fmt::Display for Error {
@@ -78,6 +86,8 @@ impl fmt::Display for Error {
             Error::TooLong => to.write_str("normal form longer than the limit"),
             Error::Limits => to.write_str("a limit is past its cap"),
             Error::Names => to.write_str("a name of records of BLOCKINFO blocks"),
+            Error::Unfit => to.write_str("no tree within the limits has this there"),
+            Error::Closed => to.write_str("the writer is closed"),
         }
     }
 }
@@ -94,14 +104,16 @@ fn reason_name(number: u32) -> &'static str {
     std::str::from_utf8(bytes).unwrap_or_default()
 }
 
-/// The status of a call that can end well: whether it was BS_DONE.
+/// Whether the status of a call is BS_DONE, if it is no error.
 fn ended(status: u32, fault: &Fault) -> Result<bool, Error> {
     match status {
         2 => Err(Error::Refused { reason: reason_name(fault.reason), bit: fault.bit, input: fault.input }),
         3 => Err(Error::Memory),
         4 => Err(Error::TooLong),
         5 => Err(Error::Limits),
+        7 => Err(Error::Closed),
         8 => Err(Error::Names),
+        9 => Err(Error::Unfit),
         status => Ok(status == 0),
     }
 }
@@ -142,31 +154,60 @@ pub fn check(bytes: &[u8], limits: &Limits) -> Result<(), Error> {
     ended(status, &fault).map(drop)
 }
 
-fn held_text(call: calls::Hold, bytes: &[u8], limits: &Limits, left_out: &LeftOut<'_>) -> Result<Vec<u8>, Error> {
-    let (mut held, mut fault) = (Held::closed(), Fault::default());
-    // SAFETY: what is left out is borrowed for the whole call.
-    let status = unsafe { call(bytes.as_ptr(), bytes.len(), limits, &left_out.passed(), &mut held.0, &mut fault) };
-    ended(status, &fault)?;
-    held.text()
+/// A text that the library holds. Reading gives its bytes from the first to the last, and never fails.
+pub struct Text(Held);
+
+impl Text {
+    fn hold(call: calls::Hold, bytes: &[u8], limits: &Limits, left_out: &LeftOut<'_>) -> Result<Text, Error> {
+        let (mut held, mut fault) = (Held::closed(), Fault::default());
+        // SAFETY: what is left out is borrowed for the whole call.
+        let status = unsafe { call(bytes.as_ptr(), bytes.len(), limits, &left_out.passed(), &mut held.0, &mut fault) };
+        ended(status, &fault)?;
+        Ok(Text(held))
+    }
+
+    /// The normal form of an input.
+    pub fn normal(bytes: &[u8], limits: &Limits, left_out: &LeftOut<'_>) -> Result<Text, Error> {
+        Text::hold(calls::bs_hold_normal, bytes, limits, left_out)
+    }
+
+    /// The listing of an input, as `bitstool show` prints it.
+    pub fn show(bytes: &[u8], limits: &Limits, left_out: &LeftOut<'_>) -> Result<Text, Error> {
+        Text::hold(calls::bs_hold_show, bytes, limits, left_out)
+    }
+
+    /// The report of an input, as `bitstool analyse` prints it.
+    pub fn report(bytes: &[u8], limits: &Limits) -> Result<Text, Error> {
+        let (mut held, mut fault) = (Held::closed(), Fault::default());
+        // SAFETY: as in `check`.
+        let status = unsafe { calls::bs_hold_report(bytes.as_ptr(), bytes.len(), limits, &mut held.0, &mut fault) };
+        ended(status, &fault)?;
+        Ok(Text(held))
+    }
+}
+
+impl io::Read for Text {
+    fn read(&mut self, room: &mut [u8]) -> io::Result<usize> {
+        let (mut taken, mut fault) = (0, Fault::default());
+        // SAFETY: the room is initialised, and borrowed alone. The handle holds a text, so the call cannot fail.
+        unsafe { calls::bs_take(&mut self.0 .0, room.as_mut_ptr(), room.len(), &mut taken, &mut fault) };
+        Ok(taken)
+    }
 }
 
 /// The normal form of an input.
 pub fn normal(bytes: &[u8], limits: &Limits, left_out: &LeftOut<'_>) -> Result<Vec<u8>, Error> {
-    held_text(calls::bs_hold_normal, bytes, limits, left_out)
+    Text::normal(bytes, limits, left_out)?.0.text()
 }
 
 /// The listing of an input, as `bitstool show` prints it.
 pub fn show(bytes: &[u8], limits: &Limits, left_out: &LeftOut<'_>) -> Result<Vec<u8>, Error> {
-    held_text(calls::bs_hold_show, bytes, limits, left_out)
+    Text::show(bytes, limits, left_out)?.0.text()
 }
 
 /// The report of an input, as `bitstool analyse` prints it.
 pub fn report(bytes: &[u8], limits: &Limits) -> Result<Vec<u8>, Error> {
-    let (mut held, mut fault) = (Held::closed(), Fault::default());
-    // SAFETY: as in `check`.
-    let status = unsafe { calls::bs_hold_report(bytes.as_ptr(), bytes.len(), limits, &mut held.0, &mut fault) };
-    ended(status, &fault)?;
-    held.text()
+    Text::report(bytes, limits)?.0.text()
 }
 
 /// Whether two inputs have the same magic, blocks and records.

@@ -1,5 +1,6 @@
 //! Each call, on a stream of one record that is abbreviated in no way, and on a broken one.
-use bitstream::{check, first_difference, normal, report, same, show, Error, Event, Events, LeftOut, Limits, Operand, RecordName, Standing};
+use bitstream::{check, first_difference, normal, report, same, show, Error, Event, Events, Input, LeftOut, Limits, Operand, RecordName, Standing, Text, Writer};
+use std::io::{BufReader, Read, Write};
 
 /// A block with id 8 whose ids are 3 bits wide, and in it record 1 with the value `value`.
 fn stream(value: u8) -> Vec<u8> {
@@ -18,6 +19,12 @@ fn texts_and_comparison() {
     assert_eq!(first_difference(&given, &form, &limits, &whole), Ok(None));
     assert!(show(&given, &limits, &whole).unwrap().starts_with(b"magic 44494147\nblock 8"));
     assert!(report(&given, &limits).unwrap().starts_with(b"magic 44494147 bits 128\n"));
+    for size in [1, 2, 3, 7, 4095] {
+        let mut text = BufReader::with_capacity(size, Text::normal(&given, &limits, &whole).unwrap());
+        let mut read = Vec::new();
+        text.read_to_end(&mut read).unwrap();
+        assert_eq!(read, form);
+    }
 }
 
 #[test]
@@ -52,4 +59,40 @@ fn events_and_errors() {
     let last = Events::new(&given[..12], &limits).unwrap().last();
     assert!(matches!(last, Some(Err(Error::Refused { .. }))));
     assert_eq!(check(&given, &Limits { depth: 256, ..limits }), Err(Error::Limits));
+}
+
+#[test]
+fn writers() {
+    let (limits, whole) = (Limits::default(), LeftOut::default());
+    let mut writer = Writer::new(*b"DIAG", &limits).unwrap();
+    assert_eq!(writer.record(1, &[30]), Err(Error::Unfit));
+    assert_eq!([writer.enter(8), writer.record(1, &[28]), writer.leave(), writer.leave()], [Ok(()), Ok(()), Ok(()), Err(Error::Unfit)]);
+    // The value of this stream is 28.
+    let mut form = Vec::new();
+    writer.finish().unwrap().read_to_end(&mut form).unwrap();
+    assert_eq!(Ok(form), normal(&stream(30), &limits, &whole));
+    let short = Limits { bytes: 4, ..limits };
+    let mut writer = Writer::new(*b"DIAG", &short).unwrap();
+    assert_eq!((writer.enter(8), writer.leave()), (Ok(()), Ok(())));
+    assert_eq!(writer.finish().err(), Some(Error::TooLong));
+    assert_eq!(Writer::new([0xDE, 0xC0, 0x17, 0x0B], &limits).err(), Some(Error::Unfit));
+}
+
+#[test]
+fn pieces() {
+    let (limits, whole, given) = (Limits::default(), LeftOut::default(), stream(30));
+    for size in [1, 2, 3, 7, 4095] {
+        let (mut input, mut form, mut listing) = (Input::new().unwrap(), Vec::new(), Vec::new());
+        assert!(matches!(input.check(&limits), Err(Error::Refused { .. })));
+        for piece in given.chunks(size) {
+            input.write_all(piece).unwrap();
+        }
+        assert_eq!(input.check(&limits), Ok(()));
+        input.normal(&limits, &whole).unwrap().read_to_end(&mut form).unwrap();
+        assert_eq!(Ok(form), normal(&given, &limits, &whole));
+        let mut input = Input::new().unwrap();
+        std::io::copy(&mut &given[..], &mut input).unwrap();
+        input.show(&limits, &whole).unwrap().read_to_end(&mut listing).unwrap();
+        assert_eq!(Ok(listing), show(&given, &limits, &whole));
+    }
 }

@@ -11,12 +11,12 @@ use Rattle.bit_fields.specs.Reader.{Reader, Took, Why, Takes, told_by, failed_re
 use Rattle.bit_fields.proofs.Composing.{fault_then, took_then, took_nothing, stops_here, stops_later, same_reading}
 use Rattle.bit_abbrev.specs.Values.{Adds, Completes}
 
--- a rule, and then its value changed
+-- a rule, and then a function of its value
 pub and_gives : {A B : Type 0} (rule : Grammar A) (f : A → B) (a : Reader) (result : Result A Fault) (c : Reader) → Takes rule a result c → Takes (rule >>= λ x. gives (f x)) a (told_by f result) c
 and_gives rule f a (Ok x) c t = record { was_live = t.was_live; live = t.live; goes_on = t.goes_on; forward = t.forward; end = t.end; limit = t.limit; extent = t.extent; reads = λ k. rw (t.reads k) refl }
 and_gives rule f a (Err fault) c t = fault_then rule (λ x. gives (f x)) a fault c t
 
--- no memory, after what was taken
+-- out of memory, after what was taken
 pub memory_after : {A B : Type 0} (rule : Grammar A) (after : Grammar B) (a : Reader) (value : A) (b : Reader) → Took rule a value b → Why after a Memory (failed_reader b)
 memory_after rule after a value b t = stops_later a b (failed_reader b) t.was_live t.goes_on (stops_here b t.live)
 
@@ -47,7 +47,7 @@ value_then rule after a value b (Err fault) now new c t h = (
 pub value_fails : (rule : Grammar ℕ) (after : Grammar (List ℕ)) (a : Reader) (fault : Fault) (now : List ℕ) (c : Reader) → Why rule a fault c → Adds (rule >>= λ v. after >>= λ vs. gives (v ∷ vs)) a (Err fault) now now c
 value_fails rule after a fault now c why = part_fails rule (λ v. after >>= λ vs. gives (v ∷ vs)) a fault now c why
 
--- no room in memory for a value that was read
+-- an allocation fails for a value that was read
 pub no_room : {A : Type 0} (rule : Grammar A) (all : Grammar (List ℕ)) (a : Reader) (value : A) (b : Reader) (now : List ℕ) → Took rule a value b → Adds all a (Err Memory) now now (failed_reader b)
 no_room rule all a value b now t = ([], sym (append-nil now), memory_after rule all a value b t)
 
@@ -55,7 +55,7 @@ no_room rule all a value b now t = ([], sym (append-nil now), memory_after rule 
 pub adds_none : (a : Reader) (now : List ℕ) → a.live ≡ true → Adds (gives []) a (Ok tt) now now a
 adds_none a now live = ([], sym (append-nil now), took_nothing [] a live)
 
--- values, and padding behind them
+-- values, and padding after them
 pub padding_then : (rule : Grammar (List ℕ)) (a b : Reader) (result : Result (Unit {0}) Fault) (now new : List ℕ) (c : Reader) → Adds rule a (Ok tt) now new b → Takes align32 b result c → Adds (rule >>= λ vs. align32 >> gives vs) a result now new c
 padding_then rule a b (Ok x) now new c h t = (h.0, h.1, took_then rule (λ vs. align32 >> gives vs) a h.0 b (Ok h.0) c h.2 (and_gives align32 (λ x. h.0) b (Ok tt) c t))
 padding_then rule a b (Err fault) now new c h t = (h.0, h.1, took_then rule (λ vs. align32 >> gives vs) a h.0 b (Err fault) c h.2 (fault_then align32 (λ x. gives h.0) b fault c t))
@@ -102,7 +102,7 @@ zeros_are count a result now new c h = adds_same (repeat count (gives 0)) (repea
 pub whole : (rule : Grammar (List ℕ)) (a : Reader) (now : List ℕ) → a.live ≡ true → Completes rule a now rule a now
 whole rule a now live = record { live = live; so = λ result after c h. h }
 
--- with so many to come
+-- with `count` values still to read
 abbrev pub CompletesAll : (rule : Grammar ℕ) (count : ℕ) (a : Reader) (before : List ℕ) (done : ℕ) (b : Reader) (now : List ℕ) → Type 0
 CompletesAll rule count a before done b now = Completes (repeat count rule) a before (repeat (count - done) rule) b now
 

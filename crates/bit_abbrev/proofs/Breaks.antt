@@ -1,4 +1,4 @@
--- What is judged operand by operand is what the rules say of the list.
+-- Judging operand by operand gives what the rules say of the list.
 use Rattle.std.proofs.Common.{◌≡◌, ◌⊎◌, ◌↔◌, ℕ, zero, suc, ◌+◌, ◌-◌, ◌<◌, ◌≤◌, Bool, true, false, List, [], ◌∷◌, length, Option, Some, None, refl, sym, ap, subst, ◌∙◌, inl, inr, arith, add-one, below_more, cond}
 use Rattle.std.specs.List.{AllByRecursion}
 use Rattle.std.proofs.lemmas.Bool.{leb-false, eqb-true, eqb-false, and_left, and_right, and_cases, not-false, not_from_true, lt-leb, eq-eqb, cases_eq, cases_lt}
@@ -88,7 +88,7 @@ element_fits after Array h = absurd cc
 element_fits after Char6 h = tt
 element_fits after Blob h = absurd cc
 
--- whether the operand at an index may stand there
+-- whether the operand at an index may be there
 abbrev fits_at : List Op → ℕ → Bool
 fits_at ops i = fits (place_at ops i) (length ops - 1 - i) (kind_of (op_at ops i))
 
@@ -147,7 +147,7 @@ not_wide Blob e h = h
 
 -- ---- the operand at an index
 
--- what is judged to break breaks so
+-- an operand that is judged to break the rules breaks them
 pub judged_so : (ops : List Op) (i : ℕ) (reason : Reason) → i < length ops → break_at ops i ≡ Some reason → BreaksAt ops i reason
 judged_so ops i reason h e = by (fits_at ops i) refl e
   where
@@ -157,7 +157,7 @@ judged_so ops i reason h e = by (fits_at ops i) refl e
         (h, inr (wide.0, well_placed ops i h is, wide.1))
     by false is e = (h, inl (cc, misplaced ops i (place_at ops i) (op_at ops i) h refl refl is))
 
--- what is judged to hold breaks in no way
+-- an operand that is judged to keep the rules breaks none
 pub not_broken : (ops : List Op) (i : ℕ) (reason : Reason) → break_at ops i ≡ None → BreaksAt ops i reason → ⊥
 not_broken ops i reason e b = by (fits_at ops i) refl e
   where
@@ -272,16 +272,16 @@ lawful_is ops = (
 
 -- ---- the first break
 
--- the operands before an index are judged to hold
+-- the operands before an index are judged to keep the rules
 abbrev pub HoldBefore : List Op → ℕ → Type 0
 HoldBefore ops i = (j : ℕ) → j < i → (break_at ops j ≡ None) × LiteralFits (op_at ops j)
 
--- all of them hold
+-- all of them keep the rules
 pub all_hold : (ops : List Op) → 0 < length ops → HoldBefore ops (length ops) → Lawful ops
 all_hold ops some held =
     lawful_if ops some (all_at LiteralFits ops (λ i less. (held i less).1)) (λ i reason b. not_broken ops i reason (held i b.0).0 b)
 
--- the operand at an index breaks, and those before it hold
+-- the operand at an index breaks the rules, and those before it keep them
 pub first_found : (ops : List Op) (i : ℕ) (reason : Reason) → i < length ops → HoldBefore ops i → break_at ops i ≡ Some reason → IsFirstBreak ops i reason
 first_found [] i reason less held e = absurd (omega (arith, less))
 first_found (op ∷ ops) i reason less held e =
@@ -294,13 +294,13 @@ not_lawful (op ∷ ops) i reason b h = none_breaks (op ∷ ops) h i reason b.0
 
 -- ---- the loop over a list
 
--- what is judged at the place that was kept
+-- the judgement at the place that was kept
 pub judged_at : (ops : List Op) (i : ℕ) (place : Place) (found : Option Reason) → place ≡ place_at ops i → found ≡ break_of place (length ops - 1 - i) (op_at ops i) → break_at ops i ≡ found
 judged_at ops i place found is e = ap (λ (x : Place). break_of x (length ops - 1 - i) (op_at ops i)) (sym is) ∙ sym e
 
 pub next_place : (ops : List Op) (i : ℕ) (place : Place) → place ≡ place_after (op_at ops i) → place ≡ place_at ops (i + 1)
 next_place ops i place e = e ∙ ap (place_at ops) (sym (add-one i))
 
--- one more holds
+-- one more operand keeps the rules
 pub hold_more : (ops : List Op) (i : ℕ) → HoldBefore ops i → break_at ops i ≡ None → LiteralFits (op_at ops i) → HoldBefore ops (i + 1)
 hold_more ops i held e fit = below_more (λ j. (break_at ops j ≡ None) × LiteralFits (op_at ops j)) i held (e, fit)

@@ -1,24 +1,24 @@
--- Reading what is buffered, as a reader reads that has nothing else left.
+-- Reading from the buffer, like a reader that has only the buffered bits.
 use Rattle.std.proofs.Common.{◌≡◌, ℕ, ◌+◌, ◌<◌, ◌≤◌, List, [], ◌∷◌, ◌++◌, length, Ok, refl, sym, ap, arith, length-append}
 use Rattle.bit_grammar.specs.Grammar.{Grammar}
-use Rattle.bit_fields.specs.Ahead.{InSight, Glimpsed, reader_at}
+use Rattle.bit_fields.specs.Buffered.{BufferedBits, Reads, reader_at}
 use Rattle.bit_fields.specs.Reader.{Reader, Took}
-use Rattle.bit_fields.proofs.Glimpses.{glimpsed_took, glimpsed_forward}
+use Rattle.bit_fields.proofs.BufferedReads.{reads_took, reads_forward}
 use Rattle.bit_abbrev.specs.Values.{Gains, AddsAll, PassesValues}
 use Rattle.bit_abbrev.proofs.Adding.{all_begin, all_go_on, all_done}
 use Rattle.bit_abbrev.proofs.Taking.{SoFar, passed}
 
-pub took_at : {A : Type 0} (rule : Grammar A) (a : InSight) (value : A) (b : InSight) → Glimpsed rule a value b → Took rule (reader_at a) value (reader_at b)
-took_at rule a value b seen = glimpsed_took rule a value b seen (glimpsed_forward rule a value b seen)
+pub took_at : {A : Type 0} (rule : Grammar A) (a : BufferedBits) (value : A) (b : BufferedBits) → Reads rule a value b → Took rule (reader_at a) value (reader_at b)
+took_at rule a value b seen = reads_took rule a value b seen (reads_forward rule a value b seen)
 
--- ---- values that nobody looks at
+-- ---- values that are not used
 
--- so many were passed over, of which there are more
+-- `done` of `count` values were skipped
 pub record FarPast (rule : Grammar ℕ) (count done : ℕ) (a b : Reader) : Type 0 where
   pub values : List ℕ
   pub so : SoFar rule count a done b [] values
 
-pub past_begins : (rule : Grammar ℕ) (count : ℕ) (a : InSight) → FarPast rule count 0 (reader_at a) (reader_at a)
+pub past_begins : (rule : Grammar ℕ) (count : ℕ) (a : BufferedBits) → FarPast rule count 0 (reader_at a) (reader_at a)
 past_begins rule count a = record { values = []; so = record { all = all_begin rule count (reader_at a) [] refl; many = refl } }
 
 pub past_goes_on : (rule : Grammar ℕ) (count done : ℕ) (a b : Reader) (value : ℕ) (c : Reader) → done < count → FarPast rule count done a b → Took rule b value c → FarPast rule count (done + 1) a c
@@ -32,6 +32,6 @@ past_ends rule count done a b most least h =
     let all = all_done rule count a [] done b h.values most h.so.all in
     (all.0, omega (arith, ap length (sym all.1), h.so.many, most, least), all.2)
 
--- those that were passed over are behind those before
+-- the skipped values come after those before
 pub past_gained : {V : Type 0} (took : V → List ℕ → Type 0) (v w : V) (rule : Grammar ℕ) (count : ℕ) (a b : Reader) → ((values others : List ℕ) → took v values → length others ≡ count → took w (values ++ others)) → PassesValues rule count a b → Gains took v w (AddsAll rule count a (Ok tt) b)
 past_gained took v w rule count a b passes h = λ before t. passed took w rule count a before h.0 (Ok tt) b h.1 (passes before h.0 t h.1) h.2

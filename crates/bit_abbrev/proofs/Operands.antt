@@ -17,7 +17,7 @@ use Rattle.bit_fields.specs.Reader.{Reader, Took, Why, Takes, told_by, failed_re
 use Rattle.bit_fields.proofs.Composing.{fault_then, took_then, took_nothing, from_here}
 use Rattle.bit_abbrev.proofs.Adding.{and_gives, memory_after}
 
--- an operand that may not stand there
+-- an operand that may not be there
 pub misplaced : (shapes : Shapes) (place : Place) (after first_bit : ℕ) (a : Reader) (k : Kind) (b : Reader) (fault : Fault) (c : Reader) → first_bit ≡ a.position → Took kind a k b → Why (test (passes shapes (fits place after k)) (at AbbrevShape first_bit)) b fault c → Why (operand shapes place after) a fault c
 unfolding operand
 misplaced shapes place after first_bit a k b fault c here t why =
@@ -25,18 +25,18 @@ misplaced shapes place after first_bit a k b fault c here t why =
     (took_then kind (λ k. test (passes shapes (fits place after k)) (at AbbrevShape a.position) >> valued k) a k b (Err fault) c t
     (fault_then (test (passes shapes (fits place after k)) (at AbbrevShape a.position)) (λ x. valued k) b fault c (subst (λ (p : ℕ). Why (test (passes shapes (fits place after k)) (at AbbrevShape p)) b fault c) here why)))
 
--- operands behind others
-abbrev pub ahead : List Op → Result (List Op) Fault → Result (List Op) Fault
-ahead ops result = told_by (λ others. ops ++ others) result
+-- operands after others
+abbrev pub behind_others : List Op → Result (List Op) Fault → Result (List Op) Fault
+behind_others ops result = told_by (λ others. ops ++ others) result
 
--- Of so many operands the first ones are read, each with a lawful value: whatever operands are read from here complete them.
+-- Of `count` operands the first ones are read, each with a lawful value: whatever operands are read from here complete them.
 pub record Defines (shapes : Shapes) (count : ℕ) (a : Reader) (done : ℕ) (place : Place) (b : Reader) (ops : List Op) : Type 0 where
   pub live : b.live ≡ true
-  pub so : (result : Result (List Op) Fault) (c : Reader) → Takes (operands shapes (count - done) place) b result c → Takes (operands shapes count first) a (ahead ops result) c
+  pub so : (result : Result (List Op) Fault) (c : Reader) → Takes (operands shapes (count - done) place) b result c → Takes (operands shapes count first) a (behind_others ops result) c
   pub values : AllByRecursion HasLawfulValue ops
   pub length_is : length ops ≡ done
 
-no_more : (result : Result (List Op) Fault) → ahead [] result ≡ result
+no_more : (result : Result (List Op) Fault) → behind_others [] result ≡ result
 no_more (Ok ops) = refl
 no_more (Err fault) = refl
 
@@ -63,9 +63,9 @@ none_more : (shapes : Shapes) (after : ℕ) (place : Place) (a : Reader) (fault 
 unfolding operands
 none_more shapes after place a fault c why = fault_then (operand shapes place after) (λ o. operands shapes after (place_after o) >>= λ others. gives (o ∷ others)) a fault c why
 
-both_ahead : (ops : List Op) (op : Op) (result : Result (List Op) Fault) → ahead ops (told_by (λ others. op ∷ others) result) ≡ ahead (ops ++ op ∷ []) result
-both_ahead ops op (Ok others) = ap Ok (sym (append_assoc ops (op ∷ []) others))
-both_ahead ops op (Err fault) = refl
+both_behind : (ops : List Op) (op : Op) (result : Result (List Op) Fault) → behind_others ops (told_by (λ others. op ∷ others) result) ≡ behind_others (ops ++ op ∷ []) result
+both_behind ops op (Ok others) = ap Ok (sym (append_assoc ops (op ∷ []) others))
+both_behind ops op (Err fault) = refl
 
 pub go_on : (shapes : Shapes) (count : ℕ) (a : Reader) (done : ℕ) (place : Place) (b : Reader) (ops : List Op) (op : Op) (c : Reader) → done < count → Defines shapes count a done place b ops → Took (operand shapes place (count - 1 - done)) b op c → HasLawfulValue op → Defines shapes count a (done + 1) (place_after op) c (ops ++ op ∷ [])
 go_on shapes count a done place b ops op c less h t value =
@@ -74,7 +74,7 @@ go_on shapes count a done place b ops op c less h t value =
     record {
       live = t.live;
       so = λ result d k.
-          subst (λ (x : Result (List Op) Fault). Takes (operands shapes count first) a x d) (both_ahead ops op result) (
+          subst (λ (x : Result (List Op) Fault). Takes (operands shapes count first) a x d) (both_behind ops op result) (
           h.so (told_by (λ others. op ∷ others) result) d (
           subst (λ (n : ℕ). Takes (operands shapes n place) b (told_by (λ others. op ∷ others) result) d) (sym left) (
           one_more shapes (count - 1 - done) place b op c result d t (subst (λ (n : ℕ). Takes (operands shapes n (place_after op)) c result d) next k))));

@@ -17,7 +17,8 @@ use Rattle.bit_fields.specs.declared.fault.Fault.{Fault}
 use Rattle.bit_fields.specs.declared.fault.Fault.TheVariants.{Memory}
 use Rattle.bit_fields.specs.Reader.{Reader, Took, Why, Takes, failed_reader}
 use Rattle.bit_fields.proofs.Composing.{fault_then, took_then}
-use Rattle.bit_abbrev.specs.Operands.{OthersInOrder}
+use Rattle.bit_abbrev.specs.Operands.{OthersInOrder, HasTail, others_of}
+use Rattle.bit_abbrev.specs.declared.tail.Tail.TheVariants as tail
 use Rattle.bit_abbrev.specs.Values.{Adds, AddsAll, AddsFew, AddsFirst, AddsRecord, Completes, Gains, PassesFirst}
 use Rattle.bit_abbrev.proofs.Adding.{and_gives, part_then, part_fails, values_fail, padding_then, value_then, value_fails, no_room, adds_none, whole}
 
@@ -39,7 +40,7 @@ pub blob_few : (result : Result (Unit {0}) Fault) (count room : ℕ) (now new : 
 blob_few (Ok x) count room now new few h = omega (arith, few, h)
 blob_few (Err fault) count room now new few h = tt
 
--- the bytes of a blob, and the padding behind them
+-- the bytes of a blob, and the padding after them
 abbrev blob_bytes : ℕ → Grammar (List ℕ)
 blob_bytes count = repeat count (fixed 8) >>= λ vs. align32 >> gives vs
 
@@ -120,7 +121,7 @@ singles_and (op ∷ ops) tail so =
     let one = one_more op (ops ++ tail) (not_array op ops so) (not_blob op ops so) in
     omega (arith, one, singles_and ops tail (others_single op ops so))
 
--- what is read from one of them on completes the values of all, and how many there are
+-- what is read from one operand on completes the values of all, and how many there are
 pub record FarIn (room : ℕ) (ops tail : List Op) (a : Reader) (i : ℕ) (b : Reader) (before now : List ℕ) : Type 0 where
   pub all : Completes (values_of room (ops ++ tail)) a before (values_of room (drop i ops ++ tail)) b now
   pub many : length now ≡ length before + i
@@ -131,7 +132,7 @@ from_begins room ops tail a before live = record { all = whole (values_of room (
 from_index : (ops : List Op) (i : ℕ) → i < length ops → drop i ops ≡ op_at ops i ∷ drop (i + 1) ops
 from_index ops i less = rw add-one (drop-cons ops i (Literal 0) less)
 
--- the same, told of the operand at the index
+-- the same for the operand at the index
 at_index : (room : ℕ) (ops tail : List Op) (a : Reader) (i : ℕ) (b : Reader) (before now : List ℕ) → i < length ops → FarIn room ops tail a i b before now → Completes (values_of room (ops ++ tail)) a before (values_of room (op_at ops i ∷ (drop (i + 1) ops ++ tail))) b now
 at_index room ops tail a i b before now less h = subst (λ (rest : List Op). Completes (values_of room (ops ++ tail)) a before (values_of room (rest ++ tail)) b now) (from_index ops i less) h.all
 
@@ -166,7 +167,7 @@ from_done room ops tail a i b before now most least h = (
   omega (arith, h.many, most, least),
 )
 
--- the same of values that nobody looks at
+-- the same for values that are not used
 abbrev pub SkipsTo : (room : ℕ) (ops tail : List Op) (a : Reader) (i : ℕ) (b : Reader) (before : List ℕ) → Type 0
 SkipsTo room ops tail a i b before = (values : List ℕ) × FarIn room ops tail a i b before (before ++ values)
 
@@ -187,11 +188,11 @@ skips_done room ops tail a i b before most least h =
     let all = from_done room ops tail a i b before (before ++ h.0) most least h.1 in
     (h.0, omega (arith, length-append before h.0, all.1), all)
 
--- those that were skipped stand behind those before
+-- the skipped values come after those before
 pub skipped : {V : Type 0} (took : V → List ℕ → Type 0) (v w : V) (room : ℕ) (ops tail : List Op) (a c : Reader) (result : Result (Unit {0}) Fault) → ((values others : List ℕ) → took v values → length others ≡ length ops → took w (values ++ others)) → PassesFirst room ops tail a c result → Gains took v w (AddsFirst room ops tail a result c)
 skipped took v w room ops tail a c result passes h = λ before t. let k = h before in (before ++ k.0, passes before k.0 t k.1, k.2)
 
--- ---- how many they are, and what stands behind them
+-- ---- how many they are, and what follows them
 
 -- no more of them than operands
 pub singles_within : (ops : List Op) → singles ops ≤ length ops
@@ -271,7 +272,7 @@ behind (Char6 ∷ ops) = behind_next Char6 ops (λ e. cc) (λ e. cc) (behind ops
 behind (Array ∷ ops) = inr (inr refl)
 behind (Blob ∷ ops) = inr (inl refl)
 
--- a blob stands behind them, or an array and its element
+-- a blob follows them, or an array and its element
 pub blob_behind : (ops : List Op) → OthersInOrder ops → length ops ≡ singles ops + 1 → drop (singles ops) ops ≡ Blob ∷ drop (singles ops + 1) ops
 blob_behind ops h last = is (behind ops)
   where
@@ -288,7 +289,7 @@ array_behind ops h less = is (behind ops)
     is (inr (inl blob)) = absurd (omega (arith, less, h.blob (singles ops) blob))
     is (inr (inr array)) = (from_index ops (singles ops) (omega (arith, less)) ∙ ap (λ (op : Op). op ∷ drop (singles ops + 1) ops) array ∙ ap (λ (others : List Op). Array ∷ others) (from_index ops (singles ops + 1) less), h.element (singles ops) array)
 
--- the first values fail, they are all, or those behind them complete all
+-- the first values fail, or they are all, or those after them complete all
 pub front_fails : (room : ℕ) (ops : List Op) (a : Reader) (fault : Fault) (before after : List ℕ) (c : Reader) → AddsFirst (room - singles ops) (take (singles ops) ops) (drop (singles ops) ops) a (Err fault) c before after → AddsFew (values_of (room - singles ops) ops) room a (Err fault) c before after
 front_fails room ops a fault before after c h = (subst (λ (all : List Op). Adds (values_of (room - singles ops) all) a (Err fault) before after c) (take-append-drop (singles ops) ops) h, tt)
 
@@ -308,7 +309,7 @@ front_is_all room ops a c before after fits all h = front_then room ops a c befo
 
 -- ---- a record
 
--- a record's fields, once its single values are known to have room
+-- a record's fields, once its single values fit the room
 abbrev fields_of : ℕ → Op → List Op → Grammar CodeAndValues
 fields_of room op others = scalar op >>= λ code. values_of (room - singles others) others >>= λ values. gives (record { code = code; values = values })
 
@@ -343,17 +344,24 @@ record_read first room op others a b code d now new c few t h = (
   took_then (judged first room others) (λ holds. fields_of room op others) a tt b (Ok (record { code = code; values = h.0 })) c few (took_then (scalar op) (values_after room others) b code d (Ok (record { code = code; values = h.0 })) c t (and_gives (values_of (room - singles others) others) (λ values. record { code = code; values = values }) d (Ok h.0) c h.2)),
 )
 
--- ---- the first operand and those behind it
+-- ---- the first operand and those after it
 
--- the operands behind the first
-abbrev pub behind_first : List Op → List Op
-behind_first ops = take (length ops - 1) (drop 1 ops)
-
-pub in_parts : (ops : List Op) → 1 ≤ length ops → ops ≡ op_at ops 0 ∷ behind_first ops
+pub in_parts : (ops : List Op) → 1 ≤ length ops → ops ≡ op_at ops 0 ∷ others_of ops
 in_parts [] some = absurd (omega (arith, some))
 in_parts (op ∷ others) some =
     let same : take (suc (length others) - 1) others ≡ others = take_all (suc (length others) - 1) others (omega arith) in
     ap (λ (rest : List Op). op ∷ rest) (sym same)
 
-pub others_in_order : (ops : List Op) → 1 ≤ length ops → Lawful ops → OthersInOrder (behind_first ops)
-others_in_order ops some h = later (op_at ops 0) (behind_first ops) (subst OthersInOrder (in_parts ops some) (record { array = h.order.array; element = h.order.element; blob = h.order.blob }))
+pub others_in_order : (ops : List Op) → 1 ≤ length ops → Lawful ops → OthersInOrder (others_of ops)
+others_in_order ops some h = later (op_at ops 0) (others_of ops) (subst OthersInOrder (in_parts ops some) (record { array = h.order.array; element = h.order.element; blob = h.order.blob }))
+
+-- ---- what follows those that stand for one value each
+
+pub tail_array : (ops : List Op) → 1 ≤ length ops → Lawful ops → 2 ≤ length (others_of ops) → op_at (others_of ops) (length (others_of ops) - 2) ≡ Array → HasTail ops tail.Array
+tail_array ops some h two is = omega (arith, ap length (in_parts ops some), counted_array (others_of ops) (others_in_order ops some h) two is, two)
+
+pub tail_blob : (ops : List Op) → 1 ≤ length ops → Lawful ops → (2 ≤ length (others_of ops) → op_at (others_of ops) (length (others_of ops) - 2) ≡ Array → ⊥) → 1 ≤ length (others_of ops) → op_at (others_of ops) (length (others_of ops) - 1) ≡ Blob → HasTail ops tail.Blob
+tail_blob ops some h none one is = omega (arith, ap length (in_parts ops some), counted_blob (others_of ops) (others_in_order ops some h) none one is, one)
+
+pub tail_nothing : (ops : List Op) → 1 ≤ length ops → Lawful ops → (2 ≤ length (others_of ops) → op_at (others_of ops) (length (others_of ops) - 2) ≡ Array → ⊥) → (1 ≤ length (others_of ops) → op_at (others_of ops) (length (others_of ops) - 1) ≡ Blob → ⊥) → HasTail ops tail.Nothing
+tail_nothing ops some h none no_blob = omega (arith, ap length (in_parts ops some), counted_all (others_of ops) (others_in_order ops some h) none no_blob)

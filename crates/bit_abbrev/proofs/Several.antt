@@ -1,4 +1,4 @@
--- Several values at once, behind those before them.
+-- Several values at once, after those before them.
 use Rattle.std.proofs.Common.{◌≡◌, ℕ, zero, suc, ◌+◌, ◌-◌, ◌≤◌, Bool, List, [], ◌∷◌, ◌++◌, Result, Ok, Err, refl, sym, ap, ◌∙◌, subst, arith, append_assoc}
 use Rattle.bit_grammar.specs.Grammar as grammar
 use Rattle.bit_grammar.specs.Grammar.{Grammar, gives, ◌>>=◌, ◌and_then◌, repeat, reading}
@@ -9,7 +9,7 @@ use Rattle.bit_abbrev.specs.Values.{Has, Adds, AddsAll}
 use Rattle.bit_abbrev.proofs.Adding.{and_gives, adds_same, CompletesAll}
 use Rattle.bit_abbrev.proofs.Taking.{SoFar}
 
--- ---- so many values, and more behind them
+-- ---- a number of values, and more after them
 
 abbrev Answer : Type 0
 Answer = Result (List ℕ × ℕ × List Bool) grammar.Fault
@@ -86,10 +86,10 @@ far_fails_by took v w rule count a before done b fault c h gains =
 
 -- ---- faults
 
--- several were taken, and then it came
+-- several values were taken, and then the fault came
 pub some_added : {V : Type 0} (took : V → List ℕ → Type 0) (v : V) (rule : Grammar ℕ) (some count : ℕ) (a b d : Reader) (fault : Fault) (c : Reader) (before : List ℕ) → Has took v (AddsAll rule some a (Ok tt) b before) → ((values : List ℕ) → Took (repeat some rule) a values b → Why (repeat count rule) d fault c) → Has took v (AddsAll rule count d (Err fault) c before)
 some_added took v rule some count a b d fault c before h why = (h.0, h.1, ((h.2.0.0, h.2.0.1, why h.2.0.0 h.2.0.2), tt))
 
--- several were taken by one reader, and another one took the same
+-- several values were taken by one reader, and another reader took the same
 pub as_added : {V : Type 0} (took : V → List ℕ → Type 0) (v : V) (rule : Grammar ℕ) (some : ℕ) (a b c d : Reader) (before : List ℕ) → Has took v (AddsAll rule some a (Ok tt) b before) → ((values : List ℕ) → Took (repeat some rule) a values b → Took (repeat some rule) c values d) → Has took v (AddsAll rule some c (Ok tt) d before)
 as_added took v rule some a b c d before h so = (h.0, h.1, ((h.2.0.0, h.2.0.1, so h.2.0.0 h.2.0.2), h.2.1))

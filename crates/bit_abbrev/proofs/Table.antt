@@ -34,7 +34,7 @@ at_id {X = X} (e ∷ es) id = rw (at_key id e.0) (ap (λ (found : Option X). con
 abbrev items_of : Vec (List Op) → List (List Op)
 items_of list = list.items
 
--- what is found is found in what is shown
+-- an entry that is found is found among the shown entries
 lookup-shown : (es : List (ℕ × Vec (List Op))) (id : ℕ) → lookup (nat_eq id) (table_shown es) ≡ option_map items_of (lookup (nat_eq id) es)
 lookup-shown [] id = refl
 lookup-shown (e ∷ es) id = by (nat_eq id e.0) (lookup-shown es id)
@@ -50,11 +50,11 @@ at_lookup es id o h = ap (λ (x : Option (List (List Op))). unwrap_or x []) (loo
 pub found_at : (es : List (ℕ × Vec (List Op))) (id : ℕ) (list : Vec (List Op)) → Some list ≡ lookup (is_at (nat_cmp id)) es → definitions_at (table_shown es) id ≡ list.items
 found_at es id list h = at_lookup es id (Some list) (sym (h ∙ at_id es id))
 
--- and none where none is found
+-- and none if none is found
 pub none_at : (es : List (ℕ × Vec (List Op))) (id : ℕ) → None ≡ lookup (is_at (nat_cmp id)) es → definitions_at (table_shown es) id ≡ []
 none_at es id h = at_lookup es id None (sym (h ∙ at_id es id))
 
--- a vector with the same definitions in the place of one that is found
+-- a vector with the same definitions replaces one that is found
 pub kept : (es : List (ℕ × Vec (List Op))) (id : ℕ) (old new : Vec (List Op)) → Some old ≡ lookup (is_at (nat_cmp id)) es → new.items ≡ old.items → table_shown (set_value (is_at (nat_cmp id)) es new) ≡ table_shown es
 kept [] id old new h e = refl
 kept (x ∷ es) id old new h e = by (is_at (nat_cmp id) x.0) (λ k. kept es id old new k e) h

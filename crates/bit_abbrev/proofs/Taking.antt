@@ -1,4 +1,4 @@
--- Values that are read into what takes them.
+-- Values that are read into a value sink.
 use Rattle.std.proofs.Common.{◌≡◌, ℕ, zero, suc, ◌+◌, ◌-◌, ◌^◌, ◌<◌, ◌≤◌, min, true, List, [], ◌∷◌, ◌++◌, length, Result, Ok, Err, Bool, refl, sym, ap, ◌∙◌, subst, arith, map, length-append, false}
 use Rattle.std.proofs.Math.ListN.{replicate}
 use Rattle.std.proofs.lemmas.List.{append-nil}
@@ -17,7 +17,7 @@ use Rattle.bit_abbrev.proofs.Adding.{and_gives, CompletesAll, all_begin, all_go_
 
 -- ---- loops
 
--- so many values were taken behind those before
+-- `done` values were taken, after those before
 pub record SoFar (rule : Grammar ℕ) (count : ℕ) (a : Reader) (done : ℕ) (b : Reader) (before now : List ℕ) : Type 0 where
   pub all : CompletesAll rule count a before done b now
   pub many : length now ≡ length before + done
@@ -42,14 +42,14 @@ far_refused took v w rule count a before done b value c h t same = (h.0, same h.
 pub far_ends : {V : Type 0} (took : V → List ℕ → Type 0) (v : V) (rule : Grammar ℕ) (count : ℕ) (a : Reader) (before : List ℕ) (done : ℕ) (b : Reader) → count ≤ done → done ≤ count → Has took v (SoFar rule count a done b before) → Has took v (AddsAll rule count a (Ok tt) b before)
 far_ends took v rule count a before done b most least h = (h.0, h.1, (all_done rule count a before done b h.0 most h.2.all, omega (arith, h.2.many)))
 
--- ---- values that nobody looks at
+-- ---- values that are not used
 
--- these values, read by a rule, are behind those before
+-- these values, read by a rule, come after those before
 pub passed : {V : Type 0} (took : V → List ℕ → Type 0) (w : V) (rule : Grammar ℕ) (count : ℕ) (a : Reader) (before others : List ℕ) (result : Result (Unit {0}) Fault) (c : Reader) → length others ≡ count → took w (before ++ others) → Takes (repeat count rule) a (told_by (λ x. others) result) c → Has took w (AddsAll rule count a result c before)
 passed took w rule count a before others (Ok x) c many t takes = (before ++ others, t, ((others, refl, takes), omega (arith, length-append before others, many)))
 passed took w rule count a before others (Err fault) c many t takes = (before ++ others, t, ((others, refl, takes), tt))
 
--- the same, where they are all that are left behind others
+-- the same, if they are all that is left after others
 pub passed_behind : {V : Type 0} (took : V → List ℕ → Type 0) (v w : V) (rule : Grammar ℕ) (count : ℕ) (a : Reader) (before : List ℕ) (done : ℕ) (b : Reader) (others : List ℕ) (result : Result (Unit {0}) Fault) (c : Reader) → done < count → Has took v (SoFar rule count a done b before)
     → ((values : List ℕ) → took v values → took w (values ++ others)) → length others ≡ count - done → Takes (repeat (count - done) rule) b (told_by (λ x. others) result) c → Has took w (AddsAll rule count a result c before)
 passed_behind took v w rule count a before done b others (Ok x) c less h passes many takes = (h.0 ++ others, passes h.0 h.1, (h.2.all.so (Ok x) (h.0 ++ others) c (others, refl, takes), omega (arith, length-append h.0 others, many, h.2.many, less)))
@@ -104,7 +104,7 @@ characters_took count a codes (Err fault) c t = same_reading (repeat count (fixe
 pub recorded_only : {V : Type 0} (took : V → List ℕ → Type 0) (v : V) (rule : Grammar CodeAndValues) (room : ℕ) (a : Reader) (code : ℕ) (c : Reader) (before : List ℕ) → Has took v (AddsWithin rule room a (Ok code) c before) → Has took v (Recorded (λ r. IsOnly rule a r c) (Ok code) before)
 recorded_only took v rule room a code c before h = (h.0, h.1, (h.2.0.0, h.2.0.1, only rule a (Ok (record { code = code; values = h.2.0.0 })) c h.2.0.2))
 
--- what is cut back to so many values as there were
+-- the values are cut back to those from before
 cut_back : {V : Type 0} (took : V → List ℕ → Type 0) (old read cut : V) (count : ℕ) (before after others : List ℕ) → ((values : List ℕ) → took old values → count ≡ min (length values) (2 ^ 64 - 1)) → ((values others : List ℕ) → took read (values ++ others) → count ≡ min (length values) (2 ^ 64 - 1) → took cut values) → took old before → took read after → after ≡ before ++ others → took cut before
 cut_back took old read cut count before after others counts cuts t u is = cuts before others (subst (took read) is u) (counts before t)
 

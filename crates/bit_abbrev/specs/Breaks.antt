@@ -10,8 +10,8 @@ use Rattle.bit_grammar.specs.FormatDefinition.{op_at, IsElement}
 
 -- ---- in the words of the format
 
--- The operand at an index stands where it may not: an array or a blob is the first, an array is not the last but one,
--- behind an array stands no element, or a blob is not the last.
+-- The operand at an index is where it may not be: an array or a blob is the first, an array is not the last but one, no element
+-- follows an array, or a blob is not the last.
 pub data BreaksShape (ops : List Op) (i : ℕ) : Type 0 where
   first_array : i ≡ 0 → op_at ops i ≡ Array → BreaksShape ops i
   first_blob : i ≡ 0 → op_at ops i ≡ Blob → BreaksShape ops i
@@ -41,7 +41,7 @@ IsFirstBreak [] i reason = (i ≡ 0) × (reason ≡ AbbrevEmpty)
 IsFirstBreak (op ∷ ops) i reason = BreaksAt (op ∷ ops) i reason
     × ((j : ℕ) (other : Reason) → j < i → BreaksAt (op ∷ ops) j other → ⊥)
 
--- a literal has 64 bits, as each one of the code has
+-- a literal has at most 64 bits, as each one of the code has
 abbrev pub LiteralFits : Op → Type 0
 LiteralFits (Literal v) = v < 2 ^ 64
 LiteralFits _ = Unit {0}
@@ -54,6 +54,6 @@ width_break (Fixed width) = if fixed_lawful width then None else Some FieldWidth
 width_break (Vbr width) = if vbr_lawful width then None else Some FieldWidth
 width_break _ = None
 
--- the break of an operand at a place, with so many operands after it
+-- the break of an operand at a place, with `after` operands after it
 abbrev pub break_of : Place → (after : ℕ) → Op → Option Reason
 break_of place after op = if fits place after (kind_of op) then width_break op else Some AbbrevShape

@@ -4,7 +4,7 @@ use Rattle.std.specs.Map.{lookup}
 use Rattle.std.specs.Global.{Vec}
 use Rattle.bit_grammar.specs.declared.op.Op.{Op}
 
--- the definitions for a block id; none where it has no entry
+-- the definitions for a block id; none if it has no entry
 abbrev pub definitions_at : List (ℕ × List (List Op)) → ℕ → List (List Op)
 definitions_at table id = unwrap_or (lookup (nat_eq id) table) []
 

@@ -1,4 +1,4 @@
--- What a call reads into what takes values.
+-- What a call reads into a value sink.
 use Rattle.std.specs.Prelude.{◌≡◌, ℕ, ◌+◌, ◌≤◌, true, List, ◌++◌, length, Result, Ok, Err}
 use Rattle.std.specs.Result.{OnOk}
 use Rattle.bit_grammar.specs.Grammar.{Grammar, repeat}
@@ -8,29 +8,29 @@ use Rattle.bit_grammar.specs.declared.op.Op.{Op}
 use Rattle.bit_fields.specs.declared.fault.Fault.{Fault}
 use Rattle.bit_fields.specs.Reader.{Reader, Took, Why}
 
--- it took values of which this holds
+-- this is true of the values that it took
 abbrev pub Has : {V : Type 0} → (took : V → List ℕ → Type 0) → V → (List ℕ → Type 0) → Type 0
 Has took taker P = (values : List ℕ) × took taker values × P values
 
--- whatever values it had before a call, it has values after it of which, with those, this holds
+-- whatever values it had before a call: this is true of them and of the values that it has after the call
 abbrev pub Gains : {V : Type 0} → (took : V → List ℕ → Type 0) → (old new : V)
     → (List ℕ → List ℕ → Type 0) → Type 0
 Gains took old new P = (before : List ℕ) → took old before → Has took new (P before)
 
--- some values stand behind those before
+-- the later values are the earlier ones and possibly more
 abbrev pub Lengthens : (before after : List ℕ) → Type 0
 Lengthens before after = (values : List ℕ) × (after ≡ before ++ values)
 
--- whatever it took before, it took some values after a call
+-- if it took some values before a call, it took some values after it
 abbrev pub Keeps : {V : Type 0} → (took : V → List ℕ → Type 0) → (old new : V) → Type 0
 Keeps took old new = (before : List ℕ) → took old before → (after : List ℕ) × took new after
 
--- what passes over so many values of a rule
+-- skips `count` values of a rule
 abbrev pub PassesValues : Grammar ℕ → (count : ℕ) → Reader → Reader → Type 0
 PassesValues rule count old new = (values : List ℕ) × (length values ≡ count)
     × Took (repeat count rule) old values new
 
--- A call adds to a list the values that the rule reads; after a fault some values may stand behind those that were there.
+-- A call adds to a list the values that the rule reads; after a fault it may have added some values.
 abbrev pub Adds : Grammar (List ℕ) → Reader → Result (Unit {0}) Fault → (before after : List ℕ)
     → Reader → Type 0
 Adds rule old (Ok x) before after new = (values : List ℕ) × (after ≡ before ++ values)
@@ -54,34 +54,33 @@ AddsFirst room ops tail old (Ok x) new before after
 AddsFirst room ops tail old (Err fault) new before after
     = Adds (values_of room (ops ++ tail)) old (Err fault) before after new
 
--- what skips one value for each of these operands
+-- skips one value for each of these operands
 abbrev pub PassesFirst : (room : ℕ) → (ops tail : List Op) → Reader → Reader
     → Result (Unit {0}) Fault → Type 0
 PassesFirst room ops tail old new result = (before : List ℕ) → (values : List ℕ)
     × (length values ≡ length ops) × AddsFirst room ops tail old result new before (before ++ values)
 
--- A call adds the values that the rule reads, no more than there was room for.
+-- A call adds the values that the rule reads, at most `room`.
 abbrev pub AddsFew : Grammar (List ℕ) → (room : ℕ) → Reader → Result (Unit {0}) Fault → Reader
     → (before after : List ℕ) → Type 0
 AddsFew rule room old result new before after = Adds rule old result before after new
     × OnOk result (length after ≤ length before + room)
 
--- A call adds so many values to a list.
+-- A call adds `count` values to a list.
 abbrev pub AddsAll : Grammar ℕ → (count : ℕ) → Reader → Result (Unit {0}) Fault → Reader
     → (before after : List ℕ) → Type 0
 AddsAll rule count old result new before after = Adds (repeat count rule) old result before after
     new × OnOk result (length after ≡ length before + count)
 
--- A call answers the code of a record and adds its values to a list, and what it answers has a property of records; after a
--- fault the list is as it was.
+-- A call returns the code of a record and adds its values to a list, and this result has a property of records; after a fault the
+-- list is as it was.
 abbrev pub Recorded : (Result CodeAndValues Fault → Type 0) → Result ℕ Fault
     → (before after : List ℕ) → Type 0
 Recorded P (Ok code) before after = (values : List ℕ) × (after ≡ before ++ values)
     × P (Ok (record { code = code; values = values }))
 Recorded P (Err fault) before after = (after ≡ before) × P (Err fault)
 
--- A call answers the code of a record and adds its values to a list; after a fault some of them may stand behind those that
--- were there.
+-- A call returns the code of a record and adds its values to a list; after a fault it may have added some of them.
 abbrev pub AddsRecord : Grammar CodeAndValues → Reader → Result ℕ Fault → (before after : List ℕ)
     → Reader → Type 0
 AddsRecord rule old (Ok code) before after new = (values : List ℕ) × (after ≡ before ++ values)
@@ -89,13 +88,13 @@ AddsRecord rule old (Ok code) before after new = (values : List ℕ) × (after �
 AddsRecord rule old (Err fault) before after new = (values : List ℕ) × (after ≡ before ++ values)
     × Why rule old fault new
 
--- the same, with room for so many
+-- the same, with at most `room` values
 abbrev pub AddsWithin : Grammar CodeAndValues → (room : ℕ) → Reader → Result ℕ Fault → Reader
     → (before after : List ℕ) → Type 0
 AddsWithin rule room old result new before after = AddsRecord rule old result before after new
     × OnOk result (length after ≤ length before + room)
 
--- A call adds the values that the rule reads, as many as it answers; where it fails, it fails as one that was to add so many.
+-- A call adds the values that the rule reads, as many as it returns; if it fails, it fails as one that was to add that many.
 abbrev pub AddsSome : {V : Type 0} → (took : V → List ℕ → Type 0) → Grammar ℕ → (most : ℕ) → Reader
     → Result ℕ Fault → Reader → (v w : V) → Type 0
 AddsSome took rule most old (Ok count) new v w = Gains took v w (AddsAll rule count old (Ok tt) new)

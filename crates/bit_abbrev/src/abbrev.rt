@@ -3,8 +3,10 @@
 ghost use Rattle.std.specs.Prelude.{◌≡◌, ◌≤◌, ◌↔◌, true, length, IsOk, IfOk, IfErr, IfSome, IfNone};
 ghost use Rattle.bit_grammar.specs.Definition.{fits, place_after, kind_of, has_shape};
 ghost use Rattle.bit_grammar.specs.FormatDefinition.{Definable, Lawful};
+ghost use Rattle.bit_abbrev.specs.Operands.{HasTail};
 ghost use Rattle.bit_abbrev.specs.Breaks.{IsFirstBreak, LiteralFits, break_of};
 
+use crate::tail::{Tail, tail_of};
 use crate::widths::{is_fixed_width, is_vbr_width};
 use bit_grammar::{Kind, Op, Place, Reason};
 use smallvec::SmallVec;
@@ -12,10 +14,10 @@ use std::alloc::{AllocError, Global};
 use std::marker::Model;
 use thiserror::Error;
 
-/// A list of operands. Up to eight take no memory.
+/// A list of operands. Up to eight need no allocation.
 pub type Ops = SmallVec<Op, 8>;
 
-/// A list of operands that is refused, handed back, with its first break.
+/// A list of operands that is refused: the list itself, and its first break.
 #[derive(Debug, Drop, Error)]
 #[error("operand {at}: {name}", name = .reason.name())]
 pub struct BadAbbrev {
@@ -25,29 +27,31 @@ pub struct BadAbbrev {
     pub reason: Reason,
 }
 
-/// The definition of an abbreviation: operands with lawful values. Where they are in no lawful order, no record may go by
-/// them.
+/// The definition of an abbreviation: operands with lawful values. If their order is not lawful, no record may use it.
 #[derive(Debug, Drop)]
 pub struct Abbrev {
     ops: Ops,
     usable: bool,
+    tail: Tail,
 }
 
 impl Model for Abbrev {
-    ghost use Rattle.std.specs.Prelude.{◌≡◌, List};
+    ghost use Rattle.std.specs.Prelude.{◌≡◌, List, true};
     ghost use Rattle.bit_grammar.specs.declared.op.Op.{Op};
     ghost use Rattle.bit_grammar.specs.Definition.{has_shape};
     ghost use Rattle.bit_grammar.specs.FormatDefinition.{Definable};
+    ghost use Rattle.bit_abbrev.specs.Operands.{HasTail};
 
     ghost Value = { List Op };
 
     ghost view = { λ definition. definition.ops.items };
 
     ghost invariant = { λ definition. Definable definition.ops.items
-        × (definition.usable ≡ has_shape definition.ops.items) };
+        × (definition.usable ≡ has_shape definition.ops.items)
+        × (definition.usable ≡ true → HasTail definition.ops.items definition.tail) };
 }
 
-/// Whether an operand of this kind may stand there, with so many operands after it.
+/// Whether an operand of this kind may be at a place, with `after` operands after it.
 pub(crate) fn fits(place: Place, after: u64, kind: Kind) -> bool
     ensures { result ≡ fits place after kind }
 {
@@ -97,7 +101,7 @@ fn has_shape(ops: &[Op]) -> bool
     true
 }
 
-/// The break of an operand at a place, with so many operands after it.
+/// The break of an operand at a place, if there is one, with `after` operands after it.
 fn break_of(place: Place, after: u64, op: Op) -> Option<Reason>
     ensures reason { result ≡ break_of place after op }
     ensures literal { LiteralFits op }
@@ -112,7 +116,7 @@ fn break_of(place: Place, after: u64, op: Op) -> Option<Reason>
     }
 }
 
-/// The first break of a list, and the index of the operand that breaks.
+/// The first break of a list, and the index of the operand that breaks the rules.
 fn first_break(ops: &[Op]) -> Option<(usize, Reason)>
     ensures found { IfSome result (λ bad. IsFirstBreak ops.now bad.0 bad.1) }
     ensures none { IfNone result (Lawful ops.now) }
@@ -131,7 +135,7 @@ fn first_break(ops: &[Op]) -> Option<(usize, Reason)>
 }
 
 impl Abbrev {
-    /// Takes a list that is lawful, and hands any other back. It takes no memory.
+    /// Makes an abbreviation of a lawful list, and returns any other list. It allocates nothing.
     pub fn new(ops: Ops) -> Result<Abbrev, BadAbbrev>
         ensures lawful { IsOk result ↔ Lawful ops.items }
         ensures ok { IfOk result (λ made. made ≡ ops.items) }
@@ -139,7 +143,14 @@ impl Abbrev {
         ensures first { IfErr result (λ bad. IsFirstBreak ops.items bad.at bad.reason) }
     {
         match first_break(ops.as_slice()) {
-            None => Ok(Abbrev { ops, usable: true }),
+            None => {
+                let tail = tail_of(ops.as_slice());
+                Ok(Abbrev {
+                    ops,
+                    usable: true,
+                    tail,
+                })
+            }
             Some((at, reason)) => Err(BadAbbrev { ops, at, reason }),
         }
     }
@@ -150,7 +161,8 @@ impl Abbrev {
         ensures { result ≡ ops.items }
     {
         let usable = has_shape(ops.as_slice());
-        Abbrev { ops, usable }
+        let tail = tail_of(ops.as_slice());
+        Abbrev { ops, usable, tail }
     }
 
     /// The operands.
@@ -161,14 +173,14 @@ impl Abbrev {
         self.ops.as_slice()
     }
 
-    /// Whether a record may go by the operands: they are in a lawful order.
+    /// Whether a record may use it: its operands are in a lawful order.
     pub fn is_usable(&self) -> bool
         ensures { result ≡ has_shape self.now }
     {
         self.usable
     }
 
-    /// The operands, by which a record may go.
+    /// The operands, in a lawful order.
     pub fn lawful_ops(&self) -> &[Op]
         requires { has_shape self.now ≡ true }
         ensures items { result.now ≡ self.now }
@@ -177,7 +189,16 @@ impl Abbrev {
         self.ops.as_slice()
     }
 
-    /// An abbreviation with the same operands.
+    /// What follows the operands that stand for one value each.
+    #[inline(always)]
+    pub(crate) fn tail(&self) -> Tail
+        requires { has_shape self.now ≡ true }
+        ensures { HasTail self.now result }
+    {
+        self.tail
+    }
+
+    /// A copy, with the same operands.
     pub fn copy(&self, alloc: Global) -> Result<Abbrev, AllocError>
         ensures ok { IfOk result (λ copy. copy ≡ self.now) }
         ensures short { length self.now ≤ 8 → IsOk result }
@@ -186,6 +207,7 @@ impl Abbrev {
         Ok(Abbrev {
             ops,
             usable: self.usable,
+            tail: self.tail,
         })
     }
 }

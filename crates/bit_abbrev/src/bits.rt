@@ -1,16 +1,16 @@
-//! Where the bits of a record come from: a reader, which judges them, or bits that are buffered, which may not be all there.
+//! Where the bits of a record come from: a reader, which judges them, or buffered bits, which may be incomplete.
 
 ghost use Rattle.std.specs.Prelude.{◌≡◌, ◌<◌, ◌≤◌, true, OnOk, OnErr};
 ghost use Rattle.bit_grammar.specs.Fields.{fixed, vbr, char6, align32};
 ghost use Rattle.bit_grammar.specs.Grammar.{at, test};
 ghost use Rattle.bit_fields.specs.Reader.{Extent, Takes, within, failed_reader};
-ghost use Rattle.bit_fields.specs.Ahead.{reader_at};
+ghost use Rattle.bit_fields.specs.Buffered.{reader_at};
 ghost use Rattle.bit_fields.specs.declared.fault.Fault.TheVariants.{Memory};
 ghost use Rattle.bit_abbrev.specs.Bits.{Answers, IsHere};
 
-use bit_fields::{Ahead, BitReader, Fault, Reason, Source};
+use bit_fields::{BitReader, Buffered, ChunkWidth, Fault, FieldWidth, Reason, Source};
 
-/// What fields are read from, one by one.
+/// A source of fields, one by one.
 pub trait Bits {
     ghost use Rattle.bit_fields.specs.Reader.{Reader};
     ghost use Rattle.bit_fields.specs.declared.fault.Fault.{Fault};
@@ -18,43 +18,37 @@ pub trait Bits {
     /// Why a field was not read.
     type Miss: Drop;
 
-    // The reader that would read the same.
+    // The reader that reads the same.
     ghost as_reader: { Self → Reader };
 
-    // The faults for which a miss stands: none, where it does not say why.
+    // The faults that a miss means: none, if it gives no reason.
     ghost faults: { Self.Miss → Fault → Type 0 };
 
-    // What a field that was not read leaves.
+    // What a missed field leaves.
     ghost missed: { (old new : Self) → Type 0 };
 
-    /// The bit at which it stands, counted from the first bit of the input.
+    /// The position, counted in bits from the first bit of the input.
     fn position(&self) -> u64
         ensures { result ≡ (as_reader self.now).position };
 
-    /// Reads a number of n bits, n from 1 to 32. Source: "Fixed Width Integers".
-    fn fixed(&mut self, n: u32) -> Result<u64, Self::Miss>
-        requires some { 0 < n }
-        requires few { n ≤ 32 }
-        ensures takes { Answers faults (λ r. Takes (fixed n) (as_reader self.old) r
+    /// Reads a number of n bits. Source: "Fixed Width Integers".
+    fn fixed(&mut self, n: FieldWidth) -> Result<u64, Self::Miss>
+        ensures takes { Answers faults (λ r. Takes (fixed n.bits) (as_reader self.old) r
             (as_reader self.new)) result }
         ensures missed { OnErr result (missed self.old self.new) };
 
-    /// Reads a number in chunks of n bits, n from 2 to 32. Source: "Variable Width Integers".
-    fn vbr(&mut self, n: u32) -> Result<u64, Self::Miss>
-        requires some { 2 ≤ n }
-        requires few { n ≤ 32 }
-        ensures takes { Answers faults (λ r. Takes (vbr n) (as_reader self.old) r
+    /// Reads a number in chunks of n bits. Source: "Variable Width Integers".
+    fn vbr(&mut self, n: ChunkWidth) -> Result<u64, Self::Miss>
+        ensures takes { Answers faults (λ r. Takes (vbr n.bits) (as_reader self.old) r
             (as_reader self.new)) result }
         ensures missed { OnErr result (missed self.old self.new) };
 
-    /// Does so where nobody looks at the number.
-    fn pass_vbr(&mut self, n: u32) -> Result<u64, Self::Miss>
-        requires some { 2 ≤ n }
-        requires few { n ≤ 32 }
-        ensures takes { Answers faults (λ r. Takes (vbr n) (as_reader self.old) r
+    /// The same for a number whose value is not used.
+    fn pass_vbr(&mut self, n: ChunkWidth) -> Result<u64, Self::Miss>
+        ensures takes { Answers faults (λ r. Takes (vbr n.bits) (as_reader self.old) r
             (as_reader self.new)) result };
 
-    /// Reads a character in six bits and answers its ASCII code. Source: "6-bit characters".
+    /// Reads a character in six bits and returns its ASCII code. Source: "6-bit characters".
     fn char6(&mut self) -> Result<u64, Self::Miss>
         ensures takes { Answers faults (λ r. Takes char6 (as_reader self.old) r
             (as_reader self.new)) result }
@@ -65,7 +59,7 @@ pub trait Bits {
         ensures { Answers faults (λ r. Takes align32 (as_reader self.old) r
             (as_reader self.new)) result };
 
-    /// Refuses for a reason at a bit where a judgement does not hold.
+    /// Refuses for a reason at a bit, unless `holds`.
     fn judge(&mut self, holds: bool, reason: Reason, bit: u64) -> Result<(), Self::Miss>
         requires live { (as_reader self.old).live ≡ true }
         requires stays { (e : Extent) → within e reason bit ≡ at reason bit }
@@ -74,17 +68,17 @@ pub trait Bits {
         ensures same { OnOk result (as_reader self.new ≡ as_reader self.old) }
         ensures holds { OnOk result (holds ≡ true) };
 
-    /// Fails since memory for a value was refused.
+    /// Fails because an allocation for a value failed.
     fn out_of_memory(&mut self) -> Self::Miss
         ensures { (fault : Fault) → faults result fault → (fault ≡ Memory)
             × (as_reader self.new ≡ failed_reader (as_reader self.old)) };
 }
 
-/// A field is not buffered whole, or is odd: the reader has to read it, and says then what is wrong with it.
+/// A field is not completely buffered, or is odd. The reader must read it, and reports what is wrong with it.
 #[derive(Clone, Copy, Drop)]
 pub struct NotBuffered;
 
-/// What was found, or that it was not.
+/// The value found, or a miss.
 #[inline(always)]
 fn here<T>(found: Option<T>) -> Result<T, NotBuffered>
     ensures { IsHere found result }
@@ -95,9 +89,9 @@ fn here<T>(found: Option<T>) -> Result<T, NotBuffered>
     }
 }
 
-impl<'a> Bits for Ahead<'a> {
+impl<'a> Bits for Buffered<'a> {
     ghost use Rattle.std.specs.Prelude.{◌≡◌};
-    ghost use Rattle.bit_fields.specs.Ahead.{reader_at};
+    ghost use Rattle.bit_fields.specs.Buffered.{reader_at};
 
     type Miss = NotBuffered;
 
@@ -109,32 +103,32 @@ impl<'a> Bits for Ahead<'a> {
 
     #[inline(always)]
     fn position(&self) -> u64 {
-        Ahead::position(self)
+        Buffered::position(self)
     }
 
     #[inline(always)]
-    fn fixed(&mut self, n: u32) -> Result<u64, NotBuffered> {
-        here(Ahead::fixed(self, n))
+    fn fixed(&mut self, n: FieldWidth) -> Result<u64, NotBuffered> {
+        here(Buffered::fixed(self, n))
     }
 
     #[inline(always)]
-    fn vbr(&mut self, n: u32) -> Result<u64, NotBuffered> {
-        here(Ahead::vbr(self, n))
+    fn vbr(&mut self, n: ChunkWidth) -> Result<u64, NotBuffered> {
+        here(Buffered::vbr(self, n))
     }
 
     #[inline(always)]
-    fn pass_vbr(&mut self, n: u32) -> Result<u64, NotBuffered> {
-        here(Ahead::pass_vbr(self, n))
+    fn pass_vbr(&mut self, n: ChunkWidth) -> Result<u64, NotBuffered> {
+        here(Buffered::pass_vbr(self, n))
     }
 
     #[inline(always)]
     fn char6(&mut self) -> Result<u64, NotBuffered> {
-        here(Ahead::char6(self))
+        here(Buffered::char6(self))
     }
 
     #[inline(always)]
     fn pad(&mut self) -> Result<(), NotBuffered> {
-        here(Ahead::pad(self))
+        here(Buffered::pad(self))
     }
 
     #[inline(always)]
@@ -165,18 +159,18 @@ impl<S: Source> Bits for BitReader<S> {
     }
 
     #[inline(always)]
-    fn fixed(&mut self, n: u32) -> Result<u64, Fault> {
-        BitReader::fixed(self, n)
+    fn fixed(&mut self, n: FieldWidth) -> Result<u64, Fault> {
+        BitReader::fixed(self, n.bits)
     }
 
     #[inline(always)]
-    fn vbr(&mut self, n: u32) -> Result<u64, Fault> {
-        BitReader::vbr(self, n)
+    fn vbr(&mut self, n: ChunkWidth) -> Result<u64, Fault> {
+        BitReader::vbr(self, n.bits)
     }
 
     #[inline(always)]
-    fn pass_vbr(&mut self, n: u32) -> Result<u64, Fault> {
-        BitReader::vbr(self, n)
+    fn pass_vbr(&mut self, n: ChunkWidth) -> Result<u64, Fault> {
+        BitReader::vbr(self, n.bits)
     }
 
     #[inline(always)]

@@ -1,23 +1,25 @@
-//! Records that are read from what is buffered.
+//! Records that are read from the buffer.
 
 use crate::counting_tests::PLAIN;
 use crate::reading_tests::{BLOB, CHARACTERS, LITERALS, in_block, open_block};
 use crate::{read_define, read_plain, read_record};
-use bit_fields::{Ahead, BitReader, Fault, Limits, Shapes, SliceSource, ValueCount, ValueTaker};
+use bit_fields::{
+    BitReader, Buffered, Fault, FieldWidth, Limits, Shapes, SliceSource, ValueCount, ValueTaker,
+};
 use std::alloc::{AllocError, Global};
 use std::test::Fail;
 
-/// A stream with this block, and bytes behind it.
+/// A stream with this block, and bytes after it.
 fn with_more(alloc: Global, body: &[u8]) -> Result<Vec<u8>, AllocError> {
     let mut bytes = in_block(alloc, body)?;
     bytes.extend_from_slice(&[0; 8])?;
     Ok(bytes)
 }
 
-/// What a buffered record answers: its code and the bit behind it; and whether it has the wanted values.
+/// The result of a buffered record: its code and the bit after it; and whether it has the wanted values.
 type Told = (Result<Option<(u64, u64)>, Fault>, bool);
 
-/// The record behind a block's definition, from what is buffered.
+/// Reads the record after a block's definition from the buffer.
 fn buffered_record<V: ValueTaker>(
     alloc: Global,
     reader: &mut BitReader<SliceSource<'_>>,
@@ -26,14 +28,19 @@ fn buffered_record<V: ValueTaker>(
 ) -> Result<Option<(u64, u64)>, Fault> {
     open_block(reader)?;
     let definition = read_define(alloc, reader, Shapes::AtDefinition)?;
-    let mut ahead = Ahead::new(reader.sight()?);
-    if !definition.is_usable() || ahead.fixed(3).is_none() {
+    let mut buffered = Buffered::new(reader.buffered_parts()?);
+    if !definition.is_usable() || buffered.fixed(FieldWidth { bits: 3 }).is_none() {
         return Ok(None);
     }
-    let first = ahead.position();
-    let ops = definition.lawful_ops();
-    let code = read_record::<(), Ahead<'_>, V>(&mut ahead, ops, first, room, values).ok();
-    Ok(code.map(|code| (code, ahead.position())))
+    let first = buffered.position();
+    let code = read_record::<(), Buffered<'_>, V>(
+        &mut buffered,
+        &definition,
+        first,
+        room,
+        values,
+    ).ok();
+    Ok(code.map(|code| (code, buffered.position())))
 }
 
 /// The same from the stream's beginning.
@@ -49,14 +56,14 @@ fn buffered_at_start<V: ValueTaker>(
     }
 }
 
-/// A record with room for so many values, and whether the list has these values.
+/// A record with room for `room` values, and whether the list has these values.
 fn kept_record(alloc: Global, bytes: &[u8], room: u64, wanted: &[u64]) -> Told {
     let mut values = Vec::new(alloc);
     let answer = buffered_at_start(alloc, bytes, room, &mut values);
     (answer, values.as_slice() == wanted)
 }
 
-/// The same where the values are counted, and whether there are so many.
+/// The same with counted values, and whether the count is right.
 fn counted_record(alloc: Global, bytes: &[u8], room: u64, wanted: &[u64]) -> Told {
     let mut values = ValueCount::new();
     let answer = buffered_at_start(alloc, bytes, room, &mut values);
@@ -68,7 +75,7 @@ const KINDS: [u8; 14] = [
     0x32, 0x32, 0x88, 0xC8, 0x41, 0x23, 0xC3, 0xB2, 0x90, 0x83, 0x21, 0x40, 0x03, 0x01,
 ];
 
-/// Blocks with a definition and a record by it: the code, the bit behind the record, and its values.
+/// Blocks with a definition and a record by it: the code, the bit after the record, and its values.
 static ROWS: [(&[u8], (u64, u64), &[u64]); 4] = [
     (&KINDS, (5, 205), &[20, 100, 98, 1, 40, 2]),
     (&CHARACTERS, (1, 148), &[97, 95, 90]),
@@ -97,7 +104,7 @@ fn buffered_records(rt: HostRuntime) -> Result<(), Fail> {
     Ok(())
 }
 
-/// A record that is not abbreviated, behind its id.
+/// Reads a record that is not abbreviated, after its id.
 fn plain_at_start<V: ValueTaker>(
     bytes: &[u8],
     room: u64,
@@ -108,9 +115,9 @@ fn plain_at_start<V: ValueTaker>(
         Err((fault, _)) => return Err(fault),
     };
     open_block(&mut reader)?;
-    let mut ahead = Ahead::new(reader.sight()?);
-    let code = read_plain::<(), Ahead<'_>, V>(&mut ahead, room, values).ok();
-    Ok(code.map(|code| (code, ahead.position())))
+    let mut buffered = Buffered::new(reader.buffered_parts()?);
+    let code = read_plain::<(), Buffered<'_>, V>(&mut buffered, room, values).ok();
+    Ok(code.map(|code| (code, buffered.position())))
 }
 
 #[test]

@@ -42,7 +42,7 @@ const NUMBERS: [u8; 68] = [
 /// A record 5 that is not abbreviated, with the values 1, 40 and 2.
 pub(super) const PLAIN: [u8; 5] = [0x2B, 0x86, 0, 0x0D, 4];
 
-/// A reader that gives at most so many bytes at a time.
+/// A reader that gives a limited number of bytes at a time.
 #[derive(Drop)]
 struct Few<'a> {
     rest: &'a [u8],
@@ -56,7 +56,7 @@ impl<'a> Read for Few<'a> {
     }
 }
 
-/// What a record answers, and whether the reader has failed after a fault; then how many values it has.
+/// The result of a record, and whether the reader has failed after a fault; then how many values there are.
 type Told = ((Result<(u64, u64), Fault>, bool), u64);
 
 /// A record that is read into a list.
@@ -66,14 +66,14 @@ fn kept_record<S: Source + Drop>(alloc: Global, source: S) -> Told {
     (answer, values.count())
 }
 
-/// The same, where the values are counted.
+/// The same with counted values.
 fn counted_record<S: Source + Drop>(alloc: Global, source: S) -> Told {
     let mut values = ValueCount::new();
     let answer = record_of(alloc, source, 99, &mut values);
     (answer, values.count())
 }
 
-/// What a record is, where it is the same both ways, from a reader that gives so many bytes at a time; from a slice for 0.
+/// The result of a record, if both ways give the same, from a reader that gives `most` bytes at a time; from a slice for 0.
 fn record_told(alloc: Global, rest: &[u8], most: usize) -> Option<Told> {
     let (kept, counted) = if most == 0 {
         (
@@ -89,7 +89,7 @@ fn record_told(alloc: Global, rest: &[u8], most: usize) -> Option<Told> {
     if kept == counted { Some(kept) } else { None }
 }
 
-/// Whether each front of a record is the same both ways, however few bytes come at a time.
+/// Whether each prefix of a record gives the same both ways, however few bytes come at a time.
 fn same_where_cut(alloc: Global, bytes: &[u8]) -> bool {
     let mut same = true;
     for end in 0..bytes.len() {
@@ -101,7 +101,7 @@ fn same_where_cut(alloc: Global, bytes: &[u8]) -> bool {
     same
 }
 
-/// Blocks with a record: the code, the bit behind it, and how many values it has.
+/// Blocks with a record: the code, the bit after it, and how many values it has.
 static ROWS: [(&[u8], (u64, u64), u64); 4] = [
     (&FIELDS, (1, 421), 40),
     (&CHARACTERS, (1, 406), 45),
@@ -125,7 +125,7 @@ fn cut_records_are_counted_as_they_are_kept(rt: HostRuntime) -> Result<(), Fail>
     Ok(())
 }
 
-/// Reads a record that is not abbreviated: its code, and the bit behind it.
+/// Reads a record that is not abbreviated: its code, and the bit after it.
 fn plain_record<V: ValueTaker>(
     bytes: &[u8],
     room: u64,
@@ -140,14 +140,14 @@ fn plain_record<V: ValueTaker>(
     Ok((code, reader.position()))
 }
 
-/// A plain record with room for so many values that is kept: the answer, and whether the values are 1, 40 and 2.
+/// A plain record with room for `room` values that are kept: the result, and whether the values are 1, 40 and 2.
 fn plain_values(alloc: Global, bytes: &[u8], room: u64) -> (Result<(u64, u64), Fault>, bool) {
     let mut values: Vec<u64> = Vec::new(alloc);
     let answer = plain_record(bytes, room, &mut values);
     (answer, values.as_slice() == [1, 40, 2].as_slice())
 }
 
-/// The same where the values are counted: the answer, and how many values there are.
+/// The same with counted values: the result, and how many values there are.
 fn plain_counts(bytes: &[u8], room: u64) -> (Result<(u64, u64), Fault>, u64) {
     let mut values = ValueCount::new();
     let answer = plain_record(bytes, room, &mut values);

@@ -13,7 +13,7 @@ use bit_grammar::{Kind, Op, Place, Reason, Shapes};
 use smallvec::SmallVec;
 use std::alloc::Global;
 
-/// Reads the flag of an operand, and the encoding where there is one.
+/// Reads the flag of an operand, and its encoding if it has one.
 #[tactic(auto, unfolding(bit_grammar::specs::Definition::kind))]
 fn read_kind<S: Source>(reader: &mut BitReader<S>) -> Result<Kind, Fault>
     ensures { Takes kind reader.old result reader.new }
@@ -62,7 +62,7 @@ fn read_value<S: Source>(reader: &mut BitReader<S>, kind: Kind) -> Result<Op, Fa
     }
 }
 
-/// What is asked of the place of an operand where it stands in a definition.
+/// Whether the shape of an operand passes where it is defined: if shapes are judged at their use, it always does.
 fn passes(shapes: Shapes, fits: bool) -> bool
     ensures { result ≡ passes shapes fits }
 {
@@ -72,7 +72,7 @@ fn passes(shapes: Shapes, fits: bool) -> bool
     }
 }
 
-/// Reads an operand at a place with so many operands after it.
+/// Reads an operand at a place, with `after` operands after it.
 #[tactic(auto, unfolding(bit_grammar::specs::Definition::operand))]
 fn read_operand<S: Source>(
     reader: &mut BitReader<S>,
@@ -90,7 +90,7 @@ fn read_operand<S: Source>(
     read_value(reader, kind)
 }
 
-/// Reads so many operands.
+/// Reads `count` operands.
 fn read_operands<S: Source>(
     alloc: Global,
     reader: &mut BitReader<S>,
@@ -132,10 +132,9 @@ fn read_definition<S: Source>(
     Ok(Abbrev::from_definable(ops))
 }
 
-/// Reads a definition after its abbreviation id. Where shapes are judged at their use, one whose operands are in no lawful
-/// order is read too.
+/// Reads a definition after its abbreviation id. If shapes are judged at their use, operands in any order are read.
 ///
-/// After any fault the reader has failed, and stands where the call began. Up to eight operands take no memory.
+/// After any fault the reader has failed, at the position where the call began. Up to eight operands need no allocation.
 pub fn read_define<S: Source>(
     alloc: Global,
     reader: &mut BitReader<S>,

@@ -9,7 +9,7 @@ use std::alloc::{AllocError, Global};
 use std::marker::Model;
 use std::rc::Rc;
 
-/// A table that is made. The blocks that are entered under it share it.
+/// A finished table. The blocks that are entered under it share it.
 #[derive(Drop)]
 pub struct SharedInfo {
     table: Option<Rc<InfoTable>>,
@@ -28,14 +28,14 @@ impl Model for SharedInfo {
 }
 
 impl SharedInfo {
-    /// A table in which nothing is defined. It takes no memory.
+    /// A table without definitions. It allocates nothing.
     pub fn new() -> SharedInfo
         ensures { result ≡ [] }
     {
         SharedInfo { table: None }
     }
 
-    /// Shares a table that is made. Where memory is refused it is dropped.
+    /// Shares a finished table. If an allocation fails, the table is dropped.
     pub fn share(alloc: Global, table: InfoTable) -> Result<SharedInfo, AllocError>
         ensures { IfOk result (λ shared. shared ≡ table) }
     {
@@ -43,8 +43,8 @@ impl SharedInfo {
         Ok(SharedInfo { table: Some(table) })
     }
 
-    /// The definitions that are in force where a block with this id begins. It is refused only where the table has some for
-    /// the id and is shared as often as can be counted.
+    /// The definitions in force at the beginning of a block with this id. Fails only if the table has some for the id and its
+    /// reference count is exhausted.
     pub fn enter(&self, alloc: Global, id: u32) -> Result<InForce, AllocError>
         ensures ok { IfOk result (λ definitions. definitions ≡ definitions_at self.now id) }
     {
@@ -62,7 +62,7 @@ impl SharedInfo {
     }
 }
 
-/// The definitions in force in a block: first those that the table had for it, then the block's own.
+/// The definitions in force in a block: first those of the table, then the block's own.
 #[derive(Drop)]
 pub struct InForce {
     /// The table, and the id of the block.
@@ -82,7 +82,7 @@ impl Model for InForce {
         [] ++ inside.own.items };
 }
 
-/// The definitions in force in a block, as the two lists that they stand in.
+/// The definitions in force in a block, as two lists: the table's and the block's own.
 #[derive(Drop)]
 pub struct Definitions<'a> {
     shared: &'a [Abbrev],
@@ -112,7 +112,7 @@ impl<'a> Definitions<'a> {
     }
 }
 
-/// Definitions in force, of which one is looked up by its index.
+/// Definitions in force, which are looked up by index.
 pub trait Lookup {
     ghost use Rattle.std.specs.Prelude.{List};
     ghost use Rattle.bit_grammar.specs.declared.op.Op.{Op};
@@ -134,7 +134,7 @@ impl<'a> Lookup for Definitions<'a> {
     }
 }
 
-/// Each look-up searches the table. For many, `InForce::all` searches it once.
+/// Each look-up searches the table. For many look-ups, `InForce::all` searches it once.
 impl Lookup for InForce {
     ghost listed = { λ definitions. definitions };
 
@@ -145,7 +145,7 @@ impl Lookup for InForce {
 }
 
 impl InForce {
-    /// None. It takes no memory.
+    /// No definitions. It allocates nothing.
     pub fn new(alloc: Global) -> InForce
         ensures { result ≡ [] }
     {
@@ -155,7 +155,7 @@ impl InForce {
         }
     }
 
-    /// Adds a definition of the block. Where memory is refused it is dropped.
+    /// Adds a definition of the block. If an allocation fails, the definition is dropped.
     pub fn define(&mut self, abbrev: Abbrev) -> Result<(), AllocError>
         ensures ok { OnOk result (self.new ≡ self.old ++ «abbrev» ∷ []) }
         ensures err { OnErr result (self.new ≡ self.old) }
@@ -164,7 +164,7 @@ impl InForce {
         Ok(())
     }
 
-    /// All of them, to look up many.
+    /// All of them, for many look-ups.
     #[inline]
     pub fn all(&self) -> Definitions<'_>
         ensures { result ≡ self.now }
@@ -187,7 +187,7 @@ impl InForce {
         self.all().get(index)
     }
 
-    /// The definition that the block added last, or the last one of the table.
+    /// The last definition that the block added, or else the last one of the table.
     pub fn last(&self) -> Option<&Abbrev>
         ensures { option_copied result ≡ slice_get self.now (length self.now - 1) }
     {

@@ -9,8 +9,8 @@ use std::alloc::{AllocError, Global};
 use std::collections::BTreeMap;
 use std::marker::Model;
 
-/// The definitions that BLOCKINFO blocks make, for each block id in the order in which they are made. The ids are kept in order,
-/// so that no choice of ids makes a look-up slow.
+/// The definitions of BLOCKINFO blocks, for each block id in the order in which they are made. The ids are kept sorted, so that no
+/// choice of ids makes a look-up slow.
 #[derive(Drop)]
 pub struct InfoTable {
     alloc: Global,
@@ -29,7 +29,7 @@ impl Model for InfoTable {
 }
 
 impl InfoTable {
-    /// A table in which nothing is defined.
+    /// A table without definitions.
     pub fn new(alloc: Global) -> InfoTable
         ensures { (id : ℕ) → definitions_at result id ≡ no_definitions id }
     {
@@ -39,7 +39,7 @@ impl InfoTable {
         }
     }
 
-    /// The definitions for a block id; none where nothing was defined.
+    /// The definitions for a block id, possibly none.
     pub fn for_block(&self, id: u32) -> &[Abbrev]
         ensures { result.now ≡ definitions_at self.now id }
     {
@@ -49,7 +49,7 @@ impl InfoTable {
         }
     }
 
-    /// Adds a definition to those for a block id. Where memory is refused it is dropped.
+    /// Adds a definition to those for a block id. If an allocation fails, it is dropped.
     pub fn define(&mut self, id: u32, abbrev: Abbrev) -> Result<(), AllocError>
         ensures ok { OnOk result ((other : ℕ)
             → definitions_at self.new other ≡ defined_at id «abbrev» (definitions_at self.old)

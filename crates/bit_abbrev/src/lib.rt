@@ -1,15 +1,14 @@
-//! Abbreviations, abbreviated records, and the table of the definitions that BLOCKINFO blocks make. Begin with `read_define`,
-//! which reads a definition, and `read_abbreviated`, which reads a record by it.
+//! Abbreviations, abbreviated records, and the table of the definitions that BLOCKINFO blocks make. Begin with `read_define`, which
+//! reads a definition, and `read_abbreviated`, which reads a record by it.
 //!
 //! There is one function for one rule of `bit_grammar`, with the parts in the same order, proved by unfolding the rule. The rules
-//! of a record are written once, over the trait `Bits`: a `BitReader` judges and reports faults, and `Ahead` reports only a miss
-//! (`NotBuffered`), which says nothing of the input. `Runs` adds what is read by runs from buffered bits: fields of one width,
-//! VBRs, bytes. `read_record` and `read_plain` are the records with and without a definition; `read_abbreviated` is the former on a
-//! reader, and puts the values back where it fails.
+//! of a record are written once, over the trait `Bits`: a `BitReader` judges and reports faults, and `Buffered` reports only a miss
+//! (`NotBuffered`), which means nothing for the input. `Runs` adds what is read by runs from buffered bits: fields of one width,
+//! VBRs, bytes. `read_record` and `read_plain` read records with and without a definition; `read_abbreviated` is `read_record` on a
+//! reader, and restores the values if it fails.
 //!
-//! `SharedInfo` and `InForce` give a block the definitions in force without a copy: a finished table is behind one `Rc`, and a
-//! block adds its own in a vector. An `Abbrev` knows whether its shape is lawful (`is_usable`); no record goes by one that is
-//! not.
+//! `SharedInfo` and `InForce` give a block the definitions in force without a copy: a finished table is shared by one `Rc`, and a
+//! block adds its own in a vector. An `Abbrev` knows whether its shape is lawful (`is_usable`); no record may use one that is not.
 #![tactic(auto)]
 
 mod abbrev;
@@ -26,6 +25,7 @@ mod laws;
 mod reading_tests;
 mod record;
 mod runs;
+mod tail;
 #[cfg(test)]
 mod tests;
 mod widths;

@@ -19,7 +19,7 @@ pub(super) fn in_block(alloc: Global, body: &[u8]) -> Result<Vec<u8>, AllocError
     Ok(bytes)
 }
 
-/// Reads what stands before the operands of a definition.
+/// Reads what comes before the operands of a definition.
 pub(super) fn open_block<S: Source + Drop>(reader: &mut BitReader<S>) -> Result<(), Fault> {
     reader.fixed(32)?;
     reader.fixed(32)?;
@@ -39,7 +39,7 @@ fn next_record<S: Source + Drop, V: ValueTaker>(
     by_definition(reader, definition, at, room, values)
 }
 
-/// The same behind the record's id. Where a record may not go by the definition it is not read.
+/// The same after the record's id. If no record may use the definition, it is not read.
 fn by_definition<S: Source + Drop, V: ValueTaker>(
     reader: &mut BitReader<S>,
     definition: &Abbrev,
@@ -53,7 +53,7 @@ fn by_definition<S: Source + Drop, V: ValueTaker>(
     read_abbreviated(reader, definition, at, room, values)
 }
 
-/// Reads a definition and a record by it: its code, and the bit behind it.
+/// Reads a definition and a record by it: its code, and the bit after it.
 fn one_record<S: Source + Drop, V: ValueTaker>(
     alloc: Global,
     reader: &mut BitReader<S>,
@@ -66,7 +66,7 @@ fn one_record<S: Source + Drop, V: ValueTaker>(
     Ok((code, reader.position()))
 }
 
-/// Whether a reader takes nothing more.
+/// Whether a reader has failed.
 fn has_failed<S: Source + Drop>(alloc: Global, reader: &mut BitReader<S>) -> bool {
     let definition = read_define(alloc, reader, Shapes::AtDefinition);
     definition.err() == Some(Fault::Failed) && reader.fixed(1) == Err(Fault::Failed)
@@ -87,7 +87,7 @@ pub(super) fn record_of<S: Source + Drop, V: ValueTaker>(
     (answer, answer.is_ok() || has_failed(alloc, &mut reader))
 }
 
-/// Whether a list holds 7, and then these.
+/// Whether a list contains 7, and then these.
 fn follow(values: &[u64], wanted: &[u64]) -> bool {
     match values {
         [7, rest @ ..] => rest == wanted,
@@ -95,8 +95,8 @@ fn follow(values: &[u64], wanted: &[u64]) -> bool {
     }
 }
 
-/// What a definition and a record by it answer, with a list that holds 7; and whether all is as it should be: the record adds
-/// the wanted values, and a fault adds none and stays.
+/// The result of a definition and a record by it, with a list that contains 7; and whether the list is right: the record adds the
+/// wanted values, and a fault adds none and stays.
 fn reads<S: Source + Drop>(
     alloc: Global,
     source: S,
@@ -114,7 +114,7 @@ fn reads<S: Source + Drop>(
     Ok((answer, sound))
 }
 
-/// Whether the same answer comes where the values are counted, with as many of them.
+/// Whether counted values give the same result, and the right count.
 fn counts(
     alloc: Global,
     bytes: &[u8],
@@ -127,7 +127,7 @@ fn counts(
     stays && counted == answer && values.count() == wanted.len() as u64
 }
 
-/// What a block with a definition and a record answers, and whether all is as it should be, also where values are counted.
+/// The result of a block with a definition and a record, and whether all is right, also with counted values.
 fn reads_block(
     alloc: Global,
     body: &[u8],
@@ -162,7 +162,7 @@ const TEN_OPERANDS: [u8; 32] = [
 
 const TEN_VALUES: [u64; 9] = [1, 0xDEAD_BEEF, 95, 300, 2, 0, 1 << 33, 7, 0];
 
-/// Blocks with a definition and a record by it: the code, the bit behind the record, and its values.
+/// Blocks with a definition and a record by it: the code, the bit after the record, and its values.
 static RECORDS: [(&[u8], (u64, u64), &[u64]); 11] = [
     (&CHARACTERS, (1, 148), &[97, 95, 90]),
     (&[0x1A, 0x03, 0x0C, 0x09, 0, 0, 0, 0], (1, 130), &[]),
@@ -207,7 +207,7 @@ fn records(rt: HostRuntime) -> Result<(), Fail> {
     Ok(())
 }
 
-/// Blocks that are refused, with room for so many values: why, and at which bit.
+/// Blocks that are refused, the room for values, the reason and the bit.
 static REFUSED: [(&[u8], u64, Reason, u64); 14] = [
     (&[0x02, 0, 0, 0], 9, Reason::AbbrevEmpty, 99),
     (&[0x0A, 0, 0, 0], 9, Reason::AbbrevEncoding, 105),
@@ -262,20 +262,20 @@ fn refusals(rt: HostRuntime) -> Result<(), Fail> {
     Ok(())
 }
 
-/// Definitions: the bit behind them, how many operands they have, and whether a record may go by them.
+/// Definitions: the bit after them, how many operands they have, and whether a record may use them.
 static DEFINED_AT_USE: [(&[u8], (u64, usize, bool)); 5] = [
-    // an array that is the second of four
+    // an array that is the second of four operands
     (&[0x22, 0x03, 0x4C, 0x8E, 0x1C], (135, 4, false)),
     // a literal as an element
     (&[0x1A, 0x03, 0xAC, 0x00], (126, 3, false)),
     // a blob before the end
     (&[0x1A, 0x03, 0x54, 0x0E], (126, 3, false)),
-    // an array that stands alone
+    // an array without other operands
     (&[0x0A, 0x06], (108, 1, false)),
     (&CHARACTERS, (121, 3, true)),
 ];
 
-/// The first definition of a block, where shapes are judged at their use.
+/// The first definition of a block, with shapes judged at their use.
 fn defined_at_use(alloc: Global, bytes: &[u8]) -> Result<(u64, usize, bool), Fault> {
     match BitReader::start(SliceSource::new(bytes), Limits::usual()) {
         Ok((mut reader, _)) => {
@@ -303,7 +303,7 @@ fn shapes_at_use(rt: HostRuntime) -> Result<(), Fail> {
     Ok(())
 }
 
-/// Two records by a definition, and one more after a failure: the codes and the position behind the records, and the fault.
+/// Two records by a definition, and one more after a failure: the codes and the position after the records, and the fault.
 fn three_records<S: Source + Drop>(
     reader: &mut BitReader<S>,
     definition: &Abbrev,
@@ -317,7 +317,7 @@ fn three_records<S: Source + Drop>(
     Ok(([first, second, after], third.err()))
 }
 
-/// What a definition is, the position behind it, and what records by it are.
+/// The results of a definition, the position after it, and records by it.
 fn defined_records<S: Source + Drop>(
     alloc: Global,
     reader: &mut BitReader<S>,

@@ -1,4 +1,4 @@
-//! Reading records, wherever their bits come from.
+//! Reading records from any source of bits.
 
 ghost use Rattle.std.specs.Prelude.{◌≡◌, ◌≢◌, ◌+◌, ◌-◌, ◌≤◌, ℕ, List, [], ◌∷◌, ◌++◌, Ok, Err, IfErr, IfOk, OnErr, OnOk, length, true, nat_le, false};
 ghost use Rattle.std.specs.List.{AllByRecursion};
@@ -12,53 +12,16 @@ ghost use Rattle.bit_fields.specs.declared.fault.Fault.{Fault};
 ghost use Rattle.bit_fields.specs.declared.fault.Fault.TheVariants.{Memory};
 ghost use Rattle.bit_fields.specs.Reader.{Takes, IsOnly, failed_reader};
 ghost use Rattle.bit_abbrev.specs.Bits.{Answers};
-ghost use Rattle.bit_abbrev.specs.Operands.{OthersInOrder};
+ghost use Rattle.bit_abbrev.specs.Operands.{OthersInOrder, others_of};
 ghost use Rattle.bit_abbrev.specs.Values.{AddsAll, AddsFew, AddsFirst, AddsWithin, Gains, Keeps, PassesFirst, Recorded};
 
 use crate::abbrev::Abbrev;
 use crate::bits::Bits;
 use crate::runs::Runs;
-use bit_fields::{BitReader, Fault, Source, ValueTaker};
+use bit_fields::{BitReader, ChunkWidth, Fault, FieldWidth, Source, ValueTaker};
 use bit_grammar::{Op, Reason};
 
-/// Whether the last operand but one is an array.
-#[inline(always)]
-fn has_array(ops: &[Op]) -> bool
-    ensures yes { result ≡ true → (2 ≤ length ops.now)
-        × (op_at ops.now (length ops.now - 2) ≡ Array) }
-    ensures no { result ≡ false → 2 ≤ length ops.now → op_at ops.now (length ops.now - 2) ≢ Array }
-{
-    ops.len() >= 2 && matches!(ops[ops.len() - 2], Op::Array)
-}
-
-/// Whether the last operand is a blob.
-#[inline(always)]
-fn has_blob(ops: &[Op]) -> bool
-    ensures yes { result ≡ true → (1 ≤ length ops.now)
-        × (op_at ops.now (length ops.now - 1) ≡ Blob) }
-    ensures no { result ≡ false → 1 ≤ length ops.now → op_at ops.now (length ops.now - 1) ≢ Blob }
-{
-    !ops.is_empty() && matches!(ops[ops.len() - 1], Op::Blob)
-}
-
-/// How many operands stand for one value each: all before an array or a blob.
-#[inline(always)]
-fn singles(ops: &[Op]) -> usize
-    requires { OthersInOrder ops.now }
-    ensures is { result ≡ singles ops.now }
-    ensures within { result ≤ length ops.now }
-{
-    if has_array(ops) {
-        return ops.len() - 2;
-    }
-    if has_blob(ops) {
-        ops.len() - 1
-    } else {
-        ops.len()
-    }
-}
-
-/// Hands a value on.
+/// Gives a value to the value sink.
 #[inline(always)]
 fn keep<B: Bits, V: ValueTaker>(bits: &mut B, values: &mut V, value: u64) -> Result<(), B::Miss>
     ensures ok { OnOk result ((B.as_reader bits.new ≡ B.as_reader bits.old)
@@ -75,7 +38,7 @@ fn keep<B: Bits, V: ValueTaker>(bits: &mut B, values: &mut V, value: u64) -> Res
     }
 }
 
-/// Reads a number of values, of which there is room for so many.
+/// Reads a number of values, at most `room`.
 #[inline(always)]
 #[tactic(auto, unfolding(bit_grammar::specs::Record::value_count))]
 fn read_count<B: Bits>(bits: &mut B, room: u64) -> Result<u64, B::Miss>
@@ -84,12 +47,12 @@ fn read_count<B: Bits>(bits: &mut B, room: u64) -> Result<u64, B::Miss>
     ensures few { IfOk result (λ count. count ≤ room) }
 {
     let first = bits.position();
-    let count = bits.vbr(6)?;
+    let count = bits.vbr(ChunkWidth { bits: 6 })?;
     bits.judge(count <= room, Reason::TooManyValues, first)?;
     Ok(count)
 }
 
-/// Reads the field of an operand that stands for one value. Into the calls for the usual widths the width is written.
+/// Reads the field of an operand that gives one value. The usual widths are constants in the calls.
 #[inline(always)]
 #[tactic(auto, unfolding(bit_grammar::specs::Record::scalar, bit_grammar::specs::Fields::vbr))]
 pub(crate) fn read_scalar<B: Bits>(bits: &mut B, op: Op) -> Result<u64, B::Miss>
@@ -103,14 +66,14 @@ pub(crate) fn read_scalar<B: Bits>(bits: &mut B, op: Op) -> Result<u64, B::Miss>
         Op::Literal(value) => Ok(value),
         Op::Fixed(0) => Ok(0),
         Op::Vbr(0) | Op::Array | Op::Blob => Ok(0),
-        Op::Fixed(width) => bits.fixed(u32::from(width)),
-        Op::Vbr(6) => bits.vbr(6),
-        Op::Vbr(width) => bits.vbr(u32::from(width)),
+        Op::Fixed(width) => bits.fixed(FieldWidth::of(width)),
+        Op::Vbr(6) => bits.vbr(ChunkWidth { bits: 6 }),
+        Op::Vbr(width) => bits.vbr(ChunkWidth::of(width)),
         Op::Char6 => bits.char6(),
     }
 }
 
-/// Reads such a field where nobody looks at its value.
+/// Reads such a field without using its value.
 #[inline(always)]
 #[tactic(auto, unfolding(bit_grammar::specs::Record::scalar, bit_grammar::specs::Fields::vbr))]
 fn skip_scalar<B: Bits>(bits: &mut B, op: Op) -> Result<u64, B::Miss>
@@ -121,12 +84,12 @@ fn skip_scalar<B: Bits>(bits: &mut B, op: Op) -> Result<u64, B::Miss>
 {
     match op {
         Op::Vbr(0) => Ok(0),
-        Op::Vbr(width) => bits.pass_vbr(u32::from(width)),
+        Op::Vbr(width) => bits.pass_vbr(ChunkWidth::of(width)),
         op => read_scalar(bits, op),
     }
 }
 
-/// Adds so many zeros, which take no bits, at once from where on they can be taken so.
+/// Adds `count` zeros, which take no bits, in one call once the value sink accepts it.
 pub(crate) fn read_zeros<B: Bits, V: ValueTaker>(
     bits: &mut B,
     count: u64,
@@ -146,7 +109,7 @@ pub(crate) fn read_zeros<B: Bits, V: ValueTaker>(
     Ok(())
 }
 
-/// Reads so many fields of an operand that have a width: runs of them, and one by itself where a run ends.
+/// Reads `count` fields of an operand that has a width: in runs, with a single field after each run.
 #[inline(always)]
 fn read_runs<U, B: Runs, V: ValueTaker>(
     bits: &mut B,
@@ -173,7 +136,7 @@ fn read_runs<U, B: Runs, V: ValueTaker>(
     }
 }
 
-/// Reads so many fields of an operand, which is the element of an array.
+/// Reads `count` elements of an array.
 #[inline(always)]
 fn read_elements<U, B: Runs, V: ValueTaker>(
     bits: &mut B,
@@ -195,7 +158,7 @@ fn read_elements<U, B: Runs, V: ValueTaker>(
     }
 }
 
-/// Reads an array of fields of an operand, with room for so many values.
+/// Reads an array of fields of an operand, at most `room` of them.
 #[inline(always)]
 fn read_array<U, B: Runs, V: ValueTaker>(
     bits: &mut B,
@@ -214,7 +177,7 @@ fn read_array<U, B: Runs, V: ValueTaker>(
     read_elements::<U, B, V>(bits, count, element, values)
 }
 
-/// Reads a blob, with room for so many values.
+/// Reads a blob of at most `room` bytes.
 #[inline(always)]
 fn read_blob<U, B: Runs, V: ValueTaker>(
     bits: &mut B,
@@ -232,7 +195,7 @@ fn read_blob<U, B: Runs, V: ValueTaker>(
     bits.pad()
 }
 
-/// Skips the fields of operands that stand for one value each.
+/// Skips the fields of operands that give one value each.
 #[inline(always)]
 fn skip_singles<B: Bits>(bits: &mut B, ops: &[Op]) -> Result<(), B::Miss>
     requires single { singles ops.now ≡ length ops.now }
@@ -247,7 +210,7 @@ fn skip_singles<B: Bits>(bits: &mut B, ops: &[Op]) -> Result<(), B::Miss>
     Ok(())
 }
 
-/// Reads the values of operands that stand for one value each, or skips them where nobody looks at them.
+/// Reads the values of operands that give one value each, or skips them if the value sink does not use them.
 #[inline(always)]
 fn read_singles<U, B: Bits, V: ValueTaker>(
     bits: &mut B,
@@ -272,7 +235,7 @@ fn read_singles<U, B: Bits, V: ValueTaker>(
     Ok(())
 }
 
-/// Reads the values of operands, with room for so many. Of the operands so many stand for one value each.
+/// Reads the values of operands, at most `room`. The first `count` operands give one value each.
 #[inline(always)]
 fn read_values<U, B: Runs, V: ValueTaker>(
     bits: &mut B,
@@ -295,7 +258,7 @@ fn read_values<U, B: Runs, V: ValueTaker>(
     read_singles::<U, B, V>(bits, &ops[..count], values)?;
     let left = room - count as u64;
     let last = ops.len() - count;
-    // Tested first, a blob is written into the caller, and what is buffered stays in registers.
+    // Tested first, so that the blob is inlined and the buffered bits stay in registers.
     if last == 1 {
         return read_blob::<U, B, V>(bits, left, values);
     }
@@ -305,21 +268,20 @@ fn read_values<U, B: Runs, V: ValueTaker>(
     read_array::<U, B, V>(bits, left, ops[count + 1], values)
 }
 
-/// Reads a record by its operands, after its abbreviation id, which began at a bit: hands its values on and answers its code.
-/// Where it fails, some of its values may be added.
-///
-/// `U` is whom it is compiled for. Each user has a copy of its own, which the compiler writes into the user's loop, where what
-/// is buffered then stays in registers.
+/// Reads a record by its operands, of which `count` behind the first one stand for one value each.
 #[inline(always)]
-pub fn read_record<U, B: Runs, V: ValueTaker>(
+fn read_by_ops<U, B: Runs, V: ValueTaker>(
     bits: &mut B,
     ops: &[Op],
+    count: usize,
     first: u64,
     room: u64,
     values: &mut V,
 ) -> Result<u64, B::Miss>
     requires lawful { Lawful ops.now }
     requires live { (B.as_reader bits.old).live ≡ true }
+    requires singles { count ≡ singles (others_of ops.now) }
+    requires within { count ≤ length (others_of ops.now) }
     ensures adds { Answers B.faults (λ r. Gains V.took values.old values.new
         (AddsWithin (abbreviated first room ops.now) room (B.as_reader bits.old) r
         (B.as_reader bits.new))) result }
@@ -328,16 +290,40 @@ pub fn read_record<U, B: Runs, V: ValueTaker>(
     let [code_op, others @ ..] = ops else {
         unreachable!();
     };
-    let count = singles(others);
     bits.judge(count as u64 <= room, Reason::TooManyValues, first)?;
     let code = read_scalar(bits, *code_op)?;
     read_values::<U, B, V>(bits, room, others, count, values)?;
     Ok(code)
 }
 
-/// Reads a record that is not abbreviated, after its abbreviation id: hands its values on and answers its code. Where it fails,
-/// some of its values may be added. More values than there is room for are `TooManyValues` at the first bit of their number. `U`
-/// is whom it is compiled for. Source: "UNABBREV_RECORD Encoding".
+/// Reads a record by its definition, after its abbreviation id, which began at a bit: hands its values on and answers its code.
+/// Where it fails, some of its values may be added.
+///
+/// `U` is whom it is compiled for. Each user has a copy of its own, which the compiler writes into the user's loop, where what
+/// is buffered then stays in registers.
+#[inline(always)]
+pub fn read_record<U, B: Runs, V: ValueTaker>(
+    bits: &mut B,
+    abbrev: &Abbrev,
+    first: u64,
+    room: u64,
+    values: &mut V,
+) -> Result<u64, B::Miss>
+    requires shape { has_shape «abbrev».now ≡ true }
+    requires live { (B.as_reader bits.old).live ≡ true }
+    ensures adds { Answers B.faults (λ r. Gains V.took values.old values.new
+        (AddsWithin (abbreviated first room «abbrev».now) room (B.as_reader bits.old) r
+        (B.as_reader bits.new))) result }
+    ensures keeps { Keeps V.took values.old values.new }
+{
+    let ops = abbrev.lawful_ops();
+    let count = ops.len() - 1 - abbrev.tail().len();
+    read_by_ops::<U, B, V>(bits, ops, count, first, room, values)
+}
+
+/// Reads a record that is not abbreviated, after its abbreviation id: gives its values to the value sink and returns its code. If
+/// it fails, some of its values may have been added. More than `room` values are `TooManyValues` at the first bit of their number.
+/// For `U` see `read_record`. Source: "UNABBREV_RECORD Encoding".
 #[inline(always)]
 pub fn read_plain<U, B: Runs, V: ValueTaker>(
     bits: &mut B,
@@ -349,18 +335,18 @@ pub fn read_plain<U, B: Runs, V: ValueTaker>(
         result }
     ensures keeps { Keeps V.took values.old values.new }
 {
-    let code = bits.vbr(6)?;
+    let code = bits.vbr(ChunkWidth { bits: 6 })?;
     let count = read_count(bits, room)?;
     read_runs::<U, B, V>(bits, count, Op::Vbr(6), values)?;
     Ok(code)
 }
 
-/// Reads a record by its definition, after its abbreviation id, which began at a bit: hands its values on and
-/// answers its code. The operands of the definition are in a lawful order.
+/// Reads a record by its definition, after its abbreviation id, which began at `first`: gives its values to the value sink and
+/// returns its code. The operands of the definition are in a lawful order.
 ///
-/// More values than there is room for are `TooManyValues`: at that bit where the single operands alone are more, and else
-/// at the first bit of the length of the array or the blob. After any fault the values are those that there were, and
-/// the reader has failed and stands where the call began.
+/// More than `room` values are `TooManyValues`: at `first` if the single operands alone are more, and else at the first bit of the
+/// length of the array or the blob. After any fault the values are as they were before, and the reader has failed, at the position
+/// where the call began.
 pub fn read_abbreviated<S: Source, V: ValueTaker>(
     reader: &mut BitReader<S>,
     abbrev: &Abbrev,
@@ -384,7 +370,7 @@ pub fn read_abbreviated<S: Source, V: ValueTaker>(
     }
     let start = reader.position();
     let before = values.count();
-    match read_record::<V, BitReader<S>, V>(reader, abbrev.lawful_ops(), first, room, values) {
+    match read_record::<V, BitReader<S>, V>(reader, abbrev, first, room, values) {
         Ok(code) => Ok(code),
         Err(fault) => {
             values.truncate(before);

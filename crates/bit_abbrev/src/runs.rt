@@ -1,26 +1,28 @@
-//! Runs: fields of one operand, one after the other, which are read as far as they are buffered.
+//! Runs: fields of one operand, one after another, as far as they are buffered.
 
 ghost use Rattle.std.specs.Prelude.{◌≡◌, ◌<◌, ◌≤◌, ◌^◌, List, ℕ, ◌++◌, Ok, IfOk, OnOk, OnErr, length, true, false};
 ghost use Rattle.bit_grammar.specs.Grammar.{gives};
 ghost use Rattle.bit_grammar.specs.Fields.{fixed, vbr};
 ghost use Rattle.bit_grammar.specs.Record.{scalar};
 ghost use Rattle.bit_grammar.specs.FormatDefinition.{IsElement, HasLawfulValue};
-ghost use Rattle.bit_fields.specs.Ahead.{reader_at};
+ghost use Rattle.bit_fields.specs.Buffered.{reader_at};
 ghost use Rattle.bit_fields.specs.Reader.{Takes};
 ghost use Rattle.bit_abbrev.specs.Bits.{Answers};
 ghost use Rattle.bit_abbrev.specs.Values.{AddsAll, AddsSome, Gains, Keeps, Lengthens, PassesValues};
 
 use crate::bits::{Bits, NotBuffered};
 use crate::record::{read_scalar, read_zeros};
-use bit_fields::{Ahead, BitReader, Fault, NotTaken, Source, ValueTaker};
+use bit_fields::{
+    BitReader, Buffered, ChunkWidth, Fault, FieldWidth, NotTaken, Source, ValueTaker,
+};
 use bit_grammar::Op;
 
-/// The greatest number of fields that are skipped at once.
+/// The greatest number of fields that are skipped in one call.
 const MOST_SKIPPED: u64 = u32::MAX as u64;
 
-/// What runs are read from.
+/// A source of runs.
 pub trait Runs: Bits {
-    /// Reads fields of an operand, at most `most` and as many as are buffered: how many.
+    /// Reads at most `most` fields of an operand, those that are buffered. Returns how many.
     fn some<V: ValueTaker>(
         &mut self,
         most: u64,
@@ -36,14 +38,14 @@ pub trait Runs: Bits {
         ensures live { OnOk result ((Self.as_reader self.new).live ≡ true) }
         ensures keeps { Keeps V.took values.old values.new };
 
-    /// Adds so many zeros, which take no bits. What is buffered leaves them to the reader.
+    /// Adds `count` zeros, which take no bits. Buffered bits leave this to the reader.
     fn zeros<V: ValueTaker>(&mut self, count: u64, values: &mut V) -> Result<(), Self::Miss>
         requires live { (Self.as_reader self.old).live ≡ true }
         ensures adds { Answers Self.faults (λ r. Gains V.took values.old values.new
             (AddsAll (gives 0) count (Self.as_reader self.old) r (Self.as_reader self.new))) result }
         ensures keeps { Keeps V.took values.old values.new };
 
-    /// Reads one more field behind a run, which what is buffered does not have.
+    /// Reads one more field after a run. Buffered bits never have it.
     fn one(&mut self, element: Op) -> Result<u64, Self::Miss>
         requires lawful { HasLawfulValue element }
         requires live { (Self.as_reader self.old).live ≡ true }
@@ -51,7 +53,7 @@ pub trait Runs: Bits {
             (Self.as_reader self.new)) result };
 }
 
-impl<'a> Runs for Ahead<'a> {
+impl<'a> Runs for Buffered<'a> {
     #[inline(always)]
     fn some<V: ValueTaker>(
         &mut self,
@@ -83,12 +85,12 @@ impl<S: Source> Runs for BitReader<S> {
         element: Op,
         values: &mut V,
     ) -> Result<u64, Fault> {
-        let mut ahead = Ahead::new(self.sight()?);
-        let first = ahead.position();
-        let Ok(count) = read_run(&mut ahead, most, element, values) else {
+        let mut buffered = Buffered::new(self.buffered_parts()?);
+        let first = buffered.position();
+        let Ok(count) = read_run(&mut buffered, most, element, values) else {
             return Err(self.fail(Fault::Memory));
         };
-        let after = ahead.position();
+        let after = buffered.position();
         self.catch_up(after - first)?;
         Ok(count)
     }
@@ -102,13 +104,13 @@ impl<S: Source> Runs for BitReader<S> {
     }
 }
 
-/// Reads fields of an operand, at most `most`, up to the first one that is not buffered whole: how many. Numbers in chunks of 6
-/// bits, as most are, are read in the caller.
+/// Reads at most `most` fields of an operand, up to the first one that is not completely buffered. Returns how many. VBR 6, the
+/// most frequent, is read in the caller.
 ///
-/// If a value is not taken, some before it may be added.
+/// If a value is not taken, some before it may have been added.
 #[inline(always)]
 fn read_run<V: ValueTaker>(
-    ahead: &mut Ahead<'_>,
+    buffered: &mut Buffered<'_>,
     most: u64,
     element: Op,
     values: &mut V,
@@ -116,50 +118,50 @@ fn read_run<V: ValueTaker>(
     requires element { IsElement element }
     requires lawful { HasLawfulValue element }
     ensures adds { IfOk result (λ count. Gains V.took values.old values.new
-        (AddsAll (scalar element) count (reader_at ahead.old) (Ok tt) (reader_at ahead.new))) }
+        (AddsAll (scalar element) count (reader_at buffered.old) (Ok tt) (reader_at buffered.new))) }
     ensures most { IfOk result (λ count. count ≤ most) }
-    ensures moves { OnOk result (ahead.old.position ≤ ahead.new.position) }
+    ensures moves { OnOk result (buffered.old.position ≤ buffered.new.position) }
     ensures refused { OnErr result (Gains V.took values.old values.new Lengthens) }
 {
     if let Op::Vbr(6) = element {
-        return read_fields(ahead, most, Op::Vbr(6), values);
+        return read_fields(buffered, most, Op::Vbr(6), values);
     }
-    let (count, after) = read_run_apart(ahead.copy(), most, element, values)?;
-    *ahead = after;
+    let (count, after) = read_run_apart(buffered.copy(), most, element, values)?;
+    *buffered = after;
     Ok(count)
 }
 
-/// Does so in a loop for each kind of operand, which has what is buffered for itself, in registers.
+/// The same in a loop for each kind of operand, which has the buffered bits in its own registers.
 #[inline(never)]
 fn read_run_apart<'a, V: ValueTaker>(
-    ahead: Ahead<'a>,
+    buffered: Buffered<'a>,
     most: u64,
     element: Op,
     values: &mut V,
-) -> Result<(u64, Ahead<'a>), NotTaken>
+) -> Result<(u64, Buffered<'a>), NotTaken>
     requires element { IsElement element }
     requires lawful { HasLawfulValue element }
     ensures adds { IfOk result (λ read. Gains V.took values.old values.new
-        (AddsAll (scalar element) read.0 (reader_at ahead.entry) (Ok tt) (reader_at read.1))) }
+        (AddsAll (scalar element) read.0 (reader_at buffered.entry) (Ok tt) (reader_at read.1))) }
     ensures most { IfOk result (λ read. read.0 ≤ most) }
-    ensures moves { IfOk result (λ read. ahead.entry.position ≤ read.1.position) }
+    ensures moves { IfOk result (λ read. buffered.entry.position ≤ read.1.position) }
     ensures refused { OnErr result (Gains V.took values.old values.new Lengthens) }
 {
-    let mut ahead = ahead;
+    let mut buffered = buffered;
     let count = match element {
-        Op::Fixed(8) => read_bytes(&mut ahead, most, values)?,
-        Op::Fixed(width) => read_fields(&mut ahead, most, Op::Fixed(width), values)?,
-        Op::Vbr(width) => read_fields(&mut ahead, most, Op::Vbr(width), values)?,
-        Op::Char6 => read_fields(&mut ahead, most, Op::Char6, values)?,
+        Op::Fixed(8) => read_bytes(&mut buffered, most, values)?,
+        Op::Fixed(width) => read_fields(&mut buffered, most, Op::Fixed(width), values)?,
+        Op::Vbr(width) => read_fields(&mut buffered, most, Op::Vbr(width), values)?,
+        Op::Char6 => read_fields(&mut buffered, most, Op::Char6, values)?,
         Op::Literal(_) | Op::Array | Op::Blob => unreachable!(),
     };
-    Ok((count, ahead))
+    Ok((count, buffered))
 }
 
-/// Reads such fields in one loop, or counts them where nobody looks at their values.
+/// Reads such fields in one loop, or counts them if the value sink does not use their values.
 #[inline(always)]
 fn read_fields<V: ValueTaker>(
-    ahead: &mut Ahead<'_>,
+    buffered: &mut Buffered<'_>,
     most: u64,
     element: Op,
     values: &mut V,
@@ -167,35 +169,35 @@ fn read_fields<V: ValueTaker>(
     requires element { IsElement element }
     requires lawful { HasLawfulValue element }
     ensures adds { IfOk result (λ count. Gains V.took values.old values.new
-        (AddsAll (scalar element) count (reader_at ahead.old) (Ok tt) (reader_at ahead.new))) }
+        (AddsAll (scalar element) count (reader_at buffered.old) (Ok tt) (reader_at buffered.new))) }
     ensures most { IfOk result (λ count. count ≤ most) }
-    ensures moves { OnOk result (ahead.old.position ≤ ahead.new.position) }
+    ensures moves { OnOk result (buffered.old.position ≤ buffered.new.position) }
     ensures refused { OnErr result (Gains V.took values.old values.new Lengthens) }
 {
     if values.pass(0) {
-        Ok(count_fields(ahead, most, element, values))
+        Ok(count_fields(buffered, most, element, values))
     } else {
-        read_each(ahead, most, element, values)
+        read_each(buffered, most, element, values)
     }
 }
 
-/// Reads such fields and hands their values on.
+/// Reads such fields and gives their values to the value sink.
 #[inline(always)]
 fn read_each<V: ValueTaker>(
-    ahead: &mut Ahead<'_>,
+    buffered: &mut Buffered<'_>,
     most: u64,
     element: Op,
     values: &mut V,
 ) -> Result<u64, NotTaken>
     requires { HasLawfulValue element }
     ensures adds { IfOk result (λ count. Gains V.took values.old values.new
-        (AddsAll (scalar element) count (reader_at ahead.old) (Ok tt) (reader_at ahead.new))) }
+        (AddsAll (scalar element) count (reader_at buffered.old) (Ok tt) (reader_at buffered.new))) }
     ensures most { IfOk result (λ count. count ≤ most) }
-    ensures moves { OnOk result (ahead.old.position ≤ ahead.new.position) }
+    ensures moves { OnOk result (buffered.old.position ≤ buffered.new.position) }
     ensures refused { OnErr result (Gains V.took values.old values.new Lengthens) }
 {
     for done in 0..most {
-        let Ok(value) = read_scalar(ahead, element) else {
+        let Ok(value) = read_scalar(buffered, element) else {
             return Ok(done);
         };
         values.take(value)?;
@@ -203,58 +205,62 @@ fn read_each<V: ValueTaker>(
     Ok(most)
 }
 
-/// Skips such fields and has them counted: how many.
+/// Skips such fields and counts them in the value sink. Returns how many.
 #[inline(always)]
-fn count_fields<V: ValueTaker>(ahead: &mut Ahead<'_>, most: u64, element: Op, values: &mut V) -> u64
+fn count_fields<V: ValueTaker>(
+    buffered: &mut Buffered<'_>,
+    most: u64,
+    element: Op,
+    values: &mut V,
+) -> u64
     requires element { IsElement element }
     requires lawful { HasLawfulValue element }
     ensures adds { Gains V.took values.old values.new
-        (AddsAll (scalar element) result (reader_at ahead.old) (Ok tt) (reader_at ahead.new)) }
+        (AddsAll (scalar element) result (reader_at buffered.old) (Ok tt) (reader_at buffered.new)) }
     ensures most { result ≤ most }
-    ensures moves { ahead.old.position ≤ ahead.new.position }
+    ensures moves { buffered.old.position ≤ buffered.new.position }
 {
-    let start = ahead.copy();
-    let count = skip_fields(ahead, most, element);
+    let start = buffered.copy();
+    let count = skip_fields(buffered, most, element);
     if values.pass(count) {
         return count;
     }
-    *ahead = start;
+    *buffered = start;
     0
 }
 
-/// Skips such fields: how many.
+/// Skips such fields. Returns how many.
 #[inline(always)]
 #[tactic(auto, unfolding(bit_grammar::specs::Record::scalar))]
-fn skip_fields(ahead: &mut Ahead<'_>, most: u64, element: Op) -> u64
+fn skip_fields(buffered: &mut Buffered<'_>, most: u64, element: Op) -> u64
     requires element { IsElement element }
     requires lawful { HasLawfulValue element }
-    ensures skips { PassesValues (scalar element) result (reader_at ahead.old)
-        (reader_at ahead.new) }
+    ensures skips { PassesValues (scalar element) result (reader_at buffered.old)
+        (reader_at buffered.new) }
     ensures most { result ≤ most }
-    ensures moves { ahead.old.position ≤ ahead.new.position }
+    ensures moves { buffered.old.position ≤ buffered.new.position }
 {
+    let few = most.min(MOST_SKIPPED);
     match element {
         Op::Fixed(0) => most,
         Op::Vbr(0) => most,
-        Op::Fixed(width) => ahead.skip_fields(most.min(MOST_SKIPPED), u32::from(width)),
-        Op::Vbr(width) => skip_numbers(ahead, most, u32::from(width)),
-        Op::Char6 => ahead.skip_fields(most.min(MOST_SKIPPED), 6),
+        Op::Fixed(width) => buffered.skip_fields(few, FieldWidth::of(width)),
+        Op::Vbr(width) => skip_numbers(buffered, most, ChunkWidth::of(width)),
+        Op::Char6 => buffered.skip_fields(few, FieldWidth { bits: 6 }),
         Op::Literal(_) | Op::Array | Op::Blob => unreachable!(),
     }
 }
 
-/// Skips numbers in chunks of n bits: how many.
+/// Skips numbers in chunks of n bits. Returns how many.
 #[inline(always)]
-fn skip_numbers(ahead: &mut Ahead<'_>, most: u64, n: u32) -> u64
-    requires some { 2 ≤ n }
-    requires few { n ≤ 32 }
-    ensures skips { PassesValues (vbr n) result (reader_at ahead.old) (reader_at ahead.new) }
+fn skip_numbers(buffered: &mut Buffered<'_>, most: u64, n: ChunkWidth) -> u64
+    ensures skips { PassesValues (vbr n.bits) result (reader_at buffered.old) (reader_at buffered.new) }
     ensures most { result ≤ most }
-    ensures moves { ahead.old.position ≤ ahead.new.position }
+    ensures moves { buffered.old.position ≤ buffered.new.position }
 {
     let mut left = most;
     while left > 0 {
-        let Some(_) = ahead.pass_vbr(n) else {
+        let Some(_) = buffered.pass_vbr(n) else {
             return most - left;
         };
         left -= 1;
@@ -262,40 +268,40 @@ fn skip_numbers(ahead: &mut Ahead<'_>, most: u64, n: u32) -> u64
     most
 }
 
-/// Reads bytes. Those behind the window are handed on as they lie in memory.
+/// Reads bytes. Those after the window go to the value sink as one slice.
 #[inline(always)]
 fn read_bytes<V: ValueTaker>(
-    ahead: &mut Ahead<'_>,
+    buffered: &mut Buffered<'_>,
     most: u64,
     values: &mut V,
 ) -> Result<u64, NotTaken>
     ensures adds { IfOk result (λ count. Gains V.took values.old values.new
-        (AddsAll (fixed 8) count (reader_at ahead.old) (Ok tt) (reader_at ahead.new))) }
+        (AddsAll (fixed 8) count (reader_at buffered.old) (Ok tt) (reader_at buffered.new))) }
     ensures most { IfOk result (λ count. count ≤ most) }
-    ensures moves { OnOk result (ahead.old.position ≤ ahead.new.position) }
+    ensures moves { OnOk result (buffered.old.position ≤ buffered.new.position) }
     ensures refused { OnErr result (Gains V.took values.old values.new Lengthens) }
 {
-    let held = read_held_bytes(ahead, most, values)?;
-    let bytes = ahead.bytes(most - held);
+    let held = read_held_bytes(buffered, most, values)?;
+    let bytes = buffered.bytes(most - held);
     values.take_bytes(bytes)?;
     Ok(held + bytes.len() as u64)
 }
 
-/// Reads bytes out of the window.
+/// Reads the bytes in the window.
 #[inline(always)]
 fn read_held_bytes<V: ValueTaker>(
-    ahead: &mut Ahead<'_>,
+    buffered: &mut Buffered<'_>,
     most: u64,
     values: &mut V,
 ) -> Result<u64, NotTaken>
     ensures adds { IfOk result (λ count. Gains V.took values.old values.new
-        (AddsAll (fixed 8) count (reader_at ahead.old) (Ok tt) (reader_at ahead.new))) }
+        (AddsAll (fixed 8) count (reader_at buffered.old) (Ok tt) (reader_at buffered.new))) }
     ensures most { IfOk result (λ count. count ≤ most) }
-    ensures moves { OnOk result (ahead.old.position ≤ ahead.new.position) }
+    ensures moves { OnOk result (buffered.old.position ≤ buffered.new.position) }
     ensures refused { OnErr result (Gains V.took values.old values.new Lengthens) }
 {
     for done in 0..most {
-        let Some(value) = ahead.held_byte() else {
+        let Some(value) = buffered.held_byte() else {
             return Ok(done);
         };
         values.take(value)?;

@@ -68,7 +68,7 @@ static LAWFUL: [&[Op]; 6] = [
     ],
 ];
 
-/// Why a list is refused and where, if it is, and whether it comes back.
+/// Why a list is refused and where, if it is, and whether it is returned.
 fn refusal(alloc: Global, ops: &[Op]) -> Result<Option<(bool, usize, Reason)>, AllocError> {
     match Abbrev::new(SmallVec::from_slice(alloc, ops)?) {
         Ok(_) => Ok(None),
@@ -123,7 +123,7 @@ fn constant(alloc: Global, value: u64) -> Result<Abbrev, Fail> {
     abbrev(alloc, &[Op::Literal(value)])
 }
 
-/// The literal with which a definition begins; 0 for no definition, and the greatest number for any other.
+/// The literal with which a definition begins; 0 for no definition, and the greatest number for one that begins otherwise.
 fn literal(definition: Option<&Abbrev>) -> u64 {
     match definition.map(Abbrev::ops) {
         None => 0,
@@ -132,7 +132,7 @@ fn literal(definition: Option<&Abbrev>) -> u64 {
     }
 }
 
-/// The literals of an id's definitions, with zeros behind them.
+/// The literals of an id's definitions, with zeros after them.
 fn literals_of(table: &InfoTable, id: u32) -> [u64; 5] {
     let definitions = table.for_block(id);
     let mut values = [0; 5];
@@ -142,7 +142,7 @@ fn literals_of(table: &InfoTable, id: u32) -> [u64; 5] {
     values
 }
 
-/// Defines a literal. Where memory is refused the others stay.
+/// Defines a literal. If an allocation fails, the others stay.
 fn define(
     rt: &impl Abort,
     alloc: Global,
@@ -194,7 +194,7 @@ fn the_table_keeps_the_order_of_each_id(rt: HostRuntime) -> Result<(), Fail> {
     Ok(())
 }
 
-/// The literals of the definitions in force with zeros behind them, and that of the last one.
+/// The literals of the definitions in force with zeros after them, and that of the last one.
 fn in_force(definitions: &InForce) -> ([u64; 9], u64) {
     let mut values = [0; 9];
     for (index, value) in values.iter_mut().enumerate() {
@@ -238,7 +238,7 @@ fn begun(alloc: Global, shared: &SharedInfo, id: u32, values: &[u64]) -> Result<
     Ok(definitions)
 }
 
-/// Blocks that are open at the same time: their ids, and what each adds.
+/// Blocks that are open at the same time: their ids, and the literals that each adds.
 static OPEN: [(u32, &[u64]); 3] = [(8, &[3]), (8, &[]), (9, &[])];
 
 fn all_begun(alloc: Global, shared: &SharedInfo) -> Result<Vec<InForce>, Fail> {
@@ -249,14 +249,14 @@ fn all_begun(alloc: Global, shared: &SharedInfo) -> Result<Vec<InForce>, Fail> {
     Ok(blocks)
 }
 
-/// The blocks, with another table put in the place of theirs.
+/// The open blocks, after another table has replaced theirs.
 fn open_blocks(alloc: Global, shared: &mut SharedInfo) -> Result<Vec<InForce>, Fail> {
     let blocks = all_begun(alloc, shared)?;
     *shared = shared_of(alloc, 9, &[4])?;
     Ok(blocks)
 }
 
-/// What is in force where a block begins.
+/// The definitions in force where a block begins.
 fn in_force_at(alloc: Global, shared: &SharedInfo, id: u32) -> Result<([u64; 9], u64), Fail> {
     let definitions = shared.enter(alloc, id)?;
     Ok(in_force(&definitions))
@@ -270,7 +270,7 @@ fn in_force_at_two(alloc: Global, shared: &SharedInfo) -> Result<[([u64; 9], u64
     ])
 }
 
-/// What is in force in three blocks.
+/// The definitions in force in three blocks.
 fn in_three(blocks: &[InForce]) -> Option<[([u64; 9], u64); 3]> {
     match blocks {
         [outer, inner, other] => Some([in_force(outer), in_force(inner), in_force(other)]),
@@ -278,8 +278,8 @@ fn in_three(blocks: &[InForce]) -> Option<[([u64; 9], u64); 3]> {
     }
 }
 
-/// What is in force in blocks whose table another one replaced, after one more definition in the outer one; and in blocks that
-/// are entered then.
+/// The definitions in force in blocks whose table was replaced, after one more definition in the outer one; and in blocks that are
+/// entered then.
 fn in_force_after(
     alloc: Global,
 ) -> Result<(Option<[([u64; 9], u64); 3]>, [([u64; 9], u64); 2]), Fail> {
@@ -318,7 +318,7 @@ fn nothing_is_in_force_at_first(rt: HostRuntime) -> Result<(), Fail> {
     Ok(())
 }
 
-/// Adds a definition to a block. Where memory is refused the others stay.
+/// Adds a definition to a block. If an allocation fails, the others stay.
 fn add_or_keep(
     rt: &impl Abort,
     alloc: Global,

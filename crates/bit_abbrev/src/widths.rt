@@ -3,7 +3,7 @@
 ghost use Rattle.std.specs.Prelude.{◌≡◌};
 ghost use Rattle.bit_grammar.specs.Definition.{fixed_lawful, vbr_lawful};
 
-/// Whether a fixed field may have so many bits.
+/// Whether a Fixed may have this many bits.
 #[inline]
 pub(crate) fn is_fixed_width(width: u64) -> bool
     ensures { result ≡ fixed_lawful width }
@@ -11,7 +11,7 @@ pub(crate) fn is_fixed_width(width: u64) -> bool
     width <= 32
 }
 
-/// Whether the chunks of a VBR may have so many bits.
+/// Whether the chunks of a VBR may have this many bits.
 #[inline]
 pub(crate) fn is_vbr_width(width: u64) -> bool
     ensures { result ≡ vbr_lawful width }

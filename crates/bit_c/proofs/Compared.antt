@@ -1,5 +1,5 @@
 -- Two inputs that were compared, or of which one was not read.
-use Rattle.std.proofs.Common.{◌≡◌, ℕ, Bool, List, Option, Result, Ok, Err, Some, None, refl, sym, subst, inl, inr}
+use Rattle.std.proofs.Common.{◌≡◌, ℕ, Bool, List, Option, Result, Ok, Err, Some, refl, sym, subst, inl, inr}
 use Rattle.std.specs.Prelude.{IsSome}
 use Rattle.bit_grammar.specs.declared.reason.Reason.{Reason}
 use Rattle.bit_grammar.specs.Setting.{Setting}
@@ -21,9 +21,9 @@ use Rattle.bit_norm.specs.Whole.{ComparesBytes, Compares, FindsDifference, Finds
 use Rattle.bit_c.specs.declared.difference.BsDifference.{BsDifference}
 use Rattle.bit_c.specs.declared.difference.BsOpenBlock.{BsOpenBlock}
 use Rattle.bit_c.specs.declared.outcome.Outcome.{Outcome}
-use Rattle.bit_c.specs.declared.outcome.Outcome.TheVariants.{Done, Different, Refused, Memory, TooLong, Limits, Room, Closed, Names}
+use Rattle.bit_c.specs.declared.outcome.Outcome.TheVariants.{Done, Different, Refused, Memory, TooLong, Limits, Room, Closed, Names, Unfit}
 use Rattle.bit_c.specs.Comparing.{Unread, input_of}
-use Rattle.bit_c.specs.Differing.{Differences, GivesDifference, no_difference}
+use Rattle.bit_c.specs.Differing.{Differences, GivesDifference}
 use Rattle.bit_c.specs.Ending.{ended_by}
 use Rattle.bit_c.proofs.Inputs.{known}
 
@@ -33,7 +33,7 @@ use Rattle.bit_c.proofs.Inputs.{known}
 has : (setting : Setting) (limits : blocks.Limits) (i now : Incoming) (bytes : List ℕ) (tree : Tree) → i.to_come ≡ Some bytes → ReadsTree setting limits i (Ok tree) now → HasTree setting limits bytes tree
 has setting limits i now bytes tree is h = known i.to_come bytes (λ b. HasTree setting limits b tree) is (λ tells. (h.1 tells).0.0)
 
--- what is so of the outcome
+-- facts about the outcome
 misread : (setting : Setting) (limits : blocks.Limits) (first second : List ℕ) (j now later : Incoming) (which : Which) (why : Fault) (Says : Outcome → Type 0) → j.to_come ≡ Some second
     → ((input : ℕ) (reason : Reason) (bit : ℕ) → Unread limits first second (Refused input reason bit) → Says (Refused input reason bit)) → Says Memory
     → Misreads setting limits which why (source_of first) j now later → Says (ended_by (input_of which) why)
@@ -52,7 +52,7 @@ misread setting limits first second j now later Second fault.OutputTooLong Says 
 misread setting limits first second j now later First fault.Failed Says is refused memory h = absurd h.0
 misread setting limits first second j now later Second fault.Failed Says is refused memory h = absurd h.2
 
--- the same of the outcome as the code makes it
+-- the same for the outcome as the code makes it
 ended : (setting : Setting) (limits : blocks.Limits) (first second : List ℕ) (j now later : Incoming) (why : SameFault) (input : ℕ) (outcome : Outcome) (Says : Outcome → Type 0) → j.to_come ≡ Some second
     → input ≡ input_of why.which → outcome ≡ ended_by input why.fault
     → ((number : ℕ) (reason : Reason) (bit : ℕ) → Unread limits first second (Refused number reason bit) → Says (Refused number reason bit)) → Says Memory
@@ -82,7 +82,7 @@ not_found setting limits first second j later r why input outcome Says is is_err
 spells : (limits : blocks.Limits) (i now : Incoming) (bytes : List ℕ) (m : Marked) → i.to_come ≡ Some bytes → ReadsMarked limits i m now → SpellsInput limits bytes m
 spells limits i now bytes m is h = known i.to_come bytes (λ b. SpellsInput limits b m) is (λ tells. (h.1 tells).0)
 
--- a difference that was found was given
+-- a found difference was handed out
 given : (setting : Setting) (limits : blocks.Limits) (first second : List ℕ) (j now later : Incoming) (d : Difference) (told : BsDifference) (old new : List BsOpenBlock) (outcome : Outcome) → j.to_come ≡ Some second
     → FindsDifference setting limits (source_of first) j (Ok (Some d)) now later → GivesDifference (difference_shown d) told old new outcome → Differences setting limits first second told old new outcome
 given setting limits first second j now later d told old new Different is f h =
@@ -96,6 +96,7 @@ given setting limits first second j now later d told old new TooLong is f h = ab
 given setting limits first second j now later d told old new Limits is f h = absurd h
 given setting limits first second j now later d told old new Closed is f h = absurd h
 given setting limits first second j now later d told old new Names is f h = absurd h
+given setting limits first second j now later d told old new Unfit is f h = absurd h
 
 pub difference_found : (setting : Setting) (limits : blocks.Limits) (first second : List ℕ) (j later : Incoming) (r : Result (Option Difference) SameFault) (answer : Option Difference) (d : Difference)
     (told : BsDifference) (old new : List BsOpenBlock) (outcome : Outcome) → j.to_come ≡ Some second → r ≡ Ok answer → answer ≡ Some d → FindsInBytes setting limits first j r later → GivesDifference (difference_shown d) told old new outcome

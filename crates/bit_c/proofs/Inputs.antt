@@ -18,21 +18,21 @@ use Rattle.bit_c.specs.Limiting.{AsksWithin, ToldOfAsked, Within, asked_setting,
 use Rattle.bit_c.specs.declared.left_out.Asked.{Asked}
 use Rattle.bit_c.specs.declared.left_out.BsLeftOut.{BsLeftOut}
 
--- what is so under limits within their caps
+-- facts under limits within their caps
 pub within : (limits told : blocks.Limits) (Leaves : Type 0) (Says : blocks.Limits → Outcome → Type 0) (outcome : Outcome) → limits ≡ told → Capped limits → Says limits outcome → Within told Leaves (Says told) outcome
 within limits told Leaves Says outcome same capped h = inr (subst Capped same capped, subst (λ (l : blocks.Limits). Says l outcome) same h)
 
--- what is so under limits and by names that are fit
+-- facts under fit limits and names
 pub as_asked : (limits : blocks.Limits) (out : BsLeftOut) (asked : Asked) (setting : Setting) (Leaves : Type 0) (Says : blocks.Limits → Setting → Outcome → Type 0) (outcome : Outcome)
     → ToldOfAsked limits out (Ok asked) → setting ≡ asked_setting asked → Says asked.limits setting outcome → AsksWithin limits out Leaves (Says limits (setting_told out)) outcome
 as_asked limits out asked setting Leaves Says outcome told same h =
     inr (told.1, told.2, subst (λ (s : Setting). Says limits s outcome) (same ∙ told.3) (subst (λ (l : blocks.Limits). Says l setting outcome) told.0 h))
 
--- what is said of bytes that are told is said of these
+-- claims about the bytes of a source hold of these bytes
 pub known : (to_come : Option (List ℕ)) (bytes : List ℕ) (P : List ℕ → Type 0) → to_come ≡ Some bytes → (IsSome to_come → P (known_bytes to_come)) → P bytes
 known to_come bytes P is h = subst (λ (o : Option (List ℕ)). (IsSome o → P (known_bytes o)) → P bytes) (sym is) (λ of_them. of_them refl) h
 
--- what is so of the outcome of an input that was not read: it is refused, or there is no memory
+-- a fact about the outcome for an input that was not read: it is refused, or an allocation failed
 by_fault : {A : Type 0} (Holds : List ℕ → A → Type 0) (limits : blocks.Limits) (i now : Incoming) (bytes : List ℕ) (input : ℕ) (why : Fault) (Says : Outcome → Type 0)
     → i.to_come ≡ Some bytes → ((reason : Reason) (bit : ℕ) → BreaksInput limits bytes (at reason bit) → Says (Refused input reason bit)) → Says Memory
     → ReadsWhole Holds limits i (Err why) now → Says (ended_by input why)

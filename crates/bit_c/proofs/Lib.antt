@@ -4,3 +4,6 @@ pub mod Handed
 pub mod Inputs
 pub mod Making
 pub mod Walks
+pub mod Written
+pub mod Told
+pub mod Fed

@@ -21,7 +21,7 @@ use Rattle.bit_c.specs.Ending.{ended_by}
 use Rattle.bit_c.specs.Handing.{Makes}
 use Rattle.bit_c.proofs.Inputs.{known}
 
--- there may be no memory for any text
+-- an allocation may fail for any text
 pub no_memory : (text : Text) (setting : Setting) (limits : blocks.Limits) (bytes : List ℕ) → FailsText text setting limits bytes Memory
 no_memory Form setting limits bytes = tt
 no_memory Report setting limits bytes = tt

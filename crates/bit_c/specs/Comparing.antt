@@ -16,7 +16,7 @@ abbrev pub input_of : Which → ℕ
 input_of First = 0
 input_of Second = 1
 
--- the first breaks so; or the second does, and the first is accepted; or no memory
+-- the first breaks with this fault; or the second does, and the first is accepted; or an allocation failed
 abbrev pub Unread : blocks.Limits → List ℕ → List ℕ → Outcome → Type 0
 Unread limits first second (Refused input reason bit) = ((input ≡ 0)
     × BreaksInput limits first (at reason bit))

@@ -21,7 +21,7 @@ use Rattle.bit_c.specs.Handing.{FillsRoom}
 abbrev pub no_magic : List ℕ
 no_magic = replicate 4 0
 
--- what stands at a place; what its kind does not name is 0
+-- the item at a place; fields that its kind does not have are 0
 abbrev pub IsWhat : What → BsStanding → Type 0
 IsWhat (the_magic magic) told = (told.kind ≡ 1) × (magic_number told.magic ≡ magic) × (told.id ≡ 0)
     × (told.code ≡ 0) × (told.count ≡ 0)
@@ -32,11 +32,11 @@ IsWhat (the_record code count) told = (told.kind ≡ 3) × (told.magic ≡ no_ma
 IsWhat the_end told = (told.kind ≡ 4) × (told.magic ≡ no_magic) × (told.id ≡ 0) × (told.code ≡ 0)
     × (told.count ≡ 0)
 
--- and where that begins
+-- and its first bit
 abbrev pub Stands : Standing → BsStanding → Type 0
 Stands s told = (told.bit ≡ s.bit) × IsWhat s.what told
 
--- the first values that differ, or that none do
+-- the first values that differ, or that none differ
 abbrev pub value_difference_told : Option ValueDifference → BsValueDifference
 value_difference_told None = record { differ = false; index = 0; first = 0; second = 0 }
 value_difference_told (Some value) = record {
@@ -46,7 +46,7 @@ value_difference_told (Some value) = record {
   second = value.second;
 }
 
--- the blocks that are open at a place, the outermost first
+-- the open blocks at a place, the outermost first
 abbrev pub open_in : Place → List OpenBlock
 open_in at_magic = []
 open_in (at_item within items) = within
@@ -55,12 +55,12 @@ abbrev pub place_number : Place → ℕ
 place_number at_magic = 1
 place_number (at_item within items) = 2
 
--- how many items stand before a place in the innermost of its blocks, or at the top
+-- the number of items before a place in the innermost of its blocks, or at the top
 abbrev pub items_before : Place → ℕ
 items_before at_magic = 0
 items_before (at_item within items) = items
 
--- a first difference was told
+-- a first difference was set
 pub record Tells (seen : Seen) (told : BsDifference) : Type 0 where
   pub place : told.place ≡ place_number seen.place
   pub depth : told.depth ≡ length (open_in seen.place)
@@ -85,8 +85,8 @@ no_difference = record {
   values = value_difference_told None;
 }
 
--- A difference was told, and the open blocks stand at the front of the room; or the room has not enough for them; or there was no
--- memory, and nothing was told.
+-- A difference was set, and the open blocks are at the start of the room; or the room is too small for them; or an allocation
+-- failed, and nothing was set.
 abbrev pub GivesDifference : Seen → BsDifference → (old new : List BsOpenBlock) → Outcome → Type 0
 GivesDifference seen told old new Different = Tells seen told
     × FillsRoom (map block_told (open_in seen.place)) old true new
@@ -95,14 +95,14 @@ GivesDifference seen told old new Room = Tells seen told
 GivesDifference seen told old new Memory = (told ≡ no_difference) × (new ≡ old)
 GivesDifference seen told old new outcome = ⊥
 
--- both spell marked trees whose first difference was given
+-- both spell marked trees whose first difference was set
 abbrev pub DifferSo : Setting → blocks.Limits → List ℕ → List ℕ → BsDifference
     → (old new : List BsOpenBlock) → Outcome → Type 0
 DifferSo setting limits first second told old new outcome =
     (a b : Marked) × (seen : Seen) × SpellsInput limits first a × SpellsInput limits second b
     × FirstDifference setting a b seen × GivesDifference seen told old new outcome
 
--- Both spell marked trees of which the same is left; or two whose first difference is told; or nothing was told, for this reason.
+-- Both spell trees that are the same under the setting; or their first difference is set; or nothing is set, for this reason.
 abbrev pub Differences : Setting → blocks.Limits → List ℕ → List ℕ → BsDifference
     → (old new : List BsOpenBlock) → Outcome → Type 0
 Differences setting limits first second told old new Done =

@@ -1,11 +1,11 @@
--- How a call ends, and what C is told of that.
+-- The outcome of a call, and the status and fault that C gets.
 use Rattle.std.specs.Prelude.{◌≡◌, ℕ}
 use Rattle.bit_grammar.specs.Reasons as reasons
 use Rattle.bit_fields.specs.declared.fault.Fault.{Fault}
 use Rattle.bit_fields.specs.declared.fault.Fault.TheVariants as fault
 use Rattle.bit_c.specs.declared.outcome.BsFault.{BsFault}
 use Rattle.bit_c.specs.declared.outcome.Outcome.{Outcome}
-use Rattle.bit_c.specs.declared.outcome.Outcome.TheVariants.{Done, Different, Refused, Memory, TooLong, Limits, Room, Closed, Names}
+use Rattle.bit_c.specs.declared.outcome.Outcome.TheVariants.{Done, Different, Refused, Memory, TooLong, Limits, Room, Closed, Names, Unfit}
 
 -- the status
 abbrev pub status_number : Outcome → ℕ
@@ -18,11 +18,12 @@ status_number Limits = 5
 status_number Room = 6
 status_number Closed = 7
 status_number Names = 8
+status_number Unfit = 9
 
 abbrev pub no_fault : BsFault
 no_fault = record { reason = 0; input = 0; bit = 0 }
 
--- of a refusal the number of its reason, the input and the bit
+-- the number of the reason, the input and the bit of a refusal
 abbrev pub fault_told : Outcome → BsFault
 fault_told Done = no_fault
 fault_told Different = no_fault
@@ -37,8 +38,9 @@ fault_told Limits = no_fault
 fault_told Room = no_fault
 fault_told Closed = no_fault
 fault_told Names = no_fault
+fault_told Unfit = no_fault
 
--- how a call ends that meets a fault of an input
+-- the outcome of a call by a fault of an input
 abbrev pub ended_by : ℕ → Fault → Outcome
 ended_by input (fault.Refused reason bit) = Refused input reason bit
 ended_by input fault.OutputTooLong = TooLong
@@ -47,7 +49,7 @@ ended_by input fault.Write = Memory
 ended_by input fault.Read = Memory
 ended_by input fault.Failed = Memory
 
--- The status and the fault are those of an outcome of which this holds.
+-- The status and the fault are those of an outcome with this property.
 abbrev pub EndsCall : ℕ → BsFault → (Outcome → Type 0) → Type 0
 EndsCall status f Says = (outcome : Outcome) × (status ≡ status_number outcome)
     × (f ≡ fault_told outcome) × Says outcome

@@ -2,6 +2,7 @@ pub mod Calls
 pub mod Comparing
 pub mod Differing
 pub mod Ending
+pub mod Feeding
 pub mod Handing
 pub mod Held
 pub mod Holding
@@ -10,4 +11,6 @@ pub mod Naming
 pub mod Opened
 pub mod Rows
 pub mod Stepping
+pub mod Taking
+pub mod Telling
 pub mod Texts

@@ -1,4 +1,4 @@
--- Limits, and what is left out, as C hands them in.
+-- Limits, and what is left out, as C passes them.
 use Rattle.std.specs.Prelude.{◌≡◌, ◌⊎◌, ◌∷◌, ◌==◌, ℕ, Bool, false, IsTrue, List, map, Result, Ok, Err, if◌then◌else◌}
 use Rattle.std.specs.List.{list_any}
 use Rattle.bit_grammar.specs.declared.info.RecordName.{RecordName}
@@ -15,7 +15,7 @@ use Rattle.bit_c.specs.declared.limits.BsLimits.{BsLimits}
 use Rattle.bit_c.specs.declared.outcome.Outcome.{Outcome}
 use Rattle.bit_c.specs.declared.outcome.Outcome.TheVariants.{Limits, Names, Memory}
 
--- where the shapes of definitions are judged
+-- the place where the shapes of definitions are judged
 abbrev pub shapes_told : BsLimits → Shapes
 shapes_told l = if l.shapes_at_use then AtUse else AtDefinition
 
@@ -27,7 +27,7 @@ limits_told l = record {
   shapes = shapes_told l;
 }
 
--- A limit is past its cap, and the call said so and left all as it was; or none is, and this holds of how it ended.
+-- A limit is past its cap, and the call returned `Limits` and changed nothing; or none is, and this holds of the outcome.
 abbrev pub Within : blocks.Limits → (Leaves : Type 0) → (Outcome → Type 0) → Outcome → Type 0
 Within limits Leaves Says outcome = ((outcome ≡ Limits) × PassCaps limits × Leaves)
     ⊎ (Capped limits × Says outcome)
@@ -49,14 +49,14 @@ setting_told out = record { blocks = blocks_told out; records = map name_told ou
 abbrev pub names_info : BsLeftOut → Bool
 names_info out = list_any (λ name. name.block == 0) out.records.now
 
--- why a call did nothing: a limit is past its cap; or records of BLOCKINFO blocks are named; or there was no memory
+-- the reason why a call did nothing: a limit is past its cap; or records of BLOCKINFO blocks are named; or an allocation failed
 abbrev pub DeclinesCall : blocks.Limits → BsLeftOut → Outcome → Type 0
 DeclinesCall limits out Limits = PassCaps limits
 DeclinesCall limits out Names = Capped limits × IsTrue (names_info out)
 DeclinesCall limits out Memory = Capped limits × (names_info out ≡ false)
 DeclinesCall limits out outcome = ⊥
 
--- The call did nothing for such a reason, and left all as it was; or limits and names are fit, and this holds of how it ended.
+-- The call did nothing for such a reason, and changed nothing; or limits and names are fit, and this holds of the outcome.
 abbrev pub AsksWithin : blocks.Limits → BsLeftOut → (Leaves : Type 0) → (Outcome → Type 0) → Outcome
     → Type 0
 AsksWithin limits out Leaves Says outcome = (DeclinesCall limits out outcome × Leaves)
@@ -65,7 +65,7 @@ AsksWithin limits out Leaves Says outcome = (DeclinesCall limits out outcome × 
 abbrev pub asked_setting : Asked → Setting
 asked_setting asked = record { blocks = asked.blocks.items; records = asked.records.items }
 
--- these limits and this setting were told; or not, for such a reason
+-- these limits and this setting were made; or not, for such a reason
 abbrev pub ToldOfAsked : blocks.Limits → BsLeftOut → Result Asked Outcome → Type 0
 ToldOfAsked limits out (Ok asked) = (asked.limits ≡ limits) × Capped limits
     × (names_info out ≡ false) × (asked_setting asked ≡ setting_told out)

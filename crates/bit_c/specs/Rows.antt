@@ -31,7 +31,7 @@ row_told row = record {
 abbrev pub codes_told : List BlockTally → List BsCodeRow
 codes_told rows = flat_map (λ row. map code_told row.codes) rows
 
--- the magic, the bits, and how many rows there are
+-- the magic, the bits, and the numbers of rows
 pub record TellsTally (tally : Tally) (told : BsTally) : Type 0 where
   pub magic : magic_number told.magic ≡ tally.magic
   pub bits : told.bits ≡ tally.bits
@@ -44,7 +44,7 @@ abbrev pub LeavesRows : (old_blocks new_blocks : List BsBlockRow)
 LeavesRows old_blocks new_blocks old_codes new_codes = (new_blocks ≡ old_blocks)
     × (new_codes ≡ old_codes)
 
--- all rows stand at the front of the two rooms; or one of these has not enough, and nothing was put there
+-- all rows are at the start of the two rooms; or one room is too small, and nothing was put there
 abbrev pub GivesRows : List BsBlockRow → List BsCodeRow → (old_blocks new_blocks : List BsBlockRow)
     → (old_codes new_codes : List BsCodeRow) → Outcome → Type 0
 GivesRows rows codes old_blocks new_blocks old_codes new_codes Done = FillsRoom rows old_blocks true
@@ -59,7 +59,7 @@ GivesRows rows codes old_blocks new_blocks old_codes new_codes outcome = ⊥
 abbrev pub no_tally : BsTally
 no_tally = record { magic = replicate 4 0; bits = 0; blocks = 0; codes = 0 }
 
--- an analysis was told, and its rows were given; or a room has not enough for them; or there was no memory, and nothing was told
+-- an analysis was set, and its rows were handed out; or a room is too small for them; or an allocation failed, and nothing was set
 abbrev pub GivesTally : Tally → BsTally → (old_blocks new_blocks : List BsBlockRow)
     → (old_codes new_codes : List BsCodeRow) → Outcome → Type 0
 GivesTally tally told old_blocks new_blocks old_codes new_codes Done = TellsTally tally told
@@ -72,7 +72,7 @@ GivesTally tally told old_blocks new_blocks old_codes new_codes Memory = (told �
     × LeavesRows old_blocks new_blocks old_codes new_codes
 GivesTally tally told old_blocks new_blocks old_codes new_codes outcome = ⊥
 
--- The analysis of the bytes was told, and its rows were given; or a room has not enough for them; or nothing was told, for this
+-- The analysis of the bytes was set, and its rows were handed out; or a room is too small for them; or nothing was set, for this
 -- reason.
 abbrev pub Analyses : blocks.Limits → List ℕ → BsTally → (old_blocks new_blocks : List BsBlockRow)
     → (old_codes new_codes : List BsCodeRow) → Outcome → Type 0

@@ -22,7 +22,7 @@ use Rattle.bit_c.specs.Calls.{FailsCall}
 use Rattle.bit_c.specs.Ending.{ended_by}
 use Rattle.bit_c.specs.Handing.{HandsOut, LeavesRoom}
 
--- an event as it is shown, or that none is left; what its kind does not name is 0
+-- an event as C sees it, or that none remains; fields that its kind does not have are 0
 abbrev pub event_told : Option Event → BsEvent
 event_told None = record { kind = 0; id = 0; width = 0; code = 0; count = 0; first = 0; after = 0 }
 event_told (Some (enters o)) = record {
@@ -63,7 +63,7 @@ event_told (Some (leaves after)) = record {
   after = after;
 }
 
--- an operand as it is shown: the format's number of its kind, which a literal does not have
+-- an operand as C sees it: the format's number of its kind, which a literal does not have
 abbrev pub operand_told : Op → BsOperand
 operand_told (Literal value) = record { kind = 0; value = value }
 operand_told (Fixed width) = record { kind = 1; value = width }
@@ -83,7 +83,7 @@ abbrev pub operands_if_any : Option Event → List BsOperand
 operands_if_any None = []
 operands_if_any (Some event) = operands_in event
 
--- What a call for the next event does, which shows it and its operands. Where there is no memory for the operands, the event is
+-- The contract of a call for the next event, which sets it and its operands. If an allocation for the operands fails, the event is
 -- lost.
 abbrev pub Gets : Coming → Result BsEvent Fault → List BsOperand → Coming → Type 0
 Gets old (Ok e) operands new = (event : Option Event) × (e ≡ event_told event)
@@ -104,14 +104,14 @@ BeginsReading limits bytes (Ok new) = (new.fault ≡ None) × (new.operands.item
     × Begun limits (whole bytes) new.events
 BeginsReading limits bytes (Err outcome) = FailsCall limits bytes outcome
 
--- The events of the bytes are begun behind a handle; or it is closed, for this reason.
+-- The events of the bytes are begun in a handle; or the handle is closed, for this reason.
 abbrev pub OpensHandle : blocks.Limits → List ℕ → Option Reading → Outcome → Type 0
 OpensHandle limits bytes (Some new) Done = (new.fault ≡ None) × (new.operands.items ≡ [])
     × Begun limits (whole bytes) new.events
 OpensHandle limits bytes (Some new) outcome = ⊥
 OpensHandle limits bytes None outcome = FailsCall limits bytes outcome
 
--- an answer of a call for the next event was told, and a fault is kept
+-- the result of a call for the next event was set, and a fault is kept
 abbrev pub KeepsAnswer : (old : Reading) → (before : BsEvent) → Result BsEvent Fault → Reading
     → BsEvent → Outcome → Type 0
 KeepsAnswer old before (Ok e) new after outcome = (outcome ≡ Done) × (after ≡ e)
@@ -125,7 +125,7 @@ abbrev pub GoesOnReading : (old : Reading) → (before : BsEvent) → Reading �
 GoesOnReading old before new after outcome = (answer : Result BsEvent Fault)
     × Gets old.events answer new.operands.items new.events × KeepsAnswer old before answer new after outcome
 
--- a call for the next event of events that met a fault says that fault again, and changes nothing
+-- a call for the next event after a fault returns that fault again, and changes nothing
 abbrev pub SaysAgain : Reading → BsEvent → Fault → Reading → BsEvent → Outcome → Type 0
 SaysAgain old before fault new after outcome = (outcome ≡ ended_by 0 fault) × (new ≡ old)
     × (after ≡ before)
@@ -135,45 +135,49 @@ StepsReading old before new after outcome = MatchOption old.fault
     (GoesOnReading old before new after outcome)
     (λ fault. SaysAgain old before fault new after outcome)
 
--- The next event of a handle; a closed one stays so, and says it.
+-- The next event of a handle. A closed handle stays closed, and the call returns `Closed`.
 abbrev pub Nexts : Option Reading → BsEvent → Option Reading → BsEvent → Outcome → Type 0
 Nexts None before None after outcome = (outcome ≡ Closed) × (after ≡ before)
 Nexts None before (Some new) after outcome = ⊥
 Nexts (Some old) before None after outcome = ⊥
 Nexts (Some old) before (Some new) after outcome = StepsReading old before new after outcome
 
--- the same of what an open handle leads to
+-- the same for the object of an open handle
 abbrev pub NextsIn : Home → BsEvent → Home → BsEvent → Outcome → Type 0
 NextsIn (home.Reading old) before (home.Reading new) after outcome = StepsReading old before new
     after outcome
 NextsIn (home.Text old) before (home.Text new) after outcome = (outcome ≡ Closed) × (after ≡ before)
     × (new ≡ old)
+NextsIn (home.Writing old) before (home.Writing new) after outcome = (outcome ≡ Closed)
+    × (after ≡ before) × (new ≡ old)
+NextsIn (home.Input old) before (home.Input new) after outcome = (outcome ≡ Closed)
+    × (after ≡ before) × (new ≡ old)
 NextsIn old before new after outcome = ⊥
 
--- ---- what is asked between two events
+-- ---- queries between two events
 
--- the values of the record that was given last
+-- the values of the record returned last
 abbrev pub values_held : Reading → List ℕ
 values_held reading = reading.events.held
 
--- the operands of the event that was given last
+-- the operands of the event returned last
 abbrev pub operands_held : Reading → List BsOperand
 operands_held reading = reading.operands.items
 
--- these were handed out; or the fault that was met was said, and nothing was
+-- these were handed out; or the earlier fault was returned, and nothing was handed out
 abbrev pub Lists : {A : Type 0} → (Reading → List A) → Reading → List A → ℕ → List A → Outcome
     → Type 0
 Lists held reading old needed new outcome = MatchOption reading.fault
     (HandsOut (held reading) old needed new outcome)
     (λ fault. (outcome ≡ ended_by 0 fault) × LeavesRoom old needed new)
 
--- the same of a handle; a closed one says that it is
+-- the same for a handle; for a closed one the outcome is `Closed`
 abbrev pub ListsOf : {A : Type 0} → (Reading → List A) → Option Reading → List A → ℕ → List A
     → Outcome → Type 0
 ListsOf held None old needed new outcome = (outcome ≡ Closed) × LeavesRoom old needed new
 ListsOf held (Some reading) old needed new outcome = Lists held reading old needed new outcome
 
--- The magic of the stream was told; or the handle is closed or holds a text, which is said, and nothing was told.
+-- The magic of the stream was set. If the handle is closed or holds a text, the outcome is `Closed`, and nothing was set.
 abbrev pub TellsMagic : Option Reading → BsMagicBytes → BsMagicBytes → Outcome → Type 0
 TellsMagic None old new outcome = (outcome ≡ Closed) × (new ≡ old)
 TellsMagic (Some reading) old new outcome = (outcome ≡ Done)

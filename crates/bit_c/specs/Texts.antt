@@ -26,13 +26,13 @@ IsTextOf Report setting limits bytes text = (tally : Tally) × HasTally limits b
 IsTextOf Listing setting limits bytes text = (tree : Tree) × HasTree setting limits bytes tree
     × (text ≡ listing_of tree)
 
--- Why a text was not made: the bytes break so; or there was no memory; or their normal form has more bytes than the limit.
+-- Why a text was not made: the bytes break with this fault; or an allocation failed; or their normal form has more bytes than the
 abbrev pub FailsText : Text → Setting → blocks.Limits → List ℕ → Outcome → Type 0
 FailsText Form setting limits bytes TooLong = (tree : Tree) × HasTree setting limits bytes tree
     × (limits.bytes < size_of tree)
 FailsText text setting limits bytes outcome = FailsCall limits bytes outcome
 
--- The text was handed out; or the room has not enough for it; or nothing was handed out, for this reason.
+-- The text was handed out; or the room is too small for it; or nothing was handed out, for this reason.
 abbrev pub GivesText : Text → Setting → blocks.Limits → List ℕ → List ℕ → ℕ → List ℕ → Outcome
     → Type 0
 GivesText text setting limits bytes = HandsText (IsTextOf text setting limits bytes)

@@ -14,7 +14,7 @@ use bit_fields::{Limits, SliceSource};
 use bit_scan::{Analysis, BlockRow, Codes, analyse};
 use std::alloc::{AllocError, Global};
 
-/// What a stream holds, and how many rows its analysis has. All zeros where there is none.
+/// The totals of a stream, and the numbers of rows of its analysis. All zeros if there is no analysis.
 #[repr(C)]
 #[derive(Clone, Copy)]
 pub struct BsTally {
@@ -22,13 +22,13 @@ pub struct BsTally {
     pub magic: [u8; 4],
     /// The bits of the stream, from its magic to its end, without a wrapper.
     pub bits: u64,
-    /// How many rows of block ids.
+    /// The number of rows of block ids.
     pub blocks: usize,
-    /// How many rows of codes, over all block ids.
+    /// The number of rows of codes, over all block ids.
     pub codes: usize,
 }
 
-/// What the blocks with one id add up to. No number counts what stands in blocks inside them.
+/// Totals of the blocks with one id. No number counts the items of blocks inside them.
 #[repr(C)]
 #[derive(Clone, Copy)]
 pub struct BsBlockRow {
@@ -39,11 +39,11 @@ pub struct BsBlockRow {
     pub records: u64,
     pub abbreviated: u64,
     pub values: u64,
-    /// How many of the rows of codes are this one's: they follow those of the row before.
+    /// The number of rows of codes for this row. They follow those of the row before.
     pub codes: usize,
 }
 
-/// What the records with one code add up to, in blocks with one id.
+/// Totals of the records with one code, in blocks with one id.
 #[repr(C)]
 #[derive(Clone, Copy)]
 pub struct BsCodeRow {
@@ -52,7 +52,7 @@ pub struct BsCodeRow {
     pub bits: u64,
 }
 
-const NO_TALLY: BsTally = BsTally {
+pub(crate) const NO_TALLY: BsTally = BsTally {
     magic: [0; 4],
     bits: 0,
     blocks: 0,
@@ -112,7 +112,7 @@ fn code_rows(alloc: Global, rows: &[(u32, BlockRow)]) -> Result<Vec<BsCodeRow>, 
     Ok(out)
 }
 
-/// Puts rows into the caller's room, where it has enough for all of them.
+/// Puts rows into the caller's room, if all of them fit.
 fn give_rows(
     blocks: &[BsBlockRow],
     codes: &[BsCodeRow],
@@ -130,7 +130,7 @@ fn give_rows(
     Outcome::Done
 }
 
-/// Tells an analysis, and gives its rows.
+/// Sets an analysis, and hands out its rows.
 fn give_tally(
     alloc: Global,
     analysis: &Analysis,
@@ -157,7 +157,7 @@ fn give_tally(
     give_rows(&blocks, &codes, block_room, code_room)
 }
 
-/// Analyses bytes, tells what they hold, and gives the rows.
+/// Analyses bytes, sets the totals, and hands out the rows.
 fn analyse_under(
     alloc: Global,
     bytes: &[u8],
@@ -179,8 +179,8 @@ fn analyse_under(
     }
 }
 
-/// The same under limits that may be past their caps.
-fn analyse_within(
+/// The same with limits that may be past their caps.
+pub(crate) fn analyse_within(
     alloc: Global,
     bytes: &[u8],
     limits: &BsLimits,
@@ -202,7 +202,7 @@ fn analyse_within(
     }
 }
 
-/// Analyses bytes, and tells the magic, the bits and how many rows there are; the rows go into the caller's rooms, all of them
+/// Analyses bytes, and sets the magic, the bits and the numbers of rows. The rows go into the caller's rooms, all of them
 /// or none.
 #[unsafe(no_mangle)]
 pub extern "C" fn bs_analyse(

@@ -1,4 +1,4 @@
-//! What is asked of the reader of events between two of them.
+//! Queries to the reader of events between two of them.
 
 ghost use Rattle.std.specs.Prelude.{◌≡◌, Some};
 ghost use Rattle.bit_c.specs.Ending.{EndsCall};
@@ -19,7 +19,7 @@ pub struct BsMagicBytes {
     pub bytes: [u8; 4],
 }
 
-/// Hands out the values of the record that was given last.
+/// Hands out the values of the record returned last.
 fn values(reading: &Reading, room: &mut [u64], needed: &mut usize) -> Outcome
     ensures { Lists values_held reading.now room.old needed.new room.new result }
 {
@@ -30,20 +30,20 @@ fn values(reading: &Reading, room: &mut [u64], needed: &mut usize) -> Outcome
     hand_out(reading.events.values(), room, needed)
 }
 
-/// The same of what a handle leads to.
+/// The same for the object of a handle.
 fn values_in(home: &Home, room: &mut [u64], needed: &mut usize) -> Outcome
     ensures { ListsOf values_held (reading_of (Some home.now)) room.old needed.new room.new result }
 {
     match home {
         Home::Reading(reading) => values(reading, room, needed),
-        Home::Text(_) => {
+        Home::Text(_) | Home::Writing(_) | Home::Input(_) => {
             *needed = 0;
             Outcome::Closed
         }
     }
 }
 
-/// The same of a handle, which stays as it is.
+/// The same for a handle, which does not change.
 fn values_of(alloc: Global, handle: &mut BsHandle, room: &mut [u64], needed: &mut usize) -> Outcome
     ensures kept { handle.new.inner.home ≡ handle.old.inner.home }
     ensures lists { ListsOf values_held (reading_of handle.old.inner.home) room.old needed.new room.new
@@ -62,7 +62,7 @@ fn values_of(alloc: Global, handle: &mut BsHandle, room: &mut [u64], needed: &mu
     }
 }
 
-/// Puts the values of the record that was given last into the caller's room, and tells how many they are.
+/// Puts the values of the record returned last into the caller's room, and reports their number.
 #[unsafe(no_mangle)]
 pub extern "C" fn bs_values(
     alloc: Global,
@@ -78,7 +78,7 @@ pub extern "C" fn bs_values(
     values_of(alloc, handle, room, needed).tell(fault)
 }
 
-/// Hands out the operands of the event that was given last: none where it is no definition.
+/// Hands out the operands of the event returned last: none if it is no definition.
 fn operands(reading: &Reading, room: &mut [BsOperand], needed: &mut usize) -> Outcome
     ensures { Lists operands_held reading.now room.old needed.new room.new result }
 {
@@ -89,20 +89,20 @@ fn operands(reading: &Reading, room: &mut [BsOperand], needed: &mut usize) -> Ou
     hand_out(reading.operands.as_slice(), room, needed)
 }
 
-/// The same of what a handle leads to.
+/// The same for the object of a handle.
 fn operands_in(home: &Home, room: &mut [BsOperand], needed: &mut usize) -> Outcome
     ensures { ListsOf operands_held (reading_of (Some home.now)) room.old needed.new room.new result }
 {
     match home {
         Home::Reading(reading) => operands(reading, room, needed),
-        Home::Text(_) => {
+        Home::Text(_) | Home::Writing(_) | Home::Input(_) => {
             *needed = 0;
             Outcome::Closed
         }
     }
 }
 
-/// The same of a handle, which stays as it is.
+/// The same for a handle, which does not change.
 fn operands_of(
     alloc: Global,
     handle: &mut BsHandle,
@@ -126,8 +126,8 @@ fn operands_of(
     }
 }
 
-/// Puts the operands of the definition that was given last into the caller's room, and tells how many they are: none where the event
-/// that was given last is no definition.
+/// Puts the operands of the definition returned last into the caller's room, and reports their number: none if the event
+/// returned last is no definition.
 #[unsafe(no_mangle)]
 pub extern "C" fn bs_operands(
     alloc: Global,
@@ -143,7 +143,7 @@ pub extern "C" fn bs_operands(
     operands_of(alloc, handle, room, needed).tell(fault)
 }
 
-/// Tells the magic of the stream whose events a handle leads to.
+/// Sets the magic of the stream whose events a handle holds.
 fn magic_in(home: &Home, magic: &mut BsMagicBytes) -> Outcome
     ensures { TellsMagic (reading_of (Some home.now)) magic.old magic.new result }
 {
@@ -154,11 +154,11 @@ fn magic_in(home: &Home, magic: &mut BsMagicBytes) -> Outcome
             };
             Outcome::Done
         }
-        Home::Text(_) => Outcome::Closed,
+        Home::Text(_) | Home::Writing(_) | Home::Input(_) => Outcome::Closed,
     }
 }
 
-/// The same of a handle, which stays as it is.
+/// The same for a handle, which does not change.
 fn magic_of(alloc: Global, handle: &mut BsHandle, magic: &mut BsMagicBytes) -> Outcome
     ensures kept { handle.new.inner.home ≡ handle.old.inner.home }
     ensures tells { TellsMagic (reading_of handle.old.inner.home) magic.old magic.new result }
@@ -173,7 +173,7 @@ fn magic_of(alloc: Global, handle: &mut BsHandle, magic: &mut BsMagicBytes) -> O
     }
 }
 
-/// Tells the magic of the stream whose events were begun, from the beginning on and also after a fault.
+/// Sets the magic of the stream whose events were begun. It is available from the beginning on, and also after a fault.
 #[unsafe(no_mangle)]
 pub extern "C" fn bs_magic(
     alloc: Global,

@@ -22,8 +22,8 @@ fn judge(alloc: Global, bytes: &[u8], limits: Limits) -> Outcome
     }
 }
 
-/// Judges bytes under limits that may be past their caps.
-fn judge_within(alloc: Global, bytes: &[u8], limits: &BsLimits) -> Outcome
+/// Judges bytes with limits that may be past their caps.
+pub(crate) fn judge_within(alloc: Global, bytes: &[u8], limits: &BsLimits) -> Outcome
     ensures { Within (limits_told limits.now) ⊤ (Checks (limits_told limits.now) bytes.now) result }
 {
     match limits.to_limits() {

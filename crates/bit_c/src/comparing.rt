@@ -37,7 +37,7 @@ fn compare(alloc: Global, first: &[u8], second: &[u8], limits: Limits, info: Inf
     }
 }
 
-/// The same under limits and by names that may be unfit.
+/// The same with limits and names that may be unfit.
 fn compare_asked(
     alloc: Global,
     first: &[u8],
@@ -70,7 +70,7 @@ pub extern "C" fn bs_same(
     compare_asked(alloc, first, second, limits, left_out).tell(fault)
 }
 
-/// Compares two inputs, and tells where they first differ.
+/// Compares two inputs, and reports where they first differ.
 fn find(
     alloc: Global,
     first: &[u8],
@@ -92,7 +92,7 @@ fn find(
     }
 }
 
-/// The same under limits and by names that may be unfit.
+/// The same with limits and names that may be unfit.
 fn find_asked(
     alloc: Global,
     first: &[u8],
@@ -127,7 +127,7 @@ fn find_asked(
     }
 }
 
-/// Compares two inputs as `bs_same` does, and tells where they first differ; the blocks that are open there, the outermost first,
+/// Compares two inputs as `bs_same` does, and reports where they first differ. The blocks that are open there, the outermost first,
 /// go into the caller's room, all of them or none.
 #[unsafe(no_mangle)]
 pub extern "C" fn bs_first_difference(

@@ -17,21 +17,21 @@ const RECORD: u32 = 3;
 
 const END: u32 = 4;
 
-/// A block that is open.
+/// An open block.
 #[repr(C)]
 #[derive(Clone, Copy)]
 pub struct BsOpenBlock {
     pub id: u32,
-    /// How many items of the tree stand before it in the block round it, or at the top.
+    /// The number of items of the tree before it in the block around it, or at the top.
     pub items: u64,
 }
 
-/// What stands at a place of an input, and where that begins. What its kind does not name is 0.
+/// The item at a place of an input, and its first bit. Fields that its kind does not have are 0.
 #[repr(C)]
 #[derive(Clone, Copy)]
 pub struct BsStanding {
-    /// Counted from the first bit of the input. An end begins where the last item of the tree before it in its block ended, and
-    /// where there is none, behind the length of the block, or behind the magic.
+    /// Counted from the first bit of the input. An end begins where the last item of the tree before it in its block ended. If
+    /// there is no such item, it begins after the length of the block, or after the magic.
     pub bit: u64,
     /// 1 for the magic, 2 for a block, 3 for a record, 4 for the end of the innermost open block, or of the stream.
     pub kind: u32,
@@ -41,15 +41,15 @@ pub struct BsStanding {
     pub id: u32,
     /// Of a record.
     pub code: u64,
-    /// How many values a record has, the code not counted.
+    /// The number of values of a record, the code not counted.
     pub count: u64,
 }
 
-/// The first values of two records that differ. All zeros where none do.
+/// The first values of two records that differ. All zeros if none differ.
 #[repr(C)]
 #[derive(Clone, Copy)]
 pub struct BsValueDifference {
-    /// Whether values differ; they do not where one list of values is the front of the other.
+    /// Whether values differ. They do not if one list of values is a prefix of the other.
     pub differ: bool,
     /// Counted from 0.
     pub index: u64,
@@ -57,21 +57,21 @@ pub struct BsValueDifference {
     pub second: u64,
 }
 
-/// Where two inputs first differ. All zeros where they do not.
+/// Where two inputs first differ. All zeros if they do not differ.
 #[repr(C)]
 #[derive(Clone, Copy)]
 pub struct BsDifference {
-    /// 0 where there is none, 1 for the magics, 2 for a place in blocks or at the top.
+    /// 0 for no place, 1 for the magics, 2 for a place in blocks or at the top.
     pub place: u32,
-    /// How many blocks are open at the place.
+    /// The number of open blocks at the place.
     pub depth: usize,
-    /// How many items of the tree stand before the place in the innermost of them, or at the top.
+    /// The number of items of the tree before the place in the innermost of them, or at the top.
     pub items: u64,
-    /// What stands there in the first input.
+    /// The item there in the first input.
     pub first: BsStanding,
-    /// What stands there in the second.
+    /// The item there in the second.
     pub second: BsStanding,
-    /// Of two records with the same code.
+    /// For two records with the same code.
     pub values: BsValueDifference,
 }
 
@@ -91,7 +91,7 @@ const NO_VALUES: BsValueDifference = BsValueDifference {
     second: 0,
 };
 
-/// There is none.
+/// No difference.
 pub(crate) const NO_DIFFERENCE: BsDifference = BsDifference {
     place: 0,
     depth: 0,
@@ -101,7 +101,7 @@ pub(crate) const NO_DIFFERENCE: BsDifference = BsDifference {
     values: NO_VALUES,
 };
 
-/// What stands at a place, as C sees it.
+/// The item at a place, as C sees it.
 fn standing_of(standing: Standing) -> BsStanding
     ensures { Stands (standing_shown standing) result }
 {
@@ -145,7 +145,7 @@ fn values_of(value: Option<ValueDifference>) -> BsValueDifference
     }
 }
 
-/// The blocks that are open at a place.
+/// The open blocks at a place.
 fn open_at(place: &Place) -> &[OpenBlock]
     ensures { result.now ≡ open_in (place_shown place.now) }
 {
@@ -155,7 +155,7 @@ fn open_at(place: &Place) -> &[OpenBlock]
     }
 }
 
-/// The number of a place, and how many items stand before it.
+/// The number of a place, and the number of items before it.
 fn place_of(place: &Place) -> (u32, u64)
     ensures number { result.0 ≡ place_number (place_shown place.now) }
     ensures items { result.1 ≡ items_before (place_shown place.now) }
@@ -195,7 +195,7 @@ fn open_blocks(alloc: Global, blocks: &[OpenBlock]) -> Result<Vec<BsOpenBlock>, 
     Ok(out)
 }
 
-/// Tells a first difference, and puts the open blocks into the caller's room, where it has enough for all of them.
+/// Sets a first difference, and puts the open blocks into the caller's room, if all of them fit.
 pub(crate) fn give_difference(
     alloc: Global,
     found: &Difference,

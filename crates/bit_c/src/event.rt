@@ -19,28 +19,28 @@ const RECORD: u32 = 3;
 
 const LEAVE: u32 = 4;
 
-/// An event. What its kind does not name is 0.
+/// An event. Fields that its kind does not have are 0.
 #[repr(C)]
 #[derive(Clone, Copy)]
 pub struct BsEvent {
-    /// 0 where the whole input is accepted and no event is left, 1 where a block begins, 2 for a definition, 3 for a record, 4
-    /// where a block ends.
+    /// 0 if the whole input is accepted and no event remains, 1 for the beginning of a block, 2 for a definition, 3 for a record, 4
+    /// for the end of a block.
     pub kind: u32,
-    /// Of a block's beginning the id of the block, of a record its abbreviation id.
+    /// The id of a block at its beginning, or the abbreviation id of a record.
     pub id: u32,
-    /// Of a block's beginning the width of its abbreviation ids.
+    /// The width of a block's abbreviation ids, at its beginning.
     pub width: u32,
-    /// Of a record.
+    /// The code of a record.
     pub code: u64,
-    /// How many values a record has, the code not counted.
+    /// The number of values of a record, the code not counted.
     pub count: usize,
-    /// The bit at which it begins; not told of a block's end.
+    /// The first bit of the item; 0 for a block's end.
     pub first: u64,
-    /// The bit behind it; of a block's beginning the first bit of the body.
+    /// The bit after the item; for a block's beginning the first bit of its body.
     pub after: u64,
 }
 
-/// No event is left.
+/// No event remains.
 pub(crate) const NONE: BsEvent = BsEvent {
     kind: OVER,
     id: 0,
@@ -102,7 +102,7 @@ fn event_of(event: Event<'_>) -> BsEvent
     }
 }
 
-/// The next event as C sees it. Its operands, where it is a definition, come in the place of those that are there.
+/// The next event as C sees it. The operands of a definition replace the earlier ones.
 pub(crate) fn next_of(
     events: &mut Events<SliceSource<'static>>,
     operands: &mut Vec<BsOperand>,

@@ -1,4 +1,4 @@
-//! Handles: what C holds of the events of bytes, or of a text.
+//! Handles: what C holds for the events of bytes, for a text, for the writer of a tree, or for an input in pieces.
 
 ghost use Rattle.std.specs.Prelude.{◌≡◌, Option, Some, None, MatchOption, is_some};
 
@@ -8,7 +8,7 @@ use crate::parts::Parts;
 use std::alloc::Global;
 use std::{mem, ptr};
 
-/// A handle of events or of a text. All zeros are a closed one.
+/// A handle of events, of a text, of a writer or of an input in pieces. If all bytes are zero it is closed.
 #[repr(C)]
 #[derive(Drop)]
 pub struct BsHandle {
@@ -17,7 +17,7 @@ pub struct BsHandle {
     ghost known: { is_some inner.home ≡ live },
 }
 
-/// A closed one.
+/// A closed handle.
 // The second part brings `Home` into the table of types.
 pub(crate) fn closed_handle(alloc: Global) -> (BsHandle, Option<Box<Home>>)
     ensures { result.0.inner.home ≡ None }
@@ -30,7 +30,7 @@ pub(crate) fn closed_handle(alloc: Global) -> (BsHandle, Option<Box<Home>>)
     (handle, None)
 }
 
-/// An open one.
+/// An open handle.
 pub(crate) fn handle_of(home: Box<Home>) -> BsHandle
     ensures { result.inner.home ≡ Some home.value }
 {
@@ -38,7 +38,7 @@ pub(crate) fn handle_of(home: Box<Home>) -> BsHandle
     BsHandle { live: true, inner }
 }
 
-/// What one leads to.
+/// The object of a handle.
 fn home_of(handle: BsHandle) -> Option<Box<Home>>
     ensures { MatchOption result (handle.inner.home ≡ None)
         (λ home. handle.inner.home ≡ Some home.value) }
@@ -51,7 +51,7 @@ fn home_of(handle: BsHandle) -> Option<Box<Home>>
     }
 }
 
-/// Takes out what a handle leads to, and leaves it closed.
+/// Takes out the object of a handle, and leaves the handle closed.
 pub(crate) fn take_out(alloc: Global, handle: &mut BsHandle) -> Option<Box<Home>>
     ensures closed { handle.new.inner.home ≡ None }
     ensures told { MatchOption result (handle.old.inner.home ≡ None)

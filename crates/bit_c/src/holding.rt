@@ -1,4 +1,4 @@
-//! Texts that are held behind a handle, so that they are made once and their length is known before there is room for them.
+//! Texts held in a handle. They are made once, and their length is known before the caller has room for them.
 
 ghost use Rattle.std.specs.Prelude.{◌≡◌, None, Some};
 ghost use Rattle.bit_grammar.specs.Setting.{keep, setting_of};
@@ -9,7 +9,7 @@ ghost use Rattle.bit_c.specs.Opened.{text_of};
 ghost use Rattle.bit_c.specs.declared.texts.Text.{Text as TextTold};
 
 use crate::handle::{BsHandle, handle_of, take_out};
-use crate::home::Home;
+use crate::home::{HeldText, Home};
 use crate::left_out::{BsLeftOut, asked_of};
 use crate::limits::BsLimits;
 use crate::outcome::{BsFault, Outcome};
@@ -20,12 +20,12 @@ use bit_fields::Limits;
 use bit_norm::Info;
 use std::alloc::Global;
 
-/// Puts a text behind a handle that is closed.
+/// Puts a text into a closed handle.
 fn put_behind(alloc: Global, text: Vec<u8>, handle: &mut BsHandle) -> Outcome
     requires { handle.old.inner.home ≡ None }
     ensures { PutsBehind text.items handle.new.inner.home result }
 {
-    match Box::new(alloc, Home::Text(text)) {
+    match Box::new(alloc, Home::Text(HeldText { text, taken: 0 })) {
         Ok(home) => {
             *handle = handle_of(home);
             Outcome::Done
@@ -34,7 +34,7 @@ fn put_behind(alloc: Global, text: Vec<u8>, handle: &mut BsHandle) -> Outcome
     }
 }
 
-/// Puts the text that a sink kept behind a handle that is closed.
+/// Puts the text that a sink kept into a closed handle.
 fn put_kept(alloc: Global, made: RoomSink, handle: &mut BsHandle) -> Outcome
     requires { handle.old.inner.home ≡ None }
     ensures { PutsBehind made.took.bytes handle.new.inner.home result }
@@ -46,7 +46,7 @@ fn put_kept(alloc: Global, made: RoomSink, handle: &mut BsHandle) -> Outcome
     }
 }
 
-/// Makes a text of what bytes hold, and puts it behind a handle that is closed.
+/// Makes a text of some bytes, and puts it into a closed handle.
 fn hold(
     alloc: Global,
     bytes: &[u8],
@@ -65,7 +65,7 @@ fn hold(
     }
 }
 
-/// The report, under limits that may be past their caps, and behind a handle that may be open.
+/// The report, with limits that may be past their caps, and with a handle that may be open.
 fn hold_report_within(
     alloc: Global,
     bytes: &[u8],
@@ -82,7 +82,7 @@ fn hold_report_within(
     }
 }
 
-/// A text of what is not left out, under limits and by names that may be unfit, and behind a handle that may be open.
+/// A text of what is not left out, with limits and names that may be unfit, and with a handle that may be open.
 fn hold_asked(
     alloc: Global,
     bytes: &[u8],
@@ -102,8 +102,8 @@ fn hold_asked(
     }
 }
 
-/// Makes the normal form of what bytes hold, whole or without what is left out, and puts it behind a handle. A handle that is
-/// open is closed before.
+/// Makes the normal form of some bytes, whole or without what is left out, and puts it into a handle. An open handle is
+/// closed first.
 #[unsafe(no_mangle)]
 pub extern "C" fn bs_hold_normal(
     alloc: Global,
@@ -120,7 +120,7 @@ pub extern "C" fn bs_hold_normal(
     hold_asked(alloc, bytes, limits, left_out, Text::Form, handle).tell(fault)
 }
 
-/// The same of the report of an analysis of bytes.
+/// The same for the report of an analysis of bytes.
 #[unsafe(no_mangle)]
 pub extern "C" fn bs_hold_report(
     alloc: Global,
@@ -136,7 +136,7 @@ pub extern "C" fn bs_hold_report(
     hold_report_within(alloc, bytes, limits, handle).tell(fault)
 }
 
-/// The same of the listing of bytes, whole or without what is left out.
+/// The same for the listing of bytes, whole or without what is left out.
 #[unsafe(no_mangle)]
 pub extern "C" fn bs_hold_show(
     alloc: Global,
@@ -153,20 +153,20 @@ pub extern "C" fn bs_hold_show(
     hold_asked(alloc, bytes, limits, left_out, Text::Listing, handle).tell(fault)
 }
 
-/// Hands out the text that a handle leads to.
+/// Hands out the text in a handle.
 fn tell_in(home: &Home, room: &mut [u8], needed: &mut usize) -> Outcome
     ensures { TellsText (text_of (Some home.now)) room.old needed.new room.new result }
 {
     match home {
-        Home::Text(text) => hand_out(text.as_slice(), room, needed),
-        Home::Reading(_) => {
+        Home::Text(held) => hand_out(held.text.as_slice(), room, needed),
+        Home::Reading(_) | Home::Writing(_) | Home::Input(_) => {
             *needed = 0;
             Outcome::Closed
         }
     }
 }
 
-/// The same of a handle, which stays as it is.
+/// The same for a handle, which does not change.
 fn tell_of(alloc: Global, handle: &mut BsHandle, room: &mut [u8], needed: &mut usize) -> Outcome
     ensures kept { handle.new.inner.home ≡ handle.old.inner.home }
     ensures tells { TellsText (text_of handle.old.inner.home) room.old needed.new room.new result }
@@ -184,7 +184,7 @@ fn tell_of(alloc: Global, handle: &mut BsHandle, room: &mut [u8], needed: &mut u
     }
 }
 
-/// Puts the text that a handle leads to into the caller's room, and tells how many bytes it has. The handle stays open.
+/// Puts the text in a handle into the caller's room, and reports its length in bytes. The handle stays open.
 #[unsafe(no_mangle)]
 pub extern "C" fn bs_text(
     alloc: Global,

@@ -1,10 +1,11 @@
-//! What a handle leads to.
+//! The object that a handle owns.
 
 use crate::operand::BsOperand;
 use bit_events::Events;
 use bit_fields::{Fault, SliceSource};
+use bit_norm::FormWriter;
 
-/// The events of bytes that stay where they are, the fault that was met, and the operands of the event that was given last.
+/// The events of bytes that do not move, their fault, and the operands of the event returned last.
 #[derive(Drop)]
 pub struct Reading {
     pub(crate) events: Events<SliceSource<'static>>,
@@ -12,9 +13,18 @@ pub struct Reading {
     pub(crate) operands: Vec<BsOperand>,
 }
 
-/// What a handle leads to: events, or a text.
+/// A held text, and the number of its first bytes that were taken.
+#[derive(Drop)]
+pub struct HeldText {
+    pub(crate) text: Vec<u8>,
+    pub(crate) taken: usize,
+}
+
+/// The object that a handle owns: events, a text, the writer of a tree, or the pieces of an input.
 #[derive(Drop)]
 pub enum Home {
     Reading(Reading),
-    Text(Vec<u8>),
+    Text(HeldText),
+    Writing(FormWriter),
+    Input(Vec<u8>),
 }

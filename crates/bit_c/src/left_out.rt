@@ -1,4 +1,4 @@
-//! What of an input is left out, and what is asked of it: that under limits.
+//! The part of an input that is left out, and the request of a call: that part with limits.
 
 ghost use Rattle.std.specs.Prelude.{◌≡◌, ◌==◌, map, IfOk};
 ghost use Rattle.std.specs.List.{list_any};
@@ -11,8 +11,8 @@ use bit_fields::Limits;
 use bit_norm::{Info, RecordName};
 use std::alloc::{AllocError, Global};
 
-/// Names records: those with this code that stand directly in blocks with this id. Records of BLOCKINFO blocks have no name,
-/// since what would be left of such a block is no BLOCKINFO block.
+/// Names records: those with this code directly in blocks with this id. Records of BLOCKINFO blocks have no name, because without
+/// some of its records such a block is no BLOCKINFO block.
 #[repr(C)]
 #[derive(Clone, Copy)]
 pub struct BsRecordName {
@@ -20,13 +20,13 @@ pub struct BsRecordName {
     pub code: u64,
 }
 
-/// What of an input is left out.
+/// The part of an input that is left out.
 #[repr(C)]
 #[derive(Clone, Copy)]
 pub struct BsLeftOut<'a> {
-    /// The BLOCKINFO blocks, as where block 0 is named.
+    /// The BLOCKINFO blocks, as if block 0 were named.
     pub info: bool,
-    /// The blocks with these ids, at any depth and with all that they hold.
+    /// The blocks with these ids, at any depth and with all in them.
     pub blocks: &'a [u32],
     /// The records with these names.
     pub records: &'a [BsRecordName],
@@ -51,7 +51,7 @@ impl Asked {
     }
 }
 
-/// Whether one of these names records of BLOCKINFO blocks.
+/// Whether a name is for records of BLOCKINFO blocks.
 fn name_info(names: &[BsRecordName]) -> bool
     ensures { result ≡ list_any (λ name. name.block == 0) names.now }
 {
@@ -70,7 +70,7 @@ fn blocks_of(alloc: Global, left_out: &BsLeftOut<'_>) -> Result<Vec<u32>, AllocE
     Ok(blocks)
 }
 
-/// The names of records as the crates below take them.
+/// The names of records in the form for the crates below.
 fn names_of(alloc: Global, names: &[BsRecordName]) -> Result<Vec<RecordName>, AllocError>
     ensures { IfOk result (λ out. out.items ≡ map name_told names.now) }
 {
@@ -84,7 +84,7 @@ fn names_of(alloc: Global, names: &[BsRecordName]) -> Result<Vec<RecordName>, Al
     Ok(out)
 }
 
-/// Limits and names as the crates below take them, where these can be.
+/// Limits and names in the form for the crates below, if they are fit.
 pub(crate) fn asked_of(
     alloc: Global,
     limits: &BsLimits,

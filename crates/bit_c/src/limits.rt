@@ -1,4 +1,4 @@
-//! How much of an input is taken.
+//! Limits on an input.
 
 ghost use Rattle.std.specs.Prelude.{◌≡◌, false, MatchOption};
 ghost use Rattle.bit_fields.specs.Opening.{PassCaps};
@@ -7,9 +7,9 @@ ghost use Rattle.bit_c.specs.Limiting.{limits_told};
 
 use bit_fields::Limits;
 
-/// Limits on the bytes of the whole input, wrapper included, on the depth of blocks, where a block at the top has depth 1, and
-/// on the values of all records. Their caps are 17,179,869,180 bytes, depth 255 and 4,294,967,295 values. And whether the shape of
-/// a definition is judged where a record uses it, not where it stands.
+/// Limits on the bytes of the whole input, wrapper included, on the depth of blocks, with depth 1 for a block at the top, and
+/// on the values of all records. Their caps are 17,179,869,180 bytes, depth 255 and 4,294,967,295 values. A flag sets whether the
+/// shape of a definition is judged at its use by a record, not at the definition.
 #[repr(C)]
 #[derive(Clone, Copy)]
 pub struct BsLimits {
@@ -20,7 +20,7 @@ pub struct BsLimits {
 }
 
 impl BsLimits {
-    /// The limits, where none is past its cap.
+    /// The limits, if none is past its cap.
     pub(crate) fn to_limits(&self) -> Option<Limits>
         ensures { MatchOption result (PassCaps (limits_told self.now))
             (λ limits. (limits ≡ limits_told self.now) × Capped limits) }
@@ -34,7 +34,7 @@ impl BsLimits {
     }
 }
 
-/// Sets limits to those that serve most inputs: 1 GiB, depth 64, 134,217,728 values. Shapes are judged at the definition.
+/// Sets limits that suit most inputs: 1 GiB, depth 64, 134,217,728 values. Shapes are judged at the definition.
 #[unsafe(no_mangle)]
 pub extern "C" fn bs_usual_limits(limits: &mut BsLimits)
     ensures { limits.new ≡ record {

@@ -12,9 +12,9 @@ use std::alloc::AllocError;
 #[repr(C)]
 #[derive(Clone, Copy)]
 pub struct BsOperand {
-    /// 0 for a literal; else the number that the format has for it: 1 for Fixed, 2 for VBR, 3 for Array, 4 for Char6, 5 for Blob.
+    /// 0 for a literal; otherwise the number of its kind in the format: 1 Fixed, 2 VBR, 3 Array, 4 Char6, 5 Blob.
     pub kind: u32,
-    /// Of a literal its value, of Fixed and VBR the width in bits, else 0.
+    /// The value of a literal, the width in bits of Fixed and VBR, otherwise 0.
     pub value: u64,
 }
 
@@ -43,7 +43,7 @@ fn add_operands(out: &mut Vec<BsOperand>, ops: &[Op]) -> Result<(), AllocError>
     Ok(())
 }
 
-/// Puts the operands of an event in the place of others: none where it is no definition.
+/// Replaces operands with those of an event: none if it is no definition.
 pub(crate) fn put_operands(out: &mut Vec<BsOperand>, event: Event<'_>) -> Result<(), AllocError>
     ensures { OnOk result (out.new.items ≡ operands_in (event_shown event.entry)) }
 {

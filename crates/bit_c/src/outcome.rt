@@ -1,15 +1,15 @@
-//! How a call ends, and what C is told of that.
+//! The end of a call, and the status and fault that C gets.
 
 ghost use Rattle.std.specs.Prelude.{◌≡◌};
 ghost use Rattle.bit_c.specs.Ending.{status_number, fault_told, ended_by};
 
 use bit_fields::{Fault, Reason};
 
-/// How a call ended.
+/// The end of a call.
 #[derive(Clone, Copy)]
 pub(crate) enum Outcome {
     Done,
-    /// Two inputs do not hold the same.
+    /// Two inputs differ.
     Different,
     /// An input, 0 for the only or the first one and 1 for the second, breaks a rule at a bit.
     Refused {
@@ -22,15 +22,17 @@ pub(crate) enum Outcome {
     TooLong,
     /// A limit is past its cap.
     Limits,
-    /// The caller's room does not hold what was to be put there.
+    /// The caller's room is too small.
     Room,
     /// The handle is closed.
     Closed,
     /// Records of BLOCKINFO blocks are named to be left out.
     Names,
+    /// A call of a writer does not fit: no tree within the limits has that item there.
+    Unfit,
 }
 
-/// Why an input was refused. All zeros where none was.
+/// The reason why an input was refused. All zeros if none was refused.
 #[repr(C)]
 #[derive(Clone, Copy)]
 pub struct BsFault {
@@ -43,14 +45,14 @@ pub struct BsFault {
 }
 
 impl Outcome {
-    /// How a call ended that met a fault of an input.
+    /// The end of a call by a fault of an input.
     pub(crate) fn of(input: u32, fault: Fault) -> Outcome
         ensures { result ≡ ended_by input fault }
     {
         match fault {
             Fault::Refused { reason, bit } => Outcome::Refused { input, reason, bit },
             Fault::OutputTooLong => Outcome::TooLong,
-            // A sink in memory fails where its growth was refused.
+            // A sink in memory fails only if it cannot grow.
             Fault::Memory | Fault::Write => Outcome::Memory,
             // Bytes in memory do not fail, and no call is used after a fault.
             Fault::Read | Fault::Failed => Outcome::Memory,
@@ -71,10 +73,11 @@ impl Outcome {
             Outcome::Room => 6,
             Outcome::Closed => 7,
             Outcome::Names => 8,
+            Outcome::Unfit => 9,
         }
     }
 
-    /// Of a refusal the reason, the input and the bit.
+    /// The reason, the input and the bit of a refusal.
     fn fault(self) -> BsFault
         ensures { result ≡ fault_told self }
     {
@@ -92,7 +95,7 @@ impl Outcome {
         }
     }
 
-    /// Tells C how a call ended.
+    /// Gives C the status and the fault.
     pub(crate) fn tell(self, fault: &mut BsFault) -> u32
         ensures number { result ≡ status_number self }
         ensures fault { fault.new ≡ fault_told self }

@@ -1,4 +1,4 @@
-// A box with its fields in sight.
+// A box with its fields from the buffer.
 ghost use Rattle.std.specs.Prelude.{◌≡◌};
 ghost use Rattle.std.specs.Box.Ownership.{box_owns};
 

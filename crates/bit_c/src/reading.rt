@@ -29,7 +29,7 @@ fn begin(alloc: Global, bytes: &'static [u8], limits: Limits) -> Result<Reading,
     }
 }
 
-/// Begins the events of bytes behind a handle that is closed.
+/// Begins the events of bytes in a closed handle.
 fn open_at(alloc: Global, bytes: &'static [u8], limits: Limits, handle: &mut BsHandle) -> Outcome
     requires { handle.old.inner.home ≡ None }
     ensures { OpensHandle limits bytes.now (reading_of handle.new.inner.home) result }
@@ -47,7 +47,7 @@ fn open_at(alloc: Global, bytes: &'static [u8], limits: Limits, handle: &mut BsH
     }
 }
 
-/// The same under limits that may be past their caps, and behind a handle that may be open.
+/// The same with limits that may be past their caps, and with a handle that may be open.
 fn open_within(
     alloc: Global,
     bytes: &'static [u8],
@@ -64,8 +64,8 @@ fn open_within(
     }
 }
 
-/// Begins the events of bytes, which have to stay as they are until the handle is closed. A handle that is open is closed
-/// before.
+/// Begins the events of bytes, which must stay unchanged until the handle is closed. An open handle is closed
+/// first.
 #[unsafe(no_mangle)]
 pub extern "C" fn bs_open(
     alloc: Global,
@@ -80,7 +80,7 @@ pub extern "C" fn bs_open(
     open_within(alloc, bytes, limits, handle).tell(fault)
 }
 
-/// The next event of events, or the fault that they met.
+/// The next event of events, or their fault.
 fn step(reading: &mut Reading, event: &mut BsEvent) -> Outcome
     ensures { StepsReading reading.old event.old reading.new event.new result }
 {
@@ -99,13 +99,13 @@ fn step(reading: &mut Reading, event: &mut BsEvent) -> Outcome
     }
 }
 
-/// The next event of what a handle leads to.
+/// The next event of the object of a handle.
 fn step_in(home: &mut Home, event: &mut BsEvent) -> Outcome
     ensures { NextsIn home.old event.old home.new event.new result }
 {
     match home {
         Home::Reading(reading) => step(reading, event),
-        Home::Text(_) => Outcome::Closed,
+        Home::Text(_) | Home::Writing(_) | Home::Input(_) => Outcome::Closed,
     }
 }
 
@@ -124,7 +124,7 @@ fn step_of(alloc: Global, handle: &mut BsHandle, event: &mut BsEvent) -> Outcome
     }
 }
 
-/// The next event, and where no event is left that the whole input is accepted. After a fault it says that fault ever after.
+/// The next event. If no event remains, the event reports that the whole input is accepted. After a fault each call repeats it.
 #[unsafe(no_mangle)]
 pub extern "C" fn bs_next(
     alloc: Global,
@@ -138,7 +138,7 @@ pub extern "C" fn bs_next(
     step_of(alloc, handle, event).tell(fault)
 }
 
-/// Closes a handle, of events or of a text, and frees what it leads to. Closing one that is closed does nothing.
+/// Closes a handle and frees its object. Closing a closed handle does nothing.
 #[unsafe(no_mangle)]
 pub extern "C" fn bs_close(alloc: Global, handle: &mut BsHandle)
     ensures { handle.new.inner.home ≡ None }

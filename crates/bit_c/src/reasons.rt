@@ -13,7 +13,7 @@ pub extern "C" fn bs_version() -> u32
     2
 }
 
-/// The reason with a number.
+/// The reason with this number.
 fn reason_of(number: u32) -> Option<Reason>
     ensures { IsReason number result }
 {
@@ -44,7 +44,7 @@ fn reason_of(number: u32) -> Option<Reason>
     })
 }
 
-/// Sets a name to that of a reason; to no bytes where no reason has the number.
+/// Sets a name to that of a reason, or to no bytes if no reason has the number.
 #[unsafe(no_mangle)]
 pub extern "C" fn bs_reason_name(number: u32, name: &mut &'static [u8])
     ensures { Names number name.new.now }

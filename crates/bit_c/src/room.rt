@@ -7,7 +7,7 @@ use crate::outcome::Outcome;
 use crate::room_sink::RoomSink;
 use bit_fields::Sink;
 
-/// Puts items at the front of the caller's room.
+/// Puts items at the start of the caller's room.
 pub(crate) fn put<T: Copy>(items: &[T], room: &mut [T])
     requires { length items.now ≤ length room.old }
     ensures { FillsRoom items.now room.old true room.new }
@@ -15,7 +15,7 @@ pub(crate) fn put<T: Copy>(items: &[T], room: &mut [T])
     room[..items.len()].copy_from_slice(items);
 }
 
-/// Puts items at the front of the caller's room, where it has enough, and tells how many they are.
+/// Puts items at the start of the caller's room if they fit, and reports their number.
 pub(crate) fn hand_out<T: Copy>(items: &[T], room: &mut [T], needed: &mut usize) -> Outcome
     ensures { HandsOut items.now room.old needed.new room.new result }
 {
@@ -27,7 +27,7 @@ pub(crate) fn hand_out<T: Copy>(items: &[T], room: &mut [T], needed: &mut usize)
     Outcome::Done
 }
 
-/// Puts what a sink for the caller's room kept at the front of the room, where it has enough, and tells how many bytes the sink
+/// Puts the bytes that a sink for the caller's room kept at the start of the room if they fit, and reports how many bytes the sink
 /// took.
 fn hand_kept(made: &RoomSink, room: &mut [u8], needed: &mut usize) -> Outcome
     ensures { HandsKept made.now.took.bytes room.old needed.new room.new result }
@@ -39,12 +39,12 @@ fn hand_kept(made: &RoomSink, room: &mut [u8], needed: &mut usize) -> Outcome
         *needed = made.taken();
         return Outcome::Room;
     }
-    // A sink for this room keeps a text that fits it.
+    // A sink for this room keeps each text that fits it.
     *needed = 0;
     Outcome::Memory
 }
 
-/// Puts what a call made at the front of the caller's room, where it was done; else leaves the room as it was.
+/// Puts the result of a call at the start of the caller's room if the call succeeded; otherwise leaves the room unchanged.
 pub(crate) fn hand(
     outcome: Outcome,
     made: &RoomSink,

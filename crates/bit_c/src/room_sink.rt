@@ -1,13 +1,15 @@
-//! The sink of a text that is to go into the caller's room.
+//! The sink of a text for the caller's room.
 
 ghost use Rattle.std.specs.Prelude.{◌≡◌, ◌++◌, [], length, Some, IfSome, OnErr, OnOk};
 ghost use Rattle.std.proofs.Props.{props};
+ghost use Rattle.bit_c.specs.Handing.{KeepsText};
 
+use crate::outcome::Outcome;
 use crate::took::{Piece, Took};
 use bit_fields::{Sink, SinkFailed};
 use std::alloc::{AllocError, Global};
 
-/// Counts the bytes that it takes, and keeps them for as long as they fit a room: nothing of a longer text. It fails if an
+/// Counts the bytes that it takes, and keeps them while they fit a room: nothing of a longer text. It fails if an
 /// allocation for them fails.
 #[derive(Drop)]
 pub(crate) struct RoomSink {
@@ -21,7 +23,7 @@ pub(crate) struct RoomSink {
 }
 
 impl RoomSink {
-    /// A sink for a room of so many bytes, which has taken none.
+    /// An empty sink for a room of `room` bytes.
     pub(crate) fn new(alloc: Global, room: usize) -> RoomSink
         ensures { ⟦<RoomSink as Sink>⟧.outgoing result ≡ record { bytes = Some []; failures = 0 } }
     {
@@ -34,14 +36,14 @@ impl RoomSink {
         }
     }
 
-    /// How many bytes it took.
+    /// The number of bytes that it took.
     pub(crate) fn taken(&self) -> usize
         ensures { result ≡ length self.now.took.bytes }
     {
         self.taken
     }
 
-    /// All bytes that it took, where it keeps them.
+    /// All bytes that it took, if it keeps them.
     pub(crate) fn kept(&self) -> Option<&[u8]>
         ensures { IfSome result (λ bytes. bytes.now ≡ self.now.took.bytes) }
     {
@@ -74,6 +76,17 @@ impl RoomSink {
         self.taken = taken;
         self.took = self.took.and(&Piece(from));
         Ok(())
+    }
+}
+
+/// The text that a sink for the largest room kept.
+pub(crate) fn kept_of(sink: RoomSink) -> Result<Vec<u8>, Outcome>
+    ensures { KeepsText sink.took.bytes result }
+{
+    match sink.into_kept() {
+        Some(text) => Ok(text),
+        // Such a sink keeps every text.
+        None => Err(Outcome::Memory),
     }
 }
 

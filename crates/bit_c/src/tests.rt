@@ -1,14 +1,15 @@
-//! Each call once where it succeeds; tests/c_library asks them from outside.
+//! Each call once with success; tests/c_library tests them from outside.
 
 use crate::difference::NO_DIFFERENCE;
 use crate::event::NONE;
 use crate::handle::closed_handle;
 use crate::{
     BsBlockRow, BsCodeRow, BsEvent, BsFault, BsHandle, BsLeftOut, BsLimits, BsMagicBytes,
-    BsOpenBlock, BsOperand, BsRecordName, BsTally, bs_analyse, bs_check, bs_close,
-    bs_first_difference, bs_hold_normal, bs_hold_report, bs_hold_show, bs_magic, bs_next,
-    bs_normal, bs_open, bs_operands, bs_report, bs_same, bs_show, bs_text, bs_usual_limits,
-    bs_values,
+    BsOpenBlock, BsOperand, BsRecordName, BsTally, bs_analyse, bs_check, bs_close, bs_fed_analyse,
+    bs_fed_check, bs_fed_normal, bs_fed_show, bs_feed, bs_first_difference, bs_hold_normal,
+    bs_hold_report, bs_hold_show, bs_magic, bs_next, bs_normal, bs_open, bs_operands, bs_report,
+    bs_same, bs_show, bs_take, bs_text, bs_usual_limits, bs_values, bs_write_enter,
+    bs_write_finish, bs_write_leave, bs_write_open, bs_write_record,
 };
 use std::alloc::Global;
 
@@ -54,7 +55,7 @@ fn judgements(alloc: Global) -> [u32; 2] {
     [check, same]
 }
 
-/// How two records with another value compare, whole and without them; and the first values that differ.
+/// The results of comparing two records with another value, whole and without them; and the first values that differ.
 fn comparison(alloc: Global, left_out: &BsLeftOut<'_>) -> (u32, usize, [u64; 2]) {
     let (limits, mut fault, mut difference) = (usual(), NO_FAULT, NO_DIFFERENCE);
     let mut room = [BsOpenBlock { id: 0, items: 0 }; 2];
@@ -83,7 +84,7 @@ fn what_differs(rt: HostRuntime) {
     assert!(rt; comparison(rt.alloc(), &left_out) == (0, 0, [0, 0]));
 }
 
-/// How the calls for texts end, and how long the normal form is.
+/// The ends of the calls for texts, and the length of the normal form.
 fn given_texts(alloc: Global) -> ([u32; 3], usize) {
     let (limits, mut fault, mut room) = (usual(), NO_FAULT, [0; 128]);
     let (mut form, mut other) = (0, 0);
@@ -116,6 +117,26 @@ fn held_texts(alloc: Global, handle: &mut BsHandle) -> [u32; 4] {
 fn what_is_held(rt: HostRuntime) {
     let (mut handle, _) = closed_handle(rt.alloc());
     assert!(rt; held_texts(rt.alloc(), &mut handle) == [0; 4]);
+    bs_close(rt.alloc(), &mut handle);
+}
+
+/// The statuses of three calls that take the normal form in pieces of up to 10 bytes, and the lengths of these.
+fn taken_pieces(alloc: Global, handle: &mut BsHandle) -> ([u32; 3], [usize; 3], [u8; 10]) {
+    let (limits, mut fault, mut room) = (usual(), NO_FAULT, [0; 10]);
+    let (mut first, mut second, mut third) = (0, 0, 0);
+    let held = bs_hold_normal(alloc, &THIRTY, &limits, &WHOLE, handle, &mut fault);
+    let one = bs_take(alloc, handle, &mut room, &mut first, &mut fault);
+    let two = bs_take(alloc, handle, &mut room, &mut second, &mut fault);
+    let three = bs_take(alloc, handle, &mut room, &mut third, &mut fault);
+    ([held + one, two, three], [first, second, third], room)
+}
+
+#[test]
+fn what_is_taken(rt: HostRuntime) {
+    let (mut handle, _) = closed_handle(rt.alloc());
+    let (statuses, lengths, room) = taken_pieces(rt.alloc(), &mut handle);
+    assert!(rt; statuses == [0; 3] && lengths == [10, 6, 0]);
+    assert!(rt; room[..6] == THIRTY[10..] && room[6..] == THIRTY[6..10]);
     bs_close(rt.alloc(), &mut handle);
 }
 
@@ -203,5 +224,74 @@ fn what_is_defined(rt: HostRuntime) {
     let after = next(rt.alloc(), &mut handle).1;
     let none = bs_operands(rt.alloc(), &mut handle, &mut room, &mut needed, &mut fault);
     assert!(rt; after == 4 && none == 0 && needed == 0);
+    bs_close(rt.alloc(), &mut handle);
+}
+
+/// Writes the tree of `THIRTY`, with a call that does not fit before each other one, and ends it.
+fn tell_thirty(alloc: Global, handle: &mut BsHandle) -> [u32; 9] {
+    let (limits, mut fault) = (usual(), NO_FAULT);
+    let magic = BsMagicBytes {
+        bytes: [0x42, 0x43, 0xC0, 0xDE],
+    };
+    [
+        bs_write_open(alloc, &magic, &limits, handle, &mut fault),
+        bs_write_record(alloc, handle, 1, &[30], &mut fault),
+        bs_write_enter(alloc, handle, 8, &mut fault),
+        bs_write_finish(alloc, handle, &mut fault),
+        bs_write_record(alloc, handle, 1, &[30], &mut fault),
+        bs_write_leave(alloc, handle, &mut fault),
+        bs_write_leave(alloc, handle, &mut fault),
+        bs_write_finish(alloc, handle, &mut fault),
+        bs_write_finish(alloc, handle, &mut fault),
+    ]
+}
+
+#[test]
+fn what_is_written(rt: HostRuntime) {
+    let (mut handle, _) = closed_handle(rt.alloc());
+    let (mut fault, mut room, mut needed) = (NO_FAULT, [0; 16], 0);
+    let statuses = tell_thirty(rt.alloc(), &mut handle);
+    assert!(rt; statuses == [0, 9, 0, 9, 0, 0, 9, 0, 7]);
+    let text = bs_text(rt.alloc(), &mut handle, &mut room, &mut needed, &mut fault);
+    assert!(rt; text == 0 && needed == 16 && room == THIRTY);
+    bs_close(rt.alloc(), &mut handle);
+}
+
+/// An input in two pieces, judged before the second and after it, and listed.
+fn fed_pieces(alloc: Global, handle: &mut BsHandle) -> [u32; 7] {
+    let (limits, mut fault) = (usual(), NO_FAULT);
+    let mut tally = BsTally {
+        magic: [0; 4],
+        bits: 0,
+        blocks: 0,
+        codes: 0,
+    };
+    [
+        bs_feed(alloc, handle, &THIRTY[..9], &mut fault),
+        bs_fed_check(alloc, handle, &limits, &mut fault),
+        bs_feed(alloc, handle, &THIRTY[9..], &mut fault),
+        bs_fed_check(alloc, handle, &limits, &mut fault),
+        bs_fed_analyse(
+            alloc,
+            handle,
+            &limits,
+            &mut tally,
+            &mut [],
+            &mut [],
+            &mut fault,
+        ),
+        bs_fed_normal(alloc, handle, &limits, &WHOLE, &mut fault),
+        bs_fed_show(alloc, handle, &limits, &WHOLE, &mut fault),
+    ]
+}
+
+#[test]
+fn what_is_fed(rt: HostRuntime) {
+    let (mut handle, _) = closed_handle(rt.alloc());
+    let (mut fault, mut room, mut needed) = (NO_FAULT, [0; 16], 0);
+    let statuses = fed_pieces(rt.alloc(), &mut handle);
+    assert!(rt; statuses == [0, 2, 0, 0, 6, 0, 7]);
+    let text = bs_text(rt.alloc(), &mut handle, &mut room, &mut needed, &mut fault);
+    assert!(rt; text == 0 && needed == 16 && room == THIRTY);
     bs_close(rt.alloc(), &mut handle);
 }

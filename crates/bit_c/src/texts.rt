@@ -27,7 +27,7 @@ pub(crate) enum Text {
     Listing,
 }
 
-/// Makes the normal form of what bytes hold, for a room of so many bytes.
+/// Makes the normal form of some bytes, for a room of `room` bytes.
 fn form_of(
     alloc: Global,
     bytes: &[u8],
@@ -48,7 +48,7 @@ fn form_of(
     }
 }
 
-/// Makes the report of what bytes hold, for a room of so many bytes.
+/// Makes the report of some bytes, for a room of `room` bytes.
 fn report_of(alloc: Global, bytes: &[u8], limits: Limits, room: usize) -> (Outcome, RoomSink)
     ensures { Makes (IsTextOf TextTold.Report keep limits bytes.now)
         (FailsText TextTold.Report keep limits bytes.now) result.0
@@ -62,7 +62,7 @@ fn report_of(alloc: Global, bytes: &[u8], limits: Limits, room: usize) -> (Outco
     }
 }
 
-/// Makes the listing of what bytes hold, for a room of so many bytes.
+/// Makes the listing of some bytes, for a room of `room` bytes.
 fn listing_of(
     alloc: Global,
     bytes: &[u8],
@@ -83,7 +83,7 @@ fn listing_of(
     }
 }
 
-/// Makes a text of what bytes hold, for a room of so many bytes.
+/// Makes a text of some bytes, for a room of `room` bytes.
 pub(crate) fn make(
     alloc: Global,
     bytes: &[u8],
@@ -103,7 +103,7 @@ pub(crate) fn make(
     }
 }
 
-/// Hands out a text of what bytes hold.
+/// Hands out a text of some bytes.
 fn give(
     alloc: Global,
     bytes: &[u8],
@@ -120,7 +120,7 @@ fn give(
     hand(outcome, &made, room, needed)
 }
 
-/// The report, under limits that may be past their caps.
+/// The report, with limits that may be past their caps.
 fn report_within(
     alloc: Global,
     bytes: &[u8],
@@ -140,7 +140,7 @@ fn report_within(
     }
 }
 
-/// A text of what is not left out, under limits and by names that may be unfit.
+/// A text of what is not left out, with limits and names that may be unfit.
 fn give_asked(
     alloc: Global,
     bytes: &[u8],
@@ -172,8 +172,8 @@ fn give_asked(
     }
 }
 
-/// Puts the normal form of what bytes hold, whole or without what is left out, into the caller's room, and tells how many bytes
-/// it has.
+/// Puts the normal form of some bytes, whole or without what is left out, into the caller's room, and reports its length in
+/// bytes.
 #[unsafe(no_mangle)]
 pub extern "C" fn bs_normal(
     alloc: Global,
@@ -192,7 +192,7 @@ pub extern "C" fn bs_normal(
     give_asked(alloc, bytes, limits, left_out, Text::Form, room, needed).tell(fault)
 }
 
-/// Puts the report of an analysis of bytes into the caller's room, and tells how many bytes it has.
+/// Puts the report of an analysis of bytes into the caller's room, and reports its length in bytes.
 #[unsafe(no_mangle)]
 pub extern "C" fn bs_report(
     alloc: Global,
@@ -209,7 +209,7 @@ pub extern "C" fn bs_report(
     report_within(alloc, bytes, limits, room, needed).tell(fault)
 }
 
-/// Puts the listing of bytes, whole or without what is left out, into the caller's room, and tells how many bytes it has.
+/// Puts the listing of bytes, whole or without what is left out, into the caller's room, and reports its length in bytes.
 #[unsafe(no_mangle)]
 pub extern "C" fn bs_show(
     alloc: Global,

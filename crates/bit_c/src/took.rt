@@ -4,7 +4,7 @@ ghost use Rattle.std.specs.Borrow.{ftrue};
 
 use std::marker::Model;
 
-/// What a sink took, for its contract.
+/// The bytes that a sink took, for its contract.
 #[derive(Drop)]
 pub(crate) struct Took {
     pub(crate) ghost bytes: { List ℕ },
@@ -14,19 +14,19 @@ impl Model for Took {
     ghost also_owns = { λ _. ftrue };
 }
 
-/// What a sink is given at once.
+/// The bytes of one put.
 #[derive(Clone, Copy)]
 pub(crate) struct Piece<'a>(pub(crate) &'a [u8]);
 
 impl Took {
-    /// Nothing.
+    /// No bytes.
     pub(crate) fn nothing() -> Took
         ensures { result.bytes ≡ [] }
     {
         Took {}
     }
 
-    /// The same, and then a piece.
+    /// The same bytes, and then a piece.
     #[inline(always)]
     pub(crate) fn and(&self, piece: &Piece<'_>) -> Took
         ensures { result.bytes ≡ self.now.bytes ++ piece.now.0.now }

@@ -1,4 +1,4 @@
--- The next event of a stream, as what is to come of it has it.
+-- The next event of a stream is the first of its remaining events.
 use Rattle.std.proofs.Common.{◌≡◌, ℕ, ◌-◌, ◌^◌, ◌<◌, ◌≤◌, Bool, true, false, List, [], ◌∷◌, length, Option, Some, None, IsSome, Ok, Err, refl, sym, ap, subst, ◌∙◌, arith, vec_len}
 use Rattle.std.specs.Option.{option_map}
 use Rattle.bit_grammar.specs.Grammar as grammar
@@ -41,7 +41,7 @@ wide_onto : (frames : List Frame) (outer : List machine.Frame) → AreWide outer
 wide_onto [] outer wide = wide
 wide_onto (f ∷ frames) outer wide = wide_onto frames (frame_shown f ∷ outer) (f.head.least, wide)
 
--- each open block has ids of some bits
+-- the abbreviation ids of each open block have a width
 wide : (frames : List Frame) → AreWide (frames_shown frames)
 wide frames = wide_onto frames [] tt
 
@@ -58,18 +58,18 @@ shown_none : (frames : List Frame) → length frames ≡ 0 → frames_shown fram
 shown_none [] e = refl
 shown_none (f ∷ frames) e = absurd (omega (arith, e))
 
--- it isn't done
+-- the events have not ended
 goes_on : (frames : List machine.Frame) (r : List Bool) → (frames ≡ [] → 0 < length r) → is_done frames r ≡ false
 goes_on [] [] some = absurd (omega (arith, some refl))
 goes_on [] (b ∷ bits) some = refl
 goes_on (f ∷ frames) r some = refl
 
--- ---- what is told
+-- ---- the remaining events
 
 abbrev pub told_until : Extent → Told → Told
 told_until e told = (told.0, end_by e told.1)
 
--- an event that is read is the first to come
+-- an event that is read is the first of the remaining ones
 told_event : (limits : Limits) (e : Extent) (m new : machine.Machine) (p q : ℕ) (left rest : List Bool) (event : Event) → AreWide m.frames → is_done m.frames left ≡ false
     → reading (step limits m) p left ≡ Ok ((event, new), q, rest) → told_of limits e m p left ≡ event_before event (told_of limits e new q rest)
 told_event limits e m new p q left rest event ids more read =
@@ -85,7 +85,7 @@ told_fault limits e m p left reason bit ids more breaks =
     go (Ok x) k = absurd k
     go (Err fault) k = ap (λ (f : grammar.Fault). ([], broke f)) k
 
--- where no block is open and no bit is left, the input ends
+-- if no block is open and no bit is left, the input ends
 told_end : (limits : Limits) (e : Extent) (m : machine.Machine) (p : ℕ) (left : List Bool) → m.frames ≡ [] → left ≡ [] → told_of limits e m p left ≡ ([], end_at e p)
 unfolding to_come
 told_end limits e m p left none empty = rw (none, empty) refl
@@ -99,9 +99,9 @@ pays_both a b c p q = Spends-trans a.incoming a.budget b.incoming b.budget c.inc
 pub loses_both : (a b c : Reader) → GoesOn a b → Fails b.incoming b.budget c.incoming c.budget → Fails a.incoming a.budget c.incoming c.budget
 loses_both a b c p q = fails_later a.incoming a.budget b.incoming b.budget c.incoming c.budget p q
 
--- ---- the answers
+-- ---- the results
 
--- What stands before a step: a reader that looked whether its stream ends, where no block is open, and it doesn't.
+-- The state before a step: if no block is open, a reader that looked whether its stream ends, and it doesn't.
 abbrev pub Ready : Machine → Reader → Reader → Type 0
 Ready m a b = Stays a b × (vec_len m.frames ≡ 0 → TellsBytes a → 0 < length a.left)
 
@@ -111,7 +111,7 @@ not_done m a b h tells = goes_on (frames_shown m.frames.items) a.left (λ e. h.1
 pub dead : (live : Bool) → live ≡ true → live ≡ false → ⊥
 dead live is isnt = cc
 
--- an event that came is the first to come
+-- an event that was found is the first of the remaining ones
 pub event_told : (limits : Limits) (m new : Machine) (event : Event) (a b c : Reader) → Ready m a b → Took (step limits (machine_shown m)) b (event, machine_shown new) c → TellsBytes a → left_to_tell limits m a ≡ event_before event (left_to_tell limits new c)
 event_told limits m new event a b c h took tells =
     let read : reading (step limits (machine_shown m)) a.position a.left ≡ Ok ((event, machine_shown new), c.position, c.left) = subst (λ (left : List Bool). reading (step limits (machine_shown m)) a.position left ≡ Ok ((event, machine_shown new), c.position, c.left)) (h.0.left tells) (subst (λ (p : ℕ). reading (step limits (machine_shown m)) p b.left ≡ Ok ((event, machine_shown new), c.position, c.left)) h.0.position (took.reads (h.0.goes_on.tells tells))) in
@@ -124,7 +124,7 @@ break_told limits m reason bit a b h broken tells =
     let breaks : fields.Breaks a.extent (reading (step limits (machine_shown m)) a.position a.left) reason bit = subst (λ (left : List Bool). fields.Breaks a.extent (reading (step limits (machine_shown m)) a.position left) reason bit) (h.0.left tells) (subst (λ (p : ℕ). fields.Breaks a.extent (reading (step limits (machine_shown m)) p b.left) reason bit) h.0.position (subst (λ (e : Extent). fields.Breaks e (reading (step limits (machine_shown m)) b.position b.left) reason bit) (h.0.extent tells) (broken (h.0.goes_on.tells tells)))) in
     told_fault limits a.extent (machine_shown m) a.position a.left reason bit (wide m.frames.items) (not_done m a b h tells) breaks
 
--- outside of all blocks the end of the stream is told
+-- outside of all blocks the end of the stream is the end of the events
 pub shut_told : (limits : Limits) (m : Machine) (a : Reader) (ending : Ending) → vec_len m.frames ≡ 0 → a.left ≡ [] → end_at a.extent a.position ≡ ending → left_to_tell limits m a ≡ ([], ending)
 shut_told limits m a ending none empty is =
     told_end limits a.extent (machine_shown m) a.position a.left (shown_none m.frames.items (sym m.frames.ok.0 ∙ none)) empty ∙ ap (λ (e : Ending). ([], e)) is
@@ -138,7 +138,7 @@ loses_after a b c p s = record { was_live = p.was_live; failed = s.failed; fails
 pub leaves_later : {deepest : ℕ} {old new : Machine} {event : Event} (a b c : Reader) → a.position ≤ b.position → LeavesMachine deepest old b event new c → LeavesMachine deepest old a event new c
 leaves_later a b c forward left = record { stands = left.stands; opens = left.opens; forward = omega (arith, forward, left.forward); aligned = left.aligned; holds = left.holds }
 
--- an event came
+-- an event was found
 pub finds_event : (limits : Limits) (m n : Machine) (event : Event) (a b c : Reader) → Ready m a b → Took (step limits (machine_shown m)) b (event, machine_shown n) c → LeavesMachine limits.depth m b event n c → FindsEvent limits m a event n c
 finds_event limits m n event a b c h took leaves = record {
   was_live = h.0.was_live;
@@ -148,7 +148,7 @@ finds_event limits m n event a b c h took leaves = record {
   told = λ tells. event_told limits m n event a b c h took tells;
 }
 
--- no event came
+-- no event was found
 pub finds_fault : (limits : Limits) (m : Machine) (a b : Reader) (fault : Fault) (c : Reader) → Ready m a b → Why (step limits (machine_shown m)) b fault c → FindsFault limits m a fault c
 finds_fault limits m a b (Refused reason bit) c h why = (stops_after a b c h.0 why.0, λ tells. break_told limits m reason bit a b h why.1 tells)
 finds_fault limits m a b Read c h why = loses_after a b c h.0 why
@@ -168,7 +168,7 @@ finds_end limits m a c none over = record {
   none = over.none;
 }
 
--- outside of all blocks no event came
+-- outside of all blocks no event was found
 pub finds_shut : (limits : Limits) (m : Machine) (a c : Reader) (outside : Bool) (fault : Fault) → (outside ≡ true → vec_len m.frames ≡ 0) → Shuts outside a (Err fault) c → FindsFault limits m a fault c
 finds_shut limits m a c outside (Refused reason bit) out (o, s, told) = (s, λ tells. shut_told limits m a (broke (at reason bit)) (out o) (told tells).0 (told tells).1)
 finds_shut limits m a c outside Read out (o, s) = s
@@ -214,7 +214,7 @@ declined limits i Failed now low h = absurd h
 declined limits i Write now low h = absurd h
 declined limits i OutputTooLong now low h = absurd h
 
--- ---- as the program keeps it
+-- ---- in the program's state
 
 -- a definition that the machine holds is lent
 lends : (m : Machine) (values : List ℕ) (step : Step) → HoldsDefinition m (step_shown m values step) → step_lent m values step ≡ Some (step_shown m values step)
@@ -223,14 +223,14 @@ lends m values (found.Define first after) h = ap (option_map (definition_of firs
 lends m values (found.Record head) h = refl
 lends m values (found.Leave after) h = refl
 
--- the values that are kept after a step
+-- the values held after a step
 pub values_held : {V : Type 0} (kept : V → List ℕ) (n : Machine) (step : Step) (v w : V) → KeepsValues step v w → kept w ≡ held_after (step_shown n (kept w) step) (kept v)
 values_held kept n (found.Enter id width first body) v w e = ap kept e
 values_held kept n (found.Define first after) v w e = ap kept e
 values_held kept n (found.Record head) v w e = refl
 values_held kept n (found.Leave after) v w e = ap kept e
 
--- an event came, and it is lent
+-- an event was found, and it is lent
 pub kept_goes : (is_over now_over : Bool) (limits : Limits) (head : Head) (m n : Machine) (vs ws : List ℕ) (found : Option Step) (next : Step) (place there : ℕ) (a c : Reader) → is_over ≡ false → now_over ≡ false → place ≡ a.position → there ≡ c.position → FindsEvent limits m a (step_shown n ws next) n c → ws ≡ held_after (step_shown n ws next) vs → a.position < c.position → there < 2 ^ 64
     → Goes (coming_of is_over limits head m vs found place a) (Ok (step_lent n ws next)) (coming_of now_over limits head n ws (Some next) there c)
 kept_goes is_over now_over limits head m n vs ws found next place there a c e now_e here is_there finds held forward below =
@@ -253,7 +253,7 @@ kept_goes is_over now_over limits head m n vs ws found next place there a c e no
       told = finds.told;
     }
 
--- it takes and asks for what another one does, wherever it stands
+-- it takes and spends what another reader does, at any position
 pub record IsLike (a b : Reader) : Type 0 where
   pub live : b.live ≡ a.live
   pub incoming : b.incoming ≡ a.incoming
@@ -262,7 +262,7 @@ pub record IsLike (a b : Reader) : Type 0 where
 pays_like : (a b c : Reader) → IsLike b c → GoesOn a b → GoesOn a c
 pays_like a b c like pays = rw (like.incoming, like.budget) pays
 
--- no event came
+-- no event was found
 pub kept_misses : (is_over : Bool) (limits : Limits) (head : Head) (m n : Machine) (vs ws : List ℕ) (found : Option Step) (place : ℕ) (a b c : Reader) (fault : Fault) → is_over ≡ false → FindsFault limits m a fault b → IsLike b c → BreaksOff (coming_of is_over limits head m vs found place a) fault (coming_of is_over limits head n ws found place c)
 kept_misses is_over limits head m n vs ws found place a b c fault e finds like =
     subst (λ (x : Bool). BreaksOff (coming_of x limits head m vs found place a) fault (coming_of x limits head n ws found place c)) (sym e) (go fault finds)
@@ -303,7 +303,7 @@ kept_ends is_over now_over limits head m n vs ws found place there a b c e now_e
       none = λ _ tells. rw like.incoming (finds.none tells);
     })
 
--- what holds where the input has ended
+-- the invariant after the end of the input
 pub closed : {limits : Limits} (m n : Machine) (a b : Reader) (place : ℕ) → FindsEnd limits m a n b → IsEvents true n None place b
 closed m n a b place finds = record {
   stands = λ live. absurd (dead b.live live finds.stops.failed);

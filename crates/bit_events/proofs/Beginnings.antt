@@ -1,4 +1,4 @@
--- What a reader tells of an input, once its beginning is read, is what is told of the whole input.
+-- After the beginning of an input is read, the events that the reader finds are those of the whole input.
 use Rattle.std.proofs.Common.{◌≡◌, ℕ, ◌+◌, ◌-◌, ◌*◌, ◌%◌, ◌^◌, ◌<◌, ◌≤◌, Bool, true, false, leb, eqb, List, length, take, Option, Some, None, Result, Ok, Err, refl, sym, ap, subst, ◌∙◌, arith, inl, inr}
 use Rattle.std.specs.Prelude.{if◌then◌else◌}
 use Rattle.std.proofs.lemmas.Bool.{cases_lt, le-ltb, lt-ltb, leb-true, and_parts}
@@ -26,12 +26,12 @@ use Rattle.bit_fields.proofs.Cutting.{within_whole, within_cut}
 use Rattle.bit_events.specs.Coming.{end_at, end_by, told_of}
 use Rattle.bit_events.proofs.Faults.{Other, not_size, reading_fault, fixed_free, gap_free, inner_free, EndsOther, to_come_other}
 
--- the end of what is told, in so many bits
+-- the end of the events, within this many bits
 abbrev pub few_in : ℕ → Option Wrapper → Ending → Ending
 few_in len None ending = ending
 few_in len (Some w) ending = end_of_few (leb (8 * w.size) (len - 8 * w.offset)) (at WrapperSize 96) ending
 
--- a wrapper that was read, up to its stream, in so many bits
+-- a wrapper that was read, up to its stream, within this many bits
 abbrev pub HoldsIn : ℕ → Option Wrapper → Type 0
 HoldsIn len None = Unit {0}
 HoldsIn len (Some w) = (8 * w.offset ≤ len) × (w.offset < 2 ^ 32) × (w.size < 2 ^ 32)
@@ -42,7 +42,7 @@ extent_of limits bytes outer = record { total = length bytes; end = end_of_strea
 
 -- ---- the wrapper that was read
 
--- a wrapper's fields, in so many bits
+-- a wrapper's fields, within this many bits
 record FieldsAre (w : Wrapper) (len : ℕ) : Type 0 where
   length : len ≡ 128
   lawful : 20 ≤ w.offset
@@ -111,7 +111,7 @@ gap_is p s w k =
       size = f.size;
     })
 
--- how much is left behind them
+-- how many bits are left after them
 record LeftBehind (w : Wrapper) (len left : ℕ) : Type 0 where
   parts : len ≡ 8 * w.offset + left
   offset : w.offset < 2 ^ 32
@@ -143,7 +143,7 @@ same_read x y e = cc
 not_read : (fault : grammar.Fault) (y : Wrapper × ℕ × List Bool) → failed fault ≡ read y → ⊥
 not_read fault y e = absurd cc
 
--- the wrapper was read on the way
+-- the wrapper was read first
 header_read : (p : ℕ) (s : List Bool) (y : Wrapper × ℕ × List Bool) → reading wrapper_and_gap p s ≡ Ok y → (q : ℕ) × (t : List Bool) × (reading wrapper p s ≡ Ok (y.0, q, t))
 unfolding wrapper_and_gap
 header_read p s y e = go (reading wrapper p s) e
@@ -156,7 +156,7 @@ header_read p s y e = go (reading wrapper p s) e
     go (Ok x) e = (x.1, x.2, ap (λ (w : Wrapper). read (w, x.1, x.2)) (passed x (reading (any_bits (8 * (x.0.offset - 20))) x.1 x.2) e))
     go (Err fault) e = absurd (not_read fault y e)
 
--- ---- what is told behind a beginning
+-- ---- the events after a beginning
 
 -- the beginning of these bits was read
 record Begun (limits : Limits) (r : List Bool) (x : Head × ℕ × List Bool) : Type 0 where
@@ -261,7 +261,7 @@ outlook_past limits bytes longer = rw (is_not_le (length bytes) limits.bytes lon
 abbrev with_end : Head × Told → Ending → Outlook
 with_end x ending = Ok (x.0, (x.1.0, ending))
 
--- where the beginning is read, the head and the events behind it are told, with the end that a reader finds
+-- if the beginning is read, the outlook has its head and the events after it, with the end that a reader finds
 pub outlook_begun : (limits : Limits) (bytes : List ℕ) (head : Head) (p : ℕ) (left : List Bool) → limits.bytes < 2 ^ 64 - 1 → beginning (front_of limits bytes) ≡ Ok (head, p, left)
     → outlook limits bytes ≡ Ok (head, told_of limits (record { total = length bytes; end = end_of_stream head.wrapper; limit = limits.bytes }) at_start p left)
 outlook_begun limits bytes head p left low e =
@@ -277,7 +277,7 @@ outlook_begun limits bytes head p left low e =
           ∙ ap (with_end (head, told)) (whole_end limits bytes head.wrapper told.1 fits (subst (λ (n : ℕ). HoldsIn n head.wrapper) len b.holds))
     ]
 
--- where it breaks, the fault that a reader answers is told
+-- if the beginning breaks, the outlook has the fault that a reader returns
 pub outlook_declined : (limits : Limits) (bytes : List ℕ) (fault : grammar.Fault) → limits.bytes < 2 ^ 64 - 1 → beginning (front_of limits bytes) ≡ Err fault
     → outlook limits bytes ≡ Err (within (record { total = length bytes; end = end_of_stream (wrapper_of (front_of limits bytes)); limit = limits.bytes }) fault.reason fault.bit)
 outlook_declined limits bytes fault low e =

@@ -1,4 +1,4 @@
--- With which faults a rule breaks. Only the judgement of a whole input says that a wrapper's stream is short.
+-- The faults with which a rule breaks. Only the judgement of a whole input says that a wrapper's stream is too short.
 use Rattle.std.proofs.Common.{◌≡◌, ℕ, zero, suc, ◌-◌, Bool, true, false, List, [], ◌∷◌, length, Option, Some, None, Ok, Err, refl, sym, subst, inl, inr}
 use Rattle.bit_grammar.specs.declared.shapes.Shapes.{Shapes}
 use Rattle.bit_grammar.specs.declared.op.Op.{Op}
@@ -54,7 +54,7 @@ stop_fault Holds (rounds idle rule state) p r fault k h =
 pub reading_fault : {A : Type 0} (Holds : Fault → Type 0) (rule : Grammar A) (p : ℕ) (r : List Bool) (fault : Fault) → Faults Holds rule → reading rule p r ≡ Err fault → Holds fault
 reading_fault Holds rule p r fault k e = stop_fault Holds rule p r fault k (is_stopped rule p r fault e)
 
--- ---- the stream in a wrapper is not said to be short
+-- ---- no rule says that the stream in a wrapper is too short
 
 abbrev pub IsOther : Reason → Type 0
 IsOther WrapperSize = ⊥
@@ -218,11 +218,11 @@ unfolding step_in step_top
 step_free limits [] handed = (tt, λ first. (fixed_free 2, λ id. (tt, λ held. open_free limits [] first handed)))
 step_free limits (f ∷ frames) handed = (tt, λ first. (fixed_free f.head.width, λ id. after_free limits f.head frames first (scope_of f handed) id))
 
--- no step breaks so
+-- no step breaks for this reason
 pub step_other : (limits : Limits) (m : Machine) (p : ℕ) (r : List Bool) (fault : Fault) → reading (step limits m) p r ≡ Err fault → Other fault
 step_other limits m p r fault e = reading_fault Other (step limits m) p r fault (step_free limits m.frames m.handed) e
 
--- no end is so
+-- no end has this reason
 abbrev pub EndsOther : Ending → Type 0
 EndsOther (accepted p) = Unit {0}
 EndsOther (broke fault) = Other fault
@@ -239,12 +239,12 @@ told_other limits (suc n) m p r = unless_other (is_done m.frames r) p (told_of_s
     go (Ok x) e more = more x.0.1 x.1 x.2
     go (Err fault) e more = step_other limits m p r fault e
 
--- what is to come ends for another reason
+-- the remaining events end for another reason
 pub to_come_other : (limits : Limits) (m : Machine) (p : ℕ) (r : List Bool) → EndsOther (to_come limits m p r).1
 unfolding to_come
 to_come_other limits m p r = told_other limits (suc (length r)) m p r
 
--- ---- what stands before the blocks
+-- ---- what comes before the blocks
 
 version_free : Free version
 unfolding version

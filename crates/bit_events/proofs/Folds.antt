@@ -1,4 +1,4 @@
--- Events that are gathered, one after the other, up to the end of an input.
+-- Events that are gathered, one after another, up to the end of an input.
 use Rattle.std.proofs.Common.{◌≡◌, ℕ, ◌+◌, ◌%◌, ◌<◌, true, false, List, [], ◌∷◌, ◌++◌, None, IsSome, Result, Ok, Err, vec_len, refl, sym, ap, subst, ◌∙◌, arith, append_assoc, inr}
 use Rattle.std.proofs.lemmas.List.{append-nil}
 use Rattle.std.specs.Prelude.{OnOk}
@@ -31,16 +31,16 @@ pub open_behind-push : (events : List Event) (event : Event) (count : ℕ) → o
 open_behind-push [] event count = refl
 open_behind-push (first ∷ events) event count = open_behind-push events event (open_after first count)
 
--- what is shown for each list that was taken
+-- a fact for each list that was taken
 pub each_list : (Taken P : List ℕ → Type 0) (result : Result (Unit {0}) AllocError) → ((list : List ℕ) → Taken list → OnOk result (P list)) → OnOk result ((list : List ℕ) → Taken list → P list)
 each_list Taken P (Ok x) each = each
 each_list Taken P (Err e) each = tt
 
--- what holds whatever was taken
+-- a fact for whatever was taken
 pub for_each : (P : Type 0) (Taken : List ℕ → Type 0) (result : Result (Unit {0}) AllocError) → OnOk result P → OnOk result ((list : List ℕ) → Taken list → P)
 for_each P Taken result holds = each_list Taken (λ _. P) result (λ list took. holds)
 
--- ---- events, one after the other
+-- ---- events, one after another
 
 stays_same : (a : Reader) → a.live ≡ true → Stays a a
 stays_same a live = record { was_live = live; live = live; goes_on = Spends-refl a.incoming a.budget; position = refl; extent = λ _. refl; left = λ _. refl }
@@ -94,7 +94,7 @@ some_then gathered limits m a g n b h o c k one two = record {
 
 -- ---- the end
 
--- no event came
+-- no event was found
 pub none_found : (limits : Limits) (m : Machine) (a : Reader) (fault : Fault) (b : Reader) → FindsFault limits m a fault b → MissesEvents limits m a fault b
 none_found limits m a (Refused reason bit) b (s, told) = (s.goes_on, λ tells. ap (λ (told : Told). told.1) (told tells))
 none_found limits m a Read b s = s.fails
@@ -159,6 +159,6 @@ whole_gathered gathered limits i head m a g b h after begun none is_after all te
       gathers = subst (λ (events : List Event). gathered g events h) it.flattened (all.gathers g [] none (sym begun.depth)).0;
     }
 
--- whether the source tells its bytes or not
+-- whether the bytes of the source are known or not
 pub some_gathered : {G : Type 0} (gathered : G → List Event → G → Type 0) (limits : Limits) (m : Machine) (a : Reader) (g : G) (b : Reader) (h : G) → gathered g [] g → vec_len m.frames ≡ 0 → GathersAll gathered limits m a g b h → GatheredSome gathered g h
 some_gathered gathered limits m a g b h none outside all = (let it = all.gathers g [] none (sym outside) in (all.events, it.0, it.1))

@@ -31,7 +31,7 @@ use Rattle.bit_events.specs.FrameView.{info_shown, described_value, described_id
 
 -- ---- definitions
 
--- one more definition for the block that is described
+-- one more definition for the described block
 pub put_described : (f : Frame) (d : Describing) (id : ℕ) (ops : List Op) (made : List (ℕ × List (List Op))) (result : Result (Unit {0}) AllocError) → f.info ≡ Some d → d.described ≡ Some id → OnOk result ((other : ℕ) → definitions_at made other ≡ defined_at id ops (definitions_at d.made) other)
     → OnOk result ((handed : Handed) → scope_of (frame_shown (record f { info = Some (record d { made = made }) })) handed ≡ defined (info_shown f.info) ops (scope_of (frame_shown f) handed))
 put_described f d id ops made (Ok x) is described puts = λ handed.
@@ -107,12 +107,12 @@ no_entry room first id definitions a fault b other none why =
         let some : None ≡ Some (get_or definitions (id - 4) []) = sym none ∙ slice_get-get_or definitions (id - 4) [] (ltb-true (id - 4) (length definitions) is) in
         absurd cc
 
--- what adds a record by one rule adds it by another
+-- adding a record by one rule is adding it by another
 pub added_as : {V : Type 0} (took : V → List ℕ → Type 0) (v w : V) (rule other : Grammar CodeAndValues) (room : ℕ) (a b : Reader) → ((r : Result CodeAndValues Fault) → Takes rule a r b → Takes other a r b) → (result : Result ℕ Fault) → Gains took v w (AddsWithin rule room a result b) → Gains took v w (AddsWithin other room a result b)
 added_as took v w rule other room a b so (Ok code) gains = λ before t. let h = gains before t in (h.0, h.1, ((h.2.0.0, h.2.0.1, so (Ok (record { code = code; values = h.2.0.0 })) h.2.0.2), h.2.1))
 added_as took v w rule other room a b so (Err fault) gains = λ before t. let h = gains before t in (h.0, h.1, ((h.2.0.0, h.2.0.1, so (Err fault) h.2.0.2), tt))
 
--- what fails before a value is read
+-- a failure before a value is read
 pub fails_so : (rule : Grammar CodeAndValues) (room : ℕ) (a : Reader) (fault : Fault) (b : Reader) (before : List ℕ) → Why rule a fault b → AddsWithin rule room a (Err fault) b before before
 fails_so rule room a fault b before why = (([], sym (append-nil before), why), tt)
 
@@ -205,12 +205,12 @@ record_took limit first id scope a e b after info c t is u =
     told (record_after limit first id scope) a (Ok (record { abbreviation = id; code = e.code; values = e.values; first = first; after = after }, record scope { info = info; handed = record { table = scope.handed.table; used = scope.handed.used + length e.values } })) c
     (andThen t (here after is (andThen u (ends u.live))))
 
--- what is read into what had no values
+-- what is read into an empty value sink
 pub added : (rule : Grammar CodeAndValues) (room : ℕ) (a : Reader) (result : Result ℕ Fault) (b : Reader) (now : List ℕ) → AddsWithin rule room a result b [] now → Takes rule a (told_by (λ code. record { code = code; values = now }) result) b
 added rule room a (Ok code) b now h = rw h.0.1 h.0.2
 added rule room a (Err fault) b now h = h.0.2
 
--- the first value tells which block is described
+-- the first value sets the described block
 pub described_first : (value : Option ℕ) (values : List ℕ) → value ≡ slice_get values 0 → described_value value ≡ described_id values
 described_first value [] is = ap described_value is
 described_first value (id ∷ values) is = ap described_value is

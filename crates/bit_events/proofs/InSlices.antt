@@ -1,4 +1,4 @@
--- Events of a slice: records that are read where they lie, and a reader that then catches up.
+-- Events of a slice: records that are read in place, and a reader that then catches up.
 use Rattle.std.proofs.Common.{◌≡◌, ℕ, ◌+◌, ◌-◌, ◌^◌, ◌<◌, ◌≤◌, min, Bool, true, false, List, [], ◌++◌, length, drop, Option, Some, None, Result, Ok, Err, refl, sym, ap, subst, ◌∙◌, arith, length-append, length-drop, vec_len}
 use Rattle.bit_grammar.specs.Grammar as grammar
 use Rattle.bit_grammar.specs.Grammar.{reading}
@@ -8,11 +8,11 @@ use Rattle.bit_grammar.specs.Machine.{Event, accepted, step}
 use Rattle.bit_fields.specs.declared.fault.Fault.{Fault}
 use Rattle.bit_fields.specs.declared.fault.Fault.TheVariants.{Refused, Read, Write, Memory, OutputTooLong, Failed}
 use Rattle.bit_fields.specs.declared.head.Head.{Head}
-use Rattle.bit_fields.specs.Ahead.{InSight, Glimpsed, Sees}
+use Rattle.bit_fields.specs.Buffered.{BufferedBits, Reads, Sees}
 use Rattle.bit_fields.specs.Ending.{Stays}
 use Rattle.bit_fields.specs.Reader.{Reader, TellsBytes, Took, Why, Breaks}
 use Rattle.bit_fields.proofs.Gap.{gap_whole}
-use Rattle.bit_fields.proofs.Glimpses.{glimpsed_passed, seen_took}
+use Rattle.bit_fields.proofs.BufferedReads.{reads_passed, seen_took}
 use Rattle.bit_fields.proofs.InflowLaws.{Spends-refl}
 use Rattle.bit_events.specs.declared.machine.Step.{Step}
 use Rattle.bit_events.specs.declared.machine.Machine.{Machine}
@@ -24,14 +24,14 @@ use Rattle.bit_events.specs.SliceEvents.{reader_seen, SeesEvents}
 use Rattle.bit_events.proofs.Advancing.{Ready, pays_both, stops_after, loses_after, leaves_later, event_told, dead, IsLike}
 use Rattle.bit_events.proofs.Runs.{advanced_both}
 
--- ---- records that are read where they lie
+-- ---- records that are read in place
 
--- so many values stand behind those before
+-- this many values come after those before
 pub counted_behind : (before after list : List ℕ) (some all : ℕ) → some ≡ min (length before) (2 ^ 64 - 1) → all ≡ min (length after) (2 ^ 64 - 1) → after ≡ before ++ list → some ≤ 2 ^ 63 → length list ≤ 4294967295 → all - some ≡ length list
 counted_behind before after list some all is is_all parts few short = omega (arith, is, is_all, few, short, ap length parts, length-append before list)
 
--- what holds behind such a record
-pub seen_behind : {is_over : Bool} {found : Option Step} (limits : Limits) (m n : Machine) (r : Reader) (a b : InSight) (event : Event) → r.live ≡ true → 0 < vec_len m.frames → n.frames ≡ m.frames → a.position < b.position → SeesEvents is_over m found r a → Glimpsed (step limits (machine_shown m)) a (event, machine_shown n) b → SeesEvents is_over n None r b
+-- the invariant after such a record
+pub seen_behind : {is_over : Bool} {found : Option Step} (limits : Limits) (m n : Machine) (r : Reader) (a b : BufferedBits) (event : Event) → r.live ≡ true → 0 < vec_len m.frames → n.frames ≡ m.frames → a.position < b.position → SeesEvents is_over m found r a → Reads (step limits (machine_shown m)) a (event, machine_shown n) b → SeesEvents is_over n None r b
 seen_behind limits m n r a b event live some same forward s seen = record {
   behind = λ _. omega (arith, s.behind live, forward);
   there = there;
@@ -42,13 +42,13 @@ seen_behind limits m n r a b event live some same forward s seen = record {
   where
     there : r.live ≡ true → TellsBytes r → b.position - r.position ≤ length r.left
     there _ k =
-        let p = glimpsed_passed (step limits (machine_shown m)) a (event, machine_shown n) b seen in
+        let p = reads_passed (step limits (machine_shown m)) a (event, machine_shown n) b seen in
         let front = (s.sees live).front k in
         omega (arith, s.behind live, s.there live k, p.2, ap length p.1, length-append p.0 b.bits, ap length front.1, length-append a.bits front.0, length-drop (a.position - r.position) r.left)
 
 -- it is the next event
-pub seen_given : (is_over : Bool) (limits : Limits) (head : Head) (m n : Machine) (vs list : List ℕ) (found : Option Step) (r : Reader) (a b : InSight) (id code first after : ℕ) → r.live ≡ true → 0 < vec_len m.frames → n.frames ≡ m.frames → a.position < b.position → b.position < 2 ^ 64 → SeesEvents is_over m found r a
-    → Glimpsed (step limits (machine_shown m)) a (record_of id list first (code, after), machine_shown n) b → GivesEvent (coming_of is_over limits head m vs found a.position (reader_seen r a)) (record_of id list first (code, after)) (coming_of is_over limits head n list None b.position (reader_seen r b))
+pub seen_given : (is_over : Bool) (limits : Limits) (head : Head) (m n : Machine) (vs list : List ℕ) (found : Option Step) (r : Reader) (a b : BufferedBits) (id code first after : ℕ) → r.live ≡ true → 0 < vec_len m.frames → n.frames ≡ m.frames → a.position < b.position → b.position < 2 ^ 64 → SeesEvents is_over m found r a
+    → Reads (step limits (machine_shown m)) a (record_of id list first (code, after), machine_shown n) b → GivesEvent (coming_of is_over limits head m vs found a.position (reader_seen r a)) (record_of id list first (code, after)) (coming_of is_over limits head n list None b.position (reader_seen r b))
 seen_given is_over limits head m n vs list found r a b id code first after live some same forward below s seen = go is_over refl
   where
     event : Event
@@ -91,7 +91,7 @@ any_whole n p bits enough = gap_whole n p p bits enough
 same_left : (x y : (Unit {0}) × ℕ × List Bool) (r : Result ((Unit {0}) × ℕ × List Bool) grammar.Fault) → r ≡ Ok x → r ≡ Ok y → x.2 ≡ y.2
 same_left x y r p q = (let e = sym p ∙ q in cc)
 
-caught : (r : Reader) (a : InSight) (s : Reader) → Took (any_bits (a.position - r.position)) r tt s → a.position - r.position ≤ length r.left → TellsBytes r → s.left ≡ drop (a.position - r.position) r.left
+caught : (r : Reader) (a : BufferedBits) (s : Reader) → Took (any_bits (a.position - r.position)) r tt s → a.position - r.position ≤ length r.left → TellsBytes r → s.left ≡ drop (a.position - r.position) r.left
 caught r a s t there k = go (reading (any_bits n) r.position r.left) (any_whole n r.position r.left there) (t.reads k)
   where
     n : ℕ
@@ -100,8 +100,8 @@ caught r a s t there k = go (reading (any_bits n) r.position r.left) (any_whole 
     go : (x : Result ((Unit {0}) × ℕ × List Bool) grammar.Fault) → x ≡ Ok (tt, r.position + n, drop n r.left) → x ≡ Ok (tt, s.position, s.left) → s.left ≡ drop n r.left
     go x e f = sym (same_left (tt, r.position + n, drop n r.left) (tt, s.position, s.left) x e f)
 
--- it then stands where it would stand
-caught_up_to : {is_over : Bool} {m : Machine} {found : Option Step} (r : Reader) (a : InSight) (s : Reader) → r.live ≡ true → SeesEvents is_over m found r a → Took (any_bits (a.position - r.position)) r tt s → s.position ≡ r.position + (a.position - r.position) → Stays (reader_seen r a) s
+-- it is then at the same position
+caught_up_to : {is_over : Bool} {m : Machine} {found : Option Step} (r : Reader) (a : BufferedBits) (s : Reader) → r.live ≡ true → SeesEvents is_over m found r a → Took (any_bits (a.position - r.position)) r tt s → s.position ≡ r.position + (a.position - r.position) → Stays (reader_seen r a) s
 caught_up_to r a s live sees t place = record {
   was_live = live;
   live = t.live;
@@ -116,7 +116,7 @@ caught_up_to r a s live sees t place = record {
 same_told : (limits : Limits) (m : Machine) (a b : Reader) → Stays a b → TellsBytes a → left_to_tell limits m a ≡ left_to_tell limits m b
 same_told limits m a b p k = rw (p.extent k, p.position, p.left k) refl
 
--- what is found by a reader that took nothing before
+-- what a reader finds that took nothing before
 finds_behind : (limits : Limits) (m n : Machine) (a b c : Reader) (list : List ℕ) (result : Result (Option Step) Fault) → Stays a b → FindsNext limits m b list result n c → FindsNext limits m a list result n c
 finds_behind limits m n a b c list (Ok (Some step)) p (h, forward) = (
   record {
@@ -143,29 +143,29 @@ finds_behind limits m n a b c list (Err Failed) p h = h
 finds_behind limits m n a b c list (Err Write) p h = h
 finds_behind limits m n a b c list (Err OutputTooLong) p h = h
 
--- it stands where what is in sight begins
-pub seen_at : {is_over : Bool} {m : Machine} {found : Option Step} {r : Reader} {a : InSight} → r.live ≡ true → SeesEvents is_over m found r a → (reader_seen r a).position ≡ a.position
+-- its position is where the buffered bits begin
+pub seen_at : {is_over : Bool} {m : Machine} {found : Option Step} {r : Reader} {a : BufferedBits} → r.live ≡ true → SeesEvents is_over m found r a → (reader_seen r a).position ≡ a.position
 seen_at live sees = omega (arith, sees.behind live)
 
 -- what a reader finds that caught up
-pub found_behind : {is_over : Bool} {found : Option Step} (limits : Limits) (m n : Machine) (r : Reader) (a : InSight) (s c : Reader) (list : List ℕ) (bits : ℕ) (result : Result (Option Step) Fault) → r.live ≡ true → SeesEvents is_over m found r a → bits ≡ a.position - r.position → Took (any_bits bits) r tt s → s.position ≡ r.position + bits
+pub found_behind : {is_over : Bool} {found : Option Step} (limits : Limits) (m n : Machine) (r : Reader) (a : BufferedBits) (s c : Reader) (list : List ℕ) (bits : ℕ) (result : Result (Option Step) Fault) → r.live ≡ true → SeesEvents is_over m found r a → bits ≡ a.position - r.position → Took (any_bits bits) r tt s → s.position ≡ r.position + bits
     → FindsNext limits m s list result n c → FindsNext limits m (reader_seen r a) list result n c
 found_behind limits m n r a s c list bits result live sees is took place finds =
     finds_behind limits m n (reader_seen r a) s c list result (caught_up_to r a s live sees (subst (λ (k : ℕ). Took (any_bits k) r tt s) is took) (omega (arith, place, is))) finds
 
--- a reader of which nothing was read in sight
-pub nothing_seen : (c : Reader) (a : InSight) → c.position ≡ a.position → reader_seen c a ≡ c
+-- a reader of which nothing was read from the buffer
+pub nothing_seen : (c : Reader) (a : BufferedBits) → c.position ≡ a.position → reader_seen c a ≡ c
 nothing_seen c a same =
     let none : a.position - c.position ≡ 0 = omega (arith, same) in
     let place : c.position + 0 ≡ c.position = omega arith in
     rw (none, place) refl
 
--- where the reader stands behind what is in sight matters to nobody once it has failed
-pub like_seen : (c : Reader) (a : InSight) → IsLike c (reader_seen c a)
+-- the position of a reader after the buffered bits does not matter once it has failed
+pub like_seen : (c : Reader) (a : BufferedBits) → IsLike c (reader_seen c a)
 like_seen c a = record { live = refl; incoming = refl; budget = refl }
 
--- it failed to catch up, which only a source does that fails
-pub not_caught : {is_over : Bool} {found : Option Step} (limits : Limits) (m : Machine) (r : Reader) (a : InSight) (fault : Fault) (s : Reader) → r.live ≡ true → SeesEvents is_over m found r a → Why (any_bits (a.position - r.position)) r fault s → FindsFault limits m (reader_seen r a) fault s
+-- it failed to catch up, which only a failed source causes
+pub not_caught : {is_over : Bool} {found : Option Step} (limits : Limits) (m : Machine) (r : Reader) (a : BufferedBits) (fault : Fault) (s : Reader) → r.live ≡ true → SeesEvents is_over m found r a → Why (any_bits (a.position - r.position)) r fault s → FindsFault limits m (reader_seen r a) fault s
 not_caught limits m r a (Refused reason bit) s live sees (t, breaks) = (
   record { was_live = live; failed = t.failed; goes_on = t.goes_on },
   λ k. absurd (subst (λ (x : Result ((Unit {0}) × ℕ × List Bool) grammar.Fault). Breaks r.extent x reason bit) (any_whole (a.position - r.position) r.position r.left (sees.there live k)) (breaks k)),

@@ -8,7 +8,7 @@ use Rattle.bit_fields.specs.Devices.{Incoming, known_bytes, keeps_of}
 use Rattle.bit_fields.proofs.Keeping.{spends_within, fails_within, all_kept}
 use Rattle.bit_events.specs.Reading.{Spent, ReadsWhole}
 
--- how the source stands in the end
+-- the state of the source at the end
 pub record Stands (q now : Incoming) : Type 0 where
   pub is : Bool
   pub bytes : List ℕ
@@ -33,7 +33,7 @@ pub kept_misread : {A B : Type 0} (Holds : List ℕ → A → Type 0) (Others : 
 kept_misread Holds Others limits i p q now fault begun s read =
     misread Holds Others limits s.is s.bytes i now fault (subst (λ (r : Incoming). ReadsWhole Holds limits (keeps_of true [] i) (Err fault) r) s.same (subst (λ (r : Incoming). ReadsWhole Holds limits r (Err fault) q) begun read))
 
--- it was, and memory for its bytes was refused
+-- it was, but an allocation for its bytes failed
 pub kept_lost : {A : Type 0} (Holds : List ℕ → A → Type 0) (limits : Limits) (i p q now : Incoming) (a : A) → p ≡ keeps_of true [] i → Stands q now → ReadsWhole Holds limits p (Ok a) q → Spent limits i now
 kept_lost Holds limits i p q now a begun s read =
     spends_within true s.is [] s.bytes i now _ _ (subst (λ (r : Incoming). Spent limits (keeps_of true [] i) r) s.same (subst (λ (r : Incoming). Spent limits r q) begun read.0))

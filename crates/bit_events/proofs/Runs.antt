@@ -1,4 +1,4 @@
--- Records that are in sight, gathered one after the other.
+-- Buffered records, gathered one after another.
 use Rattle.std.proofs.Common.{◌≡◌, ℕ, ◌+◌, ◌-◌, ◌<◌, ◌≤◌, Bool, List, [], ◌∷◌, ◌++◌, length, drop, None, Option, Result, Ok, Err, refl, sym, ap, subst, ◌∙◌, arith, append_assoc, length-append, vec_len, get_or, suc}
 use Rattle.std.proofs.lemmas.List.{drop_at}
 use Rattle.bit_grammar.specs.Grammar as grammar
@@ -11,14 +11,14 @@ use Rattle.bit_grammar.specs.Terms as terms
 use Rattle.bit_grammar.specs.Blocks.{Limits, Handed, Scope, entry}
 use Rattle.bit_grammar.specs.Machine as machine
 use Rattle.bit_grammar.specs.Machine.{Event, Told, scope_of, step, step_of}
-use Rattle.bit_fields.specs.Ahead.{InSight, Glimpsed, Sees, reader_further, reader_at}
+use Rattle.bit_fields.specs.Buffered.{BufferedBits, Reads, Sees, reader_further, reader_at}
 use Rattle.bit_fields.specs.declared.fault.Fault.{Fault}
 use Rattle.bit_fields.specs.Reader.{Reader, TellsBytes, Took, Takes, Why}
 use Rattle.bit_fields.specs.Short.{TookNothing}
 use Rattle.bit_fields.proofs.Composing.{same_reading, took_then, fault_then}
 use Rattle.bit_fields.proofs.Gap.{gap_whole}
 use Rattle.bit_fields.proofs.BitLaws.{drop_more}
-use Rattle.bit_fields.proofs.Glimpses.{glimpsed_forward, glimpsed_passed, took_glimpsed, seen_took, not_caught_up}
+use Rattle.bit_fields.proofs.BufferedReads.{reads_forward, reads_passed, took_reads, seen_took, not_caught_up}
 use Rattle.bit_abbrev.specs.Values.{AddsWithin}
 use Rattle.bit_abbrev.proofs.Buffered.{took_at}
 use Rattle.bit_events.specs.declared.frame.Frame.{Frame}
@@ -38,7 +38,7 @@ use Rattle.bit_events.proofs.Stepping.{in_then, innermost, after_record as recor
 -- ---- one record
 
 -- a record of a block that is no BLOCKINFO block, after the id
-pub rule_seen : (limit : ℕ) (f : machine.Frame) (outer : List machine.Frame) (handed : Handed) (first id code : ℕ) (list : List ℕ) (b c : InSight) → f.info ≡ None → Took (entry (limit - handed.used) first id f.definitions) (reader_at b) (record { code = code; values = list }) (reader_at c)
+pub rule_seen : (limit : ℕ) (f : machine.Frame) (outer : List machine.Frame) (handed : Handed) (first id code : ℕ) (list : List ℕ) (b c : BufferedBits) → f.info ≡ None → Took (entry (limit - handed.used) first id f.definitions) (reader_at b) (record { code = code; values = list }) (reader_at c)
     → Took (record_rule limit f outer first id handed) (reader_at b) (record_of id list first (code, c.position), after_record f outer handed list) (reader_at c)
 rule_seen limit f outer handed first id code list b c none t =
     record_took limit f outer first id handed (reader_at b) (record { abbreviation = id; code = code; values = list; first = first; after = c.position }) (record scope { info = None; handed = more }) (reader_at c) new
@@ -59,11 +59,11 @@ rule_seen limit f outer handed first id code list b c none t =
     made : new ≡ machine.inside f.head outer (record scope { info = None; handed = more })
     made = ap (λ (info : Option terms.BlockInfo). record { frames = record { head = f.head; definitions = f.definitions; info = info } ∷ outer; handed = more }) none
 
--- the same with its id
-pub record_seen : (limits : Limits) (f : machine.Frame) (outer : List machine.Frame) (handed : Handed) (id code : ℕ) (list : List ℕ) (a b c : InSight) → f.info ≡ None → 3 ≤ id → Glimpsed (fixed f.head.width) a id b → Took (entry (limits.values - handed.used) a.position id f.definitions) (reader_at b) (record { code = code; values = list }) (reader_at c)
-    → Glimpsed (step_of limits (f ∷ outer) handed) a (record_of id list a.position (code, c.position), after_record f outer handed list) c
+-- the same record with its id
+pub record_seen : (limits : Limits) (f : machine.Frame) (outer : List machine.Frame) (handed : Handed) (id code : ℕ) (list : List ℕ) (a b c : BufferedBits) → f.info ≡ None → 3 ≤ id → Reads (fixed f.head.width) a id b → Took (entry (limits.values - handed.used) a.position id f.definitions) (reader_at b) (record { code = code; values = list }) (reader_at c)
+    → Reads (step_of limits (f ∷ outer) handed) a (record_of id list a.position (code, c.position), after_record f outer handed list) c
 record_seen limits f outer handed id code list a b c none most seen t =
-    took_glimpsed (step_of limits (f ∷ outer) handed) a (event, new) c
+    took_reads (step_of limits (f ∷ outer) handed) a (event, new) c
     (in_then limits f.head outer (scope_of f handed) (reader_at a) id (reader_at b) a.position (Ok (event, new)) (reader_at c) refl (took_at (fixed f.head.width) a id b seen)
     (record_follows limits f outer a.position id handed (reader_at b) (Ok (event, new)) (reader_at c) (other_than id 0 most (omega arith)) (other_than id 1 most (omega arith)) (other_than id 2 most (omega arith))
     (rule_seen limits.values f outer handed a.position id code list b c none t)))
@@ -74,21 +74,21 @@ record_seen limits f outer handed id code list a b c none most seen t =
     new : machine.Machine
     new = after_record f outer handed list
 
--- a record of the innermost block as it is held
-pub held_seen : (limit : ℕ) (m : Machine) (k : ℕ) (f : Frame) (shown : machine.Frame) (outer : List machine.Frame) (room first id code : ℕ) (list : List ℕ) (after used : ℕ) (a : InSight) → length m.frames.items ≡ suc k → f ≡ get_or m.frames.items k f → frames_shown m.frames.items ≡ shown ∷ outer → f.info ≡ None → limit - m.used ≡ room → used ≡ m.used + length list → (reads : ReadsTo f.definitions room id first a code list after)
-    → Glimpsed (record_rule limit shown outer first id (handed_shown m)) a (record_of id list first (code, after), machine_shown (record m { used = used })) reads.0
+-- a record of the innermost block, as the machine holds it
+pub held_seen : (limit : ℕ) (m : Machine) (k : ℕ) (f : Frame) (shown : machine.Frame) (outer : List machine.Frame) (room first id code : ℕ) (list : List ℕ) (after used : ℕ) (a : BufferedBits) → length m.frames.items ≡ suc k → f ≡ get_or m.frames.items k f → frames_shown m.frames.items ≡ shown ∷ outer → f.info ≡ None → limit - m.used ≡ room → used ≡ m.used + length list → (reads : ReadsTo f.definitions room id first a code list after)
+    → Reads (record_rule limit shown outer first id (handed_shown m)) a (record_of id list first (code, after), machine_shown (record m { used = used })) reads.0
 held_seen limit m k f shown outer room first id code list after used a n is split none same more reads =
     let inner = innermost m.frames.items k f shown outer n is split in
     let read : Took (entry (limit - m.used) first id shown.definitions) (reader_at a) (record { code = code; values = list }) (reader_at reads.0) = subst (λ (x : machine.Frame). Took (entry (limit - m.used) first id x.definitions) (reader_at a) (record { code = code; values = list }) (reader_at reads.0)) inner (rw same reads.3) in
     let plain : shown.info ≡ None = subst (λ (x : machine.Frame). x.info ≡ None) inner (ap info_shown none) in
-    rw (more, split, ← reads.1) (took_glimpsed (record_rule limit shown outer first id (handed_shown m)) a (record_of id list first (code, reads.0.position), after_record shown outer (handed_shown m) list) reads.0
+    rw (more, split, ← reads.1) (took_reads (record_rule limit shown outer first id (handed_shown m)) a (record_of id list first (code, reads.0.position), after_record shown outer (handed_shown m) list) reads.0
     (rule_seen limit shown outer (handed_shown m) first id code list a reads.0 plain read))
 
--- what was not asked for a bit did not break a rule
+-- a fault of a call that reads no bits is a fault for any rule
 pub nothing_missed : {A : Type 0} (rule : Grammar A) (a : Reader) (fault : Fault) (b : Reader) → Why (gives (tt {0})) a fault b → Why rule a fault b
 nothing_missed rule a fault b w = same_reading (gives (tt {0}) >>= λ v. rule) rule a (Err fault) b (λ p r. refl) (fault_then (gives (tt {0})) (λ v. rule) a fault b w)
 
--- what was added stands behind the values before
+-- the values added come after the earlier ones
 pub added_behind : (rule : Grammar CodeAndValues) (room : ℕ) (a : Reader) (code : ℕ) (b : Reader) (before after : List ℕ) → AddsWithin rule room a (Ok code) b before after → AddsBehind (λ list. (length list ≤ room) × Took rule a (record { code = code; values = list }) b) before after
 added_behind rule room a code b before after h = (h.0.0, h.0.1, (omega (arith, h.1, ap length h.0.1, length-append before h.0.0), h.0.2))
 
@@ -99,14 +99,14 @@ advanced_both r n m k all =
     let place : r.position + n + m ≡ r.position + k = omega (arith, all) in
     rw (place, drop_more n m r.left, all) refl
 
-passed_forward : (a b : InSight) → Passed a b → a.position ≤ b.position
+passed_forward : (a b : BufferedBits) → Passed a b → a.position ≤ b.position
 passed_forward a b p = omega (arith, p.2)
 
-passed_both : (a b c : InSight) → Passed a b → Passed b c → Passed a c
+passed_both : (a b c : BufferedBits) → Passed a b → Passed b c → Passed a c
 passed_both a b c p q = (p.0 ++ q.0, p.1 ∙ ap (λ (s : List Bool). p.0 ++ s) q.1 ∙ sym (append_assoc p.0 q.0 c.bits), omega (arith, p.2, q.2, length-append p.0 q.0))
 
 -- no record
-pub gathers_none : {G : Type 0} (gathered : G → List Event → G → Type 0) (limits : Limits) (f : Frame) (used : ℕ) (a : InSight) (g : G) → GathersTo gathered limits f used a g used a g
+pub gathers_none : {G : Type 0} (gathered : G → List Event → G → Type 0) (limits : Limits) (f : Frame) (used : ℕ) (a : BufferedBits) (g : G) → GathersTo gathered limits f used a g used a g
 gathers_none gathered limits f used a g = record {
   passed = ([], refl, omega arith);
   gathers = λ m outer r split is sees.
@@ -115,13 +115,13 @@ gathers_none gathered limits f used a g = record {
       rw (none, same, ← is) (none_yet gathered limits m r g sees.live (λ closed. absurd (omega (arith, closed, m.frames.ok.0, length-frames m.frames.items, ap length split))), sees);
 }
 
--- a step that was seen, after what was passed
-passed_more : {A : Type 0} (rule : Grammar A) (a b : InSight) (value : A) (c : InSight) → Passed a b → Glimpsed rule b value c → Passed a c
-passed_more rule a b value c p seen = (let q = glimpsed_passed rule b value c seen in passed_both a b c p (q.0, q.1, q.2))
+-- a step that was seen, after bits that were skipped
+passed_more : {A : Type 0} (rule : Grammar A) (a b : BufferedBits) (value : A) (c : BufferedBits) → Passed a b → Reads rule b value c → Passed a c
+passed_more rule a b value c p seen = (let q = reads_passed rule b value c seen in passed_both a b c p (q.0, q.1, q.2))
 
--- a step of the innermost block, by a reader that sees it
-one_seen : {G : Type 0} (gathered : G → List Event → G → Type 0) (limits : Limits) (m n : Machine) (outer : List machine.Frame) (f : machine.Frame) (g h : G) (id code : ℕ) (list : List ℕ) (r : Reader) (b c : InSight) → frames_shown m.frames.items ≡ f ∷ outer → n.frames ≡ m.frames → machine_shown n ≡ after_record f outer (machine_shown m).handed list → b.position ≤ c.position
-    → Sees r b → Glimpsed (step_of limits (f ∷ outer) (machine_shown m).handed) b (record_of id list b.position (code, c.position), after_record f outer (machine_shown m).handed list) c → Gathers gathered g (record_of id list b.position (code, c.position)) h
+-- a step of the innermost block, by a reader before these bits
+one_seen : {G : Type 0} (gathered : G → List Event → G → Type 0) (limits : Limits) (m n : Machine) (outer : List machine.Frame) (f : machine.Frame) (g h : G) (id code : ℕ) (list : List ℕ) (r : Reader) (b c : BufferedBits) → frames_shown m.frames.items ≡ f ∷ outer → n.frames ≡ m.frames → machine_shown n ≡ after_record f outer (machine_shown m).handed list → b.position ≤ c.position
+    → Sees r b → Reads (step_of limits (f ∷ outer) (machine_shown m).handed) b (record_of id list b.position (code, c.position), after_record f outer (machine_shown m).handed list) c → Gathers gathered g (record_of id list b.position (code, c.position)) h
     → GathersSome gathered limits m r g n (reader_further r (c.position - b.position)) h
 one_seen gathered limits m n outer f g h id code list r b c split same made forward sees seen gathers =
     one_event gathered limits m r g event n after h (finds_event limits m n event r r after (in_block m r sees.live some) took leaves) gathers
@@ -142,8 +142,8 @@ one_seen gathered limits m n outer f g h id code list r b c split same made forw
     leaves = record { stands = some; opens = ap vec_len same; forward = omega arith; aligned = λ none. absurd (omega (arith, some, none, ap vec_len same)); holds = tt }
 
 -- one more
-pub gathers_more : {G : Type 0} (gathered : G → List Event → G → Type 0) (limits : Limits) (f : Frame) (used : ℕ) (a : InSight) (g : G) (now_used : ℕ) (b : InSight) (h : G) (id code : ℕ) (list : List ℕ) (c : InSight) (k : G) (more_used : ℕ) → GathersTo gathered limits f used a g now_used b h → more_used ≡ now_used + length list
-    → ((outer : List machine.Frame) (handed : Handed) → handed.used ≡ now_used → Glimpsed (step_of limits (frame_shown f ∷ outer) handed) b (record_of id list b.position (code, c.position), after_record (frame_shown f) outer handed list) c)
+pub gathers_more : {G : Type 0} (gathered : G → List Event → G → Type 0) (limits : Limits) (f : Frame) (used : ℕ) (a : BufferedBits) (g : G) (now_used : ℕ) (b : BufferedBits) (h : G) (id code : ℕ) (list : List ℕ) (c : BufferedBits) (k : G) (more_used : ℕ) → GathersTo gathered limits f used a g now_used b h → more_used ≡ now_used + length list
+    → ((outer : List machine.Frame) (handed : Handed) → handed.used ≡ now_used → Reads (step_of limits (frame_shown f ∷ outer) handed) b (record_of id list b.position (code, c.position), after_record (frame_shown f) outer handed list) c)
     → Gathers gathered h (record_of id list b.position (code, c.position)) k → GathersTo gathered limits f used a g more_used c k
 gathers_more {G = G} gathered limits f used a g now_used b h id code list c k more_used so is step gathers = record {
   passed = passed_more rule a b value c so.passed seen;
@@ -170,16 +170,16 @@ gathers_more {G = G} gathered limits f used a g now_used b h id code list c k mo
     value : Event × machine.Machine
     value = (record_of id list b.position (code, c.position), after_record (frame_shown f) [] some list)
 
-    seen : Glimpsed rule b value c
+    seen : Reads rule b value c
     seen = step [] some refl
 
     forward : b.position ≤ c.position
-    forward = glimpsed_forward rule b value c seen
+    forward = reads_forward rule b value c seen
 
 -- ---- a run
 
--- what was passed is some bits
-any_seen : (a b : InSight) → Passed a b → Glimpsed (any_bits (b.position - a.position)) a tt b
+-- the skipped bits are some bits
+any_seen : (a b : BufferedBits) → Passed a b → Reads (any_bits (b.position - a.position)) a tt b
 unfolding any_bits
 any_seen a b p =
     let n : ℕ = b.position - a.position in
@@ -195,7 +195,7 @@ same_left : (limits : Limits) (m : Machine) (a b : Reader) → b.extent ≡ a.ex
 same_left limits m a b extent position left = rw (extent, position, left) refl
 
 -- a reader that caught up
-run_taken : {G : Type 0} (gathered : G → List Event → G → Type 0) (limits : Limits) (m : Machine) (r : Reader) (g : G) (n : Machine) (h : G) (a b : InSight) (c : Reader) → 0 < vec_len n.frames → Passed a b → Sees r a → GathersSome gathered limits m r g n (reader_further r (b.position - a.position)) h → Took (any_bits (b.position - a.position)) r tt c → GathersSome gathered limits m r g n c h
+run_taken : {G : Type 0} (gathered : G → List Event → G → Type 0) (limits : Limits) (m : Machine) (r : Reader) (g : G) (n : Machine) (h : G) (a b : BufferedBits) (c : Reader) → 0 < vec_len n.frames → Passed a b → Sees r a → GathersSome gathered limits m r g n (reader_further r (b.position - a.position)) h → Took (any_bits (b.position - a.position)) r tt c → GathersSome gathered limits m r g n c h
 run_taken gathered limits m r g n h a b c some p sees all t = record {
   events = all.events;
   live = t.live;
@@ -217,13 +217,13 @@ after_nothing : {A : Type 0} (rule : Grammar A) (a b : Reader) (result : Result 
 after_nothing rule a b result c nothing t = same_reading (gives (tt {0}) >>= λ v. rule) rule a result c (λ p r. refl) (took_then (gives (tt {0})) (λ v. rule) a (tt {0}) b result c nothing t)
 
 -- a run, by a reader that then catches up
-pub run_gathered : {G : Type 0} (gathered : G → List Event → G → Type 0) (limits : Limits) (f : Frame) (m : Machine) (outer : List machine.Frame) (a : Reader) (g : G) (b : Reader) (sight : InSight) (used after : ℕ) (h : G) (result : Result (Unit {0}) Fault) (c : Reader) → frames_shown m.frames.items ≡ frame_shown f ∷ outer → TookNothing a b → Sees a sight
-    → GathersRun gathered limits f m.used sight g used after h → Takes (any_bits (after - sight.position)) b result c → TakesRun gathered limits m a g result (record m { used = used }) c h
-run_gathered gathered limits f m outer a g b sight used after h result c split nothing sees run t = go result (subst (λ (q : ℕ). Takes (any_bits (q - sight.position)) a result c) (sym run.1) (after_nothing (any_bits (after - sight.position)) a b result c nothing t))
+pub run_gathered : {G : Type 0} (gathered : G → List Event → G → Type 0) (limits : Limits) (f : Frame) (m : Machine) (outer : List machine.Frame) (a : Reader) (g : G) (b : Reader) (buffered_parts : BufferedBits) (used after : ℕ) (h : G) (result : Result (Unit {0}) Fault) (c : Reader) → frames_shown m.frames.items ≡ frame_shown f ∷ outer → TookNothing a b → Sees a buffered_parts
+    → GathersRun gathered limits f m.used buffered_parts g used after h → Takes (any_bits (after - buffered_parts.position)) b result c → TakesRun gathered limits m a g result (record m { used = used }) c h
+run_gathered gathered limits f m outer a g b buffered_parts used after h result c split nothing sees run t = go result (subst (λ (q : ℕ). Takes (any_bits (q - buffered_parts.position)) a result c) (sym run.1) (after_nothing (any_bits (after - buffered_parts.position)) a b result c nothing t))
   where
     some : 0 < vec_len m.frames
     some = omega (arith, m.frames.ok.0, length-frames m.frames.items, ap length split)
 
-    go : (result : Result (Unit {0}) Fault) → Takes (any_bits (run.0.position - sight.position)) a result c → TakesRun gathered limits m a g result (record m { used = used }) c h
-    go (Ok x) t = run_taken gathered limits m a g (record m { used = used }) h sight run.0 c some run.2.passed sees (run.2.gathers m outer a split refl sees).0 t
-    go (Err fault) t = none_found limits m a fault c (finds_fault limits m a a fault c (in_block m a nothing.was_live some) (not_caught_up (any_bits (run.0.position - sight.position)) a sight tt run.0 fault c (step limits (machine_shown m)) sees (any_seen sight run.0 run.2.passed) t))
+    go : (result : Result (Unit {0}) Fault) → Takes (any_bits (run.0.position - buffered_parts.position)) a result c → TakesRun gathered limits m a g result (record m { used = used }) c h
+    go (Ok x) t = run_taken gathered limits m a g (record m { used = used }) h buffered_parts run.0 c some run.2.passed sees (run.2.gathers m outer a split refl sees).0 t
+    go (Err fault) t = none_found limits m a fault c (finds_fault limits m a a fault c (in_block m a nothing.was_live some) (not_caught_up (any_bits (run.0.position - buffered_parts.position)) a buffered_parts tt run.0 fault c (step limits (machine_shown m)) sees (any_seen buffered_parts run.0 run.2.passed) t))

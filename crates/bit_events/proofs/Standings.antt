@@ -1,4 +1,4 @@
--- The open blocks, as the program keeps them.
+-- The open blocks, in the program's state.
 use Rattle.std.proofs.Common.{◌≡◌, ℕ, suc, ◌-◌, ◌≤◌, Bool, true, false, List, [], ◌∷◌, ◌++◌, length, refl, sym, ap, subst, ◌∙◌, arith}
 use Rattle.std.specs.Prelude.{if◌then◌else◌, reverse, ◌&&◌}
 use Rattle.std.specs.List.{list_all}
@@ -15,7 +15,7 @@ pub left_is : (s : Setting) (inner : Around) (outer : List Around) → AreJudged
 left_is s inner [] h = h.0
 left_is s inner (next ∷ outer) h = h.0
 
--- whether a record is left: that of a whole block, of one that is left, and of one that is not
+-- whether a record is kept: one of a whole block, of a block that is kept, and of a block that is not
 pub whole_left : (s : Setting) (inner : Around) (outer : List Around) (code : ℕ) → AreJudged s inner outer → inner.is_whole ≡ true → true ≡ (list_all (keeps s) (ids_of inner outer) && keeps_record s (innermost (ids_of inner outer)) code)
 whole_left s inner [] code h whole = sym (info_kept s code)
 whole_left s inner (next ∷ outer) code h whole = (let known = h.1 whole in rw (← h.0, known.0, known.1 code) refl)
@@ -40,9 +40,9 @@ pub judged_more : (s : Setting) (inner next : Around) (items new : List Around) 
 judged_more s inner next items new h is left whole =
     subst (AreJudged s next) (sym (reverse-push items new inner is)) (left ∙ ap (λ (b : Bool). keeps s next.id && b) (left_is s inner (reverse items) h), whole, h)
 
--- ---- which events are left
+-- ---- which events are kept
 
--- how many of the open blocks are left
+-- how many of the open blocks are kept
 abbrev pub kept_count : Setting → List ℕ → ℕ
 kept_count s [] = 0
 kept_count s (id ∷ ids) = if list_all (keeps s) (id ∷ ids) then suc (kept_count s ids) else kept_count s ids
@@ -62,7 +62,7 @@ all_counted s (id ∷ ids) all = go (list_all (keeps s) (id ∷ ids)) all (all_c
 one_less : (n : ℕ) → suc n - 1 ≡ n
 one_less n = omega arith
 
--- the events that are left leave as many blocks open
+-- the events that are kept leave as many blocks open
 open_left : (s : Setting) (events : List Event) (ids : List ℕ) → open_behind (events_under s ids events) (kept_count s ids) ≡ kept_count s (ids_behind events ids)
 open_left s [] ids = refl
 open_left s (enters o ∷ events) ids = go (list_all (keeps s) (o.id ∷ ids)) (open_left s events (o.id ∷ ids))
@@ -102,7 +102,7 @@ length-ids (notes mark ∷ events) ids = length-ids events ids
 length-ids (leaves after ∷ events) [] = length-ids events []
 length-ids (leaves after ∷ events) (id ∷ ids) = length-ids events ids ∙ ap (open_behind events) (sym (one_less (length ids)))
 
--- where all open blocks are left, as many are open by the events that are left
+-- if all open blocks are kept, the kept events leave as many open
 pub left_as_many : (s : Setting) (events : List Event) → list_all (keeps s) (ids_behind events []) ≡ true → left_open (events_under s [] events) ≡ left_open events
 left_as_many s events all = open_left s events [] ∙ all_counted s (ids_behind events []) all ∙ length-ids events []
 
@@ -131,7 +131,7 @@ left_push s (e ∷ events) event ids b is = go (is_left s ids e) (left_push s ev
     go true same = ap (λ (es : List Event). e ∷ es) same
     go false same = same
 
--- no more of them are left than are open; and fewer, where one is not left
+-- no more blocks are kept than are open; and fewer, if one is not kept
 pub counted_few : (s : Setting) (ids : List ℕ) → kept_count s ids ≤ length ids
 counted_few s [] = omega arith
 counted_few s (id ∷ ids) = go (list_all (keeps s) (id ∷ ids)) (counted_few s ids)

@@ -1,4 +1,4 @@
--- One step of the machine: what its parts take, by the rule for a step.
+-- One step of the machine: what its parts take by the rule for a step.
 use Rattle.std.proofs.Common.{◌≡◌, ℕ, zero, suc, ◌+◌, ◌<◌, ◌≤◌, Bool, true, false, not, is_some, eqb, ltb, List, [], ◌∷◌, ◌++◌, length, get_or, take, set, Option, Some, None, Result, Ok, Err, IsSome, is_none, refl, sym, ap, ◌∙◌, subst, arith}
 use Rattle.std.specs.Prelude.{unwrap_or, IfOk, OnOk}
 use Rattle.std.proofs.lemmas.Bool.{ne_eqb}
@@ -56,13 +56,13 @@ innermost frames k f shown outer n is split =
     let e : frame_shown f ∷ frames_onto (take k frames) [] ≡ shown ∷ outer = sym (frames_onto-last frames k f [] n is) ∙ split in
     cc
 
--- the blocks round it
+-- the blocks around it
 pub blocks_round : (frames : List Frame) (k : ℕ) (f : Frame) (shown : machine.Frame) (outer : List machine.Frame) → length frames ≡ suc k → f ≡ get_or frames k f → frames_shown frames ≡ shown ∷ outer → frames_onto (take k frames) [] ≡ outer
 blocks_round frames k f shown outer n is split =
     let e : frame_shown f ∷ frames_onto (take k frames) [] ≡ shown ∷ outer = sym (frames_onto-last frames k f [] n is) ∙ split in
     cc
 
--- another innermost block in the place of one
+-- another innermost block replaces one
 pub frames-set : (frames : List Frame) (k : ℕ) (f new : Frame) (shown : machine.Frame) (outer : List machine.Frame) → length frames ≡ suc k → f ≡ get_or frames k f → frames_shown frames ≡ shown ∷ outer → frames_shown (set frames k new) ≡ frame_shown new ∷ outer
 frames-set frames k f new shown outer n is split = frames_onto-set frames k new [] n ∙ ap (λ (others : List machine.Frame). frame_shown new ∷ others) (blocks_round frames k f shown outer n is split)
 
@@ -185,7 +185,7 @@ pub after_record : (limits : Limits) (f : machine.Frame) (outer : List machine.F
 unfolding step_after
 after_record limits f outer first id handed a result b no_end no_block no_definition t = told (step_after limits f.head outer first (scope_of f handed) id) a result b (second_rule no_end (second_rule no_block (second_rule no_definition (answers t))))
 
--- ---- the innermost block, as it is held
+-- ---- the innermost block, in the program's state
 
 is_none-shown : (info : Option Describing) → is_none info ≡ is_none (info_shown info)
 is_none-shown None = refl
@@ -259,11 +259,11 @@ held_end_took frames others f shown outer handed a after b c new is split t same
 
 -- ---- the head of the innermost block
 
--- it is that of the block that is held last
+-- it is that of the last block held
 pub head_held : (frames : List Frame) (k : ℕ) (f : Frame) → length frames ≡ suc k → f ≡ get_or frames k f → Some (head_shown f.head) ≡ innermost_head (frames_shown frames)
 head_held frames k f n is = sym (ap innermost_head (frames-some frames k f n is))
 
--- a block stands first where its head is known
+-- a block is first if its head is known
 pub record Innermost (frames : List machine.Frame) (head : blocks.BlockHead) : Type 0 where
   pub f : machine.Frame
   pub outer : List machine.Frame
@@ -283,7 +283,7 @@ newest_some (Some ops) some = refl
 pub definition_held : (m : Machine) (list : List ℕ) (first after : ℕ) → IsSome (newest (frames_shown m.frames.items)) → HoldsDefinition m (step_shown m list (Define first after))
 definition_held m list first after some = newest_some (newest (frames_shown m.frames.items)) some
 
--- what a call leaves that began further on
+-- the effect of a call that began later
 pub left_later : {X : Type 0} (deepest : ℕ) (old : Machine) (a b : Reader) (event : X → Event) (new : Machine) (c : Reader) (result : Result X Fault) → a.position ≤ b.position → IfOk result (λ x. LeavesMachine deepest old b (event x) new c) → IfOk result (λ x. LeavesMachine deepest old a (event x) new c)
 left_later deepest old a b event new c (Ok x) forward left = record { stands = left.stands; opens = left.opens; forward = omega (arith, forward, left.forward); aligned = left.aligned; holds = left.holds }
 left_later deepest old a b event new c (Err fault) forward left = tt
@@ -292,9 +292,9 @@ pub moved_later : {X : Type 0} (deepest : ℕ) (old : Machine) (a b : Reader) (e
 moved_later deepest old a b event new c (Ok x) forward left = omega (arith, forward, left.forward)
 moved_later deepest old a b event new c (Err fault) forward left = tt
 
--- ---- what takes values
+-- ---- the value sink
 
--- what was not asked is kept
+-- an unused value sink stays
 kept : {V : Type 0} (v : V) (step : Step) → KeepsValues step v v
 kept v (found.Enter id width first body) = refl
 kept v (found.Define first after) = refl

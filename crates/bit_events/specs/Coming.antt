@@ -1,4 +1,4 @@
--- What is to come of an input that is read event by event, and what a call for the next event does.
+-- The rest of an input that is read event by event, and the effect of a call for the next event.
 use Rattle.std.specs.Prelude.{◌≡◌, ℕ, ◌*◌, ◌^◌, ◌<◌, List, [], ◌∷◌, Bool, if◌then◌else◌, Option, Some, None, IsSome, Result, Ok, Err}
 use Rattle.bit_grammar.specs.declared.reason.Reason.TheVariants.{TooLong}
 use Rattle.bit_grammar.specs.Grammar as grammar
@@ -19,16 +19,16 @@ abbrev pub ending_of : Result (Unit {0}) grammar.Fault → ℕ → Ending
 ending_of (Ok _) p = accepted p
 ending_of (Err fault) p = broke fault
 
--- a stream whose blocks are whole ends by the limit on bytes where it goes on past it, else as is said of its input
+-- A stream whose blocks are complete ends by the limit on bytes if it goes on past it, or else by the verdict on its input.
 abbrev pub end_at : Extent → ℕ → Ending
 end_at e p = if is_cut e then broke (at TooLong (8 * e.limit)) else ending_of (verdict e) p
 
--- the end of a stream of this extent, where so ends what is read of it
+-- the end of a stream of this extent, if its reading ends in this way
 abbrev pub end_by : Extent → Ending → Ending
 end_by e (accepted p) = end_at e p
 end_by e (broke fault) = broke (within e fault.reason fault.bit)
 
--- the events to come, and their end, of what is left of a stream of this extent
+-- the remaining events of a stream of this extent, and their end
 abbrev pub told_of : Limits → Extent → Machine → ℕ → List Bool → Told
 told_of limits e m p left = (let told = to_come limits m p left in (told.0, end_by e told.1))
 
@@ -43,22 +43,22 @@ pub data Stage : Type 0 where
 pub record Coming : Type 0 where
   pub stage : Stage
   pub head : Head
-  -- the events to come and their end, where the source tells its bytes
+  -- the remaining events and their end, if the bytes of the source are known
   pub told : Told
-  -- how many blocks are open, and how many may be
+  -- how many blocks are open, and how many may be open
   pub depth : ℕ
   pub deepest : ℕ
-  -- the values of the record that was given last
+  -- the values of the last record
   pub held : List ℕ
-  -- the event that was given last
+  -- the last event
   pub last : Option Event
-  -- the bit behind the event that was given last, or behind the head, from the first bit of the input
+  -- the bit after the last event, or after the head, from the first bit of the input
   pub position : ℕ
   pub incoming : Incoming
-  -- how many pulls it may still make, and bytes take
+  -- how many pulls it may still make and bytes it may take, together
   pub budget : ℕ
 
--- the source tells its bytes
+-- the bytes of the source are known
 abbrev pub TellsComing : Coming → Type 0
 TellsComing c = IsSome c.incoming.to_come
 
@@ -77,7 +77,7 @@ held_after (leaves after) held = held
 abbrev pub event_before : Event → Told → Told
 event_before event told = (event ∷ told.0, told.1)
 
--- an event came, and the others are left
+-- an event was returned, and the others are left
 pub record GivesEvent (old : Coming) (event : Event) (new : Coming) : Type 0 where
   pub went : old.stage ≡ going
   pub goes : new.stage ≡ going
@@ -112,7 +112,7 @@ pub record StopsEvents (old new : Coming) : Type 0 where
   pub position : new.position ≡ old.position
   pub pays : Pays old new
 
--- a call failed for its source
+-- a call failed because its source did
 pub record LosesEvents (old new : Coming) : Type 0 where
   pub went : old.stage ≡ going
   pub stopped : new.stage ≡ failed
@@ -120,8 +120,8 @@ pub record LosesEvents (old new : Coming) : Type 0 where
   pub position : new.position ≡ old.position
   pub fails : Fails old.incoming old.budget new.incoming new.budget
 
--- Why no event came: the events end with this fault; the source failed; no memory; or a call before had failed, and nothing
--- changed.
+-- Why no event was returned: the events end with this fault; the source failed; out of memory; or an earlier call had failed, and
+-- nothing changed.
 abbrev pub BreaksOff : Coming → Fault → Coming → Type 0
 BreaksOff old (Refused reason bit) new = StopsEvents old new
     × (TellsComing old → old.told ≡ ([], broke (at reason bit)))
@@ -131,7 +131,7 @@ BreaksOff old Failed new = (old.stage ≡ failed) × (new ≡ old)
 BreaksOff old Write new = ⊥
 BreaksOff old OutputTooLong new = ⊥
 
--- what a call for the next event does
+-- the effect of a call for the next event
 abbrev pub Goes : Coming → Result (Option Event) Fault → Coming → Type 0
 Goes old (Ok (Some event)) new = GivesEvent old event new
 Goes old (Ok None) new = EndsEvents old new

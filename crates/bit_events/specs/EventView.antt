@@ -1,4 +1,4 @@
--- What is seen of an event of the program.
+-- The model of an event of the program.
 use Rattle.std.specs.Prelude.{ℕ, List, Option, Some, None}
 use Rattle.std.specs.Borrow.{Bor}
 use Rattle.bit_grammar.specs.Machine as machine
@@ -6,7 +6,7 @@ use Rattle.bit_grammar.specs.Machine.{enters, defines, notes, leaves}
 use Rattle.bit_events.specs.declared.event.Event.{Event}
 use Rattle.bit_events.specs.declared.event.Event.TheVariants as event
 
--- where this is the list that is lent
+-- with a function that gives the values of the lent list
 abbrev pub shown_by : {L : Type 0} → (told : L → List ℕ) → Event L → machine.Event
 shown_by told (event.Enter id width first body) = enters
     (record { id = id; width = width; first = first; body = body })

@@ -1,4 +1,4 @@
--- What is seen of the events of a stream, by what the program keeps.
+-- The model of the events of a stream, from the program's state.
 use Rattle.std.specs.Prelude.{◌≡◌, ℕ, ◌+◌, ◌<◌, ◌%◌, vec_len, List, Bool, true, false, [], Option, Some, None, IsSome, Result, Ok, Err, length}
 use Rattle.std.specs.Borrow.{Bor}
 use Rattle.bit_grammar.specs.Grammar.{at}
@@ -21,7 +21,7 @@ use Rattle.bit_events.specs.EventView.{lent, shown_if_any}
 use Rattle.bit_events.specs.MachineView.{machine_shown, step_lent}
 use Rattle.bit_events.specs.Coming.{Stage, going, over, failed, Coming, end_at, told_of, Goes}
 
--- ---- what the program keeps
+-- ---- the program's state
 
 abbrev pub stage_of : (is_over is_live : Bool) → Stage
 stage_of true is_live = over
@@ -51,12 +51,12 @@ coming_of is_over limits head m values found place r = record {
   budget = r.budget;
 }
 
--- no block is open, and no event is kept, where the whole input was accepted
+-- no block is open and no event is kept, if the whole input was accepted
 pub record IsClosed (m : Machine) (found : Option Step) : Type 0 where
   pub frames : vec_len m.frames ≡ 0
   pub last : found ≡ None
 
--- what holds between calls: the reader stands behind the last event, and outside of all blocks at a byte
+-- the invariant between calls: the reader is after the last event, and outside of all blocks at a whole byte
 pub record IsEvents (is_over : Bool) (m : Machine) (found : Option Step) (place : ℕ)
     (r : Reader) : Type 0 where
   pub stands : r.live ≡ true → place ≡ r.position
@@ -70,7 +70,7 @@ abbrev pub answer_shown : {L : Type 0} → (told : L → List ℕ) → Result (O
 answer_shown told (Ok event) = Ok (shown_if_any told event)
 answer_shown told (Err fault) = Err fault
 
--- what a call for the next event does, which lends it, where this is the list of values that is lent
+-- the effect of a call for the next event, which lends it, with a function that gives the values of the lent list
 abbrev pub LendsAs : {L : Type 0} → (told : L → List ℕ) → Coming → Result (Option (Event L)) Fault
     → Coming → Type 0
 LendsAs told old answer new = Goes old (answer_shown told answer) new
@@ -78,7 +78,7 @@ LendsAs told old answer new = Goes old (answer_shown told answer) new
 abbrev pub Lends : Coming → Result (Option (Event (Bor (List ℕ)))) Fault → Coming → Type 0
 Lends old answer new = LendsAs lent old answer new
 
--- what finding the next event does
+-- the effect of finding the next event
 abbrev pub answer_kept : Result (Unit {0}) Fault → Coming → Result (Option machine.Event) Fault
 answer_kept (Ok _) new = Ok new.last
 answer_kept (Err fault) new = Err fault
@@ -96,8 +96,8 @@ pub record Over (old new : Reader) : Type 0 where
       × (end_at old.extent old.position ≡ accepted old.position)
   pub none : TellsBytes old → known_bytes new.incoming.to_come ≡ []
 
--- Outside of all blocks the whole input is accepted, or bits are left, or the input ends with this fault, or its source failed.
--- In a block nothing is done.
+-- Outside of all blocks the whole input is accepted, or bits are left, or the input ends with this fault, or its source failed. In
+-- a block nothing changes.
 abbrev pub Shuts : (outside : Bool) → Reader → Result Bool Fault → Reader → Type 0
 Shuts outside old (Ok true) new = (outside ≡ true) × Over old new
 Shuts outside old (Ok false) new = Stays old new
@@ -112,7 +112,7 @@ Shuts outside old (Err OutputTooLong) new = ⊥
 
 -- ---- the beginning
 
--- an input was begun: its head is read, and what is told of the input is to come
+-- an input was begun: its head is read, and its events remain
 pub record Begun (limits : Limits) (i : Incoming) (c : Coming) : Type 0 where
   pub capped : Capped limits
   pub goes : c.stage ≡ going
@@ -122,7 +122,7 @@ pub record Begun (limits : Limits) (i : Incoming) (c : Coming) : Type 0 where
   pub held : c.held ≡ []
   pub told : IsSome i.to_come → outlook limits (known_bytes i.to_come) ≡ Ok (c.head, c.told)
 
--- why an input was not begun: it breaks so before its first block, or the source failed
+-- why an input was not begun: it breaks before its first block, or the source failed
 abbrev pub DeclinesEvents : Limits → Incoming → Fault → Incoming → Type 0
 DeclinesEvents limits i (Refused reason bit) now = Spends i (limits.bytes + 1) now 0
     × (IsSome i.to_come → outlook limits (known_bytes i.to_come) ≡ Err (at reason bit))

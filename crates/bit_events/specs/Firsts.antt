@@ -1,4 +1,4 @@
--- What takes values and has the first one.
+-- A value sink that also has the first value.
 use Rattle.std.specs.Prelude.{◌≡◌, ℕ, List, slice_get}
 use Rattle.bit_events.specs.declared.with_first.WithFirst.{WithFirst}
 

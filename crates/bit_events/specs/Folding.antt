@@ -1,4 +1,4 @@
--- Reading an input into what gathers its events.
+-- Reading an input into a gatherer.
 use Rattle.std.specs.Prelude.{◌≡◌, ℕ, ◌<◌, ◌≤◌, ◌%◌, Bool, true, false, List, [], ◌++◌, vec_len, Result, Ok, Err}
 use Rattle.bit_grammar.specs.Grammar.{at}
 use Rattle.bit_grammar.specs.Blocks.{Limits}
@@ -14,7 +14,7 @@ use Rattle.bit_events.specs.declared.machine.Machine.{Machine}
 use Rattle.bit_events.specs.Gathering.{left_open}
 use Rattle.bit_events.specs.Next.{left_to_tell}
 
--- these events came and were gathered, and others are left
+-- these events were read and gathered, and others are left
 pub record GathersSome {G : Type 0} (gathered : G → List Event → G → Type 0) (limits : Limits)
     (m : Machine) (a : Reader) (g : G) (n : Machine) (b : Reader) (h : G) : Type 0 where
   pub events : List Event
@@ -39,7 +39,7 @@ pub record GathersAll {G : Type 0} (gathered : G → List Event → G → Type 0
       → left_open done ≡ vec_len m.frames → gathered first (done ++ events) h
       × (left_open (done ++ events) ≡ 0)
 
--- Why events are left that were not gathered: the events end with this fault; the source failed; or no memory.
+-- Why events are left that were not gathered: the events end with this fault; the source failed; or out of memory.
 abbrev pub MissesEvents : Limits → Machine → Reader → Fault → Reader → Type 0
 MissesEvents limits m a (Refused reason bit) b = GoesOn a b
     × (TellsBytes a → (left_to_tell limits m a).1 ≡ broke (at reason bit))
@@ -49,13 +49,13 @@ MissesEvents limits m a Failed b = ⊥
 MissesEvents limits m a Write b = ⊥
 MissesEvents limits m a OutputTooLong b = ⊥
 
--- a run of records that came and were gathered, possibly none
+-- a run of records that were read and gathered, possibly none
 abbrev pub TakesRun : {G : Type 0} → (G → List Event → G → Type 0) → Limits → Machine → Reader → G
     → Result (Unit {0}) Fault → Machine → Reader → G → Type 0
 TakesRun gathered limits m a g (Ok _) n b h = GathersSome gathered limits m a g n b h
 TakesRun gathered limits m a g (Err fault) n b h = MissesEvents limits m a fault b
 
--- one more event came and was gathered, or none was left
+-- one more event was read and gathered, or none was left
 abbrev pub TakesNext : {G : Type 0} → (G → List Event → G → Type 0) → Limits → Machine → Reader → G
     → Result Bool Fault → Machine → Reader → G → Type 0
 TakesNext gathered limits m a g (Ok true) n b h = GathersSome gathered limits m a g n b h

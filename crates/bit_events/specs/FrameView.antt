@@ -1,4 +1,4 @@
--- What is seen of an open block of the program.
+-- The model of an open block of the program.
 use Rattle.std.specs.Prelude.{ℕ, ◌^◌, List, [], ◌∷◌, Option, Some, None, nat_lt, if◌then◌else◌, ◌-◌, length, slice_get}
 use Rattle.bit_grammar.specs.declared.op.Op.{Op}
 use Rattle.bit_grammar.specs.Terms.{BlockInfo, Table}
@@ -15,12 +15,12 @@ abbrev pub info_shown : Option Describing → Option BlockInfo
 info_shown None = None
 info_shown (Some d) = Some (describing_shown d)
 
--- the block id that a value is, if it is one
+-- a value as a block id, if it is one
 abbrev pub described_value : Option ℕ → Option ℕ
 described_value None = None
 described_value (Some id) = if nat_lt id (2 ^ 32) then Some id else None
 
--- the block id that the first of a record's values is, if it is one
+-- the first value of a record as a block id, if there is one and it fits
 abbrev pub described_id : List ℕ → Option ℕ
 described_id [] = None
 described_id (id ∷ values) = described_value (Some id)
@@ -45,8 +45,8 @@ abbrev pub newest_of : List (List Op) → Option BlockInfo → Option (List Op)
 newest_of definitions None = last_one definitions
 newest_of definitions (Some info) = newest_for info.described info.made
 
--- The definition that stands last where a block puts one: among those in force, or in a BLOCKINFO block among those that were
--- made for the block that is described.
+-- The last definition in the list to which a block adds one: those in force, or in a BLOCKINFO block those made for the described
+-- block.
 abbrev pub newest_in : machine.Frame → Option (List Op)
 newest_in f = newest_of f.definitions f.info
 

@@ -1,9 +1,9 @@
--- Gathering events: what it is to have gathered some, and one more.
+-- Gathering events, one after another.
 use Rattle.std.specs.Prelude.{ℕ, List, [], ◌∷◌, ◌++◌}
 use Rattle.bit_grammar.specs.Machine.{Event}
 use Rattle.bit_grammar.specs.Steps.{MayStand, open_after}
 
--- how many blocks are open behind events, where so many are before them
+-- how many blocks are open after events, if `count` were open before them
 abbrev pub open_behind : List Event → ℕ → ℕ
 open_behind [] count = count
 open_behind (event ∷ events) count = open_behind events (open_after event count)
@@ -12,7 +12,7 @@ open_behind (event ∷ events) count = open_behind events (open_after event coun
 abbrev pub left_open : List Event → ℕ
 left_open events = open_behind events 0
 
--- What had gathered some events has gathered one more, where this one may stand behind them.
+-- After gathering some events, one more was gathered, which may come after them.
 abbrev pub Gathers : {G : Type 0} → (G → List Event → G → Type 0) → G → Event → G → Type 0
 Gathers {G} gathered old event new = (first : G) (done : List Event) (deepest : ℕ)
     → gathered first done old → MayStand deepest event (left_open done)

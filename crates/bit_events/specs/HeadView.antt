@@ -1,4 +1,4 @@
--- What is seen of a block's head of the program.
+-- The model of a block's head of the program.
 use Rattle.bit_grammar.specs.Blocks as blocks
 use Rattle.bit_events.specs.declared.head.BlockHead.{BlockHead}
 

@@ -1,4 +1,4 @@
--- What is seen of the machine of the program.
+-- The model of the program's machine.
 use Rattle.std.specs.Prelude.{◌≡◌, ℕ, ◌≤◌, ◌%◌, List, [], ◌∷◌, Option, Some, None, unwrap_or, vec_len}
 use Rattle.std.specs.Option.{option_map}
 use Rattle.bit_grammar.specs.declared.shapes.Shapes.{Shapes}
@@ -21,7 +21,7 @@ handed_shown m = record { table = definitions_at m.table; used = m.used }
 abbrev pub machine_shown : Machine → machine.Machine
 machine_shown m = record { frames = frames_shown m.frames.items; handed = handed_shown m }
 
--- the newest definition of the innermost block, which stands first
+-- the newest definition of the innermost block, which is first
 abbrev pub newest : List machine.Frame → Option (List Op)
 newest [] = None
 newest (f ∷ outer) = newest_in f
@@ -36,7 +36,7 @@ abbrev pub record_of : (id : ℕ) → List ℕ → (first : ℕ) → (read : ℕ
 record_of id values first read = notes (record
     { abbreviation = id; code = read.0; values = values; first = first; after = read.1 })
 
--- what a step found, with these values of a record; a definition is the machine's newest one
+-- the event of a step, with these values for a record; a definition is the machine's newest one
 abbrev pub step_shown : Machine → List ℕ → Step → Event
 step_shown m values (found.Enter id width first body) = enters
     (record { id = id; width = width; first = first; body = body })
@@ -46,7 +46,7 @@ step_shown m values (found.Record head) = record_of head.«abbrev» values head.
     (head.code, head.after)
 step_shown m values (found.Leave after) = leaves after
 
--- the same as it is lent, where the machine has what belongs to it
+-- the same event as it is lent, if the machine has its definition
 abbrev pub step_lent : Machine → List ℕ → Step → Option Event
 step_lent m values (found.Define first after) = option_map (definition_of first after)
     (newest (frames_shown m.frames.items))
@@ -62,32 +62,32 @@ after_step m values step = (step_shown m values step, machine_shown m)
 abbrev pub TookSome : {V : Type 0} → (took : V → List ℕ → Type 0) → V → Type 0
 TookSome took taker = (values : List ℕ) × took taker values
 
--- a step that found no record leaves what takes values as it was
+-- a step that found no record leaves the value sink as it was
 abbrev pub KeepsValues : {V : Type 0} → Step → (old new : V) → Type 0
 KeepsValues (found.Record head) old new = Unit {0}
 KeepsValues step old new = new ≡ old
 
--- ---- what an event leaves
+-- ---- the effect of an event
 
--- a definition that came is the newest one
+-- a definition that was read is the newest one
 abbrev pub HoldsDefinition : Machine → Event → Type 0
 HoldsDefinition m (defines mark) = newest (frames_shown m.frames.items) ≡ Some mark.ops
 HoldsDefinition m (enters opened) = Unit {0}
 HoldsDefinition m (notes mark) = Unit {0}
 HoldsDefinition m (leaves after) = Unit {0}
 
--- what holds of the innermost block, and of those round it, where one is open
+-- this is true of the innermost block and of those around it, if one is open
 abbrev pub InBlock : Machine → (Frame → List Frame → Type 0) → Type 0
 InBlock m Holds = (f : Frame) (outer : List Frame) → frames_shown m.frames.items ≡ f ∷ outer
     → Holds f outer
 
--- the head of the innermost block, which stands first
+-- the head of the innermost block, which is first
 abbrev pub innermost_head : List machine.Frame → Option BlockHead
 innermost_head [] = None
 innermost_head (f ∷ outer) = Some f.head
 
--- What a call leaves that found an event: the event may stand where so many blocks are open, and so many are open behind it;
--- the reader didn't go back, and where no block is open it stands at a word; and a definition is at hand.
+-- The effect of a call that found an event: the event is allowed at this depth, and its effect on the depth; the reader did not go
+-- back, and outside of all blocks it is at a word; and the machine holds a definition that was read.
 pub record LeavesMachine (deepest : ℕ) (old : Machine) (a : Reader) (event : Event) (new : Machine)
     (b : Reader) : Type 0 where
   pub stands : MayStand deepest event (vec_len old.frames)
@@ -103,13 +103,13 @@ abbrev pub end_rule : Frame → List Frame → Handed → Grammar (Event × mach
 end_rule f outer handed = end_of_block f.head >>= λ after. gives
     (leaves after, record { frames = outer; handed = leave f.info handed })
 
--- a definition, whose id began at first
+-- a definition, whose id began at `first`
 abbrev pub define_rule : Shapes → Frame → List Frame → (first : ℕ) → Handed
     → Grammar (Event × machine.Machine)
 define_rule shapes f outer first handed = define shapes first (scope_of f handed) >>= λ definition.
     gives (defines definition.0, inside f.head outer definition.1)
 
--- a record with this id, which began at first
+-- a record with this id, which began at `first`
 abbrev pub record_rule : (limit : ℕ) → Frame → List Frame → (first id : ℕ) → Handed
     → Grammar (Event × machine.Machine)
 record_rule limit f outer first id handed = record_after limit first id (scope_of f handed) >>=

@@ -1,4 +1,4 @@
--- Names in order, against the lists that they were made of.
+-- Sorted names, and the lists that they were made of.
 use Rattle.std.specs.Prelude.{ℕ, List, map}
 use Rattle.std.specs.BTreeSet.{BTreeSet, IsFromIterResult}
 use Rattle.std.specs.Ordering.{nat_cmp, ordering_then}
@@ -25,7 +25,7 @@ block_of name = name.block
 abbrev pub pair_of : RecordName → ℕ × ℕ
 pair_of name = (name.block, name.code)
 
--- what is in order are the names of a setting
+-- the sorted names are those of a setting
 pub record HasNames (setting : Setting) (ordered : Ordered) : Type 0 where
   pub blocks : HasIds setting.blocks ordered.blocks
   pub holders : HasIds (map block_of setting.records) ordered.holders

@@ -1,4 +1,4 @@
--- The next event of a stream, of which a machine and a reader know what is to come.
+-- The next event of a stream, by a machine and a reader.
 use Rattle.std.specs.Prelude.{◌≡◌, ℕ, ◌<◌, true, List, [], vec_len, Option, Some, None, Result, Ok, Err}
 use Rattle.bit_grammar.specs.Grammar.{at}
 use Rattle.bit_grammar.specs.Blocks.{Limits}
@@ -12,11 +12,11 @@ use Rattle.bit_events.specs.declared.machine.Step.{Step}
 use Rattle.bit_events.specs.Coming.{event_before, told_of}
 use Rattle.bit_events.specs.MachineView.{machine_shown, step_shown, LeavesMachine}
 
--- the events to come, and their end, of what is left of a stream
+-- the remaining events of the rest of a stream, and their end
 abbrev pub left_to_tell : Limits → Machine → Reader → Told
 left_to_tell limits m r = told_of limits r.extent (machine_shown m) r.position r.left
 
--- an event came: it was the first to come
+-- an event was found: the first of the remaining ones
 pub record FindsEvent (limits : Limits) (m : Machine) (a : Reader) (event : Event) (n : Machine)
     (b : Reader) : Type 0 where
   pub was_live : a.live ≡ true
@@ -25,7 +25,7 @@ pub record FindsEvent (limits : Limits) (m : Machine) (a : Reader) (event : Even
   pub leaves : LeavesMachine limits.depth m a event n b
   pub told : TellsBytes a → left_to_tell limits m a ≡ event_before event (left_to_tell limits n b)
 
--- no event was to come: the whole input is accepted, and its source has no byte left
+-- no event remained: the whole input is accepted, and its source has no byte left
 pub record FindsEnd (limits : Limits) (m : Machine) (a : Reader) (n : Machine)
     (b : Reader) : Type 0 where
   pub stops : StopsReading a b
@@ -35,7 +35,7 @@ pub record FindsEnd (limits : Limits) (m : Machine) (a : Reader) (n : Machine)
   pub told : TellsBytes a → left_to_tell limits m a ≡ ([], accepted a.position)
   pub none : TellsBytes a → known_bytes b.incoming.to_come ≡ []
 
--- Why no event came: the events end with this fault; the source failed; or no memory.
+-- Why no event was found: the events end with this fault; the source failed; or out of memory.
 abbrev pub FindsFault : Limits → Machine → Reader → Fault → Reader → Type 0
 FindsFault limits m a (Refused reason bit) b = StopsReading a b
     × (TellsBytes a → left_to_tell limits m a ≡ ([], broke (at reason bit)))
@@ -45,7 +45,7 @@ FindsFault limits m a Failed b = ⊥
 FindsFault limits m a Write b = ⊥
 FindsFault limits m a OutputTooLong b = ⊥
 
--- what finding the next event does, where these are the values of a record
+-- the effect of finding the next event, with these values of a record
 abbrev pub FindsNext : Limits → Machine → Reader → (list : List ℕ) → Result (Option Step) Fault
     → Machine → Reader → Type 0
 FindsNext limits m a list (Ok (Some step)) n b = FindsEvent limits m a (step_shown n list step) n b

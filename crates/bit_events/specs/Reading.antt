@@ -1,4 +1,4 @@
--- What reading a whole input does.
+-- The effect of reading a whole input.
 use Rattle.std.specs.Prelude.{◌≡◌, ℕ, ◌+◌, List, [], IsSome, Result, Ok, Err}
 use Rattle.bit_grammar.specs.Grammar.{at}
 use Rattle.bit_grammar.specs.Blocks.{Limits}
@@ -11,11 +11,11 @@ use Rattle.bit_fields.specs.Devices.{Incoming, Spends, Fails, known_bytes}
 abbrev pub Spent : Limits → Incoming → Incoming → Type 0
 Spent limits i now = Spends i (limits.bytes + 1) now 0
 
--- the same, but that the source failed, once, or was worn
+-- the same, but the source failed, once, or was exhausted
 abbrev pub LostInput : Limits → Incoming → Incoming → Type 0
 LostInput limits i now = Fails i (limits.bytes + 1) now 0
 
--- The input holds what is answered, and its source has no byte left; or it breaks so; or the source failed; or no memory.
+-- The result is true of the input and no byte is left; or the input breaks the rules; or the source failed; or out of memory.
 abbrev pub ReadsWhole : {A : Type 0} → (List ℕ → A → Type 0) → Limits → Incoming → Result A Fault
     → Incoming → Type 0
 ReadsWhole Holds limits i (Ok a) now = Spent limits i now

@@ -9,7 +9,7 @@ use bit_abbrev::Abbrev;
 use bit_fields::{Fault, KeptSource, Limits, Source, ValueCount};
 use std::alloc::{AllocError, Global};
 
-/// What keeps nothing of the events.
+/// A gatherer that keeps nothing.
 #[derive(Clone, Copy)]
 struct Nothing;
 
@@ -51,7 +51,7 @@ impl Gatherer for Nothing {
     }
 }
 
-/// Whether an input is accepted: `Ok` where it is, or the one refusal. Of the input no more is held than its open blocks.
+/// Whether an input is accepted: `Ok`, or the one refusal. It holds only the open blocks of the input.
 pub fn check<S: Source>(alloc: Global, source: S, limits: Limits) -> (Result<(), Fault>, S)
     ensures { ReadsWhole (λ bytes _. (m : Marked) × SpellsInput limits bytes m) limits
         (S.incoming source) result.0 (S.incoming result.1) }
@@ -63,8 +63,8 @@ pub fn check<S: Source>(alloc: Global, source: S, limits: Limits) -> (Result<(),
     }
 }
 
-/// Whether an input is accepted: `Ok` with all its bytes where it is, or the one refusal. Of the input no more is held than its
-/// bytes and its open blocks. `Memory` comes behind the refusal of an input that breaks the rules.
+/// Whether an input is accepted: `Ok` with all its bytes, or the one refusal. It holds only the bytes and the open blocks of the
+/// input. `Memory` is returned only if the input keeps the rules.
 pub fn check_keeping<S: Source>(
     alloc: Global,
     source: S,

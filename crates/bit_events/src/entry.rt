@@ -1,4 +1,4 @@
-//! Reading the code and the values of a record by its abbreviation id, wherever its bits come from.
+//! Reading the code and the values of a record by its abbreviation id, from any source of bits.
 
 ghost use Rattle.std.specs.Prelude.{◌≡◌, ◌≤◌, true};
 ghost use Rattle.bit_grammar.specs.Blocks.{entry};
@@ -8,9 +8,9 @@ ghost use Rattle.bit_abbrev.specs.Values.{AddsWithin, Gains, Keeps};
 use bit_abbrev::{Lookup, Runs, read_plain, read_record};
 use bit_fields::{Reason, ValueTaker};
 
-/// Reads the code and the values of a record after its abbreviation id: hands the values on and answers the code. The record began
-/// at the bit `first`, and there is room for `room` values. Where it fails, some of its values may be added. `U` is whom it is
-/// compiled for. Source: "Abbreviation IDs".
+/// Reads the code and the values of a record after its abbreviation id: gives the values to the value sink and returns the code.
+/// The record began at the bit `first`, and may have `room` values. If it fails, some of its values may have been added. For `U`
+/// see `read_record`. Source: "Abbreviation IDs".
 #[inline(always)]
 pub(crate) fn read_entry<U, B: Runs, D: Lookup, V: ValueTaker>(
     bits: &mut B,
@@ -35,5 +35,5 @@ pub(crate) fn read_entry<U, B: Runs, D: Lookup, V: ValueTaker>(
         unreachable!();
     };
     bits.judge(abbrev.is_usable(), Reason::AbbrevShape, first)?;
-    read_record::<U, B, V>(bits, abbrev.lawful_ops(), first, room, values)
+    read_record::<U, B, V>(bits, abbrev, first, room, values)
 }

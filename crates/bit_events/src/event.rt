@@ -1,7 +1,7 @@
 use bit_abbrev::Abbrev;
 
-/// An event of a stream, whose lists are lent: a block begins, a definition, a record, or a block ends. The values of a record
-/// are lent as numbers, or as what keeps them.
+/// An event of a stream, whose lists are lent: a block begins, a definition, a record, or a block ends. The values of a record are
+/// lent as numbers, or as the value sink that keeps them.
 #[derive(Clone, Copy, Debug)]
 pub enum Event<'a, L = &'a [u64]> {
     Enter {
@@ -27,7 +27,7 @@ pub enum Event<'a, L = &'a [u64]> {
     },
 }
 
-/// A record without its values: its abbreviation id, its code, its first bit and the bit behind it.
+/// A record without its values: its abbreviation id, its code, its first bit and the bit after it.
 #[derive(Clone, Copy, Debug, PartialEq, Eq)]
 pub struct RecordHead {
     pub abbrev: u32,

@@ -13,10 +13,10 @@ use bit_fields::{Fault, Head, Limits, Source};
 use std::alloc::Global;
 use std::marker::Model;
 
-/// The events of a stream, one at a time: a machine with one frame for each open block and one list of values, that of the
-/// record that was given last.
+/// The events of a stream, one at a time: a machine with one frame for each open block, and one list with the values of the last
+/// record.
 ///
-/// After a fault it has failed, and every later call for an event answers `Failed`.
+/// After a fault it has failed, and every later call for an event returns `Failed`.
 #[derive(Drop)]
 pub struct Events<S: Source> {
     finder: EventFinder<S, Vec<u64>>,
@@ -33,9 +33,9 @@ impl<S: Source> Model for Events<S> {
 impl<S: Source> Events<S> {
     ghost use Rattle.bit_events.specs.contracts.events.Events.{the_row};
 
-    /// Begins the events of an input: reads its wrapper, if there is one, and the magic of its stream. It takes no memory.
+    /// Begins the events of an input: reads its wrapper, if there is one, and the magic of its stream. It allocates nothing.
     ///
-    /// It refuses an input that breaks there, as `BitReader::start` does, and hands its source back.
+    /// It refuses an input that breaks there, as `BitReader::start` does, and returns its source.
     pub fn start(alloc: Global, source: S, limits: Limits) -> Result<Events<S>, (Fault, S)>
         ensures begun { IfOk result (λ events. Begun limits (S.incoming source) events) }
         ensures declined { IfErr result (λ refused. DeclinesEvents limits (S.incoming source)
@@ -52,29 +52,28 @@ impl<S: Source> Events<S> {
         self.finder.head()
     }
 
-    /// The source as it stands.
+    /// Returns the source in its present state.
     pub fn into_source(self) -> S
         ensures { S.incoming result ≡ self.incoming }
     {
         self.finder.into_source()
     }
 
-    /// The bit behind the event that was given last, or behind the head, counted from the first bit of the input. A call that
-    /// fails leaves it.
+    /// The bit after the last event, or after the head, counted from the first bit of the input. A call that fails leaves it.
     pub fn position(&self) -> u64
         ensures { result ≡ self.now.position }
     {
         self.finder.position()
     }
 
-    /// The values of the record that was given last; none where no record was given yet.
+    /// The values of the last record; none before the first record.
     pub fn values(&self) -> &[u64]
         ensures { result.now ≡ self.now.held }
     {
         self.finder.values().as_slice()
     }
 
-    /// The event that was found last.
+    /// The last event.
     #[inline(always)]
     fn event(&self) -> Option<Event<'_>>
         ensures { shown_if_any lent result ≡ self.now.last }
@@ -82,9 +81,9 @@ impl<S: Source> Events<S> {
         self.finder.lend(self.finder.values().as_slice())
     }
 
-    /// The next event, or nothing where the whole input is accepted, and then nothing again ever after.
+    /// Returns the next event, or `None` if the whole input is accepted, and then `None` at every later call.
     ///
-    /// A refusal comes behind the events of all that is whole and holds before it.
+    /// A refusal comes after the events of all that is complete and lawful before it.
     pub fn next(&mut self) -> Result<Option<Event<'_>>, Fault>
         ensures* { sem 𝓛 (follows_so (the_row S.row S.Source) (the_row S.row S.Source)
             self.entry.ghost_name none (λ _ _. ⊤) (λ v. Lends self.old result v)) }

@@ -1,4 +1,4 @@
-//! The events of inputs, with the bits at which they stand.
+//! The events of inputs, with their positions in bits.
 
 use crate::{Event, Events, PackedEvents};
 use bit_fields::{BufSource, Fault, Limits, ReadSource, SliceSource, Source};
@@ -8,7 +8,7 @@ use std::io;
 use std::io::{BufReader, Error, ErrorKind, Read};
 use std::process::Abort;
 
-/// A reader that gives at most so many bytes at a time, counts its reads and fails at one of them.
+/// A reader that gives a limited number of bytes at a time, counts its reads and fails at one of them.
 #[derive(Drop)]
 pub(crate) struct Pieces<'a> {
     rest: &'a [u8],
@@ -35,7 +35,7 @@ impl<'a> Read for Pieces<'a> {
     }
 }
 
-/// A source over such a reader; one that fails at no read where the number of the read is 0.
+/// A source over such a reader. It fails at no read if `fails_at` is 0.
 pub(crate) fn in_pieces(bytes: &[u8], most: usize, fails_at: u64) -> ReadSource<Pieces<'_>> {
     ReadSource::new(Pieces {
         rest: bytes,
@@ -45,7 +45,7 @@ pub(crate) fn in_pieces(bytes: &[u8], most: usize, fails_at: u64) -> ReadSource<
     })
 }
 
-/// The number that a hexadecimal digit stands for.
+/// The value of a hexadecimal digit.
 fn digit(byte: u8) -> u8 {
     match byte {
         b'0'..=b'9' => byte - b'0',
@@ -54,8 +54,8 @@ fn digit(byte: u8) -> u8 {
     }
 }
 
-/// Bytes that several inputs have, under a letter: the usual magic, an empty block, a BLOCKINFO block that defines
-/// [Literal 1, Fixed 7] for block 8, a block 8 of width 3 that uses it, and a wrapper of 16 bytes.
+/// Bytes that several inputs share, by a letter: the usual magic, an empty block, a BLOCKINFO block that defines [Literal 1, Fixed
+/// 7] for block 8, a block 8 of width 3 that uses it, and a wrapper of 16 bytes.
 fn bytes_named(name: u8) -> &'static [u8] {
     match name {
         b'M' => &[0x42, 0x43, 0xC0, 0xDE],
@@ -71,7 +71,7 @@ fn bytes_named(name: u8) -> &'static [u8] {
     }
 }
 
-/// The bytes of a text of hexadecimal bytes and letters for what `named` gives.
+/// The bytes of a text of hexadecimal bytes and letters for `bytes_named`.
 pub(crate) fn bytes_of(alloc: Global, text: &str) -> Result<Vec<u8>, AllocError> {
     let mut bytes = Vec::new(alloc);
     for word in text.split_whitespace() {
@@ -84,13 +84,13 @@ pub(crate) fn bytes_of(alloc: Global, text: &str) -> Result<Vec<u8>, AllocError>
     Ok(bytes)
 }
 
-/// The text is the wanted one.
+/// Checks that a text is the wanted one.
 pub(crate) fn agrees(rt: &impl Abort, told: Result<String, AllocError>, wanted: &str, row: &str) {
     let told = told.expect(rt, "memory");
     assert!(rt; told.as_str() == wanted, "{row}: {told}, not {wanted}");
 }
 
-/// A fault as text; where memory was refused there is none.
+/// A fault as text; none if an allocation failed.
 pub(crate) fn told_of_fault(alloc: Global, fault: Fault) -> Result<String, AllocError> {
     match fault {
         Fault::Memory => Err(AllocError),
@@ -98,7 +98,7 @@ pub(crate) fn told_of_fault(alloc: Global, fault: Fault) -> Result<String, Alloc
     }
 }
 
-/// The bit behind what was read of an event.
+/// The bit after the part of an event that was read.
 fn bit_behind(event: &Event<'_>) -> u64 {
     match event {
         Event::Enter { body, .. } => *body,
@@ -108,7 +108,7 @@ fn bit_behind(event: &Event<'_>) -> u64 {
     }
 }
 
-/// Adds the next event to a text, or what stands in its place; answers the bit up to which was read, if there is one.
+/// Adds the next event to a text, or its end or fault. Returns the bit after what was read, if there is an event.
 fn show_next<S: Source + Drop>(
     rt: &impl Abort,
     events: &mut Events<S>,
@@ -130,8 +130,8 @@ fn show_next<S: Source + Drop>(
     }
 }
 
-/// Adds events to a text, behind the bit at which they begin, up to the second time that there is none. After each the position
-/// is the bit behind it.
+/// Adds events to a text, each after the bit at which it begins, up to the second time that there is none. After each event the
+/// position is the bit after it.
 fn show_all<S: Source + Drop>(rt: &impl Abort, events: &mut Events<S>, text: &mut String) {
     write!(text, "{} ", events.position()).expect(rt, "memory");
     let mut ends: u8 = 0;
@@ -159,7 +159,7 @@ fn events_text<S: Source + Drop>(
     }
 }
 
-/// The same from where events begin.
+/// The same for events that were begun.
 fn told_from<S: Source + Drop>(rt: &impl Abort, alloc: Global, mut events: Events<S>) -> String {
     let mut text = String::new(alloc);
     show_all(rt, &mut events, &mut text);
@@ -183,14 +183,14 @@ pub(crate) static EVENTS: [(u64, &str, &str); 10] = [
         "32 Enter { id: 8, width: 2, first: 32, body: 96 } Leave { after: 128 } \
         refused: TopLevel at bit 128 used after a fault ",
     ),
-    // the limit on bytes comes behind the last Leave within it
+    // the limit on bytes comes after the last Leave within it
     (
         16,
         "M E 0A 0A 0A 0A",
         "32 Enter { id: 8, width: 2, first: 32, body: 96 } Leave { after: 128 } \
         refused: TooLong at bit 128 used after a fault ",
     ),
-    // a length that is wrong is found at the end, and a record that is no SETBID gives no event
+    // a wrong length is found at the end, and a record that is no SETBID gives no event
     (
         1000,
         "M 21 08 00 00 02 00 00 00 00 00 00 00",
@@ -213,7 +213,7 @@ pub(crate) static EVENTS: [(u64, &str, &str); 10] = [
         "DE C0 17 0B 00 00 00 00 18 00 00 00 10 00 00 00 07 00 00 01 FF FF FF FF M E 00",
         "224 Enter { id: 8, width: 2, first: 224, body: 288 } Leave { after: 320 } None None ",
     ),
-    // the wrapper's size is judged behind the last event
+    // the wrapper's size is judged after the last event
     (
         1000,
         "DE C0 17 0B 00 00 00 00 14 00 00 00 14 00 00 00 07 00 00 01 M E",
@@ -223,8 +223,7 @@ pub(crate) static EVENTS: [(u64, &str, &str); 10] = [
     (1000, "H DE C0 17 0B", "refused: WrapperNested at bit 160"),
 ];
 
-/// Inputs with a definition of which the operands are in no lawful order, and their events where shapes are judged at their
-/// use.
+/// Inputs with a definition whose operands are in no lawful order, and their events if shapes are judged at their use.
 pub(crate) static AT_USE: [(&str, &str); 2] = [
     // another definition is used
     (
@@ -243,7 +242,7 @@ pub(crate) static AT_USE: [(&str, &str); 2] = [
     ),
 ];
 
-/// The events of an input under limits are these, however it is cut.
+/// Checks the events of an input under limits, however it is cut.
 fn are_told(rt: &impl Abort, alloc: Global, limits: Limits, text: &str, wanted: &str) {
     let bytes = bytes_of(alloc, text).expect(rt, "memory");
     for most in [1, 3, 4, 64] {
@@ -281,7 +280,7 @@ pub(crate) const MIXED_FRONT: &str = "32 Enter { id: 8, width: 3, first: 32, bod
     Record { abbrev: 4, code: 1, values: [97, 98, 99], first: 143, after: 192 } \
     Record { abbrev: 5, code: 2, values: [0], first: 192, after: 195 } ";
 
-/// The most values, and the events behind that front.
+/// Limits on values, and the events after that front.
 pub(crate) static MIXED_ENDS: [(u64, &str); 2] = [
     (
         6,
@@ -290,7 +289,7 @@ pub(crate) static MIXED_ENDS: [(u64, &str); 2] = [
     (5, "refused: TooManyValues at bit 204 used after a fault "),
 ];
 
-/// The events of an input, from a reader with a buffer of so many bytes.
+/// The events of an input, from a reader with a buffer of a given size.
 fn told_from_buffer(
     rt: &impl Abort,
     alloc: Global,
@@ -310,7 +309,7 @@ fn told_from_buffer(
     }
 }
 
-/// The events of that block are these, wherever a buffer ends.
+/// Checks the events of that block, wherever a buffer ends.
 fn are_mixed(rt: &impl Abort, alloc: Global, most: u64, end: &str) {
     let bytes = bytes_of(alloc, MIXED).expect(rt, "memory");
     let limits = Limits::new(1000, 64, most).expect(rt, "limits within their caps");
@@ -330,7 +329,7 @@ fn events_that_lie_in_a_buffer(rt: HostRuntime) {
     }
 }
 
-/// The codes and values of the records of an input in memory, as they are packed.
+/// The codes and values of the records of a slice, from packed values.
 fn packed(alloc: Global, bytes: &[u8]) -> Result<String, AllocError> {
     let mut text = String::new(alloc);
     let Ok(mut events) = PackedEvents::start(alloc, SliceSource::new(bytes), Limits::usual()) else {
@@ -353,7 +352,7 @@ fn packed_events(rt: HostRuntime) {
     agrees(&rt, packed(rt.alloc(), &bytes), wanted, MIXED);
 }
 
-/// The numbers of the pulls of a byte each, up to which these events come.
+/// Ranges of pulls of one byte each, and the events if one of these pulls fails.
 static BROKEN_OFF: [(u64, u64, &str); 5] = [
     (1, 5, "the source failed"),
     (5, 13, "32 the source failed used after a fault "),
@@ -374,7 +373,7 @@ static BROKEN_OFF: [(u64, u64, &str); 5] = [
     ),
 ];
 
-/// The events of an input whose source fails at one of these pulls.
+/// Checks the events of an input whose source fails at one of these pulls.
 fn break_off(rt: &impl Abort, alloc: Global, from: u64, to: u64, wanted: &str) {
     let bytes = bytes_of(alloc, "M E").expect(rt, "memory");
     for pull in from..to {
@@ -395,7 +394,7 @@ fn a_source_fails_between_events(rt: HostRuntime) {
     }
 }
 
-/// The head of an input, and how many bytes its source still has, as text.
+/// The head of an input, and how many bytes its source has left, as text.
 fn told_of_head(alloc: Global, bytes: &[u8]) -> Result<String, AllocError> {
     match Events::start(alloc, in_pieces(bytes, 1, 0), Limits::usual()) {
         Ok(events) => {

@@ -14,10 +14,10 @@ use bit_fields::{BitReader, Fault, Head, Limits, PackedValues, Source, ValueKeep
 use std::alloc::Global;
 use std::marker::Model;
 
-/// Finds the events of a stream, one at a time: a machine with one frame for each open block, and what keeps the values of the
-/// record that was found last.
+/// Finds the events of a stream, one at a time: a machine with one frame for each open block, and a value sink that keeps the
+/// values of the last record.
 ///
-/// After a fault it has failed, and every later call for an event answers `Failed`.
+/// After a fault it has failed, and every later call for an event returns `Failed`.
 #[derive(Drop)]
 pub struct EventFinder<S: Source, V: ValueKeeper> {
     alloc: Global,
@@ -25,11 +25,11 @@ pub struct EventFinder<S: Source, V: ValueKeeper> {
     head: Head,
     reader: BitReader<S>,
     machine: Machine,
-    /// The values of the record that was found last.
+    /// The values of the last record.
     values: WithFirst<V>,
-    /// The event that was found last.
+    /// The last event.
     found: Option<Step>,
-    /// The bit behind that event, or behind the head where none was found yet.
+    /// The bit after the last event, or after the head.
     reached: u64,
     /// The whole input is accepted.
     over: bool,
@@ -50,15 +50,15 @@ impl<S: Source, V: ValueKeeper> Model for EventFinder<S, V> {
 impl<S: Source, V: ValueKeeper> EventFinder<S, V> {
     ghost use Rattle.bit_events.specs.contracts.finder.EventFinder.{the_row};
 
-    /// Begins the events of an input: reads its wrapper, if there is one, and the magic of its stream. It takes no memory.
+    /// Begins the events of an input: reads its wrapper, if there is one, and the magic of its stream. It allocates nothing.
     ///
-    /// It refuses an input that breaks there, as `BitReader::start` does, and hands its source back.
+    /// It refuses an input that breaks there, as `BitReader::start` does, and returns its source.
     pub fn start(alloc: Global, source: S, limits: Limits) -> Result<EventFinder<S, V>, (Fault, S)>
         ensures begun { IfOk result (λ events. Begun limits (S.incoming source) events) }
         ensures declined { IfErr result (λ refused. DeclinesEvents limits (S.incoming source)
             refused.0 (S.incoming refused.1)) }
     {
-        // Its cap is below 2^64 - 1, where no wrapper ends a stream.
+        // The cap of the limit is below 2^64 - 1, the end of a stream without a wrapper.
         let _bytes = limits.bytes();
         let (reader, head) = BitReader::start(source, limits)?;
         let reached = reader.position();
@@ -82,22 +82,21 @@ impl<S: Source, V: ValueKeeper> EventFinder<S, V> {
         &self.head
     }
 
-    /// The source as it stands.
+    /// Returns the source in its present state.
     pub fn into_source(self) -> S
         ensures { S.incoming result ≡ self.incoming }
     {
         self.reader.into_source()
     }
 
-    /// The bit behind the event that was found last, or behind the head, counted from the first bit of the input. A call that
-    /// fails leaves it.
+    /// The bit after the last event, or after the head, counted from the first bit of the input. A call that fails leaves it.
     pub fn position(&self) -> u64
         ensures { result ≡ self.now.position }
     {
         self.reached
     }
 
-    /// The values of the record that was found last; none where no record was found yet.
+    /// The values of the last record; none before the first record.
     pub fn values(&self) -> &V
         ensures { V.kept result.now ≡ self.now.held }
     {
@@ -120,13 +119,13 @@ impl<S: Source, V: ValueKeeper> EventFinder<S, V> {
             &self.limits,
             &mut self.values,
         )?;
-        // Positions are below 2^64 and rise, so that the events end.
+        // Positions are below 2^64 and rise, so the events end.
         self.reached = self.reader.position();
         self.over = self.found.is_none();
         Ok(())
     }
 
-    /// The event that was found last, with its values lent as this, or nothing where none was found.
+    /// The last event, with these values lent, or `None` before the first event.
     #[inline(always)]
     pub(crate) fn lend<'a, L: Drop>(&'a self, values: L) -> Option<Event<'a, L>>
         ensures { (told : L → List ℕ) → told values ≡ self.now.held
@@ -138,7 +137,7 @@ impl<S: Source, V: ValueKeeper> EventFinder<S, V> {
         }
     }
 
-    /// The event that was found last.
+    /// The last event.
     #[inline(always)]
     fn event(&self) -> Option<Event<'_, &V>>
         ensures { shown_if_any (λ (values : Bor V). V.kept values.now) result ≡ self.now.last }
@@ -146,9 +145,9 @@ impl<S: Source, V: ValueKeeper> EventFinder<S, V> {
         self.lend(&self.values.taker)
     }
 
-    /// The next event, or nothing where the whole input is accepted, and then nothing again ever after.
+    /// Returns the next event, or `None` if the whole input is accepted, and then `None` at every later call.
     ///
-    /// A refusal comes behind the events of all that is whole and holds before it.
+    /// A refusal comes after the events of all that is complete and lawful before it.
     pub fn next(&mut self) -> Result<Option<Event<'_, &V>>, Fault>
         ensures* { sem 𝓛 (follows_so (the_row S.row V.row S.Source V.ValueKeeper.own V.ValueTaker)
             (the_row S.row V.row S.Source V.ValueKeeper.own V.ValueTaker) self.entry.ghost_name none
@@ -159,8 +158,8 @@ impl<S: Source, V: ValueKeeper> EventFinder<S, V> {
     }
 }
 
-/// The events of a stream, whose values are held in little memory.
+/// The events of a stream, with packed values.
 pub type PackedEvents<S> = EventFinder<S, PackedValues>;
 
-/// An event whose values are held in little memory.
+/// An event with packed values.
 pub type PackedEvent<'a> = Event<'a, &'a PackedValues>;

@@ -1,4 +1,4 @@
-//! Reading a whole input into what gathers its events.
+//! Reading a whole input into a `Gatherer`.
 
 ghost use Rattle.std.specs.Prelude.{◌≡◌, ◌%◌, true, ℕ, List, [], OnOk, IfOk, vec_len};
 ghost use Rattle.bit_fields.specs.Opening.{head_told};
@@ -12,10 +12,10 @@ use crate::heads::or_memory_fault;
 use crate::machine::{Machine, Step};
 use crate::running::gather_records;
 use crate::with_first::WithFirst;
-use bit_fields::{Ahead, BitReader, Fault, Head, Limits, Source};
+use bit_fields::{BitReader, Buffered, Fault, Head, Limits, Source};
 use std::alloc::{AllocError, Global};
 
-/// What was read of a whole input: its head, what gathered its events, and the bit after its stream.
+/// The result of reading a whole input: its head, the gatherer of its events, and the bit after its stream.
 #[derive(Debug, Drop)]
 pub struct Folded<G> {
     pub head: Head,
@@ -23,7 +23,7 @@ pub struct Folded<G> {
     pub after: u64,
 }
 
-/// A stream that is being read, and what gathers its events.
+/// A stream that is being read, and the gatherer of its events.
 #[derive(Drop)]
 struct Folding<S: Source, G: Gatherer> {
     reader: BitReader<S>,
@@ -31,7 +31,7 @@ struct Folding<S: Source, G: Gatherer> {
     gatherer: G,
 }
 
-/// Hands on what a step found, and the values of a record.
+/// Gives the gatherer the event of a step, and the values of a record.
 fn hand_on<G: Gatherer>(
     gatherer: &mut G,
     machine: &Machine,
@@ -67,8 +67,8 @@ fn hand_on<G: Gatherer>(
 }
 
 impl<S: Source, G: Gatherer> Folding<S, G> {
-    /// Gathers records of the innermost block that lie in memory whole, possibly none. Those of a BLOCKINFO block, each of which
-    /// may tell which block is described, are left.
+    /// Gathers completely buffered records of the innermost block, possibly none. Records of a BLOCKINFO block are left to
+    /// `gather_next`: each may set the described block.
     fn gather_run(&mut self, limits: &Limits, values: &mut G::Values) -> Result<(), Fault>
         requires live { self.old.reader.live ≡ true }
         requires took { TookSome G.Values.took values.old }
@@ -83,16 +83,16 @@ impl<S: Source, G: Gatherer> Folding<S, G> {
         if frame.info.is_some() {
             return Ok(());
         }
-        let ahead = Ahead::new(self.reader.sight()?);
-        let start = ahead.position();
+        let buffered = Buffered::new(self.reader.buffered_parts()?);
+        let start = buffered.position();
         let used = &mut self.machine.used;
-        match gather_records(ahead, frame, limits, used, &mut self.gatherer, values) {
+        match gather_records(buffered, frame, limits, used, &mut self.gatherer, values) {
             Ok(after) => self.reader.catch_up(after - start),
             Err(_) => Err(self.reader.fail(Fault::Memory)),
         }
     }
 
-    /// Gathers the next event, and answers whether there was one.
+    /// Gathers the next event, and returns whether there was one.
     fn gather_next(
         &mut self,
         alloc: Global,
@@ -114,7 +114,7 @@ impl<S: Source, G: Gatherer> Folding<S, G> {
         Ok(true)
     }
 
-    /// Gathers all events: runs of records, and one by one what stands between them.
+    /// Gathers all events: runs of records, and the events between them one by one.
     fn gather(
         &mut self,
         alloc: Global,
@@ -129,7 +129,7 @@ impl<S: Source, G: Gatherer> Folding<S, G> {
     {
         'events: loop {
             self.gather_run(limits, &mut values.taker)?;
-            // Positions are below 2^64 and rise, so that the events end.
+            // Positions are below 2^64 and rise, so the events end.
             let _position = self.reader.position();
             if !self.gather_next(alloc, limits, values)? {
                 return Ok(());
@@ -140,9 +140,9 @@ impl<S: Source, G: Gatherer> Folding<S, G> {
 
 /// Reads an input, from the first byte that its source still has to the last, and gathers its events.
 ///
-/// It takes no byte past the one behind the limit on bytes. `Refused` names the one reason and bit at which the input breaks
-/// the rules. The source is handed back as it stands. Also where the source does not tell its bytes, what was gathered are
-/// the events of some blocks, each of them closed.
+/// It takes no byte past the first one after the limit on bytes. `Refused` has the one reason and bit at which the input breaks the
+/// rules. The source is returned in its present state. Even if the bytes of the source are not known, the gathered events are those
+/// of some blocks, each of them closed.
 pub fn fold<S: Source, G: Gatherer>(
     alloc: Global,
     source: S,
@@ -155,7 +155,7 @@ pub fn fold<S: Source, G: Gatherer>(
         (S.incoming result.1) }
     ensures some { IfOk result.0 (λ folded. GatheredSome G.gathered gatherer folded.gatherer) }
 {
-    // Its cap is below 2^64 - 1, where no wrapper ends a stream.
+    // The cap of the limit is below 2^64 - 1, the end of a stream without a wrapper.
     let _bytes = limits.bytes();
     let (reader, head) = match BitReader::start(source, limits) {
         Ok(begun) => begun,

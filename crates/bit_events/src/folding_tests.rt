@@ -94,7 +94,7 @@ fn check_text<S: Source + Drop>(alloc: Global, source: S) -> Result<String, Allo
     }
 }
 
-/// Inputs, what `check` says of them, and what is gathered of them.
+/// Inputs, what `check` returns, and what is gathered.
 static FOLDED: [(&str, &str, &str); 7] = [
     (
         "M B U",
@@ -135,7 +135,7 @@ static FOLDED: [(&str, &str, &str); 7] = [
     ),
 ];
 
-/// An input is judged so by `check` and gathered so, in pieces of a byte and of 64.
+/// Checks what `check` returns for an input and what is gathered, in pieces of one byte and of 64.
 fn are_folded(rt: &impl Abort, alloc: Global, text: &str, judged: &str, gathered: &str) {
     let bytes = bytes_of(alloc, text).expect(rt, "memory");
     for most in [1, 64] {

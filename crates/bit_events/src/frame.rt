@@ -17,14 +17,14 @@ use bit_fields::{BitReader, Fault, Reason, Shapes, Source, ValueTaker};
 use bit_grammar::SET_BID;
 use std::alloc::{AllocError, Global};
 
-/// In a BLOCKINFO block: the id of the block that is described, and the table that is being made.
+/// In a BLOCKINFO block: the id of the described block, and the table that is being made.
 #[derive(Drop)]
 pub(crate) struct Describing {
     pub(crate) described: Option<u32>,
     pub(crate) made: InfoTable,
 }
 
-/// An open block: its head, the definitions in force, and in a BLOCKINFO block what it describes.
+/// An open block: its head, the definitions in force, and in a BLOCKINFO block the block that it describes.
 #[derive(Drop)]
 pub(crate) struct Frame {
     pub(crate) head: BlockHead,
@@ -33,7 +33,7 @@ pub(crate) struct Frame {
 }
 
 impl Frame {
-    /// Whether a definition may stand here.
+    /// Whether a definition may come now.
     fn may_define(&self) -> bool
         ensures { result ≡ may_define (info_shown self.now.info) }
     {
@@ -43,8 +43,8 @@ impl Frame {
         }
     }
 
-    /// The definition that stands last where one is put: among those in force, or in a BLOCKINFO block among those that were
-    /// made for the block that is described.
+    /// The last definition in the list to which a new one is added: the definitions in force, or in a BLOCKINFO block those made
+    /// for the described block.
     pub(crate) fn newest(&self) -> Option<&Abbrev>
         ensures { option_copied result ≡ newest_in (frame_shown self.now) }
     {
@@ -57,7 +57,7 @@ impl Frame {
         }
     }
 
-    /// Takes a definition: the block's own, or in a BLOCKINFO block one for the block that is described.
+    /// Adds a definition: to the block's own, or in a BLOCKINFO block to those of the described block.
     fn put(&mut self, abbrev: Abbrev) -> Result<(), AllocError>
         requires { may_define (info_shown self.old.info) ≡ true }
         ensures defined { OnOk result ((handed : Handed)
@@ -76,7 +76,7 @@ impl Frame {
     }
 }
 
-/// Reads a definition, after its id, which began at a bit; answers the bit after it. It is the newest one.
+/// Reads a definition, after its id, which began at `first`, and returns the bit after it. It is then the newest one.
 pub(crate) fn define<S: Source>(
     alloc: Global,
     reader: &mut BitReader<S>,
@@ -105,7 +105,7 @@ pub(crate) fn define<S: Source>(
     Ok(after)
 }
 
-/// The block id that the first of a record's values is, if there is one and it is an id.
+/// The first value of a record as a block id, if there is one and it fits.
 fn described_id(value: Option<u64>) -> Option<u32>
     ensures { result ≡ described_value value }
 {
@@ -115,7 +115,7 @@ fn described_id(value: Option<u64>) -> Option<u32>
     }
 }
 
-/// Finds the block that is described after a record of a BLOCKINFO block, where the record began at a bit.
+/// Finds the described block after a record of a BLOCKINFO block, which began at `first`.
 fn describe_by<S: Source>(
     reader: &mut BitReader<S>,
     info: &mut Describing,
@@ -139,7 +139,7 @@ fn describe_by<S: Source>(
     Ok(())
 }
 
-/// Finds the block that is described after a record, if it stands in a BLOCKINFO block.
+/// Finds the described block after a record, if it is in a BLOCKINFO block.
 fn describe<S: Source>(
     reader: &mut BitReader<S>,
     info: &mut Option<Describing>,
@@ -158,8 +158,7 @@ fn describe<S: Source>(
     }
 }
 
-/// Reads a record, after its id, which began at a bit; answers its code and the bit after it. What takes its values has none
-/// before.
+/// Reads a record, after its id, which began at `first`, and returns its code and the bit after it. The value sink is empty before.
 pub(crate) fn record_after<S: Source, V: ValueTaker>(
     reader: &mut BitReader<S>,
     frame: &mut Frame,

@@ -7,18 +7,18 @@ use bit_abbrev::Abbrev;
 use bit_fields::ValueTaker;
 use std::alloc::AllocError;
 
-/// What gathers the events of a stream, one after the other.
+/// Gathers the events of a stream, one after another.
 pub trait Gatherer: Drop {
     ghost use Rattle.std.specs.Prelude.{List};
     ghost use Rattle.bit_grammar.specs.Machine.{Event};
 
-    /// What takes the values of a record for it.
+    /// The value sink for the values of a record.
     type Values: ValueTaker + Drop;
 
-    // Whether one that gathers these events, in order, becomes the other.
+    // Whether gathering these events, in order, turns the one into the other.
     ghost gathered: { Self → List Event → Self → Type 0 };
 
-    /// What takes the values of the records, which has none.
+    /// An empty value sink for the records.
     fn values(&self) -> Self::Values
         ensures { Self.Values.took result [] };
 
@@ -32,8 +32,8 @@ pub trait Gatherer: Drop {
         ensures { OnOk result (Gathers gathered self.old
             (defines (record { ops = «abbrev».now; first = first; after = after })) self.new) };
 
-    /// Takes a record in the innermost block: its abbreviation id, its code, what took its values, its first bit and the bit
-    /// after it. The values may be taken away.
+    /// Takes a record in the innermost block: its abbreviation id, its code, the value sink with its values, its first bit and the
+    /// bit after it. The values may be moved out.
     fn record(
         &mut self,
         id: u32,
@@ -54,7 +54,7 @@ pub trait Gatherer: Drop {
         ensures took { TookSome Self.Values.took values.old
             → TookSome Self.Values.took values.new };
 
-    /// Takes the end of the innermost block, the bit after it.
+    /// Takes the end of the innermost block: the bit after it.
     fn leave(&mut self, after: u64) -> Result<(), AllocError>
         ensures { OnOk result (Gathers gathered self.old (leaves after) self.new) };
 }

@@ -1,7 +1,7 @@
 ghost use Rattle.std.specs.Prelude.{◌≤◌};
 
-/// What stands between a block's abbreviation id and its items: its id, the width of the ids in it, from 1 to 32, where its
-/// length stands, its length in words, and where its body begins.
+/// What comes between a block's abbreviation id and its items: its id, the width of the ids in it, from 1 to 32, the position of
+/// its length, its length in words, and the position of its body.
 #[derive(Clone, Copy)]
 pub(crate) struct BlockHead {
     pub(crate) id: u32,

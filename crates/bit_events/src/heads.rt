@@ -8,7 +8,7 @@ use crate::head::BlockHead;
 use bit_fields::{BitReader, Fault, Reason, Source};
 use std::alloc::AllocError;
 
-/// The value that was made; where memory was refused for it the reader fails.
+/// The value that was made; if an allocation for it failed, the reader fails.
 pub(crate) fn or_memory_fault<S: Source, T>(
     reader: &mut BitReader<S>,
     got: Result<T, AllocError>,
@@ -33,7 +33,7 @@ fn block_id<S: Source>(reader: &mut BitReader<S>) -> Result<u32, Fault>
     Ok(id as u32)
 }
 
-/// Whether abbreviation ids may have so many bits.
+/// Whether abbreviation ids may have this many bits.
 fn is_width(width: u64) -> bool
     ensures { result ≡ (nat_le 1 width && nat_le width 32) }
 {
@@ -52,7 +52,7 @@ fn new_width<S: Source>(reader: &mut BitReader<S>) -> Result<u8, Fault>
     Ok(width as u8)
 }
 
-/// Reads what stands between a block's abbreviation id and its items. Source: "ENTER_SUBBLOCK Encoding".
+/// Reads what comes between a block's abbreviation id and its items. Source: "ENTER_SUBBLOCK Encoding".
 pub(crate) fn block_head<S: Source>(reader: &mut BitReader<S>) -> Result<BlockHead, Fault>
     ensures { Takes block_head reader.old (told_by head_shown result) reader.new }
 {
@@ -71,7 +71,7 @@ pub(crate) fn block_head<S: Source>(reader: &mut BitReader<S>) -> Result<BlockHe
     })
 }
 
-/// Whether a block whose length is right ends there.
+/// Whether a block that ends here has the right length.
 fn ends_at(head: BlockHead, after: u64) -> bool
     ensures { result ≡ (head.body + 32 * head.words == after) }
 {
@@ -81,8 +81,8 @@ fn ends_at(head: BlockHead, after: u64) -> bool
     }
 }
 
-/// Reads the padding behind the id that ends a block, judges the block's length, and answers the bit after the block.
-/// Source: "END_BLOCK Encoding".
+/// Reads the padding after the id that ends a block, judges the block's length, and returns the bit after the block. Source:
+/// "END_BLOCK Encoding".
 pub(crate) fn end_of_block<S: Source>(
     reader: &mut BitReader<S>,
     head: BlockHead,
@@ -96,7 +96,7 @@ pub(crate) fn end_of_block<S: Source>(
     Ok(after)
 }
 
-/// Outside of all blocks: whether the stream has no byte left, and then whether its whole input is accepted.
+/// Outside of all blocks: returns whether the stream has no byte left and its whole input is accepted.
 #[cold]
 #[inline(never)]
 fn shuts_outside<S: Source>(reader: &mut BitReader<S>) -> Result<bool, Fault>
@@ -104,7 +104,7 @@ fn shuts_outside<S: Source>(reader: &mut BitReader<S>) -> Result<bool, Fault>
     requires aligned { reader.old.position % 8 ≡ 0 }
     ensures { Shuts true reader.old result reader.new }
 {
-    // Here the position and the bits that are left reach as far as the stream and the limit on bytes.
+    // Here the position and the unread bits reach as far as the stream and the limit on bytes.
     let _position = reader.position();
     if !reader.at_end()? {
         return Ok(false);
@@ -113,7 +113,7 @@ fn shuts_outside<S: Source>(reader: &mut BitReader<S>) -> Result<bool, Fault>
     Ok(true)
 }
 
-/// The same where a block may be open, which shuts nothing.
+/// The same if a block may be open: then the input has not ended.
 #[inline(always)]
 pub(crate) fn shuts<S: Source>(reader: &mut BitReader<S>, outside: bool) -> Result<bool, Fault>
     requires live { reader.old.live ≡ true }

@@ -1,18 +1,18 @@
-//! The events of a stream: beginnings of blocks, definitions, records and ends of blocks. Begin with `check`, which returns
-//! whether an input is accepted, and `Events::start`, which returns its events one at a time. `fold` is the fastest way to take
-//! them all, into a `Gatherer` of one's own.
+//! The events of a stream: beginnings of blocks, definitions, records and ends of blocks. Begin with `check`, which returns whether
+//! an input is accepted, and `Events::start`, which returns its events one at a time. `fold` is the fastest way to take them all,
+//! into your own `Gatherer`.
 //!
 //! `Machine` holds a frame for each open block. Each of its calls takes what the rule for one step reads; `LeavesMachine` relates
-//! the frames, the position and the event. BLOCKINFO blocks, fields without a width and what crosses the end of a buffer go by
-//! the exact reader.
+//! the frames, the position and the event. The exact reader reads BLOCKINFO blocks, fields without a width and what crosses the end
+//! of a buffer.
 //!
-//! `fold` stays in a block while records come. `gather_run` gathers the buffered records of a block, and the reader then catches
-//! up over all of them. `EventFinder` returns one event at a time over any `ValueKeeper`; `Events` is that over a vector,
+//! `fold` stays in a block while records come. `gather_run` gathers the buffered records of a block, and the reader then catches up
+//! over all of them. `EventFinder` returns one event at a time over any `ValueKeeper`; `Events` is that over a vector,
 //! `PackedEvents` over `PackedValues`. `SliceEvents` reads the records of a slice in place and keeps its lookahead from record to
 //! record.
 //!
-//! A setting acts here alone: `OpenBlocks` holds the open blocks and says of each event whether it is left. The law `events_left`
-//! of `bit_grammar` says that these events are those of the tree that is left.
+//! A setting acts only here: `OpenBlocks` holds the open blocks and returns for each event whether it is kept. The law
+//! `events_left` of `bit_grammar` says that the kept events are those of the tree that the setting leaves.
 #![tactic(auto)]
 
 mod checking;

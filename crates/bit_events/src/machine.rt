@@ -4,7 +4,7 @@ ghost use Rattle.bit_grammar.specs.Blocks.{enter, leave};
 ghost use Rattle.bit_grammar.specs.Terms.{info_for};
 ghost use Rattle.bit_grammar.specs.Machine.{at_start, open_block, open_nested, step_after, step_in, step_top, step, scope_of, inside};
 ghost use Rattle.bit_fields.specs.Reader.{Takes, told_by};
-ghost use Rattle.bit_fields.specs.Ahead.{Glimpsed};
+ghost use Rattle.bit_fields.specs.Buffered.{Reads};
 ghost use Rattle.bit_abbrev.specs.Values.{Gains, Has, Keeps};
 ghost use Rattle.bit_events.specs.Next.{FindsNext};
 ghost use Rattle.bit_events.specs.EventView.{shown_if_any};
@@ -17,16 +17,16 @@ use crate::event::{Event, RecordHead};
 use crate::frame::{Describing, Frame, define, record_after};
 use crate::head::BlockHead;
 use crate::heads::{block_head, end_of_block, or_memory_fault, shuts};
-use crate::running::{item_ahead, record_ahead};
+use crate::running::{buffered_item, buffered_record};
 use crate::with_first::WithFirst;
 use bit_abbrev::{Abbrev, InForce, InfoTable, SharedInfo};
-use bit_fields::{Ahead, BitReader, Fault, Limits, Reason, Source, ValueTaker};
+use bit_fields::{BitReader, Buffered, Fault, Limits, Reason, Source, ValueTaker};
 use std::alloc::{AllocError, Global};
 
-/// How many values may stand before those of a record that is read ahead, so that all can be counted.
+/// How many values may come before those of a buffered record, so that all can be counted.
 const MOST_BEFORE: u64 = 1 << 63;
 
-/// What one step of the machine found: an event without what is lent with it, the values of a record and the operands of a
+/// The event that one step of the machine found, without what is lent with it: the values of a record and the operands of a
 /// definition. The machine holds the definition as the newest one of its block.
 #[derive(Clone, Copy)]
 pub(crate) enum Step {
@@ -46,8 +46,7 @@ pub(crate) enum Step {
     },
 }
 
-/// What is known between two events: the open blocks, the outermost first, the table for the blocks to come, and the number
-/// of values so far.
+/// The state between two events: the open blocks, the outermost first, the table for later blocks, and the number of values so far.
 #[derive(Drop)]
 pub(crate) struct Machine {
     pub(crate) frames: Vec<Frame>,
@@ -99,7 +98,7 @@ impl Machine {
         Ok(())
     }
 
-    /// Reads a block's beginning, after its id, which began at a bit. Source: "ENTER_SUBBLOCK Encoding".
+    /// Reads a block's beginning, after its id, which began at `first`. Source: "ENTER_SUBBLOCK Encoding".
     #[cold]
     #[inline(never)]
     fn open_block<S: Source>(
@@ -201,7 +200,7 @@ impl Machine {
         }
     }
 
-    /// Reads a definition in the innermost block, after its id, which began at a bit.
+    /// Reads a definition in the innermost block, after its id, which began at `first`.
     fn define<S: Source>(
         &mut self,
         alloc: Global,
@@ -225,7 +224,7 @@ impl Machine {
         Ok(Step::Define { first, after })
     }
 
-    /// How many values there is still room for.
+    /// How many more values the limit allows.
     #[inline(always)]
     pub(crate) fn room(&self, limits: &Limits) -> u64
         ensures room { result ≡ limits.now.values - self.now.used }
@@ -235,7 +234,7 @@ impl Machine {
         limits.values().saturating_sub(self.used)
     }
 
-    /// Reads a record in the innermost block, after its id, which began at a bit; answers its code and the bit after it.
+    /// Reads a record in the innermost block, after its id, which began at `first`, and returns its code and the bit after it.
     pub(crate) fn note<S: Source, V: ValueTaker>(
         &mut self,
         reader: &mut BitReader<S>,
@@ -268,8 +267,8 @@ impl Machine {
         Ok((code, after))
     }
 
-    /// Does as `note`, but where the record lies in memory whole it is read from there, unless it stands in a BLOCKINFO block.
-    fn note_in_sight<S: Source, V: ValueTaker>(
+    /// Like `note`, but reads a completely buffered record from the buffer, unless it is in a BLOCKINFO block.
+    fn record_from_buffer<S: Source, V: ValueTaker>(
         &mut self,
         reader: &mut BitReader<S>,
         limits: &Limits,
@@ -295,11 +294,17 @@ impl Machine {
         }
         let room = self.room(limits);
         values.taker.truncate(0);
-        let ahead = Ahead::new(reader.sight()?);
-        let start = ahead.position();
+        let buffered = Buffered::new(reader.buffered_parts()?);
+        let start = buffered.position();
         let taker = &mut values.taker;
-        let Some((code, after)) = record_ahead(ahead, &frame.definitions, room, id, first, taker)
-        else {
+        let Some((code, after)) = buffered_record(
+            buffered,
+            &frame.definitions,
+            room,
+            id,
+            first,
+            taker,
+        ) else {
             return self.note(reader, limits, id, first, values);
         };
         let count = values.taker.count();
@@ -308,26 +313,26 @@ impl Machine {
         Ok((code, after))
     }
 
-    /// Reads the next event from what is ahead, where it is a record that lies there whole and stands in no BLOCKINFO block, and
-    /// answers the rest of it. Its values stand behind those before; where nothing is answered, some of them may.
+    /// Reads the next event from the buffer, if it is a completely buffered record and in no BLOCKINFO block, and returns it
+    /// without its values. These come after the earlier values; if it returns `None`, some may have been added.
     #[inline(always)]
-    pub(crate) fn note_ahead<V: ValueTaker>(
+    pub(crate) fn buffered_step<V: ValueTaker>(
         &mut self,
         limits: &Limits,
-        ahead: &mut Ahead<'_>,
+        buffered: &mut Buffered<'_>,
         values: &mut V,
     ) -> Option<RecordHead>
         requires took { TookSome V.took values.old }
-        ensures glimpsed { IfSome result (λ read. Gains V.took values.old values.new
-            (AddsBehind (λ list. Glimpsed (step limits.now (machine_shown self.old)) ahead.old
+        ensures reads { IfSome result (λ read. Gains V.took values.old values.new
+            (AddsBehind (λ list. Reads (step limits.now (machine_shown self.old)) buffered.old
             (record_of read.«abbrev» list read.first (read.code, read.after), machine_shown self.new)
-            ahead.new))) }
+            buffered.new))) }
         ensures open { OnSome result (0 < vec_len self.old.frames) }
         ensures frames { self.new.frames ≡ self.old.frames }
         ensures stays { IfNone result (self.new ≡ self.old) }
         ensures keeps { Keeps V.took values.old values.new }
-        ensures moves { OnSome result (ahead.old.position < ahead.new.position) }
-        ensures below { OnSome result (ahead.new.position < 2 ^ 64) }
+        ensures moves { OnSome result (buffered.old.position < buffered.new.position) }
+        ensures below { OnSome result (buffered.new.position < 2 ^ 64) }
     {
         let Some(frame) = self.frames.last() else {
             return None;
@@ -337,10 +342,16 @@ impl Machine {
             return None;
         }
         let room = self.room(limits);
-        let first = ahead.position();
+        let first = buffered.position();
         let definitions = &frame.definitions;
-        let (abbrev, code) = item_ahead::<V, InForce, V>(ahead, frame, definitions, room, values)?;
-        let after = ahead.position();
+        let (abbrev, code) = buffered_item::<V, InForce, V>(
+            buffered,
+            frame,
+            definitions,
+            room,
+            values,
+        )?;
+        let after = buffered.position();
         self.used += values.count() - before;
         Some(RecordHead {
             abbrev,
@@ -350,11 +361,11 @@ impl Machine {
         })
     }
 
-    /// Reads what is no record in the innermost block, after its id, which began at a bit: the end of the block, a block or a
-    /// definition. It is kept out of the way of records, which are far more.
+    /// Reads an item other than a record in the innermost block, after its id, which began at `first`: the end of the block, a
+    /// block or a definition. It is kept out of the path of records, which are far more frequent.
     #[cold]
     #[inline(never)]
-    pub(crate) fn step_aside<S: Source>(
+    pub(crate) fn step_apart<S: Source>(
         &mut self,
         alloc: Global,
         reader: &mut BitReader<S>,
@@ -403,10 +414,10 @@ impl Machine {
         let first = reader.position();
         let id = reader.fixed(u32::from(head.width))?;
         if id < 3 {
-            return self.step_aside(alloc, reader, limits, id, first);
+            return self.step_apart(alloc, reader, limits, id, first);
         }
         let abbrev = id as u32;
-        let (code, after) = self.note_in_sight(reader, limits, abbrev, first, values)?;
+        let (code, after) = self.record_from_buffer(reader, limits, abbrev, first, values)?;
         Ok(Step::Record(RecordHead {
             abbrev,
             code,
@@ -450,8 +461,8 @@ impl Machine {
         }
     }
 
-    /// Takes one step: reads one item of the innermost block or its end, or a block's beginning at the top. Of a record the values
-    /// are then those that the list holds; another step leaves them.
+    /// Takes one step: reads one item of the innermost block or its end, or a block's beginning at the top. After a record `values`
+    /// has its values; another step leaves `values` as it is.
     fn step<S: Source, V: ValueTaker>(
         &mut self,
         alloc: Global,
@@ -474,8 +485,8 @@ impl Machine {
         }
     }
 
-    /// Finds the next event, or nothing where the whole input is accepted. All ways over events go on by this call. Of a record the
-    /// values are then those that the list holds; another event leaves them.
+    /// Finds the next event, or `None` if the whole input is accepted. All ways over events go on by this call. After a record
+    /// `values` has its values; another event leaves `values` as it is.
     pub(crate) fn next<S: Source, V: ValueTaker>(
         &mut self,
         alloc: Global,
@@ -499,7 +510,7 @@ impl Machine {
         Ok(Some(step))
     }
 
-    /// The definition that stands last where the innermost block puts one.
+    /// The last definition in the list to which the innermost block adds one.
     pub(crate) fn newest(&self) -> Option<&Abbrev>
         ensures { option_copied result ≡ newest (frames_shown self.now.frames.items) }
     {
@@ -518,7 +529,7 @@ impl Machine {
 }
 
 impl Step {
-    /// The event, with what is lent with it: these values, and the definition that the machine holds.
+    /// The event, with these values and the definition that the machine holds.
     #[inline(always)]
     pub(crate) fn event<'a, L: Drop>(&self, machine: &'a Machine, values: L) -> Option<Event<'a, L>>
         ensures { (told : L → List ℕ) → shown_if_any told result

@@ -1,4 +1,4 @@
-//! A setting, with its names in order.
+//! A setting, with its names sorted.
 
 ghost use Rattle.std.specs.Prelude.{◌≡◌, map, IfOk};
 ghost use Rattle.bit_events.specs.Named.{HasIds, HasPairs, block_of, pair_of};
@@ -9,30 +9,30 @@ use std::alloc::{AllocError, Global};
 use std::collections::BTreeSet;
 use std::marker::Model;
 
-/// The names of a setting, each once and in order.
+/// The names of a setting, each once and sorted.
 #[derive(Drop)]
 struct Ordered {
     blocks: BTreeSet<u32>,
-    /// The ids of the blocks in which records are named.
+    /// The ids of the blocks with named records.
     holders: BTreeSet<u32>,
     records: BTreeSet<(u32, u64)>,
 }
 
-/// The ids of blocks in order.
+/// The ids of blocks, sorted.
 fn ordered_blocks(alloc: Global, blocks: &[u32]) -> Result<BTreeSet<u32>, AllocError>
     ensures { IfOk result (HasIds blocks.now) }
 {
     blocks.iter().copied().collect(alloc)
 }
 
-/// The ids of the blocks in which records are named, in order.
+/// The ids of the blocks with named records, sorted.
 fn ordered_holders(alloc: Global, records: &[RecordName]) -> Result<BTreeSet<u32>, AllocError>
     ensures { IfOk result (HasIds (map block_of records.now)) }
 {
     records.iter().map(|name| name.block).collect(alloc)
 }
 
-/// The names of records in order.
+/// The names of records, sorted.
 fn ordered_records(
     alloc: Global,
     records: &[RecordName],
@@ -45,12 +45,12 @@ fn ordered_records(
         .collect(alloc)
 }
 
-/// A setting, of which a name is found in time that hardly grows with their number, once they are in order.
+/// A setting. Once its names are sorted, a look-up takes time that hardly grows with their number.
 #[derive(Drop)]
 pub(crate) struct Names<'a> {
     alloc: Global,
     info: Info<'a>,
-    /// None before the first block, and where nothing has a name.
+    /// `None` before the first block, and if nothing has a name.
     ordered: Option<Ordered>,
 }
 
@@ -77,7 +77,7 @@ impl<'a> Names<'a> {
         }
     }
 
-    /// Puts the names in order, if they are not.
+    /// Sorts the names, if they are not sorted yet.
     pub(crate) fn put_in_order(&mut self) -> Result<(), AllocError>
         ensures { self.new ≡ self.old }
     {
@@ -91,7 +91,7 @@ impl<'a> Names<'a> {
         Ok(())
     }
 
-    /// Whether blocks with this id are kept, where the blocks around them are.
+    /// Whether blocks with this id are kept, if the blocks around them are.
     pub(crate) fn keeps(&self, id: u32) -> bool
         ensures { result ≡ keeps self.now id }
     {
@@ -101,7 +101,7 @@ impl<'a> Names<'a> {
         }
     }
 
-    /// Whether records with this code are kept in blocks with this id, where these are.
+    /// Whether records with this code are kept in blocks with this id, if these blocks are.
     pub(crate) fn keeps_record(&self, block: u32, code: u64) -> bool
         ensures { result ≡ keeps_record self.now block code }
     {
@@ -111,7 +111,7 @@ impl<'a> Names<'a> {
         }
     }
 
-    /// Whether no name is that of records in blocks with this id, so that all of them are kept.
+    /// Whether no record in blocks with this id has a name, so that all of them are kept.
     pub(crate) fn keeps_records(&self, block: u32) -> bool
         ensures { result ≡ keeps_records self.now block }
     {

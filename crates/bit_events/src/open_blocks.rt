@@ -1,4 +1,4 @@
-//! The blocks that are open, under a setting.
+//! The open blocks, under a setting.
 
 ghost use Rattle.std.specs.Prelude.{◌≡◌, ℕ, List, ◌&&◌, true, [], ◌∷◌, OnOk, OnErr, IfOk};
 ghost use Rattle.std.specs.List.{list_all};
@@ -14,17 +14,17 @@ use bit_grammar::Info;
 use std::alloc::{AllocError, Global};
 use std::marker::Model;
 
-/// A block that is open, or the top, which has the id 0.
+/// An open block, or the top, which has the id 0.
 #[derive(Clone, Copy)]
 struct Around {
     id: u32,
-    /// The block is left, and so is each block round it.
+    /// The block is kept, and so is each block around it.
     is_left: bool,
-    /// It is left with all its records.
+    /// It is kept with all its records.
     is_whole: bool,
 }
 
-/// What is left outside all blocks.
+/// Outside of all blocks all is kept.
 const fn top() -> Around
     ensures { result ≡ record { id = 0; is_left = true; is_whole = true } }
 {
@@ -50,13 +50,13 @@ fn block_in(names: &Names<'_>, around: Around, id: u32) -> Around
     }
 }
 
-/// The blocks that are open, under a setting. It takes where blocks begin and end, and tells what is left there.
+/// The open blocks, under a setting. It takes the beginnings and ends of blocks, and returns what is kept.
 #[derive(Drop)]
 pub struct OpenBlocks<'a> {
     names: Names<'a>,
     /// The innermost block.
     inner: Around,
-    /// The blocks round it and the top, the outermost first; nothing where no block is open.
+    /// The blocks around it and the top, the outermost first; empty if no block is open.
     outer: Vec<Around>,
 }
 
@@ -86,7 +86,7 @@ impl<'a> OpenBlocks<'a> {
         }
     }
 
-    /// Whether each open block is left.
+    /// Whether all open blocks are kept.
     #[inline]
     pub fn is_left(&self) -> bool
         ensures { result ≡ list_all (keeps self.now.setting) self.now.ids }
@@ -94,7 +94,7 @@ impl<'a> OpenBlocks<'a> {
         self.inner.is_left
     }
 
-    /// Whether a record with this code is left where it stands directly in the innermost block.
+    /// Whether a record with this code is kept directly in the innermost block.
     #[inline(always)]
     pub fn leaves_record(&self, code: u64) -> bool
         ensures { result ≡ (list_all (keeps self.now.setting) self.now.ids
@@ -106,7 +106,7 @@ impl<'a> OpenBlocks<'a> {
         self.inner.is_left && self.names.keeps_record(self.inner.id, code)
     }
 
-    /// Takes where a block begins, and answers whether it is left. Where memory is refused no block began.
+    /// Takes the beginning of a block, and returns whether it is kept. If an allocation fails, nothing changes.
     pub fn enter(&mut self, id: u32) -> Result<bool, AllocError>
         ensures left { IfOk result (λ left. left
             ≡ list_all (keeps self.old.setting) (id ∷ self.old.ids)) }
@@ -120,7 +120,7 @@ impl<'a> OpenBlocks<'a> {
         Ok(inner.is_left)
     }
 
-    /// Takes an event, and answers whether it is left. Where memory is refused none came.
+    /// Takes an event, and returns whether it is kept. If an allocation fails, nothing changes.
     pub fn take<L: Copy>(&mut self, event: Event<'_, L>) -> Result<bool, AllocError>
         ensures left { IfOk result (λ left. (told : L → List ℕ)
             → left ≡ leaves self.old (shown_by told event.entry)) }
@@ -136,7 +136,7 @@ impl<'a> OpenBlocks<'a> {
         }
     }
 
-    /// Takes where the innermost block ends, and answers whether its end is left.
+    /// Takes the end of the innermost block, and returns whether it is kept.
     pub fn leave(&mut self) -> bool
         ensures left { result ≡ list_all (keeps self.old.setting) self.old.ids }
         ensures ids { (after : ℕ) → self.new ≡ record self.old

@@ -1,4 +1,4 @@
-//! What is left of events, under settings.
+//! The events that settings keep.
 
 use crate::events_tests::agrees;
 use crate::{Event, OpenBlocks};
@@ -26,7 +26,7 @@ fn event_of(byte: u8) -> Event<'static> {
     }
 }
 
-/// The text of events, with a dash for each that is left out.
+/// The text of events, with a dash for each event that is left out.
 fn left_of(alloc: Global, info: Info<'_>, events: &str) -> Result<String, AllocError> {
     let mut blocks = OpenBlocks::new(alloc, info);
     let mut text = String::new(alloc);
@@ -37,16 +37,16 @@ fn left_of(alloc: Global, info: Info<'_>, events: &str) -> Result<String, AllocE
     Ok(text)
 }
 
-/// These are left of these events.
+/// Checks what is left of these events.
 fn are_left(rt: &impl Abort, alloc: Global, info: Info<'_>, events: &str, wanted: &str) {
     agrees(rt, left_of(alloc, info, events), wanted, events);
 }
 
-/// Blocks and records that are left out, events, and what is left of these.
+/// Blocks and records that are left out, events, and what is left of them.
 static ROWS: [(&[u32], &[RecordName], &str, &str); 5] = [
     // a dropped BLOCKINFO block
     (&[0], &[], "0a.8b0a.b.", "---8b---b."),
-    // blocks in one that is left out, and what stands behind it
+    // blocks in one that is left out, and items after it
     (&[9], &[], "8a9b8b.9..ab.9.", "8a--------ab.--"),
     (&[8, 9], &[], "8a9b..7a8.a.", "------7a--a."),
     // records around blocks, and in them
@@ -54,7 +54,7 @@ static ROWS: [(&[u32], &[RecordName], &str, &str); 5] = [
     (&[], &[SEVEN, ZERO], "0a.8a7ab.a.", "0a.8a7-b.a."),
 ];
 
-/// The records with code 1 of blocks 8, 7 and 0, of which the last have no name.
+/// The records with code 1 of blocks 8, 7 and 0; the last block has no named records.
 const EIGHT: RecordName = RecordName { block: 8, code: 1 };
 
 const SEVEN: RecordName = RecordName { block: 7, code: 1 };

@@ -1,4 +1,4 @@
-//! The events of bytes that lie in memory, of which most records are read where they lie.
+//! The events of a slice of bytes, most of whose records are read in place.
 
 ghost use Rattle.std.specs.Prelude.{◌≡◌, ⊤, ℕ, List, [], IfOk, IfErr, IfSome, IfNone};
 ghost use Rattle.std.specs.Borrow.{sem, follows_so};
@@ -17,28 +17,28 @@ use crate::finder::PackedEvent;
 use crate::machine::{Machine, Step};
 use crate::with_first::WithFirst;
 use bit_fields::{
-    Ahead, BitReader, Fault, Head, Limits, PackedValues, SliceSource, Source, ValueTaker,
+    BitReader, Buffered, Fault, Head, Limits, PackedValues, SliceSource, Source, ValueTaker,
 };
 use std::alloc::Global;
 use std::marker::Model;
 
-/// The events of bytes that lie in memory, one at a time. A record that is whole, as most are, is read where it lies, and its
-/// values are handed on; every event, and so also such a record, is found by a machine as those of `Events` are.
+/// The events of a slice of bytes, one at a time. `record` reads a complete record, as most are, in place and gives its values to a
+/// value sink. `next` finds every event, such records too, by a machine as `Events` does.
 ///
-/// After a fault it has failed, and every later call for an event answers `Failed`.
+/// After a fault it has failed, and every later call for an event returns `Failed`.
 #[derive(Drop)]
 pub struct SliceEvents<'a> {
     alloc: Global,
     limits: Limits,
     head: Head,
-    /// It stands behind the last event that it found, and not behind the records that were read where they lie.
+    /// It is after the last event that it found, and not after the records that were read in place.
     reader: BitReader<SliceSource<'a>>,
-    /// What comes behind all events so far.
-    ahead: Ahead<'a>,
+    /// The bits after all events so far.
+    buffered: Buffered<'a>,
     machine: Machine,
-    /// The values of the record that the reader found last.
+    /// The values of the last record that the reader found.
     values: WithFirst<PackedValues>,
-    /// The event that the reader found last, where no record was read behind it.
+    /// The last event that the reader found, if no record was read in place after it.
     found: Option<Step>,
     /// The whole input is accepted.
     over: bool,
@@ -51,18 +51,18 @@ impl<'a> Model for SliceEvents<'a> {
 
     ghost Value = { Coming };
 
-    ghost view = { λ e. coming_of e.over e.limits e.head e.machine e.values.taker e.found e.ahead.position
-        (reader_seen e.reader e.ahead) };
+    ghost view = { λ e. coming_of e.over e.limits e.head e.machine e.values.taker e.found e.buffered.position
+        (reader_seen e.reader e.buffered) };
 
-    ghost invariant = { λ e. SeesEvents e.over e.machine e.found e.reader e.ahead };
+    ghost invariant = { λ e. SeesEvents e.over e.machine e.found e.reader e.buffered };
 }
 
 impl<'a> SliceEvents<'a> {
     ghost use Rattle.bit_events.specs.contracts.slice_events.SliceEvents.{the_row};
 
-    /// Begins the events of a slice: reads its wrapper, if there is one, and the magic of its stream. It takes no memory.
+    /// Begins the events of a slice: reads its wrapper, if there is one, and the magic of its stream. It allocates nothing.
     ///
-    /// It refuses an input that breaks there, as `BitReader::start` does, and hands its source back.
+    /// It refuses an input that breaks there, as `BitReader::start` does, and returns its source.
     pub fn start(
         alloc: Global,
         source: SliceSource<'a>,
@@ -74,16 +74,16 @@ impl<'a> SliceEvents<'a> {
             (⟦<SliceSource<'a> as Source>⟧.incoming source.entry) refused.0
             (⟦<SliceSource<'a> as Source>⟧.incoming refused.1)) }
     {
-        // Its cap is below 2^64 - 1, where no wrapper ends a stream.
+        // The cap of the limit is below 2^64 - 1, the end of a stream without a wrapper.
         let _bytes = limits.bytes();
         let (reader, head) = BitReader::start(source, limits)?;
-        let ahead = Ahead::new(reader.sight_in_slice());
+        let buffered = Buffered::new(reader.parts_in_slice());
         Ok(SliceEvents {
             alloc,
             limits,
             head,
             reader,
-            ahead,
+            buffered,
             machine: Machine::new(alloc),
             values: WithFirst::new(PackedValues::new(alloc)),
             found: None,
@@ -98,16 +98,15 @@ impl<'a> SliceEvents<'a> {
         &self.head
     }
 
-    /// The bit behind the event that was given last, or behind the head, counted from the first bit of the input. A call that
-    /// fails leaves it.
+    /// The bit after the last event, or after the head, counted from the first bit of the input. A call that fails leaves it.
     pub fn position(&self) -> u64
         ensures { result ≡ self.now.position }
     {
-        self.ahead.position()
+        self.buffered.position()
     }
 
-    /// Reads the next event where it is a record that lies there whole: hands its values on, and answers the rest of it. Else, and
-    /// where a value is refused, nothing came, some values may have been handed on, and `next` finds the event.
+    /// Reads the next event if it is a complete record: gives its values to the value sink and returns the record without them. If
+    /// it is not, or if a value is not taken, it returns `None`, some values may have been added, and `next` finds the event.
     #[inline(always)]
     pub fn record<V: ValueTaker>(&mut self, values: &mut V) -> Option<RecordHead>
         requires took { TookSome V.took values.old }
@@ -121,10 +120,12 @@ impl<'a> SliceEvents<'a> {
         if !self.reader.is_live() {
             return None;
         }
-        let mut ahead = self.ahead.copy();
-        let read = self.machine.note_ahead(&self.limits, &mut ahead, values)?;
+        let mut buffered = self.buffered.copy();
+        let read = self
+            .machine
+            .buffered_step(&self.limits, &mut buffered, values)?;
         self.values.clear(); // so that values are held once
-        self.ahead = ahead;
+        self.buffered = buffered;
         self.found = None;
         Some(read)
     }
@@ -140,7 +141,7 @@ impl<'a> SliceEvents<'a> {
             return Err(Fault::Failed);
         }
         self.reader
-            .catch_up(self.ahead.position() - self.reader.position())?;
+            .catch_up(self.buffered.position() - self.reader.position())?;
         let Some(step) = self.machine.next(
             self.alloc,
             &mut self.reader,
@@ -152,12 +153,12 @@ impl<'a> SliceEvents<'a> {
             self.over = true;
             return Ok(());
         };
-        self.ahead = Ahead::new(self.reader.sight_in_slice());
+        self.buffered = Buffered::new(self.reader.parts_in_slice());
         self.found = Some(step);
         Ok(())
     }
 
-    /// The event that was found last.
+    /// The last event that the reader found.
     #[inline(always)]
     fn event(&self) -> Option<PackedEvent<'_>>
         ensures { shown_if_any lent result ≡ self.now.last }
@@ -168,9 +169,9 @@ impl<'a> SliceEvents<'a> {
         }
     }
 
-    /// The next event, or nothing where the whole input is accepted, and then nothing again ever after.
+    /// Returns the next event, or `None` if the whole input is accepted, and then `None` at every later call.
     ///
-    /// A refusal comes behind the events of all that is whole and holds before it.
+    /// A refusal comes after the events of all that is complete and lawful before it.
     pub fn next(&mut self) -> Result<Option<PackedEvent<'_>>, Fault>
         ensures* { sem 𝓛 (follows_so (the_row (record { mir = named 1; lft = [] }))
             (the_row (record { mir = named 1; lft = [] })) self.entry.ghost_name none

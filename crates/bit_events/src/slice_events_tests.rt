@@ -1,4 +1,4 @@
-//! The events of bytes that lie in memory, where records are read where they lie.
+//! The events of a slice, with records that are read in place.
 
 use crate::events_tests::{
     AT_USE, EVENTS, MIXED, MIXED_ENDS, MIXED_FRONT, agrees, bytes_of, told_of_fault,
@@ -9,7 +9,7 @@ use std::alloc::{AllocError, Global};
 use std::fmt::Write;
 use std::process::Abort;
 
-/// Before which events a record is looked for where it lies.
+/// Before which events a record is looked for in place.
 #[derive(Clone, Copy, Debug)]
 enum Looks {
     Never,
@@ -32,7 +32,7 @@ fn show(text: &mut String, event: &Event<'_>) -> Result<(), AllocError> {
     write!(text, "{event:?} ").map_err(|_| AllocError)
 }
 
-/// Adds a record that was read where it lies to a text, as the event that it is.
+/// Adds a record that was read in place to a text, as the event that it is.
 fn show_record(text: &mut String, read: RecordHead, values: &[u64]) -> Result<(), AllocError> {
     let RecordHead {
         abbrev,
@@ -50,7 +50,7 @@ fn show_record(text: &mut String, read: RecordHead, values: &[u64]) -> Result<()
     show(text, &event)
 }
 
-/// The numbers that are packed.
+/// The packed numbers.
 fn numbers_of(alloc: Global, values: &PackedValues) -> Result<Vec<u64>, AllocError> {
     let mut list = Vec::new(alloc);
     for place in 0..values.len() {
@@ -59,7 +59,7 @@ fn numbers_of(alloc: Global, values: &PackedValues) -> Result<Vec<u64>, AllocErr
     Ok(list)
 }
 
-/// Adds an event whose values are packed to a text.
+/// Adds an event with packed values to a text.
 fn show_packed(alloc: Global, text: &mut String, event: PackedEvent<'_>) -> Result<(), AllocError> {
     match event {
         Event::Enter {
@@ -107,7 +107,7 @@ fn show_packed(alloc: Global, text: &mut String, event: PackedEvent<'_>) -> Resu
     }
 }
 
-/// Adds the next event to a text, or what stands in its place; answers whether there was one.
+/// Adds the next event to a text, or its end or fault. Returns whether there was one.
 fn show_next(
     alloc: Global,
     events: &mut SliceEvents<'_>,
@@ -129,7 +129,7 @@ fn show_next(
     }
 }
 
-/// Adds a record that lies there next to a text; answers whether there was one.
+/// Adds the next record, if it can be read in place, to a text. Returns whether there was one.
 fn show_seen(
     alloc: Global,
     events: &mut SliceEvents<'_>,
@@ -145,8 +145,8 @@ fn show_seen(
     }
 }
 
-/// All events, up to the second time that there is none, behind the bit at which they begin; and how many records were read where
-/// they lie.
+/// All events, up to the second time that there is none, each after the bit at which it begins; and how many records were read in
+/// place.
 fn told_from(
     alloc: Global,
     mut events: SliceEvents<'_>,
@@ -168,7 +168,7 @@ fn told_from(
     Ok((text, seen))
 }
 
-/// The same of an input under limits.
+/// The same for an input under limits.
 fn told(
     alloc: Global,
     bytes: &[u8],
@@ -181,7 +181,7 @@ fn told(
     }
 }
 
-/// The events of an input are these, however records are looked for.
+/// Checks the events of an input, however records are looked for.
 fn are_told(rt: &impl Abort, alloc: Global, limits: Limits, text: &str, wanted: &str) {
     let bytes = bytes_of(alloc, text).expect(rt, "memory");
     for looks in [Looks::Never, Looks::Always, Looks::EverySecond] {
@@ -212,8 +212,8 @@ fn events_of_mixed_slices(rt: HostRuntime) {
     }
 }
 
-/// Inputs, and how many of their records are read where they lie: not those in a BLOCKINFO block, those with arrays of
-/// fields that take no bits, those past the limit on values, and those that are cut.
+/// Inputs, and how many of their records are read in place: not those in a BLOCKINFO block, those with arrays of fields that take
+/// no bits, those past the limit on values, and those that are cut.
 static SEEN: [(&str, u64, u64); 5] = [
     ("M B U", 1000, 1),
     (MIXED, 6, 3),
@@ -236,8 +236,8 @@ fn records_that_lie_there(rt: HostRuntime) {
     }
 }
 
-/// How many of these values the first record with a blob has, where it is read beside them; then the values of the record that
-/// comes next.
+/// How many leading values of the first record with a blob match these values, if it is read with `ExpectedValues`; then the values
+/// of the next record.
 fn beside(alloc: Global, bytes: &[u8], wanted: &[u64]) -> Result<(u64, Vec<u64>), NotTaken> {
     let mut others = PackedValues::new(alloc);
     for value in wanted {
@@ -263,7 +263,7 @@ fn beside(alloc: Global, bytes: &[u8], wanted: &[u64]) -> Result<(u64, Vec<u64>)
     }
 }
 
-/// Values beside those of the blob of `MIXED`, which are 97, 98 and 99, and how many of them it has; 50 where it is not read so.
+/// Expected values for the blob of `MIXED`, whose values are 97, 98 and 99, and how many of them match; 50 if it is not read so.
 static BESIDE: [(&[u64], u64); 7] = [
     (&[97, 98, 99], 3),
     (&[97, 98, 99, 0], 3),

@@ -4,8 +4,8 @@ ghost use Rattle.bit_events.specs.Firsts.{TookWithFirst};
 
 use bit_fields::{NotTaken, ValueTaker};
 
-/// What takes the values of a record, and the first one, which in a BLOCKINFO block may tell which block is described. So the
-/// first one is not passed over.
+/// A value sink that also keeps the first value, which in a BLOCKINFO block may be the id of the described block. So the first
+/// value is not skipped.
 #[derive(Drop)]
 pub(crate) struct WithFirst<V> {
     pub(crate) taker: V,
@@ -13,7 +13,7 @@ pub(crate) struct WithFirst<V> {
 }
 
 impl<V: ValueTaker> WithFirst<V> {
-    /// No first one was taken yet.
+    /// No value was taken yet.
     pub(crate) fn new(taker: V) -> WithFirst<V>
         ensures taker { result.taker ≡ taker }
         ensures first { result.first ≡ None }

@@ -13,7 +13,7 @@ use Rattle.bit_fields.proofs.InflowLaws.{Spends-none}
 use Rattle.bit_fields.proofs.Shortening.{left_ends}
 use Rattle.bit_fields.proofs.Parts.{fills_exact}
 
--- ---- where the bits that are left end
+-- ---- where the unread bits end
 
 pub reaches : (live : Bool) (p : ℕ) (f : Flow) (now : Reader) → reader_of live p f ≡ now → IsReader live p f → now.live ≡ true → p + length now.left ≡ reach_of now.extent
 reaches live p f now view is is_live =
@@ -69,7 +69,7 @@ looks_limit was p f g fault now new view is live out fault_is new_is =
           (omega (arith, reach, out.left k, c.0, c.1), omega (arith, c.0, c.1)),
     )
 
--- no bit is left, and not for the limit: the stream is through
+-- no bit is left, and not because of the limit: the stream is through
 pub is_through : (was : Bool) (p : ℕ) (f g : Flow) (what : Missing) → IsReader was p f → was ≡ true → what ≡ missing.End → Fills 1 f g (Err what) → IsThrough (reader_of was p g)
 is_through was p f g what is live end fills =
     let out : RunsOut f g 1 false = subst (λ (m : Missing). Fills 1 f g (Err m)) end fills in

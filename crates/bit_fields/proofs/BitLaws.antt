@@ -56,7 +56,7 @@ bits_of-above (suc h) n low high lt =
     let below : low / 2 < 2 ^ h = omega (arith, pow_next h) in
     rw (e, v, halves.0, halves.1, swapped) (ap (λ (s : List Bool). (eqb (low % 2) 1) ∷ s) (bits_of-above h n (low / 2) high below))
 
--- ---- as a window has them
+-- ---- as a window holds them
 
 pub window_value : (held word n : ℕ) (s : List Bool) → n ≤ 32 → n ≤ held → bits_of held word ≡ s → bit_and word (1 * 2 ^ n % 2 ^ 64 - 1) ≡ number (take n s)
 window_value held word n s few there is =
@@ -122,7 +122,7 @@ bits_of-split a b v =
 byte_then : (n v : ℕ) (rest : List ℕ) → bits_of_bytes rest ≡ bits_of n (v / 256) → bits_of_bytes (v % 256 ∷ rest) ≡ bits_of (8 + n) v
 byte_then n v rest is = ap (λ (s : List Bool). s ++ bits_of_bytes rest) (bits_of-mod 8 v) ∙ ap (λ (s : List Bool). bits_of 8 v ++ s) is ∙ sym (bits_of-split 8 n v)
 
--- so many bytes of a number, the lowest first, from a place on
+-- `count` bytes of a number, the lowest first, from a place on
 abbrev bytes_from : (count place : ℕ) → ℕ → List ℕ
 bytes_from zero place v = []
 bytes_from (suc count) place v = v / 2 ^ place % 256 ∷ bytes_from count (place + 8) v
@@ -165,7 +165,7 @@ take_whole zero (x ∷ xs) le = absurd (omega arith)
 take_whole (suc n) [] le = refl
 take_whole {A} (suc n) (x ∷ xs) le = ap (λ (s : List A). x ∷ s) (take_whole n xs (omega arith))
 
--- the first n bits alone
+-- only the first n bits
 pub kept_is : (held word n : ℕ) (s : List Bool) → n ≤ held → n < 64 → bits_of held word ≡ s → bits_of n (bit_and word (1 * 2 ^ n % 2 ^ 64 - 1)) ≡ take n s
 kept_is held word n s there few is =
     rw (one_shl n 64 few, and_mask word n) (bits_of-mod n word ∙ sym (take-bits_of n held word there) ∙ ap (take n) is)

@@ -1,4 +1,4 @@
--- VBRs, chunk by chunk, each told by its number.
+-- VBRs, chunk by chunk, with the number of each chunk.
 use Rattle.std.proofs.Common.{◌≡◌, ℕ, zero, suc, ◌+◌, ◌*◌, ◌-◌, ◌/◌, ◌%◌, ◌^◌, ◌<◌, ◌≤◌, Bool, true, false, ltb, leb, List, [], ◌∷◌, ◌++◌, length, take, drop, get_or, Result, Ok, Err, refl, sym, ap, ◌∙◌, subst, arith, inl, inr}
 use Rattle.std.proofs.lemmas.Bool.{cases_lt, le-ltb, lt-ltb, le-leb, lt-leb}
 use Rattle.std.proofs.lemmas.List.{length-take-le}
@@ -47,13 +47,13 @@ chunk_parts payload s len =
     let one : bit top + 2 * 0 ≡ bit top = omega arith in
     two_parts payload (number low) (number s) top below (sum ∙ ap (λ (k : ℕ). number low + 2 ^ payload * k) one)
 
--- what follows a whole chunk with this payload, where it says whether another one follows
+-- what follows a complete chunk with this payload and this continuation bit
 abbrev pub after_chunk : (payload start permitted places low : ℕ) → Bool → Grammar ℕ
 after_chunk payload start permitted places low more =
     judge (ltb low (2 ^ places)) ValueTooWide start >>
     choose more (number_above low payload (chunks payload start permitted (places - payload))) (gives low)
 
--- what follows a whole chunk with this number
+-- what follows a complete chunk with this number
 abbrev pub after_number : (payload start permitted places x : ℕ) → Grammar ℕ
 after_number payload start permitted places x = after_chunk payload start permitted places (x % 2 ^ payload) (leb (2 ^ payload) x)
 
@@ -94,7 +94,7 @@ above_step payload start permitted places value place p r =
 
 -- ---- chunk by chunk
 
--- a chunk that says that another follows
+-- a chunk with a continuation bit of 1
 pub chunk_more : (payload start permitted value place chunk value' place' : ℕ) (a b : Reader) (result : Result ℕ Fault) (c : Reader) → Took (part_of start (suc payload)) a chunk b → 2 ^ payload ≤ chunk → chunk % 2 ^ payload < 2 ^ (64 - place) → value' ≡ value + chunk % 2 ^ payload * 2 ^ place → place' ≡ place + payload
     → Takes (number_above value' place' (chunks payload start permitted (64 - place'))) b result c → Takes (number_above value place (chunks payload start (suc permitted) (64 - place))) a result c
 chunk_more payload start permitted value place chunk value' place' a b result c took goes fits value_is place_is rest =
@@ -110,7 +110,7 @@ chunk_more payload start permitted value place chunk value' place' a b result c 
     (took_then (part_of start (suc payload)) (λ x. number_above value place (after_number payload start permitted (64 - place) x)) a chunk b result c took
     (same_reading (number_above value' place' (chunks payload start permitted (64 - place'))) (number_above value place (after_number payload start permitted (64 - place) chunk)) b result c read rest))
 
--- a chunk that says that it is the last
+-- a chunk with a continuation bit of 0
 pub chunk_last : (payload start permitted value place chunk value' : ℕ) (a b : Reader) → Took (part_of start (suc payload)) a chunk b → chunk < 2 ^ payload → chunk % 2 ^ payload < 2 ^ (64 - place) → value' ≡ value + chunk % 2 ^ payload * 2 ^ place
     → Took (number_above value place (chunks payload start (suc permitted) (64 - place))) a value' b
 chunk_last payload start permitted value place chunk value' a b took ends fits value_is =
@@ -145,7 +145,7 @@ chunk_wide payload start permitted value place chunk a b took wide =
     (took_then (part_of start (suc payload)) (λ x. number_above value place (after_number payload start permitted (64 - place) x)) a chunk b (Err (Refused ValueTooWide start)) (stopped_at b start) took
     (too_wide rule start b took.live (λ p r. wide_number payload start permitted value place chunk p r wide)))
 
--- a chunk that is not whole
+-- an incomplete chunk
 pub chunk_missed : (payload start permitted value place : ℕ) (a : Reader) (fault : Fault) (b : Reader) → Why (part_of start (suc payload)) a fault b → Why (number_above value place (chunks payload start (suc permitted) (64 - place))) a fault b
 chunk_missed payload start permitted value place a fault b why =
     same_reading (part_of start (suc payload) >>= λ x. number_above value place (after_number payload start permitted (64 - place) x)) (number_above value place (chunks payload start (suc permitted) (64 - place))) a (Err fault) b
@@ -190,18 +190,18 @@ none_left d (suc k) few = absurd (omega arith)
 
 -- ---- the loop over the chunks after the first one
 
--- how far it has come: whatever the chunks to come give, the rule gives above the value
+-- the loop's invariant: whatever the later chunks give, the rule gives above the value
 pub record Chunking (payload start : ℕ) (rule : Grammar ℕ) (a b : Reader) (place value : ℕ) : Type 0 where
   pub most : ℕ
   pub count : place + most * payload ≡ chunk_limit payload * payload
   pub below : value < 2 ^ place
   pub positive : 0 < place
   pub live : b.live ≡ true
-  pub ahead : start ≤ b.position
+  pub buffered : start ≤ b.position
   pub rest : (result : Result ℕ Fault) (c : Reader) → Takes (number_above value place (chunks payload start most (64 - place))) b result c → Takes rule a result c
 
 pub chunking_begins : (payload start first : ℕ) (a : Reader) → 1 ≤ payload → a.live ≡ true → start ≤ a.position → first < 2 ^ payload → Chunking payload start (number_above first payload (chunks payload start (chunk_limit payload - 1) (64 - payload))) a a payload first
-chunking_begins payload start first a some live ahead below =
+chunking_begins payload start first a some live buffered below =
     let k = some_left payload (chunk_limit payload) (omega (arith, (limit_times payload some).0)) in
     record {
       most = chunk_limit payload - 1;
@@ -209,7 +209,7 @@ chunking_begins payload start first a some live ahead below =
       below = below;
       positive = omega arith;
       live = live;
-      ahead = ahead;
+      buffered = buffered;
       rest = λ result c t. t;
     }
   where
@@ -232,7 +232,7 @@ next_chunk n start rule a b place value chunk payload value' d two lt at took is
       below = let less : chunk % 2 ^ (n - 1) * 2 ^ place + value < 2 ^ place * 2 ^ (n - 1) = mul-add-lt (chunk % 2 ^ (n - 1)) (2 ^ place) value (2 ^ (n - 1)) (mod_below chunk (2 ^ (n - 1)) (pow_pos (n - 1))) at.below in rw (pow-add 2 place (n - 1)) (omega (arith, value_at, less));
       positive = omega (arith, at.positive);
       live = took.live;
-      ahead = omega (arith, at.ahead, took.forward);
+      buffered = omega (arith, at.buffered, took.forward);
       rest = λ result c t. at.rest result c (subst (λ (m : ℕ). Takes (number_above value place (chunks (n - 1) start m (64 - place))) b result c) (sym k.1) (chunk_more (n - 1) start k.0 value place chunk value' (place + (n - 1)) b d result c part goes (subst (λ (x : ℕ). x < 2 ^ (64 - place)) is fits) value_at refl t));
     }
   where

@@ -1,4 +1,4 @@
--- One call after another: what calls take together, by the rule that their rules make.
+-- One call after another: together they take what their combined rule reads.
 use Rattle.std.proofs.Common.{◌≡◌, ℕ, ◌+◌, Bool, true, false, List, ◌++◌, length, Result, Ok, Err, refl, sym, ap, ◌∙◌, subst, arith, append_assoc}
 use Rattle.std.proofs.lemmas.Bool.{false≢true}
 use Rattle.bit_grammar.specs.declared.reason.Reason.{Reason}
@@ -27,7 +27,7 @@ breaks_on : {A B : Type 0} (e : Extent) (first : Result (A × ℕ × List Bool) 
 breaks_on e (Ok x) next reason bit b = absurd b
 breaks_on e (Err x) next reason bit b = b
 
--- a call that did not succeed ends all that was to follow it
+-- a call that did not succeed ends all that would follow it
 pub fault_then : {A B : Type 0} (rule : Grammar A) (after : A → Grammar B) (a : Reader) (fault : Fault) (b : Reader) → Why rule a fault b → Why (rule >>= after) a fault b
 fault_then rule after a (Refused reason bit) b why = (why.0, λ k. breaks_on a.extent (reading rule a.position a.left) (λ x. reading (after x.0) x.1 x.2) reason bit (why.1 k))
 fault_then rule after a Read b why = why
@@ -58,13 +58,13 @@ took_then rule after a value b (Err Failed) c t u = absurd (false≢true (sym u.
 took_then rule after a value b (Err Write) c t u = absurd u
 took_then rule after a value b (Err OutputTooLong) c t u = absurd u
 
--- ---- where it stands
+-- ---- its position
 
--- a reader that has failed and is put elsewhere
+-- a reader that has failed and is moved
 stops_there : (a b : Reader) (place : ℕ) → StopsReading a b → StopsReading a (record b { position = place })
 stops_there a b place s = record { was_live = s.was_live; failed = s.failed; goes_on = s.goes_on }
 
--- a reader that failed in a call is put where the call began, which does not matter to why it failed
+-- a reader that failed in a call is moved to where the call began; why it failed stays the same
 pub back_there : {A : Type 0} (rule : Grammar A) (a : Reader) (fault : Fault) (b : Reader) (start : ℕ) (c : Reader) → Why rule a fault b → start ≡ a.position → (b.live ≡ false → c ≡ record b { position = start }) → Why rule a fault c
 back_there rule a (Refused reason bit) b start c why here is = rw (is why.0.failed) (stops_there a b start why.0, why.1)
 back_there rule a Read b start c why here is = rw (is why.failed) (record { was_live = why.was_live; failed = why.failed; fails = why.fails })
@@ -97,7 +97,7 @@ same_reading f h a (Err Failed) b same t = t
 same_reading f h a (Err Write) b same t = t
 same_reading f h a (Err OutputTooLong) b same t = t
 
--- a rule that is told where it begins
+-- a rule that gets its position
 pub from_here : {A : Type 0} (after : ℕ → Grammar A) (a : Reader) (result : Result A Fault) (b : Reader) → Takes (after a.position) a result b → Takes (position >>= after) a result b
 from_here after a (Ok value) b t = record { was_live = t.was_live; live = t.live; goes_on = t.goes_on; forward = t.forward; end = t.end; limit = t.limit; extent = t.extent; reads = t.reads }
 from_here after a (Err (Refused reason bit)) b t = t
@@ -131,7 +131,7 @@ none_taken : {A : Type 0} (rule : Grammar A) (e : Extent) (p : ℕ) (left : List
 none_taken {A} rule e p left reason bit breaks s rest v parts spelled =
     subst (λ (x : Result (A × ℕ × List Bool) grammar.Fault). Breaks e x reason bit) (ap (reading rule p) parts ∙ reads rule p s v rest spelled) breaks
 
--- what a call took is all that the rule spells there
+-- what a call took is the only value that the rule spells there
 pub only : {A : Type 0} (rule : Grammar A) (a : Reader) (result : Result A Fault) (b : Reader) → Takes rule a result b → IsOnly rule a result b
 only rule a (Ok value) b t = λ k more s rest v parts spelled. taken_only rule a.position a.left value b.position b.left (t.reads k) more s rest v parts spelled
 only rule a (Err (Refused reason bit)) b t = λ k s rest v parts spelled. none_taken rule a.extent a.position a.left reason bit (t.1 k) s rest v parts spelled

@@ -1,4 +1,4 @@
--- Bytes that come and that nobody reads.
+-- Bytes that are skipped.
 use Rattle.std.proofs.Common.{◌≡◌, ℕ, ◌+◌, ◌*◌, ◌-◌, ◌<◌, ◌≤◌, Bool, false, List, [], ◌++◌, length, take, drop, refl, sym, ap, ◌∙◌, arith}
 use Rattle.std.proofs.lemmas.List.{length-append, length-take-le, length-drop, drop-append-le, drop_at}
 use Rattle.bit_grammar.specs.Bits.{bits_of_bytes}
@@ -9,7 +9,7 @@ use Rattle.bit_fields.proofs.InflowLaws.{gave_spends, came, front_came}
 
 -- ---- bytes of the stream
 
--- bytes of the stream came that are not kept
+-- bytes of the stream were skipped
 pub passed : (f : Flow) (i : Incoming) (count : ℕ) (into : List ℕ) → f.window ≡ [] → f.ended ≡ false → count ≤ stop_of f - f.loaded → f.loaded ≤ stop_of f → (count ≡ 0 → ⊥) → Gave f.incoming i count into → PassesBytes f (record f { incoming = i; loaded = f.loaded + count }) count
 passed f i count into empty going fits le some gave =
     let few : f.loaded + count ≤ stop_of f = omega (arith, gave.fits) in

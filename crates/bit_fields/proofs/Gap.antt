@@ -1,4 +1,4 @@
--- Bits that nobody reads: the gap between a wrapper and its stream.
+-- Skipped bits: the gap between a wrapper and its stream.
 use Rattle.std.proofs.Common.{◌≡◌, ℕ, ◌+◌, ◌-◌, ◌<◌, ◌≤◌, Bool, true, List, length, drop, Result, Ok, Err, refl, sym, ◌∙◌, subst, arith, inl, inr}
 use Rattle.std.proofs.lemmas.Bool.{cases_lt, le-ltb, lt-ltb}
 use Rattle.std.proofs.lemmas.List.{length-drop}
@@ -22,7 +22,7 @@ gap_whole n first p r there = rw (le-ltb (length r) n there) refl
 pub gap_short : (n first p : ℕ) (r : List Bool) → length r < n → reading (gap_of first n) p r ≡ Err (at Truncated first)
 gap_short n first p r short = rw (lt-ltb (length r) n short) refl
 
--- so many bits, and then so many
+-- n bits, and then more
 gap_both : (n more first p : ℕ) (r : List Bool) → reading (gap_of first n >> gap_of first more) p r ≡ reading (gap_of first (n + more)) p r
 gap_both n more first p r = elim (cases_lt (length r) n) [
   | inl lt ↦ rw (lt-ltb (length r) n lt, lt-ltb (length r) (n + more) (omega arith)) refl
@@ -38,7 +38,7 @@ gap_both n more first p r = elim (cases_lt (length r) n) [
 
 -- ---- the loop
 
--- how far it has come: of so many bits so many are left to be skipped
+-- the loop's invariant: of `bits` bits `left` are still to be skipped
 pub record Skipping (bits left : ℕ) (a b : Reader) : Type 0 where
   pub live : b.live ≡ true
   pub few : left ≤ bits
@@ -51,7 +51,7 @@ read_or_not fault x e = cc
 after_gap : (n field p : ℕ) (r : List Bool) → n ≤ length r → reading (gap_of field n >> gap_of field 1) p r ≡ reading (gap_of field 1) (p + n) (drop n r)
 after_gap n field p r there = rw (le-ltb (length r) n there) refl
 
--- where a gap is said to begin matters only to its fault
+-- where a gap is said to begin changes only its fault
 gap_elsewhere : (n s t : ℕ) (a b : Reader) → Took (gap_of s n) a tt b → Took (gap_of t n) a tt b
 gap_elsewhere n s t a b h = record {
   was_live = h.was_live;
@@ -81,7 +81,7 @@ skipping_goes_on bits left field count a b c so t =
 
 -- ---- the gap
 
--- a rule that breaks wherever another one does, and so
+-- a rule that breaks wherever another one does, and in the same way
 pub breaks_too : {A B : Type 0} (f : Grammar A) (h : Grammar B) (a : Reader) (fault : Fault) (b : Reader) → ((reason : Reason) (bit : ℕ) → TellsBytes a → Breaks a.extent (reading f a.position a.left) reason bit → Breaks a.extent (reading h a.position a.left) reason bit) → Why f a fault b → Why h a fault b
 breaks_too f h a (Refused reason bit) b so why = (why.0, λ k. so reason bit k (why.1 k))
 breaks_too f h a Read b so why = why
@@ -90,7 +90,7 @@ breaks_too f h a Failed b so why = why
 breaks_too f h a Write b so why = why
 breaks_too f h a OutputTooLong b so why = why
 
--- so many bits are there, and then not one, which breaks a rule
+-- n bits are there, and then not one, which breaks a rule
 pub fails_after : {A : Type 0} (rule : Grammar A) (n field : ℕ) (a b : Reader) (fault : Fault) (c : Reader) → Took (gap_of field n) a tt b → (length a.left ≡ n → reading rule a.position a.left ≡ Err (at Truncated field)) → Why (gap_of field 1) b fault c → Why rule a fault c
 fails_after {A} rule n field a b fault c t ends why =
     breaks_too (gap_of field n >> gap_of field 1) rule a fault c (λ reason bit k h. by reason bit (there k) h) (took_then (gap_of field n) (λ v. gap_of field 1) a tt b (Err fault) c t why)

@@ -1,4 +1,4 @@
--- What taking bytes in leaves.
+-- The state after loading bytes.
 use Rattle.std.proofs.Common.{◌≡◌, ℕ, zero, suc, ◌+◌, ◌*◌, ◌-◌, ◌<◌, ◌≤◌, Bool, true, false, ltb, List, [], ◌++◌, length, take, Option, Some, None, refl, sym, ap, ◌∙◌, subst, arith, append_assoc}
 use Rattle.std.specs.Prelude.{IsSome}
 use Rattle.std.specs.Io.KnownBytes as bytes
@@ -25,7 +25,7 @@ Spends-trans a n b m c k p q = record {
   accounts = λ at all says. q.accounts at all (p.accounts at all says);
 }
 
--- no more is asked for
+-- no more is spent
 pub Spends-none : (a : Incoming) (n : ℕ) (b : Incoming) (m : ℕ) → Spends a n b m → Spends a n b 0
 Spends-none a n b m p = record { pulls = omega (arith, p.pulls); failures = p.failures; tells = p.tells; bytes = λ t. omega (arith, p.bytes t); accounts = p.accounts }
 
@@ -58,7 +58,7 @@ pub at_end : (o : Option (List ℕ)) → bytes.IsAtEnd o → known_bytes o ≡ [
 at_end None h = refl
 at_end (Some xs) h = h
 
--- a pull that gave bytes is paid by them, and one that gave none ends the asking
+-- a pull that gave bytes is paid for by them, and one that gave none is the last
 pub gave_spends : (i j : Incoming) (count : ℕ) (into : List ℕ) (before after : ℕ) → Gave i j count into → after + count ≤ before → after + 1 ≤ before → Spends i before j after
 gave_spends i j count into before after gave paid one =
     let taken : length (take count into) ≡ count = length-take-le count into gave.fits in
@@ -99,7 +99,7 @@ stops_at_end f at le = record {
   cut_now = and_right (ltb f.limit (total_of f)) (ltb f.limit f.end) (le-ltb f.limit f.end le);
 }
 
--- the input was seen to be longer
+-- it is known that the input is longer
 pub stops_at_limit : (f : Flow) → stop_of f ≤ f.loaded → f.limit < f.end → f.limit < f.loaded → NoMore f f true
 stops_at_limit f at lt over =
     let cut : is_flow_cut f ≡ true = and_from (ltb f.limit (total_of f)) (ltb f.limit f.end) (lt-ltb f.limit (total_of f) (omega arith)) (lt-ltb f.limit f.end lt) in
@@ -125,14 +125,14 @@ stops_again f is e =
 none_given : (old new : Incoming) (count : ℕ) (into : List ℕ) → count ≡ 0 → Gave old new count into → Gave old new 0 into
 none_given old new count into e gave = subst (λ (n : ℕ). Gave old new n into) e gave
 
--- what the end of the source says of the bytes to come, before and after
+-- what the end of the source means for the bytes to come, before and after
 pub ends_so : (i j : Incoming) (count : ℕ) (into : List ℕ) → count ≡ 0 → Gave i j count into → 0 < length into → (known_bytes j.to_come ≡ []) × (IsSome i.to_come → known_bytes i.to_come ≡ [])
 ends_so i j count into zero_given given room =
     let gave = none_given i j count into zero_given given in
     let none : known_bytes j.to_come ≡ [] = at_end j.to_come (gave.end refl room) in
     (none, λ k. (consumed i.to_come j.to_come [] gave.bytes k).1 ∙ none)
 
--- the source says now that it is at its end
+-- the source returns now that it is at its end
 pub ends_here : (f : Flow) (i : Incoming) (count : ℕ) (into : List ℕ) → f.ended ≡ false → f.loaded ≤ f.limit → count ≡ 0 → Gave f.incoming i count into → 0 < length into → NoMore f (record f { incoming = i; ended = true }) false
 ends_here f i count into going le zero_given given room =
     let so = ends_so f.incoming i count into zero_given given room in
@@ -157,7 +157,7 @@ ends_here f i count into going le zero_given given room =
       cut_now = and_left (ltb f.limit (total_of after)) (ltb f.limit f.end) (le-ltb f.limit (total_of after) (omega (arith, le, ap length none)));
     }
 
--- bytes that came were those to come
+-- the bytes given were the next ones
 pub came : (i j : Incoming) (count : ℕ) (into : List ℕ) → Gave i j count into → IsSome i.to_come → (known_bytes i.to_come ≡ take count into ++ known_bytes j.to_come) × (length (known_bytes i.to_come) ≡ count + length (known_bytes j.to_come))
 came i j count into gave k =
     let all = (consumed i.to_come j.to_come (take count into) gave.bytes k).1 in
@@ -185,14 +185,14 @@ goes_past f i count into going at le lt some len gave =
       cut_now = and_from (ltb f.limit (total_of after)) (ltb f.limit f.end) (lt-ltb f.limit (total_of after) (omega arith)) (lt-ltb f.limit f.end lt);
     }
 
--- the front of the bytes to come, and what is left of them
+-- the first of the bytes to come, and those left
 pub front_came : (i j : Incoming) (count : ℕ) (into : List ℕ) (room : ℕ) → Gave i j count into → IsSome i.to_come → bits_of_bytes (take (count + room) (known_bytes i.to_come)) ≡ bits_of_bytes (take count into) ++ bits_of_bytes (take room (known_bytes j.to_come))
 front_came i j count into room gave k =
     let taken : length (take count into) ≡ count = length-take-le count into gave.fits in
     let split : take (count + room) (known_bytes i.to_come) ≡ take count into ++ take room (known_bytes j.to_come) = ap (λ (n : ℕ). take (n + room) (known_bytes i.to_come)) (sym taken) ∙ ap (λ (b : List ℕ). take (length (take count into) + room) b) (came i j count into gave k).0 ∙ take-append-add (take count into) (known_bytes j.to_come) room in
     ap bits_of_bytes split ∙ bits_of_bytes-append (take count into) (take room (known_bytes j.to_come))
 
--- bytes came into the window
+-- bytes were loaded into the window
 pub bytes_came : (f : Flow) (i : Incoming) (count : ℕ) (into : List ℕ) → f.ended ≡ false → f.loaded + count ≤ stop_of f → 0 < count → Gave f.incoming i count into
     → KeepsFlow f (record f { window = f.window ++ bits_of_bytes (take count into); incoming = i; loaded = f.loaded + count })
 bytes_came f i count into going le some gave =

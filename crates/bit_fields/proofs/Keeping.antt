@@ -1,4 +1,4 @@
--- What a source that keeps what it gives has kept.
+-- The bytes that a source has kept.
 use Rattle.std.proofs.Common.{◌≡◌, ℕ, zero, suc, ◌+◌, ◌≤◌, Bool, true, ◌-◌, List, [], ◌∷◌, ◌++◌, length, take, Option, Some, None, Result, Ok, Err, refl, sym, ap, subst, ◌∙◌, arith, append_assoc, append-nil, take-take}
 use Rattle.std.proofs.lemmas.List.{length-take-le, length-append, nil_from_length}
 use Rattle.std.proofs.Math.Seq.{take-append-add}
@@ -7,12 +7,12 @@ use Rattle.std.specs.Io.KnownBytes.{Consumes, Keeps, prepend_known}
 use Rattle.bit_fields.specs.declared.kept.Kept.{Kept}
 use Rattle.bit_fields.specs.declared.source.SourceFailed.{SourceFailed}
 use Rattle.bit_fields.specs.Devices.{Account, SaysOf, Incoming, IsFresh, Begins, Gave, GaveNone, GaveUnseen, Looked, Looks, Spends, Fails, known_bytes, keeps_of}
-use Rattle.bit_fields.specs.Kept.{KeptAhead}
+use Rattle.bit_fields.specs.Kept.{KeptBuffered}
 use Rattle.bit_fields.proofs.Words.{looked_consumed, none_looked}
 
 -- ---- a pull
 
--- bytes that were given were kept behind the others
+-- the given bytes were appended to the kept ones
 told_on : (kept now gone : List ℕ) (i j : Option (List ℕ)) (all : List ℕ) → Consumes i j gone → now ≡ kept ++ gone → prepend_known kept i ≡ Some all → prepend_known now j ≡ Some all
 told_on kept now gone None j all gave more is = absurd cc
 told_on kept now gone (Some xs) None all gave more is = absurd gave
@@ -23,7 +23,7 @@ unfolding SaysOf
 says_before a b old new first others zero all says = first all says
 says_before a b old new first others (suc n) all says = others n all says
 
--- what the other source gave was kept, or memory was refused
+-- what the other source gave was kept, or an allocation failed
 pub gave_kept : (was is : Bool) (kept now : List ℕ) (i j : Incoming) (count : ℕ) (into : List ℕ) → Gave i j count into → (is ≡ true → (was ≡ true) × (now ≡ kept ++ take count into)) → Gave (keeps_of was kept i) (keeps_of is now j) count into
 gave_kept was is kept now i j count into gave keeps = record {
   fresh = gave.fresh;
@@ -68,24 +68,24 @@ pub looks_kept : (is : Bool) (kept : List ℕ) (i j : Incoming) (answer : Result
 looks_kept is kept i j (Ok some) looks = looked_kept is kept i j looks
 looks_kept is kept i j (Err e) looks = gave_none is kept i j looks
 
--- what lies in memory was kept before it was taken, or memory was refused
-told_ahead : (kept now front gone : List ℕ) (i j : Option (List ℕ)) (all : List ℕ) → Consumes i j gone → Begins i front → length front ≡ length gone → now ≡ kept ++ front → prepend_known kept i ≡ Some all → prepend_known now j ≡ Some all
-told_ahead kept now front gone None j all gave begins same more is = absurd cc
-told_ahead kept now front gone (Some xs) None all gave begins same more is = absurd gave
-told_ahead kept now front gone (Some xs) (Some ys) all gave begins same more is =
+-- buffered bytes were kept before they were taken, or an allocation failed
+told_buffered : (kept now front gone : List ℕ) (i j : Option (List ℕ)) (all : List ℕ) → Consumes i j gone → Begins i front → length front ≡ length gone → now ≡ kept ++ front → prepend_known kept i ≡ Some all → prepend_known now j ≡ Some all
+told_buffered kept now front gone None j all gave begins same more is = absurd cc
+told_buffered kept now front gone (Some xs) None all gave begins same more is = absurd gave
+told_buffered kept now front gone (Some xs) (Some ys) all gave begins same more is =
     let taken : front ≡ gone = sym begins ∙ ap (λ (n : ℕ). take n xs) same ∙ ap (take (length gone)) gave ∙ take-append_seam gone ys in
     told_on kept now gone (Some xs) (Some ys) all gave (more ∙ ap (λ (s : List ℕ). kept ++ s) taken) is
 
--- the front of what a source shows are bytes that came next before it was looked at
+-- the first of the bytes that a source shows came next before it was looked at
 pub begins_before : (a b : Option (List ℕ)) (shown : List ℕ) (count : ℕ) → Keeps a b → Begins b shown → count ≤ length shown → Begins a (take count shown)
 begins_before None b shown count same begins there = tt
 begins_before (Some xs) None shown count same begins there = absurd same
 begins_before (Some xs) (Some ys) shown count same begins there =
     ap (λ (n : ℕ). take n xs) (length-take-le count shown there) ∙ sym (take-take count (length shown) xs there) ∙ ap (λ (s : List ℕ). take count (take (length shown) s)) (sym same) ∙ ap (take count) begins
 
--- the source was looked at, the bytes that come next were kept, and as many were taken
-pub gave_ahead : (old new : Kept) (a b c : Incoming) (count : ℕ) (into : List ℕ) → Looked a b → KeptAhead count a.to_come old new → Gave b c count into → Gave (keeps_of old.whole old.bytes.items a) (keeps_of new.whole new.bytes.items c) count into
-gave_ahead old new a b c count into looked ahead gave = record {
+-- the source was looked at, the next bytes were kept, and as many were taken
+pub gave_buffered : (old new : Kept) (a b c : Incoming) (count : ℕ) (into : List ℕ) → Looked a b → KeptBuffered count a.to_come old new → Gave b c count into → Gave (keeps_of old.whole old.bytes.items a) (keeps_of new.whole new.bytes.items c) count into
+gave_buffered old new a b c count into looked buffered gave = record {
   fresh = omega (arith, gave.fresh, looked.pulls, looked.failures);
   fits = gave.fits;
   bytes = looked_consumed a.to_come b.to_come c.to_come (take count into) looked.bytes gave.bytes;
@@ -93,8 +93,8 @@ gave_ahead old new a b c count into looked ahead gave = record {
   pulls = gave.pulls ∙ ap (λ (n : ℕ). n + 1) looked.pulls;
   failures = gave.failures ∙ looked.failures;
   accounts = says_before (record { kept = old.whole; whole = prepend_known old.bytes.items a.to_come }) (record { kept = new.whole; whole = prepend_known new.bytes.items c.to_come }) a.accounts c.accounts
-      (λ all says h. let grew = ahead.3 h in
-      told_ahead old.bytes.items new.bytes.items ahead.0 (take count into) a.to_come c.to_come all (looked_consumed a.to_come b.to_come c.to_come (take count into) looked.bytes gave.bytes) ahead.2 (ahead.1 ∙ sym (length-take-le count into gave.fits)) grew.1 (says grew.0))
+      (λ all says h. let grew = buffered.3 h in
+      told_buffered old.bytes.items new.bytes.items buffered.0 (take count into) a.to_come c.to_come all (looked_consumed a.to_come b.to_come c.to_come (take count into) looked.bytes gave.bytes) buffered.2 (buffered.1 ∙ sym (length-take-le count into gave.fits)) grew.1 (says grew.0))
       (λ n all says. gave.accounts n all (looked.accounts n all says));
 }
 
@@ -102,27 +102,27 @@ begins_shorter : (to_come : Option (List ℕ)) (front : List ℕ) (count : ℕ) 
 begins_shorter None front count begins few = tt
 begins_shorter (Some xs) front count begins few = begins_before (Some xs) (Some xs) front count refl begins few
 
--- fewer bytes were taken than were kept, and the others were given up again
-pub kept_fewer : (old mid new : Kept) (count done : ℕ) (to_come : Option (List ℕ)) → KeptAhead count to_come old mid → done ≤ count → new.whole ≡ mid.whole → new.bytes.items ≡ take (length mid.bytes.items - (count - done)) mid.bytes.items → KeptAhead done to_come old new
-kept_fewer old mid new count done to_come ahead few whole cut = (
-  take done ahead.0,
-  length-take-le done ahead.0 (omega (arith, ahead.1, few)),
-  begins_shorter to_come ahead.0 done ahead.2 (omega (arith, ahead.1, few)),
+-- fewer bytes were taken than were kept, and the others were dropped again
+pub kept_fewer : (old mid new : Kept) (count done : ℕ) (to_come : Option (List ℕ)) → KeptBuffered count to_come old mid → done ≤ count → new.whole ≡ mid.whole → new.bytes.items ≡ take (length mid.bytes.items - (count - done)) mid.bytes.items → KeptBuffered done to_come old new
+kept_fewer old mid new count done to_come buffered few whole cut = (
+  take done buffered.0,
+  length-take-le done buffered.0 (omega (arith, buffered.1, few)),
+  begins_shorter to_come buffered.0 done buffered.2 (omega (arith, buffered.1, few)),
   λ is.
-      let grew = ahead.3 (sym whole ∙ is) in
-      let left : length mid.bytes.items - (count - done) ≡ length old.bytes.items + done = omega (arith, ap length grew.1, length-append old.bytes.items ahead.0, ahead.1, few) in
-      (grew.0, cut ∙ ap (λ (n : ℕ). take n mid.bytes.items) left ∙ ap (take (length old.bytes.items + done)) grew.1 ∙ take-append-add old.bytes.items ahead.0 done),
+      let grew = buffered.3 (sym whole ∙ is) in
+      let left : length mid.bytes.items - (count - done) ≡ length old.bytes.items + done = omega (arith, ap length grew.1, length-append old.bytes.items buffered.0, buffered.1, few) in
+      (grew.0, cut ∙ ap (λ (n : ℕ). take n mid.bytes.items) left ∙ ap (take (length old.bytes.items + done)) grew.1 ∙ take-append-add old.bytes.items buffered.0 done),
 )
 
-pub unseen_ahead : (old mid new : Kept) (a b c : Incoming) (most count done : ℕ) → Looked a b → KeptAhead count a.to_come old mid → count ≤ most → GaveUnseen b c count done → new.whole ≡ mid.whole → new.bytes.items ≡ take (length mid.bytes.items - (count - done)) mid.bytes.items → GaveUnseen (keeps_of old.whole old.bytes.items a) (keeps_of new.whole new.bytes.items c) most done
-unseen_ahead old mid new a b c most count done looked ahead few unseen whole cut = record {
+pub unseen_buffered : (old mid new : Kept) (a b c : Incoming) (most count done : ℕ) → Looked a b → KeptBuffered count a.to_come old mid → count ≤ most → GaveUnseen b c count done → new.whole ≡ mid.whole → new.bytes.items ≡ take (length mid.bytes.items - (count - done)) mid.bytes.items → GaveUnseen (keeps_of old.whole old.bytes.items a) (keeps_of new.whole new.bytes.items c) most done
+unseen_buffered old mid new a b c most count done looked buffered few unseen whole cut = record {
   into = unseen.into;
   some = unseen.some;
   few = omega (arith, few, unseen.few);
-  gave = gave_ahead old new a b c done unseen.into looked (kept_fewer old mid new count done a.to_come ahead unseen.few whole cut) unseen.gave;
+  gave = gave_buffered old new a b c done unseen.into looked (kept_fewer old mid new count done a.to_come buffered unseen.few whole cut) unseen.gave;
 }
 
--- a source that could be asked failed, and what is kept is as before, or memory was refused
+-- a source that is not exhausted failed, and what is kept is as before, or an allocation failed
 lost_none : (was is : Bool) (kept now : List ℕ) (i j : Incoming) → IsFresh i → (is ≡ true → (was ≡ true) × (now ≡ kept)) → GaveNone i j → GaveNone (keeps_of was kept i) (keeps_of is now j)
 lost_none was is kept now i j fresh same none = record {
   bytes = none.bytes;
@@ -135,9 +135,9 @@ lost_none was is kept now i j fresh same none = record {
 fresh_before : (a b : Incoming) → Looked a b → IsFresh b → IsFresh a
 fresh_before a b looked fresh = omega (arith, fresh, looked.pulls, looked.failures)
 
-pub failed_ahead : (old mid new : Kept) (a b c : Incoming) (count : ℕ) → IsFresh b → Looked a b → KeptAhead count a.to_come old mid → GaveNone b c → new.whole ≡ mid.whole → new.bytes.items ≡ take (length mid.bytes.items - count) mid.bytes.items → GaveNone (keeps_of old.whole old.bytes.items a) (keeps_of new.whole new.bytes.items c)
-failed_ahead old mid new a b c count fresh looked ahead none whole cut =
-    let kept : KeptAhead 0 a.to_come old new = kept_fewer old mid new count 0 a.to_come ahead (omega arith) whole (rw (rest_of count) cut) in
+pub failed_buffered : (old mid new : Kept) (a b c : Incoming) (count : ℕ) → IsFresh b → Looked a b → KeptBuffered count a.to_come old mid → GaveNone b c → new.whole ≡ mid.whole → new.bytes.items ≡ take (length mid.bytes.items - count) mid.bytes.items → GaveNone (keeps_of old.whole old.bytes.items a) (keeps_of new.whole new.bytes.items c)
+failed_buffered old mid new a b c count fresh looked buffered none whole cut =
+    let kept : KeptBuffered 0 a.to_come old new = kept_fewer old mid new count 0 a.to_come buffered (omega arith) whole (rw (rest_of count) cut) in
     lost_none old.whole new.whole old.bytes.items new.bytes.items a c (fresh_before a b looked fresh)
     (λ is. let grew = kept.3 is in (grew.0, grew.1 ∙ ap (λ (s : List ℕ). old.bytes.items ++ s) (nil_from_length kept.0 kept.1) ∙ append-nil old.bytes.items)) (none_looked a b c looked none)
   where
@@ -150,7 +150,7 @@ spared : (a b : Account) (old new : List Account) → ((n : ℕ) (all : List ℕ
 unfolding SaysOf
 spared a b old new more n all says = more (suc n) all says
 
--- the source within was asked for as much
+-- the source within spent as much
 pub spends_within : (was is : Bool) (xs ys : List ℕ) (i j : Incoming) (before after : ℕ) → Spends (keeps_of was xs i) before (keeps_of is ys j) after → Spends i before j after
 spends_within was is xs ys i j before after p = record {
   pulls = p.pulls;
@@ -177,7 +177,7 @@ says_all : (a b : Account) (old new : List Account) (all : List ℕ) → ((n : �
 unfolding SaysOf
 says_all a b old new all more told kept = more zero all (λ h. told) kept
 
--- where no byte is left it has kept all
+-- if no byte is left it has kept all
 pub all_kept : (bytes all : List ℕ) (i j : Incoming) (before after : ℕ) → Spends (keeps_of true [] i) before (keeps_of true bytes j) after → i.to_come ≡ Some all → known_bytes j.to_come ≡ [] → bytes ≡ all
 all_kept bytes all i j before after p told none =
     all_of bytes all j.to_come (says_all (record { kept = true; whole = prepend_known [] i.to_come }) (record { kept = true; whole = prepend_known bytes j.to_come }) i.accounts j.accounts all p.accounts (ap (prepend_known []) told) refl) none

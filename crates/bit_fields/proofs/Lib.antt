@@ -16,8 +16,8 @@ pub mod WriterLaws
 pub mod WriterChunks
 pub mod Cutting
 pub mod Short
-pub mod Glimpses
-pub mod Sights
+pub mod BufferedReads
+pub mod LentParts
 pub mod Texts
 pub mod Looking
 pub mod Unlike

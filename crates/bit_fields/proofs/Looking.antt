@@ -1,4 +1,4 @@
--- A source that is looked at, and what is then in sight.
+-- A source that is looked at, and the buffered parts that then follow.
 use Rattle.std.proofs.Common.{◌≡◌, ℕ, ◌+◌, ◌-◌, min, Bool, true, List, [], ◌++◌, length, take, drop, Option, Some, None, Ok, Bor, refl, sym, ap, ◌∙◌, subst, arith, append_assoc, take-take}
 use Rattle.std.specs.Prelude.{IsSome}
 use Rattle.std.proofs.lemmas.List.{take-append-drop}
@@ -9,12 +9,12 @@ use Rattle.bit_fields.specs.Inflow.{Flow, stop_of, LooksOn, LiesBehind}
 use Rattle.bit_fields.specs.Inside.{reader_of}
 use Rattle.bit_fields.specs.Reader.{Reader, Extent}
 use Rattle.bit_fields.specs.Short.{TookNothing}
-use Rattle.bit_fields.specs.Ahead.{Sees}
-use Rattle.bit_fields.specs.Sight.{sight_lent}
+use Rattle.bit_fields.specs.Buffered.{Sees}
+use Rattle.bit_fields.specs.BufferedParts.{bits_of_parts}
 use Rattle.bit_fields.proofs.BitLaws.{bits_of_bytes-append}
 use Rattle.bit_fields.proofs.InflowLaws.{kept}
 
--- the front of what a source shows lies behind the window
+-- the first of the bytes that a source shows come after the window
 pub lies_behind : (f : Flow) (shown : List ℕ) (count : ℕ) → Begins f.incoming.to_come shown → count ≡ min (stop_of f - f.loaded) (length shown) → LiesBehind f (take count shown)
 lies_behind f shown count front is = behind f.incoming.to_come (stop_of f - f.loaded) front is
   where
@@ -54,7 +54,7 @@ looked_on p f j looked =
 pub looked_as : (live : Bool) (p : ℕ) (f g : Flow) (now : Reader) → live ≡ true → reader_of live p f ≡ now → LooksOn f g → TookNothing now (reader_of live p g)
 looked_as live p f g now alive now_is looks = rw (← now_is, alive) (subst (λ (h : Flow). TookNothing (reader_of true p f) (reader_of true p h)) (sym looks.same) (looked_on p f g.incoming looks.looked))
 
-pub sees_behind : (live : Bool) (p : ℕ) (f : Flow) (now : Reader) (word held : ℕ) (bytes : Bor (List ℕ)) → live ≡ true → reader_of live p f ≡ now → bits_of held word ≡ f.window → LiesBehind f bytes.now → Sees now (sight_lent (record { word = word; held = held; bytes = bytes; position = p }))
+pub sees_behind : (live : Bool) (p : ℕ) (f : Flow) (now : Reader) (word held : ℕ) (bytes : Bor (List ℕ)) → live ≡ true → reader_of live p f ≡ now → bits_of held word ≡ f.window → LiesBehind f bytes.now → Sees now (bits_of_parts (record { word = word; held = held; bytes = bytes; position = p }))
 sees_behind live p f now word held bytes alive now_is is behind = rw (← now_is, alive) (record {
   live = refl;
   position = refl;
@@ -62,6 +62,6 @@ sees_behind live p f now word held bytes alive now_is is behind = rw (← now_is
 })
 
 -- the window alone
-pub sees_window : (live : Bool) (p : ℕ) (f : Flow) (now : Reader) (word held : ℕ) (bytes : Bor (List ℕ)) → live ≡ true → reader_of live p f ≡ now → bits_of held word ≡ f.window → bytes.now ≡ [] → Sees now (sight_lent (record { word = word; held = held; bytes = bytes; position = p }))
+pub sees_window : (live : Bool) (p : ℕ) (f : Flow) (now : Reader) (word held : ℕ) (bytes : Bor (List ℕ)) → live ≡ true → reader_of live p f ≡ now → bits_of held word ≡ f.window → bytes.now ≡ [] → Sees now (bits_of_parts (record { word = word; held = held; bytes = bytes; position = p }))
 sees_window live p f now word held bytes alive now_is is none =
     sees_behind live p f now word held bytes alive now_is is (λ k. (bits_of_bytes (take (stop_of f - f.loaded) (known_bytes f.incoming.to_come)), ap (λ (s : List Bool). s ++ bits_of_bytes (take (stop_of f - f.loaded) (known_bytes f.incoming.to_come))) (sym (ap (λ (b : List ℕ). f.window ++ bits_of_bytes b) none ∙ append-nil f.window))))

@@ -37,7 +37,7 @@ one_zero_is first p (true ∷ r) =
     rw (le-ltb (suc (length r)) 1 (omega arith)) (refl {a = dirty})
 one_zero_is first p (false ∷ r) = rw (le-ltb (suc (length r)) 1 (omega arith)) refl
 
--- so many zeros, and then so many
+-- `count` zeros, and then more
 zeros_both : (first count more p : ℕ) (r : List Bool) → reading (zeros first count >> zeros first more) p r ≡ reading (zeros first (count + more)) p r
 zeros_both first zero more p r = let e : 0 + more ≡ more = omega arith in rw e refl
 zeros_both first (suc count) more p [] = let e : suc count + more ≡ suc (count + more) = omega arith in rw e refl
@@ -86,7 +86,7 @@ zero_dirty first place a bit b t some here =
       λ k. rw (ne_eqb bit 0 some) refl,
     ))))
 
--- a fault at the first zero is one of all
+-- a fault at the first zero is a fault of the padding
 pub first_zero : (first most : ℕ) (a : Reader) (fault : Fault) (b : Reader) → 0 < most → Why (zeros first 1) a fault b → Why (zeros first most) a fault b
 first_zero first most a fault b some why =
     let e : 1 + (most - 1) ≡ most = omega arith in
@@ -94,7 +94,7 @@ first_zero first most a fault b some why =
 
 -- ---- the loop
 
--- how far the loop has come: whatever reads the zeros that are left completes the padding
+-- the loop's invariant: whatever reads the remaining zeros completes the padding
 pub record Padding (first count : ℕ) (a b : Reader) (left : ℕ) : Type 0 where
   pub live : b.live ≡ true
   pub most : left ≤ count

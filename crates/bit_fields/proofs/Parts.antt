@@ -1,4 +1,4 @@
--- What a call takes that reads a number of bits of a field.
+-- Calls that read a number of bits of a field.
 use Rattle.std.proofs.Common.{◌≡◌, ℕ, ◌+◌, ◌*◌, ◌-◌, ◌<◌, ◌≤◌, min, Bool, true, false, List, [], ◌++◌, length, take, drop, Result, Ok, Err, refl, sym, ap, ◌∙◌, subst, arith}
 use Rattle.std.proofs.lemmas.Bool.{le-ltb, lt-ltb}
 use Rattle.std.proofs.lemmas.List.{length-append, take-append-le, drop-append-le}
@@ -43,7 +43,7 @@ window_took rule value n p f g kept read = record {
   reads = λ k. ap (reading rule p) (sym (kept.left k)) ∙ read (bits_of_bytes (take (stop_of g - g.loaded) (known_bytes g.incoming.to_come)));
 }
 
--- a rule that is truncated where fewer than n bits are left
+-- a rule that is truncated if fewer than n bits are left
 pub window_missed : {A : Type 0} (rule : Grammar A) (n first p : ℕ) (f g : Flow) (missing : Missing) → ((more : List Bool) → length (f.window ++ more) < n → reading rule p (f.window ++ more) ≡ Err (at Truncated first)) → Fills n f g (Err missing) → Why rule (reader_of true p f) (fault_of_missing missing first g.limit) (stopped_at (reader_of true p g) first)
 window_missed rule n first p f g End short out = (
   record { was_live = refl; failed = refl; goes_on = Spends-none f.incoming (budget_of f) g.incoming (budget_of g) out.keeps.spends },
@@ -55,7 +55,7 @@ window_missed rule n first p f g Limit short out = (
 )
 window_missed rule n first p f g Read short lost = record { was_live = refl; failed = refl; fails = lost.fails }
 
--- ---- as the code has them
+-- ---- as the code handles them
 
 pub fills_exact : (n p : ℕ) (a b : Flow) (missing : Missing) → Fills n a b (Err missing) → p + length a.window ≡ 8 * min a.loaded (stop_of a) → p + length b.window ≡ 8 * min b.loaded (stop_of b)
 fills_exact n p a b End out place = omega (arith, out.keeps.place.exact, place)

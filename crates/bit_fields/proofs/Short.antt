@@ -1,4 +1,4 @@
--- Numbers in few chunks, taken at once: what a word shows of them is what the rule reads.
+-- Numbers in few chunks, taken at once: the word shows what the rule reads.
 use Rattle.std.proofs.Common.{◌≡◌, ℕ, zero, suc, ◌+◌, ◌*◌, ◌-◌, ◌/◌, ◌%◌, ◌^◌, ◌<◌, ◌≤◌, Bool, true, false, ltb, leb, List, ◌++◌, length, get_or, take, drop, Ok, Err, refl, sym, ap, ◌∙◌, subst, arith, bit_and, bit_or, ◌⊎◌, ◌≢◌, inl, inr, min, max}
 use Rattle.std.specs.Int.{w64, bit_at, bit_not, trailing_zeros}
 use Rattle.std.proofs.lemmas.Nat.Bits.{bit_at_and, bit_at_or, bit_at_not, bit_at-lt, bit_at-pow_same, bit_at-pow_other, bit_at-trailing_zeros}
@@ -25,7 +25,7 @@ ends_next : (payload count word : ℕ) → word / 2 ^ payload % 2 ≡ 1 → Ends
 ends_next payload zero word goes ends = absurd ends
 ends_next payload (suc count) word goes ends = (goes, ends)
 
--- a bit of what is behind a chunk
+-- a bit after the first chunk
 behind_bit : (payload place word b : ℕ) → word / 2 ^ (suc payload + place) % 2 ≡ b → word / 2 ^ suc payload / 2 ^ place % 2 ≡ b
 behind_bit payload place word b is = ap (λ (x : ℕ). x % 2) (shr-shr word (suc payload) place) ∙ is
 
@@ -41,7 +41,7 @@ ends_3 payload word on second off = ends_next payload 2 word on (ends_2 payload 
 ends_4 : (payload word : ℕ) → word / 2 ^ payload % 2 ≡ 1 → word / 2 ^ (suc payload + payload) % 2 ≡ 1 → word / 2 ^ (suc payload + (suc payload + payload)) % 2 ≡ 1 → word / 2 ^ (suc payload + (suc payload + (suc payload + payload))) % 2 ≡ 0 → EndsChunks payload 4 word
 ends_4 payload word on second third off = ends_next payload 3 word on (ends_3 payload (word / 2 ^ suc payload) (behind_bit payload payload word 1 second) (behind_bit payload (suc payload + payload) word 1 third) (behind_bit payload (suc payload + (suc payload + payload)) word 0 off))
 
--- the bits that end chunks
+-- the continuation bits of four chunks
 abbrev tops_of : (a b c d : ℕ) → ℕ
 tops_of a b c d = bit_or (bit_or (bit_or (2 ^ a) (2 ^ b)) (2 ^ c)) (2 ^ d)
 
@@ -72,7 +72,7 @@ one_of a b c d i is = elim (same_place i a) [
   ]
 ]
 
--- what the lowest bit says that ends a chunk and is not set
+-- the lowest continuation bit that is 0 ends the number
 record Lowest (word tops t : ℕ) : Type 0 where
   pub top : bit_at tops t ≡ 1
   pub off : bit_at word t ≡ 0
@@ -109,7 +109,7 @@ number_ends n word t two low =
 
 -- ---- what the rule reads
 
--- a chunk is its payload, and above it the bit that says whether another one follows
+-- a chunk is its payload with its continuation bit above it
 chunk_is : (payload word : ℕ) → word % 2 ^ suc payload ≡ (word / 2 ^ payload % 2) * 2 ^ payload + word % 2 ^ payload
 chunk_is payload word = let e : suc payload ≡ 1 + payload = omega arith in rw e (mod-pow-add word 1 payload)
 
@@ -188,7 +188,7 @@ vbr_reads payload count p w rest some narrow few ends there =
     let read = short_reads count payload p (chunk_limit payload) 64 (length w) (number w) p rest ends (enough count (chunk_limit payload) payload few narrow (limit_times payload some).0) (omega (arith, there, turned)) (omega (arith, most)) in
     rw (bits_of-number w, turned) at read
 
--- ---- as a window has them
+-- ---- as a window holds them
 
 pub word_is : (held word : ℕ) (s : List Bool) → bits_of held word ≡ s → word < 2 ^ held → number s ≡ word
 word_is held word s is below = ap number (sym is) ∙ number-bits_mod held word ∙ mod-eq_of_lt below
@@ -200,7 +200,7 @@ gathered_none payload (suc count) =
     let high : 0 / 2 ^ suc payload ≡ 0 = div-eq_of_lt (pow_pos (suc payload)) in
     rw (low, high, gathered_none payload count) (omega arith)
 
--- chunks behind those that were cut off are zeros
+-- after a cut, the chunks are zeros
 pub gathered_cut : (payload count more word : ℕ) → payload_number payload (count + more) (word % 2 ^ (suc payload * count)) ≡ payload_number payload count word
 gathered_cut payload zero more word =
     let none : suc payload * 0 ≡ 0 = omega arith in
@@ -215,7 +215,7 @@ gathered_cut payload (suc count) more word =
     let one : suc count + more ≡ suc (count + more) = omega arith in
     rw (one, wide, low, high, gathered_cut payload count more (word / 2 ^ suc payload)) refl
 
--- ---- as the code has them
+-- ---- as the code handles them
 
 pub bits_end : (n held word t : ℕ) (s : List Bool) → 2 ≤ n → n ≤ 14 → held ≤ 64 → bits_of held word ≡ s → word < 2 ^ held → 0 < bit_and (tops_of (n - 1) (2 * n - 1) (3 * n - 1) (4 * n - 1)) (bit_not w64 word) → t ≡ trailing_zeros w64 (bit_and (tops_of (n - 1) (2 * n - 1) (3 * n - 1) (4 * n - 1)) (bit_not w64 word)) → tops_of (n - 1) (2 * n - 1) (3 * n - 1) (4 * n - 1) < 2 ^ 64 → EndsAt n (t + 1) (number s)
 bits_end n held word t s two narrow most is below some t_is tops_fits =
@@ -259,7 +259,7 @@ four_is n word third second value two narrow third_is second_is value_is =
     let two_up = more_gathered n 2 n (2 * n) word third second two narrow (omega arith) three second_is in
     all_gathered n 3 word second value two narrow two_up value_is
 
--- ---- bits that are missing
+-- ---- missing bits
 
 -- a word with a bit at a place has bits beyond it
 held_beyond : (payload held word : ℕ) → word < 2 ^ held → word / 2 ^ payload % 2 ≡ 1 → suc payload ≤ held
@@ -288,7 +288,7 @@ short_truncated (suc (suc count)) payload first (suc permitted) places held word
     first_reads payload first permitted places held word p more there
     ∙ rw (payload_is payload word, goes_there payload word ends.0, fits_places payload places word (omega (arith, fits)), later) refl
 
--- ---- as the code has it
+-- ---- the code's masks
 
 -- the mask for each width
 pub tops_listed : (n : ℕ) → 2 ≤ n → n ≤ 14 → get_or FOUR_TOPS n 0 ≡ tops_of (n - 1) (2 * n - 1) (3 * n - 1) (4 * n - 1)

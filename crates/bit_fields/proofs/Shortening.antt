@@ -1,4 +1,4 @@
--- A stream that a wrapper ends, and where the bits that are left end.
+-- A stream that a wrapper ends, and where the unread bits end.
 use Rattle.std.proofs.Common.{◌≡◌, ℕ, ◌+◌, ◌*◌, ◌-◌, ◌≤◌, min, Bool, List, ◌++◌, length, take, sym, ap, ◌∙◌, arith, inl, inr}
 use Rattle.std.proofs.lemmas.Bool.{cases_lt}
 use Rattle.std.proofs.lemmas.List.{length-append, length-take, take-append-le, take-take}
@@ -21,9 +21,9 @@ take_both a b c bytes is = elim (cases_lt b a) [
   | inr le ↦ take-take a b bytes le ∙ (let e : a ≡ c = omega arith in ap (λ (n : ℕ). take n bytes) e)
 ]
 
--- what is left of a stream that is ended at a byte ahead
+-- the unread bits of a stream that is ended at a later byte
 pub left_shortened : (f : Flow) (p end : ℕ) → f.limit ≤ f.end → p + length f.window ≡ 8 * min f.loaded (stop_of f) → p ≤ 8 * end → flow_bits (flow_ended_at f end) ≡ take (8 * end - p) (flow_bits f)
-left_shortened f p end high place ahead =
+left_shortened f p end high place buffered =
     let to : List ℕ = known_bytes f.incoming.to_come in
     elim (cases_lt end (min f.loaded f.limit)) [
       | inl lt ↦
@@ -41,6 +41,6 @@ left_shortened f p end high place ahead =
           ∙ ap (λ (k : ℕ). take k (flow_bits f)) (sym n)
     ]
 
--- where the bits that are left end
+-- where the unread bits end
 pub left_ends : (f : Flow) (p : ℕ) → p + length f.window ≡ 8 * min f.loaded (stop_of f) → p + length (flow_bits f) ≡ 8 * min (stop_of f) (total_of f)
 left_ends f p place = omega (arith, length-append f.window (bits_of_bytes (take (stop_of f - f.loaded) (known_bytes f.incoming.to_come))), length-bits_of_bytes (take (stop_of f - f.loaded) (known_bytes f.incoming.to_come)), length-take (stop_of f - f.loaded) (known_bytes f.incoming.to_come))

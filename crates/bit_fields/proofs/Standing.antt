@@ -1,4 +1,4 @@
--- Values that stand in a row of others.
+-- Values that are a run of other values.
 use Rattle.std.proofs.Common.{◌≡◌, ℕ, ◌+◌, ◌-◌, ◌<◌, ◌≤◌, ◌⊎◌, min, List, [], ◌∷◌, ◌++◌, length, take, drop, get_or, slice_get, Some, refl, sym, ap, ◌∙◌, subst, inl, inr, arith}
 use Rattle.std.proofs.Math.ListN.{drop_of_length-le}
 use Rattle.std.proofs.Math.Seq.{drop-cons, drop-append-add, take-add, take-length}
@@ -7,7 +7,7 @@ use Rattle.std.proofs.lemmas.List.{drop-append-le, drop-drop, drop-take, length-
 use Rattle.std.proofs.lemmas.Option.{get_or_from_slice_get, slice_get-get_or, slice_get_within}
 use Rattle.bit_fields.specs.Packed.{StandAt}
 
--- so many of a row, or all
+-- the first n values, or all
 pub take_min : (n : ℕ) (v : List ℕ) → take (min n (length v)) v ≡ take n v
 take_min n v = go (cases_lt n (length v))
   where
@@ -23,11 +23,11 @@ take_of_first m n v = go (cases_lt n m)
     go (inl lt) = take_all m (take n v) (omega (arith, lt, length-take n v)) ∙ ap (λ (k : ℕ). take k v) (omega (arith, lt))
     go (inr le) = take-take m n v le ∙ ap (λ (k : ℕ). take k v) (omega (arith, le))
 
--- no more stand there than there are
+-- a run is no longer than the list
 pub stand_within : (p : ℕ) (v a : List ℕ) → StandAt p v a → length v ≤ length a - p
 stand_within p v a h = omega (arith, ap length h, length-take (length v) (drop p a), length-drop p a)
 
--- in a longer row
+-- in a longer list
 pub stand_longer : (p : ℕ) (v a b : List ℕ) → StandAt p v a → StandAt p v (a ++ b)
 stand_longer p v a b h = go (cases_lt (length a) p)
   where
@@ -37,11 +37,11 @@ stand_longer p v a b h = go (cases_lt (length a) p)
         rw none refl
     go (inr there) = ap (take (length v)) (drop-append-le p a b there) ∙ take-append-le (length v) (drop p a) b (omega (arith, stand_within p v a h, length-drop p a)) ∙ h
 
--- behind others
+-- after other values
 pub stand_behind : (p : ℕ) (v a b : List ℕ) → StandAt p v b → StandAt (length a + p) v (a ++ b)
 stand_behind p v a b h = ap (take (length v)) (drop-append-add a b p) ∙ h
 
--- all from a place of the row behind others on
+-- all values from a place on, in a list after others
 pub stand_at_last : (p m : ℕ) (a b : List ℕ) → length a ≤ p → m ≡ min (p - length a) (length b) → StandAt p (take (length b - m) (drop m b)) (a ++ b)
 stand_at_last p m a b past is =
     let q = p - length a in
@@ -58,24 +58,24 @@ pub stand_first : (n p : ℕ) (v a : List ℕ) → StandAt p v a → StandAt p (
 stand_first n p v a h =
     ap (λ (k : ℕ). take k (drop p a)) (length-take n v) ∙ sym (take-take (min n (length v)) (length v) (drop p a) (omega arith)) ∙ ap (take (min n (length v))) h ∙ take_min n v
 
--- where the row ends behind them
+-- if the list ends after them
 pub stand_before : (p end : ℕ) (v a : List ℕ) → StandAt p v a → p + length v ≤ end → StandAt p v (take end a)
 stand_before p end v a h le =
     let e : end ≡ p + (end - p) = omega arith in
     ap (λ (k : ℕ). take (length v) (drop p (take k a))) e ∙ ap (take (length v)) (drop-take p (end - p) a) ∙ take-take (length v) (end - p) (drop p a) (omega arith) ∙ h
 
--- in all of a row of which they stand in a front
+-- in the whole list, if they are a run of a prefix
 pub stand_whole : (p end : ℕ) (v a : List ℕ) → StandAt p v (take end a) → StandAt p v a
 stand_whole p end v a h = subst (λ (s : List ℕ). StandAt p v s) (take-append-drop end a) (stand_longer p v (take end a) (drop end a) h)
 
--- those behind the first of them
+-- those after the first of them
 pub stand_rest : (n p : ℕ) (v a : List ℕ) → n ≤ length v → StandAt p v a → StandAt (p + n) (drop n v) a
 stand_rest n p v a le h =
     let e : length v ≡ n + (length v - n) = omega arith in
     let rest : drop n (take (length v) (drop p a)) ≡ take (length v - n) (drop n (drop p a)) = ap (λ (k : ℕ). drop n (take k (drop p a))) e ∙ drop-take n (length v - n) (drop p a) in
     ap (λ (k : ℕ). take k (drop (p + n) a)) (length-drop n v) ∙ ap (take (length v - n)) (sym (drop-drop n p a)) ∙ sym rest ∙ ap (drop n) h
 
--- others behind them
+-- two runs in sequence
 pub stand_both : (p : ℕ) (v w a : List ℕ) → StandAt p v a → StandAt (p + length v) w a → StandAt p (v ++ w) a
 stand_both p v w a h also =
     ap (λ (k : ℕ). take k (drop p a)) (length-append v w) ∙ take-add (length v) (length w) (drop p a)

@@ -1,4 +1,4 @@
--- What stands at the beginning of an input.
+-- The beginning of an input.
 use Rattle.std.proofs.Common.{◌≡◌, ℕ, ◌+◌, ◌*◌, ◌-◌, ◌%◌, ◌^◌, ◌<◌, ◌≤◌, min, Bool, true, not, ◌&&◌, leb, eqb, List, length, take, Option, Some, None, Result, Ok, Err, refl, sym, ap, ◌∙◌, subst, arith, inl, inr}
 use Rattle.std.proofs.lemmas.Bool.{cases_lt, false≢true, le-ltb, lt-ltb, ne_eqb}
 use Rattle.std.proofs.lemmas.List.{length-take-le}
@@ -162,7 +162,7 @@ magic_took a first magic b at high t other below is = record {
   reads = λ k. rw (read_first a first b at t k, ne_eqb first 0x0B17C0DE other, magic_is first magic below is) refl;
 }
 
--- a break at the first four bytes, of the beginning and of what looks for a wrapper alike
+-- a break at the first four bytes: the beginning and the search for a wrapper break alike
 first_broke : (e : Extent) (x : Result (ℕ × ℕ × List Bool) grammar.Fault) (f : ℕ × ℕ × List Bool → Beginning) (g : ℕ × ℕ × List Bool → Result (Option terms.Wrapper × ℕ × List Bool) grammar.Fault) (reason : Reason) (bit : ℕ) → e.end ≡ 2 ^ 64 - 1 → Breaks e x reason bit → Breaks (record e { end = end_of_stream (wrapper_read (x and_then g)) }) (x and_then f) reason bit
 first_broke e (Ok x) f g reason bit high b = absurd b
 first_broke e (Err x) f g reason bit high b = subst (λ (n : ℕ). Breaks {A = terms.Head} (record e { end = n }) (Err x) reason bit) high b
@@ -178,7 +178,7 @@ magic_missed a OutputTooLong b at live high why m = why
 
 -- ---- a wrapped input
 
--- a break in the wrapper, of the beginning and of what looks for a wrapper alike
+-- a break in the wrapper: the beginning and the search for a wrapper break alike
 second_broke : (e : Extent) (x : Result (terms.Wrapper × ℕ × List Bool) grammar.Fault) (f : terms.Wrapper × ℕ × List Bool → Result (terms.Wrapper × ℕ × List Bool) grammar.Fault) (h : terms.Wrapper × ℕ × List Bool → Beginning) (g : terms.Wrapper × ℕ × List Bool → Result (Option terms.Wrapper × ℕ × List Bool) grammar.Fault) (reason : Reason) (bit : ℕ)
     → e.end ≡ 2 ^ 64 - 1 → Breaks e x reason bit → Breaks (record e { end = end_of_stream (wrapper_read (x and_then g)) }) ((x and_then f) and_then h) reason bit
 second_broke e (Ok x) f h g reason bit high b = absurd b
@@ -227,7 +227,7 @@ headed a first b w c at t is u = record {
   reads = λ k. rw (read_first a first b at t k, is_eqb first 0x0B17C0DE is, u.reads (t.goes_on.tells k)) (gap_then w (reading (any_bits (8 * (w.offset - 20))) c.position c.left));
 }
 
--- where the input ends before a wrapper's stream begins, the limit on bytes is passed by the input and by the stream alike
+-- if the input ends before a wrapper's stream begins, the input and the stream are past the limit alike
 same_cut : (e : Extent) (offset end len : ℕ) → e.end ≡ 2 ^ 64 - 1 → 160 + len ≡ reach_of e → len < 8 * (offset - 20) → offset < 2 ^ 32 → offset ≤ end → is_cut e ≡ is_cut (record e { end = end })
 same_cut e offset end len high reach few fits le = elim (cases_lt e.limit e.total) [
   | inl lt ↦ rw (lt-ltb e.limit e.end (omega arith), lt-ltb e.limit end (omega arith)) refl

@@ -52,7 +52,7 @@ joined-set (first ∷ chunks) (suc i) j word chunk new full lt is few set_is =
     ap (λ (ws : List ℕ). first.items ++ ws) (joined-set chunks i j word chunk new full.1 (omega (arith, lt)) is few set_is ∙ ap (λ (k : ℕ). set (words_of_chunks chunks) k word) (sym place))
     ∙ sym (set-append_right first.items (words_of_chunks chunks) 262144 (262144 * suc i + j) word full.0 (omega arith))
 
--- an empty chunk is put behind, and changed for a full one
+-- an empty chunk is appended, and replaced by a full one
 swapped : (old new : List (Vec ℕ)) (chunk last x : Vec ℕ) (k : ℕ) → new ≡ old ++ chunk ∷ [] → k ≡ length old → x ≡ last → set new k x ≡ old ++ last ∷ []
 swapped old new chunk last x k is place x_is =
     ap (λ (vs : List (Vec ℕ)). set vs k x) is ∙ set_at old chunk [] x k (sym place) ∙ ap (λ (v : Vec ℕ). old ++ v ∷ []) x_is
@@ -67,7 +67,7 @@ pub joined-swap : (old new : List (Vec ℕ)) (chunk last x y : Vec ℕ) (k : ℕ
 joined-swap old new chunk last x y k is place x_is none =
     ap (λ (ws : List ℕ). words_of_chunks (set new k x) ++ ws) none ∙ append-nil (words_of_chunks (set new k x)) ∙ ap words_of_chunks (swapped old new chunk last x k is place x_is) ∙ joined-push old last
 
--- no chunk has the place
+-- no chunk contains the place
 pub beyond : (i count : ℕ) → (i < count → false ≡ true) → count ≤ i
 beyond i count none = elim (cases_lt i count) [ inl lt ↦ absurd (no (none lt)) | inr le ↦ le ]
   where
@@ -101,11 +101,11 @@ added_so_far ws i now next w lt w_is next_is =
     ∙ append_assoc now (bits_of 32 (get_or ws i 0)) (bits_of_words (drop (i + 1) ws))
     ∙ ap (λ (s : List Bool). now ++ s) (sym (words-next ws i lt))
 
--- the first bits of some, as their number spells them
+-- the first bits of a list, as their number spells them
 pub front_spelled : (n : ℕ) (s : List Bool) → n ≤ length s → bits_of n (number (take n s)) ≡ take n s
 front_spelled n s le = ap (λ (k : ℕ). bits_of k (number (take n s))) (sym (length-take-le n s le)) ∙ bits_of-number (take n s)
 
--- all of some, as their number spells them
+-- all bits of a list, as their number spells them
 pub all_spelled_by : (s : List Bool) (count value : ℕ) → count ≡ length s → value ≡ number (take count s) → bits_of count value ≡ s
 all_spelled_by s count value count_is value_is =
     let whole : take count s ≡ s = ap (λ (k : ℕ). take k s) count_is ∙ take-length s in
@@ -122,7 +122,7 @@ cut a b c n first second =
       ap (λ (k : ℕ). drop k (a ++ (b ++ c))) (sym place) ∙ drop-append-add a (b ++ c) (length b) ∙ drop-append_seam b c,
     )
 
--- in a text that is parted so, another word in place of the one in the middle
+-- a text in three parts, with another word in the middle
 pub with_word_between : (a b c : List Bool) (place word : ℕ) → length a ≡ 32 * place → length b ≡ 32 → with_word place word (a ++ (b ++ c)) ≡ a ++ (bits_of 32 word ++ c)
 with_word_between a b c place word first second =
     let parts = cut a b c (32 * place) first second in
@@ -144,7 +144,7 @@ words-set ws n word rest lt =
 
 -- ---- writing a text in parts
 
--- of a whole a part was written, whole bytes up to here, and this is left
+-- a part of a text was written, whole bytes so far, and this is left
 pub record Going (whole : List Bool) (old now : Writer) (rest : List Bool) : Type 0 where
   pub live : now.live ≡ true
   pub bytes : now.position % 8 ≡ 0
@@ -185,7 +185,7 @@ pub some_left : (count : ℕ) → false ≡ (count == 0) → 0 < count
 some_left zero e = absurd cc
 some_left (suc count) e = omega arith
 
--- the first chunk is taken out
+-- the first chunk is removed
 pub first_chunk : (chunks : List (Vec ℕ)) (chunk : Vec ℕ) → 0 < length chunks → chunk ≡ get_or chunks 0 chunk → words_of_chunks chunks ≡ chunk.items ++ words_of_chunks (drop 1 chunks)
 first_chunk [] chunk some is = absurd (omega (arith, some))
 first_chunk (first ∷ chunks) chunk some is = ap (λ (v : Vec ℕ). v.items ++ words_of_chunks chunks) (sym is)
@@ -194,7 +194,7 @@ pub full-after : (chunks : List (Vec ℕ)) → AreFull chunks → AreFull (drop 
 full-after [] full = tt
 full-after (first ∷ chunks) full = full.1
 
--- what was moved, with what is left
+-- what was moved, and what is left
 pub moved_so_far : (chunks : List (Vec ℕ)) (chunk : Vec ℕ) (now next : List Bool) → 0 < length chunks → chunk ≡ get_or chunks 0 chunk → next ≡ now ++ bits_of_words chunk.items → next ++ bits_of_words (words_of_chunks (drop 1 chunks)) ≡ now ++ bits_of_words (words_of_chunks chunks)
 moved_so_far chunks chunk now next some is next_is =
     let rest = words_of_chunks (drop 1 chunks) in

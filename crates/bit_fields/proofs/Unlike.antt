@@ -1,4 +1,4 @@
--- Where two lists of values differ, each with zeros in its midst.
+-- Where two lists of values differ that both contain a run of zeros.
 use Rattle.std.proofs.Common.{◌≡◌, ◌≢◌, ℕ, zero, suc, ◌+◌, ◌<◌, ◌-◌, ◌≤◌, ◌⊎◌, List, [], ◌∷◌, ◌++◌, length, drop, get_or, slice_get, min, max, Bool, true, false, cond, eqb, not, Option, Some, None, IfSome, IfNone, refl, sym, ap, ◌∙◌, inl, inr, arith, add-one, eq-eqb, length-drop, append_assoc}
 use Rattle.std.proofs.Math.ListN.{replicate}
 use Rattle.std.proofs.Math.Seq.{drop-cons}
@@ -19,23 +19,23 @@ get_same i a b in_a in_b same =
     let second : slice_get b i ≡ Some (get_or b i 0) = slice_get-get_or b i 0 in_b in
     cc
 
--- the same value stands there
+-- both have the same value there
 pub place_same : (i : ℕ) (a b : List ℕ) → i < length a → i < length b → slice_get a i ≡ slice_get b i → first_apart i (drop i a) (drop i b) ≡ first_apart (i + 1) (drop (i + 1) a) (drop (i + 1) b)
 place_same i a b in_a in_b same =
     rw add-one (at_both i a b in_a in_b ∙ rw (eq-eqb (get_or a i 0) (get_or b i 0) (get_same i a b in_a in_b same)) refl)
 
--- another one does
+-- they have different values there
 pub place_apart : (i : ℕ) (a b : List ℕ) → i < length a → i < length b → slice_get a i ≢ slice_get b i → first_apart i (drop i a) (drop i b) ≡ Some i
 place_apart i a b in_a in_b apart =
     at_both i a b in_a in_b ∙ rw (ne_eqb (get_or a i 0) (get_or b i 0) (λ same. apart (slice_get-get_or a i 0 in_a ∙ ap Some same ∙ sym (slice_get-get_or b i 0 in_b)))) refl
 
--- nothing is left of one
+-- one list has no values left
 none_left : (i : ℕ) (a b : List ℕ) → min (length a) (length b) ≡ 0 → first_apart i a b ≡ None
 none_left i [] b e = refl
 none_left i (x ∷ a) [] e = refl
 none_left i (x ∷ a) (y ∷ b) e = absurd (omega arith)
 
--- lists of the same length that differ nowhere are the same
+-- lists of the same length that differ nowhere are equal
 pub none_apart : (i : ℕ) (a b : List ℕ) → length a ≡ length b → first_apart i a b ≡ None → a ≡ b
 none_apart i [] [] len none = refl
 none_apart i [] (y ∷ b) len none = absurd (omega (arith, len))
@@ -46,7 +46,7 @@ none_apart i (x ∷ a) (y ∷ b) len none = go (none_apart (suc i) a b (omega (a
     go rest true is e = ap (λ (v : ℕ). v ∷ a) (eqb-true x y is) ∙ ap (λ (vs : List ℕ). y ∷ vs) (rest e)
     go rest false is e = absurd (cc)
 
--- a list differs nowhere from itself
+-- a list does not differ from itself
 pub apart_itself : (i : ℕ) (a : List ℕ) → first_apart i a a ≡ None
 apart_itself i [] = refl
 apart_itself i (x ∷ a) = rw (eq-eqb x x refl) (apart_itself (suc i) a)
@@ -69,7 +69,7 @@ agree (Some x) (Some y) ne = go (eqb x y) refl ne
     go true is e = ap Some (eqb-true x y is)
     go false is e = absurd (cc)
 
--- lists of the same length are the same if they differ nowhere
+-- lists of the same length are equal if they differ nowhere
 pub same_if_none : (o : Option ℕ) (t : Bool) (a b : List ℕ) → length a ≡ length b → o ≡ first_apart 0 a b → is_some o ≡ not t → (t ≡ true → a ≡ b) × (a ≡ b → t ≡ true)
 same_if_none None true a b len is none = (λ _. none_apart 0 a b len (sym is), λ _. refl)
 same_if_none None false a b len is none = absurd (cc)
@@ -79,19 +79,19 @@ same_if_none (Some place) false a b len is none = (λ e. absurd (cc), λ e. absu
     nowhere : Some place ≡ first_apart 0 a a → ⊥
     nowhere e = (let none : first_apart 0 a a ≡ None = apart_itself 0 a in cc)
 
--- ---- zeros in the midst of both
+-- ---- zeros within both
 
--- so many that stand in front
+-- m equal zeros at the front
 zeros_passed : (i m : ℕ) (a b : List ℕ) → first_apart i (replicate m 0 ++ a) (replicate m 0 ++ b) ≡ first_apart (i + m) a b
 zeros_passed i zero a b = ap (λ (k : ℕ). first_apart k a b) (omega arith)
 zeros_passed i (suc m) a b = zeros_passed (suc i) m a b ∙ ap (λ (k : ℕ). first_apart k a b) (omega arith)
 
--- what has zeros from one place on has them from a later one on
+-- a list that has only zeros from one place on has only zeros from a later one
 zeros_later : (n i : ℕ) (s : List ℕ) → n ≤ i → drop n s ≡ replicate (length s - n) 0 → drop i s ≡ replicate (length s - i) 0
 zeros_later n i s le zeros =
     ap (λ (k : ℕ). drop k s) (omega (arith, le)) ∙ sym (drop-drop (i - n) n s) ∙ ap (λ (l : List ℕ). drop (i - n) l) zeros ∙ drop-replicate (i - n) (length s - n) 0 ∙ ap (λ (k : ℕ). replicate k 0) (omega (arith, le))
 
--- what stands from a place on, where these are zeros at first
+-- the values from a place on, the first of which are zeros
 zeros_from : (i m : ℕ) (s r : List ℕ) → i + m ≤ length s → drop i s ≡ replicate (length s - i) 0 → drop i (s ++ r) ≡ replicate m 0 ++ drop (i + m) (s ++ r)
 zeros_from i m s r le zeros =
     let rest = length s - (i + m) in
@@ -104,7 +104,7 @@ zeros_between : (i m : ℕ) (s r t q : List ℕ) → i + m ≤ length s → i + 
 zeros_between i m s r t q in_s in_t zeros also =
     rw (zeros_from i m s r in_s zeros, zeros_from i m t q in_t also) (zeros_passed i m (drop (i + m) (s ++ r)) (drop (i + m) (t ++ q)))
 
--- where each list begins with values of which those from a place on are zeros, none of these decides
+-- if each list begins with values that are zeros from a place on, these zeros do not matter
 pub zeros_same : (m n i k both : ℕ) (s r t q : List ℕ) → drop m s ≡ replicate (length s - m) 0 → drop n t ≡ replicate (length t - n) 0 → i ≡ min (max m n) both → k ≡ max (min (length s) (length t)) i → min (length s) (length t) ≤ both → first_apart i (drop i (s ++ r)) (drop i (t ++ q)) ≡ first_apart k (drop k (s ++ r)) (drop k (t ++ q))
 zeros_same m n i k both s r t q zeros also is to le = go (cases_lt i (min (length s) (length t)))
   where
@@ -115,7 +115,7 @@ zeros_same m n i k both s r t q zeros also is to le = go (cases_lt i (min (lengt
         ∙ ap (λ (p : ℕ). first_apart p (drop p (s ++ r)) (drop p (t ++ q))) (sym far)
     go (inr past) = ap (λ (p : ℕ). first_apart p (drop p (s ++ r)) (drop p (t ++ q))) (omega (arith, past, to))
 
--- the answer of a search up to a place at which one list ends
+-- the result of a search up to a place at which one list ends
 pub apart_before : (o : Option ℕ) (x : Option ℕ) (k : ℕ) (a b : List ℕ) → k ≡ min (length a) (length b) → IfSome o (λ place. x ≡ Some place) → IfNone o (x ≡ first_apart k (drop k a) (drop k b)) → o ≡ x
 apart_before (Some place) x k a b end found none = sym found
 apart_before None x k a b end found none = sym (none ∙ none_left k (drop k a) (drop k b) (omega (arith, end, length-drop k a, length-drop k b)))

@@ -25,7 +25,7 @@ four_first (a ∷ b ∷ c ∷ d ∷ s) long = refl
 pub four_bits : (n : ℕ) (four bytes : List ℕ) → to_le_bytes w32 n ≡ four → four ≡ take 4 bytes → bits_of 32 n ≡ bits_of_bytes (take 4 bytes)
 four_bits n four bytes is front = sym (le_bytes_bits_32 n) ∙ ap bits_of_bytes (is ∙ front)
 
--- the first four bytes go behind a window, and the bits stay the same
+-- the first four bytes are appended to a window, and the bits stay the same
 pub four_moved : (window new : List Bool) (word : ℕ) (bytes : List ℕ) → new ≡ window ++ bits_of 32 word → bits_of 32 word ≡ bits_of_bytes (take 4 bytes) → new ++ bits_of_bytes (take (length bytes - 4) (drop 4 bytes)) ≡ window ++ bits_of_bytes bytes
 four_moved window new word bytes is bits =
     let whole : take (length bytes - 4) (drop 4 bytes) ≡ drop 4 bytes = take_all (length bytes - 4) (drop 4 bytes) (omega (arith, length-drop 4 bytes)) in
@@ -35,9 +35,9 @@ four_moved window new word bytes is bits =
     ∙ append_assoc window (bits_of_bytes (take 4 bytes)) (bits_of_bytes (drop 4 bytes))
     ∙ ap (λ (s : List Bool). window ++ s) parts
 
--- ---- bytes that nobody looks at
+-- ---- bytes that are skipped
 
--- the front of what a source showed was passed over
+-- the first of the bytes that a source showed were skipped
 pub front_passed : (i j : Incoming) (shown : List ℕ) (most count : ℕ) → IsFresh i → j.pulls ≡ i.pulls + 1 → j.failures ≡ i.failures → bytes.Consumes i.to_come j.to_come (take count shown) → (count ≡ 0 → bytes.IsAtEnd j.to_come) → j.accounts ≡ i.accounts → count ≤ most → count ≤ length shown → GaveUnseen i j most count
 front_passed i j shown most count fresh pulls failures gone end accounts few there =
     let all : List ℕ = shown ++ zeros in
@@ -58,7 +58,7 @@ front_passed i j shown most count fresh pulls failures gone end accounts few the
       };
     }
 
--- the front of a slice was
+-- the first bytes of a slice were skipped
 pub slice_passed : (rest : List ℕ) (pulls most count : ℕ) → pulls < 2 ^ 64 - 1 → 0 < most → count ≡ min most (length rest)
     → GaveUnseen (record { to_come = Some rest; pulls = pulls; failures = 0; accounts = [] }) (record { to_come = Some (take (length rest - count) (drop count rest)); pulls = pulls + 1; failures = 0; accounts = [] }) most count
 slice_passed rest pulls most count fresh some is =
@@ -68,7 +68,7 @@ slice_passed rest pulls most count fresh some is =
     let j : Incoming = record { to_come = Some (take (length rest - count) (drop count rest)); pulls = pulls + 1; failures = 0; accounts = [] } in
     front_passed i j rest most count (omega arith) refl refl split (λ none. whole ∙ drop_all count rest (omega arith)) refl (omega arith) (omega arith)
 
--- ---- a source that was looked at before it was asked
+-- ---- a source that was looked at before it was pulled
 
 pub looked_consumed : (a b c : Option (List ℕ)) (gone : List ℕ) → bytes.Keeps a b → bytes.Consumes b c gone → bytes.Consumes a c gone
 looked_consumed None b c gone same gave = tt
@@ -97,7 +97,7 @@ none_looked a b c looked none = record {
 
 -- ---- a word of bytes that were seen before
 
--- what was taken is the front of what was seen
+-- the bytes taken are the first of the bytes seen
 front_consumed : (i j : Option (List ℕ)) (seen gone : List ℕ) (count : ℕ) → bytes.Consumes i j gone → Begins i seen → length gone ≡ count → count ≤ length seen → bytes.Consumes i j (take count seen)
 front_consumed None j seen gone count gave begins len few = tt
 front_consumed (Some xs) None seen gone count gave begins len few = absurd gave
@@ -127,7 +127,7 @@ word_unseen a b c seen room word count looked begins long some few unseen below 
       bits = bits ∙ ap bits_of_bytes (sym same);
     }
 
--- bytes that nobody looks at
+-- skipped bytes
 pub unseen_looked : (a b c : Incoming) (most : ℕ) (answer : Result ℕ SourceFailed) → Looked a b → PullsUnseen most b c answer → PullsUnseen most a c answer
 unseen_looked a b c most (Ok count) looked unseen = record { into = unseen.into; some = unseen.some; few = unseen.few; gave = gave_looked a b c count unseen.into looked unseen.gave }
 unseen_looked a b c most (Err e) looked none = none_looked a b c looked none

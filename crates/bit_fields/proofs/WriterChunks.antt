@@ -1,4 +1,4 @@
--- The chunks of a VBR, written one after the other.
+-- The chunks of a VBR, written one after another.
 use Rattle.std.proofs.Common.{◌≡◌, ℕ, zero, suc, inl, inr, ◌+◌, ◌*◌, ◌-◌, ◌/◌, ◌%◌, ◌^◌, ◌<◌, ◌≤◌, Bool, true, false, ltb, List, [], ◌∷◌, ◌++◌, length, bit_and, Result, Err, refl, sym, ap, ◌∙◌, subst, arith, append_assoc}
 use Rattle.std.proofs.Math.Nat.{div-add-mod, div-le_of_le-mul, div-lt_self}
 use Rattle.std.proofs.Math.Pow.{pow_mono, shr_lt}
@@ -16,7 +16,7 @@ use Rattle.bit_fields.proofs.WriterLaws.{wrote_nothing, wrote_then_wrote, wrote_
 
 -- ---- one chunk
 
--- a chunk with another one behind it, as it is computed
+-- a chunk with another one after it, as it is computed
 abbrev pub chunk : (n rest : ℕ) → ℕ
 chunk n rest = bit_and rest (1 * 2 ^ (n - 1) % 2 ^ 64 - 1) + 1 * 2 ^ (n - 1) % 2 ^ 64
 
@@ -41,7 +41,7 @@ last_bits n rest some lt =
 
 -- ---- the chunks of a value
 
--- the chunks that spell what is left of a value, of which so many are permitted
+-- the chunks that spell the rest of a value, if `permitted` of them are allowed
 abbrev pub tail : (payload permitted rest : ℕ) → List Bool
 tail payload permitted rest = chunk_spelling (shortest_payloads payload permitted rest)
 
@@ -58,11 +58,11 @@ tail_more payload permitted rest le =
 limit_is_enough : (payload : ℕ) → 0 < payload → 64 ≤ payload * chunk_limit payload
 limit_is_enough payload some = omega (arith, div-add-mod (63 + payload) payload, mod_below (63 + payload) payload some)
 
--- so few chunks that their bits can be counted
+-- the permitted chunks are few: their bits can be counted
 limit_is_small : (payload : ℕ) → 0 < payload → chunk_limit payload ≤ 64
 limit_is_small payload some = div-le_of_le-mul payload (omega arith)
 
--- one chunk at least is permitted
+-- at least one chunk is permitted
 limit_is : (payload : ℕ) → 0 < payload → chunk_limit payload ≡ suc (chunk_limit payload - 1)
 limit_is payload some = one_more payload (chunk_limit payload) (limit_is_enough payload some)
   where
@@ -70,7 +70,7 @@ limit_is payload some = one_more payload (chunk_limit payload) (limit_is_enough 
     one_more payload zero enough = absurd (omega (arith, enough))
     one_more payload (suc limit) enough = let e : suc limit - 1 ≡ limit = omega arith in rw e refl
 
--- what is left after a chunk is less
+-- the rest after a chunk is smaller
 pub part_smaller : (n rest : ℕ) → 2 ≤ n → 2 ^ (n - 1) ≤ rest → rest / 2 ^ (n - 1) < rest
 part_smaller n rest some le =
     let two : 2 ^ 1 ≤ 2 ^ (n - 1) = pow_mono {i = 1} {j = n - 1} (omega arith) in
@@ -78,7 +78,7 @@ part_smaller n rest some le =
 
 -- ---- chunks that were written
 
--- chunks were written, and one at least is permitted for what is left of the value
+-- chunks were written, and at least one is permitted for the rest of the value
 pub record Chunking (n value : ℕ) (start now : Writer) (rest : ℕ) : Type 0 where
   pub done : List Bool
   pub permitted : ℕ
@@ -100,12 +100,12 @@ chunking_starts n value start some few below live position =
       room = omega (arith, position, limit_is_small (n - 1) (omega arith), is);
     }
 
--- more of the value than one chunk holds: a second chunk is permitted
+-- the rest is more than one chunk holds: a second chunk is permitted
 another : (payload permitted rest : ℕ) → 2 ^ payload ≤ rest → rest < 2 ^ (payload * suc permitted) → (fewer : ℕ) × (permitted ≡ suc fewer)
 another payload zero rest le lt = let e : payload * 1 ≡ payload = omega arith in let one : rest < 2 ^ payload = rw e at lt in absurd (omega arith)
 another payload (suc fewer) rest le lt = (fewer, refl)
 
--- one chunk of what is left, and the rest of it
+-- one chunk of the rest, and what is then left
 chunks_left : (n value rest permitted fewer : ℕ) (done : List Bool) → 2 ≤ n → n ≤ 32 → 2 ^ (n - 1) ≤ rest → shortest n value ≡ done ++ tail (n - 1) (suc permitted) rest → permitted ≡ suc fewer
     → shortest n value ≡ (done ++ bits_of n (chunk n rest)) ++ tail (n - 1) (suc fewer) (rest / 2 ^ (n - 1))
 chunks_left n value rest permitted fewer done some few le whole is =
@@ -142,7 +142,7 @@ chunking_ends n value start now next rest r some lt c writes =
 
 -- ---- chunks that are collected before they are written
 
--- chunks of a value were collected: one at least is permitted for what is left of it, and so many have room
+-- chunks of a value were collected: at least one is permitted for its rest, and there is room for them
 pub record Collecting (n value : ℕ) (chunks : List Bool) (rest : ℕ) : Type 0 where
   pub permitted : ℕ
   pub whole : shortest n value ≡ chunks ++ tail (n - 1) (suc permitted) rest
@@ -222,7 +222,7 @@ collecting_ends n value chunks rest some lt c =
 
 -- ---- chunks that are added to a text
 
--- chunks of a value were added to a text, and one at least is permitted for what is left of it
+-- chunks of a value were added to a text, and at least one is permitted for its rest
 pub record Spelling (n value : ℕ) (start now : List Bool) (rest : ℕ) : Type 0 where
   pub permitted : ℕ
   pub whole : start ++ shortest n value ≡ now ++ tail (n - 1) (suc permitted) rest
@@ -305,7 +305,7 @@ short_spelled value more word few more_is word_is = elim (cases_lt value 32) [ i
 one_more : (payload rest : ℕ) → rest < 2 ^ (payload * 1) → rest < 2 ^ payload
 one_more payload rest lt = let e : payload * 1 ≡ payload = omega arith in rw e at lt
 
--- it does not matter how many chunks are permitted, where they are enough
+-- how many chunks are permitted does not matter, if they are enough
 tail_same : (payload p q rest : ℕ) → rest < 2 ^ (payload * suc p) → rest < 2 ^ (payload * suc q) → tail payload (suc p) rest ≡ tail payload (suc q) rest
 tail_same payload zero q rest lt also = tail_last payload 0 rest (one_more payload rest lt) ∙ sym (tail_last payload q rest (one_more payload rest lt))
 tail_same payload (suc p) zero rest lt also = tail_last payload (suc p) rest (one_more payload rest also) ∙ sym (tail_last payload 0 rest (one_more payload rest also))
@@ -317,7 +317,7 @@ tail_same payload (suc p) (suc q) rest lt also = elim (cases_lt rest (2 ^ payloa
       ∙ sym (tail_more payload q rest le)
 ]
 
--- a chunk with others behind it
+-- a chunk with others after it
 six_more : (value : ℕ) → 32 ≤ value → value < 2 ^ 64 → shortest 6 value ≡ bits_of 6 (chunk 6 value) ++ shortest 6 (value / 32)
 six_more value le below =
     let rest : value / 2 ^ 5 < 2 ^ 59 = shr_lt 59 5 below in
@@ -325,7 +325,7 @@ six_more value le below =
     ∙ ap (λ (s : List Bool). s ++ tail 5 12 (value / 32)) (sym (chunk_bits 6 value (omega arith) (omega arith)))
     ∙ ap (λ (s : List Bool). bits_of 6 (chunk 6 value) ++ s) (tail_same 5 11 12 (value / 32) (omega (arith, rest)) (omega (arith, rest)))
 
--- two chunks with others behind them
+-- two chunks with others after them
 pub two_spelled : (value word : ℕ) → 1024 ≤ value → value < 2 ^ 64 → word ≡ value % 32 + 64 * (value / 32 % 32) + 2080 → bits_of 12 word ++ shortest 6 (value / 1024) ≡ shortest 6 value
 two_spelled value word some below word_is =
     let low : chunk 6 value ≡ value % 32 + 32 = chunk_is 6 value (omega arith) ∙ omega arith in

@@ -59,7 +59,7 @@ took_no_byte w o count from live put none some =
     lost_nothing w o live (inl (omega (arith, put.failed none some)))
     (λ k. let a = appended w.outgoing.bytes o.bytes (take count from) put.bytes k in (a.0, a.1 ∙ ap (λ (b : List ℕ). known_bytes w.outgoing.bytes ++ b) nothing ∙ append-nil (known_bytes w.outgoing.bytes)))
 
--- what is held does not matter once something was lost
+-- which bits are held does not matter once some were lost
 pub lost_held : (a b : Writer) (s held : List Bool) → LostBits a s b → LostBits a s (record b { held = held })
 lost_held a b s held p = record { was_live = p.was_live; failed = p.failed; why = p.why; tells = p.tells; kept = p.kept; front = p.front }
 
@@ -69,7 +69,7 @@ why_declined old new declined = elim (cases_lt old.failures (2 ^ 64 - 1)) [ inl 
 pub took_none : (w : Writer) (o : Outgoing) → w.live ≡ true → Declined w.outgoing o → LostBits w [] (record w { live = false; outgoing = o })
 took_none w o live declined = lost_nothing w o live (why_declined w.outgoing o declined) (stayed w.outgoing.bytes o.bytes declined.bytes)
 
--- ---- one thing written, and another after it
+-- ---- one write, and another after it
 
 pub wrote_nothing : (w : Writer) → w.live ≡ true → Wrote w [] w
 wrote_nothing w live = record { was_live = live; live = live; position = omega arith; failures = refl; tells = λ k. k; kept = λ k. ([], sym (append-nil (known_bytes w.outgoing.bytes))); written = λ k. sym (append-nil (written_bits w)) }
@@ -108,7 +108,7 @@ lost_more a b s t p = record {
   front = λ k. let f = p.front k in (f.0 ++ t, sym (append_assoc (bits_of_bytes (known_bytes b.outgoing.bytes)) f.0 t) ∙ ap (λ (x : List Bool). x ++ t) f.1 ∙ append_assoc (written_bits a) s t);
 }
 
--- what is held goes to the sink, or is lost, behind some of what is to be written
+-- the held bits go to the sink, or are lost, after some of the bits that are to be written
 pub wrote_no_more : (a b c : Writer) (s : List Bool) → Wrote a s b → Wrote b [] c → Wrote a s c
 wrote_no_more a b c s p q = subst (λ (x : List Bool). Wrote a x c) (append-nil s) (wrote_then_wrote a b c s [] p q)
 
@@ -127,7 +127,7 @@ wrote_then a b c s t (Err Read) p q = q
 wrote_then a b c s t (Err Memory) p q = q
 wrote_then a b c s t (Err OutputTooLong) p q = q
 
--- what is not written of s is not written of s and more
+-- if s cannot be written, s with more bits after it cannot
 pub not_written : (s t : List Bool) (a : Writer) (fault : Fault) (b : Writer) → Writes s a (Err fault) b → Writes (s ++ t) a (Err fault) b
 not_written s t a Write b h = lost_more a b s t h
 not_written s t a Failed b h = h

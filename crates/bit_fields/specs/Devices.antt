@@ -1,4 +1,4 @@
--- What is known of a source and of a sink, and what a call of them does.
+-- What is known of a source and of a sink, and the effect of their calls.
 use Rattle.std.specs.Prelude.{◌≡◌, ℕ, zero, suc, ◌+◌, ◌*◌, ◌-◌, ◌^◌, ◌<◌, ◌≤◌, ◌⊎◌, max, Bool, true, List, [], ◌∷◌, length, take, Option, Some, None, IsSome, Result, Ok, Err}
 use Rattle.std.specs.Io.KnownBytes.{Consumes, Appends, Keeps, IsAtEnd, prepend_known}
 use Rattle.std.specs.Io.{StartsWith}
@@ -6,42 +6,42 @@ use Rattle.bit_grammar.specs.Bits.{bits_of, bits_of_bytes}
 use Rattle.bit_fields.specs.declared.source.SourceFailed.{SourceFailed}
 use Rattle.bit_fields.specs.declared.sink.SinkFailed.{SinkFailed}
 
--- the bytes, and no bytes where they are not known
+-- the bytes, or no bytes if they are not known
 abbrev pub known_bytes : Option (List ℕ) → List ℕ
 known_bytes None = []
 known_bytes (Some bytes) = bytes
 
 -- ---- sources
 
--- What a source that keeps what it gives can account for: whether it has kept all that it gave; and all its bytes, those that
--- it gave and those to come, where it tells these.
+-- The account of a source that keeps its bytes: whether it has kept all that it gave; and all its bytes, given and still to come,
+-- if they are known.
 pub record Account : Type 0 where
   pub kept : Bool
   pub whole : Option (List ℕ)
 
--- an account says of all bytes that they are these, unless not all are kept
+-- an account says that these are all bytes, unless not all are kept
 unfoldable pub SaysOf : List Account → ℕ → List ℕ → Type 0
 SaysOf [] n all = Unit {0}
 SaysOf (a ∷ accounts) zero all = a.kept ≡ true → a.whole ≡ Some all
 SaysOf (a ∷ accounts) (suc n) all = SaysOf accounts n all
 
--- a source: the bytes still to come, where it tells them, and how often it was asked and failed
+-- a source: the bytes still to come, if they are known, and how many calls and failures it counted
 pub record Incoming : Type 0 where
   pub to_come : Option (List ℕ)
   pub pulls : ℕ
   pub failures : ℕ
-  -- of it and of each source within it that keeps what it gives, the outermost first
+  -- the accounts of it and of each source within it that keeps its bytes, the outermost first
   pub accounts : List Account
 
--- a count stands at its end, so that no more can be counted
+-- a counter is exhausted
 abbrev pub IsWorn : Incoming → Type 0
 IsWorn i = 2 ^ 64 - 1 ≤ max i.pulls i.failures
 
--- more can be counted
+-- no counter is exhausted
 abbrev pub IsFresh : Incoming → Type 0
 IsFresh i = max i.pulls i.failures < 2 ^ 64 - 1
 
--- a pull gave the next bytes, none only at the end
+-- a pull gave the next bytes, and none only at the end
 pub record Gave (old new : Incoming) (count : ℕ) (into : List ℕ) : Type 0 where
   pub fresh : IsFresh old
   pub fits : count ≤ length into
@@ -51,19 +51,19 @@ pub record Gave (old new : Incoming) (count : ℕ) (into : List ℕ) : Type 0 wh
   pub failures : new.failures ≡ old.failures
   pub accounts : (n : ℕ) (all : List ℕ) → SaysOf old.accounts n all → SaysOf new.accounts n all
 
--- a pull failed: it took no byte, and is counted unless the source was worn, which changes nothing
+-- a pull failed: it took no byte and was counted, or the source was exhausted and nothing changed
 pub record GaveNone (old new : Incoming) : Type 0 where
   pub bytes : Keeps old.to_come new.to_come
   pub counted : IsFresh old → (new.pulls ≡ old.pulls + 1) × (new.failures ≡ old.failures + 1)
   pub worn : IsWorn old → new ≡ old
   pub accounts : (n : ℕ) (all : List ℕ) → SaysOf old.accounts n all → SaysOf new.accounts n all
 
--- what a pull into a slice does
+-- the effect of a pull into a slice
 abbrev pub Pulls : Incoming → Incoming → Result ℕ SourceFailed → List ℕ → Type 0
 Pulls old new (Ok count) into = Gave old new count into
 Pulls old new (Err e) into = GaveNone old new
 
--- a pull into a word gave what a pull into a slice of so many bytes gives, with the first byte lowest and zeros behind the last
+-- a pull into a word gave what a pull into a slice of `room` bytes gives, the first byte lowest and zeros after the last
 pub record GaveWord (old new : Incoming) (room word count : ℕ) : Type 0 where
   pub into : List ℕ
   pub wide : length into ≡ room
@@ -71,12 +71,12 @@ pub record GaveWord (old new : Incoming) (room word count : ℕ) : Type 0 where
   pub below : word < 2 ^ (8 * count)
   pub bits : bits_of (8 * count) word ≡ bits_of_bytes (take count into)
 
--- what a pull into a word with room for so many bytes does
+-- the effect of a pull into a word with room for this many bytes
 abbrev pub PullsWord : ℕ → Incoming → Incoming → Result (ℕ × ℕ) SourceFailed → Type 0
 PullsWord room old new (Ok taken) = GaveWord old new room taken.0 taken.1
 PullsWord room old new (Err e) = GaveNone old new
 
--- a source was looked at, and nothing was taken
+-- the source was looked at, and nothing was taken
 pub record Looked (old new : Incoming) : Type 0 where
   pub bytes : Keeps old.to_come new.to_come
   pub pulls : new.pulls ≡ old.pulls
@@ -84,30 +84,30 @@ pub record Looked (old new : Incoming) : Type 0 where
   pub worn : IsWorn old → new ≡ old
   pub accounts : (n : ℕ) (all : List ℕ) → SaysOf old.accounts n all → SaysOf new.accounts n all
 
--- a pull took so many bytes that nobody looks at, as a pull into some slice takes them
+-- a pull skipped `count` bytes, as a pull into some slice takes them
 pub record GaveUnseen (old new : Incoming) (most count : ℕ) : Type 0 where
   pub into : List ℕ
   pub some : 0 < length into
   pub few : count ≤ most
   pub gave : Gave old new count into
 
--- what passing over bytes does, at most so many
+-- the effect of skipping bytes, at most this many
 abbrev pub PullsUnseen : ℕ → Incoming → Incoming → Result ℕ SourceFailed → Type 0
 PullsUnseen most old new (Ok count) = GaveUnseen old new most count
 PullsUnseen most old new (Err e) = GaveNone old new
 
--- the bytes begin with these, where they are known
+-- the bytes begin with these, if they are known
 abbrev pub Begins : Option (List ℕ) → List ℕ → Type 0
 Begins None shown = Unit {0}
 Begins (Some bytes) shown = StartsWith bytes shown
 
--- what looking for bytes that come next does
+-- the effect of looking for the next bytes
 abbrev pub Looks : Incoming → Result Bool SourceFailed → Incoming → Type 0
 Looks old (Ok some) new = Looked old new
 Looks old (Err e) new = GaveNone old new
 
--- What may be asked of a source, as a number of pulls and of bytes, went from one number to another: each pull and each
--- byte was paid for, no failure was counted, and the source tells its bytes and accounts for what it keeps as before.
+-- The budget of a source, in pulls and bytes, went from `before` to `after`: each pull and each byte was paid for, no failure was
+-- counted, and the source knows its bytes and accounts for what it keeps as before.
 pub record Spends (old : Incoming) (before : ℕ) (new : Incoming) (after : ℕ) : Type 0 where
   pub pulls : new.pulls + after ≤ old.pulls + before
   pub failures : new.failures ≡ old.failures
@@ -116,7 +116,7 @@ pub record Spends (old : Incoming) (before : ℕ) (new : Incoming) (after : ℕ)
       ≤ length (known_bytes new.to_come) + before
   pub accounts : (n : ℕ) (all : List ℕ) → SaysOf old.accounts n all → SaysOf new.accounts n all
 
--- the same, but that the source failed: one failure was counted, or it was worn, and counts no more
+-- the same, but the source failed: one failure was counted, or the source was exhausted and counts no more
 pub record Fails (old : Incoming) (before : ℕ) (new : Incoming) (after : ℕ) : Type 0 where
   pub pulls : new.pulls + after ≤ old.pulls + before
   pub failed : (new.failures ≡ old.failures + 1) ⊎ ((new.failures ≡ old.failures) × IsWorn new)
@@ -125,9 +125,9 @@ pub record Fails (old : Incoming) (before : ℕ) (new : Incoming) (after : ℕ) 
       ≤ length (known_bytes new.to_come) + before
   pub accounts : (n : ℕ) (all : List ℕ) → SaysOf old.accounts n all → SaysOf new.accounts n all
 
--- ---- a source that keeps what it gives
+-- ---- a source that keeps its bytes
 
--- it gives what another one gives, and has kept these bytes, which are all that it gave, or not all
+-- it gives what another source gives, and has kept these bytes: all that it gave, or not all
 abbrev pub keeps_of : (is_whole : Bool) → (bytes : List ℕ) → Incoming → Incoming
 keeps_of is_whole bytes i = record i {
   accounts = (record
@@ -136,17 +136,16 @@ keeps_of is_whole bytes i = record i {
 
 -- ---- sinks
 
--- a sink: the bytes that it holds, those that stood there before it was made included, where it tells them, and how often
--- it failed
+-- a sink: the bytes that it holds, if they are known, those from before it was made included; and how often it failed
 pub record Outgoing : Type 0 where
   pub bytes : Option (List ℕ)
   pub failures : ℕ
 
--- its count stands at its end
+-- its counter is exhausted
 abbrev pub IsSpent : Outgoing → Type 0
 IsSpent o = 2 ^ 64 - 1 ≤ o.failures
 
--- a put took the front of what it was given; to take none of a slice that is not empty is counted as a failure
+-- a put took a prefix of its bytes; to take none of a slice that is not empty counts as a failure
 pub record Accepted (old new : Outgoing) (count : ℕ) (from : List ℕ) : Type 0 where
   pub fresh : old.failures < 2 ^ 64 - 1
   pub fits : count ≤ length from
@@ -155,24 +154,24 @@ pub record Accepted (old new : Outgoing) (count : ℕ) (from : List ℕ) : Type 
   pub failed : count ≡ 0 → 0 < length from → new.failures ≡ old.failures + 1
   pub idle : length from ≡ 0 → new.failures ≡ old.failures
 
--- a put or a flush failed: no byte was taken, and it is counted unless the sink was worn, which changes nothing
+-- a put or a flush failed: no byte was taken, and it was counted, or the sink was exhausted and nothing changed
 pub record Declined (old new : Outgoing) : Type 0 where
   pub bytes : Keeps old.bytes new.bytes
   pub counted : old.failures < 2 ^ 64 - 1 → new.failures ≡ old.failures + 1
   pub worn : IsSpent old → new ≡ old
 
--- what a put of a slice does
+-- the effect of a put of a slice
 abbrev pub Puts : Outgoing → Outgoing → Result ℕ SinkFailed → List ℕ → Type 0
 Puts old new (Ok count) from = Accepted old new count from
 Puts old new (Err e) from = Declined old new
 
--- a flush succeeded: no byte came or went
+-- a flush succeeded: no byte was added or lost
 pub record Flushed (old new : Outgoing) : Type 0 where
   pub fresh : old.failures < 2 ^ 64 - 1
   pub bytes : Keeps old.bytes new.bytes
   pub failures : new.failures ≡ old.failures
 
--- what a flush does
+-- the effect of a flush
 abbrev pub Flushes : Outgoing → Outgoing → Result (Unit {0}) SinkFailed → Type 0
 Flushes old new (Ok _) = Flushed old new
 Flushes old new (Err e) = Declined old new

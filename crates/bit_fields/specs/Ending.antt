@@ -8,11 +8,11 @@ use Rattle.bit_fields.specs.declared.fault.Fault.TheVariants.{Refused, Read, Wri
 use Rattle.bit_fields.specs.Devices.{known_bytes}
 use Rattle.bit_fields.specs.Reader.{Reader, Extent, TellsBytes, GoesOn, StopsReading, Loses}
 
--- the bit behind the last one of a stream
+-- the bit after the last one of a stream
 abbrev pub stream_end : Extent → ℕ
 stream_end e = 8 * min e.end e.total
 
--- the bit behind the last one of a stream within the limit on bytes
+-- the bit after the last one of a stream within the limit on bytes
 abbrev pub reach_of : Extent → ℕ
 reach_of e = 8 * min (min e.end e.limit) e.total
 
@@ -31,7 +31,7 @@ pub record Stays (old new : Reader) : Type 0 where
   pub extent : TellsBytes old → new.extent ≡ old.extent
   pub left : TellsBytes old → new.left ≡ old.left
 
--- Yes, at the end of the stream; no, before it; or the limit on bytes stands here, and the stream goes on.
+-- True at the end of the stream, and false before it; or the position is at the limit on bytes, and the stream goes on.
 abbrev pub LooksForEnd : Reader → Result Bool Fault → Reader → Type 0
 LooksForEnd old (Ok true) new = Stays old new
     × (TellsBytes old → (old.position ≡ stream_end old.extent) × (old.left ≡ []))
@@ -53,18 +53,18 @@ LooksForEnd old (Err OutputTooLong) new = ⊥
 abbrev pub is_in_wrapper : Extent → Bool
 is_in_wrapper e = nat_lt e.end (2 ^ 64 - 1)
 
--- what is said of an input whose stream has no byte left
+-- the verdict on an input whose stream has no byte left
 abbrev pub verdict : Extent → Result (Unit {0}) grammar.Fault
 verdict e = if is_in_wrapper e && nat_lt e.total e.end then Err (at WrapperSize 96)
     else (if nat_lt e.limit e.total then Err (at TooLong (8 * e.limit)) else Ok tt)
 
--- the input is whole and within the limit, and its source has no byte left
+-- the input is complete and within the limit, and its source has no byte left
 pub record Closed (old new : Reader) : Type 0 where
   pub stops : StopsReading old new
   pub whole : TellsBytes old → verdict old.extent ≡ Ok tt
   pub none : TellsBytes old → known_bytes new.incoming.to_come ≡ []
 
--- what closing does
+-- the effect of closing
 abbrev pub Closes : Reader → Result (Unit {0}) Fault → Reader → Type 0
 Closes old (Ok _) new = Closed old new
 Closes old (Err (Refused reason bit)) new = StopsReading old new

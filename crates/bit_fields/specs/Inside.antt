@@ -1,4 +1,4 @@
--- What a reader is made of, and the parts of its calls.
+-- The parts of a reader, and of its calls.
 use Rattle.std.specs.Prelude.{◌≡◌, ℕ, zero, suc, ◌+◌, ◌*◌, ◌<◌, ◌≤◌, ◌^◌, min, Bool, true, false, if◌then◌else◌, List, [], ◌∷◌, length, take, drop}
 use Rattle.bit_grammar.specs.declared.reason.Reason.TheVariants.{Truncated, TooLong}
 use Rattle.bit_grammar.specs.Bits.{number}
@@ -12,19 +12,19 @@ use Rattle.bit_fields.specs.declared.inflow.Missing.TheVariants as missing
 use Rattle.bit_fields.specs.Inflow.{Flow, flow_bits, total_of, budget_of, stop_of}
 use Rattle.bit_fields.specs.Reader.{Reader, Took}
 
--- a number of so many bits, which are a part of a field that began at first
+-- a number of n bits, a part of a field that began at `first`
 abbrev pub part_of : ℕ → ℕ → Grammar ℕ
 part_of first n = next_of first n >>= λ s. gives (number s)
 
--- so many bits, whatever they are, of a gap that began at first
+-- n bits, whatever they are, of a gap that began at `first`
 abbrev pub gap_of : ℕ → ℕ → Grammar (Unit {0})
 gap_of first n = next_of first n >>= λ s. gives tt
 
--- a number below, with what a rule gives above it, from a place on
+-- a low number, with what a rule gives above it, from `place` on
 abbrev pub number_above : (low place : ℕ) → Grammar ℕ → Grammar ℕ
 number_above low place rule = rule >>= λ high. gives (low + 2 ^ place * high)
 
--- what a reader stands for, by its parts
+-- the reader that these parts represent
 abbrev pub reader_of : Bool → ℕ → Flow → Reader
 reader_of live position f = record {
   live = live;
@@ -35,30 +35,30 @@ reader_of live position f = record {
   budget = if live then budget_of f else 0;
 }
 
--- what holds of its parts between calls; one that has failed may stand anywhere
+-- the invariant of its parts between calls; a failed reader may have any position
 pub record IsReader (live : Bool) (position : ℕ) (f : Flow) : Type 0 where
   pub exact : live ≡ true → position + length f.window ≡ 8 * min f.loaded (stop_of f)
   pub empty : live ≡ false → f.window ≡ []
 
--- the fault of a field that began at first, where bits are missing
+-- the fault for missing bits of a field that began at `first`
 abbrev pub fault_of_missing : Missing → ℕ → ℕ → Fault
 fault_of_missing End first limit = Refused Truncated first
 fault_of_missing Limit first limit = Refused TooLong (8 * limit)
 fault_of_missing missing.Read first limit = Read
 
--- the numbers of so many fields of n bits
+-- the numbers in `count` fields of n bits
 abbrev pub numbers : (n count : ℕ) → List Bool → List ℕ
 numbers n zero r = []
 numbers n (suc count) r = number (take n r) ∷ numbers n count (drop n r)
 
--- zeros of a padding that began at first were taken, at least one and at most so many
+-- zeros of a padding that began at `first` were taken, at least one and at most `most`
 pub record TookZeros (first most count : ℕ) (old new : Reader) : Type 0 where
   pub some : 0 < count
   pub few : count ≤ most
   pub took : Took (zeros first count) old tt new
   pub moves : new.position ≡ old.position + count
 
--- bits of a gap that began at first were taken, whatever they are, at least one and at most so many
+-- bits of a gap that began at `first` were taken, whatever they are, at least one and at most `most`
 pub record TookGap (first most count : ℕ) (old new : Reader) : Type 0 where
   pub some : 0 < count
   pub few : count ≤ most

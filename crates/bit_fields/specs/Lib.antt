@@ -8,7 +8,7 @@ pub mod Ending
 pub mod Writer
 pub mod Texts
 pub mod Short
-pub mod Ahead
-pub mod Sight
+pub mod Buffered
+pub mod BufferedParts
 pub mod Packed
 pub mod Expected

@@ -1,4 +1,4 @@
--- What stands at the beginning of an input: a wrapper, if there is one, and the magic of the stream.
+-- The beginning of an input: a wrapper, if there is one, and the magic of the stream.
 use Rattle.std.specs.Prelude.{◌≡◌, ℕ, ◌+◌, ◌-◌, ◌*◌, ◌^◌, ◌<◌, ◌⊎◌, Bool, true, if◌then◌else◌, List, length, take, Option, Some, None, Result, Ok, Err}
 use Rattle.bit_grammar.specs.Bits.{number, bits_of_bytes}
 use Rattle.bit_grammar.specs.Grammar as grammar
@@ -45,18 +45,18 @@ abbrev pub with_magic : Option terms.Wrapper → Result (ℕ × ℕ × List Bool
 with_magic wrapper read = read and_then λ x. Ok
     (record { magic = x.0; wrapper = wrapper }, x.1, x.2)
 
--- the stream of a wrapper: its bytes, as many as there are, begin with its magic
+-- the stream of a wrapper: its bytes, as far as they exist, begin with its magic
 abbrev pub in_wrapper : Result (terms.Wrapper × ℕ × List Bool) grammar.Fault → Beginning
 in_wrapper read = read and_then λ x. with_magic (Some x.0)
     (reading inner_magic x.1 (take (8 * x.0.size) x.2))
 
--- all that stands before the blocks of an input with these bits
+-- what comes before the blocks of an input with these bits
 unfoldable pub beginning : List Bool → Beginning
 beginning r = reading (fixed 32) 0 r and_then λ x. if is_wrapped x.0
     then in_wrapper (reading wrapper_and_gap x.1 x.2)
     else Ok (record { magic = x.0; wrapper = None }, x.1, x.2)
 
--- the wrapper of an input with these bits, if there is one and its header is whole and holds
+-- the wrapper of an input with these bits, if there is one and its header is complete and lawful
 abbrev pub wrapper_read : Result (Option terms.Wrapper × ℕ × List Bool) grammar.Fault
     → Option terms.Wrapper
 wrapper_read (Ok x) = x.0
@@ -83,7 +83,7 @@ fresh i limit = record {
   budget = limit + 1;
 }
 
--- an input was begun: what is left is the stream behind its magic
+-- an input was begun: the unread input is the stream after its magic
 pub record OpenedInput (old : Reader) (head : Head) (new : Reader) : Type 0 where
   pub live : new.live ≡ true
   pub goes_on : GoesOn old new
@@ -91,11 +91,11 @@ pub record OpenedInput (old : Reader) (head : Head) (new : Reader) : Type 0 wher
       { end = end_of_stream (wrapper_if_any head.wrapper) }
   pub reads : TellsBytes old → beginning old.left ≡ Ok (head_told head, new.position, new.left)
 
--- an input was not begun, and the source is handed back
+-- an input was not begun, and the source is returned
 abbrev pub LeavesSource : Reader → Incoming → Type 0
 LeavesSource old now = Spends old.incoming old.budget now 0
 
--- why an input was not begun: its beginning breaks so, or the source failed
+-- why an input was not begun: its beginning breaks a rule, or the source failed
 abbrev pub Declines : Reader → Fault → Incoming → Type 0
 Declines old (Refused reason bit) now = LeavesSource old now
     × (TellsBytes old → Breaks (record old.extent { end = end_of_stream (wrapper_of old.left) })
@@ -106,7 +106,7 @@ Declines old Failed now = ⊥
 Declines old Write now = ⊥
 Declines old OutputTooLong now = ⊥
 
--- what beginning an input does
+-- the effect of beginning an input
 abbrev pub Opens : Reader → Result Head Fault → Reader → Type 0
 Opens old (Ok head) new = OpenedInput old head new
 Opens old (Err fault) new = Declines old fault new.incoming

@@ -1,4 +1,4 @@
--- What a reader of bits stands for, and what a call of it takes. A call that reads is told by a rule of the grammar.
+-- The model of a bit reader, and what its calls take. A call that reads is described by a rule of the grammar.
 use Rattle.std.specs.Prelude.{◌≡◌, ℕ, ◌+◌, ◌*◌, ◌≤◌, Bool, true, false, ◌&&◌, if◌then◌else◌, List, [], ◌++◌, length, IsSome, Result, Ok, Err, nat_lt}
 use Rattle.bit_grammar.specs.declared.reason.Reason.{Reason}
 use Rattle.bit_grammar.specs.declared.reason.Reason.TheVariants.{Truncated, TooLong}
@@ -10,23 +10,23 @@ use Rattle.bit_fields.specs.Devices.{Incoming, Spends, Fails}
 
 -- how far a stream goes
 pub record Extent : Type 0 where
-  -- the bytes of the whole input, where its source tells them
+  -- the bytes of the whole input, if they are known
   pub total : ℕ
-  -- the byte at which the stream ends, unless the input ends before; 2 ^ 64 - 1 where no wrapper names one
+  -- the byte at which the stream ends, unless the input ends before; 2 ^ 64 - 1 if no wrapper names one
   pub end : ℕ
   -- the limit on bytes
   pub limit : ℕ
 
 pub record Reader : Type 0 where
-  -- no call failed so far, and it is not closed
+  -- no call has failed and the reader is not closed
   pub live : Bool
   -- in bits from the first bit of the input
   pub position : ℕ
-  -- what is left of the stream, up to the limit on bytes, where the source tells its bytes
+  -- the unread input of the stream, up to the limit on bytes, if its bytes are known
   pub left : List Bool
   pub extent : Extent
   pub incoming : Incoming
-  -- how many pulls it may still make, and bytes take
+  -- how many pulls it may still make and bytes it may take, together
   pub budget : ℕ
 
 abbrev pub TellsBytes : Reader → Type 0
@@ -36,22 +36,22 @@ TellsBytes r = IsSome r.incoming.to_come
 abbrev pub is_cut : Extent → Bool
 is_cut e = nat_lt e.limit e.total && nat_lt e.limit e.end
 
--- the refusal for a fault of the rules: a stream that seems to end is too long where only the limit on bytes ends it
+-- the refusal for a fault of the rules: too long, if only the limit on bytes ends the stream
 abbrev pub within : Extent → Reason → ℕ → grammar.Fault
 within e Truncated bit = if is_cut e then at TooLong (8 * e.limit) else at Truncated bit
 within e reason bit = at reason bit
 
--- what was read breaks, which is refused for this reason at this bit
+-- the reading breaks, and is refused for this reason at this bit
 abbrev pub Breaks : {A : Type 0} → Extent → Result (A × ℕ × List Bool) grammar.Fault → Reason → ℕ
     → Type 0
 Breaks e (Ok x) reason bit = ⊥
 Breaks e (Err fault) reason bit = within e fault.reason fault.bit ≡ at reason bit
 
--- what a call leaves: it paid for its pulls and bytes, the source did not fail, and tells its bytes as before
+-- what a call leaves: it paid for its pulls and bytes, the source did not fail, and its bytes are known as before
 abbrev pub GoesOn : Reader → Reader → Type 0
 GoesOn old new = Spends old.incoming old.budget new.incoming new.budget
 
--- a call that succeeded took what the rule reads, and gave its value
+-- a call that succeeded took what the rule reads, and returned its value
 pub record Took {A : Type 0} (rule : Grammar A) (old : Reader) (value : A)
     (new : Reader) : Type 0 where
   pub was_live : old.live ≡ true
@@ -64,20 +64,20 @@ pub record Took {A : Type 0} (rule : Grammar A) (old : Reader) (value : A)
   pub reads : TellsBytes old → reading rule old.position old.left
       ≡ Ok (value, new.position, new.left)
 
--- a call after which the reader has failed, or is closed, and in which the source did not fail
+-- a call after which the reader has failed or is closed, and in which the source did not fail
 pub record StopsReading (old new : Reader) : Type 0 where
   pub was_live : old.live ≡ true
   pub failed : new.live ≡ false
   pub goes_on : GoesOn old new
 
--- a call in which the source failed, once, or was worn
+-- a call in which the source failed, once, or was exhausted
 pub record Loses (old new : Reader) : Type 0 where
   pub was_live : old.live ≡ true
   pub failed : new.live ≡ false
   pub fails : Fails old.incoming old.budget new.incoming new.budget
 
--- Why a call did not succeed: the rule breaks so; the source failed; no memory; or the reader had failed before, and
--- nothing changed.
+-- Why a call did not succeed: the rule breaks; the source failed; out of memory; or the reader had failed before, and nothing
+-- changed.
 abbrev pub Why : {A : Type 0} → Grammar A → Reader → Fault → Reader → Type 0
 Why rule old (Refused reason bit) new = StopsReading old new
     × (TellsBytes old → Breaks old.extent (reading rule old.position old.left) reason bit)
@@ -87,24 +87,24 @@ Why rule old Failed new = (old.live ≡ false) × (new ≡ old)
 Why rule old Write new = ⊥
 Why rule old OutputTooLong new = ⊥
 
--- this call takes what this rule reads, or answers its break
+-- this call takes what this rule reads, or returns its refusal
 abbrev pub Takes : {A : Type 0} → Grammar A → Reader → Result A Fault → Reader → Type 0
 Takes rule old (Ok value) new = Took rule old value new
 Takes rule old (Err fault) new = Why rule old fault new
 
--- what the code answers, as the rules have it
+-- the result of the code, in the types of the rules
 abbrev pub told_by : {X A : Type 0} → (X → A) → Result X Fault → Result A Fault
 told_by view (Ok x) = Ok (view x)
 told_by view (Err fault) = Err fault
 
--- a call that needs no memory of its own
+-- a call that allocates nothing of its own
 abbrev pub NeedsNoMemory : {A : Type 0} → Result A Fault → Type 0
 NeedsNoMemory (Ok value) = Unit {0}
 NeedsNoMemory (Err Memory) = ⊥
 NeedsNoMemory (Err fault) = Unit {0}
 
--- After a success no other bits at the front of what is left, whatever follows it, spell a value of the rule; after a
--- refusal no bits at the front of what is left up to the limit on bytes do.
+-- After a success no other leading bits of the unread input, whatever follows it, spell a value of the rule; after a refusal no
+-- leading bits of the unread input up to the limit on bytes do.
 abbrev pub IsOnly : {A : Type 0} → Grammar A → Reader → Result A Fault → Reader → Type 0
 IsOnly {A} rule old (Ok value) new = TellsBytes old → (more s rest : List Bool) (v : A)
     → old.left ++ more ≡ s ++ rest → Spells rule old.position s v
@@ -113,10 +113,10 @@ IsOnly {A} rule old (Err (Refused reason bit)) new = TellsBytes old → (s rest 
     → old.left ≡ s ++ rest → Spells rule old.position s v → ⊥
 IsOnly rule old (Err fault) new = Unit {0}
 
--- what a reader is once it has failed: it stays where it stands
+-- a reader that has failed keeps its position
 abbrev pub failed_reader : Reader → Reader
 failed_reader r = record r { live = false; left = []; budget = 0 }
 
--- what it is once it has failed in a call that began at a bit
+-- a reader that has failed in a call that began at a bit
 abbrev pub stopped_at : Reader → ℕ → Reader
 stopped_at r first = record r { live = false; position = first; left = []; budget = 0 }

@@ -1,21 +1,20 @@
--- Numbers in few chunks, as a word holds them: the first chunk lowest, of each chunk the top bit the one that says whether
--- another one follows.
+-- Numbers in few chunks, as a word holds them: the first chunk lowest, and the continuation bit of each chunk its top bit.
 use Rattle.std.specs.Prelude.{◌≡◌, ℕ, zero, suc, ◌+◌, ◌*◌, ◌-◌, ◌/◌, ◌%◌, ◌^◌, ◌≤◌}
 use Rattle.bit_grammar.specs.Grammar.{gives}
 use Rattle.bit_fields.specs.Reader.{Reader, Took}
 
--- the number at the low end of a word takes so many chunks
+-- the number at the low end of a word has `count` chunks
 abbrev pub EndsChunks : (payload count word : ℕ) → Type 0
 EndsChunks payload zero word = ⊥
 EndsChunks payload (suc zero) word = word / 2 ^ payload % 2 ≡ 0
 EndsChunks payload (suc (suc count)) word = (word / 2 ^ payload % 2 ≡ 1)
     × EndsChunks payload (suc count) (word / 2 ^ suc payload)
 
--- the number at the low end of a word takes so many bits, which are at most four chunks
+-- the number at the low end of a word has this many bits, at most four chunks
 abbrev pub EndsAt : (n bits word : ℕ) → Type 0
 EndsAt n bits word = (count : ℕ) × (count ≤ 4) × (bits ≡ n * count) × EndsChunks (n - 1) count word
 
--- the payloads of so many chunks, one above the other
+-- the payloads of `count` chunks as one number
 abbrev pub payload_number : (payload count word : ℕ) → ℕ
 payload_number payload zero word = 0
 payload_number payload (suc count) word = word % 2 ^ payload

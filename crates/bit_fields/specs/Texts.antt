@@ -9,7 +9,7 @@ abbrev pub words_of_chunks : List (Vec ℕ) → List ℕ
 words_of_chunks [] = []
 words_of_chunks (chunk ∷ chunks) = chunk.items ++ words_of_chunks chunks
 
--- each chunk has all the words that it can have
+-- each chunk is full
 abbrev pub AreFull : List (Vec ℕ) → Type 0
 AreFull [] = Unit {0}
 AreFull (chunk ∷ chunks) = (length chunk.items ≡ 262144) × AreFull chunks
@@ -18,7 +18,7 @@ AreFull (chunk ∷ chunks) = (length chunk.items ≡ 262144) × AreFull chunks
 abbrev pub bits_of_words : List ℕ → List Bool
 bits_of_words words = flat_map (bits_of 32) words
 
--- a text with another word in place of one
+-- a text with one word replaced
 abbrev pub with_word : (place word : ℕ) → List Bool → List Bool
 with_word place word text = take (32 * place) text
     ++ (bits_of 32 word ++ drop (32 * place + 32) text)

@@ -1,4 +1,4 @@
--- What a writer of bits stands for, and what a call of it does.
+-- The model of a bit writer, and the effect of its calls.
 use Rattle.std.specs.Prelude.{◌≡◌, ℕ, ◌+◌, ◌%◌, ◌<◌, ◌≤◌, Bool, true, false, List, ◌++◌, length, IsSome, Result, Ok, Err, ◌⊎◌}
 use Rattle.bit_grammar.specs.Bits.{bits_of_bytes}
 use Rattle.bit_fields.specs.Devices.{Outgoing, IsSpent, known_bytes}
@@ -6,20 +6,20 @@ use Rattle.bit_fields.specs.declared.fault.Fault.{Fault}
 use Rattle.bit_fields.specs.declared.fault.Fault.TheVariants.{Refused, Read, Write, Memory, OutputTooLong, Failed}
 
 pub record Writer : Type 0 where
-  -- no call failed so far
+  -- no call has failed
   pub live : Bool
   -- how many bits were written
   pub position : ℕ
-  -- bits that the sink has not got yet
+  -- bits that the sink has not taken yet
   pub held : List Bool
   pub outgoing : Outgoing
 
--- at most a word of bits is held, and the sink got whole bytes
+-- at most a word of bits is held, and the sink took whole bytes
 pub record IsWriter (w : Writer) : Type 0 where
   pub most : length w.held ≤ 64
   pub whole : w.live ≡ true → length w.held % 8 ≡ w.position % 8
 
--- the sink tells which bytes it took
+-- it is known which bytes the sink took
 abbrev pub TellsTaken : Writer → Type 0
 TellsTaken w = IsSome w.outgoing.bytes
 
@@ -27,7 +27,7 @@ TellsTaken w = IsSome w.outgoing.bytes
 abbrev pub taken_bits : Writer → List Bool
 taken_bits w = bits_of_bytes (known_bytes w.outgoing.bytes)
 
--- those, and the bits that it has not got yet
+-- these bits, and those that the sink has not taken yet
 abbrev pub written_bits : Writer → List Bool
 written_bits w = taken_bits w ++ w.held
 
@@ -35,11 +35,11 @@ written_bits w = taken_bits w ++ w.held
 abbrev pub GainedBytes : Writer → List ℕ → Writer → Type 0
 GainedBytes old more new = known_bytes new.outgoing.bytes ≡ known_bytes old.outgoing.bytes ++ more
 
--- the sink has all the bytes that it had, and possibly more
+-- the sink has all its earlier bytes, and possibly more
 abbrev pub Grows : Writer → Writer → Type 0
 Grows old new = (more : List ℕ) × GainedBytes old more new
 
--- bits were written: they stand behind what was written before
+-- bits were written, after those written before
 pub record Wrote (old : Writer) (spelling : List Bool) (new : Writer) : Type 0 where
   pub was_live : old.live ≡ true
   pub live : new.live ≡ true
@@ -49,8 +49,7 @@ pub record Wrote (old : Writer) (spelling : List Bool) (new : Writer) : Type 0 w
   pub kept : TellsTaken old → Grows old new
   pub written : TellsTaken old → written_bits new ≡ written_bits old ++ spelling
 
--- the sink failed, or was worn, while bits were written: it has a front of what was to stand there, with all that it had
--- before
+-- the sink failed, or was exhausted, while bits were written: it has all its earlier bytes and a prefix of these bits
 pub record LostBits (old : Writer) (spelling : List Bool) (new : Writer) : Type 0 where
   pub was_live : old.live ≡ true
   pub failed : new.live ≡ false

@@ -1,4 +1,4 @@
-//! Fields that stand for a byte or a character.
+//! Fields of one byte or one character.
 
 ghost use Rattle.std.specs.Prelude.{◌≡◌, ◌+◌, ◌%◌, OnErr, OnOk};
 ghost use Rattle.bit_grammar.specs.Fields.{byte, char6};
@@ -25,8 +25,7 @@ impl<S: Source> BitReader<S> {
         Ok(byte as u8)
     }
 
-    /// Reads a character in six bits and answers its ASCII code: a letter, a digit, '.' or '_'. Source: "6-bit
-    /// characters".
+    /// Reads a character in six bits and returns its ASCII code: a letter, a digit, '.' or '_'. Source: "6-bit characters".
     ///
     /// Fewer bits are `Truncated` at the first bit of the field.
     pub fn char6(&mut self) -> Result<u64, Fault>

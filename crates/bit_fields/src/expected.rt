@@ -8,24 +8,24 @@ use crate::packed::PackedValues;
 use crate::values::{NotTaken, ValueTaker};
 use std::marker::Model;
 
-/// How many values are expected, at most: so many that they can be counted twice.
+/// How many values are expected, at most. Twice this number fits 64 bits.
 const MOST: u64 = 1 << 62;
 
-/// What takes the values of a record that are expected to be those of another one: it takes each value that is the next of the
-/// others, and declines any other value. So nothing is held of what is read.
+/// A `ValueTaker` that expects the values of another record: it takes each value that equals the next of them, and declines any
+/// other value. So it holds none of the values that are read.
 ///
-/// The others themselves stand first among the values that it took, and so they are counted too: those that are read stand
-/// behind them, and `front_of` tells how many they are.
+/// The expected values count as taken before the first value is read. The values read come after them, and `front_of` returns how
+/// many of them matched.
 #[derive(Drop)]
 pub struct ExpectedValues<'a> {
     others: &'a PackedValues,
-    /// How many of the others are expected.
+    /// How many of the other record's values are expected.
     expected: u64,
-    /// Some of those that are expected, as numbers, possibly none.
+    /// A run of the expected values, as numbers, possibly empty.
     near: &'a [u64],
-    /// How many stand before these. They were all taken.
+    /// How many expected values come before this run. All of them were taken.
     before: u64,
-    /// How many of these were taken.
+    /// How many values of this run were taken.
     place: usize,
 }
 
@@ -43,7 +43,7 @@ impl<'a> Model for ExpectedValues<'a> {
     ghost invariant = { λ e. IsExpected e.others.now e.expected e.near.now e.before e.place };
 }
 
-/// The others from one on and below an end that are held as numbers, possibly none.
+/// The expected values from `first` to below `end` that are held as numbers, possibly none.
 #[inline(always)]
 fn numbers_between<'a>(others: &'a PackedValues, first: u64, end: u64) -> &'a [u64]
     requires { first ≤ end }
@@ -53,7 +53,7 @@ fn numbers_between<'a>(others: &'a PackedValues, first: u64, end: u64) -> &'a [u
     &numbers[..numbers.len().min((end - first) as usize)]
 }
 
-/// The others from one on and below an end that are held in a byte each, possibly none.
+/// The expected values from `first` to below `end` that are held in a byte each, possibly none.
 #[inline(always)]
 fn bytes_between<'a>(others: &'a PackedValues, first: u64, end: u64) -> &'a [u8]
     requires { first ≤ end }
@@ -64,7 +64,7 @@ fn bytes_between<'a>(others: &'a PackedValues, first: u64, end: u64) -> &'a [u8]
 }
 
 impl<'a> ExpectedValues<'a> {
-    /// It expects these values, and took none of them yet. Of more than 4,611,686,018,427,387,904 only so many are expected.
+    /// Expects these values and has taken none. Only the first 4,611,686,018,427,387,904 are expected.
     #[inline(always)]
     pub fn new(others: &'a PackedValues) -> ExpectedValues<'a>
         ensures is { result ≡ record { others = take (2 ^ 62) others.now; taken = 0 } }
@@ -81,7 +81,7 @@ impl<'a> ExpectedValues<'a> {
         }
     }
 
-    /// How many of the others were taken.
+    /// How many expected values were taken.
     #[inline(always)]
     fn taken(&self) -> u64
         ensures is { result ≡ self.now.taken }
@@ -91,8 +91,8 @@ impl<'a> ExpectedValues<'a> {
         self.before + self.place as u64
     }
 
-    /// How many of these were taken, where as many were expected. Where these are the others that it expected, what was read is so
-    /// many of them, the first ones.
+    /// How many leading values matched, or `None` if a different number of values was expected. If `others` are the expected
+    /// values, the values read are the first ones of them, as many as the result says.
     #[inline]
     pub fn front_of(&self, others: &PackedValues) -> Option<u64>
         ensures front { IfSome result (λ count. (list : List ℕ)
@@ -109,7 +109,7 @@ impl<'a> ExpectedValues<'a> {
         Some(self.taken())
     }
 
-    /// Has taken so many of the others.
+    /// Records that `taken` of the expected values were taken.
     #[inline(always)]
     fn move_to(&mut self, taken: u64)
         requires { taken ≤ length self.old.others }
@@ -120,7 +120,7 @@ impl<'a> ExpectedValues<'a> {
         self.place = 0;
     }
 
-    /// Takes a value that is not near, if it is next.
+    /// Takes a value that is not in the run, if it is the next expected one.
     #[inline(never)]
     fn take_far(&mut self, value: u64) -> Result<(), NotTaken>
         ensures ok { OnOk result (self.new ≡ further self.old 1) }
@@ -135,7 +135,7 @@ impl<'a> ExpectedValues<'a> {
         Ok(())
     }
 
-    /// The next of the others that are held in a byte each, possibly none.
+    /// The next expected values that are held in a byte each, possibly none.
     #[inline(always)]
     fn next_bytes(&self) -> &'a [u8]
         ensures { AreNext self.now result.now }
@@ -146,7 +146,7 @@ impl<'a> ExpectedValues<'a> {
         bytes_between(self.others, self.taken(), self.expected)
     }
 
-    /// Takes the first of some bytes, at least one: those that can be compared at once. Answers how many.
+    /// Takes the first of some bytes, at least one: those that can be compared at once. Returns how many.
     #[inline(always)]
     fn take_some(&mut self, bytes: &[u8]) -> Result<usize, NotTaken>
         requires { 0 < length bytes.now }
@@ -189,7 +189,7 @@ impl<'a> ValueTaker for ExpectedValues<'a> {
         self.take_far(value)
     }
 
-    /// Those that are held in a byte each are compared as they lie there.
+    /// Expected values that are held in a byte each are compared in place.
     fn take_bytes(&mut self, bytes: &[u8]) -> Result<(), NotTaken>
         ensures ok { OnOk result ((values : List ℕ) → HasTaken self.old values
             → HasTaken self.new (values ++ bytes.now)) }
@@ -210,7 +210,7 @@ impl<'a> ValueTaker for ExpectedValues<'a> {
         false
     }
 
-    /// Where fewer are left than were expected, only those are expected.
+    /// If fewer values are kept than were expected, only these are expected from now on.
     #[inline]
     fn truncate(&mut self, count: u64) {
         self.before = self.taken().min(count.saturating_sub(self.expected));

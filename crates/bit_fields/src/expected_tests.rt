@@ -3,7 +3,7 @@
 use crate::{ExpectedValues, NotTaken, PackedValues, ValueKeeper, ValueTaker};
 use std::alloc::{AllocError, Global};
 
-/// How many values there are, and how many zeros that are taken at once behind them.
+/// How many values there are, and how many zeros are taken at once after them.
 const RECORDS: [(u64, u64); 10] = [
     (0, 0),
     (1, 0),
@@ -20,7 +20,7 @@ const RECORDS: [(u64, u64); 10] = [
 /// How many bytes come at once.
 const PIECES: [usize; 4] = [1, 7, 64, 1000];
 
-/// A wide number, and bytes behind it.
+/// A wide number, and bytes after it.
 fn value_at(place: u64) -> u64 {
     if place == 0 {
         1 << 40
@@ -29,7 +29,7 @@ fn value_at(place: u64) -> u64 {
     }
 }
 
-/// So many of these values, zeros that are taken at once, and two more where there are any.
+/// The first values, zeros that are taken at once, and two more values if there are zeros.
 fn record_of(alloc: Global, record: (u64, u64)) -> Result<PackedValues, NotTaken> {
     let (count, zeros) = record;
     let mut values = PackedValues::empty(alloc);
@@ -44,7 +44,7 @@ fn record_of(alloc: Global, record: (u64, u64)) -> Result<PackedValues, NotTaken
     Ok(values)
 }
 
-/// Whether values are taken one by one, from one place on up to another, each where another value was refused.
+/// Whether values are taken one by one, from `first` up to another place, each after a different value was declined.
 fn takes(expected: &mut ExpectedValues<'_>, others: &PackedValues, first: u64, end: u64) -> bool {
     for place in first..end {
         let count = expected.count();
@@ -61,7 +61,7 @@ fn takes(expected: &mut ExpectedValues<'_>, others: &PackedValues, first: u64, e
     true
 }
 
-/// Whether the values of a record are taken one by one, all of them, and none behind them.
+/// Whether the values of a record are all taken one by one, and no value after them.
 fn takes_all(alloc: Global, record: (u64, u64)) -> Result<bool, NotTaken> {
     let others = record_of(alloc, record)?;
     let count = others.len();
@@ -79,7 +79,7 @@ fn values_one_by_one(rt: HostRuntime) {
     }
 }
 
-/// The values behind the first one as bytes, with another one at a place.
+/// The values after the first one as bytes, with another one at a place.
 fn bytes_of(alloc: Global, others: &PackedValues, other: u64) -> Result<Vec<u8>, AllocError> {
     let mut bytes = Vec::new(alloc);
     for place in 1..others.len() {
@@ -90,7 +90,7 @@ fn bytes_of(alloc: Global, others: &PackedValues, other: u64) -> Result<Vec<u8>,
     Ok(bytes)
 }
 
-/// How many values it has where bytes come in pieces behind the first value, and whether it refused one of these.
+/// How many values are counted if bytes come in pieces after the first value, and whether one piece was declined.
 fn pieces_taken(expected: &mut ExpectedValues<'_>, bytes: &[u8], size: usize) -> (u64, bool) {
     for piece in bytes.chunks(size.max(1)) {
         if expected.take_bytes(piece).is_err() {
@@ -100,8 +100,8 @@ fn pieces_taken(expected: &mut ExpectedValues<'_>, bytes: &[u8], size: usize) ->
     (expected.count(), false)
 }
 
-/// Whether the values behind the first one are taken as bytes in pieces, and not with another one at a place, behind which the
-/// right ones are taken.
+/// Whether the values after the first one are taken as bytes in pieces, and declined from a different one on, after which the right
+/// ones are taken.
 fn takes_bytes(
     alloc: Global,
     record: (u64, u64),
@@ -138,8 +138,8 @@ fn values_as_bytes(rt: HostRuntime) {
     }
 }
 
-/// How many values it has after so many were taken and the first ones left, whether those from a place on are taken then, and
-/// how many of a record of 100 it has then.
+/// How many values are counted after some were taken and then all but the first dropped, whether those from a place on are taken
+/// then, and how many of a record of 100 are counted then.
 fn taken_again(
     alloc: Global,
     taken: u64,
@@ -167,7 +167,7 @@ fn values_taken_again(rt: HostRuntime) {
     assert!(rt; taken_again(alloc, 70, 103, 4) == Ok((103, false, Some(3))));
 }
 
-/// How many values of a record it has, and of another one, where all of the first were taken.
+/// How many values of a record matched, and of another one, after all of the first were taken.
 fn fronts(alloc: Global, count: u64, other: u64) -> Result<[Option<u64>; 2], NotTaken> {
     let others = record_of(alloc, (count, 0))?;
     let second = record_of(alloc, (other, 0))?;

@@ -13,7 +13,7 @@ pub enum Fault {
     /// The sink failed.
     #[error("the sink failed")]
     Write,
-    /// The growth of a list was refused.
+    /// An allocation failed: out of memory.
     #[error("no memory")]
     Memory,
     /// A normal form has more bytes than the limit.

@@ -1,4 +1,4 @@
-/// What a wrapper says of the stream in it. Source: "Bitcode Wrapper Format".
+/// The header of a wrapper. Source: "Bitcode Wrapper Format".
 #[derive(Clone, Copy, Debug, PartialEq, Eq)]
 pub struct Wrapper {
     /// The byte at which the stream begins, from the first byte of the input.
@@ -9,7 +9,7 @@ pub struct Wrapper {
     pub cpu: u32,
 }
 
-/// What stands before the blocks of an input.
+/// What comes before the blocks of an input.
 #[derive(Clone, Copy, Debug, PartialEq, Eq)]
 pub struct Head {
     /// The first four bytes of the stream. Source: "Magic Numbers".

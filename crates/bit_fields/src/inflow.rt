@@ -9,7 +9,7 @@ use crate::source::{SliceSource, Source, SourceFailed, pull_word};
 use crate::window::Window;
 use std::marker::Model;
 
-/// Why bits are not there.
+/// Why bits are missing.
 #[derive(Clone, Copy, Debug, PartialEq, Eq)]
 pub enum Missing {
     /// The stream ends.
@@ -58,7 +58,7 @@ impl<S: Source> Model for Inflow<S> {
 impl<S: Source> Inflow<S> {
     ghost use Rattle.bit_fields.specs.contracts.inflow.Inflow.{the_row};
 
-    /// The whole of what a source has, up to a limit on bytes.
+    /// All that a source has, up to a limit on bytes.
     pub fn new(source: S, limit: u64) -> Inflow<S>
         requires { limit < 2 ^ 35 }
         ensures { result ≡ record {
@@ -80,7 +80,7 @@ impl<S: Source> Inflow<S> {
         }
     }
 
-    /// The source as it stands.
+    /// Returns the source in its present state.
     pub fn into_source(self) -> S
         ensures { S.incoming result ≡ self.incoming }
     {
@@ -95,7 +95,7 @@ impl<S: Source> Inflow<S> {
         self.window.len()
     }
 
-    /// Where the limit on bytes is reached, or the end that a wrapper named: whether the input goes on past the limit.
+    /// At the limit on bytes, or at the end that a wrapper named: whether the input goes on past the limit.
     #[cold]
     #[inline(never)]
     fn past(&mut self) -> Missing
@@ -122,7 +122,7 @@ impl<S: Source> Inflow<S> {
         }
     }
 
-    /// Takes bytes in, as many as there is room for.
+    /// Loads as many bytes into the window as it has room for.
     #[inline(always)]
     fn more(&mut self) -> Result<(), Missing>
         requires { length self.old.window ≤ 56 }
@@ -150,8 +150,8 @@ impl<S: Source> Inflow<S> {
         }
     }
 
-    /// Makes sure that n bits are in the window. It is kept out of the callers, so that these take few instructions where
-    /// the bits are there, and answers what fits a register.
+    /// Makes sure that n bits are in the window. It is kept out of its callers, so that they take few instructions if the bits are
+    /// there, and its result fits a register.
     #[inline(never)]
     pub fn fill(&mut self, n: u32) -> Result<(), Missing>
         requires { n ≤ 57 }
@@ -184,7 +184,7 @@ impl<S: Source> Inflow<S> {
         self.window.peek(n)
     }
 
-    /// The word of the bits in the window, and how many they are.
+    /// The word of the bits in the window, and how many bits it has.
     #[inline(always)]
     pub fn window(&self) -> (u64, u32)
         ensures bits { bits_of result.1 result.0 ≡ self.now.window }
@@ -195,8 +195,8 @@ impl<S: Source> Inflow<S> {
         self.window.parts()
     }
 
-    /// Looks for bytes of the stream that lie in memory behind the window, and takes none: whether there are any, which `lend`
-    /// then lends. It fails only where the source does.
+    /// Looks for buffered bytes of the stream after the window, and takes none. Returns whether `lend` has any to lend. Fails only
+    /// if the source does.
     #[inline(always)]
     pub fn look(&mut self) -> Result<bool, SourceFailed>
         ensures looks { LooksOver self.old result self.new }
@@ -208,7 +208,7 @@ impl<S: Source> Inflow<S> {
         self.source.look()
     }
 
-    /// Lends bytes of the stream that lie in memory behind the window, possibly none.
+    /// Lends buffered bytes of the stream after the window, possibly none.
     #[inline(always)]
     pub fn lend(&mut self) -> &[u8]
         requires { IsFresh self.old.incoming }
@@ -246,7 +246,7 @@ impl<S: Source> Inflow<S> {
         self.end = end;
     }
 
-    /// Takes bytes of the stream that nobody reads, at most so many, and answers how many.
+    /// Skips bytes of the stream, at most `most`, and returns how many.
     pub fn pass(&mut self, most: u64) -> Result<u64, Missing>
         requires some { 0 < most }
         requires empty { self.old.window ≡ [] }
@@ -273,8 +273,8 @@ impl<S: Source> Inflow<S> {
         }
     }
 
-    /// Takes bits of the stream that nobody reads, at least one and at most so many, and answers how many: those in the
-    /// window, or else a block of bytes.
+    /// Skips bits of the stream, at least one and at most `most`, and returns how many: those in the window, or else a block of
+    /// bytes.
     pub fn skip(&mut self, most: u64) -> Result<u64, Missing>
         requires { 0 < most }
         ensures skips { SkipsSome most self.old self.new result }
@@ -342,8 +342,7 @@ impl<S: Source> Inflow<S> {
 }
 
 impl<'a> Inflow<SliceSource<'a>> {
-    /// The bytes of the stream that lie in memory behind the window, possibly none. They are lent for as long as the slice is
-    /// there.
+    /// The buffered bytes of the stream after the window, possibly none. They are lent for as long as the slice lives.
     #[inline(always)]
     pub fn slice(&self) -> &'a [u8]
         ensures front { LiesBehind self.now result.now }

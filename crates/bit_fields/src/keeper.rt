@@ -1,17 +1,17 @@
-//! What keeps the values of a record.
+//! Value sinks that keep the values of a record.
 
 use crate::packed::PackedValues;
 use crate::values::ValueTaker;
 use std::alloc::Global;
 
-/// What keeps the values that it takes.
+/// A value sink that keeps its values.
 pub trait ValueKeeper: ValueTaker + Drop {
     ghost use Rattle.std.specs.Prelude.{◌≡◌, ℕ, List, []};
 
-    // The values that it has.
+    // The values that it keeps.
     ghost kept: { Self → List ℕ };
 
-    /// No values. It takes no memory.
+    /// No values. It allocates nothing.
     fn empty(alloc: Global) -> Self
         ensures { kept result ≡ [] };
 

@@ -1,24 +1,23 @@
 ghost use Rattle.std.specs.Prelude.{◌≡◌, ℕ, List, [], true, false, take, length, ◌-◌, ◌<◌, ◌≤◌, MatchResult, IfOk, OnErr, OnOk};
 ghost use Rattle.bit_fields.specs.Devices.{keeps_of, GaveNone, IsFresh, Looked, Pulls, PullsUnseen};
-ghost use Rattle.bit_fields.specs.Kept.{GrewBy, KeptAhead};
+ghost use Rattle.bit_fields.specs.Kept.{GrewBy, KeptBuffered};
 
 use crate::source::{BLOCK, Source, SourceFailed};
 use std::alloc::{AllocError, Global};
 
-/// How many bytes the list of what is kept grows by at most, where no more come at once.
+/// By how many bytes the list of kept bytes grows at most, unless more come at once.
 const STEP: usize = 4 << 20;
 
-/// Bytes that are kept, in a list that grows as they come.
+/// Kept bytes, in a list that grows as they come.
 #[derive(Drop)]
 struct Kept {
     bytes: Vec<u8>,
-    /// All that came is kept: memory was not refused.
+    /// All bytes are kept: no allocation failed.
     whole: bool,
 }
 
 impl Kept {
-    /// Makes room for so many bytes. The list doubles up to a step and grows by steps from then on, so that at most a step of
-    /// it is unused.
+    /// Makes room for `count` bytes. The list doubles up to a step and then grows by steps, so that at most a step of it is unused.
     #[inline(always)]
     fn make_room(&mut self, count: usize) -> Result<(), AllocError>
         ensures whole { self.new.whole ≡ self.old.whole }
@@ -31,7 +30,7 @@ impl Kept {
         self.bytes.reserve_exact(more.max(count))
     }
 
-    /// Keeps bytes behind those that it has.
+    /// Appends bytes to those that are kept.
     #[inline]
     fn keep(&mut self, bytes: &[u8])
         ensures { GrewBy bytes.now self.old self.new }
@@ -44,7 +43,7 @@ impl Kept {
         }
     }
 
-    /// Gives up the last bytes, so many.
+    /// Drops the last `count` bytes.
     fn give_up(&mut self, count: usize)
         ensures whole { self.new.whole ≡ self.old.whole }
         ensures bytes { self.new.bytes.items
@@ -55,9 +54,9 @@ impl Kept {
     }
 }
 
-/// A source that gives what another one gives, and keeps the bytes that it gave, in a list that grows as they pass.
+/// A source that gives the bytes of another one and keeps them in a list.
 ///
-/// It asks and counts as the other one does. Where memory for the list is refused, it gives on and keeps nothing any more.
+/// Its calls and counts are those of the other source. If an allocation for the list fails, it gives on and keeps nothing any more.
 #[derive(Drop)]
 pub struct KeptSource<S> {
     source: S,
@@ -79,7 +78,7 @@ impl<S: Source> KeptSource<S> {
         }
     }
 
-    /// All bytes that it gave, or that memory for them was refused; and the other source as it stands.
+    /// Returns all bytes that it gave, or that an allocation for them failed; and the other source in its present state.
     pub fn into_parts(self) -> (Result<Vec<u8>, AllocError>, S)
         ensures { MatchResult result.0 (λ bytes. ⟦<KeptSource<S> as Source>⟧.incoming self
             ≡ keeps_of true bytes.items (S.incoming result.1))
@@ -92,12 +91,12 @@ impl<S: Source> KeptSource<S> {
         (Ok(self.kept.bytes), self.source)
     }
 
-    /// Keeps bytes that come next and lie in memory before they are taken, at most so many, and answers how many.
+    /// Keeps the next buffered bytes before they are taken, at most `most`, and returns how many.
     #[inline]
-    fn keep_ahead(&mut self, most: usize) -> Result<usize, SourceFailed>
+    fn keep_buffered(&mut self, most: usize) -> Result<usize, SourceFailed>
         ensures looked { OnOk result (Looked (S.incoming self.old.source) (S.incoming self.new.source)) }
-        ensures ahead { IfOk result (λ count. 0 < count → IsFresh (S.incoming self.new.source)
-            × KeptAhead count (S.incoming self.old.source).to_come self.old.kept self.new.kept) }
+        ensures buffered { IfOk result (λ count. 0 < count → IsFresh (S.incoming self.new.source)
+            × KeptBuffered count (S.incoming self.old.source).to_come self.old.kept self.new.kept) }
         ensures most { IfOk result (λ count. count ≤ most) }
         ensures none { IfOk result (λ count. count ≡ 0 → self.new.kept ≡ self.old.kept) }
         ensures failed { OnErr result (GaveNone (S.incoming self.old.source) (S.incoming self.new.source)
@@ -126,7 +125,7 @@ impl<S: Source> KeptSource<S> {
         Ok(count)
     }
 
-    /// Pulls a block of bytes that nobody looks at, at most so many, and keeps them.
+    /// Pulls a block of at most `most` bytes to skip, and keeps them.
     fn pass_block(&mut self, most: usize) -> Result<usize, SourceFailed>
         requires { 0 < most }
         ensures { PullsUnseen most (⟦<KeptSource<S> as Source>⟧.incoming self.old)
@@ -158,7 +157,7 @@ impl<S: Source> Source for KeptSource<S> {
 
     #[inline]
     fn pass(&mut self, most: usize) -> Result<usize, SourceFailed> {
-        let count = self.keep_ahead(most)?;
+        let count = self.keep_buffered(most)?;
         if count == 0 {
             return self.pass_block(most);
         }
@@ -186,7 +185,7 @@ mod tests {
         0x42, 0x43, 0xC0, 0xDE, 0xF1, 0x02, 0xF3, 0x04, 0xF5, 0x06, 0xF7, 0x08, 0xF9,
     ];
 
-    /// Reads so many bytes after the magic, and gives the source back.
+    /// Reads `count` bytes after the magic, and returns the source.
     fn read<S: Source + Drop>(source: S, count: u64) -> Option<S> {
         let mut reader = match BitReader::start(source, Limits::usual()) {
             Ok((reader, _)) => reader,
@@ -205,7 +204,7 @@ mod tests {
         Ok(())
     }
 
-    /// Whether what passed on the way to this byte was kept, so many bytes at least.
+    /// Whether at least `least` leading bytes were kept while `count` bytes were read.
     fn keeps<S: Source + Drop>(alloc: Global, source: S, count: u64, least: usize) -> bool {
         let Some(source) = read(KeptSource::new(alloc, source), count) else {
             return false;

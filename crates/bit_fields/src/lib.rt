@@ -7,18 +7,18 @@
 //! `BitWriter`. The clause of a reading call is `Takes` in `specs/Reader`; `Spends` and `Fails` in `specs/Devices` say what it
 //! asked of the source. The crates above use these and the lemmas of `proofs/Composing`.
 //!
-//! `BitReader::sight` lends the buffered bits, `Ahead` reads fields from them with its state in registers, and
-//! `BitReader::catch_up` takes what was read. `Ahead` judges nothing: it reads complete fields and declines the rest. Its clause
-//! (`Glimpsed`) covers successes only. A reader of a slice lends its bits for as long as the slice lives (`sight_in_slice`).
+//! `BitReader::buffered_parts` lends the buffered bits, `Buffered` reads fields from them with its state in registers, and
+//! `BitReader::catch_up` takes what was read. `Buffered` judges nothing: it reads complete fields and declines the rest. Its clause
+//! (`Reads`) covers successes only. A reader of a slice lends its bits for as long as the slice lives (`parts_in_slice`).
 //!
 //! The values of a record go to a `ValueTaker`: `Vec<u64>` keeps them, `ValueCount` counts them, `PackedValues` keeps them in 1
 //! or 8 bytes each, and `ExpectedValues` compares them with another record's. `KeptSource` keeps the bytes that its source gives.
 //! `BitText` holds bits in memory: 32-bit words in chunks, which grow without a copy.
 #![tactic(auto)]
 
-mod ahead;
+mod buffered;
 #[cfg(test)]
-mod ahead_tests;
+mod buffered_tests;
 mod characters;
 mod expected;
 #[cfg(test)]
@@ -41,6 +41,7 @@ mod source;
 mod tests;
 mod text;
 mod values;
+mod width;
 mod window;
 mod word;
 mod word_list;
@@ -51,8 +52,8 @@ mod writer_laws;
 #[cfg(test)]
 mod writer_tests;
 
-pub use ahead::{Ahead, Sight};
 pub use bit_grammar::{MOST_BYTES, MOST_DEPTH, MOST_VALUES, Reason, Shapes};
+pub use buffered::{Buffered, BufferedParts};
 pub use expected::ExpectedValues;
 pub use fault::Fault;
 pub use head::{Head, Wrapper};
@@ -65,5 +66,6 @@ pub use sink::{Sink, SinkFailed, VecSink, WriteSink};
 pub use source::{BufSource, ReadSource, SliceSource, Source, SourceFailed};
 pub use text::BitText;
 pub use values::{NotTaken, ValueCount, ValueTaker};
+pub use width::{ChunkWidth, FieldWidth};
 pub use writer::BitWriter;
 pub use writer_laws::{bytes_of_writing, write_nothing, write_then_stop, write_then_write};

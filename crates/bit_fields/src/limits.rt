@@ -7,7 +7,7 @@ ghost use Rattle.bit_fields.specs.Opening.{PassCaps};
 use bit_grammar::{MOST_BYTES, MOST_DEPTH, MOST_VALUES, Shapes};
 use std::marker::Model;
 
-/// How much of an input is taken, and where the shapes of its definitions are judged. Zero is allowed for each number.
+/// How much of an input is read, and where the shapes of its definitions are judged. Zero is allowed for each number.
 #[derive(Clone, Copy, Debug, PartialEq, Eq)]
 pub struct Limits {
     bytes: u64,
@@ -45,9 +45,9 @@ impl Model for Limits {
 }
 
 impl Limits {
-    /// Limits on the bytes of the whole input, wrapper included, on the depth of blocks, where a block at the top has
-    /// depth 1, and on the values of all records. `None` where one is past its cap: 17,179,869,180 bytes, depth 255,
-    /// 4,294,967,295 values. Shapes are judged at the definition.
+    /// Limits on the bytes of the whole input, wrapper included, on the depth of blocks (a block at the top has depth 1), and on
+    /// the values of all records. `None` if one is past its cap: 17,179,869,180 bytes, depth 255, 4,294,967,295 values. Shapes are
+    /// judged at the definition.
     pub fn new(bytes: u64, depth: u32, values: u64) -> Option<Limits>
         ensures { MatchOption result (PassCaps
             (record { bytes = bytes; depth = depth; values = values; shapes = AtDefinition }))
@@ -83,7 +83,7 @@ impl Limits {
         }
     }
 
-    /// The same limits, with the shape of a definition judged where a record uses it.
+    /// The same limits, but the shape of a definition is judged when a record uses it.
     pub fn shapes_at_use(self) -> Limits
         ensures at_use { result ≡ judged_at AtUse self }
         ensures capped { Capped result }

@@ -3,7 +3,9 @@
 ghost use Rattle.std.specs.Prelude.{◌≡◌, ◌*◌, ◌-◌, ◌<◌, ◌≤◌, ◌^◌, ◌%◌, MatchOption, ◌&&◌, ◌==◌, nat_le};
 ghost use Rattle.bit_grammar.specs.Terms.{character};
 
-/// The greatest width of chunks of which four are read at once.
+use crate::width::ChunkWidth;
+
+/// The greatest width of chunks that are read four at once.
 pub const MOST_SHORT: u32 = 14;
 
 /// Whether the stream of a wrapper may begin at a byte.
@@ -13,13 +15,11 @@ pub fn is_lawful(offset: u64) -> bool
     offset >= 20 && offset % 4 == 0
 }
 
-/// The bits of a chunk without the top one.
-pub fn payload_of(chunk: u64, n: u32) -> u64
-    requires some { 2 ≤ n }
-    requires few { n ≤ 32 }
-    ensures { result ≡ chunk % 2 ^ (n - 1) }
+/// The bits of a chunk without the top one, its payload.
+pub fn payload_of(chunk: u64, n: ChunkWidth) -> u64
+    ensures { result ≡ chunk % 2 ^ (n.bits - 1) }
 {
-    chunk & ((1 << (n - 1)) - 1)
+    chunk & ((1 << (n.bits - 1)) - 1)
 }
 
 /// A payload moved up to a place, if it fits 64 bits there.
@@ -36,7 +36,7 @@ pub fn worth_at(payload: u64, place: u32) -> Option<u64>
     }
 }
 
-/// The character of a code of six bits.
+/// The character of a Char6 code.
 pub fn character(code: u64) -> u64
     requires { code < 64 }
     ensures { result ≡ character code }

@@ -1,4 +1,4 @@
-//! Values in little memory.
+//! Values that are packed to save memory.
 
 ghost use Rattle.std.specs.Prelude.{◌≡◌, ◌↔◌, ◌≤◌, ℕ, List, OnOk, OnErr, [], ◌++◌, length, drop, IfSome, IfNone, IsTrue, slice_get};
 ghost use Rattle.std.proofs.Math.ListN.{replicate};
@@ -9,7 +9,7 @@ use crate::values::{NotTaken, ValueTaker};
 use std::alloc::Global;
 use std::marker::Model;
 
-/// Values in their parts, which stand behind one another: numbers, bytes, so many zeros, and the last ones as numbers.
+/// Values in four parts, one after another: numbers, bytes, a count of zeros, and the last values as numbers.
 #[derive(Clone, Copy, Debug)]
 pub struct ValueParts<'a> {
     pub numbers: &'a [u64],
@@ -18,13 +18,13 @@ pub struct ValueParts<'a> {
     pub recent: &'a [u64],
 }
 
-/// The values of a record in little memory. The last ones, 64 at most, have a place of their own of 512 bytes. Of those before
-/// them, which are packed 64 at a time, each takes eight bytes up to the last 64 with one that is above 255, and one byte behind
-/// it, as those of a blob or an array of characters; zeros that were taken at once are counted, and take none at the end.
+/// The values of a record, packed to save memory. The last ones, at most 64, are in a buffer of 512 bytes. The values before them
+/// are packed 64 at a time: values up to the last batch that contains one above 255 take eight bytes each, and later ones take one,
+/// as those of a Blob or an Array of Char6. Zeros that were taken at once are counted; at the end they take no memory.
 #[derive(Drop)]
 pub struct PackedValues {
     settled: SettledValues,
-    /// The first of these are the last values, as many as are held.
+    /// The first `held` of these are the last values.
     recent: [u64; BATCH],
     held: usize,
 }
@@ -39,7 +39,7 @@ impl Model for PackedValues {
     ghost invariant = { λ v. (length v.recent ≡ 64) × (v.held ≤ 64) };
 }
 
-/// Whether numbers are the same as others. Two are compared at a time.
+/// Whether two slices have the same numbers. Compares two at a time.
 #[inline]
 fn are_same(first: &[u64], second: &[u64]) -> bool
     ensures { IsTrue result ↔ (first.now ≡ second.now) }
@@ -59,7 +59,7 @@ fn are_same(first: &[u64], second: &[u64]) -> bool
 }
 
 impl PackedValues {
-    /// No values. It takes no memory beside itself.
+    /// No values. It allocates nothing.
     pub fn new(alloc: Global) -> PackedValues
         ensures { result ≡ [] }
     {
@@ -114,7 +114,7 @@ impl PackedValues {
             .copied()
     }
 
-    /// Values from a place on that are held as numbers, possibly none.
+    /// Values from `place` on that are held as numbers, possibly none.
     #[inline]
     pub(crate) fn numbers_from(&self, place: u64) -> &[u64]
         ensures { StandAt place result.now self.now }
@@ -127,7 +127,7 @@ impl PackedValues {
         &recent[((place - settled) as usize).min(self.held)..]
     }
 
-    /// Values from a place on that are held in a byte each, possibly none.
+    /// Values from `place` on that are held in a byte each, possibly none.
     #[inline]
     pub(crate) fn bytes_from(&self, place: u64) -> &[u8]
         ensures { StandAt place result.now self.now }
@@ -135,7 +135,7 @@ impl PackedValues {
         self.settled.bytes_from(place)
     }
 
-    /// The first place from one on and below another at which these and others have different values, if there is one.
+    /// The first place from `first` to below `end` at which these and the other values differ, if there is one.
     fn apart_within(&self, other: &PackedValues, first: u64, end: u64) -> Option<u64>
         requires first { first ≤ end }
         requires end { (end ≤ length self.now) × (end ≤ length other.now) }
@@ -152,8 +152,8 @@ impl PackedValues {
         None
     }
 
-    /// The first place at which these and others have different values, if there is one. Zeros that are counted in both are
-    /// passed over at once.
+    /// The first place at which these and the other values differ, if there is one. Zeros that are counted in both are skipped at
+    /// once.
     pub fn first_apart(&self, other: &PackedValues) -> Option<u64>
         ensures { result ≡ first_apart 0 self.now other.now }
     {
@@ -170,7 +170,7 @@ impl PackedValues {
         self.apart_within(other, behind, both)
     }
 
-    /// Takes values of one byte each, one after the other.
+    /// Takes values of one byte each, one by one.
     fn take_each(&mut self, bytes: &[u8]) -> Result<(), NotTaken>
         ensures ok { OnOk result (self.new ≡ self.old ++ bytes.now) }
         ensures err { OnErr result ((some : List ℕ) × (self.new ≡ self.old ++ some)) }
@@ -181,7 +181,7 @@ impl PackedValues {
         Ok(())
     }
 
-    /// Whether these are the same values as others, of which some were packed.
+    /// Whether these values equal the others, if some of either were packed.
     #[inline(never)]
     fn is_beyond(&self, other: &PackedValues) -> bool
         ensures { IsTrue result ↔ (self.now ≡ other.now) }
@@ -192,7 +192,7 @@ impl PackedValues {
         self.len() == other.len() && self.first_apart(other).is_none()
     }
 
-    /// Whether these are the same values as others.
+    /// Whether these values equal the others.
     #[inline]
     pub fn is(&self, other: &PackedValues) -> bool
         ensures { IsTrue result ↔ (self.now ≡ other.now) }
@@ -218,8 +218,8 @@ impl ValueTaker for PackedValues {
         Ok(())
     }
 
-    /// Whole batches are packed as they lie there, and the values before and behind them taken one by one: so the same values are
-    /// packed in the same batches however they came.
+    /// Whole batches are packed from the slice, and the values before and after them are taken one by one. So the same values are
+    /// packed in the same batches however they come.
     fn take_bytes(&mut self, bytes: &[u8]) -> Result<(), NotTaken> {
         let (front, rest) = bytes.split_at(bytes.len().min(BATCH - self.held));
         self.take_each(front)?;

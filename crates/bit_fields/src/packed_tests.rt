@@ -1,14 +1,14 @@
-//! Values in little memory: in which parts they are held, and where they differ.
+//! Packed values: in which parts they are held, and where they differ.
 
 use crate::{NotTaken, PackedValues, ValueCount, ValueKeeper, ValueTaker};
 use std::alloc::Global;
 use std::fmt::Write;
 use std::process::Abort;
 
-/// Values, so many zeros that are taken at once behind them, and others behind these.
+/// Values, a count of zeros that are taken at once after them, and values after these.
 type Taken<'a> = (&'a [u64], u64, &'a [u64]);
 
-/// Has these values taken.
+/// Takes these values.
 fn take_all(values: &mut PackedValues, from: &[u64]) -> Result<(), NotTaken> {
     for value in from {
         values.take(*value)?;
@@ -16,7 +16,7 @@ fn take_all(values: &mut PackedValues, from: &[u64]) -> Result<(), NotTaken> {
     Ok(())
 }
 
-/// These values.
+/// Packs these values.
 fn values_of(alloc: Global, taken: Taken<'_>) -> Result<PackedValues, NotTaken> {
     let (front, zeros, back) = taken;
     let mut values = PackedValues::empty(alloc);
@@ -28,7 +28,7 @@ fn values_of(alloc: Global, taken: Taken<'_>) -> Result<PackedValues, NotTaken> 
     Ok(values)
 }
 
-/// The parts of values as text, before and behind the last step.
+/// The parts of values as text, before and after the last step.
 fn parts_told(alloc: Global, count: u64) -> Result<String, NotTaken> {
     let mut values = values_of(alloc, (&[1, 256], 2, &[7]))?;
     let _ = values.pass_zeros(3);
@@ -40,7 +40,7 @@ fn parts_told(alloc: Global, count: u64) -> Result<String, NotTaken> {
     Ok(text)
 }
 
-/// These are the parts of values, after so many of them were left and one was taken.
+/// Checks the parts of values after all but the first `count` were dropped and one was taken.
 fn has_parts(rt: &impl Abort, alloc: Global, count: u64, wanted: &str) {
     let told = parts_told(alloc, count).expect(rt, "memory");
     assert!(rt; told.as_str().ends_with(wanted), "{told}, not {wanted}");
@@ -82,7 +82,7 @@ fn parts_of_values(rt: HostRuntime) {
     );
 }
 
-/// How long the parts are that hold the numbers from one down to another, and the value at the place 100.
+/// The lengths of the parts that hold the numbers from `last` down to `first`, and the value at place 100.
 fn lengths(
     alloc: Global,
     last: u64,
@@ -109,7 +109,7 @@ fn parts_of_long_values(rt: HostRuntime) {
     assert!(rt; lengths(alloc, 320, 1) == Ok((128, 128, 64, Some(220))));
 }
 
-/// Where values first differ from others, and whether they are the same.
+/// Where values first differ from others, and whether they are equal.
 fn apart(
     alloc: Global,
     first: Taken<'_>,
@@ -165,7 +165,7 @@ fn many_values(rt: HostRuntime) {
     assert!(rt; many_told(rt.alloc()) == Ok((1, Some(5))));
 }
 
-/// How many values there are where bytes were taken behind a value and a zero.
+/// How many values there are after bytes were taken after a value and a zero.
 fn bytes_behind<V: ValueTaker>(values: &mut V) -> Result<u64, NotTaken> {
     values.take(300)?;
     values.take(0)?;
@@ -174,8 +174,8 @@ fn bytes_behind<V: ValueTaker>(values: &mut V) -> Result<u64, NotTaken> {
     Ok(values.count())
 }
 
-/// The same where they are counted, kept in a list, and kept in little memory behind zeros that were taken at once: how many
-/// there are in each, whether the list is right, and the first place at which the others are not.
+/// The same for values that are counted, kept in a list, and packed after zeros that were taken at once: how many each has, whether
+/// the list is right, and the first place at which the packed ones are wrong.
 fn bytes_taken(alloc: Global) -> Result<([u64; 3], bool, Option<u64>), NotTaken> {
     let mut counted = ValueCount::new();
     let mut list: Vec<u64> = Vec::new(alloc);
@@ -196,7 +196,7 @@ fn bytes_are_values(rt: HostRuntime) {
     assert!(rt; taken == ([5, 5, 7], true, None), "{taken:?}");
 }
 
-/// How long the parts are of a number and 300 bytes behind it, which come as a slice or one by one.
+/// The lengths of the parts of a number and 300 bytes after it, which come as a slice or one by one.
 fn lengths_behind(alloc: Global, as_slice: bool) -> Result<[usize; 3], NotTaken> {
     let mut values = PackedValues::empty(alloc);
     values.take(256)?;

@@ -9,7 +9,7 @@ ghost use Rattle.bit_fields.specs.Opening.{fresh, OpenedInput, Declines, Opens, 
 ghost use Rattle.bit_fields.specs.Ending.{reach_of, LooksForEnd, Closes, IsThrough};
 ghost use Rattle.bit_fields.specs.Inside.{part_of, number_above, fault_of_missing, TookZeros};
 
-mod sight;
+mod buffered_parts;
 
 use crate::fault::Fault;
 use crate::head::{Head, Wrapper};
@@ -17,12 +17,13 @@ use crate::inflow::{Inflow, Missing};
 use crate::limits::Limits;
 use crate::numbers::{is_lawful, payload_of, worth_at};
 use crate::source::Source;
+use crate::width::ChunkWidth;
 use bit_grammar::{Reason, WRAPPER_MAGIC};
 use std::marker::Model;
 
 /// Reads the fields of a stream of bits.
 ///
-/// After any fault, and after `close`, it has failed: every call that answers a `Result` then answers `Failed`, and
+/// After any fault, and after `close`, the reader has failed: every call that returns a `Result` then returns `Failed`, and
 /// `position` stays at the end of the last call that succeeded.
 #[derive(Drop)]
 pub struct BitReader<S: Source> {
@@ -43,15 +44,14 @@ impl<S: Source> Model for BitReader<S> {
 }
 
 impl<S: Source> BitReader<S> {
-    /// Begins the stream of a source: reads its wrapper, if there is one, and the magic of the stream, and answers them as
-    /// the head. The reader stands behind the magic, at a multiple of 32 bits. Sources: "Magic Numbers", "Bitcode Wrapper
-    /// Format".
+    /// Begins the stream of a source: reads its wrapper, if there is one, and the magic of the stream, and returns them as the
+    /// head. The reader is then after the magic, at a multiple of 32 bits. Sources: "Magic Numbers", "Bitcode Wrapper Format".
     ///
-    /// Fewer than 4 bytes are `Truncated` at bit 0. In a wrapper a number that is not whole is `Truncated` at its first
-    /// bit, a version other than 0 `WrapperVersion` at bit 32, an offset below 20 or no multiple of 4 `WrapperOffset` at
-    /// bit 64; an input that ends before the offset is `Truncated` at bit 160, and a stream without four bytes, or with
-    /// the magic of a wrapper, `Truncated` or `WrapperNested` at its first bit. Where only the limit on bytes ends the
-    /// input or the stream, `TooLong` at 8 times the limit stands for `Truncated`.
+    /// Fewer than 4 bytes are `Truncated` at bit 0. In a wrapper an incomplete number is `Truncated` at its first bit, a version
+    /// other than 0 `WrapperVersion` at bit 32, an offset below 20 or no multiple of 4 `WrapperOffset` at bit 64; an input that
+    /// ends before the offset is `Truncated` at bit 160, and a stream without four bytes, or with the magic of a wrapper,
+    /// `Truncated` or `WrapperNested` at its first bit. If only the limit on bytes ends the input or the stream, the reason is
+    /// `TooLong` at 8 times the limit, not `Truncated`.
     pub fn start(source: S, limits: Limits) -> Result<(BitReader<S>, Head), (Fault, S)>
         ensures begun { IfOk result (λ begun. OpenedInput (fresh (S.incoming source) limits.bytes)
             begun.1 begun.0) }
@@ -70,7 +70,7 @@ impl<S: Source> BitReader<S> {
         }
     }
 
-    /// Reads all that stands before the blocks.
+    /// Reads what comes before the blocks.
     fn begin(&mut self) -> Result<Head, Fault>
         requires live { self.old.live ≡ true }
         requires position { self.old.position ≡ 0 }
@@ -86,7 +86,7 @@ impl<S: Source> BitReader<S> {
             });
         }
         let wrapper = self.wrapper()?;
-        // the gap begins here, no further than the input goes
+        // the gap begins here, at or before the end of the input
         let _start = self.position;
         self.gap(wrapper.offset)?;
         self.end_after(wrapper.offset, wrapper.size);
@@ -143,7 +143,7 @@ impl<S: Source> BitReader<S> {
         Ok(offset)
     }
 
-    /// Skips what stands between a wrapper and its stream, whatever it is.
+    /// Skips the gap between a wrapper and its stream, whatever its bits are.
     fn gap(&mut self, offset: u32) -> Result<(), Fault>
         requires live { self.old.live ≡ true }
         requires position { self.old.position ≡ 160 }
@@ -155,7 +155,7 @@ impl<S: Source> BitReader<S> {
         self.catch_up(8 * u64::from(offset - 20))
     }
 
-    /// Ends the stream so many bytes behind the byte at which the reader stands.
+    /// Ends the stream `size` bytes after the byte at `offset`, which is the reader's position.
     fn end_after(&mut self, offset: u32, size: u32)
         requires live { self.old.live ≡ true }
         requires position { self.old.position ≡ 8 * offset }
@@ -181,10 +181,10 @@ impl<S: Source> BitReader<S> {
         Ok(magic)
     }
 
-    /// Refuses the input for a reason at a bit where a judgement of what was read does not hold: the one call for every
-    /// such judgement, of this crate's and of a caller's. The reader has then failed, where it stands.
+    /// Refuses the input for a reason at a bit, unless `holds`. Every judgement of what was read, in this crate and in its callers,
+    /// goes through this call. The reader has then failed, at its position.
     ///
-    /// The end of an input is no judgement: where only the limit on bytes ends it, `TooLong` stands for `Truncated`.
+    /// The end of an input is no judgement: if only the limit on bytes ends it, the reason is `TooLong`, not `Truncated`.
     #[inline]
     pub fn judge(&mut self, holds: bool, reason: Reason, bit: u64) -> Result<(), Fault>
         requires live { self.old.live ≡ true }
@@ -200,14 +200,14 @@ impl<S: Source> BitReader<S> {
         Err(self.fail(Fault::Refused { reason, bit }))
     }
 
-    /// The source as it stands.
+    /// Returns the source in its present state.
     pub fn into_source(self) -> S
         ensures { S.incoming result ≡ self.incoming }
     {
         self.inflow.into_source()
     }
 
-    /// The bit at which what is left of the stream begins, counted from the first bit of the input.
+    /// The bit at which the unread input begins, counted from the first bit of the input.
     pub fn position(&self) -> u64
         ensures position { result ≡ self.now.position }
         ensures reach { self.now.live ≡ true → result + length self.now.left
@@ -216,15 +216,15 @@ impl<S: Source> BitReader<S> {
         self.position
     }
 
-    /// Whether no call failed so far, and it is not closed.
+    /// Whether no call has failed and the reader is not closed.
     pub fn is_live(&self) -> bool
         ensures { result ≡ self.now.live }
     {
         self.live
     }
 
-    /// Marks the reader as failed, at the bit at which the call that failed began. It is kept out of the callers, and answers
-    /// nothing, so that no fault is laid out in them where none comes.
+    /// Marks the reader as failed, at the bit at which the failed call began. It is kept out of its callers and returns nothing, so
+    /// that they lay out no fault on the paths without one.
     #[cold]
     #[inline(never)]
     fn halt(&mut self, first: u64)
@@ -236,7 +236,7 @@ impl<S: Source> BitReader<S> {
         self.inflow.clear();
     }
 
-    /// Fails where bits are missing of a field that began at a bit.
+    /// Fails because bits of a field that began at `first` are missing.
     #[inline(always)]
     fn miss(&mut self, missing: Missing, first: u64) -> Fault
         ensures fault { result ≡ fault_of_missing missing first self.old.extent.limit }
@@ -246,7 +246,7 @@ impl<S: Source> BitReader<S> {
         self.fail_at(fault, first)
     }
 
-    /// The fault of a field that begins at a bit, where bits of it are missing.
+    /// The fault for missing bits of a field that begins at `field`.
     #[inline(always)]
     fn fault_of(&self, missing: Missing, field: u64) -> Fault
         ensures { result ≡ fault_of_missing missing field self.now.extent.limit }
@@ -264,7 +264,7 @@ impl<S: Source> BitReader<S> {
         }
     }
 
-    /// Takes n bits, which are a part of a field that began at a bit.
+    /// Takes n bits, a part of a field that began at `first`.
     #[inline(always)]
     fn part(&mut self, n: u32, first: u64) -> Result<u64, Fault>
         requires some { 0 < n }
@@ -307,11 +307,11 @@ impl<S: Source> BitReader<S> {
         self.part(n, first)
     }
 
-    /// Reads a number in chunks of n bits, n from 2 to 32: of each chunk the top bit says whether another one follows, and
-    /// the others are payload, the lowest first. Source: "Variable Width Integers".
+    /// Reads a number in chunks of n bits, n from 2 to 32. The top bit of a chunk is its continuation bit, and the others are
+    /// payload, the lowest first. Source: "Variable Width Integers".
     ///
-    /// A chunk that is not whole is `Truncated` at the first bit of the number. A whole chunk with a payload bit at place
-    /// 64 or above, or more chunks than 64 bits take, is `ValueTooWide` there.
+    /// An incomplete chunk is `Truncated` at the first bit of the number. A complete chunk with a payload bit at place 64 or above,
+    /// or more chunks than 64 bits take, is `ValueTooWide` there.
     #[inline(always)]
     pub fn vbr(&mut self, n: u32) -> Result<u64, Fault>
         requires some { 2 ≤ n }
@@ -326,19 +326,18 @@ impl<S: Source> BitReader<S> {
         if chunk < 1 << (n - 1) {
             return Ok(chunk);
         }
-        self.later_chunks(n, first, payload_of(chunk, n))
+        let width = ChunkWidth { bits: n };
+        self.later_chunks(width, first, payload_of(chunk, width))
     }
 
-    /// Reads the chunks after the first one of a number that began at a bit.
+    /// Reads the chunks after the first one of a number that began at `first`.
     #[inline(never)]
-    fn later_chunks(&mut self, n: u32, first: u64, low: u64) -> Result<u64, Fault>
-        requires some { 2 ≤ n }
-        requires few { n ≤ 32 }
-        requires low { low < 2 ^ (n - 1) }
+    fn later_chunks(&mut self, n: ChunkWidth, first: u64, low: u64) -> Result<u64, Fault>
+        requires low { low < 2 ^ (n.bits - 1) }
         requires live { self.old.live ≡ true }
         requires first { first ≤ self.old.position }
-        ensures takes { Takes (number_above low (n - 1)
-            (chunks (n - 1) first (chunk_limit (n - 1) - 1) (64 - (n - 1)))) self.old result
+        ensures takes { Takes (number_above low (n.bits - 1)
+            (chunks (n.bits - 1) first (chunk_limit (n.bits - 1) - 1) (64 - (n.bits - 1)))) self.old result
             self.new }
         ensures memory { NeedsNoMemory result }
         ensures stays { OnErr result (self.new.position ≡ first) }
@@ -348,17 +347,17 @@ impl<S: Source> BitReader<S> {
             bit: first,
         };
         let mut value = low;
-        let mut place = n - 1;
+        let mut place = n.bits - 1;
         while place < 64 {
-            let chunk = self.part(n, first)?;
+            let chunk = self.part(n.bits, first)?;
             match worth_at(payload_of(chunk, n), place) {
                 Some(worth) => value += worth,
                 None => return Err(self.fail_at(too_wide, first)),
             }
-            if chunk < 1 << (n - 1) {
+            if chunk < 1 << (n.bits - 1) {
                 return Ok(value);
             }
-            place += n - 1;
+            place += n.bits - 1;
         }
         Err(self.fail_at(too_wide, first))
     }
@@ -385,7 +384,7 @@ impl<S: Source> BitReader<S> {
         Ok(())
     }
 
-    /// Takes zeros of a padding that began at a bit, at least one and at most so many, and answers how many.
+    /// Takes zeros of a padding that began at `first`, at least one and at most `most`, and returns how many.
     fn some_zeros(&mut self, first: u64, most: u32) -> Result<u32, Fault>
         requires some { 0 < most }
         requires few { most < 32 }
@@ -406,7 +405,7 @@ impl<S: Source> BitReader<S> {
         Ok(count)
     }
 
-    /// Takes a zero of a padding that began at a bit.
+    /// Takes one zero of a padding that began at `first`.
     fn one_zero(&mut self, first: u64) -> Result<(), Fault>
         requires first { first ≤ self.old.position }
         requires live { self.old.live ≡ true }
@@ -427,9 +426,9 @@ impl<S: Source> BitReader<S> {
         Ok(())
     }
 
-    /// Tells whether the stream has no byte left. The position is a multiple of 8.
+    /// Returns whether the stream has no byte left. The position is a multiple of 8.
     ///
-    /// `TooLong` where the position is 8 times the limit on bytes and the stream goes on.
+    /// `TooLong` if the position is 8 times the limit on bytes and the stream goes on.
     pub fn at_end(&mut self) -> Result<bool, Fault>
         requires { self.old.position % 8 ≡ 0 }
         ensures looks { LooksForEnd self.old result self.new }
@@ -451,11 +450,10 @@ impl<S: Source> BitReader<S> {
         }
     }
 
-    /// Ends the reading of an input whose stream has no byte left, as `at_end` tells: takes what stands behind the
-    /// stream of a wrapper, whatever it is. The reader has then failed, and the position stays.
+    /// Ends the reading of an input whose stream has no byte left, as `at_end` returned: skips what comes after the stream of a
+    /// wrapper, whatever it is. The reader has then failed, and the position stays.
     ///
-    /// A wrapper whose stream is shorter than its size is `WrapperSize` at bit 96; an input past the limit on bytes is
-    /// `TooLong`.
+    /// A wrapper whose stream is shorter than its size is `WrapperSize` at bit 96; an input past the limit on bytes is `TooLong`.
     pub fn close(&mut self) -> Result<(), Fault>
         requires { IsThrough self.old }
         ensures closes { Closes self.old result self.new }
@@ -483,7 +481,7 @@ impl<S: Source> BitReader<S> {
         }
     }
 
-    /// Marks the reader as failed, for a judgement of the caller's, and hands the fault back.
+    /// Marks the reader as failed, for a judgement of the caller's, and returns the fault.
     pub fn fail(&mut self, fault: Fault) -> Fault
         ensures fault { result ≡ fault }
         ensures failed { self.new ≡ failed_reader self.old }
@@ -491,8 +489,8 @@ impl<S: Source> BitReader<S> {
         self.fail_at(fault, self.position)
     }
 
-    /// Marks the reader as failed, at the bit where a call of the caller's began, and hands the fault back. One that has
-    /// failed before is put there.
+    /// Marks the reader as failed, at the bit `first` where a call of the caller's began, and returns the fault. A reader that has
+    /// failed before gets this position too.
     #[inline(always)]
     pub fn fail_at(&mut self, fault: Fault, first: u64) -> Fault
         ensures fault { result ≡ fault }

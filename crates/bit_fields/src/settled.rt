@@ -1,4 +1,4 @@
-//! Values in little memory, many at a time.
+//! Packed values, many at a time.
 
 ghost use Rattle.std.specs.Prelude.{◌≡◌, ◌+◌, ◌-◌, ◌<◌, ◌≤◌, ◌^◌, [], ◌++◌, length, take, drop, OnOk, OnErr, slice_get, true, false};
 ghost use Rattle.std.proofs.Math.ListN.{replicate};
@@ -11,13 +11,13 @@ use std::marker::Model;
 /// How many values are packed at once, at most.
 pub(crate) const BATCH: usize = 64;
 
-/// How many zeros and other values there may be, at most: so many that those of another batch can be counted too.
+/// How many values there may be, zeros included, at most: those of another batch can be counted too.
 const MOST: u64 = u64::MAX - BATCH as u64;
 
-/// How many numbers may be held by what has room for others; the memory of more is given back.
+/// How many numbers a cleared list may have room for; a larger list is freed.
 const ROOM: usize = 65536;
 
-/// Numbers, of which those behind the last batch with one above 255 take a byte each, and the others eight.
+/// Numbers. Those after the last batch with one above 255 take one byte each, and the others eight.
 #[derive(Drop)]
 struct Numbers {
     alloc: Global,
@@ -33,7 +33,7 @@ impl Model for Numbers {
     ghost view = { λ n. n.wide.items ++ n.bytes.items };
 }
 
-/// Adds the numbers that bytes are.
+/// Appends bytes as numbers.
 fn add_bytes(wide: &mut Vec<u64>, bytes: &[u8]) -> Result<(), AllocError>
     ensures ok { OnOk result (wide.new.items ≡ wide.old.items ++ bytes.now) }
     ensures err { OnErr result (take (length wide.old.items) wide.new.items ≡ wide.old.items) }
@@ -44,7 +44,7 @@ fn add_bytes(wide: &mut Vec<u64>, bytes: &[u8]) -> Result<(), AllocError>
     Ok(())
 }
 
-/// Gives numbers of one byte eight.
+/// Moves numbers of one byte each to those of eight.
 #[cold]
 fn widen(wide: &mut Vec<u64>, bytes: &mut Vec<u8>) -> Result<(), AllocError>
     ensures same { wide.new.items ++ bytes.new.items ≡ wide.old.items ++ bytes.old.items }
@@ -59,7 +59,7 @@ fn widen(wide: &mut Vec<u64>, bytes: &mut Vec<u8>) -> Result<(), AllocError>
     Ok(())
 }
 
-/// Makes bytes of numbers, and answers whether each of them is one.
+/// Converts numbers to bytes, and returns whether each of them is below 256.
 fn narrow(numbers: &[u64], bytes: &mut [u8; BATCH]) -> bool
     requires { length numbers.now ≤ 64 }
     ensures { result ≡ true → take (length numbers.now) bytes.new ≡ numbers.now }
@@ -85,7 +85,7 @@ impl Numbers {
         }
     }
 
-    /// How many there are.
+    /// How many numbers there are.
     #[inline]
     fn len(&self) -> u64
         ensures { result ≡ length self.now }
@@ -93,7 +93,7 @@ impl Numbers {
         self.wide.len() as u64 + self.bytes.len() as u64
     }
 
-    /// Adds zeros until there are so many numbers.
+    /// Appends zeros until there are `count` numbers.
     fn fill(&mut self, count: u64) -> Result<(), AllocError>
         requires { length self.old ≤ count }
         ensures ok { OnOk result (self.new ≡ self.old ++ replicate (count - length self.old) 0) }
@@ -102,7 +102,7 @@ impl Numbers {
         self.bytes.resize(count as usize - self.wide.len(), 0)
     }
 
-    /// Adds numbers.
+    /// Appends numbers.
     fn push_all(&mut self, numbers: &[u64]) -> Result<(), AllocError>
         requires { length numbers.now ≤ 64 }
         ensures ok { OnOk result (self.new ≡ self.old ++ numbers.now) }
@@ -118,7 +118,7 @@ impl Numbers {
         self.wide.extend_from_slice(numbers)
     }
 
-    /// Adds numbers of one byte each.
+    /// Appends numbers of one byte each.
     fn push_bytes(&mut self, bytes: &[u8]) -> Result<(), AllocError>
         ensures ok { OnOk result (self.new ≡ self.old ++ bytes.now) }
         ensures err { OnErr result (self.new ≡ self.old) }
@@ -126,7 +126,7 @@ impl Numbers {
         self.bytes.extend_from_slice(bytes)
     }
 
-    /// The number at this place.
+    /// The number at `place`, if there is one.
     #[inline]
     fn get(&self, place: u64) -> Option<u64>
         ensures { result ≡ slice_get self.now place }
@@ -141,7 +141,7 @@ impl Numbers {
         }
     }
 
-    /// Those from a place on that take eight bytes, possibly none.
+    /// Numbers from `place` on that take eight bytes each, possibly none.
     #[inline]
     fn wide_from(&self, place: u64) -> &[u64]
         ensures { StandAt place result.now self.now }
@@ -150,7 +150,7 @@ impl Numbers {
         &wide[(place as usize).min(wide.len())..]
     }
 
-    /// Those from a place on that take a byte each, possibly none.
+    /// Numbers from `place` on that take one byte each, possibly none.
     #[inline]
     fn bytes_from(&self, place: u64) -> &[u8]
         ensures { StandAt place result.now self.now }
@@ -163,7 +163,7 @@ impl Numbers {
         &bytes[(place - self.wide.len()).min(bytes.len())..]
     }
 
-    /// Drops those behind the first ones.
+    /// Keeps the first `count` numbers.
     fn truncate(&mut self, count: u64)
         ensures { self.new ≡ take count self.old }
     {
@@ -172,7 +172,7 @@ impl Numbers {
         self.wide.truncate(count);
     }
 
-    /// Drops all. The memory of many is given back.
+    /// Drops all numbers, and frees a large list.
     #[inline(never)]
     fn clear(&mut self)
         ensures { self.new ≡ [] }
@@ -185,7 +185,7 @@ impl Numbers {
         self.wide.clear();
     }
 
-    /// Drops all, and gives their memory back.
+    /// Drops all numbers and frees their lists.
     #[cold]
     #[inline(never)]
     fn give_back(&mut self)
@@ -196,12 +196,12 @@ impl Numbers {
     }
 }
 
-/// Values that were packed in batches: eight bytes for each one up to the last batch with one that is above 255, one for each
-/// behind it, and none for the zeros at the end that were added at once, which are counted.
+/// Values that were packed in batches: eight bytes for each value up to the last batch that contains one above 255, and one byte
+/// for each later value. Zeros that were added at once at the end are only counted.
 #[derive(Drop)]
 pub(crate) struct SettledValues {
     numbers: Numbers,
-    /// How many values there are. Those that the numbers do not have are zeros.
+    /// How many values there are. Those that are not among the numbers are zeros.
     count: u64,
 }
 
@@ -217,7 +217,7 @@ impl Model for SettledValues {
 }
 
 impl SettledValues {
-    /// No values. It takes no memory.
+    /// No values. It allocates nothing.
     pub(crate) fn new(alloc: Global) -> SettledValues
         ensures { result ≡ [] }
     {
@@ -236,7 +236,7 @@ impl SettledValues {
         self.count
     }
 
-    /// How many there are before the zeros that are counted.
+    /// How many values there are before the zeros that are only counted.
     pub(crate) fn before_zeros(&self) -> u64
         ensures few { result ≤ length self.now }
         ensures zeros { drop result self.now ≡ replicate (length self.now - result) 0 }
@@ -244,7 +244,7 @@ impl SettledValues {
         self.numbers.len()
     }
 
-    /// Those that are held in eight bytes each, those in a byte each, and how many zeros stand behind them.
+    /// The values that are held in eight bytes each, those in a byte each, and how many zeros come after them.
     #[inline]
     pub(crate) fn parts(&self) -> (&[u64], &[u8], u64)
         ensures { self.now ≡ result.0.now ++ result.1.now ++ replicate result.2 0 }
@@ -257,7 +257,7 @@ impl SettledValues {
         )
     }
 
-    /// Whether these and others have the same parts.
+    /// Whether both have the same parts.
     pub(crate) fn has_parts_of(&self, other: &SettledValues) -> bool
         ensures { result ≡ true → self.now ≡ other.now }
     {
@@ -266,7 +266,7 @@ impl SettledValues {
             && self.numbers.wide == other.numbers.wide
     }
 
-    /// The value at this place, if there is one.
+    /// The value at `place`, if there is one.
     #[inline]
     pub(crate) fn get(&self, place: u64) -> Option<u64>
         ensures { result ≡ slice_get self.now place }
@@ -277,7 +277,7 @@ impl SettledValues {
         if place < self.count { Some(0) } else { None }
     }
 
-    /// Values from a place on that are held in eight bytes each, possibly none.
+    /// Values from `place` on that are held in eight bytes each, possibly none.
     #[inline]
     pub(crate) fn numbers_from(&self, place: u64) -> &[u64]
         ensures { StandAt place result.now self.now }
@@ -285,7 +285,7 @@ impl SettledValues {
         self.numbers.wide_from(place)
     }
 
-    /// Values from a place on that are held in a byte each, possibly none.
+    /// Values from `place` on that are held in a byte each, possibly none.
     #[inline]
     pub(crate) fn bytes_from(&self, place: u64) -> &[u8]
         ensures { StandAt place result.now self.now }
@@ -293,7 +293,7 @@ impl SettledValues {
         self.numbers.bytes_from(place)
     }
 
-    /// Adds values. It declines more than can be counted. If it adds none, these are what they were.
+    /// Appends values, or none of them. Declines more values than can be counted.
     #[cold]
     #[inline(never)]
     pub(crate) fn add(&mut self, values: &[u64]) -> Result<(), NotTaken>
@@ -310,7 +310,7 @@ impl SettledValues {
         Ok(())
     }
 
-    /// Adds values of one byte each, as `add` does.
+    /// Appends values of one byte each, as `add` does.
     pub(crate) fn add_bytes(&mut self, bytes: &[u8]) -> Result<(), NotTaken>
         ensures ok { OnOk result (self.new ≡ self.old ++ bytes.now) }
         ensures err { OnErr result (self.new ≡ self.old) }
@@ -324,7 +324,7 @@ impl SettledValues {
         Ok(())
     }
 
-    /// Adds so many zeros, unless there were too many to be counted then, and answers whether it did.
+    /// Appends `count` zeros and returns true, or adds none if there would be more values than can be counted.
     pub(crate) fn add_zeros(&mut self, count: u64) -> bool
         ensures yes { result ≡ true → self.new ≡ self.old ++ replicate count 0 }
         ensures no { result ≡ false → self.new ≡ self.old }
@@ -336,7 +336,7 @@ impl SettledValues {
         true
     }
 
-    /// Drops those behind the first ones.
+    /// Keeps the first `count` values.
     pub(crate) fn truncate(&mut self, count: u64)
         ensures { self.new ≡ take count self.old }
     {
@@ -344,7 +344,7 @@ impl SettledValues {
         self.count = self.count.min(count);
     }
 
-    /// Drops all. The memory of many is given back.
+    /// Drops all values, and frees a large list.
     #[inline(always)]
     pub(crate) fn clear(&mut self)
         ensures { self.new ≡ [] }

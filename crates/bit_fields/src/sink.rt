@@ -5,27 +5,26 @@ use std::alloc::Global;
 use std::io::Write;
 use thiserror::Error;
 
-/// A sink took no bytes, or could not hand them on.
+/// A sink took no bytes, or could not flush them.
 #[derive(Clone, Copy, Debug, PartialEq, Eq, Error)]
 #[error("the sink failed")]
 pub struct SinkFailed;
 
-/// What takes bytes in order, and counts how often it failed. A sink is worn once the count stands at `u64::MAX`.
+/// Takes bytes in order, and counts its failures. A sink is exhausted once the count is `u64::MAX`.
 pub trait Sink {
     ghost use Rattle.bit_fields.specs.Devices.{Outgoing, Puts};
 
-    // The bytes that it holds, where it tells them, and the count.
+    // The bytes that it holds, if it is known, and the count.
     ghost outgoing: { Self → Outgoing };
 
-    /// Takes the front of a slice and answers how many bytes it took. To take none of a slice that is not empty is
-    /// counted as a failure.
+    /// Takes leading bytes of a slice and returns how many. To take none of a slice that is not empty counts as a failure.
     ///
-    /// `SinkFailed` takes no byte and is counted as a failure too. A worn sink answers it and changes nothing.
+    /// After `SinkFailed` no byte was taken; it counts as a failure too. An exhausted sink returns it and changes nothing.
     fn put(&mut self, from: &[u8]) -> Result<usize, SinkFailed>
         ensures { Puts (outgoing self.old) (outgoing self.new) result from.now };
 }
 
-/// A vector of bytes. It fails where the growth of the vector is refused.
+/// A sink that is a vector of bytes. It fails if an allocation fails.
 #[derive(Drop)]
 pub struct VecSink {
     bytes: Vec<u8>,
@@ -43,7 +42,7 @@ impl VecSink {
         }
     }
 
-    /// What it took.
+    /// The bytes that it took.
     pub fn bytes(&self) -> &[u8]
         ensures { (⟦<VecSink as Sink>⟧.outgoing self.now).bytes ≡ Some result.now }
     {
@@ -75,7 +74,7 @@ impl Sink for VecSink {
     }
 }
 
-/// What goes to a writer. Any error of the writer is a failure, and so is a write that takes nothing.
+/// A sink over a writer. Any error of the writer is a failure, and so is a write that takes nothing.
 #[derive(Drop)]
 pub struct WriteSink<W> {
     writer: W,
@@ -83,7 +82,7 @@ pub struct WriteSink<W> {
 }
 
 impl<W: Write> WriteSink<W> {
-    /// A sink over a writer as it stands.
+    /// A sink over a writer in its present state.
     pub fn new(writer: W) -> WriteSink<W>
         ensures { ⟦<WriteSink<W> as Sink>⟧.outgoing result
             ≡ record { bytes = W.contents writer; failures = 0 } }
@@ -94,7 +93,7 @@ impl<W: Write> WriteSink<W> {
         }
     }
 
-    /// Has the writer hand on what it holds back. `SinkFailed` is counted as a failure unless the sink was worn.
+    /// Flushes the writer. `SinkFailed` counts as a failure, unless the sink was exhausted.
     pub fn flush(&mut self) -> Result<(), SinkFailed>
         ensures { Flushes (⟦<WriteSink<W> as Sink>⟧.outgoing self.old)
             (⟦<WriteSink<W> as Sink>⟧.outgoing self.new) result }
@@ -111,7 +110,7 @@ impl<W: Write> WriteSink<W> {
         }
     }
 
-    /// The writer as it stands.
+    /// Returns the writer in its present state.
     pub fn into_inner(self) -> W
         ensures { W.contents result ≡ (⟦<WriteSink<W> as Sink>⟧.outgoing self).bytes }
     {

@@ -11,7 +11,7 @@ use std::io;
 use std::io::{BufRead, Error as IoError, ErrorKind, Read};
 use thiserror::Error;
 
-/// How many bytes that nobody reads are pulled at once.
+/// How many bytes are pulled at once when they are skipped.
 pub const BLOCK: usize = 512;
 
 /// A source gave no bytes.
@@ -19,26 +19,25 @@ pub const BLOCK: usize = 512;
 #[error("the source failed")]
 pub struct SourceFailed;
 
-/// What gives bytes in order, and counts how often it was asked and how often it failed. A source is worn once a count
-/// stands at `u64::MAX`.
+/// Gives bytes in order, and counts its calls and its failures. A source is exhausted once a count is `u64::MAX`.
 pub trait Source {
     ghost use Rattle.std.specs.Prelude.{◌≡◌, ◌<◌, ◌≤◌, ◌^◌, true, IfOk};
     ghost use Rattle.std.specs.Borrow.{sem};
     ghost use Rattle.std.specs.Io.BufRead.{Rests};
     ghost use Rattle.bit_fields.specs.Devices.{Incoming, Pulls, PullsUnseen, Begins, IsFresh, Looked, Looks};
 
-    // The bytes still to come, where the source tells them, and the counts.
+    // The bytes still to come, if the source is known, and the counts.
     ghost incoming: { Self → Incoming };
 
-    /// Puts the next bytes into the front of a slice and answers how many; 0 for a slice that is not empty says that no
-    /// byte is left. Each pull is counted.
+    /// Copies the next bytes to the front of a slice and returns how many; 0 for a slice that is not empty means the end. Each pull
+    /// is counted.
     ///
-    /// `SourceFailed` takes no byte and is counted as a failure too. A worn source answers it and changes nothing.
+    /// After `SourceFailed` no byte was taken; it counts as a failure too. An exhausted source returns it and changes nothing.
     fn pull(&mut self, into: &mut [u8]) -> Result<usize, SourceFailed>
         ensures { Pulls (incoming self.old) (incoming self.new) result into.new };
 
-    /// Looks for bytes that come next and lie in memory, and takes none: whether there are any, which `lend` then lends.
-    /// `SourceFailed` is one pull that failed; a worn source has none to lend.
+    /// Looks for the next bytes that are buffered, and takes none. Returns whether `lend` has any to lend. `SourceFailed` is one
+    /// pull that failed; an exhausted source has none to lend.
     #[inline(always)]
     fn look(&mut self) -> Result<bool, SourceFailed>
         ensures looks { Looks (incoming self.old) result (incoming self.new) }
@@ -47,7 +46,7 @@ pub trait Source {
         Ok(false)
     }
 
-    /// Lends bytes that come next and lie in memory, possibly none, and takes none.
+    /// Lends the next bytes that are buffered, possibly none, and takes none.
     #[inline(always)]
     fn lend(&mut self) -> &[u8]
         requires { IsFresh (incoming self.old) }
@@ -58,8 +57,8 @@ pub trait Source {
         &[]
     }
 
-    /// Takes the next bytes, at least one and at most so many, without giving them, and answers how many; 0 says that no byte
-    /// is left. It is one pull, and fails as `pull` does.
+    /// Skips the next bytes, at least one and at most `most`, and returns how many; 0 means the end. It is one pull, and fails as
+    /// `pull` does.
     fn pass(&mut self, most: usize) -> Result<usize, SourceFailed>
         requires { 0 < most }
         ensures { PullsUnseen most (incoming self.old) (incoming self.new) result }
@@ -70,9 +69,9 @@ pub trait Source {
     }
 }
 
-/// The first eight of the bytes that come next and lie in memory, where there are so many. None is taken.
+/// The next eight bytes, if that many are buffered. None is taken.
 #[inline(always)]
-fn eight_ahead<S: Source>(source: &mut S) -> Result<Option<[u8; 8]>, SourceFailed>
+fn eight_buffered<S: Source>(source: &mut S) -> Result<Option<[u8; 8]>, SourceFailed>
     ensures looked { OnOk result (Looked (S.incoming source.old) (S.incoming source.new)) }
     ensures front { IfOk result (λ found. IfSome found
         (λ eight. Begins (S.incoming source.old).to_come eight)) }
@@ -91,15 +90,15 @@ fn eight_ahead<S: Source>(source: &mut S) -> Result<Option<[u8; 8]>, SourceFaile
     ]))
 }
 
-/// Takes the next bytes, at most so many, from 1 to 8, as a word, the first one lowest and zeros behind the last, and answers how
-/// many they are; 0 says that no byte is left. It is one pull, and fails as `Source::pull` does.
+/// Takes the next bytes, at most `room`, from 1 to 8, as a word, the first byte lowest and zeros after the last, and returns it
+/// with how many bytes it has; 0 means the end. It is one pull, and fails as `Source::pull` does.
 #[inline]
 pub fn pull_word<S: Source>(source: &mut S, room: usize) -> Result<(u64, usize), SourceFailed>
     requires some { 0 < room }
     requires few { room ≤ 8 }
     ensures { PullsWord room (S.incoming source.old) (S.incoming source.new) result }
 {
-    if let Some(eight) = eight_ahead(source)? {
+    if let Some(eight) = eight_buffered(source)? {
         let count = source.pass(room)?;
         return Ok((word_of(eight, count), count));
     }
@@ -108,7 +107,7 @@ pub fn pull_word<S: Source>(source: &mut S, room: usize) -> Result<(u64, usize),
     Ok((word_of(bytes, count), count))
 }
 
-/// The bytes of a slice. It fails only once it is worn.
+/// A source over a slice of bytes. It fails only if it is exhausted.
 #[derive(Drop)]
 pub struct SliceSource<'a> {
     rest: &'a [u8],
@@ -127,7 +126,7 @@ impl<'a> SliceSource<'a> {
         }
     }
 
-    /// The bytes that are left.
+    /// The unread bytes.
     #[inline(always)]
     pub(crate) fn rest(&self) -> &'a [u8]
         ensures { (⟦<SliceSource<'a> as Source>⟧.incoming self.now).to_come ≡ Some result.now }
@@ -186,7 +185,7 @@ impl<'a> Source for SliceSource<'a> {
     }
 }
 
-/// Reads once, and again each time that a signal interrupted it.
+/// Reads once, and again each time that a signal interrupted the read.
 #[inline]
 fn read_through<R: Read>(reader: &mut R, into: &mut [u8]) -> io::Result<usize>
     ensures bound { ReadsAtMost result into.new }
@@ -206,7 +205,7 @@ fn read_through<R: Read>(reader: &mut R, into: &mut [u8]) -> io::Result<usize>
     Err(IoError::from(ErrorKind::TimedOut))
 }
 
-/// What a reader gives. A read that a signal interrupted is tried again; any other error of the reader is a failure.
+/// A source over a reader. A read that a signal interrupted is tried again; any other error of the reader is a failure.
 #[derive(Drop)]
 pub struct ReadSource<R> {
     reader: R,
@@ -227,14 +226,14 @@ impl<R: Read> ReadSource<R> {
         }
     }
 
-    /// The reader as it stands.
+    /// Returns the reader in its present state.
     pub fn into_inner(self) -> R
         ensures { R.remaining result ≡ (⟦<ReadSource<R> as Source>⟧.incoming self).to_come }
     {
         self.reader
     }
 
-    /// A count is at its end.
+    /// Whether a counter is exhausted.
     #[inline(always)]
     fn is_worn(&self) -> bool
         ensures worn { result ≡ true → IsWorn (⟦<ReadSource<R> as Source>⟧.incoming self.now) }
@@ -243,7 +242,7 @@ impl<R: Read> ReadSource<R> {
         self.pulls == u64::MAX || self.failures == u64::MAX
     }
 
-    /// Whether an error of the reader is a failure, which is counted: all are but one by a signal.
+    /// Whether an error of the reader is a failure, and counts it if so: every error but an interruption by a signal is one.
     #[cold]
     #[inline(never)]
     fn fails(&mut self, error: &IoError) -> bool
@@ -264,7 +263,7 @@ impl<R: Read> ReadSource<R> {
 impl<R: BufRead> ReadSource<R> {
     ghost use Rattle.bit_fields.specs.contracts.source.ReadSource.{the_row};
 
-    /// Lends what the reader shows.
+    /// Lends the reader's buffer.
     #[inline(always)]
     fn lend(&mut self) -> &[u8]
         requires { IsFresh (⟦<ReadSource<R> as Source>⟧.incoming self.old) }
@@ -275,7 +274,7 @@ impl<R: BufRead> ReadSource<R> {
     {
         match self.reader.fill_buf() {
             Ok(bytes) => bytes,
-            Err(_) => &[], // of a reader that has just shown some
+            Err(_) => &[], // though the reader has just shown some
         }
     }
 }
@@ -304,9 +303,8 @@ impl<R: Read> Source for ReadSource<R> {
     }
 }
 
-/// What a reader with a buffer gives. It lends what the buffer has, and takes no byte ahead. A read that a signal
-/// interrupted is tried again; any other error is a failure. Only if the reader fails to show once more what it has just shown,
-/// nothing is lent.
+/// A source over a reader with a buffer. It lends what the buffer has, and takes no byte in advance. A read that a signal
+/// interrupted is tried again; any other error is a failure. If the reader fails to show its buffer a second time, nothing is lent.
 #[derive(Drop)]
 pub struct BufSource<R> {
     source: ReadSource<R>,
@@ -323,7 +321,7 @@ impl<R: BufRead> BufSource<R> {
         }
     }
 
-    /// The reader as it stands.
+    /// Returns the reader in its present state.
     pub fn into_inner(self) -> R
         ensures { R.remaining result ≡ (⟦<BufSource<R> as Source>⟧.incoming self).to_come }
     {
@@ -439,7 +437,7 @@ mod tests {
         );
     }
 
-    /// A reader that a signal interrupts each other time.
+    /// A reader that a signal interrupts every other time.
     #[derive(Drop)]
     struct Signalled<'a> {
         rest: &'a [u8],

@@ -1,5 +1,4 @@
-//! Rows of the format, read from slices and from readers that give few bytes at a time, and written to writers that take
-//! few bytes at a time.
+//! Rows of the format, read from slices and from readers that give few bytes at a time.
 
 use crate::{
     BitReader, BitWriter, BufSource, Fault, Head, Limits, ReadSource, Reason, Shapes, SliceSource,
@@ -23,7 +22,7 @@ const WRAPPER: [u8; 20] = [
     0xDE, 0xC0, 0x17, 0x0B, 0, 0, 0, 0, 20, 0, 0, 0, 16, 0, 0, 0, 7, 0, 0, 1,
 ];
 
-/// A reader that gives at most so many bytes at a time, and fails at one of its reads.
+/// A reader that gives a limited number of bytes at a time, and fails at one of its reads.
 #[derive(Drop)]
 pub(crate) struct Chopped<'a> {
     rest: &'a [u8],
@@ -43,7 +42,7 @@ impl<'a> Read for Chopped<'a> {
     }
 }
 
-/// It shows as many bytes at a time.
+/// It shows the same number of bytes at a time.
 impl<'a> BufRead for Chopped<'a> {
     fn fill_buf(&mut self) -> io::Result<&[u8]> {
         self.reads = self.reads.saturating_add(1);
@@ -125,7 +124,7 @@ fn words_in_steps(bytes: &[u8], limits: Limits) -> [Result<u64, Fault>; 9] {
     answers
 }
 
-/// The same where a reader shows so many bytes at a time.
+/// The same with a reader that shows one to nine bytes at a time.
 fn words_shown(bytes: &[u8], limits: Limits) -> [Result<u64, Fault>; 9] {
     let mut answers = [Ok(0); 9];
     for (index, answer) in answers.iter_mut().enumerate() {
@@ -193,7 +192,7 @@ fn shapes_of_limits(rt: HostRuntime) {
     assert!(rt; [usual.shapes(), at_use.shapes()] == [Shapes::AtDefinition, Shapes::AtUse]);
 }
 
-/// So many bytes of the magic, with this limit, and a reader that fails at one of its reads.
+/// How many bytes of the magic there are, the limit, at which read the reader fails, and the fault.
 static FAILING_STARTS: [(usize, u64, u64, Fault); 4] = [
     (
         0,
@@ -234,7 +233,7 @@ fn failing_starts(rt: HostRuntime) {
     }
 }
 
-/// The head with which a start answers, and the position then.
+/// The head that a start returns, and the position then.
 fn head_of(bytes: &[u8]) -> Option<(Head, u64)> {
     match BitReader::start(SliceSource::new(bytes), Limits::usual()) {
         Ok((reader, head)) => Some((head, reader.position())),
@@ -251,7 +250,7 @@ fn starts(rt: HostRuntime) {
     assert_eq!(rt; head_of(&MAGIC), Some((head, 32)));
 }
 
-/// A byte where one can be read.
+/// A byte, if one can be read.
 fn byte_of<S: Source>(reader: &mut BitReader<S>) -> Result<u64, Fault> {
     if reader.position() % 8 != 0 {
         return Err(Fault::Read);
@@ -265,7 +264,7 @@ fn padding<S: Source>(reader: &mut BitReader<S>) -> Result<u64, Fault> {
     Ok(0)
 }
 
-/// Whether the end is there, as a number.
+/// Whether the stream is at its end, as a number.
 fn end_of<S: Source>(reader: &mut BitReader<S>) -> Result<u64, Fault> {
     if reader.position() % 8 != 0 {
         return Err(Fault::Read);
@@ -273,7 +272,7 @@ fn end_of<S: Source>(reader: &mut BitReader<S>) -> Result<u64, Fault> {
     Ok(reader.at_end()? as u64)
 }
 
-/// What each call of a reader answers.
+/// The result of each call of a reader.
 fn all_calls<S: Source>(reader: &mut BitReader<S>) -> [Result<u64, Fault>; 6] {
     [
         reader.vbr(2),
@@ -299,7 +298,7 @@ static LONGER: [u8; 20] = [
     0x42, 0x43, 0xC0, 0xDE, 0x21, 0x08, 0, 0, 1, 0, 0, 0, 0, 0, 0, 0, 0x0A, 0x0A, 0x0A, 0x0A,
 ];
 
-/// So many bytes of it, with this limit, and what reading them as words answers.
+/// How many of these bytes there are, the limit, and the result of reading them as words.
 static WHOLES: [(usize, u64, Result<u64, Fault>); 8] = [
     (4, 1000, Ok(0)),
     (16, 16, Ok(3)),
@@ -405,7 +404,7 @@ fn heads(rt: HostRuntime) {
     assert_eq!(rt; head_of(&wrapper_of(20, 16, 0)), Some((head, 192)));
 }
 
-/// Wrappers with this offset, size and version, cut to so many bytes, with this limit, and why they are refused, if they are.
+/// Wrappers: their offset, size and version, how many bytes are left of them, the limit, and why they are refused, if they are.
 static WRAPPERS: [(u8, u8, u8, usize, u64, Option<(Reason, u64)>); 13] = [
     (20, 16, 0, 48, 48, None),
     (20, 16, 0, 36, 36, None),
@@ -422,7 +421,7 @@ static WRAPPERS: [(u8, u8, u8, usize, u64, Option<(Reason, u64)>); 13] = [
     (20, 16, 0, 48, 10, Some((Reason::TooLong, 80))),
 ];
 
-/// Three words, or why not.
+/// Three words, or the refusal.
 fn three_words_or(why: Option<(Reason, u64)>) -> Result<u64, Fault> {
     match why {
         Some((reason, bit)) => Err(refusal(reason, bit)),
@@ -468,7 +467,7 @@ fn far(offset: [u8; 4]) -> [u8; 2000] {
     input
 }
 
-/// A limit, and the fault where a gap does not end.
+/// A limit, and the fault if a gap does not end.
 static GAPS: [(u64, Fault); 2] = [
     (
         2000,
@@ -504,7 +503,7 @@ fn gaps(rt: HostRuntime) {
     }
 }
 
-/// What stands in front of padding, the padding, and the bit behind it; and the position before that bit.
+/// What comes before padding, the padding, and the bit after it; and the position before that bit.
 fn up_to_padding<S: Source>(reader: &mut BitReader<S>) -> ([Result<u64, Fault>; 5], u64) {
     let first = reader.fixed(2);
     let id = reader.vbr(8);
@@ -514,7 +513,7 @@ fn up_to_padding<S: Source>(reader: &mut BitReader<S>) -> ([Result<u64, Fault>; 
     ([first, id, width, pad, reader.fixed(1)], position)
 }
 
-/// A limit, and what the numbers and the padding answer where the padding is cut, with the position there.
+/// A limit, the results of the numbers and the padding if the padding is cut, and the position then.
 static CUT: [(
     u64,
     Result<u64, Fault>,
@@ -565,7 +564,7 @@ fn cut_padding(rt: HostRuntime) {
     }
 }
 
-/// The magic, and then these bytes, with zeros behind them.
+/// The magic, these bytes, and zeros after them.
 pub(crate) fn after_magic(bytes: &[u8]) -> [u8; 24] {
     let mut input = [0; 24];
     input[..4].copy_from_slice(&MAGIC);
@@ -574,7 +573,7 @@ pub(crate) fn after_magic(bytes: &[u8]) -> [u8; 24] {
     input
 }
 
-/// What one number in chunks of a lawful width answers after the magic, and the position then.
+/// The result of one number in chunks of a lawful width after the magic, and the position then.
 fn number<S: Source + Drop>(source: S, n: u32) -> (Result<u64, Fault>, u64) {
     match BitReader::start(source, Limits::usual()) {
         Ok((mut reader, _)) if n >= 2 && n <= 32 => {
@@ -594,7 +593,7 @@ fn number_in_steps(bytes: &[u8], n: u32) -> [(Result<u64, Fault>, u64); 9] {
     answers
 }
 
-/// The same where a reader shows so many bytes at a time.
+/// The same with a reader that shows one to nine bytes at a time.
 fn number_shown(bytes: &[u8], n: u32) -> [(Result<u64, Fault>, u64); 9] {
     let mut answers = [(Ok(0), 0); 9];
     for (index, answer) in answers.iter_mut().enumerate() {
@@ -603,7 +602,7 @@ fn number_shown(bytes: &[u8], n: u32) -> [(Result<u64, Fault>, u64); 9] {
     answers
 }
 
-/// Bytes after the magic, a width, and what the number in chunks of that width answers.
+/// Bytes after the magic, a width, the result of the number in chunks of that width, and the position then.
 static NUMBERS: [(&[u8], u32, Result<u64, Fault>, u64); 5] = [
     (
         &[

@@ -16,8 +16,8 @@ use std::alloc::{AllocError, Global};
 use std::marker::Model;
 use std::mem;
 
-/// A text of bits in memory: whole words of 32 bits, and up to 64 bits behind them. It grows without a copy of what there is,
-/// and where memory is refused its bits are any.
+/// Bits in memory: whole words of 32 bits, and up to 64 bits after them. It grows without a copy of its bits. If an allocation
+/// fails, its bits are undefined.
 #[derive(Drop)]
 pub struct BitText {
     words: Words,
@@ -63,7 +63,7 @@ impl BitText {
         self.window = Window::new();
     }
 
-    /// Adds a number of n bits, n from 0 to 32, the lowest bit first.
+    /// Appends a number of n bits, n from 0 to 32, the lowest bit first.
     #[inline(always)]
     pub fn fixed(&mut self, n: u32, value: u64) -> Result<(), AllocError>
         requires few { n ≤ 32 }
@@ -74,7 +74,7 @@ impl BitText {
         add_field(&mut self.words, &mut self.window, n, value)
     }
 
-    /// Adds a number in chunks of n bits, n from 2 to 32, as few as it takes.
+    /// Appends a number in chunks of n bits, n from 2 to 32, in as few as possible.
     #[inline(always)]
     pub fn vbr(&mut self, n: u32, value: u64) -> Result<(), AllocError>
         requires some { 2 ≤ n }
@@ -91,7 +91,7 @@ impl BitText {
         self.fixed(n, rest)
     }
 
-    /// Adds numbers in chunks of six bits, each in as few as it takes.
+    /// Appends numbers in chunks of six bits, each in as few as possible.
     #[inline]
     pub fn numbers(&mut self, values: &[u64]) -> Result<(), AllocError>
         requires { length self.old + length (values_bits values.now) < 2 ^ 62 }
@@ -105,7 +105,7 @@ impl BitText {
         Ok(())
     }
 
-    /// Adds zeros up to the next position that is a multiple of 32, possibly none.
+    /// Appends zeros up to the next position that is a multiple of 32, possibly none.
     pub fn pad(&mut self) -> Result<(), AllocError>
         requires { length self.old < 2 ^ 63 }
         ensures { OnOk result (self.new ≡ self.old ++ padding (length self.old)) }
@@ -114,7 +114,7 @@ impl BitText {
         self.fixed(count, 0)
     }
 
-    /// Puts a number of 32 bits in the place of a word, counted from the first one. The bits are whole words.
+    /// Replaces the word at a place, counted in words of 32 bits. The bits are whole words.
     pub fn set_word(&mut self, place: u64, word: u32) -> Result<(), AllocError>
         requires whole { length self.old % 32 ≡ 0 }
         requires there { 32 * place + 32 ≤ length self.old }
@@ -125,7 +125,7 @@ impl BitText {
         Ok(())
     }
 
-    /// Adds words.
+    /// Appends words.
     pub(crate) fn add_words(&mut self, words: &[u32]) -> Result<(), AllocError>
         requires { length self.old + 32 * length words.now < 2 ^ 63 }
         ensures { OnOk result (self.new ≡ self.old ++ bits_of_words words.now) }
@@ -138,7 +138,7 @@ impl BitText {
         Ok(())
     }
 
-    /// Adds the bits of a window, 32 at most.
+    /// Appends the bits of a window, at most 32.
     #[inline(always)]
     fn add_few(&mut self, bits: Window) -> Result<(), AllocError>
         requires few { length bits ≤ 32 }
@@ -151,7 +151,7 @@ impl BitText {
         self.fixed(count, value)
     }
 
-    /// Adds the bits of a window.
+    /// Appends the bits of a window.
     #[inline(always)]
     fn add_window(&mut self, bits: Window) -> Result<(), AllocError>
         requires { length self.old < 2 ^ 62 }
@@ -163,8 +163,8 @@ impl BitText {
         self.add_few(rest)
     }
 
-    /// Moves all bits of another text behind those that are here. It is then empty, and gave the memory back of what it had,
-    /// except that of its last words.
+    /// Moves all bits of another text to the end of this one. The other is then empty, and its memory is freed, except that of its
+    /// last words.
     #[inline]
     pub fn append(&mut self, other: &mut BitText) -> Result<(), AllocError>
         requires { length self.old + length other.old < 2 ^ 62 }
@@ -178,7 +178,7 @@ impl BitText {
         self.add_window(rest)
     }
 
-    /// Writes all bits behind what a writer wrote, which are whole bytes.
+    /// Writes all bits, at a position of the writer that is a multiple of 8.
     pub fn write<K: Sink>(self, writer: &mut BitWriter<K>) -> Result<(), Fault>
         requires live { writer.old.live ≡ true }
         requires whole { writer.old.position % 8 ≡ 0 }
@@ -191,7 +191,7 @@ impl BitText {
     }
 }
 
-/// Moves the first 32 bits behind words to the words.
+/// Moves the first 32 bits of the window to the words.
 #[inline(always)]
 fn move_word(words: &mut Words, window: &mut Window) -> Result<(), AllocError>
     requires { 32 ≤ length window.old }
@@ -204,7 +204,7 @@ fn move_word(words: &mut Words, window: &mut Window) -> Result<(), AllocError>
     Ok(())
 }
 
-/// Moves a word behind words to the words, where there is one, so that 32 bits more have room.
+/// Moves a word from the window to the words, if there is one, so that the window has room for 32 bits.
 #[inline(always)]
 fn make_room(words: &mut Words, window: &mut Window) -> Result<(), AllocError>
     ensures same { bits_of_words words.new ++ window.new ≡ bits_of_words words.old ++ window.old }
@@ -216,7 +216,7 @@ fn make_room(words: &mut Words, window: &mut Window) -> Result<(), AllocError>
     Ok(())
 }
 
-/// Moves all whole words behind words to the words.
+/// Moves all whole words from the window to the words.
 fn settle(words: &mut Words, window: &mut Window) -> Result<(), AllocError>
     ensures same { bits_of_words words.new ++ window.new ≡ bits_of_words words.old ++ window.old }
     ensures few { OnOk result (length window.new < 32) }
@@ -227,7 +227,7 @@ fn settle(words: &mut Words, window: &mut Window) -> Result<(), AllocError>
     Ok(())
 }
 
-/// Adds a number of n bits behind words and a window.
+/// Appends a number of n bits to words and a window.
 #[inline(always)]
 fn add_field(words: &mut Words, window: &mut Window, n: u32, value: u64) -> Result<(), AllocError>
     requires few { n ≤ 32 }
@@ -242,7 +242,7 @@ fn add_field(words: &mut Words, window: &mut Window, n: u32, value: u64) -> Resu
     Ok(())
 }
 
-/// The chunks of six bits of a number of ten bits: one, or two.
+/// The chunks of six bits of a number of ten bits: one or two.
 #[inline(always)]
 fn short_chunks(value: u64) -> Window
     requires { value < 1024 }
@@ -254,7 +254,7 @@ fn short_chunks(value: u64) -> Window
     Window::of(value + 32 * (value / 32 + more), 6 + 6 * more as u32)
 }
 
-/// Two chunks of six bits of a number of more than ten: those of its low ten bits, with others behind them.
+/// Two chunks of six bits of a number of more than ten bits: those of its low ten bits, with continuation bits.
 #[inline(always)]
 fn two_chunks(value: u64) -> u64
     requires { 1024 ≤ value }
@@ -264,7 +264,7 @@ fn two_chunks(value: u64) -> u64
     value % 32 + 64 * (value / 32 % 32) + 2080
 }
 
-/// The chunks of six bits of a number of eleven to twenty bits: three, or four.
+/// The chunks of six bits of a number of eleven to twenty bits: three or four.
 #[inline(always)]
 fn more_chunks(value: u64) -> Window
     requires some { 1024 ≤ value }
@@ -278,7 +278,7 @@ fn more_chunks(value: u64) -> Window
     chunks
 }
 
-/// Adds a number of more than ten bits in chunks of six behind words and a window.
+/// Appends a number of more than ten bits in chunks of six to words and a window.
 #[inline(always)]
 fn add_great_number(words: &mut Words, window: &mut Window, value: u64) -> Result<(), AllocError>
     requires { 1024 ≤ value }
@@ -295,7 +295,7 @@ fn add_great_number(words: &mut Words, window: &mut Window, value: u64) -> Resul
     Ok(())
 }
 
-/// Adds a number in chunks of six bits behind words and a window.
+/// Appends a number in chunks of six bits to words and a window.
 #[inline(always)]
 fn add_number(words: &mut Words, window: &mut Window, value: u64) -> Result<(), AllocError>
     ensures { OnOk result (bits_of_words words.new ++ window.new
@@ -309,7 +309,7 @@ fn add_number(words: &mut Words, window: &mut Window, value: u64) -> Result<(), 
     Ok(())
 }
 
-/// Adds two numbers in chunks of six bits behind words and a window, at once where both are small.
+/// Appends two numbers in chunks of six bits to words and a window, at once if both are small.
 #[inline(always)]
 fn add_two(
     words: &mut Words,
@@ -330,7 +330,7 @@ fn add_two(
     add_number(words, window, second)
 }
 
-/// Adds numbers two by two: how many, all or all but one.
+/// Appends numbers two by two, and returns how many: all, or all but one.
 #[inline(always)]
 fn add_pairs(words: &mut Words, window: &mut Window, values: &[u64]) -> Result<usize, AllocError>
     ensures { IfOk result (λ count. (count ≤ length values.now)
@@ -345,8 +345,8 @@ fn add_pairs(words: &mut Words, window: &mut Window, values: &[u64]) -> Result<u
     Ok(done)
 }
 
-/// Adds numbers in chunks of six bits behind words and a window, which is held in registers meanwhile. Where memory is refused
-/// the bits are any.
+/// Appends numbers in chunks of six bits to words and a window, which stays in registers meanwhile. If an allocation fails, the
+/// bits are undefined.
 #[inline(always)]
 fn add_numbers(words: &mut Words, window: &mut Window, values: &[u64]) -> Result<(), AllocError>
     ensures { OnOk result (bits_of_words words.new ++ window.new
@@ -361,7 +361,7 @@ fn add_numbers(words: &mut Words, window: &mut Window, values: &[u64]) -> Result
     Ok(())
 }
 
-/// Adds words behind words and a window, which is held in registers meanwhile. Where memory is refused the bits are any.
+/// Appends words to words and a window, which stays in registers meanwhile. If an allocation fails, the bits are undefined.
 fn add_each(words: &mut Words, window: &mut Window, more: &[u32]) -> Result<(), AllocError>
     ensures { OnOk result (bits_of_words words.new ++ window.new
         ≡ (bits_of_words words.old ++ window.old) ++ bits_of_words more.now) }
@@ -374,7 +374,7 @@ fn add_each(words: &mut Words, window: &mut Window, more: &[u32]) -> Result<(), 
     Ok(())
 }
 
-/// Writes the bits of a window, 32 at most.
+/// Writes the bits of a window, at most 32.
 fn write_few<K: Sink>(bits: Window, writer: &mut BitWriter<K>) -> Result<(), Fault>
     requires live { writer.old.live ≡ true }
     requires few { length bits ≤ 32 }

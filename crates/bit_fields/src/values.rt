@@ -1,4 +1,4 @@
-//! What takes the values of a record while they are read.
+//! Value sinks: they take the values of a record while they are read.
 
 ghost use Rattle.std.specs.Prelude.{◌≡◌, ℕ, ◌-◌, ◌^◌, List, [], ◌∷◌, ◌++◌, length, min, true, false, OnOk, OnErr};
 ghost use Rattle.std.proofs.Math.ListN.{replicate};
@@ -8,7 +8,7 @@ use std::alloc::AllocError;
 /// Why a value was not taken.
 #[derive(Clone, Copy, Debug, PartialEq, Eq, Drop)]
 pub enum NotTaken {
-    /// It is not one that is wanted here, or one more than can be counted.
+    /// It does not match the expected value, or there would be more values than can be counted.
     Declined,
     /// An allocation failed.
     OutOfMemory,
@@ -20,8 +20,8 @@ impl From<AllocError> for NotTaken {
     }
 }
 
-/// What takes the values of a record while they are read, in order: a list that keeps them, or a count. After a value that it did
-/// not take it has what it had.
+/// A value sink. It takes the values of a record in order while they are read, and keeps, counts or compares them. A value that it
+/// does not take leaves it as it was.
 pub trait ValueTaker {
     ghost use Rattle.std.specs.Prelude.{ℕ, List};
 
@@ -48,15 +48,14 @@ pub trait ValueTaker {
         Ok(())
     }
 
-    /// Takes so many values without seeing them, where it need not know them, and answers whether it did. Where it did not, it
-    /// has what it had.
+    /// Takes `count` values without seeing them and returns true, if it need not know them. If false, it is as it was.
     fn pass(&mut self, count: u64) -> bool
         ensures yes { result ≡ true → (values others : List ℕ) → took self.old values
             → length others ≡ count → took self.new (values ++ others) }
         ensures no { result ≡ false → (values : List ℕ) → took self.old values
             → took self.new values };
 
-    /// Takes so many zeros at once, where it can, and answers whether it did. Where it did not, it has what it had.
+    /// Takes `count` zeros at once and returns true, if it can. If false, it is as it was.
     fn pass_zeros(&mut self, count: u64) -> bool
         ensures yes { result ≡ true → (values : List ℕ) → took self.old values
             → took self.new (values ++ replicate count 0) }
@@ -66,18 +65,18 @@ pub trait ValueTaker {
         self.pass(count)
     }
 
-    /// Drops the values behind the first ones, of which there are so many as `count` told.
+    /// Keeps the first values. `count` is what `count` returned after them.
     fn truncate(&mut self, count: u64)
         ensures { (values others : List ℕ) → took self.old (values ++ others)
             → count ≡ min (length values) (2 ^ 64 - 1) → took self.new values };
 
-    /// How many values it took; `u64::MAX` where there are more.
+    /// How many values it took; `u64::MAX` if there are more.
     fn count(&self) -> u64
         ensures { (values : List ℕ) → took self.now values
             → result ≡ min (length values) (2 ^ 64 - 1) };
 }
 
-/// It keeps the values.
+/// Keeps the values.
 impl ValueTaker for Vec<u64> {
     ghost took = { λ v values. v.items ≡ values };
 
@@ -100,7 +99,7 @@ impl ValueTaker for Vec<u64> {
     }
 }
 
-/// How many values there were.
+/// Counts the values.
 #[derive(Clone, Copy, Debug, PartialEq, Eq)]
 pub struct ValueCount {
     count: u64,

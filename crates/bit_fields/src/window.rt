@@ -11,7 +11,7 @@ macro_rules! tops {
     };
 }
 
-/// Those for each width of chunks, from 2 to 14 bits.
+/// These top bits for each width of chunks, from 2 to 14 bits.
 static FOUR_TOPS: [u64; 15] = [
     0,
     0,
@@ -56,7 +56,7 @@ impl Window {
         Window { word: 0, held: 0 }
     }
 
-    /// The same bits once more.
+    /// A copy of the bits.
     #[inline(always)]
     pub fn copy(&self) -> Window
         ensures { result ≡ self.now }
@@ -67,7 +67,7 @@ impl Window {
         }
     }
 
-    /// The word of the bits, and how many they are.
+    /// The word of the bits, and how many bits it has.
     #[inline(always)]
     pub fn parts(&self) -> (u64, u32)
         ensures bits { bits_of result.1 result.0 ≡ self.now }
@@ -111,8 +111,8 @@ impl Window {
         value
     }
 
-    /// How many bits the number in chunks of n bits at the front takes, where it takes at most four chunks and zeros stand
-    /// behind the bits that are here; 65 where it takes more.
+    /// How many bits the number in chunks of n bits at the front takes, if it has at most four chunks, where zeros follow the bits
+    /// of the window; 65 if it has more.
     #[inline(always)]
     pub fn number_bits(&self, n: u32) -> u32
         requires some { 2 ≤ n }
@@ -124,7 +124,7 @@ impl Window {
         lasts.trailing_zeros() + 1
     }
 
-    /// Takes the payloads of the chunks of n bits in so many bits, at most four, one above the other.
+    /// Takes the chunks of n bits in the next `bits` bits, at most four, and returns their payloads as one number.
     #[inline(always)]
     pub fn take_number(&mut self, n: u32, bits: u32) -> u64
         requires some { 2 ≤ n }
@@ -141,7 +141,7 @@ impl Window {
         four_payloads(chunks, n)
     }
 
-    /// Puts the low n bits of a word behind those that are here.
+    /// Appends the low n bits of a word.
     #[inline(always)]
     pub fn push(&mut self, word: u64, n: u32)
         requires fits { word < 2 ^ n }
@@ -153,7 +153,7 @@ impl Window {
         self.held += n;
     }
 
-    /// Keeps the first n bits alone.
+    /// Keeps only the first n bits.
     pub fn keep(&mut self, n: u32)
         requires there { n ≤ length self.old }
         requires few { n < 64 }
@@ -163,7 +163,7 @@ impl Window {
         self.held = n;
     }
 
-    /// The bytes of the bits, the first eight bits as the first byte, with zeros behind.
+    /// The bits as bytes, the first eight bits as the first byte, with zeros after them.
     pub fn bytes(&self) -> [u8; 8]
         ensures front { (k : ℕ) → 8 * k ≤ length self.now
             → bits_of_bytes (take k result) ≡ take (8 * k) self.now }
@@ -172,7 +172,7 @@ impl Window {
         self.word.to_le_bytes()
     }
 
-    /// Takes the first n bits away.
+    /// Drops the first n bits.
     #[inline(always)]
     pub fn skip(&mut self, n: u32)
         requires { n ≤ length self.old }
@@ -188,7 +188,7 @@ impl Window {
         }
     }
 
-    /// The low n bits of a word that has no others.
+    /// The low n bits of a word; its other bits are 0.
     pub fn of(word: u64, n: u32) -> Window
         requires fits { word < 2 ^ n }
         requires most { n ≤ 64 }
@@ -197,7 +197,7 @@ impl Window {
         Window { word, held: n }
     }
 
-    /// Puts the bits of another window behind those that are here.
+    /// Appends the bits of another window.
     pub fn append(&mut self, other: Window)
         requires some { 0 < length other }
         requires room { length self.old + length other ≤ 64 }
@@ -206,7 +206,7 @@ impl Window {
         self.push(other.word, other.held);
     }
 
-    /// Takes the first n bits away, and answers them.
+    /// Removes the first n bits and returns them.
     pub fn split(&mut self, n: u32) -> Window
         requires there { n ≤ length self.old }
         requires few { n < 64 }
@@ -223,7 +223,7 @@ impl Window {
     }
 }
 
-/// The payloads of the first four chunks of n bits of a word, one above the other.
+/// The payloads of the first four chunks of n bits of a word, as one number.
 #[inline(always)]
 fn four_payloads(word: u64, n: u32) -> u64
     requires some { 2 ≤ n }
@@ -238,7 +238,7 @@ fn four_payloads(word: u64, n: u32) -> u64
     above(word & mask, second, place)
 }
 
-/// A number below, with another one above it, from a place on.
+/// A number with another one above it, from a place on.
 #[inline(always)]
 fn above(low: u64, high: u64, place: u32) -> u64
     requires place { place < 64 }

@@ -1,7 +1,7 @@
 ghost use Rattle.std.specs.Prelude.{◌≡◌, ◌*◌, ◌<◌, ◌≤◌, ◌^◌, length, take};
 ghost use Rattle.bit_grammar.specs.Bits.{bits_of, bits_of_bytes};
 
-/// The first bytes of eight as a word, so many, the first one lowest.
+/// The first `count` of eight bytes as a word, the first one lowest.
 #[inline(always)]
 pub fn word_of(bytes: [u8; 8], count: usize) -> u64
     requires { count ≤ 8 }
@@ -16,7 +16,7 @@ pub fn word_of(bytes: [u8; 8], count: usize) -> u64
     word & mask
 }
 
-/// The first four bytes of a slice that has them as a word, the first one lowest. This is one load.
+/// The first four bytes of a slice, which has them, as a word, the first one lowest. This is one load.
 #[inline(always)]
 pub fn four_of(bytes: &[u8]) -> u64
     requires { 4 ≤ length bytes.now }

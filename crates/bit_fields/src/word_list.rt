@@ -21,7 +21,7 @@ const CHUNK: usize = 262144;
 /// How many words are written at once.
 const PIECE: usize = 1024;
 
-/// Words of 32 bits, in chunks of 1 MiB, so that growing moves none of those that are there.
+/// Words of 32 bits, in chunks of 1 MiB, so that growing moves none of them.
 #[derive(Drop)]
 pub(crate) struct Words {
     alloc: Global,
@@ -40,7 +40,7 @@ impl Model for Words {
     ghost invariant = { λ w. AreFull w.full.items };
 }
 
-/// Begins the next chunk behind a full one.
+/// Begins the next chunk after a full one.
 #[cold]
 #[inline(never)]
 fn next_chunk(
@@ -83,7 +83,7 @@ impl Words {
         self.full.len() * CHUNK + self.last.len()
     }
 
-    /// Adds a word.
+    /// Appends a word.
     #[inline(always)]
     pub(crate) fn push(&mut self, word: u32) -> Result<(), AllocError>
         ensures ok { OnOk result (self.new ≡ self.old ++ word ∷ []) }
@@ -96,7 +96,7 @@ impl Words {
         Ok(())
     }
 
-    /// Puts a word in the place of another one.
+    /// Replaces the word at a place.
     pub(crate) fn set(&mut self, place: usize, word: u32)
         requires { place < length self.old }
         ensures { self.new ≡ set self.old place word }
@@ -115,8 +115,8 @@ impl Words {
         self.last.clear();
     }
 
-    /// Moves all words behind a text, a chunk at a time, each of which is given back once it was moved. Where memory is
-    /// refused, some are left.
+    /// Moves all words to the end of a text, a chunk at a time. Each chunk is freed once it is moved. If an allocation fails, some
+    /// words are left.
     pub(crate) fn move_behind(&mut self, text: &mut BitText) -> Result<(), AllocError>
         requires { length text.old + 32 * length self.old < 2 ^ 62 }
         ensures { OnOk result (text.new ≡ text.old ++ bits_of_words self.old) }
@@ -139,7 +139,7 @@ impl Words {
     }
 }
 
-/// Moves the words of chunks behind a text. The loop is kept out of the callers, since there is seldom a whole chunk.
+/// Moves the words of chunks to the end of a text. The loop is kept out of its callers, since there is seldom a whole chunk.
 #[inline(always)]
 fn move_chunks(chunks: &mut Vec<Vec<u32>>, text: &mut BitText) -> Result<(), AllocError>
     requires { length text.old + 32 * length (words_of_chunks chunks.old.items) < 2 ^ 62 }
@@ -154,7 +154,7 @@ fn move_chunks(chunks: &mut Vec<Vec<u32>>, text: &mut BitText) -> Result<(), All
     move_each(chunks, text)
 }
 
-/// Moves the words of chunks behind a text, one after the other.
+/// Moves the words of chunks to the end of a text, one chunk after another.
 #[cold]
 #[inline(never)]
 fn move_each(chunks: &mut Vec<Vec<u32>>, text: &mut BitText) -> Result<(), AllocError>
@@ -171,7 +171,7 @@ fn move_each(chunks: &mut Vec<Vec<u32>>, text: &mut BitText) -> Result<(), Alloc
     Ok(())
 }
 
-/// Puts the four bytes of a word in their places, the lowest first.
+/// Stores the four bytes of a word at a place, the lowest first.
 #[inline(always)]
 fn put_word(bytes: &mut [u8], at: usize, word: u32)
     requires { at + 4 ≤ length bytes.old }
@@ -184,7 +184,7 @@ fn put_word(bytes: &mut [u8], at: usize, word: u32)
     bytes[at + 3] = four[3];
 }
 
-/// Puts the bytes of words in front of what bytes there are.
+/// Stores the bytes of words at the front of a slice.
 fn put_words(bytes: &mut [u8], words: &[u32])
     requires { 4 * length words.now ≤ length bytes.old }
     ensures { bits_of_bytes (take (4 * length words.now) bytes.new) ≡ bits_of_words words.now }
@@ -194,7 +194,7 @@ fn put_words(bytes: &mut [u8], words: &[u32])
     }
 }
 
-/// Writes words, as many as are written at once.
+/// Writes words, at most as many as are written at once.
 fn write_piece<K: Sink>(words: &[u32], writer: &mut BitWriter<K>) -> Result<(), Fault>
     requires few { length words.now ≤ 1024 }
     requires whole { writer.old.position % 8 ≡ 0 }

@@ -1,4 +1,4 @@
-//! Bytes taken as words, against bytes taken into slices.
+//! Bytes taken as words, compared with bytes taken into slices.
 
 ghost use Rattle.std.specs.Prelude.{◌<◌, ◌≤◌};
 
@@ -6,13 +6,13 @@ use crate::source::pull_word;
 use crate::tests::{after_magic, in_steps, shown_source};
 use crate::{BitReader, Fault, Limits, SliceSource, Source};
 
-/// Bytes of which no two are the same.
+/// Bytes, no two of them equal.
 const BYTES: [u8; 21] = [
     0xF1, 0x02, 0xF3, 0x04, 0xF5, 0x06, 0xF7, 0x08, 0xF9, 0x0A, 0xFB, 0x0C, 0xFD, 0x0E, 0xFF, 0x10,
     0xE1, 0x12, 0xE3, 0x14, 0xE5,
 ];
 
-/// A number that tells apart what was given in which order.
+/// A number that depends on what was given in which order.
 fn mix(before: u64, word: u64, count: usize) -> u64 {
     let with_word = before
         .wrapping_mul(0x9E37_79B9_7F4A_7C15)
@@ -22,7 +22,7 @@ fn mix(before: u64, word: u64, count: usize) -> u64 {
         .wrapping_add(count as u64)
 }
 
-/// What a source gives up to its end or its first failure, by words.
+/// What a source gives by words, up to its end or its first failure.
 fn by_words<S: Source + Drop>(mut source: S, room: usize) -> u64
     requires some { 0 < room }
     requires few { room ≤ 8 }
@@ -38,7 +38,7 @@ fn by_words<S: Source + Drop>(mut source: S, room: usize) -> u64
     0
 }
 
-/// The same, by slices, with the number of the bytes counted up from the last one.
+/// The same by slices; the number of the bytes is computed from the last one back.
 fn by_slices<S: Source + Drop>(mut source: S, room: usize) -> u64
     requires few { room ≤ 8 }
 {
@@ -63,7 +63,7 @@ fn value(bytes: &[u8]) -> u64 {
     value
 }
 
-/// The first word of a source and its count, and 0 and 99 where it failed.
+/// The first word of a source and its count, or 0 and 99 if it failed.
 fn first<S: Source + Drop>(mut source: S, room: usize) -> (u64, usize) {
     match pull_word(&mut source, room.clamp(1, 8)) {
         Ok(taken) => taken,
@@ -136,7 +136,7 @@ fn failures_and_words(rt: HostRuntime) {
                 (given, given, given),
                 "{room} {fails_at}"
             );
-            // where it fails to show them once more, they are read
+            // bytes that the reader fails to show again are read
             let shown = by_words(shown_source(&BYTES, 5, 3 * fails_at - 1), room);
             let all = by_words(in_steps(&BYTES, 5, 0), room);
             assert_eq!(rt; shown, all, "{room} {fails_at}");
@@ -174,7 +174,7 @@ fn digits_of<S: Source + Drop>(reader: &mut BitReader<S>) -> Result<u64, Fault> 
     Ok(all)
 }
 
-/// Whether both sources over a reader give this, however few bytes it gives at a time.
+/// Whether both sources over a reader give this result, however few bytes the reader gives at a time.
 fn give_fields(input: &[u8], answer: Result<u64, Fault>) -> bool {
     let mut same = true;
     for step in 1..12 {
@@ -185,7 +185,7 @@ fn give_fields(input: &[u8], answer: Result<u64, Fault>) -> bool {
     same
 }
 
-/// Whether both sources fail where their reader does at one of the reads of eleven bytes.
+/// Whether both sources fail if their reader does, at one of the reads of eleven bytes.
 fn fail_within(input: &[u8]) -> bool {
     let mut fail = true;
     for fails_at in 1..12 {

@@ -9,7 +9,7 @@ use crate::sink::{Sink, SinkFailed};
 use crate::window::Window;
 use std::marker::Model;
 
-/// Writes the fields of a stream of bits. After a fault every call that returns a Result answers Failed.
+/// Writes the fields of a stream of bits. After a fault every call that returns a `Result` returns `Failed`.
 #[derive(Drop)]
 pub struct BitWriter<K: Sink> {
     window: Window,
@@ -35,7 +35,7 @@ impl<K: Sink> Model for BitWriter<K> {
 }
 
 impl<K: Sink> BitWriter<K> {
-    /// A writer that puts its bytes behind those that the sink took before.
+    /// A writer that appends its bytes to those that the sink took before.
     pub fn new(sink: K) -> BitWriter<K>
         ensures { result ≡ record {
           live = true;
@@ -59,14 +59,14 @@ impl<K: Sink> BitWriter<K> {
         self.position
     }
 
-    /// The sink as it stands: without the bits that are held, unless `finish` succeeded.
+    /// Returns the sink in its present state: without the bits that are still held, unless `finish` succeeded.
     pub fn into_sink(self) -> K
         ensures { K.outgoing result ≡ self.outgoing }
     {
         self.sink
     }
 
-    /// Gives the sink the first bytes that are held, of which it may take some.
+    /// Gives the sink the first `count` held bytes. The sink may take only some of them.
     #[inline(always)]
     fn put(&mut self, count: usize) -> Result<(), SinkFailed>
         requires live { self.old.live ≡ true }
@@ -94,7 +94,7 @@ impl<K: Sink> BitWriter<K> {
         }
     }
 
-    /// Gives the sink all that is held. The position is a multiple of 8.
+    /// Gives the sink all held bytes. The position is a multiple of 8.
     fn put_all(&mut self) -> Result<(), SinkFailed>
         requires live { self.old.live ≡ true }
         requires whole { self.old.position % 8 ≡ 0 }
@@ -124,7 +124,7 @@ impl<K: Sink> BitWriter<K> {
         self.window.append(bits);
     }
 
-    /// Holds as many of the bits as there is room for, and answers the others.
+    /// Holds the bits for which there is room, and returns the others.
     fn hold_front(&mut self, bits: Window) -> Window
         requires live { self.old.live ≡ true }
         requires most { length bits ≤ 64 }
@@ -144,8 +144,7 @@ impl<K: Sink> BitWriter<K> {
         rest
     }
 
-    /// Holds some of the bits, gives the sink the full window, and holds the others; after a failure the position is
-    /// anywhere.
+    /// Holds some of the bits, gives the sink the full window, and holds the others. After a failure the position is undefined.
     fn hold_in_parts(&mut self, bits: Window) -> Result<(), SinkFailed>
         requires live { self.old.live ≡ true }
         requires most { length bits ≤ 64 }
@@ -161,8 +160,7 @@ impl<K: Sink> BitWriter<K> {
         Ok(())
     }
 
-    /// Writes bits for which there is no room. It is kept out of the callers, so that these take few instructions where
-    /// there is room.
+    /// Writes bits for which there is no room. It is kept out of its callers, so that they take few instructions if there is room.
     #[cold]
     #[inline(never)]
     fn overflow(&mut self, bits: Window) -> Result<(), SinkFailed>
@@ -184,7 +182,7 @@ impl<K: Sink> BitWriter<K> {
         }
     }
 
-    /// Writes bits, at a position below the last ones that a number counts.
+    /// Writes bits. The position after them fits 64 bits.
     #[inline(always)]
     fn append(&mut self, bits: Window) -> Result<(), SinkFailed>
         requires live { self.old.live ≡ true }
@@ -201,7 +199,7 @@ impl<K: Sink> BitWriter<K> {
         Ok(())
     }
 
-    /// Writes a number of n bits, at a position below the last ones that a number counts.
+    /// Writes a number of n bits. The position after it fits 64 bits.
     #[inline(always)]
     fn field(&mut self, n: u32, value: u64) -> Result<(), Fault>
         requires live { self.old.live ≡ true }
@@ -233,7 +231,7 @@ impl<K: Sink> BitWriter<K> {
         self.field(n, value)
     }
 
-    /// Writes a number in chunks of n bits, as few as it takes; after a failure the position is anywhere.
+    /// Writes a number in chunks of n bits, in as few as possible. After a failure the position is undefined.
     fn chunks(&mut self, n: u32, value: u64) -> Result<(), SinkFailed>
         requires live { self.old.live ≡ true }
         requires some { 2 ≤ n }
@@ -252,7 +250,7 @@ impl<K: Sink> BitWriter<K> {
         Ok(())
     }
 
-    /// Writes a number whose chunks are possibly too many for a window. It is kept out of the callers.
+    /// Writes a number that may have too many chunks for a window. It is kept out of its callers.
     #[cold]
     #[inline(never)]
     fn long_vbr(&mut self, n: u32, value: u64) -> Result<(), SinkFailed>
@@ -291,7 +289,7 @@ impl<K: Sink> BitWriter<K> {
         self.append(chunks_of(n, value))
     }
 
-    /// Writes a number in chunks of n bits, n from 2 to 32, as few as it takes.
+    /// Writes a number in chunks of n bits, n from 2 to 32, in as few as possible.
     #[inline(always)]
     pub fn vbr(&mut self, n: u32, value: u64) -> Result<(), Fault>
         requires some { 2 ≤ n }
@@ -309,7 +307,7 @@ impl<K: Sink> BitWriter<K> {
         }
     }
 
-    /// Gives the sink bytes, of which it may take some, and answers how many it took. Nothing is held.
+    /// Gives the sink bytes, of which it may take some, and returns how many it took. No bits are held.
     fn put_front(&mut self, bytes: &[u8]) -> Result<usize, SinkFailed>
         requires live { self.old.live ≡ true }
         requires none { self.old.held ≡ [] }
@@ -334,7 +332,7 @@ impl<K: Sink> BitWriter<K> {
         }
     }
 
-    /// Gives the sink bytes, all of them. Nothing is held.
+    /// Gives the sink all of these bytes. No bits are held.
     fn put_bytes(&mut self, bytes: &[u8]) -> Result<(), SinkFailed>
         requires live { self.old.live ≡ true }
         requires none { self.old.held ≡ [] }
@@ -352,7 +350,7 @@ impl<K: Sink> BitWriter<K> {
         Ok(())
     }
 
-    /// Gives the sink all that is held, and bytes behind it.
+    /// Gives the sink all held bytes, and then these.
     fn put_behind(&mut self, bytes: &[u8]) -> Result<(), SinkFailed>
         requires live { self.old.live ≡ true }
         requires whole { self.old.position % 8 ≡ 0 }
@@ -364,7 +362,7 @@ impl<K: Sink> BitWriter<K> {
         self.put_bytes(bytes)
     }
 
-    /// Writes bytes at a position that is a multiple of 8, and gives them to the sink, as many at once as it takes.
+    /// Writes bytes at a position that is a multiple of 8, and gives the sink as many at once as it takes.
     pub fn bytes(&mut self, bytes: &[u8]) -> Result<(), Fault>
         requires whole { self.old.position % 8 ≡ 0 }
         requires position { self.old.position + 8 * length bytes.now < 2 ^ 64 }
@@ -395,7 +393,7 @@ impl<K: Sink> BitWriter<K> {
         Ok(())
     }
 
-    /// Gives the sink all that is held. The position is a multiple of 8.
+    /// Gives the sink all held bytes. The position is a multiple of 8.
     pub fn finish(&mut self) -> Result<(), Fault>
         requires { self.old.position % 8 ≡ 0 }
         ensures writes { Writes [] self.old result self.new }
@@ -412,7 +410,7 @@ impl<K: Sink> BitWriter<K> {
     }
 }
 
-/// The chunks of n bits that spell a number of 32 bits, as few as it takes.
+/// The chunks of n bits of a number of 32 bits, as few as possible.
 #[inline(always)]
 fn chunks_of(n: u32, value: u64) -> Window
     requires some { 2 ≤ n }

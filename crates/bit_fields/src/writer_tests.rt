@@ -7,13 +7,13 @@ use std::alloc::Global;
 use std::io::{self, Error, ErrorKind, Write};
 use std::test::Fail;
 
-/// A sink that takes few bytes a put, and fails at one of its puts.
+/// A sink that takes few bytes a put, and fails after some puts.
 #[derive(Drop)]
 struct Pieces {
     bytes: Vec<u8>,
-    /// It takes no more bytes a put.
+    /// How many bytes it takes a put, at most.
     most: usize,
-    /// It fails after so many puts.
+    /// It fails after this many more puts.
     puts_left: u64,
     failures: u64,
     /// The most bytes that it was given at once.
@@ -61,7 +61,7 @@ impl Sink for Pieces {
     }
 }
 
-/// A writer that takes two bytes at most, or fails.
+/// A writer that takes at most two bytes, or fails.
 #[derive(Drop)]
 struct Balky {
     fails: bool,
@@ -85,7 +85,7 @@ impl Write for Balky {
     }
 }
 
-/// What write_fields writes, computed apart from this crate.
+/// What `write_fields` writes, computed apart from this crate.
 static WRITTEN: [u8; 76] = [
     0xfc, 0xa7, 0x6a, 0xff, 0xff, 0xff, 0xff, 0xff, 0xff, 0xff, 0xff, 0xff, 0xff, 0xff, 0xff, 0xff,
     0xff, 0xff, 0x7f, 0xc0, 0x07, 0x06, 0xff, 0xff, 0xff, 0xff, 0xff, 0xff, 0xff, 0xff, 0xff, 0x0f,
@@ -94,7 +94,7 @@ static WRITTEN: [u8; 76] = [
     0x00, 0x00, 0x82, 0x00, 0x00, 0x00, 0xfc, 0xff, 0xff, 0xff, 0xff, 0x03,
 ];
 
-/// Numbers in chunks of the least, a middle and the greatest width, at their ends and where a chunk more is needed.
+/// Numbers in chunks of the least, a middle and the greatest width: at their ends, and with one more chunk.
 static NUMBERS: [(u32, u64); 12] = [
     (2, 0),
     (2, 31),
@@ -156,7 +156,7 @@ fn write_end<K: Sink>(writer: &mut BitWriter<K>, end: u64) -> Result<(), Fault> 
     writer.finish()
 }
 
-/// All of them, and padding. A wrong position is a fault of reading, which no writer gives.
+/// All of these fields, and padding. A wrong position gives a read fault, which no writer returns.
 fn write_fields<K: Sink>(writer: &mut BitWriter<K>) -> Result<(), Fault> {
     write_numbers(writer)?;
     write_low(writer)?;
@@ -167,7 +167,7 @@ fn write_fields<K: Sink>(writer: &mut BitWriter<K>) -> Result<(), Fault> {
     write_end(writer, 608)
 }
 
-/// Whether each call of a writer that has failed answers so, and its position stays.
+/// Whether each call of a failed writer returns `Failed`, and its position stays.
 fn has_failed<K: Sink>(writer: &mut BitWriter<K>) -> bool {
     let failed = Err(Fault::Failed);
     let position = writer.position();
@@ -200,7 +200,7 @@ fn a_chunk_more(rt: HostRuntime) -> Result<(), Fail> {
     Ok(())
 }
 
-/// A sink after all of it.
+/// The sink after all of it.
 fn written_to<K: Sink + Drop>(sink: K) -> Result<K, Fault> {
     let mut writer = BitWriter::new(sink);
     write_fields(&mut writer)?;
@@ -262,7 +262,7 @@ fn short_puts_lose_nothing(rt: HostRuntime) -> Result<(), Fail> {
     Ok(())
 }
 
-/// Whether a sink of this kind fails once, keeps a front of what is written, and the writer has failed then.
+/// Whether such a sink fails once, has a prefix of what was written, and the writer has then failed.
 fn keeps_a_front(alloc: Global, most: usize, puts: u64) -> bool {
     let mut writer = BitWriter::new(Pieces::new(alloc, most, puts));
     let answer = write_fields(&mut writer);
@@ -288,7 +288,7 @@ fn no_byte_taken_is_a_failure(rt: HostRuntime) {
     assert!(rt; keeps_a_front(rt.alloc(), 0, u64::MAX));
 }
 
-/// Whether a writer fails at the end of a field, and has failed then.
+/// Whether a writer fails at the end of a field, and has then failed.
 fn fails_at_the_end<K: Sink>(writer: &mut BitWriter<K>) -> bool {
     writer.position() == 0
         && writer.fixed(32, 7).is_ok()
@@ -307,7 +307,7 @@ fn worn_sinks_fail(rt: HostRuntime) {
     assert!(rt; writer.into_sink().failures == u64::MAX);
 }
 
-/// A writer that takes at most so many bytes at a time, fails at one of its writes, and can't hand anything on.
+/// A writer that takes a limited number of bytes at a time, fails at one of its writes, and can't flush.
 #[derive(Drop)]
 struct Slow {
     taken: Vec<u8>,
@@ -332,7 +332,7 @@ impl Write for Slow {
     }
 }
 
-/// Writes two numbers and padding, nine bytes with those of a third field.
+/// Writes two numbers, 20 bytes, and finishes.
 fn write_some<W: Write + Drop>(sink: WriteSink<W>) -> (Result<(), Fault>, u64, W) {
     let mut writer = BitWriter::new(sink);
     let answer = write_two(&mut writer);
@@ -354,7 +354,7 @@ fn write_two<W: Write>(writer: &mut BitWriter<WriteSink<W>>) -> Result<(), Fault
     Ok(())
 }
 
-/// Whether a writer of this kind gets the whole, or a front of it where it fails.
+/// Whether such a writer gets all bytes, or a prefix of them if it fails.
 fn gets_its_part(alloc: Global, step: usize, fails_at: u64, whole: &[u8]) -> bool {
     let (answer, position, slow) = write_some(WriteSink::new(Slow {
         taken: Vec::new(alloc),

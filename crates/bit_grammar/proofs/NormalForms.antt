@@ -1,4 +1,4 @@
--- Normal forms, and what is left under a setting.
+-- Normal forms, and trees under a setting.
 pub mod Texts
 pub mod SpelledParts
 pub mod Normals

@@ -5,7 +5,7 @@ use Rattle.bit_grammar.specs.Marks.{RecordMark}
 use Rattle.bit_grammar.specs.Machine.{Event, enters, defines, notes, leaves}
 use Rattle.bit_grammar.specs.Tally.{CodeTally, BlockTally, record_bits, is_abbreviated}
 
--- rows where the one with a key is changed; where there is none, a fresh one at their end
+-- rows with a change to the one of a key; if there is none, to a new one at their end
 abbrev pub rows_with : {Row : Type 0} → (key : Row → ℕ) → (fresh : ℕ → Row) → (Row → Row) → ℕ
     → List Row → List Row
 rows_with key fresh change k [] = change (fresh k) ∷ []
@@ -29,7 +29,7 @@ fresh_row id = record {
   codes = [];
 }
 
--- ---- what an event adds to its row
+-- ---- the change of an event to its row
 
 -- a record to the row of its code
 abbrev pub one_use : RecordMark → CodeTally → CodeTally
@@ -77,11 +77,11 @@ pub record Counts : Type 0 where
 abbrev pub no_counts : Counts
 no_counts = record { rows = []; around = [] }
 
--- the rows with that of an id changed
+-- the rows with a change to that of an id
 abbrev pub with_row : (BlockTally → BlockTally) → ℕ → List BlockTally → List BlockTally
 with_row change id rows = rows_with (λ (x : BlockTally). x.id) fresh_row change id rows
 
--- the rows with that of the innermost open block changed
+-- the rows with a change to that of the innermost open block
 abbrev pub count_here : (BlockTally → BlockTally) → List OpenCount → List BlockTally
     → List BlockTally
 count_here change [] rows = rows

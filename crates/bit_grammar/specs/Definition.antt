@@ -25,7 +25,7 @@ encoding first_bit n =
     choose (n == 5) (gives blob) (
     refuses (at AbbrevEncoding first_bit))))))
 
--- the flag, and the encoding where there is one
+-- the flag, and the encoding if there is one
 unfoldable pub kind : Grammar Kind
 kind = do
   flag ← fixed 1
@@ -34,8 +34,8 @@ kind = do
     n ← fixed 3
     encoding first_bit n)
 
--- whether an operand of this kind may stand there, with so many operands after it: an array only with one
--- operand after it, a blob only with none, neither as the first, and only a plain field as an element
+-- whether an operand of this kind may be there, with `after` operands after it: an array only with one operand after it, a blob
+-- only with none, neither as the first, and only a plain field as an element
 abbrev pub fits : Place → (after : ℕ) → Kind → Bool
 fits element after literal = false
 fits element after array = false
@@ -46,7 +46,7 @@ fits later after array = after == 1
 fits later after blob = after == 0
 fits place after _ = true
 
--- what is asked of that where the operand stands in a definition
+-- the judgement of that at the definition; if shapes are judged at their use, all pass
 abbrev pub passes : Shapes → (fits : Bool) → Bool
 passes AtDefinition fits = fits
 passes AtUse fits = true
@@ -111,12 +111,12 @@ kind_of Array = array
 kind_of Char6 = char6
 kind_of Blob = blob
 
--- whether operands, of which the first stands at this place, are in a lawful order: each may stand where it does
+-- whether operands, the first of which is at this place, are in a lawful order: each is allowed at its place
 abbrev pub in_order : Place → List Op → Bool
 in_order place [] = true
 in_order place (op ∷ others) = fits place (length others) (kind_of op)
     && in_order (place_after op) others
 
--- whether a record may go by these operands
+-- whether a record may use these operands
 abbrev pub has_shape : List Op → Bool
 has_shape ops = in_order first ops

@@ -1,5 +1,4 @@
--- The events of an input as lines of text, as ASCII codes: what stands where, also before a fault.
--- This project's own.
+-- The events of an input as lines of text, as ASCII codes, with their positions, also before a fault. This project's own.
 use Rattle.std.specs.Prelude.{ℕ, ◌-◌, List, [], ◌∷◌, ◌++◌, length, flat_map, codes, decimal, Ok, Err}
 use Rattle.bit_grammar.specs.declared.op.Op.{Op}
 use Rattle.bit_grammar.specs.declared.op.Op.TheVariants.{Literal, Fixed, Vbr, Array, Char6, Blob}
@@ -12,7 +11,7 @@ use Rattle.bit_grammar.specs.Steps.{open_after}
 use Rattle.bit_grammar.specs.Tally.{stream_begin}
 use Rattle.bit_grammar.specs.Texts.{line, magic_text, values_text}
 
--- a line that tells a bit first: the bit, a space, and the line
+-- a line that begins with a bit: the bit, a space, and the line
 abbrev pub line_at : (bit around : ℕ) → List ℕ → List ℕ
 line_at bit around text = decimal bit ++ (32 ∷ line around text)
 
@@ -46,8 +45,8 @@ noted_text values code abbreviation listed = codes "record " ++ decimal code ++ 
     ++ decimal abbreviation ++ codes " count " ++ decimal (length listed)
     ++ shown_values values listed
 
--- The line of an event, with so many blocks open before it. It tells the first bit of what begins there, and of a block's end
--- the bit behind the block. An end stands under the line of its own block.
+-- The line of an event, with `around` blocks open before it. It begins with the first bit of the item, and at a block's end with
+-- the bit after the block. The line of an end is indented as that of its own block.
 abbrev pub event_line : Values → (around : ℕ) → Event → List ℕ
 event_line values around (enters o) = line_at o.first around (opened_text o.id o.width o.body)
 event_line values around (defines mark) = line_at mark.first around
@@ -56,7 +55,7 @@ event_line values around (notes mark) = line_at mark.first around
     (noted_text values mark.code mark.abbreviation mark.values)
 event_line values around (leaves after) = line_at after (around - 1) (codes "end")
 
--- the lines of events in order, with so many blocks open before the first
+-- the lines of events in order, with `around` blocks open before the first
 abbrev pub event_lines : Values → (around : ℕ) → List Event → List ℕ
 event_lines values around [] = []
 event_lines values around (event ∷ events) = event_line values around event
@@ -66,12 +65,12 @@ event_lines values around (event ∷ events) = event_line values around event
 abbrev pub head_line : Head → List ℕ
 head_line head = line_at (stream_begin head.wrapper) 0 (magic_text head.magic)
 
--- the text of what is told of an input: the line of its magic and those of its events, or nothing where no head is whole
+-- the text of an outlook: the line of the magic and those of the events, or nothing if no head is complete
 abbrev pub outlook_text : Values → Outlook → List ℕ
 outlook_text values (Ok x) = head_line x.0 ++ event_lines values 0 x.1.0
 outlook_text values (Err fault) = []
 
--- how that ends
+-- the end of an outlook
 abbrev pub outlook_end : Outlook → Ending
 outlook_end (Ok x) = x.1.1
 outlook_end (Err fault) = broke fault

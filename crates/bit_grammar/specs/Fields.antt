@@ -7,19 +7,19 @@ use Rattle.bit_grammar.specs.Bits.{number}
 use Rattle.bit_grammar.specs.Grammar.{at, Grammar, gives, refuses, position, next_bits, choose, ◌>>=◌, ◌>>◌, judge}
 use Rattle.bit_grammar.specs.Terms.{chunk_limit, character}
 
--- the next bits; where fewer are left, the field that begins at first is truncated
+-- the next n bits; if fewer are left, the field that begins at `first` is truncated
 abbrev pub next_of : ℕ → ℕ → Grammar (List Bool)
 next_of first n = next_bits n (at Truncated first)
 
--- a number of so many bits
+-- a number of n bits
 unfoldable pub fixed : ℕ → Grammar ℕ
 fixed n = do
   first ← position
   s ← next_of first n
   gives (number s)
 
--- the chunks of a VBR that began at first, each with payload bits and one that says whether another follows;
--- so many chunks are permitted, and so many places are left in the value
+-- the chunks of a VBR that began at `first`, each with `payload` bits and a continuation bit; `permitted` more chunks are allowed,
+-- and `places` bits are left in the value
 abbrev pub chunks : (payload : ℕ) → (first : ℕ) → (permitted places : ℕ) → Grammar ℕ
 chunks payload first zero places = refuses (at ValueTooWide first)
 chunks payload first (suc permitted) places = do
@@ -29,7 +29,7 @@ chunks payload first (suc permitted) places = do
       gives (number (take payload chunk) + 2 ^ payload * high))
       (gives (number (take payload chunk)))
 
--- a number in chunks of so many bits; of width 0 it takes no bits
+-- a number in chunks of n bits; of width 0 it takes no bits
 unfoldable pub vbr : ℕ → Grammar ℕ
 vbr zero = gives 0
 vbr (suc payload) = position >>= λ first. chunks payload first (chunk_limit payload) 64
@@ -39,7 +39,7 @@ char6 = do
   c ← fixed 6
   gives (character c)
 
--- so many zero bits of a padding that began at first
+-- zero bits of a padding that began at `first`
 abbrev pub zeros : (first : ℕ) → ℕ → Grammar (Unit {0})
 zeros first zero = gives tt
 zeros first (suc count) = do

@@ -1,9 +1,8 @@
--- Blocks and what stands in them, in the words of the format. No limit is spoken of here, and a definition may have its
--- operands in any order; where their order is judged at the definition, PassIn says so of a whole tree.
--- Source: "LLVM Bitcode File Format", "Abbreviation IDs", "Blocks", "ENTER_SUBBLOCK Encoding", "END_BLOCK Encoding",
--- "Standard Blocks", "#0 - BLOCKINFO Block". This project's own: the bounds of block ids and widths; that a BLOCKINFO
--- block holds no block, makes a table of its own that takes the place of the one before, and holds nothing but records
--- that name a block until one is named.
+-- Blocks and their items, in the words of the format. There are no limits here, and a definition may have its operands in any
+-- order; if their order is judged at the definition, PassIn says so of a whole tree. Source: "LLVM Bitcode File Format",
+-- "Abbreviation IDs", "Blocks", "ENTER_SUBBLOCK Encoding", "END_BLOCK Encoding", "Standard Blocks", "#0 - BLOCKINFO Block". This
+-- project's own: the bounds of block ids and widths; that a BLOCKINFO block contains no block, makes a table of its own that
+-- replaces the one before, and contains only records that name a block until one is named.
 use Rattle.std.specs.Prelude.{◌≡◌, ℕ, ◌+◌, ◌-◌, ◌*◌, ◌^◌, ◌<◌, ◌≤◌, Bool, List, [], ◌∷◌, ◌++◌, length, Option, Some, None, slice_get, ◌⊎◌}
 use Rattle.std.specs.List.{AllByRecursion}
 use Rattle.bit_grammar.specs.declared.op.Op.{Op}
@@ -15,15 +14,15 @@ use Rattle.bit_grammar.specs.FormatRecord.{IsUnabbreviated, IsAbbreviated}
 use Rattle.bit_grammar.specs.Forest.{set_bid}
 use Rattle.bit_grammar.specs.Marks.{BlockMark, RecordMark, DefinitionMark, Marks, no_marks, marked_block, marked_record, marked_definition}
 
--- What holds at an item: the width of abbreviation ids, the definitions in force, the table of those that BLOCKINFO
--- blocks made, and in a BLOCKINFO block which block is described and the table that it makes.
+-- The state at an item: the width of abbreviation ids, the definitions in force, the table of those that BLOCKINFO blocks made, and
+-- in a BLOCKINFO block the described block and the table that it makes.
 pub record Context : Type 0 where
   pub width : ℕ
   pub definitions : List (List Op)
   pub table : Table
   pub info : Option BlockInfo
 
--- at the top, where the table is this one: ids of two bits, and no definitions in force
+-- at the top, with this table: ids of two bits, and no definitions in force
 abbrev pub top_with : Table → Context
 top_with table = record { width = 2; definitions = []; table = table; info = None }
 
@@ -31,7 +30,7 @@ top_with table = record { width = 2; definitions = []; table = table; info = Non
 abbrev pub top_context : Context
 top_context = top_with no_definitions
 
--- in a block: ids of its own width, and the definitions that the table has for it; none that stand in the block around it
+-- in a block: ids of its own width, and the definitions that the table has for it; none of the block around it
 abbrev pub context_inside : Context → (id width : ℕ) → Context
 context_inside c id width = record {
   width = width;
@@ -44,18 +43,18 @@ abbrev pub made_or : Table → Option BlockInfo → Table
 made_or table None = table
 made_or table (Some info) = info.made
 
--- the table after a block: the one that a BLOCKINFO block made, else the one that stood at the block's end
+-- the table after a block: the one that a BLOCKINFO block made, else the one at the block's end
 abbrev pub table_after : Context → Table
 table_after c = made_or c.table c.info
 
--- a table of what can be defined
+-- a table that holds only what can be defined
 abbrev pub HoldsDefinable : Table → Type 0
 HoldsDefinable table = (id : ℕ) → AllByRecursion Definable (table id)
 
 -- ---- definitions
 
--- A definition is the block's own, behind those that it has; in a BLOCKINFO block, where a block has to be described, it is
--- the last of those for that block, and the BLOCKINFO block has none of its own.
+-- A definition is the block's own, after its others; in a BLOCKINFO block, which needs a described block, it is the last of those
+-- for that block, and the BLOCKINFO block has none of its own.
 abbrev pub Defined : Option BlockInfo → List Op → Context → Context → Type 0
 Defined None ops c new = new ≡ record c { definitions = c.definitions ++ ops ∷ [] }
 Defined (Some info) ops c new = (id : ℕ) × (info.described ≡ Some id)
@@ -83,8 +82,8 @@ IsRecord c id p e s = ((id ≡ 3) × IsUnabbreviated e s)
     ⊎ ((4 ≤ id) × (ops : List Op) × (slice_get c.definitions (id - 4) ≡ Some ops) × InOrder ops
     × IsAbbreviated ops p e s)
 
--- In a BLOCKINFO block a record of code 1 names the block that is described from there on, by its first value; a record of
--- any other code stands only where a block is described.
+-- In a BLOCKINFO block a record of code 1 names the block that is described from then on, by its first value; a record of any other
+-- code is allowed only if a block is described.
 abbrev pub Described : Option BlockInfo → CodeAndValues → Context → Context → Type 0
 Described None e c new = new ≡ c
 Described (Some info) e c new =
@@ -105,9 +104,9 @@ IsNote c p mark s new =
 
 -- ---- blocks
 
--- A block that begins at bit p, where Inside says what its items are: ENTER_SUBBLOCK with the id in VBR 8, the width in
--- VBR 4, padding and the length in 32 bits; the items; END_BLOCK with padding. The length counts the words from the
--- body's first bit to the end of the last padding. The block leaves the table, and all else as it was.
+-- A block that begins at bit p, with items by Inside: ENTER_SUBBLOCK with the id in VBR 8, the width in VBR 4, padding and the
+-- length in 32 bits; the items; END_BLOCK with padding. The length counts the words from the body's first bit to the end of the
+-- last padding. The block leaves the table, and all else as it was.
 pub record IsBlock (Inside : Context → ℕ → List Bool → Context → Type 0) (c : Context) (p : ℕ)
     (mark : BlockMark) (s : List Bool) (new : Context) : Type 0 where
   -- the bits of its parts
@@ -152,7 +151,7 @@ AreItems (marked_block mark inner rest) c p s left = (first others : List Bool) 
     × (s ≡ first ++ others) × IsBlock (AreItems inner) c p mark first new
     × AreItems rest new (p + length first) others left
 
--- ---- the order of operands, where it is judged at the definition
+-- ---- the order of operands, if it is judged at the definition
 
 -- all definitions pass
 abbrev pub PassIn : Shapes → Marks → Type 0

@@ -12,7 +12,7 @@ use Rattle.bit_grammar.specs.FormatFields.{IsFixed, IsVbr}
 
 -- ---- what a lawful list of operands is
 
--- the operand at an index; past the end there is none, and a literal stands for it
+-- the operand at an index; past the end a literal in its place
 abbrev pub op_at : List Op → ℕ → Op
 op_at ops i = get_or ops i (Literal 0)
 
@@ -23,7 +23,7 @@ IsElement (Vbr width) = Unit {0}
 IsElement Char6 = Unit {0}
 IsElement _ = ⊥
 
--- widths are at most 32, a VBR's is not 1, and a literal has 64 bits
+-- widths are at most 32, a VBR's is not 1, and a literal has at most 64 bits
 abbrev pub HasLawfulValue : Op → Type 0
 HasLawfulValue (Literal v) = v < 2 ^ 64
 HasLawfulValue (Fixed width) = width ≤ 32
@@ -35,8 +35,8 @@ pub record Definable (ops : List Op) : Type 0 where
   pub some : 0 < length ops
   pub values : AllByRecursion HasLawfulValue ops
 
--- A lawful order, without which no record goes by the operands: the first is no array and no blob; an array is the last but
--- one, and an element follows it; a blob is the last.
+-- A lawful order, without which no record may use the operands: the first is no array and no blob; an array is the last but one,
+-- and an element follows it; a blob is the last.
 pub record InOrder (ops : List Op) : Type 0 where
   pub first : (op_at ops 0 ≢ Array) × (op_at ops 0 ≢ Blob)
   pub array : (i : ℕ) → op_at ops i ≡ Array → i + 2 ≡ length ops
@@ -49,7 +49,7 @@ pub record Lawful (ops : List Op) : Type 0 where
   pub order : InOrder ops
   pub values : AllByRecursion HasLawfulValue ops
 
--- what is asked of the order where the operands are defined
+-- the judgement of the order where the operands are defined
 abbrev pub PassesShape : Shapes → List Op → Type 0
 PassesShape AtDefinition ops = InOrder ops
 PassesShape AtUse ops = Unit {0}
@@ -64,7 +64,7 @@ IsEncoding number Value s = (code value : List Bool) × (s ≡ false ∷ (code +
 abbrev pub IsNothing : List Bool → Type 0
 IsNothing s = s ≡ []
 
--- An operand: a one bit and the value in VBR 8 for a literal, else its encoding, with the width in VBR 5 where it has one.
+-- An operand: a one bit and the value in VBR 8 for a literal, else its encoding, with the width in VBR 5 if it has one.
 abbrev pub IsOperand : Op → List Bool → Type 0
 IsOperand (Literal v) s = (value : List Bool) × (s ≡ true ∷ value) × IsVbr 8 v value
 IsOperand (Fixed width) s = IsEncoding 1 (IsVbr 5 width) s
@@ -73,7 +73,7 @@ IsOperand Array s = IsEncoding 3 IsNothing s
 IsOperand Char6 s = IsEncoding 4 IsNothing s
 IsOperand Blob s = IsEncoding 5 IsNothing s
 
--- operands, one after the other
+-- operands, one after another
 abbrev pub AreOperands : List Op → List Bool → Type 0
 AreOperands [] s = s ≡ []
 AreOperands (op ∷ ops) s = (first others : List Bool) × (s ≡ first ++ others) × IsOperand op first

@@ -56,7 +56,7 @@ pub record IsPadding (p : ℕ) (s : List Bool) : Type 0 where
 
 -- ---- the shortest VBR
 
--- the payloads of the least number of chunks that spell a number, of at most so many
+-- the payloads of the fewest chunks that spell a number, at most `permitted`
 abbrev pub shortest_payloads : (payload permitted : ℕ) → ℕ → List (List Bool)
 shortest_payloads payload zero v = []
 shortest_payloads payload (suc permitted) v = bits_of payload v

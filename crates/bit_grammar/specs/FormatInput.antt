@@ -1,8 +1,7 @@
--- Whole inputs in the words of the format. No limit is spoken of here.
--- Source: "LLVM Bitcode File Format", "Bitstream Format", "Magic Numbers", "Bitcode Wrapper Format". This project's own:
--- that only blocks stand at the top, up to the end of the stream; that a wrapper's version is 0, its offset at least 20
--- and a multiple of 4, that any bytes may stand between it and the stream and behind the stream, and that a stream in a
--- wrapper has no wrapper.
+-- Whole inputs in the words of the format. There are no limits here. Source: "LLVM Bitcode File Format", "Bitstream Format", "Magic
+-- Numbers", "Bitcode Wrapper Format". This project's own: that there are only blocks at the top, up to the end of the stream; that
+-- a wrapper's version is 0, its offset at least 20 and a multiple of 4, that any bytes may come between it and the stream and after
+-- the stream, and that a stream in a wrapper has no wrapper.
 use Rattle.std.specs.Prelude.{◌≡◌, ℕ, ◌+◌, ◌*◌, ◌%◌, ◌≤◌, ◌≢◌, Bool, List, ◌++◌, length, Option, Some, None}
 use Rattle.bit_grammar.specs.FormatFields.{IsFixed}
 use Rattle.bit_grammar.specs.Forest.{wrapper_magic}
@@ -28,8 +27,8 @@ pub record IsStream (p magic : ℕ) (blocks : Marks) (s : List Bool) : Type 0 wh
   pub only : AreMarkedBlocks blocks
   pub items : AreItems blocks top_context (p + 32) rest left
 
--- A wrapped stream: the wrapper's magic, version 0, the offset, size and CPU type, each in 32 bits, any bytes from byte 20
--- up to the offset, the stream of exactly size bytes, and any bytes behind it.
+-- A wrapped stream: the wrapper's magic, version 0, the offset, size and CPU type, each in 32 bits, any bytes from byte 20 up to
+-- the offset, the stream of exactly size bytes, and any bytes after it.
 pub record IsWrapped (w : Wrapper) (magic : ℕ) (blocks : Marks) (s : List Bool) : Type 0 where
   pub front : List Bool
   pub version : List Bool
@@ -50,7 +49,7 @@ pub record IsWrapped (w : Wrapper) (magic : ℕ) (blocks : Marks) (s : List Bool
   pub stream_fills : length stream ≡ 8 * w.size
   pub is_stream : IsStream (8 * w.offset) magic blocks stream
 
--- the marked tree's last place is the bit after the stream
+-- the marked tree's last position is the bit after the stream
 abbrev pub InputBy : Option Wrapper → Marked → List Bool → Type 0
 InputBy None m s = IsStream 0 m.head.magic m.blocks s × (m.after ≡ length s)
 InputBy (Some w) m s = IsWrapped w m.head.magic m.blocks s × (m.after ≡ 8 * (w.offset + w.size))

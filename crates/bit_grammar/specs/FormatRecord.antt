@@ -7,7 +7,7 @@ use Rattle.bit_grammar.specs.declared.op.Op.TheVariants.{Literal, Fixed, Vbr, Ar
 use Rattle.bit_grammar.specs.FormatFields.{IsFixed, IsVbr, IsChar6, IsPadding}
 use Rattle.bit_grammar.specs.Terms.{CodeAndValues}
 
--- The field of an operand that stands for one value. A literal, and a field of width 0, take no bits.
+-- The field of an operand that gives one value. A literal, and a field of width 0, take no bits.
 abbrev pub IsScalar : Op → ℕ → List Bool → Type 0
 IsScalar (Literal n) v s = (v ≡ n) × (s ≡ [])
 IsScalar (Fixed width) v s = IsFixed width v s
@@ -17,7 +17,7 @@ IsScalar Char6 v s = IsChar6 v s
 IsScalar Array v s = ⊥
 IsScalar Blob v s = ⊥
 
--- fields of one operand, one after the other, with these values
+-- fields of one operand, one after another, with these values
 abbrev pub AreFields : Op → List ℕ → List Bool → Type 0
 AreFields op [] s = s ≡ []
 AreFields op (v ∷ vs) s = (first others : List Bool) × (s ≡ first ++ others) × IsScalar op v first

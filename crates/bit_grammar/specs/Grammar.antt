@@ -1,8 +1,8 @@
--- Grammars of bit streams: what a rule asks of a stream, and what it gives.
+-- Grammars of bit streams: what a rule demands of a stream, and the value that it gives.
 --
--- A rule is data, built of few parts. Three functions say what it means, each by cases on the parts: Spells, Stops and
--- reading. proofs/Deciding shows for every rule that they agree: what is spelled is read, what stops is refused, one of
--- the two always happens, and never both. Source: this project's own.
+-- A rule is data, built of few parts. Three functions define its meaning, each by cases on the parts: Spells, Stops and reading.
+-- proofs/Readings/Deciding shows for every rule that they agree: what is spelled is read, what stops is refused, one of the two
+-- always happens, and never both. Source: this project's own.
 use Rattle.std.specs.Prelude.{◌≡◌, ℕ, zero, suc, ◌+◌, ◌<◌, ◌⊎◌, Bool, true, false, List, [], ◌∷◌, ◌++◌, length, take, drop, Result, Ok, Err, nat_lt, if◌then◌else◌}
 use Rattle.bit_grammar.specs.declared.reason.Reason.{Reason}
 
@@ -23,35 +23,35 @@ pub data Round (S A E : Type 0) : Type 0 where
 infixl 10 ◌>>=◌
 infixl 10 ◌>>◌
 infixl 10 ◌and_then◌
--- A rule, by the type of what it gives.
+-- A rule, by the type of the value that it gives.
 pub data Grammar : Type 0 → Type 1 where
   -- this value, and no bits
   gives : {A : Type 0} → A → Grammar A
   -- this fault, whatever follows
   refuses : {A : Type 0} → Fault → Grammar A
-  -- the position at which it stands
+  -- the present position
   position : Grammar ℕ
-  -- the next so many bits; the fault where fewer are left
+  -- the next n bits; the fault if fewer are left
   next_bits : ℕ → Fault → Grammar (List Bool)
-  -- nothing where the test holds, else the fault
+  -- nothing if the test holds, else the fault
   test : Bool → Fault → Grammar (Unit {0})
-  -- the first rule where the test holds, else the second
+  -- the first rule if the test holds, else the second
   choose : {A : Type 0} → Bool → Grammar A → Grammar A → Grammar A
   -- one rule, and then another that may depend on what the first gave
   ◌>>=◌ : {A B : Type 0} → Grammar A → (A → Grammar B) → Grammar B
-  -- rounds, each in the state that the one before left, up to one that is the last: what the rounds gave, and what the last
-  -- one gave; the fault for a round that goes on and took no bits
+  -- rounds, each in the state that the one before left, up to the last one: what the rounds gave, and what the last one gave; the
+  -- fault for a round that goes on and took no bits
   rounds : {S A E : Type 0} → Fault → (S → Grammar (Round S A E)) → S → Grammar (List A × E)
 
 -- one rule, and then another
 abbrev pub ◌>>◌ : {A B : Type 0} → Grammar A → Grammar B → Grammar B
 first >> second = first >>= λ v. second
 
--- a judgement: no bits where the test holds, and its fault where it doesn't
+-- a judgement: no bits if the test holds, else its fault
 abbrev pub judge : Bool → Reason → ℕ → Grammar (Unit {0})
 judge holds reason bit = test holds (at reason bit)
 
--- as many values as are named, one after the other
+-- `count` values, one after another
 abbrev pub repeat : {A : Type 0} → ℕ → Grammar A → Grammar (List A)
 repeat zero rule = gives []
 repeat (suc count) rule = rule >>= λ first. repeat count rule >>= λ others. gives (first ∷ others)
@@ -87,7 +87,7 @@ Spells (rule >>= after) p s v = (first others : List Bool) × (x : _) × (s ≡ 
 Spells (rounds idle rule state) p s v = Rounds (λ state p s x. Spells (rule state) p s x) v.0 state
     p s v.1
 
--- in r, which is all that is left of the stream from position p on, the rule breaks with this fault
+-- in r, which is the rest of the stream from position p on, the rule breaks with this fault
 abbrev pub Stops : {A : Type 0} → Grammar A → ℕ → List Bool → Fault → Type 0
 Stops (gives w) p r fault = ⊥
 Stops (refuses reason) p r fault = fault ≡ reason
@@ -118,7 +118,7 @@ abbrev pub one_in_front : {A E : Type 0} → A → Result ((List A × E) × ℕ 
 one_in_front x (Ok v) = Ok ((x ∷ v.0.0, v.0.1), v.1, v.2)
 one_in_front x (Err fault) = Err fault
 
--- what a round gave, and the rounds after it, where it took bits
+-- what a round gave, and the rounds after it, if it took bits
 abbrev pub after_round : {S A E : Type 0} → Fault → ℕ
     → (S → ℕ → List Bool → Result ((List A × E) × ℕ × List Bool) Fault) → Round S A E → ℕ
     → List Bool → Result ((List A × E) × ℕ × List Bool) Fault
@@ -126,7 +126,7 @@ after_round idle p others (one_more x new) q rest = if nat_lt p q
     then one_in_front x (others new q rest) else Err idle
 after_round idle p others (last e) q rest = Ok (([], e), q, rest)
 
--- the rounds, each by its reading, at most so many
+-- the rounds, each by its reading, with an upper bound on their number
 abbrev pub go_round : {S A E : Type 0} → Fault
     → (S → ℕ → List Bool → Result (Round S A E × ℕ × List Bool) Fault) → ℕ → S → ℕ → List Bool
     → Result ((List A × E) × ℕ × List Bool) Fault
@@ -134,7 +134,7 @@ go_round idle read zero state p r = Err idle
 go_round idle read (suc n) state p r = read state p r and_then λ x. after_round idle p
     (go_round idle read n) x.0 x.1 x.2
 
--- what a rule reads at a position from all that is left: a value, the position after it and the bits after it
+-- what a rule reads at a position from the rest of a stream: a value, the position after it and the bits after it
 abbrev pub reading : {A : Type 0} → Grammar A → ℕ → List Bool → Result (A × ℕ × List Bool) Fault
 reading (gives v) p r = Ok (v, p, r)
 reading (refuses fault) p r = Err fault

@@ -10,8 +10,8 @@ use Rattle.bit_grammar.specs.Terms.{Wrapper, Head}
 use Rattle.bit_grammar.specs.Machine.{Event, Ending, at_start}
 use Rattle.bit_grammar.specs.Steps.{Steps}
 
--- In these bits stands a head: the magic alone, or the wrapper's, the rest of its header, the gap, and the stream's; r is
--- what follows it of the stream, from position p on.
+-- These bits begin with a head: the magic alone, or the wrapper's, the rest of its header, the gap, and the stream's; r is the rest
+-- of the stream after it, from position p on.
 pub data Heads (bits : List Bool) (head : Head) (p : ℕ) (r : List Bool) : Type 0 where
   bare : (magic : List Bool) → bits ≡ magic ++ r → Spells (fixed 32) 0 magic head.magic
       → is_wrapped head.magic ≡ false → head.wrapper ≡ None → p ≡ length magic → Heads bits head p r

@@ -12,11 +12,11 @@ use Rattle.bit_grammar.specs.declared.shapes.Shapes.TheVariants.{AtDefinition}
 use Rattle.bit_grammar.specs.Input.{tree_of, SpellsInput}
 use Rattle.bit_grammar.specs.Terms.{Marked}
 
--- bits that go by the position of the first of them
+-- bits that depend on the position of the first of them
 abbrev pub Text : Type 0
 Text = ℕ → List Bool
 
--- the same at each position
+-- the same bits at each position
 abbrev pub put : List Bool → Text
 put s p = s
 
@@ -61,7 +61,7 @@ normal (a_record code values rest) = chain (chain (put (bits_of 2 3))
 unfoldable pub normal_form : Tree → List Bool
 normal_form tree = chain (put (bits_of 32 tree.magic)) (normal tree.blocks) 0
 
--- The greatest limits. So many bytes are all that a block's length in words can tell: 4 * (2^32 - 1).
+-- The greatest limits. A block's length in words can count this many bytes: 4 * (2^32 - 1).
 abbrev pub most_bytes : ℕ
 most_bytes = 17179869180
 
@@ -71,7 +71,7 @@ most_depth = 255
 abbrev pub most_values : ℕ
 most_values = 4294967295
 
--- the limits that are meant where none are given
+-- the limits if none are given
 abbrev pub usual_limits : Limits
 usual_limits = record { bytes = 1073741824; depth = 64; values = 134217728; shapes = AtDefinition }
 

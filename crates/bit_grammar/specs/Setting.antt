@@ -1,4 +1,4 @@
--- Settings: what of a tree is left out, by names. Source: this project's own.
+-- Settings: which blocks and records of a tree are left out, by names. Source: this project's own.
 use Rattle.std.specs.Prelude.{ℕ, Bool, not, ◌&&◌, List, [], ◌∷◌, ◌==◌}
 use Rattle.std.specs.List.{list_any}
 use Rattle.bit_grammar.specs.declared.info.RecordName.{RecordName}
@@ -30,11 +30,11 @@ is_named block code name = not (block == 0) && (name.block == block) && (name.co
 abbrev pub keeps_record : Setting → (block code : ℕ) → Bool
 keeps_record setting block code = not (list_any (is_named block code) setting.records)
 
--- whether no name is that of records in blocks with this id
+-- whether no record in blocks with this id has a name
 abbrev pub keeps_records : Setting → (block : ℕ) → Bool
 keeps_records setting block = not (list_any (λ name. name.block == block) setting.records)
 
--- the setting that the program is given
+-- the setting of the program
 abbrev pub setting_of : Info → Setting
 setting_of Keep = keep
 setting_of Drop = drop_info

@@ -5,7 +5,7 @@ use Rattle.bit_grammar.specs.Fields.{padding_length}
 use Rattle.bit_grammar.specs.Terms.{chunk_limit}
 use Rattle.bit_grammar.specs.Forest.{Forest, empty, a_block, a_record, Tree}
 
--- how many chunks the shortest VBR of a number has, of at most so many
+-- how many chunks the shortest VBR of a number has, at most `permitted`
 abbrev pub chunk_count : (payload permitted : ℕ) → ℕ → ℕ
 chunk_count payload zero v = 0
 chunk_count payload (suc permitted) v = suc (if nat_lt v (2 ^ payload) then 0
@@ -28,7 +28,7 @@ record_length code values = 2 + shortest_length 6 code + shortest_length 6 (leng
 abbrev pub aligned : ℕ → ℕ
 aligned p = p + padding_length p
 
--- where the body begins of a block that begins at bit p: after its abbreviation id, its id, the width, padding and the length
+-- where the body of a block begins that begins at bit p: after its abbreviation id, its id, the width, padding and the length
 abbrev pub body_at : (id p : ℕ) → ℕ
 body_at id p = aligned (p + 2 + shortest_length 8 id + 4) + 32
 

@@ -1,11 +1,11 @@
--- What is to come of a stream, step by step; and what its events are: well nested, with the values of their records.
+-- The remaining events of a stream, step by step; and what is true of them: they are well nested, with the values of their records.
 -- This project's own.
 use Rattle.std.specs.Prelude.{◌≡◌, ℕ, suc, ◌+◌, ◌-◌, ◌<◌, ◌≤◌, Bool, List, [], ◌∷◌, ◌++◌, length}
 use Rattle.bit_grammar.specs.Grammar.{Spells, Stops}
 use Rattle.bit_grammar.specs.Blocks.{Limits}
 use Rattle.bit_grammar.specs.Machine.{Event, enters, defines, notes, leaves, Frame, Machine, step, Ending, accepted, broke}
 
--- each open block has ids of some bits
+-- the ids of each open block have a width
 abbrev pub AreWide : List Frame → Type 0
 AreWide [] = Unit {0}
 AreWide (f ∷ frames) = (1 ≤ f.head.width) × AreWide frames
@@ -14,14 +14,14 @@ AreWide (f ∷ frames) = (1 ≤ f.head.width) × AreWide frames
 abbrev pub IsOver : Machine → List Bool → Type 0
 IsOver m r = (m.frames ≡ []) × (r ≡ [])
 
--- Nothing more is told at position p: all is over, and accepted there; or it isn't over, and in r, which is all that is left,
--- the next step breaks with the fault.
+-- The events end at position p: all is over, and accepted; or it isn't over, and in r, which is the rest of the stream, the next
+-- step breaks with the fault.
 abbrev pub EndsThere : Limits → Machine → ℕ → List Bool → Ending → Type 0
 EndsThere limits m p r (accepted q) = IsOver m r × (q ≡ p)
 EndsThere limits m p r (broke fault) = (IsOver m r → ⊥) × Stops (step limits m) p r fault
 
--- The bits r, which are all that is left from position p on, are steps of the machine, each of some bits, with these
--- events; and where no more of them hold, such an end.
+-- The bits r, which are the rest of the stream from position p on, are steps of the machine, each of some bits, with these events;
+-- and after the last step, such an end.
 abbrev pub Steps : Limits → Machine → ℕ → List Bool → List Event → Ending → Type 0
 Steps limits m p r [] ending = EndsThere limits m p r ending
 Steps limits m p r (event ∷ events) ending = (first others : List Bool) × (new : Machine)
@@ -37,28 +37,28 @@ Leads limits m p s (event ∷ events) new = (first others : List Bool) × (mid :
 
 -- ---- open blocks
 
--- how many blocks are open after an event, where so many are before it
+-- how many blocks are open after an event, with this many before it
 abbrev pub open_after : Event → ℕ → ℕ
 open_after (enters o) count = suc count
 open_after (defines mark) count = count
 open_after (notes mark) count = count
 open_after (leaves after) count = count - 1
 
--- an event may stand where so many blocks are open, with at most deepest in one another
+-- an event is allowed with `count` blocks open, nested at most `deepest` deep
 abbrev pub MayStand : (deepest : ℕ) → Event → (count : ℕ) → Type 0
 MayStand deepest (enters o) count = count < deepest
 MayStand deepest (defines mark) count = 0 < count
 MayStand deepest (notes mark) count = 0 < count
 MayStand deepest (leaves after) count = 0 < count
 
--- events where so many blocks are open at first and so many are left open: at most deepest in one another, items only in a
--- block, and an end only of a block that is open
+-- events with `count` blocks open before them and `left` after them: nested at most `deepest` deep, items only in a block, and an
+-- end only of an open block
 abbrev pub IsNested : (deepest count : ℕ) → List Event → (left : ℕ) → Type 0
 IsNested deepest count [] left = left ≡ count
 IsNested deepest count (event ∷ events) left = MayStand deepest event count
     × IsNested deepest (open_after event count) events left
 
--- Such a run as it ends: in the end no block is open where it is accepted.
+-- Such a run and its end: no block is open at the end if the stream is accepted.
 abbrev pub EndsNested : (deepest count : ℕ) → List Event → Ending → Type 0
 EndsNested deepest count events (accepted q) = IsNested deepest count events 0
 EndsNested deepest count events (broke fault) = (left : ℕ) × (left ≤ deepest)

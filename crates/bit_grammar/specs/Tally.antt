@@ -1,17 +1,16 @@
--- The analysis of a stream: what its blocks and records add up to, for each block id.
--- This project's own.
+-- The analysis of a stream: the sums over its blocks and records, for each block id. This project's own.
 use Rattle.std.specs.Prelude.{ℕ, ◌+◌, ◌-◌, ◌*◌, Bool, not, List, [], ◌∷◌, ◌++◌, length, map, filter, sum_by, count_by, Option, Some, None, nat_le, ◌==◌}
 use Rattle.bit_grammar.specs.Marks.{BlockMark, RecordMark, DefinitionMark, Marks, no_marks, marked_block, marked_record, marked_definition}
 use Rattle.bit_grammar.specs.Terms.{Wrapper, Marked}
 
--- ---- what stands in a tree
+-- ---- blocks, records and definitions of a tree
 
--- a block and what it holds
+-- a block and its items
 pub record FullBlock : Type 0 where
   pub mark : BlockMark
   pub inner : Marks
 
--- a record or a definition, and the id of the block in which it stands
+-- a record or a definition, and the id of the block that contains it
 pub record Placed (Mark : Type 0) : Type 0 where
   pub block : ℕ
   pub mark : Mark
@@ -24,7 +23,7 @@ blocks_in (marked_block mark inner rest) = record { mark = mark; inner = inner }
 blocks_in (marked_record mark rest) = blocks_in rest
 blocks_in (marked_definition mark rest) = blocks_in rest
 
--- the records to any depth, in order; those that stand in no other block stand in this one
+-- the records to any depth, in order; those that are in no other block are in this one
 abbrev pub records_in : (block : ℕ) → Marks → List (Placed RecordMark)
 records_in block no_marks = []
 records_in block (marked_block mark inner rest) = records_in mark.id inner ++ records_in block rest
@@ -41,7 +40,7 @@ definitions_in block (marked_record mark rest) = definitions_in block rest
 definitions_in block (marked_definition mark rest) = record { block = block; mark = mark }
     ∷ definitions_in block rest
 
--- those that stand in blocks with this id
+-- those in blocks with this id
 abbrev pub placed_in : {Mark : Type 0} → ℕ → List (Placed Mark) → List Mark
 placed_in id items = map (λ x. x.mark) (filter (λ x. x.block == id) items)
 
@@ -55,7 +54,7 @@ block_bits mark = mark.after - mark.first
 abbrev pub record_bits : RecordMark → ℕ
 record_bits mark = mark.after - mark.first
 
--- the bits of the blocks that stand here directly
+-- the bits of the blocks at this level
 abbrev pub bits_in : Marks → ℕ
 bits_in no_marks = 0
 bits_in (marked_block mark inner rest) = block_bits mark + bits_in rest
@@ -68,7 +67,7 @@ own_bits block = block_bits block.mark - bits_in block.inner
 
 -- ---- rows
 
--- each number once, in the order in which they first stand there
+-- each number once, in the order in which they first occur
 abbrev pub distinct : List ℕ → List ℕ
 distinct [] = []
 distinct (x ∷ xs) = x ∷ filter (λ y. not (y == x)) (distinct xs)
@@ -79,14 +78,14 @@ pub record CodeTally : Type 0 where
   pub count : ℕ
   pub bits : ℕ
 
--- the blocks with an id, and what stands directly in them
+-- the blocks with an id, and the items directly in them
 pub record BlockTally : Type 0 where
   pub id : ℕ
   pub blocks : ℕ
   pub bits : ℕ
   pub definitions : ℕ
   pub records : ℕ
-  -- of the records those by a definition
+  -- the records by a definition
   pub abbreviated : ℕ
   pub values : ℕ
   -- in the order in which they are first used
@@ -114,7 +113,7 @@ code_row records code = record {
 abbrev pub code_rows : List RecordMark → List CodeTally
 code_rows records = map (code_row records) (distinct (map (λ r. r.code) records))
 
--- whether a record goes by a definition: its id is 4 or more
+-- whether a record uses a definition: its id is 4 or more
 abbrev pub is_abbreviated : RecordMark → Bool
 is_abbreviated mark = nat_le 4 mark.abbreviation
 
@@ -135,7 +134,7 @@ row_by id blocks records definitions = record {
 abbrev pub with_id : ℕ → List FullBlock → List FullBlock
 with_id id blocks = filter (λ b. b.mark.id == id) blocks
 
--- The row of an id. At the top stand blocks only, so the 0 is the id of no record or definition there.
+-- The row of an id. There are only blocks at the top, so the 0 is the id of no record or definition there.
 abbrev pub row_of : Marks → ℕ → BlockTally
 row_of marks id = row_by id (with_id id (blocks_in marks)) (placed_in id (records_in 0 marks))
     (placed_in id (definitions_in 0 marks))
@@ -155,7 +154,7 @@ stream_begin (Some w) = 8 * w.offset
 abbrev pub stream_bits : Marked → ℕ
 stream_bits m = m.after - stream_begin m.head.wrapper
 
--- the analysis of what an input spells
+-- the analysis of a marked tree
 abbrev pub tally_of : Marked → Tally
 tally_of m = record { magic = m.head.magic; bits = stream_bits m; rows = rows_of m.blocks }
 

@@ -1,4 +1,4 @@
--- What the rules speak of, and the format in its own words too: numbers and characters of fields, codes with values, tables of
+-- Terms of the rules, and of the format in its own words: numbers and characters of fields, codes with values, tables of
 -- definitions, and whole inputs. Source: "Variable Width Value", "Fixed Width Value", "Data Records", "#0 - BLOCKINFO Block",
 -- "Bitcode Wrapper Format".
 use Rattle.std.specs.Prelude.{ℕ, ◌+◌, ◌-◌, ◌/◌, List, [], ◌∷◌, ◌++◌, Option, Some, None, nat_lt, ◌==◌, if◌then◌else◌}
@@ -31,7 +31,7 @@ no_definitions id = []
 abbrev pub defined_at : ℕ → List Op → Table → Table
 defined_at id ops table other = if other == id then table other ++ ops ∷ [] else table other
 
--- in a BLOCKINFO block: the id of the block that is described, and the table that is being made
+-- in a BLOCKINFO block: the id of the described block, and the table that is being made
 pub record BlockInfo : Type 0 where
   pub described : Option ℕ
   pub made : Table
@@ -45,7 +45,7 @@ pub record Wrapper : Type 0 where
   pub size : ℕ
   pub cpu : ℕ
 
--- what stands before the blocks
+-- what comes before the blocks
 pub record Head : Type 0 where
   -- of the stream, a number of 32 bits
   pub magic : ℕ

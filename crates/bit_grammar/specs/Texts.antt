@@ -59,7 +59,7 @@ values_text values = flat_map (λ v. 32 ∷ decimal v) values
 abbrev pub record_line : (around code : ℕ) → List ℕ → List ℕ
 record_line around code values = line around (codes "record " ++ decimal code ++ values_text values)
 
--- the items in order, with so many blocks around them
+-- the items in order, with `around` blocks around them
 abbrev pub lines_of : (around : ℕ) → Forest → List ℕ
 lines_of around empty = []
 lines_of around (a_block id inner rest) = block_line around id
@@ -72,14 +72,14 @@ listing_of tree = line 0 (magic_text tree.magic) ++ lines_of 0 tree.blocks
 
 -- ---- the listing, event by event
 
--- the line of an event, with so many blocks around it; definitions and ends have none
+-- the line of an event, with `around` blocks around it; definitions and ends have none
 abbrev pub event_text : (around : ℕ) → Event → List ℕ
 event_text around (enters o) = block_line around o.id
 event_text around (defines mark) = []
 event_text around (notes mark) = record_line around mark.code mark.values
 event_text around (leaves after) = []
 
--- the lines of events in order, with so many blocks around the first
+-- the lines of events in order, with `around` blocks around the first
 abbrev pub events_text : (around : ℕ) → List Event → List ℕ
 events_text around [] = []
 events_text around (event ∷ events) = event_text around event

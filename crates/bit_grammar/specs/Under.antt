@@ -1,4 +1,4 @@
--- Trees under a setting, and events: what is left of them. Source: this project's own.
+-- Trees and events under a setting: which of their parts are kept. Source: this project's own.
 use Rattle.std.specs.Prelude.{◌≡◌, ℕ, Bool, true, ◌&&◌, List, [], ◌∷◌, if◌then◌else◌}
 use Rattle.std.specs.List.{list_all}
 use Rattle.bit_grammar.specs.Setting.{Setting, keeps, keeps_record}
@@ -8,7 +8,7 @@ use Rattle.bit_grammar.specs.Machine.{Event, enters, defines, notes, leaves}
 
 -- ---- trees
 
--- what is left of the items of a block with this id; at the top, where only blocks stand, 0 is taken for it
+-- the kept items of a block with this id; at the top, where there are only blocks, the id is 0
 abbrev pub items_under : Setting → (around : ℕ) → Forest → Forest
 items_under setting around empty = empty
 items_under setting around (a_block id inner rest) =
@@ -18,11 +18,11 @@ items_under setting around (a_record code values rest) =
     if keeps_record setting around code then a_record code values (items_under setting around rest)
     else items_under setting around rest
 
--- what is left of a tree
+-- a tree under a setting
 abbrev pub under : Setting → Tree → Tree
 under setting tree = record tree { blocks = items_under setting 0 tree.blocks }
 
--- what is left of the marks in a block with this id: those of items that are left, and of the definitions beside them
+-- the kept marks in a block with this id: those of kept items, and of the definitions beside them
 abbrev pub marks_under : Setting → (around : ℕ) → Marks → Marks
 marks_under setting around no_marks = no_marks
 marks_under setting around (marked_block mark inner rest) =
@@ -52,17 +52,17 @@ ids_after (notes mark) ids = ids
 ids_after (leaves after) [] = []
 ids_after (leaves after) (id ∷ ids) = ids
 
--- the same behind events in order
+-- the same after events in order
 abbrev pub ids_behind : List Event → List ℕ → List ℕ
 ids_behind [] ids = ids
 ids_behind (event ∷ events) ids = ids_behind events (ids_after event ids)
 
--- the id of the innermost open block, and 0 where none is open
+-- the id of the innermost open block, and 0 if none is open
 abbrev pub innermost : List ℕ → ℕ
 innermost [] = 0
 innermost (id ∷ ids) = id
 
--- whether an event is left where these blocks are open before it: each of them is kept, and the block or record too
+-- whether an event is kept with these blocks open before it: each of them is kept, and the block or record too
 abbrev pub is_left : Setting → (ids : List ℕ) → Event → Bool
 is_left setting ids (enters o) = list_all (keeps setting) (o.id ∷ ids)
 is_left setting ids (defines mark) = list_all (keeps setting) ids
@@ -70,7 +70,7 @@ is_left setting ids (notes mark) = list_all (keeps setting) ids
     && keeps_record setting (innermost ids) mark.code
 is_left setting ids (leaves after) = list_all (keeps setting) ids
 
--- what is left of events in order, where these blocks are open before the first
+-- the kept events in order, with these blocks open before the first
 abbrev pub events_under : Setting → (ids : List ℕ) → List Event → List Event
 events_under setting ids [] = []
 events_under setting ids (event ∷ events) = (let others = events_under setting (ids_after event ids)

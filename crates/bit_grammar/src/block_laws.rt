@@ -6,7 +6,7 @@ ghost use Rattle.bit_grammar.specs.Whole.{StopsAll, until_end};
 ghost use Rattle.bit_grammar.specs.Blocks.{Limits, Handed, top_block, Scope, BlockHead, block_head, item, block};
 ghost use Rattle.bit_grammar.specs.FormatBlocks.{top_with, HoldsDefinable, IsBlock, AreItems, PassIn};
 
-/// A stream has one front that is a block, with all that stands in it.
+/// A stream has at most one prefix that is a block, with all its items.
 pub fn one_block()
     ensures { (limits : Limits) (handed : Handed) (p : ℕ) (s t x y : List Bool)
         (v w : Item × Handed)
@@ -15,7 +15,7 @@ pub fn one_block()
         → (s ≡ t) × (v ≡ w) }
 {}
 
-/// A stream has a front that is a block, or breaks with a fault.
+/// A stream has a prefix that is a block, or breaks with a fault.
 pub fn block_or_fault()
     ensures { (limits : Limits) (handed : Handed) (p : ℕ) (r : List Bool)
         → ((s rest : List Bool) × (v : Item × Handed) × (r ≡ s ++ rest)
@@ -23,9 +23,9 @@ pub fn block_or_fault()
         ⊎ ((fault : Fault) × Stops (top_block limits handed) p r fault) }
 {}
 
-/// What the rules spell at the top of a stream is a block. Where the table holds what can be defined, and no more values
-/// were used before than the limit permits, it is a block in the words of the format that keeps to the limits, and each
-/// such block is spelled. The table after the block holds what can be defined too.
+/// What the rules spell at the top of a stream is a block. If the table holds only what can be defined, and no more values were
+/// used before than the limit permits, it is a block in the words of the format that keeps to the limits, and each such block is
+/// spelled. The table after the block also holds only what can be defined.
 pub fn block_in_words()
     ensures words { (limits : Limits) (handed new : Handed) (p : ℕ) (s : List Bool)
         (mark : BlockMark)
@@ -42,8 +42,8 @@ pub fn block_in_words()
         → HoldsDefinable v.1.table }
 {}
 
-/// Each item and each block takes bits, since the ids in a block are at least one bit wide. So a body and a stream stop by
-/// the fault of an item, and whichever fault is named for a round that takes no bits, it never comes.
+/// Each item and each block takes bits, because the ids in a block have at least one bit. So a body and a stream stop by the fault
+/// of an item, and the fault of a round that takes no bits never occurs.
 pub fn no_idle_round()
     ensures item { (shapes : Shapes) (depth limit : ℕ) (h : BlockHead) (scope : Scope) (p : ℕ)
         (x : Round Scope Item (ℕ × Handed)) → 1 ≤ h.width

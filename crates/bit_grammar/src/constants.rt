@@ -1,6 +1,6 @@
 //! Numbers of the format, and the greatest limits.
 
-/// The code of the records of a BLOCKINFO block that say which block is described. Source: "#0 - BLOCKINFO Block".
+/// The code of SETBID, the record of a BLOCKINFO block that sets the described block. Source: "#0 - BLOCKINFO Block".
 pub const SET_BID: u64 = 1;
 
 /// The number that the first four bytes of a wrapped input spell. Source: "Bitcode Wrapper Format".

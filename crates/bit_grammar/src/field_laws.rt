@@ -4,7 +4,7 @@ ghost use Rattle.bit_grammar.specs.Fields.{fixed, vbr, align32, char6, byte};
 ghost use Rattle.bit_grammar.specs.Terms.{chunk_limit, character};
 ghost use Rattle.bit_grammar.specs.FormatFields.{IsFixed, IsVbr, IsPadding, shortest, IsChar6, characters};
 
-/// A field of fixed width is so many bits, and its value is the number that they spell.
+/// A Fixed of width n is n bits, and its value is the number that they spell.
 pub fn fixed_in_bits()
     ensures { (n p : ℕ) (s : List Bool) (v : ℕ) → (Spells (fixed n) p s v ↔ IsFixed n v s) }
 {}
@@ -24,7 +24,7 @@ pub fn vbr_of_no_width()
     ensures { (p : ℕ) (s : List Bool) (v : ℕ) → (Spells (vbr 0) p s v ↔ ((v ≡ 0) × (s ≡ []))) }
 {}
 
-/// The number of chunks that a VBR may have, each with one payload bit or more, is the least that has 64 of them.
+/// The number of chunks that a VBR may have, each with at least one payload bit, is the least number with 64 payload bits.
 pub fn chunks_for_64_bits()
     ensures enough { (payload : ℕ) → 1 ≤ payload → 64 ≤ chunk_limit payload * payload }
     ensures least { (payload k : ℕ) → 64 ≤ k * payload → chunk_limit payload ≤ k }

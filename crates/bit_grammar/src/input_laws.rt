@@ -10,13 +10,13 @@ ghost use Rattle.bit_grammar.specs.Input.{is_closed, EndsWithin, SpellsInput, Br
 ghost use Rattle.bit_grammar.specs.Terms.{Marked};
 ghost use Rattle.bit_grammar.specs.FormatInput.{IsInput};
 
-/// An input spells one marked tree.
+/// An input spells at most one marked tree.
 pub fn one_tree()
     ensures { (limits : Limits) (bytes : List ℕ) (m n : Marked) → SpellsInput limits bytes m
         → SpellsInput limits bytes n → m ≡ n }
 {}
 
-/// An input breaks with one fault, at one bit.
+/// An input breaks with at most one fault, at one bit.
 pub fn one_fault()
     ensures { (limits : Limits) (bytes : List ℕ) (f g : Fault) → BreaksInput limits bytes f
         → BreaksInput limits bytes g → f ≡ g }
@@ -35,8 +35,8 @@ pub fn tree_or_fault()
         ⊎ ((fault : Fault) × BreaksInput limits bytes fault) }
 {}
 
-/// What an input spells under limits it spells under those that it keeps to: limits on depth and values, and shapes, that are
-/// judged item by item are those of the tree.
+/// An input that spells a tree under limits spells it under all limits that the tree keeps to: limits on depth and values, and
+/// shapes, that are judged item by item are those of the tree.
 pub fn limits_of_tree()
     ensures { (a b : Limits) (bytes : List ℕ) (m : Marked) → SpellsInput a bytes m
         → (SpellsInput b bytes m
@@ -45,22 +45,22 @@ pub fn limits_of_tree()
         × PassIn b.shapes m.blocks)) }
 {}
 
-/// A longer input than the limit keeps a Truncated just where a wrapper header that is whole within the limit says that its
+/// An input longer than the limit keeps a Truncated exactly if a wrapper header that is complete within the limit says that its
 /// stream ends within it.
 pub fn closed_by_wrapper()
     ensures { (limits : Limits) (bytes : List ℕ)
         → ((is_closed limits bytes ≡ true) ↔ EndsWithin limits bytes) }
 {}
 
-/// In the words of the format alone, without limits, bytes are an input of one marked tree at most.
+/// In the words of the format alone, without limits, bytes are an input of at most one marked tree.
 pub fn one_tree_in_words()
     ensures { (bytes : List ℕ) (m n : Marked) → IsInput m (bits_of_bytes bytes)
         → IsInput n (bits_of_bytes bytes) → m ≡ n }
 {}
 
-/// What an input spells under limits is an input in the words of the format that keeps to them: as many bytes, blocks in
-/// one another and values as they permit, and where shapes are judged at the definition each definition in a lawful order.
-/// And each such input is spelled.
+/// An input that spells a tree under limits is an input in the words of the format that keeps to them: to the limits on bytes,
+/// depth and values, and if shapes are judged at the definition each definition is in a lawful order. And each such input is
+/// spelled.
 pub fn input_in_words()
     ensures { (limits : Limits) (bytes : List ℕ) (m : Marked)
         → (SpellsInput limits bytes m
@@ -69,8 +69,8 @@ pub fn input_in_words()
         × PassIn limits.shapes m.blocks)) }
 {}
 
-/// Where the shapes of definitions are judged at their use, all is taken that is taken where they are judged at the
-/// definition, with the same tree, and nothing else changes but for inputs that are refused there with AbbrevShape.
+/// If shapes are judged at their use, each input that is accepted with shapes judged at the definition is accepted, with the same
+/// tree. Nothing else changes, except for inputs that are refused with AbbrevShape at the definition.
 pub fn shapes_apart()
     ensures taken { (limits : Limits) (bytes : List ℕ) (m : Marked)
         → SpellsInput (judged_at AtDefinition limits) bytes m

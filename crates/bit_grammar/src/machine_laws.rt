@@ -11,15 +11,15 @@ ghost use Rattle.bit_grammar.specs.Steps.{AreWide, Steps, Leads, open_after, May
 ghost use Rattle.bit_grammar.specs.Outlook.{outlook, EndsBy};
 ghost use Rattle.bit_grammar.specs.Happening.{HasEvents};
 
-/// What is to come are the steps that hold, one after the other, with their events, up to the end or to the one that breaks.
+/// The remaining events are those of the steps that succeed, one after another, up to the end or to the step that breaks.
 pub fn steps_to_come()
     ensures { (limits : Limits) (m : Machine) (p : ℕ) (r : List Bool) (events : List Event)
         (ending : Ending) → AreWide m.frames
         → (Steps limits m p r events ending ↔ (to_come limits m p r ≡ (events, ending))) }
 {}
 
-/// The steps of a stream that is accepted are the events of its blocks, and of no other stream; and a stream breaks with a
-/// fault where its steps do.
+/// The steps of a stream that is accepted are the events of its blocks, and of no other stream; and a stream breaks with the fault
+/// of its steps.
 pub fn steps_of_blocks()
     ensures accepted { (limits : Limits) (p : ℕ) (r : List Bool) (events : List Event) (q : ℕ)
         → (Steps limits at_start p r events (accepted q)
@@ -30,15 +30,15 @@ pub fn steps_of_blocks()
         ↔ ((events : List Event) × Steps limits at_start p r events (broke fault))) }
 {}
 
-/// A step takes bits, and each block that is open after it has ids of some bits.
+/// A step takes bits, and the ids of each block that is open after it have a width.
 pub fn bits_of_step()
     ensures { (limits : Limits) (m new : Machine) (p : ℕ) (s : List Bool) (event : Event)
         → AreWide m.frames
         → Spells (step limits m) p s (event, new) → (0 < length s) × AreWide new.frames }
 {}
 
-/// A frame stands for each open block: one more after a block begins, one less after it ends, and never more than the limit
-/// on depth.
+/// There is a frame for each open block: one more after a block begins, one less after it ends, and never more than the limit on
+/// depth.
 pub fn frames_of_step()
     ensures { (limits : Limits) (m new : Machine) (p : ℕ) (s : List Bool) (event : Event)
         → Spells (step limits m) p s (event, new)
@@ -55,7 +55,7 @@ pub fn values_of_step()
         × (m.handed.used ≤ limits.values → new.handed.used ≤ limits.values) }
 {}
 
-/// Events, and others after them, are those of the steps up to another machine, and of the steps from there.
+/// Events with others after them are those of the steps up to another machine, and of the steps from there.
 pub fn steps_in_parts()
     ensures { (limits : Limits) (m : Machine) (p : ℕ) (r : List Bool) (events others : List Event)
         (ending : Ending)
@@ -65,8 +65,8 @@ pub fn steps_in_parts()
         × Steps limits new (p + length first) rest others ending)) }
 {}
 
-/// After some steps a frame stands for each block that their events leave open, the values used are those of their records,
-/// within the limit, and each open block has ids of some bits.
+/// After some steps there is a frame for each block that their events leave open, the values used are those of their records,
+/// within the limit, and the ids of each open block have a width.
 pub fn machine_after()
     ensures kept { (limits : Limits) (m new : Machine) (p : ℕ) (s : List Bool) (events : List Event)
         → Leads limits m p s events new
@@ -78,27 +78,27 @@ pub fn machine_after()
         → Leads limits m p s events new → AreWide new.frames }
 {}
 
-/// The events of a stream are well nested, at most as deep as the limit, and where it is accepted no block is left open.
+/// The events of a stream are well nested, at most as deep as the limit, and if it is accepted no block is left open.
 pub fn nested_events()
     ensures { (limits : Limits) (p : ℕ) (r : List Bool) (events : List Event) (ending : Ending)
         → Steps limits at_start p r events ending
         → EndsNested limits.depth 0 events ending }
 {}
 
-/// The records of a stream, also before a break, have no more values than the limit.
+/// The records of a stream, also of one that breaks, have no more values than the limit.
 pub fn values_of_events()
     ensures { (limits : Limits) (p : ℕ) (r : List Bool) (events : List Event) (ending : Ending)
         → Steps limits at_start p r events ending
         → all_values_told events ≤ limits.values }
 {}
 
-/// Marked items are known by their events.
+/// Marked items with the same events are the same.
 pub fn marks_by_events()
     ensures { (a b : Marks) → flat a [] ≡ flat b [] → a ≡ b }
 {}
 
-/// An input spells a marked tree where its head, the events of the tree and acceptance are told of it; and it breaks with a
-/// fault where what is told ends with that fault.
+/// An input spells a marked tree exactly if its outlook is the head, the events of the tree and acceptance; and it breaks with a
+/// fault exactly if its outlook ends with that fault.
 pub fn told_of_input()
     ensures spelled { (limits : Limits) (bytes : List ℕ) (m : Marked)
         → (SpellsInput limits bytes m
@@ -107,15 +107,15 @@ pub fn told_of_input()
         → (BreaksInput limits bytes fault ↔ EndsBy (outlook limits bytes) fault) }
 {}
 
-/// The events that are told of an input are those of the steps of its stream, behind its head, whatever ends them.
+/// The events in the outlook of an input are those of the steps of its stream, after its head, whatever ends them.
 pub fn events_of_bytes()
     ensures { (limits : Limits) (bytes : List ℕ) (head : Head) (events : List Event)
         → (HasEvents limits bytes head events
         ↔ ((ending : Ending) × (outlook limits bytes ≡ Ok (head, (events, ending))))) }
 {}
 
-/// The events of an input are well nested, at most as deep as the limit, and their records have no more values than the
-/// limit; and where it is accepted no block is left open.
+/// The events of an input are well nested, at most as deep as the limit, and their records have no more values than the limit; and
+/// if it is accepted no block is left open.
 pub fn nested_input()
     ensures kept { (limits : Limits) (bytes : List ℕ) (head : Head) (events : List Event)
         → HasEvents limits bytes head events

@@ -21,7 +21,7 @@ pub fn normal_spelled()
         → HasTree keep limits bytes tree }
 {}
 
-/// Fit trees with the same normal form are the same, where the form and the trees keep to common limits within their caps.
+/// Fit trees with the same normal form are the same, if the form and the trees keep to common limits within their caps.
 pub fn one_tree_of_normal()
     ensures { (limits : Limits) (a b : Tree) (bytes : List ℕ) → Capped limits → Fit a → Fit b
         → bits_of_bytes bytes ≡ normal_form a → bits_of_bytes bytes ≡ normal_form b
@@ -30,16 +30,16 @@ pub fn one_tree_of_normal()
         → forest_values b.blocks ≤ limits.values → a ≡ b }
 {}
 
-/// Fit trees with the same normal form are the same, where the form is no longer than the cap on bytes, so that each length
-/// in it fits its field.
+/// Fit trees with the same normal form are the same, if the form is no longer than the cap on bytes, so that each length in it fits
+/// its field.
 pub fn one_tree_of_form()
     ensures { (a b : Tree) → Fit a → Fit b → size_of a ≤ most_bytes → normal_form a ≡ normal_form b
         → a ≡ b }
 {}
 
-/// Under each setting and limits within their caps, where the normal form of what is left of what an input spells fits the
-/// limit on bytes: it is spelled under the same limits; all that it spells is what is left, of which nothing is left out under
-/// the setting, so that it is its own normal form; and inputs whose normal forms are the same bytes have the same tree.
+/// Under each setting and limits within their caps: if the normal form of the input's tree under the setting fits the limit on
+/// bytes, it is spelled under the same limits, and only with that tree; nothing of that tree is left out under the setting, so it
+/// is its own normal form; and inputs whose normal forms are the same bytes have the same tree.
 pub fn normal_once()
     ensures spelled { (setting : Setting) (limits : Limits) (bytes out : List ℕ) (m : Marked)
         → Capped limits
@@ -68,8 +68,8 @@ pub fn normal_once()
         → length out ≤ limits.bytes → under setting (tree_of m) ≡ under setting (tree_of n) }
 {}
 
-/// Under each setting and limits within their caps, what an input spells has a normal form where the limit on bytes has room
-/// for it: bytes that spell the tree.
+/// Under each setting and limits within their caps, an input's tree has a normal form, if the limit on bytes has room for it: bytes
+/// that spell the tree.
 pub fn form_of_input()
     ensures { (setting : Setting) (limits : Limits) (bytes : List ℕ) (m : Marked) → Capped limits
         → SpellsInput limits bytes m → size_of (under setting (tree_of m)) ≤ limits.bytes
@@ -91,14 +91,14 @@ pub fn normal_size()
         → length (normal_form tree) ≡ 8 * size_of tree }
 {}
 
-/// The normal form of items goes by its position modulo 32 only, and so does its length; bodies are whole words.
+/// The normal form of items depends on its position modulo 32 only, and so does its length; bodies are whole words.
 pub fn normal_at()
     ensures text { (f : Forest) (p k : ℕ) → normal f (p + 32 * k) ≡ normal f p }
     ensures end { (f : Forest) (p k : ℕ) → end_of f (p + 32 * k) ≡ end_of f p + 32 * k }
     ensures body { (inner : Forest) → body_length inner % 32 ≡ 0 }
 {}
 
-/// Items do not end before they begin, nor earlier where they begin later, and no setting makes a tree larger.
+/// Items do not end before they begin, and not earlier if they begin later, and no setting makes a tree larger.
 pub fn size_order()
     ensures grows { (f : Forest) (p : ℕ) → p ≤ end_of f p }
     ensures later { (f : Forest) (p q : ℕ) → p ≤ q → end_of f p ≤ end_of f q }
@@ -106,7 +106,7 @@ pub fn size_order()
         → size_of (under setting tree) ≤ size_of tree }
 {}
 
-/// The normal form of blocks is bytes, as many as its size, which is a multiple of four.
+/// The normal form of blocks is whole bytes, as many as its size, a multiple of four.
 pub fn normal_bytes()
     ensures bytes { (tree : Tree) → AreBlocks tree.blocks
         → (bytes : List ℕ) × All (λ b. b < 256) bytes × (bits_of_bytes bytes ≡ normal_form tree)
@@ -116,7 +116,7 @@ pub fn normal_bytes()
     ensures words { (tree : Tree) → AreBlocks tree.blocks → size_of tree % 4 ≡ 0 }
 {}
 
-/// Bits are those of one list of bytes, each of eight bits.
+/// Bits are those of at most one list of bytes, each of eight bits.
 pub fn one_list_of_bytes()
     ensures same { (a b : List ℕ) → All (λ x. x < 256) a → All (λ x. x < 256) b
         → bits_of_bytes a ≡ bits_of_bytes b → a ≡ b }

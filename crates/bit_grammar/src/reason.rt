@@ -4,13 +4,13 @@ ghost use Rattle.bit_grammar.specs.Reasons.{number_of, name_of};
 /// Why an input is refused. The numbers and names are this project's own and do not change.
 #[derive(Clone, Copy, Debug, PartialEq, Eq)]
 pub enum Reason {
-    /// A field, padding or the gap of a wrapper is not whole.
+    /// A field, padding or the gap of a wrapper is incomplete.
     Truncated,
     /// A VBR has a value of 2^64 or more, or more chunks than such a value needs.
     ValueTooWide,
-    /// Outside all blocks stands something that is no block.
+    /// Outside of all blocks, something other than a block.
     TopLevel,
-    /// Blocks stand in one another deeper than the limit.
+    /// Blocks are nested deeper than the limit.
     TooDeep,
     /// A block id has more than 32 bits.
     BlockId,
@@ -24,15 +24,15 @@ pub enum Reason {
     UndefinedAbbrev,
     /// A definition without operands.
     AbbrevEmpty,
-    /// An operand with an encoding that is not known.
+    /// An operand with an unknown encoding.
     AbbrevEncoding,
-    /// An operand with a width that is not lawful.
+    /// An operand with an unlawful width.
     FieldWidth,
-    /// An operand in a place where it may not stand.
+    /// An operand in a place where it is not allowed.
     AbbrevShape,
-    /// In a BLOCKINFO block stands a definition or a record where no block is described yet.
+    /// In a BLOCKINFO block, a definition or a record before a block is described.
     NoBlockSet,
-    /// A BLOCKINFO block describes no block id.
+    /// A SETBID that names no block id.
     BadSetBid,
     /// A block in a BLOCKINFO block.
     NestedInBlockInfo,

@@ -22,7 +22,7 @@ pub fn rows_by_events()
         → (count_events (flat m.blocks []) no_counts).rows ≡ (tally_of m).rows }
 {}
 
-/// The lines of the events of a tree, one after the other, are the lines of its listing.
+/// The lines of the events of a tree, one after another, are the lines of its listing.
 pub fn lines_by_events()
     ensures { (setting : Setting) (marks : Marks)
         → events_text 0 (events_under setting [] (flat marks []))

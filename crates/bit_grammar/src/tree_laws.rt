@@ -10,7 +10,7 @@ ghost use Rattle.bit_grammar.specs.Input.{tree_of, SpellsInput};
 ghost use Rattle.bit_grammar.specs.Terms.{Marked};
 ghost use Rattle.bit_grammar.specs.Under.{items_under, under, HasNoneNamed, events_under};
 
-/// Under limits within their caps, the tree of what an input spells is fit under each setting.
+/// Under limits within their caps, the tree of an input is fit under each setting.
 pub fn fit_tree()
     ensures { (setting : Setting) (limits : Limits) (bytes : List ℕ) (m : Marked) → Capped limits
         → SpellsInput limits bytes m → Fit (under setting (tree_of m)) }
@@ -22,8 +22,8 @@ pub fn settings_by_names()
     ensures drop { setting_of Drop ≡ record { blocks = 0 ∷ []; records = [] } }
 {}
 
-/// Reading is the same under each setting: what an input has under one is what is left of the whole that it has, and where it
-/// has a whole tree it has what is left of that.
+/// Reading is the same under each setting: an input has a tree under a setting exactly if it has a whole tree of which that is
+/// left.
 pub fn reading_stays()
     ensures whole { (setting : Setting) (limits : Limits) (bytes : List ℕ) (tree : Tree)
         → HasTree setting limits bytes tree
@@ -32,8 +32,8 @@ pub fn reading_stays()
         → HasTree keep limits bytes all → HasTree setting limits bytes (under setting all) }
 {}
 
-/// Under the setting that keeps all a tree stays as it is, and under each setting it stays so when it is put under it once
-/// more. A setting keeps a tree fit, and adds no depth and no values.
+/// Under the setting that keeps all a tree stays as it is. To apply a setting a second time changes nothing. A setting keeps a tree
+/// fit, and adds no depth and no values.
 pub fn tree_under()
     ensures kept { (tree : Tree) → under keep tree ≡ tree }
     ensures again { (setting : Setting) (tree : Tree)
@@ -49,7 +49,7 @@ pub fn tree_under()
         → forest_values (items_under setting around f) ≤ forest_values f }
 {}
 
-/// Nothing of what is left of a tree is named, at any depth, and a tree of which nothing is named stays as it is.
+/// No item of a tree under a setting is named by it, at any depth, and a tree without named items stays as it is.
 pub fn none_named()
     ensures left { (setting : Setting) (around : ℕ) (f : Forest)
         → HasNoneNamed setting around (items_under setting around f) }
@@ -57,7 +57,7 @@ pub fn none_named()
         → items_under setting around f ≡ f }
 {}
 
-/// What is left of the events of a marked tree are the events of one whose items are those that are left of its items.
+/// The kept events of a marked tree are the events of one whose items are the kept items.
 pub fn events_left()
     ensures { (setting : Setting) (m : Marks) → (n : Marks)
         × (events_under setting [] (flat m []) ≡ flat n [])

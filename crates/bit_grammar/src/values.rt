@@ -2,6 +2,6 @@
 #[derive(Clone, Copy, Debug, PartialEq, Eq)]
 pub enum Values {
     Shown,
-    /// Only how many there are.
+    /// Only how many values there are.
     LeftOut,
 }

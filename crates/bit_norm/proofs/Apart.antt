@@ -1,4 +1,4 @@
--- Where two trees first differ: nowhere where they are the same, and else at one place.
+-- Where two trees first differ: nowhere if they are the same, and else at one place.
 use Rattle.std.proofs.Common.{◌≡◌, List, [], ◌∷◌, ◌++◌, sym, ap, ◌∙◌}
 use Rattle.bit_grammar.specs.Setting.{Setting}
 use Rattle.bit_grammar.specs.Under.{under}

@@ -1,4 +1,4 @@
--- What a normal form becomes that is being built.
+-- The normal form that a text becomes while it is built.
 use Rattle.std.proofs.Common.{◌≡◌, ℕ, suc, ◌+◌, ◌*◌, ◌/◌, ◌%◌, ◌^◌, ◌<◌, ◌≤◌, Bool, true, false, List, [], ◌∷◌, ◌++◌, length, vec_len, replicate, refl, sym, ap, subst, ◌∙◌, arith, append_assoc, length-append}
 use Rattle.std.specs.Prelude.{◌&&◌, Result, Ok, Err, OnOk}
 use Rattle.std.specs.List.{list_all}
@@ -32,9 +32,9 @@ use Rattle.bit_norm.specs.Writing.{record_front, record_text, enter_text}
 use Rattle.bit_norm.proofs.ChunkCounting.{short_few}
 use Rattle.bit_norm.specs.declared.form_builder.FormBuilder.{FormBuilder}
 
--- ---- text behind text
+-- ---- text after text
 
--- what stands behind some text, in parts
+-- the text after some text, in parts
 pub added : (inner t : List Bool) (p : ℕ) (f rest : Forest) → normal f (p + length inner) ≡ t ++ normal rest (p + length inner + length t) → inner ++ normal f (p + length inner) ≡ (inner ++ t) ++ normal rest (p + length (inner ++ t))
 added inner t p f rest is =
     let place : p + length inner + length t ≡ p + length (inner ++ t) = omega (arith, length-append inner t) in
@@ -48,7 +48,7 @@ nothing : (p : ℕ) → normal empty p ≡ []
 unfolding normal
 nothing p = refl
 
--- a block is what stands before its length, and its length and body
+-- a block: what comes before its length, and its length and body
 block_first : (id : ℕ) (inner rest : Forest) (q b : ℕ) → b ≡ q + length (enter_text id q) + 32
     → normal (a_block id inner rest) q ≡ (enter_text id q ++ length_and_body b (normal inner b)) ++ normal rest (q + length (enter_text id q ++ length_and_body b (normal inner b)))
 unfolding normal
@@ -69,9 +69,9 @@ block_first id inner rest q b is =
     let same : two ++ block_text id body p ≡ enter_text id q ++ length_and_body b (normal inner b) = parts (bits_of 32 (length (body at_body) / 32)) (body at_body) ∙ ap (λ (k : ℕ). enter_text id q ++ (bits_of 32 (length (body k) / 32) ++ body k)) place in
     ap (λ (s : List Bool). s ++ normal rest (q + length s)) same
 
--- ---- what becomes of a text
+-- ---- the growth of a text
 
--- the whole is no shorter than what there is
+-- the whole is at least as long as the text so far
 pub longer : (outer : List (List Bool)) (full : List Bool) (coming : ℕ → Forest) → length (form_so_far outer) + length full ≤ length (whole_form outer full coming)
 longer [] full coming = omega arith
 longer (s ∷ outer) full coming =
@@ -112,7 +112,7 @@ form_enters outer inner id first rest coming head head_is =
     let same : inner ++ t ≡ (inner ++ head) ++ length_and_body b (normal first b) = sym (append_assoc inner (enter_text id q) (length_and_body b (normal first b))) ∙ ap (λ (s : List Bool). (inner ++ s) ++ length_and_body b (normal first b)) (sym head_is) in
     ap (λ (s : List Bool). whole_form outer s coming) (added inner t (begins outer) (a_block id first rest) rest (block_first id first rest q b there) ∙ ap (λ (now : List Bool). now ++ normal rest (begins outer + length now)) same)
 
--- it doesn't matter whether the magic stands before an end
+-- an end is the same with and without the magic before it
 pub end_again : (p : ℕ) → end_text (32 + p) ≡ end_text p
 end_again p =
     let two = bits_of 2 0 in
@@ -128,7 +128,7 @@ open_again id p =
     let place : 32 + p + length two + length x + length y ≡ q + 32 * 1 = omega arith in
     ap (λ (n : ℕ). two ++ (x ++ (y ++ padding n))) place ∙ ap (λ (n : ℕ). two ++ (x ++ (y ++ replicate n false))) (padding_again q 1)
 
--- what stands before a block's length ends at a word, and so does its end
+-- what comes before a block's length ends at a word, and so does its end
 pub open_ends : (id p : ℕ) → (p + length (enter_text id p)) % 32 ≡ 0
 open_ends id p =
     let two = bits_of 2 1 in
@@ -157,7 +157,7 @@ module _ (events : List Event) (text : List Bool) (holes : List ℕ) (was : Buil
   next_depth : (event : Event) → open_after event (length was.outer) ≡ left_open (events ++ event ∷ [])
   next_depth event = ap (open_after event) was.depth ∙ sym (open_behind-push events event 0)
 
-  -- the text has so many bits
+  -- the length of the text in bits
   text_length : length text ≡ length (form_so_far was.outer) + length was.inner
   text_length = ap length was.is ∙ length-append (form_so_far was.outer) was.inner
 
@@ -201,7 +201,7 @@ module _ (events : List Event) (text : List Bool) (holes : List ℕ) (was : Buil
         depth = next_depth (enters opened);
       }
 
--- where the innermost block ends, its length is put in its place
+-- when the innermost block ends, its length is stored at its place
 with_length : (outer : List (List Bool)) (s inner text : List Bool) (hole words : ℕ) → text ≡ form_so_far (s ∷ outer) ++ inner → 32 * hole ≡ length (form_so_far outer ++ s) → words ≡ length (inner ++ end_text (begins (s ∷ outer) + length inner)) / 32
     → with_word hole words (text ++ end_text (length text)) ≡ form_so_far outer ++ (s ++ length_and_body (begins (s ∷ outer)) inner)
 with_length outer s inner text hole words text_is hole_is words_is =
@@ -232,7 +232,7 @@ push_same (a ∷ xs) (b ∷ ys) x y e =
     let others = push_same xs ys x y rest in
     (ap (λ (zs : List ℕ). a ∷ zs) others.0 ∙ ap (λ (z : ℕ). z ∷ ys) first, others.1)
 
--- the length in words of the innermost block, and where it stands
+-- the length in words of the innermost block, and its place
 pub record Ending (text : List Bool) (hole : ℕ) : Type 0 where
   pub words : ℕ
   pub there : 32 * hole + 32 ≤ length text
@@ -307,11 +307,11 @@ pub passes_more : (limit : ℕ) (events : List Event) (event : Event) → Passes
 passes_more limit events event passes following =
     subst (λ (es : List Event). limit < end_of (told_at_level es 0) 32 / 8) (sym (append_assoc events (event ∷ []) following)) (passes (event ∷ following))
 
--- what is built passes it
+-- the text passes it
 passes_now : (limit : ℕ) (events : List Event) (text : List Bool) (holes : List ℕ) → Builds events text holes → limit < length text / 8 → PassesLimit limit events
 passes_now limit events text holes was long = passes_by limit events was.outer was.inner was.whole (subst (λ (t : List Bool). limit < length t / 8) was.is long)
 
--- ---- the form after an event that is left
+-- ---- the form after an event that is kept
 
 both : (b : Bool) → b ≡ false → b ≡ true → ⊥
 both b x y = absurd cc
@@ -358,7 +358,7 @@ module _ (first old new : FormBuilder) (done : List Event) (event : Event) (was 
   judged : (b : Bool) → is_left old.standing.setting old.standing.ids event ≡ b → is_left first.standing.setting (ids_behind done []) event ≡ b
   judged b is = ap (λ (st : OpenUnder). is_left st.setting st.ids event) (sym here) ∙ is
 
-  -- one that is left
+  -- one that is kept
   pub event_taken : is_left old.standing.setting old.standing.ids event ≡ true → (new.long ≡ false → new.standing ≡ record old.standing { ids = ids_after event old.standing.ids }) → new.limits ≡ old.limits → HasForm (left_events first done ++ event ∷ []) new → IsFormOf first (done ++ event ∷ []) new
   event_taken is moved limits form = record {
     limits = limits ∙ was.limits;
@@ -366,7 +366,7 @@ module _ (first old new : FormBuilder) (done : List Event) (event : Event) (was 
     form = subst (λ (es : List Event). HasForm es new) (sym (left_push first.standing.setting done event [] true (judged true is))) form;
   }
 
-  -- one that is not
+  -- one that is left out
   pub event_left_out : is_left old.standing.setting old.standing.ids event ≡ false → new.standing ≡ record old.standing { ids = ids_after event old.standing.ids } → new.limits ≡ old.limits → HasForm (left_events first done) new → IsFormOf first (done ++ event ∷ []) new
   event_left_out is moved limits form = record {
     limits = limits ∙ was.limits;
@@ -374,13 +374,13 @@ module _ (first old new : FormBuilder) (done : List Event) (event : Event) (was 
     form = subst (λ (es : List Event). HasForm es new) (sym (left_push first.standing.setting done event [] false (judged false is) ∙ append-nil (left_events first done))) form;
   }
 
-  -- as many blocks are open by the events that are left
+  -- as many blocks are open by the events that are kept
   pub some_left : list_all (keeps old.standing.setting) old.standing.ids ≡ true → 0 < left_open done → 0 < left_open (left_events first done)
   some_left all some =
       let same : list_all (keeps first.standing.setting) (ids_behind done []) ≡ true = ap (λ (st : OpenUnder). list_all (keeps st.setting) st.ids) (sym here) ∙ all in
       omega (arith, left_as_many first.standing.setting done same, some)
 
--- what passed the limit stays so
+-- a form that passed the limit still passes it
 pub still_passed : (first old : FormBuilder) (done : List Event) (event : Event) → IsFormOf first done old → old.long ≡ true → IsFormOf first (done ++ event ∷ []) old
 still_passed first old done event was long = record {
   limits = was.limits;
@@ -433,7 +433,7 @@ passes_whole first last events was long =
 
 -- ---- what is added, in parts
 
--- what stands before the values, field by field, or at once
+-- what comes before the values, field by field or in one step
 pub record_head_parts : (text a b d : List Bool) (code count : ℕ) → a ≡ text ++ bits_of 2 3 → b ≡ a ++ shortest 6 code → d ≡ b ++ shortest 6 count → d ≡ text ++ record_front code count
 record_head_parts text a b d code count a_is b_is d_is =
     let x = bits_of 2 3 in
@@ -453,7 +453,7 @@ record_head_at_once code count word few short word_is =
     ∙ bits_of-above 2 12 3 (code + count * 64) three
     ∙ ap (λ (s : List Bool). bits_of 2 3 ++ s) (bits_of-above 6 6 code count six ∙ ap (λ (s : List Bool). s ++ bits_of 6 count) (six_bits code few) ∙ ap (λ (s : List Bool). shortest 6 code ++ s) (six_bits count short))
 
--- a record, behind what stands before its values
+-- a record: its values after what comes before them
 pub record_joined : (text a e : List Bool) (code count : ℕ) (list : List ℕ) → a ≡ text ++ record_front code count → count ≡ length list → e ≡ a ++ values_bits list → e ≡ text ++ record_text code list (length text)
 record_joined text a e code count list a_is count_is e_is =
     let x = bits_of 2 3 in
@@ -471,7 +471,7 @@ end_parts text a b a_is b_is =
     let place : length a ≡ length text + length x = ap length a_is ∙ length-append text x in
     b_is ∙ ap (λ (n : ℕ). a ++ padding n) place ∙ ap (λ (s : List Bool). s ++ padding (length text + length x)) a_is ∙ append_assoc text x (padding (length text + length x))
 
--- how much a number adds
+-- how many bits a number adds
 pub vbr_adds : (n value : ℕ) (old new : List Bool) → 2 ≤ n → n ≤ 32 → new ≡ old ++ shortest n value → length new ≤ length old + 2048
 vbr_adds n value old new some few is = omega (arith, ap length is, length-append old (shortest n value), short_length n value (omega (arith, some)), short_few n value some few)
 
@@ -479,11 +479,11 @@ length-holes : (outer : List (List Bool)) → length (holes_of outer) ≡ length
 length-holes [] = refl
 length-holes (s ∷ outer) = omega (arith, length-append (holes_of outer) ((length (form_so_far outer ++ s) / 32) ∷ []), length-holes outer)
 
--- a block that is open has a place for its length
+-- an open block has a place for its length
 pub some_hole : (events : List Event) (b : FormBuilder) → Builds events b.text b.holes.items → 0 < left_open events → 0 < vec_len b.holes
 some_hole events b was some = omega (arith, b.holes.ok.0, ap length was.places, length-holes was.outer, was.depth, some)
 
--- a record where the form is too long, or that is left out
+-- a record if the form is too long, or one that is left out
 pub record_idle : (first old : FormBuilder) (done : List Event) (mark : RecordMark) → IsFormOf first done old → (old.long ≡ false → record_left old.standing mark.code ≡ false) → IsFormOf first (done ++ notes mark ∷ []) old
 record_idle first old done mark was out = go old.long refl
   where
@@ -495,7 +495,7 @@ first_of_two : (a b : Bool) → (a && b) ≡ true → a ≡ true
 first_of_two true b e = refl
 first_of_two false b e = e
 
--- a record that is left
+-- a record that is kept
 pub record_taken : (first old new : FormBuilder) (done : List Event) (mark : RecordMark) → IsFormOf first done old → old.long ≡ false → record_left old.standing mark.code ≡ true → 0 < left_open done → (new.standing ≡ old.standing) × (new.limits ≡ old.limits)
     → (HasForm (left_events first done) old → old.long ≡ false → 0 < left_open (left_events first done) → HasForm (left_events first done ++ notes mark ∷ []) new) → IsFormOf first (done ++ notes mark ∷ []) new
 record_taken first old new done mark was short is some stays adds =

@@ -15,7 +15,7 @@ limit_is_enough payload some = omega (arith, div-add-mod (63 + payload) payload,
 limit_is_small : (payload : ℕ) → 0 < payload → chunk_limit payload ≤ 64
 limit_is_small payload some = div-le_of_le-mul payload (omega arith)
 
--- one chunk at least is permitted
+-- at least one chunk is permitted
 limit_is : (payload : ℕ) → 0 < payload → chunk_limit payload ≡ suc (chunk_limit payload - 1)
 limit_is payload some = one_more payload (chunk_limit payload) (limit_is_enough payload some)
   where
@@ -29,7 +29,7 @@ short_few n value some few =
     let small : n * limit ≤ n * 64 = mul-le-mul_left n (limit_is_small (n - 1) (omega arith)) in
     omega (arith, (short_range n value some).1, small)
 
--- chunks were counted, and one at least is permitted for what is left of the value
+-- chunks were counted, and at least one is permitted for the rest of the value
 pub record Counting (n value bits rest : ℕ) : Type 0 where
   pub permitted : ℕ
   pub whole : bits + n * chunk_count (n - 1) (suc permitted) rest ≡ shortest_length n value + n
@@ -53,7 +53,7 @@ count_of_one payload permitted rest lt = let is : ltb rest (2 ^ payload) ≡ tru
 count_of_more : (payload permitted rest : ℕ) → 2 ^ payload ≤ rest → chunk_count payload (suc permitted) rest ≡ suc (chunk_count payload permitted (rest / 2 ^ payload))
 count_of_more payload permitted rest le = let is : ltb rest (2 ^ payload) ≡ false = le-ltb _ _ le in rw is refl
 
--- more of the value than one chunk holds: a second chunk is permitted
+-- the rest is more than one chunk holds: a second chunk is permitted
 another : (payload permitted rest : ℕ) → 2 ^ payload ≤ rest → rest < 2 ^ (payload * suc permitted) → (fewer : ℕ) × (permitted ≡ suc fewer)
 another payload zero rest le lt = let e : payload * 1 ≡ payload = omega arith in let one : rest < 2 ^ payload = rw e at lt in absurd (omega arith)
 another payload (suc fewer) rest le lt = (fewer, refl)
@@ -71,7 +71,7 @@ counting_goes_on n value bits rest some le c =
       below = shr_lt ((n - 1) * suc k.0) (n - 1) below;
     }
 
--- what is counted is no more than there is
+-- no more chunks are counted than there are
 pub counting_few : (n value bits rest : ℕ) → 2 ≤ n → n ≤ 32 → Counting n value bits rest → bits ≤ 2048
 counting_few n value bits rest some few c =
     let least : n * 1 ≤ n * chunk_count (n - 1) (suc c.permitted) rest = mul-le-mul_left n (omega arith) in
@@ -84,7 +84,7 @@ counting_ends n value bits rest lt c =
 
 -- ---- chunks counted by the highest bit
 
--- so many chunks more than one are there where the value has a bit that high, and none higher
+-- the number of chunks after the first is set by the highest bit of the value
 count_by_size : (payload permitted count value : ℕ) → 0 < payload → count ≤ permitted → 2 ^ (payload * count) ≤ max value 1 → value < 2 ^ (payload * suc count) → chunk_count payload (suc permitted) value ≡ suc count
 count_by_size payload permitted zero value some few least most =
     let one : payload * 1 ≡ payload = omega arith in

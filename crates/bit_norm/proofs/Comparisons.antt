@@ -1,4 +1,4 @@
--- What is answered of two inputs.
+-- The result for two inputs.
 use Rattle.std.proofs.Common.{◌≡◌, ℕ, ◌+◌, ◌⊎◌, inl, inr, arith, Bool, true, false, IsTrue, List, [], ◌∷◌, ◌++◌, Option, Some, None, Result, Ok, Err, refl, sym, ap, ◌∙◌, subst, append-nil}
 use Rattle.std.specs.Prelude.{◌↔◌, IsSome}
 use Rattle.bit_grammar.specs.Setting.{Setting}
@@ -44,9 +44,9 @@ magics_seen a b s t e f =
     let make : Standing → Standing → Seen = λ x y. record { place = at_magic; first = x; second = y; value = None } in
     ap (λ (x : Standing). make x (standing_shown t)) e ∙ ap (make (magic_standing a)) f
 
--- ---- what is told of the first
+-- ---- the first input
 
--- what is told of bytes is the head and the events of the marked tree that they spell
+-- the outlook of bytes is the head and the events of the marked tree that they spell
 told_parts : (h k : Head) (x y : Told) → ◌≡◌ {A = Result (Head × Told) grammar.Fault} (Ok (h, x)) (Ok (k, y)) → (h ≡ k) × (x.0 ≡ y.0)
 told_parts h k x y same =
     let pair : Path (Head × Told) (h, x) (k, y) = cc in
@@ -55,9 +55,9 @@ told_parts h k x y same =
 told_is : (limits : Limits) (bytes : List ℕ) (c : Coming) (m : Marked) → outlook limits bytes ≡ Ok (c.head, c.told) → SpellsInput limits bytes m → (c.head ≡ m.head) × (c.told.0 ≡ flat m.blocks [])
 told_is limits bytes c m told spelled = told_parts c.head m.head c.told (flat m.blocks [], accepted m.after) (sym told ∙ (told_if_spelled limits bytes m).0 spelled)
 
--- ---- the answer by the entries
+-- ---- the result by the entries
 
--- this answers of two lists of entries
+-- this is the result for two lists of entries
 abbrev pub AnswersLists : List Entry → List Entry → Option Difference → Type 0
 AnswersLists a b None = signs_in a ≡ signs_in b
 AnswersLists a b (Some d) = ApartAt a b (difference_shown d)
@@ -102,7 +102,7 @@ by_found a b p last end (Some f) answer is tells alike apart_at takes answers = 
 abbrev pub outside : Setting → blocks.OpenUnder
 outside setting = record { setting = setting; ids = [] }
 
--- what the comparison begins with
+-- the state in which the comparison begins
 pub record Begins (setting : Setting) (head : Head) (c : Compared) : Type 0 where
   pub first : c.first_blocks ≡ outside setting
   pub second : c.second_blocks ≡ outside setting
@@ -134,7 +134,7 @@ concluded setting limits bytes begun last m second answer told tells begins is w
 
 -- ---- both inputs
 
--- what is told of the first where it was kept
+-- the outlook of the first input, which was kept
 abbrev pub Kept : Limits → Incoming → Incoming → List ℕ → Type 0
 Kept limits i now bytes = Spent limits i now × (IsSome i.to_come → ((bytes ≡ known_bytes i.to_come) × ((m : Marked) × SpellsInput limits (known_bytes i.to_come) m)) × (known_bytes now.to_come ≡ []))
 
@@ -151,7 +151,7 @@ has_fit setting limits bytes m capped spelled = ((m, spelled, refl), fit_of_sett
 any_tree : Tree
 any_tree = record { magic = 0; blocks = empty }
 
--- some tree that is as the answer has it
+-- a tree for this result
 beside : (answer : Bool) (t : Tree) → (other : Tree) × (IsTrue answer ↔ (other ≡ t))
 beside true t = (t, (λ yes. refl, λ e. refl))
 beside false t = (record { magic = t.magic + 1; blocks = t.blocks }, (λ no. absurd cc, λ e. absurd (omega (arith, ap (λ (u : Tree). u.magic) e))))
@@ -195,7 +195,7 @@ finds setting limits i now j later bytes (Ok answer) capped kept read =
     (a.0, b.0, a.1, b.1, λ first second. b.2 second a.0 (a.2 first))
 finds setting limits i now j later bytes (Err e) capped kept none = misread setting limits i now j later bytes e.which e.fault capped kept none
 
--- the first was in memory
+-- the first is a slice
 pub finds_in_bytes : (setting : Setting) (limits : Limits) (bytes : List ℕ) (i now j later : Incoming) (checked : Unit {0}) (answer : Result (Option Difference) SameFault) → Capped limits → i ≡ source_of bytes → now.failures ≡ 0
     → ReadsWhole (λ (all : List ℕ) (_ : Unit {0}). (m : Marked) × SpellsInput limits all m) limits i (Ok checked) now → ComparesWith setting limits bytes j answer later → FindsInBytes setting limits bytes j answer later
 finds_in_bytes setting limits bytes i now j later checked answer capped is never read compared =

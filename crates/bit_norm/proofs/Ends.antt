@@ -1,4 +1,4 @@
--- Positions as they are counted along a tree.
+-- Positions that are counted along a tree.
 use Rattle.std.proofs.Common.{◌≡◌, ℕ, ◌+◌, ◌/◌, ◌^◌, ◌<◌, ◌≤◌, List, length, get_or, drop, refl, sym, ap, ◌∙◌, arith, inl, inr}
 use Rattle.std.proofs.lemmas.Bool.{cases_lt}
 use Rattle.std.proofs.lemmas.List.{drop_all}
@@ -12,7 +12,7 @@ use Rattle.bit_tree.specs.declared.tree.Item.TheVariants as item
 use Rattle.bit_tree.proofs.Placing.{item_placed, block_placed}
 use Rattle.bit_grammar.specs.Bits.{saturated}
 
--- a position that is counted too low is past the greatest number, and so is each after it
+-- a saturated position stays saturated, and so does each after it
 end_saturated : (f : Forest) (p : ℕ) → saturated (end_of f (saturated p)) ≡ saturated (end_of f p)
 end_saturated f p = elim (cases_lt p 18446744073709551616) [
   | inl below ↦ let same : saturated p ≡ p = omega arith in rw same refl
@@ -33,7 +33,7 @@ end_of_block : (id : ℕ) (inner rest : Forest) (p : ℕ) → end_of (a_block id
 unfolding end_of
 end_of_block id inner rest p = refl
 
--- a body whose items' end is counted too low is past the greatest number
+-- a body whose items' end is saturated is saturated
 pub block_saturated : (from e : ℕ) → saturated (from + aligned (saturated e + 2)) ≡ saturated (from + aligned (e + 2))
 block_saturated from e = elim (cases_lt e 18446744073709551616) [
   | inl below ↦ let same : saturated e ≡ e = omega arith in rw same refl
@@ -72,7 +72,7 @@ no_more_items items i whole at from h = no_more (forest_of_items (drop i items))
 pub no_more_blocks : (blocks : List Block) (i : ℕ) (whole : Forest) (at from : ℕ) → length blocks ≤ i → at < 2 ^ 64 → saturated (end_of (forest_of_blocks (drop i blocks)) at) ≡ saturated (end_of whole from) → at ≡ saturated (end_of whole from)
 no_more_blocks blocks i whole at from h = no_more (forest_of_blocks (drop i blocks)) whole at from (ap forest_of_blocks (drop_all i blocks h))
 
--- the words of a body that is not past the greatest number
+-- the words of a body that is not saturated
 pub words_counted : (inner : Forest) (end bits : ℕ) → end ≡ saturated (end_of inner 0) → bits ≡ saturated (aligned (end + 2)) → body_length inner < 2 ^ 63 → bits / 32 ≡ body_length inner / 32
 words_counted inner end bits e f short = omega (arith, e, f, ap (λ n. saturated (aligned (n + 2))) e, block_saturated 0 (end_of inner 0))
 

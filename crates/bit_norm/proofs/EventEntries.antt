@@ -1,4 +1,4 @@
--- The entries of marks are those that their events tell.
+-- The entries of marks are those of their events.
 use Rattle.std.proofs.Common.{◌≡◌, ℕ, suc, List, [], ◌∷◌, ◌++◌, refl, sym, ap, ◌∙◌, append_assoc, append-nil}
 use Rattle.bit_grammar.specs.Setting.{Setting}
 use Rattle.bit_grammar.specs.Under.{events_under, marks_under}
@@ -13,7 +13,7 @@ use Rattle.bit_norm.proofs.InStep.{closing_last}
 abbrev st : List OpenBlock → ℕ → ℕ → Stand
 st within items ended = record { within = within; items = items; ended = ended }
 
--- behind items stands this end, and then others
+-- after items come this end and then others
 abbrev Ends : (end : Sign) → List OpenBlock → List Event → List Entry → Type 0
 Ends end within following others = (n e : ℕ) → told_entries (st within n e) following ≡ entry_with within n end e ∷ others
 
@@ -34,7 +34,7 @@ told_flat (marked_record mark rest) end within items ended following others stop
     ap (λ (l : List Entry). entry_with within items (has_record mark.code mark.values) mark.first ∷ l) (told_flat rest end within (suc items) mark.after following others stop)
 told_flat (marked_definition mark rest) end within items ended following others stop = told_flat rest end within items ended following others stop
 
--- all entries that are left, behind a magic that ends at this bit
+-- all entries that are kept, after a magic that ends at this bit
 pub entries_told : (s : Setting) (m : Marks) (ended : ℕ) → told_entries (st [] 0 ended) (events_under s [] (flat m [])) ≡ entries over [] 0 ended (marks_under s 0 m)
 entries_told s m ended =
     ap (told_entries (st [] 0 ended)) (events_left s [] m [] refl) ∙ told_flat (marks_under s 0 m) over [] 0 ended [] [] (λ n e. refl) ∙ append-nil (entries over [] 0 ended (marks_under s 0 m))

@@ -1,4 +1,4 @@
--- A block is smaller than the items that it stands among.
+-- A block is smaller than the list of items that contains it.
 use Rattle.std.proofs.Common.{◌≡◌, ℕ, zero, suc, ◌+◌, ◌<◌, ◌≤◌, List, [], ◌∷◌, length, get_or, drop, ap, ◌∙◌, arith}
 use Rattle.bit_grammar.specs.Forest.{Forest}
 use Rattle.bit_tree.specs.TreeSize.{forest_size}

@@ -1,4 +1,4 @@
--- A magic, and the text behind it.
+-- A magic, and the text after it.
 use Rattle.std.proofs.Common.{◌≡◌, ℕ, ◌+◌, ◌/◌, Bool, List, [], ◌++◌, length, Option, Some, None, Result, Ok, Err, refl, ap, sym, subst, ◌∙◌, arith}
 use Rattle.bit_grammar.specs.Bits.{bits_of}
 use Rattle.bit_grammar.specs.Forest.{Forest, Tree}
@@ -45,8 +45,7 @@ form_bytes tree text blocks = omega (arith, ap length blocks, items_end tree.blo
 
 -- ---- what was read
 
--- What a builder gathered of an input are events that leave no block open, and where the input is known, its tree is that of
--- these events.
+-- A builder gathered events of an input that leave no block open; if the input is known, its tree is that of these events.
 pub record Found (s : Setting) (limits : Limits) (to_come : Option (List ℕ)) (first last : FormBuilder) (magic : ℕ) : Type 0 where
   pub events : List Event
   pub form : IsFormOf first events last
@@ -85,12 +84,12 @@ wrote_form s limits i o (Err Read) now new tree read wrote = absurd wrote
 wrote_form s limits i o (Err Memory) now new tree read wrote = absurd wrote
 wrote_form s limits i o (Err Failed) now new tree read wrote = wrote
 
--- it was read, whatever is known of it
+-- it was read, whether it is known or not
 pub read_tree : (s : Setting) (limits : Limits) (i now : Incoming) (first last : FormBuilder) (head : Head) (after magic : ℕ) (f : Found s limits i.to_come first last magic) → Spent limits i now × (IsSome i.to_come → Gathered IsFormOf limits (known_bytes i.to_come) first head last after × (known_bytes now.to_come ≡ []))
     → ReadsTree s limits i (Ok (record { magic = magic; blocks = told_at_level (left_events first f.events) 0 })) now
 read_tree s limits i now first last head after magic f all = (all.0, λ known. (f.fit known, (all.1 known).1))
 
--- what was not read as one thing was not read as another
+-- an input that was not read as one thing was not read as another
 pub unread : {A B : Type 0} (H : List ℕ → A → Type 0) (K : List ℕ → B → Type 0) (limits : Limits) (i now : Incoming) (fault : Fault) → ReadsWhole H limits i (failure {A = A} fault) now → ReadsWhole K limits i (failure {A = B} fault) now
 unread H K limits i now (Refused reason bit) r = r
 unread H K limits i now Read r = r

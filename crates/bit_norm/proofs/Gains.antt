@@ -16,7 +16,7 @@ use Rattle.bit_norm.specs.Writing.{GainedBits, GainedFront, WritesForm}
 all_taken : (w : Writer) → w.held ≡ [] → written_bits w ≡ taken_bits w
 all_taken w none = ap (λ (s : List Bool). taken_bits w ++ s) none ∙ append-nil (taken_bits w)
 
--- the bits of what a sink took in between
+-- the bits of the bytes that a sink took in between
 took_more : (a b : Writer) (more : List ℕ) → known_bytes b.outgoing.bytes ≡ known_bytes a.outgoing.bytes ++ more → taken_bits a ++ bits_of_bytes more ≡ taken_bits b
 took_more a b more is = sym (bits_of_bytes-append (known_bytes a.outgoing.bytes) more) ∙ ap bits_of_bytes (sym is)
 
@@ -48,7 +48,7 @@ gained_front bits a b none l = record {
 pub form_written : (tree : Tree) (limit bytes : ℕ) (a b : Writer) → bytes ≡ size_of tree → bytes ≤ limit → a.held ≡ [] → b.held ≡ [] → Wrote a (normal_form tree) b → WritesForm tree limit a.outgoing (Ok bytes) b.outgoing
 form_written tree limit bytes a b is within none all w = (rw is at within, is, gained (normal_form tree) a b none all w)
 
--- a front of it was
+-- a prefix of it was written
 pub form_lost : (tree : Tree) (limit bytes : ℕ) (a b : Writer) (fault : Fault) → bytes ≡ size_of tree → bytes ≤ limit → a.live ≡ true → a.held ≡ [] → Writes (normal_form tree) a (Err fault) b → WritesForm tree limit a.outgoing (Err fault) b.outgoing
 form_lost tree limit bytes a b Write is within live none w = (rw is at within, gained_front (normal_form tree) a b none w)
 form_lost tree limit bytes a b Failed is within live none w = let dead = w.0 in absurd cc
@@ -57,6 +57,6 @@ form_lost tree limit bytes a b Read is within live none w = w
 form_lost tree limit bytes a b Memory is within live none w = w
 form_lost tree limit bytes a b OutputTooLong is within live none w = absurd w
 
--- the same between sinks that are known as these
+-- the same between sinks with these known bytes
 pub between : (tree : Tree) (limit : ℕ) (answer : Result ℕ Fault) (a old b new : Outgoing) → a ≡ old → b ≡ new → WritesForm tree limit a answer b → WritesForm tree limit old answer new
 between tree limit answer a old b new first last form = subst (λ (o : Outgoing). WritesForm tree limit old answer o) last (subst (λ (o : Outgoing). WritesForm tree limit o answer b) first form)

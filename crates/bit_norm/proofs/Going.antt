@@ -6,7 +6,7 @@ use Rattle.bit_fields.specs.declared.fault.Fault.{Fault}
 use Rattle.bit_fields.proofs.WriterLaws.{wrote_nothing, wrote_then, not_written}
 use Rattle.bit_norm.specs.Writing.{HasRoom}
 
--- a writer stands where this is left of what was to be written: what writes it completes the whole
+-- a writer that has this left to write: what writes it completes the whole
 pub record Goes (whole : List Bool) (old : Writer) (rest : Text) (now : Writer) : Type 0 where
   pub room : HasRoom now (rest now.position)
   pub completes : (r : Result (Unit {0}) Fault) (new : Writer) → Writes (rest now.position) now r new → Writes whole old r new

@@ -42,14 +42,14 @@ record_says mark ended sign b p is = record { found = record { sign = has_record
 pub end_says : (after ended : ℕ) (sign : Sign) (b : Beside) (p : Apart) → StandsBeside (record { sign = ends; bit = ended; ended = after }) sign b p → SaysBeside (said_of ended (leaves after)) sign b p
 end_says after ended sign b p is = record { found = record { sign = ends; bit = ended; ended = after }; is = refl; beside = is }
 
--- an event that is not left says nothing, and one that is left what it says
+-- an event that is left out has no sign, and one that is kept has its own
 pub left_out_says : (stands : blocks.OpenUnder) (ended : ℕ) (event : Event) → is_left stands.setting stands.ids event ≡ false → said_left stands ended event ≡ None
 left_out_says stands ended event out = ap (λ (b : Bool). if b then said_of ended event else None) out
 
 pub left_says : (stands : blocks.OpenUnder) (ended : ℕ) (event : Event) → is_left stands.setting stands.ids event ≡ true → said_left stands ended event ≡ said_of ended event
 left_says stands ended event entries_of_first = ap (λ (b : Bool). if b then said_of ended event else None) entries_of_first
 
--- what an event says stands before what the others tell
+-- the entry of an event comes before those of the others
 pub entries_first : (stands : blocks.OpenUnder) (s : Stand) (event : Event) (events : List Event)
     → told_entries s (blocks.left_of stands (event ∷ events)) ≡ put_entry s (said_left stands s.ended event) (told_entries (stand_after s (said_left stands s.ended event)) (blocks.left_of (blocks.stands_after event stands) events))
 entries_first stands s event events = go (is_left stands.setting stands.ids event)
@@ -61,7 +61,7 @@ entries_first stands s event events = go (is_left stands.setting stands.ids even
     go true = refl
     go false = refl
 
--- nothing is said
+-- the event has no sign
 pub entries_silent : (stands next : blocks.OpenUnder) (s : Stand) (event : Event) (events : List Event) → said_left stands s.ended event ≡ None → next ≡ blocks.stands_after event stands
     → told_entries s (blocks.left_of stands (event ∷ events)) ≡ told_entries s (blocks.left_of next events)
 entries_silent stands next s event events none is =
@@ -69,7 +69,7 @@ entries_silent stands next s event events none is =
     ∙ ap (λ (o : Option Said). put_entry s o (told_entries (stand_after s o) (blocks.left_of (blocks.stands_after event stands) events))) none
     ∙ ap (λ (st : blocks.OpenUnder). told_entries s (blocks.left_of st events)) (sym is)
 
--- this is said
+-- the event has this sign
 pub entries_said : (stands next : blocks.OpenUnder) (s : Stand) (event : Event) (x : Said) (events : List Event) → said_left stands s.ended event ≡ Some x → next ≡ blocks.stands_after event stands
     → told_entries s (blocks.left_of stands (event ∷ events)) ≡ entry_at s x ∷ told_entries (stand_behind s x.sign x.ended) (blocks.left_of next events)
 entries_said stands next s event x events found is =
@@ -79,8 +79,7 @@ entries_said stands next s event x events found is =
 
 -- ---- values
 
--- where one list has no more values
--- two lists differ nowhere
+-- if one list has no more values, two lists differ nowhere
 pub nowhere_apart : (k : ℕ) (a b : List ℕ) → first_apart k a b ≡ None → first_unlike k a b ≡ None
 nowhere_apart k [] b e = refl
 nowhere_apart k (x ∷ a) [] e = refl
@@ -90,7 +89,7 @@ nowhere_apart k (x ∷ a) (y ∷ b) e = go (nowhere_apart (suc k) a b) (eqb x y)
     go rest true e = rest e
     go rest false e = absurd (cc)
 
--- these values stand first where two lists differ, so far behind a place
+-- these are the first values in which two lists differ, at a distance from a place
 pub record Unlike (k place : ℕ) (a b : List ℕ) : Type 0 where
   pub behind : ℕ
   pub first : ℕ
@@ -115,7 +114,7 @@ somewhere_apart k place (x ∷ a) (y ∷ b) e = go (somewhere_apart (suc k) plac
     go rest true is e = later is (rest e)
     go rest false is e = here is (cc)
 
--- where both are known
+-- if both are known
 pub unlike_at : (place x y : ℕ) (a b : List ℕ) → first_apart 0 a b ≡ Some place → slice_get a place ≡ Some x → slice_get b place ≡ Some y → first_unlike 0 a b ≡ Some (record { index = place; first = x; second = y })
 unlike_at place x y a b e first second =
     let u = somewhere_apart 0 place a b e in
@@ -137,7 +136,7 @@ has_both place a b e =
 
 -- ---- places
 
--- behind the innermost open block, this one
+-- after the innermost open block, this one
 pub closing_last : (l : List OpenBlock) (b : OpenBlock) (items ended : ℕ) → stand_behind_block (l ++ b ∷ []) items ended ≡ record { within = l; items = suc b.items; ended = ended }
 closing_last [] b items ended = refl
 closing_last (x ∷ []) b items ended = refl
@@ -197,13 +196,13 @@ module _ (begun old : Compared) (done : List Event) (event : Event) (was : Talli
   stands_on next is =
       is ∙ ap (blocks.stands_after event) was.stands ∙ ap (λ (ids : List ℕ). let st : blocks.OpenUnder = record { setting = begun.second_blocks.setting; ids = ids } in st) (sym (ids_behind-push done event []))
 
-  -- as many blocks are open in what is left, where each is left
+  -- as many blocks are open by the kept events, if each is kept
   pub some_left : list_all (keeps old.second_blocks.setting) old.second_blocks.ids ≡ true → 0 < left_open done → 0 < left_open (events_under begun.second_blocks.setting [] done)
   some_left all some =
       let same : list_all (keeps begun.second_blocks.setting) (ids_behind done []) ≡ true = ap (λ (st : blocks.OpenUnder). list_all (keeps st.setting) st.ids) (sym was.stands) ∙ all in
       omega (arith, left_as_many begun.second_blocks.setting done same, some)
 
--- ---- an event that says nothing
+-- ---- an event without a sign
 
 pub tally_silent : (begun old : Compared) (done : List Event) (event : Event) (next : blocks.OpenUnder) → Tallied begun done old → next ≡ blocks.stands_after event old.second_blocks → ((ended : ℕ) → said_left old.second_blocks ended event ≡ None)
     → left_open (events_under begun.second_blocks.setting [] (done ++ event ∷ [])) ≡ left_open (events_under begun.second_blocks.setting [] done) → Tallied begun (done ++ event ∷ []) (with_blocks old next)
@@ -217,7 +216,7 @@ tally_silent begun old done event next was is none deep = record {
       subst (λ (events : List Event). ApartAt (entries_of_first begun) (entries_of_second p begun events) (seen_of old f)) (sym (append_assoc done (event ∷ []) following)) (was.apart tells f found p (event ∷ following));
 }
 
--- one that is not left
+-- one that is left out
 pub tally_left_out : (begun old : Compared) (done : List Event) (event : Event) (next : blocks.OpenUnder) → Tallied begun done old → next ≡ blocks.stands_after event old.second_blocks → is_left old.second_blocks.setting old.second_blocks.ids event ≡ false → Tallied begun (done ++ event ∷ []) (with_blocks old next)
 tally_left_out begun old done event next was is out =
     tally_silent begun old done event next was is (λ ended. left_out_says old.second_blocks ended event out)
@@ -246,7 +245,7 @@ tally_stays begun old done event f was found = record {
       subst (λ (events : List Event). ApartAt (entries_of_first begun) (entries_of_second p begun events) (seen_of old g)) (sym (append_assoc done (event ∷ []) following)) (was.apart tells g is p (event ∷ following));
 }
 
--- what an event says that is left, and what this does to the place
+-- the sign of an event that is kept, and its effect on the place
 pub record IsSigned (old : Compared) (event : Event) (x : Said) : Type 0 where
   pub kept : is_left old.second_blocks.setting old.second_blocks.ids event ≡ true
   pub says : old.found ≡ None → (p : ℕ) → said_of (second_end p old) event ≡ Some x
@@ -258,13 +257,13 @@ pub record IsSigned (old : Compared) (event : Event) (x : Said) : Type 0 where
 abbrev pub at_sign : Compared → Event → Compared
 at_sign old event = with_blocks old (blocks.stands_after event old.second_blocks)
 
--- what is told of the second from there on
+-- the entries of the second from there on
 signed : (old : Compared) (event : Event) (x : Said) (p : ℕ) (following : List Event) → IsSigned old event x → old.found ≡ None
     → entries_of_second p old (event ∷ following) ≡ entry_at (here old (second_end p old)) x ∷ told_entries (stand_behind (here old (second_end p old)) x.sign x.ended) (blocks.left_of (blocks.stands_after event old.second_blocks) following)
 signed old event x p following is none =
     entries_said old.second_blocks (blocks.stands_after event old.second_blocks) (here old (second_end p old)) event x following (left_says old.second_blocks (second_end p old) event is.kept ∙ is.says none p) refl
 
--- what is told then of the place behind
+-- and those after the place
 behind_place : (old new : Compared) (event : Event) (x : Said) (p : ℕ) (following : List Event) → IsSigned old event x → old.found ≡ None → new.second_blocks ≡ blocks.stands_after event old.second_blocks
     → ((before : ℕ) → here new new.second_ended ≡ stand_behind (here old before) x.sign x.ended)
     → told_entries (stand_behind (here old (second_end p old)) x.sign x.ended) (blocks.left_of (blocks.stands_after event old.second_blocks) following) ≡ entries_of_second p new following
@@ -426,7 +425,7 @@ end_signed old after kept some = record {
 pub gave : (old new : Coming) (event : Event) (list : List ℕ) → GivesEvent old event (record new { held = list }) → Gave old event new
 gave old new event list g = record { tells = g.pays.tells; told = g.told; forward = g.forward; below = g.below }
 
--- no event says that the stream ends
+-- no event is the end of the stream
 item_of : (ended : ℕ) (event : Event) (x : Said) (entries : List Entry) → said_of ended event ≡ Some x → behind_sign x.sign entries ≡ entries
 item_of ended (enters o) x entries e = (let is : Said = record { sign = begins o.id; bit = o.first; ended = o.body } in let same : is ≡ x = cc in subst (λ (y : Said). behind_sign y.sign entries ≡ entries) same refl)
 item_of ended (defines mark) x entries e = absurd (cc)
@@ -440,7 +439,7 @@ left_item stands ended event x entries e = go (is_left stands.setting stands.ids
     go true is = item_of ended event x entries is
     go false is = absurd (cc)
 
--- what is said of it stands before what the others tell
+-- its entry comes before those of the others
 pub stepped : (stands now : blocks.OpenUnder) (s : Stand) (old new : Coming) (event : Event) (sign : Sign) (w : Weighed) (p : Apart) → Gave old event new → now ≡ blocks.stands_after event stands → Weighs stands s.ended event sign w p → Steps stands s old sign w p now new
 stepped stands now s old new event sign weighed.Passed p g is none = record {
   tells = g.tells;
@@ -456,7 +455,7 @@ stepped stands now s old new event sign (weighed.Stands beside) p g is says = λ
   beside = says.beside;
 }
 
--- ---- a record of the first that has the first values of another one
+-- ---- a record of the first that begins with the values of another one
 
 same_number : (n : ℕ) → eqb n n ≡ true
 same_number n = go (eqb n n) (eqb_refl n)
@@ -479,11 +478,11 @@ front_value code other n list = go (eqb code other)
     go true = sym (front_apart 0 n list)
     go false = refl
 
--- what was read behind the other one
+-- the values read after the expected ones
 pub read_front : (e : Expected) (others after list : List ℕ) → HasTaken e after → after ≡ take (2 ^ 62) others ++ list → take (2 ^ 62) others ≡ others → HasTaken e (others ++ list)
 read_front e others after list had parts whole = subst (HasTaken e) (parts ∙ ap (λ (front : List ℕ). front ++ list) whole) had
 
--- not left
+-- left out
 pub record_passed : (stands : blocks.OpenUnder) (old new : Coming) (id code first after : ℕ) (list : List ℕ) (sign : Sign) (p : Apart) → GivesEvent old (record_of id list first (code, after)) (record new { held = list }) → is_left stands.setting stands.ids (record_of id list first (code, after)) ≡ false → WeighsNext stands old sign weighed.Passed p new
 record_passed stands old new id code first after list sign p g out = record {
   event = record_of id list first (code, after);
@@ -492,7 +491,7 @@ record_passed stands old new id code first after list sign p g out = record {
   weighs = λ ended. left_out_says stands ended (record_of id list first (code, after)) out;
 }
 
--- left, and beside another one as this says
+-- kept, and compared with another one with this result
 pub record_beside : (stands : blocks.OpenUnder) (old new : Coming) (id code first after : ℕ) (list : List ℕ) (sign : Sign) (b : Beside) (p : Apart) → GivesEvent old (record_of id list first (code, after)) (record new { held = list }) → is_left stands.setting stands.ids (record_of id list first (code, after)) ≡ true
     → StandsBeside (record { sign = has_record code list; bit = first; ended = after }) sign b p → WeighsNext stands old sign (weighed.Stands b) p new
 record_beside stands old new id code first after list sign b p g kept is = record {
@@ -505,11 +504,11 @@ record_beside stands old new id code first after list sign b p g kept is = recor
     event : Event
     event = record_of id list first (code, after)
 
--- the same one
+-- the same record
 pub record_same : (code first after other count : ℕ) (list others : List ℕ) (p : Apart) → list ≡ take count others → count ≡ length others → code ≡ other → StandsBeside (record { sign = has_record code list; bit = first; ended = after }) (has_record other others) (Same after) p
 record_same code first after other count list others p is all same = (rw (is, all, same, take-length others) refl, refl)
 
--- another one
+-- a different record
 pub record_other : (code first after other count : ℕ) (list others : List ℕ) (p : Apart) → list ≡ take count others → count ≤ length others → ((code ≡ other) × (count ≡ length others) → ⊥) → (let s : Standing = record { bit = first; what = the_record code count } in (standing_shown p.first ≡ s)) → p.value ≡ None
     → StandsBeside (record { sign = has_record code list; bit = first; ended = after }) (has_record other others) Other p
 record_other code first after other count list others p is few unlike told value = record {

@@ -15,3 +15,4 @@ pub mod ValueTexts
 pub mod Building
 pub mod Forms
 pub mod Told
+pub mod Telling

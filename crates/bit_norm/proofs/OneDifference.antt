@@ -90,7 +90,7 @@ sign_same over (has_record code values) = inr (λ e. absurd cc)
 sign_same over ends = inr (λ e. absurd cc)
 sign_same over over = inl refl
 
--- what follows stands where it has to, by the signs before it
+-- what follows is at the place that the signs before it give
 abbrev Placed : List OpenBlock → ℕ → List Entry → Type 0
 Placed within items [] = Unit {0}
 Placed within items (x ∷ rest) = (x.within ≡ within) × (x.items ≡ items) × (let s = stand_behind (record { within = within; items = items; ended = 0 }) x.sign 0 in Placed s.within s.items rest)
@@ -117,7 +117,7 @@ told_placed : (s : Stand) (events : List Event) → Placed s.within s.items (tol
 told_placed s [] = (refl, refl, tt)
 told_placed s (event ∷ events) = put_placed s (said_of s.ended event) _ (told_placed (stand_after s (said_of s.ended event)) events)
 
--- the end of the stream stands last, and nowhere else
+-- the end of the stream comes last, and nowhere else
 abbrev EndsOnce : List Entry → Type 0
 EndsOnce [] = ⊥
 EndsOnce (x ∷ []) = x.sign ≡ over

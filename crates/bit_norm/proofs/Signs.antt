@@ -1,4 +1,4 @@
--- Trees are known by the signs of their entries.
+-- The signs of its entries determine a tree.
 use Rattle.std.proofs.Common.{◌≡◌, ℕ, suc, List, [], ◌∷◌, ◌++◌, refl, sym, ap, ◌∙◌, subst}
 use Rattle.std.specs.Prelude.{◌↔◌}
 use Rattle.bit_grammar.specs.Setting.{Setting}
@@ -35,7 +35,7 @@ begins_is a b e = cc
 record_is : (a b : ℕ) (f g : List ℕ) → has_record a f ≡ has_record b g → (a ≡ b) × (f ≡ g)
 record_is a b f g e = (cc, cc)
 
--- what stands first is no sign of an item
+-- the first sign is not that of an item
 not_first : (sign : Sign) (f g : List Sign) → Stand f → (Stand (sign ∷ g) → ⊥) → f ≡ sign ∷ g → ⊥
 not_first sign f g stand other e = other (subst Stand e stand)
 
@@ -85,11 +85,11 @@ signs_of_entries end within items ended (marked_block mark inner rest) =
 signs_of_entries end within items ended (marked_record mark rest) = ap (λ (s : List Sign). has_record mark.code mark.values ∷ s) (signs_of_entries end within (suc items) mark.after rest)
 signs_of_entries end within items ended (marked_definition mark rest) = signs_of_entries end within items ended rest
 
--- those of the entries that are left are those of the items that are
+-- the signs of the kept entries are those of the kept items
 signs_left : (s : Setting) (p : ℕ) (m : Marks) → signs_in (entries over [] 0 p (marks_under s 0 m)) ≡ signs_of (items_under s 0 (forest_of m)) (over ∷ [])
 signs_left s p m = signs_of_entries over [] 0 p (marks_under s 0 m) ∙ ap (λ (f : Forest). signs_of f (over ∷ [])) (forest_left s 0 m)
 
--- the same is left of marks just if their entries that are left have the same signs
+-- two marks have the same kept items exactly if their kept entries have the same signs
 pub same_signs : (s : Setting) (p q : ℕ) (a b : Marks) → (signs_in (entries over [] 0 p (marks_under s 0 a)) ≡ signs_in (entries over [] 0 q (marks_under s 0 b))) ↔ (items_under s 0 (forest_of a) ≡ items_under s 0 (forest_of b))
 same_signs s p q a b = (
   λ e. (signs_are (items_under s 0 (forest_of a)) (items_under s 0 (forest_of b)) (over ∷ []) (over ∷ []) tt tt (sym (signs_left s p a) ∙ e ∙ signs_left s q b)).0,

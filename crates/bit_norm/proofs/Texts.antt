@@ -85,7 +85,7 @@ no_block blocks i p h = nothing (forest_of_blocks (drop i blocks)) p (ap forest_
 
 -- ---- a block
 
--- what stands before its body
+-- what comes before its body
 abbrev pub front_text : (id words : ℕ) → Text
 front_text id words = chain (put (bits_of 2 1)) (head_text id words)
 
@@ -93,11 +93,11 @@ front_text id words = chain (put (bits_of 2 1)) (head_text id words)
 abbrev pub body_text : Forest → Text
 body_text inner = chain (normal inner) end_text
 
--- wherever a block stands, its body has the same length
+-- the body of a block has the same length at any position
 body_has : (id : ℕ) (inner : Forest) (q : ℕ) → length (body_text inner (q + length (head_text id 0 q))) ≡ body_length inner
 body_has id inner q = let k = body_aligned id q in ap (λ x. length (body_text inner x)) k.1 ∙ body_is inner k.0
 
--- a block is what stands before its body, with the words of the body, and the body
+-- a block is what comes before its body, with the words of the body, and the body
 block_parts : (id : ℕ) (inner : Forest) (p : ℕ) → whole_block id inner p ≡ chain (front_text id (body_length inner / 32)) (body_text inner) p
 block_parts id inner p =
     let q = p + length (bits_of 2 1) in
@@ -107,7 +107,7 @@ block_parts id inner p =
     let place : q + length (head_text id 0 q) ≡ p + length (front_text id words p) = omega (arith, head_length id words q, length-append (bits_of 2 1) (head_text id words q)) in
     ap (λ n. bits_of 2 1 ++ (head_text id n q ++ body)) counted ∙ sym (append_assoc (bits_of 2 1) (head_text id words q) body) ∙ ap (λ n. front_text id words p ++ body_text inner n) place
 
--- the body of a block that there is room for is that short
+-- the body of a block that fits the writer's room is short enough
 words_fit : (id : ℕ) (inner : Forest) (w : Writer) → HasRoom w (whole_block id inner w.position) → body_length inner < 2 ^ 37
 words_fit id inner w room =
     let q = w.position + length (bits_of 2 1) in
@@ -115,7 +115,7 @@ words_fit id inner w room =
     let head = head_text id (length body / 32) q in
     omega (arith, room.fits, body_has id inner q, length-append (bits_of 2 1) (head ++ body), length-append head body)
 
--- a block is begun, with the words of its body counted
+-- a block was begun, with the words of its body counted
 block_starts : (id : ℕ) (inner : Forest) (w : Writer) (words : ℕ) → HasRoom w (whole_block id inner w.position) → (body_length inner < 2 ^ 63 → words ≡ body_length inner / 32)
     → Goes (whole_block id inner w.position) w (chain (front_text id words) (body_text inner)) w
 block_starts id inner w words room counted =
@@ -166,7 +166,7 @@ pub magic_lost : (tree : Tree) (w a : Writer) (n : ℕ) (fault : Fault) → n �
 magic_lost tree w a n fault is begins room lost =
     goes_wrong (normal_form tree) w (put (bits_of 32 tree.magic)) (from_blocks tree) w a fault (form_starts tree w begins room) (subst (λ m. Writes (bits_of 32 m) w (Err fault) a) is lost)
 
--- it is, and the blocks are left
+-- it is written, and the blocks are left
 pub after_magic : (tree : Tree) (w a : Writer) (n : ℕ) → n ≡ tree.magic → w.position ≡ 0 → HasRoom w (normal_form tree) → Wrote w (bits_of 32 n) a → Goes (normal_form tree) w (from_blocks tree) a
 after_magic tree w a n is begins room wrote =
     goes_on (normal_form tree) w (put (bits_of 32 tree.magic)) (from_blocks tree) w a (form_starts tree w begins room) (subst (λ m. Wrote w (bits_of 32 m) a) is wrote)
@@ -175,7 +175,7 @@ after_magic tree w a n is begins room wrote =
 pub after_blocks : (tree : Tree) (w a b : Writer) (f : Forest) → f ≡ tree.blocks → Goes (normal_form tree) w (from_blocks tree) a → Wrote a (normal f a.position) b → Goes (normal_form tree) w (put []) b
 after_blocks tree w a b f is g wrote = goes_on (normal_form tree) w (normal tree.blocks) (put []) a b g (subst (λ (h : Forest). Wrote a (normal h a.position) b) is wrote)
 
--- what is written of a whole form ends at a whole byte
+-- a whole form ends at a whole byte
 pub form_ends : (tree : Tree) (w now : Writer) → AreBlocks tree.blocks → w.position ≡ 0 → Goes (normal_form tree) w (put []) now → now.position % 8 ≡ 0
 form_ends tree w now blocks begins g =
     let wrote : Wrote w (normal_form tree) now = goes_ends (normal_form tree) w (put []) now refl g in

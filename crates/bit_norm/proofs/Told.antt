@@ -1,4 +1,4 @@
--- What the events of marks tell.
+-- The tree of the events of marks.
 use Rattle.std.proofs.Common.{◌≡◌, ℕ, suc, List, [], ◌∷◌, refl, ◌∙◌}
 use Rattle.bit_grammar.specs.Forest.{Forest, empty, a_block, a_record}
 use Rattle.bit_grammar.specs.Machine.{Event, leaves, flat}
@@ -37,6 +37,6 @@ told_here (marked_block mark inner rest) following =
 told_here (marked_record mark rest) following = rw (told_here rest following) refl
 told_here (marked_definition mark rest) following = told_here rest following
 
--- the events of marks tell their forest
+-- the events of marks have the forest of the marks
 pub told_flat : (m : Marks) → told_at_level (flat m []) 0 ≡ forest_of m
 told_flat m = told_here m [] ∙ forest_then-empty m

@@ -1,4 +1,4 @@
--- The text of values that are taken one after the other.
+-- The text of values that are taken one after another.
 use Rattle.std.proofs.Common.{◌≡◌, ℕ, ◌*◌, ◌/◌, ◌^◌, ◌<◌, ◌≤◌, Bool, List, [], ◌∷◌, ◌++◌, length, take, refl, sym, ap, subst, ◌∙◌, arith, append_assoc, length-append}
 use Rattle.std.proofs.lemmas.List.{append-nil}
 use Rattle.bit_norm.specs.Building.{HoldsText, HasTaken}
@@ -18,14 +18,14 @@ values_text-append (v ∷ a) b = ap (λ (s : List Bool). shortest 6 v ++ s) (val
 pub longer_text : (a b : List ℕ) (limit : ℕ) → limit < length (values_bits a) / 8 → limit < length (values_bits (a ++ b)) / 8
 longer_text a b limit long = omega (arith, long, ap length (values_text-append a b) ∙ length-append (values_bits a) (values_bits b))
 
--- each value takes six bits at least
+-- each value takes at least six bits
 pub values_least : (a : List ℕ) → 6 * length a ≤ length (values_bits a)
 values_least [] = omega arith
 values_least (v ∷ a) = omega (arith, values_least a, length-append (shortest 6 v) (values_bits a), short_length 6 v (omega arith), (short_range 6 v (omega arith)).0)
 
 -- ---- what is held
 
--- values behind a text that is not held
+-- values after a text that is not held
 pub holds_more : (limit : ℕ) (text : List Bool) (values others : List ℕ) (holding : Holding) → (holding ≡ All → ⊥) → HoldsText holding text limit values → HoldsText holding text limit (values ++ others)
 holds_more limit text values others All not_all holds = absurd (not_all refl)
 holds_more limit text values others TooLong not_all holds = longer_text values others limit holds
@@ -43,7 +43,7 @@ holds_past limit text values others All is long holds = longer_text values other
 holds_past limit text values others TooLong is long holds = absurd (cc)
 holds_past limit text values others Unknown is long holds = absurd (cc)
 
--- so many values have no longer a text
+-- this many values have no longer text
 pub values_few : (vs : List ℕ) → length (values_bits vs) ≤ 2048 * length vs
 values_few [] = omega arith
 values_few (v ∷ vs) = omega (arith, values_few vs, length-append (shortest 6 v) (values_bits vs), short_length 6 v (omega arith), short_few 6 v (omega arith) (omega arith))

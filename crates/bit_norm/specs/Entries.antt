@@ -1,5 +1,4 @@
--- What stands in a tree in order, and where two trees first differ.
--- This project's own.
+-- The entries of a tree in order, and where two trees first differ. This project's own.
 use Rattle.std.specs.Prelude.{◌≡◌, ◌≢◌, ℕ, suc, ◌+◌, ◌*◌, List, [], ◌∷◌, ◌++◌, length, map, Option, Some, None, ◌==◌, if◌then◌else◌}
 use Rattle.bit_grammar.specs.Setting.{Setting}
 use Rattle.bit_grammar.specs.Under.{under, marks_under}
@@ -16,7 +15,7 @@ use Rattle.bit_norm.specs.declared.differences.Standing as bit
 use Rattle.bit_norm.specs.declared.differences.ValueDifference.{ValueDifference}
 use Rattle.bit_norm.specs.declared.differences.Difference.{Difference}
 
--- ---- what stands in a tree in order
+-- ---- the entries of a tree in order
 
 -- a block with this id begins, a record with this code and these values, a block ends, or the stream ends
 pub data Sign : Type 0 where
@@ -25,14 +24,14 @@ pub data Sign : Type 0 where
   ends : Sign
   over : Sign
 
--- what stands at a place of a tree
+-- an entry: what is at a place of a tree
 pub record Entry : Type 0 where
-  -- the open blocks, the outermost first, each with its id and how many items stand before it
+  -- the open blocks, the outermost first, each with its id and how many items come before it
   pub within : List OpenBlock
-  -- how many items stand before the place in the innermost of them, or at the top
+  -- how many items come before the place in the innermost of them, or at the top
   pub items : ℕ
   pub sign : Sign
-  -- where it begins, counted from the first bit of the input; of an end, where what stands before it ended
+  -- where it begins, counted from the first bit of the input; for an end, where what comes before it ended
   pub bit : ℕ
 
 abbrev pub entry_with : List OpenBlock → ℕ → Sign → ℕ → Entry
@@ -41,8 +40,8 @@ entry_with within items sign bit = record { within = within; items = items; sign
 abbrev pub open_block_with : (id items : ℕ) → OpenBlock
 open_block_with id items = record { id = id; items = items }
 
--- Items within these blocks, with what they hold, and behind them this end. So many items stand before them, and what stands
--- before them ended at this bit. A definition is no item and ends nothing.
+-- The entries of items within these blocks, with all in them, and then this end. `items` come before them, and what comes before
+-- them ended at this bit. A definition is no item and ends nothing.
 abbrev pub entries : (end : Sign) → (within : List OpenBlock) → (items ended : ℕ) → Marks
     → List Entry
 entries end within items ended no_marks = entry_with within items end ended ∷ []
@@ -59,14 +58,14 @@ abbrev pub stream_byte : Option Wrapper → ℕ
 stream_byte None = 0
 stream_byte (Some wrapper) = wrapper.offset
 
--- the bit of the magic, and the one behind it
+-- the bit of the magic, and the one after it
 abbrev pub magic_bit : Head → ℕ
 magic_bit head = 8 * stream_byte head.wrapper
 
 abbrev pub behind_magic : Head → ℕ
 behind_magic head = magic_bit head + 32
 
--- all that stands in a tree under a setting, behind the magic: what is left out is no item and ends nothing
+-- all entries of a tree under a setting, after the magic: what is left out is no item and ends nothing
 abbrev pub all_entries : Setting → Marked → List Entry
 all_entries setting m = entries over [] 0 (behind_magic m.head) (marks_under setting 0 m.blocks)
 
@@ -75,7 +74,7 @@ all_entries setting m = entries over [] 0 (behind_magic m.head) (marks_under set
 abbrev pub signs_in : List Entry → List Sign
 signs_in entries = map (λ (e : Entry). e.sign) entries
 
--- Both lists have a front with the same signs, and behind these stand two with different signs, at the same place.
+-- Both lists have prefixes with the same signs, and after these two entries with different signs, at the same place.
 pub record FirstApart (a b : List Entry) (x y : Entry) : Type 0 where
   pub front : List Entry
   pub rest : List Entry
@@ -88,7 +87,7 @@ pub record FirstApart (a b : List Entry) (x y : Entry) : Type 0 where
   pub within : x.within ≡ y.within
   pub items : x.items ≡ y.items
 
--- ---- what is answered
+-- ---- results
 
 pub data Place : Type 0 where
   at_magic : Place
@@ -127,7 +126,7 @@ first_unlike index (a ∷ first) (b ∷ second) = if a
 first_unlike index [] second = None
 first_unlike index (a ∷ first) [] = None
 
--- of two records with the same code
+-- the same for two records with the same code
 abbrev pub value_apart : Sign → Sign → Option ValueDifference
 value_apart (has_record code first) (has_record other second) = if code
     == other then first_unlike 0 first second else None
@@ -150,7 +149,7 @@ apart_at x y = record {
 abbrev pub magic_standing : Head → Standing
 magic_standing head = record { bit = magic_bit head; what = the_magic head.magic }
 
--- these magics do
+-- these magics differ
 abbrev pub magics_apart : Head → Head → Seen
 magics_apart a b = record {
   place = at_magic;
@@ -159,7 +158,7 @@ magics_apart a b = record {
   value = None;
 }
 
--- where the trees of two inputs first differ under a setting: in the magics, or else in what stands behind them
+-- where the trees of two inputs first differ under a setting: in the magics, or else after them
 pub data FirstDifference (setting : Setting) (a b : Marked) (seen : Seen) : Type 0 where
   in_magic : a.head.magic ≢ b.head.magic → seen ≡ magics_apart a.head b.head
       → FirstDifference setting a b seen
@@ -167,7 +166,7 @@ pub data FirstDifference (setting : Setting) (a b : Marked) (seen : Seen) : Type
       → FirstApart (all_entries setting a) (all_entries setting b) x y → seen ≡ apart_at x y
       → FirstDifference setting a b seen
 
--- ---- what is seen of the program's own types
+-- ---- the models of the program's types
 
 abbrev pub place_shown : declared.Place → Place
 place_shown place.Magic = at_magic

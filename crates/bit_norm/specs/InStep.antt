@@ -1,4 +1,4 @@
--- What reading an input in step with another one does.
+-- The effect of reading an input in step with another one.
 use Rattle.std.specs.Prelude.{◌≡◌, ◌≢◌, ◌<◌, ◌^◌, ⊤, ℕ, zero, suc, List, [], ◌∷◌, ◌++◌, Option, Some, None, IsSome, Result, Ok, Err, length, if◌then◌else◌}
 use Rattle.bit_grammar.specs.Setting.{Setting}
 use Rattle.bit_grammar.specs.Under.{is_left, ids_behind, events_under}
@@ -33,21 +33,21 @@ use Rattle.bit_norm.specs.declared.comparing.Which.{Which}
 use Rattle.bit_norm.specs.declared.comparing.Which.TheVariants.{First, Second}
 use Rattle.bit_norm.specs.declared.comparing.SameFault.{SameFault}
 
--- ---- the entries that events tell
+-- ---- the entries of events
 
--- a place among the items of a tree, and where what stands before it ended
+-- a place among the items of a tree, and where what comes before it ended
 pub record Stand : Type 0 where
   pub within : List OpenBlock
   pub items : ℕ
   pub ended : ℕ
 
--- what an event says: a sign, where that begins, and where it ends, or of a block where its items begin
+-- the sign of an event, where it begins, and where it ends; of a block, where its items begin
 pub record Said : Type 0 where
   pub sign : tree.Sign
   pub bit : ℕ
   pub ended : ℕ
 
--- of an event, where what stands before it ended at a bit
+-- the sign of an event, if what comes before it ended at a bit
 abbrev pub said_of : (ended : ℕ) → Event → Option Said
 said_of ended (enters o) = Some (record { sign = begins o.id; bit = o.first; ended = o.body })
 said_of ended (defines mark) = None
@@ -58,19 +58,19 @@ said_of ended (notes mark) = Some (record {
 })
 said_of ended (leaves after) = Some (record { sign = ends; bit = ended; ended = after })
 
--- the same, if it is left where these blocks are open before it
+-- the same, if the event is kept with these blocks open before it
 abbrev pub said_left : blocks.OpenUnder → (ended : ℕ) → Event → Option Said
 said_left stands ended event = if is_left stands.setting stands.ids event then said_of ended event
     else None
 
--- the place behind the innermost open block
+-- the place after the innermost open block
 abbrev pub stand_behind_block : List OpenBlock → (items ended : ℕ) → Stand
 stand_behind_block [] items ended = record { within = []; items = items; ended = ended }
 stand_behind_block (b ∷ []) items ended = record { within = []; items = suc b.items; ended = ended }
 stand_behind_block (b ∷ c ∷ rest) items ended = (let s = stand_behind_block (c ∷ rest) items ended
     in record { within = b ∷ s.within; items = s.items; ended = s.ended })
 
--- the place behind a sign
+-- the place after a sign
 abbrev pub stand_behind : Stand → tree.Sign → (ended : ℕ) → Stand
 stand_behind s (begins id) ended = record {
   within = s.within ++ open_block_with id s.items ∷ [];
@@ -96,20 +96,20 @@ abbrev pub put_entry : Stand → Option Said → List Entry → List Entry
 put_entry s None entries = entries
 put_entry s (Some x) entries = entry_at s x ∷ entries
 
--- the entries of events in order, and behind them the end of the stream
+-- the entries of events in order, and then the end of the stream
 abbrev pub told_entries : Stand → List Event → List Entry
 told_entries s [] = entry_with s.within s.items over s.ended ∷ []
 told_entries s (event ∷ events) = put_entry s (said_of s.ended event)
     (told_entries (stand_after s (said_of s.ended event)) events)
 
--- nothing stands behind the end of the stream
+-- nothing comes after the end of the stream
 abbrev pub behind_sign : tree.Sign → List Entry → List Entry
 behind_sign (begins id) entries = entries
 behind_sign (has_record code values) entries = entries
 behind_sign ends entries = entries
 behind_sign over entries = []
 
--- ---- what the program keeps
+-- ---- the program's state
 
 -- a sign of the program
 abbrev pub sign_shown : Sign → tree.Sign
@@ -118,54 +118,54 @@ sign_shown (Record code values) = has_record code values.now
 sign_shown Ends = ends
 sign_shown Over = over
 
--- where two trees that were gone through stand
+-- the place in two trees that are compared
 abbrev pub stand_of : Walk → (ended : ℕ) → Stand
 stand_of walk ended = record { within = walk.open.items; items = walk.items; ended = ended }
 
--- ---- one event of the first input beside a sign of the second
+-- ---- one event of the first input, compared with a sign of the second
 
--- another sign than this one
+-- a different sign
 pub record IsOther (x : Said) (sign : tree.Sign) (s : Standing)
     (v : Option ValueDifference) : Type 0 where
   pub unlike : x.sign ≢ sign
   pub first : standing_shown s ≡ record { bit = x.bit; what = what_of x.sign }
   pub value : v ≡ value_apart x.sign sign
 
--- what is said is this sign, and ends at this bit; or it is another one
+-- the sign of the event is this one, and ends at this bit; or it is different
 abbrev pub StandsBeside : Said → tree.Sign → Beside → Apart → Type 0
 StandsBeside x sign (Same ended) apart = (x.sign ≡ sign) × (x.ended ≡ ended)
 StandsBeside x sign Other apart = IsOther x sign apart.first apart.value
 
--- this was put down: what stands in the first input, and in the second a sign that begins at a bit
+-- this difference was stored: the first input has this, and the second a sign that begins at a bit
 abbrev pub PutsDown : Apart → tree.Sign → (bit : ℕ) → Option Found → Type 0
 PutsDown apart sign bit found = (f : Found) × (found ≡ Some f) × (f.first ≡ apart.first)
     × (f.value ≡ apart.value) × (standing_shown f.second ≡ record { bit = bit; what = what_of sign })
 
--- something is said, and this is how it is beside a sign
+-- the event has a sign, and this is the result of comparing it
 pub record SaysBeside (o : Option Said) (sign : tree.Sign) (b : Beside) (apart : Apart)
     : Type 0 where
   pub found : Said
   pub is : o ≡ Some found
   pub beside : StandsBeside found sign b apart
 
--- nothing is said, or this is how it is beside a sign
+-- the event has no sign, or this is the result of comparing it
 abbrev pub IsBeside : Option Said → tree.Sign → Weighed → Apart → Type 0
 IsBeside o sign weighed.Passed apart = o ≡ None
 IsBeside o sign (weighed.Stands beside) apart = SaysBeside o sign beside apart
 
--- what an event says that is left
+-- the same for an event, if it is kept
 abbrev pub Weighs : blocks.OpenUnder → (ended : ℕ) → Event → tree.Sign → Weighed → Apart → Type 0
 Weighs stands ended event sign answer apart = IsBeside (said_left stands ended event) sign answer
     apart
 
--- an event came
+-- an event was read
 pub record Gave (old : Coming) (event : Event) (new : Coming) : Type 0 where
   pub tells : TellsComing old → TellsComing new
   pub told : TellsComing old → old.told ≡ event_before event new.told
   pub forward : old.position < new.position
   pub below : new.position < 2 ^ 64
 
--- an event came that opens and closes no block, and this is how it is beside a sign, if it is left
+-- an event was read that opens and closes no block, and this is the result of comparing it, if it is kept
 pub record WeighsNext (stands : blocks.OpenUnder) (old : Coming) (sign : tree.Sign)
     (answer : Weighed) (apart : Apart) (new : Coming) : Type 0 where
   pub event : Event
@@ -173,7 +173,7 @@ pub record WeighsNext (stands : blocks.OpenUnder) (old : Coming) (sign : tree.Si
   pub stays : blocks.stands_after event stands ≡ stands
   pub weighs : (ended : ℕ) → Weighs stands ended event sign answer apart
 
--- events came of which nothing is left
+-- events were read, none of which is kept
 pub record Passes (stands : blocks.OpenUnder) (s : Stand) (old : Coming) (now : blocks.OpenUnder)
     (new : Coming) : Type 0 where
   pub tells : TellsComing old → TellsComing new
@@ -182,7 +182,7 @@ pub record Passes (stands : blocks.OpenUnder) (s : Stand) (old : Coming) (now : 
   pub forward : old.position < new.position
   pub below : new.position < 2 ^ 64
 
--- The next entry of what is left of the events to come, or the end of the stream, was taken, and this is how it is beside a sign.
+-- The next entry of the first input, or the end of its stream, was taken, and this is the result of comparing it with a sign.
 pub record Took (stands : blocks.OpenUnder) (s : Stand) (old : Coming) (sign : tree.Sign)
     (b : Beside) (apart : Apart) (now : blocks.OpenUnder) (new : Coming) : Type 0 where
   pub tells : TellsComing new
@@ -192,7 +192,7 @@ pub record Took (stands : blocks.OpenUnder) (s : Stand) (old : Coming) (sign : t
       (told_entries (stand_behind s found.sign found.ended) (blocks.left_of now new.told.0))
   pub beside : StandsBeside found sign b apart
 
--- the next event, or the end of the stream, was taken, and this is how it is beside a sign, if it is left
+-- the next event, or the end of the stream, was taken, and this is the result of comparing it, if it is kept
 abbrev pub Steps : blocks.OpenUnder → Stand → Coming → tree.Sign → Weighed → Apart
     → blocks.OpenUnder → Coming → Type 0
 Steps stands s old sign weighed.Passed apart now new = Passes stands s old now new
@@ -207,8 +207,8 @@ Meets stands s old sign (Err fault) apart now new = ⊤
 
 -- ---- the comparison
 
--- How far two inputs were compared: what is to come of the first, the blocks that are open in each, where both stand, where what
--- stands there before ended in each, and the difference that was found.
+-- The state of a comparison: the remaining events of the first input, the open blocks in each, the place in both, where what comes
+-- before it ended in each, and the difference that was found.
 pub record Compared : Type 0 where
   pub first : Coming
   pub first_blocks : blocks.OpenUnder
@@ -222,12 +222,12 @@ pub record Compared : Type 0 where
 abbrev pub here : Compared → (ended : ℕ) → Stand
 here c ended = record { within = c.within; items = c.items; ended = ended }
 
--- what is left of the first
+-- the remaining entries of the first
 abbrev pub entries_of_first : Compared → List Entry
 entries_of_first c = told_entries (here c c.first_ended)
     (blocks.left_of c.first_blocks c.first.told.0)
 
--- where what stands before a place ended: before all items at the top, that is the magic
+-- where what comes before a place ended: before all items at the top, that is the magic
 abbrev pub ended_from : (behind_magic : ℕ) → List OpenBlock → (items ended : ℕ) → ℕ
 ended_from behind_magic [] zero ended = behind_magic
 ended_from behind_magic [] (suc items) ended = ended
@@ -236,7 +236,7 @@ ended_from behind_magic (b ∷ within) items ended = ended
 abbrev pub second_end : (behind_magic : ℕ) → Compared → ℕ
 second_end behind_magic c = ended_from behind_magic c.within c.items c.second_ended
 
--- what these events tell of the second, whose magic ends at this bit
+-- the entries of these events of the second, whose magic ends at this bit
 abbrev pub entries_of_second : (behind_magic : ℕ) → Compared → List Event → List Entry
 entries_of_second behind_magic c events = told_entries (here c (second_end behind_magic c))
     (blocks.left_of c.second_blocks events)
@@ -256,7 +256,7 @@ pub record Agrees (old : Compared) (sign : tree.Sign) (ended : ℕ) (new : Compa
       × (entries_of_first old ≡ entry_at (here old old.first_ended) x
       ∷ behind_sign sign (entries_of_first new))
 
--- it has another one
+-- it has a different one
 pub record Departs (old : Compared) (sign : tree.Sign) (bit : ℕ) (f : Found)
     (new : Compared) : Type 0 where
   pub within : new.within ≡ old.within
@@ -266,8 +266,8 @@ pub record Departs (old : Compared) (sign : tree.Sign) (bit : ℕ) (f : Found)
       × (entries_of_first old ≡ entry_at (here old old.first_ended) x ∷ rest)
       × IsOther x sign f.first f.value
 
--- A sign of the second, which begins and ends at these bits, was held against the next entry of the first, unless a difference
--- was found before.
+-- A sign of the second, which begins and ends at these bits, was compared with the next entry of the first, unless a difference was
+-- found before.
 pub record TakesSign (old : Compared) (sign : tree.Sign) (bit ended : ℕ)
     (new : Compared) : Type 0 where
   pub second_blocks : new.second_blocks ≡ old.second_blocks
@@ -276,7 +276,7 @@ pub record TakesSign (old : Compared) (sign : tree.Sign) (bit ended : ℕ)
   pub same : old.found ≡ None → new.found ≡ None → Agrees old sign ended new
   pub other : old.found ≡ None → (f : Found) → new.found ≡ Some f → Departs old sign bit f new
 
--- two lists of entries have fronts with the same signs, and then this is left of each
+-- two lists of entries have prefixes with the same signs, and this is left of each
 pub record Alike (a b left_of_a left_of_b : List Entry) : Type 0 where
   pub front : List Entry
   pub other_front : List Entry
@@ -284,12 +284,12 @@ pub record Alike (a b left_of_a left_of_b : List Entry) : Type 0 where
   pub second : b ≡ other_front ++ left_of_b
   pub same : signs_in front ≡ signs_in other_front
 
--- this is seen where they first differ
+-- this is the first difference of two lists of entries
 abbrev pub ApartAt : List Entry → List Entry → Seen → Type 0
 ApartAt a b seen = (x y : Entry) × FirstApart a b x y × (seen ≡ apart_at x y)
 
--- Of the second input these events came. Where no difference was found, what all events tell, whatever follows, and what is told
--- of the first begin with the same signs. Where one was found it is their first.
+-- These events of the second input were read. If no difference was found, the entries of all events, whatever follows, and those of
+-- the first begin with the same signs. If one was found it is their first.
 pub record Tallied (begun : Compared) (events : List Event) (last : Compared) : Type 0 where
   pub stands : last.second_blocks ≡ record {
     setting = begun.second_blocks.setting;
@@ -307,25 +307,25 @@ pub record Tallied (begun : Compared) (events : List Event) (last : Compared) : 
       → ApartAt (entries_of_first begun) (entries_of_second behind_magic begun
       (events ++ following)) (seen_of last f)
 
--- the answer is the difference that was found, if one was
+-- the result is the difference that was found, if one was
 abbrev pub AnswersFound : Compared → Option Difference → Type 0
 AnswersFound c None = c.found ≡ None
 AnswersFound c (Some difference) = (f : Found) × (c.found ≡ Some f)
     × (difference_shown difference ≡ seen_of c f)
 
--- the end of the second, whose magic ends at this bit, was held against the first as well
+-- the end of the second, whose magic ends at this bit, was compared with the first as well
 abbrev pub Finishes : (behind_magic : ℕ) → Compared → Option Difference → Type 0
 Finishes behind_magic c answer = (let bit = second_end behind_magic c in (last : Compared)
     × TakesSign c over bit bit last × AnswersFound last answer)
 
--- the answer of two inputs with these heads: that their magics differ, or else what the comparison ends with
+-- the result for two inputs with these heads: their magics differ, or else the result of the comparison
 pub data Concludes (first second : Head) (c : Compared) (answer : Option Difference) : Type 0 where
   other_magic : first.magic ≢ second.magic → (difference : Difference) → answer ≡ Some difference
       → difference_shown difference ≡ magics_apart first second → Concludes first second c answer
   same_magic : first.magic ≡ second.magic → Finishes (behind_magic second) c answer
       → Concludes first second c answer
 
--- an input was read, and has a marked tree, if it is known, and the answer says where its tree and that of the other bytes differ
+-- an input was read, and has a marked tree, if it is known, and the result is where its tree and that of the other bytes differ
 abbrev pub ReadBeside : Setting → Limits → (bytes : List ℕ) → Incoming → Option Difference
     → Incoming → Type 0
 ReadBeside setting limits bytes j answer later =
@@ -333,12 +333,12 @@ ReadBeside setting limits bytes j answer later =
     × SpellsInput limits (known_bytes j.to_come) m × (known_bytes later.to_come ≡ [])
     × ((other : Marked) → SpellsInput limits bytes other → Differs setting other m answer))
 
--- why it was not: before it was asked for anything memory was refused, or it was not read
+-- why it was not read: an allocation failed before its source was called, or the input was not accepted
 abbrev pub NotRead : Setting → Limits → Which → Fault → Incoming → Incoming → Type 0
 NotRead setting limits First fault j later = (fault ≡ Memory) × (later ≡ j)
 NotRead setting limits Second fault j later = ReadsTree setting limits j (Err fault) later
 
--- what reading an input in step with bytes does
+-- the effect of reading an input in step with bytes
 abbrev pub ComparesWith : Setting → Limits → (bytes : List ℕ) → Incoming
     → Result (Option Difference) SameFault → Incoming → Type 0
 ComparesWith setting limits bytes j (Ok answer) later = ReadBeside setting limits bytes j answer

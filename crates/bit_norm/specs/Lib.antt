@@ -4,3 +4,4 @@ pub mod Building
 pub mod Entries
 pub mod Writing
 pub mod Told
+pub mod Telling

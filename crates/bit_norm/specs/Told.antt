@@ -1,10 +1,10 @@
--- What events tell of a tree.
+-- The tree of events.
 use Rattle.std.specs.Prelude.{ℕ, zero, suc, List, [], ◌∷◌}
 use Rattle.bit_grammar.specs.Forest.{Forest, empty, a_block, a_record}
 use Rattle.bit_grammar.specs.Machine.{Event, enters, defines, notes, leaves}
 
--- what events tell of the blocks that are open before them: the items to come in the innermost (level 0), in the one
--- round it (level 1), and so on
+-- the items of events in the blocks that are open before them: in the innermost (level 0), in the one around it (level 1), and so
+-- on
 abbrev pub told_at_level : List Event → (level : ℕ) → Forest
 told_at_level [] level = empty
 told_at_level (enters opened ∷ events) zero = a_block opened.id (told_at_level events 0)

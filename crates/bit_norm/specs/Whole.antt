@@ -1,4 +1,4 @@
--- What the calls on whole inputs do.
+-- The effect of the calls on whole inputs.
 use Rattle.std.specs.Prelude.{◌≡◌, ◌↔◌, ℕ, Bool, true, false, IsTrue, IsSome, List, [], Option, Some, None, Result, Ok, Err, codes}
 use Rattle.bit_grammar.specs.Setting.{Setting}
 use Rattle.bit_grammar.specs.Forest.{Tree}
@@ -17,14 +17,14 @@ use Rattle.bit_norm.specs.declared.comparing.Which.{Which}
 use Rattle.bit_norm.specs.declared.comparing.Which.TheVariants.{First, Second}
 use Rattle.bit_norm.specs.declared.comparing.SameFault.{SameFault}
 
--- An input was read as its tree under a setting: it has this one, if it is known, and its source has no byte left; or it was
--- not, for this reason.
+-- An input was read as its tree under a setting: this one, if it is known, and its source has no byte left; or it was not, for this
+-- reason.
 abbrev pub ReadsTree : Setting → Limits → Incoming → Result Tree Fault → Incoming → Type 0
 ReadsTree setting limits = ReadsWhole (HasFit setting limits) limits
 
 -- ---- normal forms
 
--- an input was read as a tree, and this was done with the normal form of it
+-- an input was read as a tree, and its normal form was used in this way
 abbrev pub ReadsAndWrites : Setting → Limits → Incoming → Outgoing → Result ℕ Fault → Incoming
     → Outgoing → Type 0
 ReadsAndWrites setting limits i old answer now new = (tree : Tree)
@@ -36,8 +36,8 @@ abbrev pub WritesNothing : Setting → Limits → Incoming → Outgoing → Faul
 WritesNothing setting limits i old fault now new = ReadsTree setting limits i (Err fault) now
     × (new ≡ old)
 
--- The sink took the normal form of the tree that the input has, and the answer is the number of bytes; or a front of it; or
--- nothing, since it has more bytes than the limit; or the input was not read, and the sink took nothing.
+-- The sink took the normal form of the input's tree, and the result is its length in bytes; or a prefix of it; or nothing, because
+-- it has more bytes than the limit; or the input was not read, and the sink took nothing.
 abbrev pub Normalises : Setting → Limits → Incoming → Outgoing → Result ℕ Fault → Incoming
     → Outgoing → Type 0
 Normalises setting limits i old (Ok count) now new = ReadsAndWrites setting limits i old (Ok count)
@@ -60,14 +60,14 @@ abbrev pub which_text : Which → List ℕ
 which_text First = codes "first"
 which_text Second = codes "second"
 
--- an input that was not read: the first, and the second was asked for nothing; or the second, after the first
+-- an input was not read: the first, and the second was never called; or the second, after the first
 abbrev pub Misreads : Setting → Limits → Which → Fault → (i j now later : Incoming) → Type 0
 Misreads setting limits First fault i j now later = ReadsTree setting limits i (Err fault) now
     × (later ≡ j)
 Misreads setting limits Second fault i j now later = (a : Tree)
     × ReadsTree setting limits i (Ok a) now × ReadsTree setting limits j (Err fault) later
 
--- Both inputs were read, and the answer says whether their trees are the same; or one was not.
+-- Both inputs were read, and the result is whether their trees are the same; or one was not.
 abbrev pub Compares : Setting → Limits → (i j : Incoming) → Result Bool SameFault
     → (now later : Incoming) → Type 0
 Compares setting limits i j (Ok answer) now later = (a : Tree) × (b : Tree)
@@ -81,7 +81,7 @@ abbrev pub ReadsMarked : Limits → Incoming → Marked → Incoming → Type 0
 ReadsMarked limits i m now = ReadsWhole (λ (bytes : List ℕ) (m : Marked). SpellsInput limits bytes
     m) limits i (Ok m) now
 
--- Both inputs were read, and the answer says where their trees first differ, if they do and are known; or one was not.
+-- Both inputs were read, and the result is where their trees first differ, if they do and are known; or one was not.
 abbrev pub FindsDifference : Setting → Limits → (i j : Incoming)
     → Result (Option Difference) SameFault → (now later : Incoming) → Type 0
 FindsDifference setting limits i j (Ok answer) now later = (a b : Marked)
@@ -90,17 +90,17 @@ FindsDifference setting limits i j (Ok answer) now later = (a b : Marked)
 FindsDifference setting limits i j (Err e) now later = Misreads setting limits e.which e.fault i j
     now later
 
--- the answer to whether there is no difference, or the same fault
+-- the result is whether there is no difference, or the same fault
 abbrev pub SaysNone : Result (Option Difference) SameFault → Result Bool SameFault → Type 0
 SaysNone (Ok None) answer = answer ≡ Ok true
 SaysNone (Ok (Some difference)) answer = answer ≡ Ok false
 SaysNone (Err e) answer = answer ≡ Err e
 
--- a source of bytes that was asked for nothing yet
+-- a source of bytes that was never called
 abbrev pub source_of : List ℕ → Incoming
 source_of bytes = record { to_come = Some bytes; pulls = 0; failures = 0; accounts = [] }
 
--- the same of such a source, which never failed, and another one
+-- the same for such a source, which never failed, and another one
 abbrev pub FindsInBytes : Setting → Limits → (bytes : List ℕ) → (j : Incoming)
     → Result (Option Difference) SameFault → (later : Incoming) → Type 0
 FindsInBytes setting limits bytes j answer later = (now : Incoming) × (now.failures ≡ 0)

@@ -31,7 +31,7 @@ impl fmt::Display for Which {
     }
 }
 
-/// Why two inputs were not compared: a fault of one of them.
+/// Why two inputs were not compared: the fault of one of them.
 #[derive(Clone, Copy, Debug, PartialEq, Eq, Error)]
 #[error("{which}: {fault}")]
 pub struct SameFault {
@@ -46,13 +46,12 @@ pub(crate) fn faulty(which: Which, fault: Fault) -> SameFault
     SameFault { which, fault }
 }
 
-/// Where what is left of two inputs under a setting first differs: the magics, or else the blocks and records in their order. Each
-/// input goes from the first byte that its source still has to the last; how long the normal forms are does not matter.
+/// Returns where the trees of two inputs under a setting first differ: in the magics, or else in their blocks and records in order.
+/// Each input goes from the first byte that its source still has to the last; the length of the normal forms does not matter.
 ///
-/// The first is read whole before the second is asked for a byte, and the second to its end also where they differ. Of both no
-/// more is held than the bytes of the first, and the blocks that are open in both. A fault names the input that it belongs to:
-/// that it breaks the rules, that its source failed, or that memory was refused while it was read. The sources are handed back
-/// as they stand.
+/// The first input is read completely before a byte of the second is taken, and the second is read to its end even after a
+/// difference. Only the bytes of the first and the open blocks of both are held. A fault names its input, which breaks the rules,
+/// or whose source failed, or during whose reading an allocation failed. The sources are returned in their present state.
 pub fn first_difference<A: Source, B: Source>(
     alloc: Global,
     a: A,
@@ -63,7 +62,7 @@ pub fn first_difference<A: Source, B: Source>(
     ensures { FindsDifference (setting_of info.entry) limits (A.incoming a) (B.incoming b) result.0
         (A.incoming result.1) (B.incoming result.2) }
 {
-    // Trees are fit since limits are within their caps.
+    // The limits are within their caps, so each length in a normal form fits its field.
     let _bytes = limits.bytes();
     let (first, a) = check_keeping(alloc, a, limits);
     let first = match first {
@@ -74,7 +73,7 @@ pub fn first_difference<A: Source, B: Source>(
     (answer, a, b)
 }
 
-/// The same of bytes and an input: what `first_difference` says of a source of these bytes, which are not copied.
+/// The same for bytes and an input: what `first_difference` returns for a source of these bytes, which are not copied.
 pub fn first_difference_from<B: Source>(
     alloc: Global,
     first: &[u8],
@@ -85,7 +84,7 @@ pub fn first_difference_from<B: Source>(
     ensures { FindsInBytes (setting_of info.entry) limits first.now (B.incoming b) result.0
         (B.incoming result.1) }
 {
-    // Trees are fit since limits are within their caps.
+    // The limits are within their caps, so each length in a normal form fits its field.
     let _bytes = limits.bytes();
     let (checked, _) = check(alloc, SliceSource::new(first), limits);
     match checked {
@@ -94,14 +93,14 @@ pub fn first_difference_from<B: Source>(
     }
 }
 
-/// That there is no difference.
+/// Whether there is no difference.
 fn is_none(answer: Result<Option<Difference>, SameFault>) -> Result<bool, SameFault>
     ensures { SaysNone answer result }
 {
     Ok(answer?.is_none())
 }
 
-/// Whether of two inputs the same is left under a setting: that `first_difference` finds none.
+/// Whether the trees of two inputs under a setting are the same: `first_difference` finds none.
 pub fn same<A: Source, B: Source>(
     alloc: Global,
     a: A,
@@ -112,13 +111,13 @@ pub fn same<A: Source, B: Source>(
     ensures { Compares (setting_of info.entry) limits (A.incoming a) (B.incoming b) result.0
         (A.incoming result.1) (B.incoming result.2) }
 {
-    // Trees are fit since limits are within their caps.
+    // The limits are within their caps, so each length in a normal form fits its field.
     let _bytes = limits.bytes();
     let (answer, a, b) = first_difference(alloc, a, b, limits, info);
     (is_none(answer), a, b)
 }
 
-/// The same of bytes and an input: what `same` says of a source of these bytes, which are not copied.
+/// The same for bytes and an input: what `same` returns for a source of these bytes, which are not copied.
 pub fn same_as<B: Source>(
     alloc: Global,
     first: &[u8],
@@ -129,7 +128,7 @@ pub fn same_as<B: Source>(
     ensures { ComparesBytes (setting_of info.entry) limits first.now (B.incoming b) result.0
         (B.incoming result.1) }
 {
-    // Trees are fit since limits are within their caps.
+    // The limits are within their caps, so each length in a normal form fits its field.
     let _bytes = limits.bytes();
     let (answer, b) = first_difference_from(alloc, first, b, limits, info);
     (is_none(answer), b)

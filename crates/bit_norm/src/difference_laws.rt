@@ -5,7 +5,7 @@ ghost use Rattle.bit_grammar.specs.Input.{tree_of};
 ghost use Rattle.bit_grammar.specs.Terms.{Marked};
 ghost use Rattle.bit_norm.specs.Entries.{FirstDifference, Seen};
 
-/// What is left of two trees under a setting is the same or first differs somewhere, never both, and at one place at most.
+/// Two trees under a setting are the same or first differ somewhere, never both, and at one place at most.
 pub fn one_difference()
     ensures some { (setting : Setting) (a b : Marked)
         → (under setting (tree_of a) ≡ under setting (tree_of b))

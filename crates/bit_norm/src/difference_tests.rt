@@ -7,8 +7,8 @@ use bit_fields::{Limits, SliceSource};
 use std::alloc::{AllocError, Global};
 use std::process::Abort;
 
-/// The text of a difference: its place, what stands there in each input behind the bit where that begins, and the first value
-/// that differs.
+/// A difference as text: its place, the items there in both inputs, each after the bit at which it begins, and the first value that
+/// differs.
 fn text_of(
     alloc: Global,
     place: &Place,
@@ -22,7 +22,7 @@ fn text_of(
     )
 }
 
-/// The text of what is answered.
+/// The text of a result.
 fn text_there(alloc: Global, answer: &Option<Difference>) -> Result<String, AllocError> {
     match answer {
         Some(told) => text_of(alloc, &told.place, told.first, told.second, told.value),
@@ -30,7 +30,7 @@ fn text_there(alloc: Global, answer: &Option<Difference>) -> Result<String, Allo
     }
 }
 
-/// The text of what is to be answered of the same inputs the other way round.
+/// The text that is wanted of the same inputs the other way round.
 fn text_back(alloc: Global, answer: &Option<Difference>) -> Result<String, AllocError> {
     match answer {
         Some(told) => {
@@ -41,7 +41,7 @@ fn text_back(alloc: Global, answer: &Option<Difference>) -> Result<String, Alloc
     }
 }
 
-/// The same value, where the inputs are the other way round.
+/// The same value, if the inputs are the other way round.
 fn mirror_of(value: Option<ValueDifference>) -> Option<ValueDifference> {
     let told = value?;
     Some(ValueDifference {
@@ -64,7 +64,7 @@ fn difference_of(
     answer.expect(rt, "inputs that are accepted")
 }
 
-/// This is told of two inputs, and the same the other way round.
+/// Checks the difference of two inputs, and the same the other way round.
 fn is_told(rt: &impl Abort, alloc: Global, a: &[u8], b: &[u8], info: Info, wanted: &str) {
     let there = difference_of(rt, alloc, a, b, info);
     agrees(rt, text_there(alloc, &there), wanted, "there");
@@ -72,14 +72,14 @@ fn is_told(rt: &impl Abort, alloc: Global, a: &[u8], b: &[u8], info: Info, wante
     agrees(rt, text_back(alloc, &back), wanted, "back");
 }
 
-/// The same of two inputs that are spelled.
+/// The same for two inputs that are spelled.
 fn is_text_told(rt: &impl Abort, alloc: Global, a: &str, b: &str, info: Info, wanted: &str) {
     let a = bytes_of(alloc, a).expect(rt, "memory");
     let b = bytes_of(alloc, b).expect(rt, "memory");
     is_told(rt, alloc, &a, &b, info, wanted);
 }
 
-/// The same of a line with two inputs and what is told of them, with a '=' between each. Answers whether it has them.
+/// The same for a line with two inputs and their difference, separated by '='. Returns whether the line has them.
 fn is_line_told(rt: &impl Abort, alloc: Global, line: &str, info: Info) -> bool {
     let Some((a, rest)) = line.split_once('=') else {
         return false;
@@ -91,7 +91,7 @@ fn is_line_told(rt: &impl Abort, alloc: Global, line: &str, info: Info) -> bool 
     true
 }
 
-/// The same of each line. There are so many.
+/// The same for each line, and that this many lines have them.
 fn are_told(rt: &impl Abort, alloc: Global, lines: &str, info: Info, wanted: usize) {
     let mut count: usize = 0;
     for line in lines.lines() {
@@ -102,7 +102,7 @@ fn are_told(rt: &impl Abort, alloc: Global, lines: &str, info: Info, wanted: usi
     assert!(rt; count == wanted);
 }
 
-/// Pairs of inputs, and what is told of them where all is kept.
+/// Pairs of inputs, and their differences if all is kept.
 static KEPT: &str = "\
     M E T = M E T =none\n\
     M = 44 49 41 47 =Magic: 0 Magic([66, 67, 192, 222]); 0 Magic([68, 73, 65, 71]); None\n\
@@ -143,7 +143,7 @@ fn differences_are_found(rt: HostRuntime) {
     are_told(&rt, rt.alloc(), KEPT, Info::Keep, 15);
 }
 
-/// The same where BLOCKINFO blocks are left out.
+/// The same without BLOCKINFO blocks.
 static WITHOUT_INFO: &str = "\
     M E D = M E H =none\n\
     M D = M =Item { open: [], items: 0 }: 160 Block(8); 32 End; None\n\
@@ -177,7 +177,7 @@ static WITHOUT_NAMED: &str = "\
         =Item { open: [], items: 0 }: 128 Block(8); 32 End; None\n\
     M E 25 08 00 00 01 00 00 00 00 00 00 00 = M E E =Item { open: [], items: 1 }: 128 End; 128 Block(8); None";
 
-/// In blocks in others, of which one stands behind a wrapper; a block in one that is left out; records round a block.
+/// Blocks within blocks, one of them after a wrapper; a block in one that is left out; records around a block.
 static NAMED_AT_DEPTH: &str = "\
     M 21 08 00 00 0D 00 00 00 07 81 97 82 00 00 00 00 09 00 00 00 25 08 00 00 01 00 00 00 0B 41 00 00 \
         21 08 00 00 03 00 00 00 07 81 B7 10 14 07 41 B2 10 1C 00 00 00 00 00 00 00 00 00 00 \
@@ -203,7 +203,7 @@ static NAMED_AT_DEPTH: &str = "\
         =Item { open: [OpenBlock { id: 8, items: 0 }, OpenBlock { id: 10, items: 0 }], items: 0 }: \
         192 Record { code: 1, count: 1 }; 160 Record { code: 1, count: 1 }; Some(ValueDifference { index: 0, first: 4, second: 5 })";
 
-/// The setting of these.
+/// The setting for these pairs.
 static NAMED: Info<'static> = Info::Without {
     blocks: &[9],
     records: &[RecordName { block: 8, code: 1 }],

@@ -7,7 +7,7 @@ use bit_fields::{Fault, Limits, SliceSource, Source};
 use std::alloc::{AllocError, Global};
 use std::process::Abort;
 
-/// A fault as text; where memory was refused there is none.
+/// A fault as text; none if an allocation failed.
 pub(crate) fn told_of_fault(alloc: Global, fault: Fault) -> Result<String, AllocError> {
     match fault {
         Fault::Memory => Err(AllocError),
@@ -29,13 +29,13 @@ fn length_text<S: Source + Drop>(
     }
 }
 
-/// The text is the wanted one.
+/// Checks that a text is the wanted one.
 pub(crate) fn agrees(rt: &impl Abort, told: Result<String, AllocError>, wanted: &str, row: &str) {
     let told = told.expect(rt, "memory");
     assert!(rt; told.as_str() == wanted, "{row}: {told}, not {wanted}");
 }
 
-/// This is told of an input under limits, whether BLOCKINFO blocks are kept or dropped.
+/// Checks the result for an input under limits, with BLOCKINFO blocks kept and dropped.
 fn is_told(rt: &impl Abort, alloc: Global, input: &[u8], limits: Limits, wanted: &str) {
     let source = SliceSource::new(input);
     agrees(
@@ -75,7 +75,7 @@ static REFUSED: &str = "\
     M 21 08 00 00 03 00 00 00 07 FF FF FF FF FF FF FF FF FF 0F 00 =refused: TooManyValues at bit 104\n\
     M 21 0C 00 00 03 00 00 00 FA FF FF FF FF FF FF FF FF FF 03 00 =refused: AbbrevEncoding at bit 180";
 
-/// This is told of an input that a text spells, under limits.
+/// Checks the result for an input that a text spells, under limits.
 fn is_text_told(rt: &impl Abort, alloc: Global, text: &str, limits: Limits, wanted: &str) {
     let input = bytes_of(alloc, text).expect(rt, "memory");
     is_told(rt, alloc, &input, limits, wanted);
@@ -137,7 +137,7 @@ fn a_form_of_the_setting_is_measured(rt: HostRuntime) {
     agrees(&rt, told, "16", "dropped");
 }
 
-/// Sets so many bits, from one on, a step apart.
+/// Sets `count` bits, from `first` on, `step` apart.
 fn set_bits(bytes: &mut [u8], first: usize, step: usize, count: usize) {
     let mut bit = first;
     for _ in 0..count {
@@ -148,8 +148,8 @@ fn set_bits(bytes: &mut [u8], first: usize, step: usize, count: usize) {
     }
 }
 
-/// A block 8 of width 3 with a definition of 1,001 literals of value 0, which is used so many times. A literal is nine bits, of
-/// which the first is set, and the id 4 three bits, of which the last is set.
+/// A block 8 of width 3 with a definition of 1,001 literals of value 0, which is used `uses` times. A literal has nine bits, of
+/// which the first is set, and the id 4 has three bits, of which the last is set.
 fn bomb(alloc: Global, uses: usize) -> Result<Vec<u8>, AllocError> {
     let mut bytes = bytes_of(alloc, "M 21 0C 00 00 24 01 00 00 CA 7E")?;
     bytes.resize(1180, 0)?;
@@ -158,8 +158,8 @@ fn bomb(alloc: Global, uses: usize) -> Result<Vec<u8>, AllocError> {
     Ok(bytes)
 }
 
-/// How often the definition is used, a limit on bytes, and what is told. A refusal comes first also where it stands behind the
-/// place at which the form passes the limit.
+/// How often the definition is used, a limit on bytes, and the result. A refusal comes first even if it is after the place at which
+/// the form passes the limit.
 static BOMBS: [(usize, u64, &str); 4] = [
     (100, 75_264, "75264"),
     (100, 75_263, "the normal form is too long"),
@@ -176,7 +176,7 @@ fn bombs(rt: HostRuntime) {
     }
 }
 
-/// So many blocks, one in another, each in its normal form.
+/// Blocks nested `depth` deep, each in its normal form.
 fn nested_blocks(alloc: Global, depth: u32) -> Result<Vec<u8>, AllocError> {
     let mut bytes = Vec::from_slice(alloc, &MAGIC)?;
     for level in (0..depth).rev() {
@@ -189,7 +189,7 @@ fn nested_blocks(alloc: Global, depth: u32) -> Result<Vec<u8>, AllocError> {
     Ok(bytes)
 }
 
-/// How deep blocks are nested, a limit on depth, and what is told.
+/// The depth of nested blocks, a limit on depth, and the result.
 static DEEP: [(u32, u32, &str); 2] = [
     (255, 255, "3064"),
     (256, 255, "refused: TooDeep at bit 16352"),
@@ -207,7 +207,7 @@ fn deep_blocks(rt: HostRuntime) {
     is_told(&rt, rt.alloc(), &input, Limits::usual(), wanted);
 }
 
-/// An input from a source is its own normal form.
+/// Checks that an input from a source is its own normal form.
 fn is_form<S: Source + Drop>(
     rt: &impl Abort,
     alloc: Global,
@@ -240,8 +240,8 @@ fn a_source_fails(rt: HostRuntime) {
     is_form(&rt, rt.alloc(), source, Limits::usual(), &input);
 }
 
-/// A sink that takes at most so many bytes a put, and fails after so many puts, has a front of the form, and is asked no more.
-/// Answers how many bytes that are.
+/// Checks that a sink that takes at most `most` bytes a put, and fails after some puts, has a prefix of the form and is not called
+/// again. Returns the length of the prefix in bytes.
 fn kept_front(rt: &impl Abort, alloc: Global, form: &[u8], most: usize, puts: u64) -> usize {
     let sink = Pieces::new(alloc, most, puts);
     let source = SliceSource::new(form);

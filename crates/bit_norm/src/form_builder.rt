@@ -15,7 +15,7 @@ use bit_fields::{BitText, Limits};
 use bit_tree::Info;
 use std::alloc::{AllocError, Global};
 
-/// Adds what stands in a block before its length.
+/// Adds what comes in a block before its length.
 fn add_head(text: &mut BitText, id: u32) -> Result<(), AllocError>
     requires { length text.old < 2 ^ 38 }
     ensures { OnOk result (text.new ≡ text.old ++ enter_text id (length text.old)) }
@@ -26,7 +26,7 @@ fn add_head(text: &mut BitText, id: u32) -> Result<(), AllocError>
     text.pad()
 }
 
-/// Adds the end of a block, and puts its length in its place.
+/// Adds the end of a block, and stores its length at its place.
 fn close_block(text: &mut BitText, hole: u64) -> Result<(), AllocError>
     requires few { length text.old / 8 ≤ most_bytes }
     requires there { 32 * hole + 32 ≤ length text.old }
@@ -40,7 +40,7 @@ fn close_block(text: &mut BitText, hole: u64) -> Result<(), AllocError>
     text.set_word(hole, words as u32)
 }
 
-/// Adds what stands in a record before its values, field by field.
+/// Adds what comes in a record before its values, field by field.
 fn add_long_head(text: &mut BitText, code: u64, count: u64) -> Result<(), AllocError>
     requires { length text.old < 2 ^ 38 }
     ensures ok { OnOk result (text.new ≡ text.old ++ record_front code count) }
@@ -51,7 +51,7 @@ fn add_long_head(text: &mut BitText, code: u64, count: u64) -> Result<(), AllocE
     text.vbr(6, count)
 }
 
-/// Adds what stands in a record before its values, at once where the numbers are small.
+/// Adds what comes in a record before its values, in one step if the numbers are small.
 #[inline(always)]
 fn add_record_head(text: &mut BitText, code: u64, count: u64) -> Result<(), AllocError>
     requires { length text.old < 2 ^ 38 }
@@ -75,7 +75,7 @@ fn add_short_record(text: &mut BitText, code: u64, values: &[u64]) -> Result<(),
     text.numbers(values)
 }
 
-/// Adds a record, whose values have these bits, which it takes.
+/// Adds a record whose values have these bits, and moves the bits out of `values`.
 fn add_record(
     text: &mut BitText,
     code: u64,
@@ -91,9 +91,8 @@ fn add_record(
     text.append(values)
 }
 
-/// The normal form of what is left of the events so far under a setting, behind the magic. Of each open block that is left it
-/// knows the word where its length is to stand; nothing is kept of the others, and nothing any more once the form is longer than
-/// the limit on bytes.
+/// The normal form of the kept events so far, after the magic. For each open block that is kept it knows the word of its length. It
+/// keeps nothing of other blocks, and nothing at all once the form is longer than the limit on bytes.
 #[derive(Drop)]
 pub(crate) struct FormBuilder<'a> {
     alloc: Global,
@@ -121,7 +120,7 @@ impl<'a> FormBuilder<'a> {
         }
     }
 
-    /// Keeps nothing any more.
+    /// Keeps nothing from now on.
     #[cold]
     fn stop(&mut self)
         ensures long { self.new.long ≡ true }
@@ -132,7 +131,7 @@ impl<'a> FormBuilder<'a> {
         self.long = true;
     }
 
-    /// The text, or `None` where the form is longer than the limit on bytes.
+    /// The text, or `None` if the form is longer than the limit on bytes.
     pub(crate) fn finish(self) -> Option<BitText>
         ensures form { (first : FormBuilder) (events : List Event)
             → IsFormOf first events self.entry → left_open events ≡ 0
@@ -156,7 +155,7 @@ impl<'a> FormBuilder<'a> {
         Some(text)
     }
 
-    /// Whether nothing is done for a record with this code, since it is left out, or the form is too long.
+    /// Whether nothing is to do for a record with this code, because it is left out or the form is too long.
     #[inline(always)]
     fn is_idle(&self, code: u64) -> bool
         ensures yes { result ≡ true → self.now.long ≡ false
@@ -170,7 +169,7 @@ impl<'a> FormBuilder<'a> {
         !self.standing.leaves_record(code)
     }
 
-    /// Opens a block that is left.
+    /// Opens a block that is kept.
     fn open_block(&mut self, id: u32) -> Result<(), AllocError>
         ensures stays { OnOk result (StaysAs self.old self.new) }
         ensures form { OnOk result (BuildsBlock id self.old self.new) }
@@ -184,7 +183,7 @@ impl<'a> FormBuilder<'a> {
         self.text.fixed(32, 0)
     }
 
-    /// Closes a block that is left.
+    /// Closes a block that is kept.
     fn close(&mut self) -> Result<(), AllocError>
         ensures stays { OnOk result (StaysAs self.old self.new) }
         ensures form { OnOk result (BuildsEnd self.old self.new) }
@@ -202,8 +201,7 @@ impl<'a> FormBuilder<'a> {
         close_block(&mut self.text, hole)
     }
 
-    /// Adds a record that is left, some of whose values may be text. These are taken away. Where it is not known what they are it
-    /// is as if memory were refused.
+    /// Adds a record that is kept, and moves its values out if some of them may be text. Fails also if their text is unknown.
     #[inline(never)]
     fn add_long(&mut self, code: u64, values: &mut FormValues) -> Result<(), AllocError>
         requires { length self.old.text < 2 ^ 38 }
@@ -221,7 +219,7 @@ impl<'a> FormBuilder<'a> {
         add_record(&mut self.text, code, values.before, &mut values.text)
     }
 
-    /// Adds a record that is left, whose values it may take away.
+    /// Adds a record that is kept. It may move the values out.
     #[inline]
     fn add(&mut self, code: u64, values: &mut FormValues) -> Result<(), AllocError>
         ensures stays { OnOk result (StaysAs self.old self.new) }

@@ -9,26 +9,26 @@ use std::alloc::{AllocError, Global};
 /// How many values are held as numbers before they become text.
 const ROOM: usize = 64;
 
-/// What is held of a text of values.
+/// How much of the text of values is held.
 #[derive(Clone, Copy, Debug, PartialEq, Eq)]
 pub(crate) enum Holding {
     /// All of it.
     All,
-    /// Nothing, since it is longer than the limit on bytes.
+    /// Nothing, because it is longer than the limit on bytes.
     TooLong,
-    /// It is not known what: memory was refused, or values were taken back.
+    /// Unknown: an allocation failed, or values were dropped.
     Unknown,
 }
 
-/// What takes the values of a record for a normal form, up to the limit on bytes: the last ones as numbers, so that a record of
-/// few values becomes text at once where it is to stand, and those before them as the bits that they have in the form.
+/// A value sink for the records of a normal form, up to the limit on bytes. It holds the last values as numbers, so that a record
+/// of few values is added to the form at once, and the values before them as their bits in the form.
 #[derive(Drop)]
 pub(crate) struct FormValues {
-    /// The first of these are values, as many as are held.
+    /// The first `held` of these are values.
     numbers: [u64; ROOM],
     held: usize,
     pub(crate) text: BitText,
-    /// How many values there are before those that are held.
+    /// How many values come before these.
     pub(crate) before: u64,
     limits: Limits,
     holding: Holding,
@@ -45,7 +45,7 @@ pub(crate) fn is_long(text: &BitText, limits: Limits) -> bool
     text.len() / 8 > limits.bytes()
 }
 
-/// Adds values to the text of others, where all of that is held.
+/// Adds values to the text of earlier ones, if all of that is held.
 fn add_values(
     text: &mut BitText,
     holding: &mut Holding,
@@ -94,7 +94,7 @@ impl FormValues {
         &self.numbers[..self.held.min(ROOM)]
     }
 
-    /// The values, where all are held as numbers.
+    /// The values, if all are held as numbers.
     #[inline(always)]
     pub(crate) fn all(&self) -> Option<&[u64]>
         ensures are { IfSome result (λ all. (values : List ℕ) → HasTaken self.now values
@@ -107,7 +107,7 @@ impl FormValues {
         Some(self.recent())
     }
 
-    /// Makes text of the values that are held as numbers.
+    /// Converts the values that are held as numbers to text.
     #[inline(never)]
     pub(crate) fn settle(&mut self) -> Result<(), AllocError>
         ensures took { (values : List ℕ) → HasTaken self.old values → HasTaken self.new values }
@@ -133,7 +133,7 @@ impl FormValues {
         Ok(())
     }
 
-    /// Whether the text of the values is known to have more bytes than a limit. None is held as a number.
+    /// Whether the text of the values is known to have more bytes than a limit. No value is held as a number.
     #[inline(always)]
     pub(crate) fn is_past(&self, limits: Limits) -> bool
         ensures yes { result ≡ true → (values : List ℕ) → HasTaken self.now values
@@ -158,7 +158,7 @@ impl FormValues {
         }
     }
 
-    /// Drops all values, where some became text or might have.
+    /// Drops all values. Some may be text.
     #[inline(never)]
     pub(crate) fn reset(&mut self)
         ensures { HasTaken self.new [] }
@@ -194,7 +194,7 @@ impl ValueTaker for FormValues {
         Ok(())
     }
 
-    /// Values behind a text that is not held are only counted.
+    /// Values after a text that is not held are only counted.
     #[inline]
     fn pass(&mut self, count: u64) -> bool {
         if let Holding::All = self.holding {
@@ -207,7 +207,7 @@ impl ValueTaker for FormValues {
         true
     }
 
-    /// Where some values stay, their text is not known any more.
+    /// If some values stay, their text is no longer known.
     #[inline(always)]
     fn truncate(&mut self, count: u64) {
         if count == 0 {

@@ -21,31 +21,31 @@ use bit_tree::Info;
 use std::alloc::{AllocError, Global};
 use std::marker::Model;
 
-/// What stands in the first input where another sign stands in the second, and the first value that differs, if both are records
-/// with the same code.
+/// What the first input has where the second has another sign, and the first value that differs, if both are records with the same
+/// code.
 #[derive(Clone, Copy)]
 pub(crate) struct Apart {
     first: Standing,
     value: Option<ValueDifference>,
 }
 
-/// What stands in the first input beside a sign of the second. Since nearly all signs are the same, what is told of another one
-/// stands in a place of its own.
+/// The result of comparing the next sign of the first input with a sign of the second. Nearly all signs are equal, so what is known
+/// of another one is stored apart.
 pub(crate) enum Beside {
-    /// The same sign, which ends at this bit; of a block, where its items begin.
+    /// The same sign, which ends at this bit; for a block, the bit where its items begin.
     Same(u64),
-    /// Another one.
+    /// Another sign.
     Other,
 }
 
-/// What an event of the first input is beside a sign of the second.
+/// The result of comparing an event of the first input with a sign of the second.
 pub(crate) enum Weighed {
-    /// No sign that is left.
+    /// The event has no sign that is kept.
     Passed,
     Stands(Beside),
 }
 
-/// Tells a sign of the first input, which begins at this bit, apart from another one of the second.
+/// Stores a sign of the first input, which begins at `bit` and differs from `sign` of the second.
 #[cold]
 #[inline(never)]
 fn tell_apart(own: Sign<'_>, bit: u64, sign: Sign<'_>, apart: &mut Apart)
@@ -64,8 +64,7 @@ fn tell_apart(own: Sign<'_>, bit: u64, sign: Sign<'_>, apart: &mut Apart)
     };
 }
 
-/// Tells a record of the first input, of which so many values were read, apart from another one of the second that has these
-/// values first.
+/// Stores a record of the first input that differs from one of the second. Its `count` values are the first values of that one.
 #[cold]
 #[inline(never)]
 fn tell_record_apart(read: RecordHead, count: u64, apart: &mut Apart)
@@ -87,7 +86,7 @@ fn tell_record_apart(read: RecordHead, count: u64, apart: &mut Apart)
     };
 }
 
-/// How a sign of the first input, which begins and ends at these bits, is beside one of the second.
+/// Compares a sign of the first input, which begins at `bit` and ends at `ended`, with one of the second.
 #[inline(always)]
 fn held_beside(own: Sign<'_>, bit: u64, ended: u64, sign: Sign<'_>, apart: &mut Apart) -> Beside
     ensures { StandsBeside (record { sign = sign_shown own.entry; bit = bit; ended = ended })
@@ -100,7 +99,7 @@ fn held_beside(own: Sign<'_>, bit: u64, ended: u64, sign: Sign<'_>, apart: &mut 
     Beside::Other
 }
 
-/// How an event that is left is beside a sign, where what stands before it ended at this bit.
+/// Compares an event that is kept with a sign. What comes before it ended at `ended`.
 fn weigh_left(event: PackedEvent<'_>, sign: Sign<'_>, ended: u64, apart: &mut Apart) -> Weighed
     ensures { IsBeside (said_of ended (event_shown event.entry)) (sign_shown sign.entry) result
         apart.new }
@@ -130,7 +129,7 @@ fn weigh_left(event: PackedEvent<'_>, sign: Sign<'_>, ended: u64, apart: &mut Ap
     }
 }
 
-/// How an event is beside a sign, if it is left. The open blocks of the first input are then those after it.
+/// Compares an event with a sign, if it is kept, and updates the open blocks of the first input.
 fn weigh(
     event: PackedEvent<'_>,
     sign: Sign<'_>,
@@ -148,10 +147,10 @@ fn weigh(
     Ok(weigh_left(event, sign, ended, apart))
 }
 
-/// Reads the next event of the first input in step with a record of the second, where it is a record that lies there whole and
-/// begins with the same values: answers how it is beside that one. Its values are held nowhere.
+/// Reads the next event of the first input in step with a record of the second, if it is a complete record and its values are the
+/// first values of that one. Returns the result of comparing them. Its values are not held.
 ///
-/// Where it answers nothing no event came. It fails for memory alone.
+/// `None` if no event was read. It fails only if out of memory.
 #[inline(always)]
 fn weigh_record(
     events: &mut SliceEvents<'_>,
@@ -181,8 +180,8 @@ fn weigh_record(
     Ok(Some(Weighed::Stands(Beside::Other)))
 }
 
-/// Takes the next event of the first input, or the end of its stream, and answers how that is beside a sign. What stands before
-/// it ended at this bit.
+/// Takes the next event of the first input, or the end of its stream, and compares it with a sign. What comes before it ended at
+/// `ended`.
 #[inline(always)]
 fn weigh_next(
     events: &mut SliceEvents<'_>,
@@ -208,8 +207,8 @@ fn weigh_next(
     }
 }
 
-/// Takes the next sign of what is left of the events to come, or the end of the stream, and answers how it is beside this one. What
-/// stands before it ended at this bit.
+/// Takes the next kept sign of the first input, or the end of its stream, and compares it with this one. What comes before it ended
+/// at `ended`.
 fn next_beside(
     events: &mut SliceEvents<'_>,
     blocks: &mut OpenBlocks<'_>,
@@ -229,7 +228,7 @@ fn next_beside(
     }
 }
 
-/// What stands in both inputs where they first differ.
+/// What both inputs have where they first differ.
 #[derive(Clone, Copy)]
 pub(crate) struct Found {
     first: Standing,
@@ -237,7 +236,7 @@ pub(crate) struct Found {
     value: Option<ValueDifference>,
 }
 
-/// Puts down what stands in both inputs where they differ: in the second this sign, which begins at this bit.
+/// Stores the difference: for the second input this sign, which begins at `bit`.
 #[cold]
 #[inline(never)]
 fn put_down(apart: &Apart, sign: Sign<'_>, bit: u64, found: &mut Option<Found>)
@@ -253,7 +252,7 @@ fn put_down(apart: &Apart, sign: Sign<'_>, bit: u64, found: &mut Option<Found>)
     });
 }
 
-/// What compares an input with the first one, entry by entry, up to their first difference.
+/// Compares an input with the first one, entry by entry, up to their first difference.
 #[derive(Drop)]
 pub(crate) struct Comparer<'a> {
     alloc: Global,
@@ -261,13 +260,13 @@ pub(crate) struct Comparer<'a> {
     /// The open blocks of the first, and of the second.
     first_blocks: OpenBlocks<'a>,
     second_blocks: OpenBlocks<'a>,
-    /// Where both stand.
+    /// The place in both.
     walk: Walk,
-    /// Where what stands before that place ended in the first.
+    /// Where what comes before that place ended in the first.
     first_ended: u64,
-    /// The same in the second, unless nothing stands before it.
+    /// The same in the second, unless nothing comes before it.
     second_ended: u64,
-    /// What stands in the first where it differs.
+    /// What the first has where it differs.
     apart: Apart,
     found: Option<Found>,
 }
@@ -292,10 +291,10 @@ impl<'a> Model for Comparer<'a> {
 impl<'a> Comparer<'a> {
     ghost use Rattle.bit_norm.specs.InStep.{TakesSign, AnswersFound, Finishes};
 
-    /// Holds a sign of the second input, which begins and ends at these bits, against the next entry of the first. After a
-    /// difference no more is asked of the first.
+    /// Compares a sign of the second input, which begins at `bit` and ends at `ended`, with the next entry of the first. After a
+    /// difference the first is not read any more.
     ///
-    /// Its bytes were accepted, so that it fails for memory alone.
+    /// The bytes of the first were accepted, so this fails only if out of memory.
     fn take(&mut self, sign: Sign<'_>, bit: u64, ended: u64) -> Result<(), AllocError>
         ensures { OnOk result (TakesSign self.old (sign_shown sign.entry) bit ended self.new) }
     {
@@ -324,7 +323,7 @@ impl<'a> Comparer<'a> {
         }
     }
 
-    /// The difference that was found, if one was.
+    /// The difference, if one was found.
     fn difference(self) -> Option<Difference>
         ensures { AnswersFound self.entry result }
     {
@@ -353,8 +352,8 @@ impl<'a> Comparer<'a> {
         })
     }
 
-    /// Holds the end of the second stream, whose magic ends at this bit, against the next entry of the first, and answers the
-    /// difference that was found, if one was.
+    /// Compares the end of the second stream, whose magic ends at `behind_magic`, with the next entry of the first, and returns the
+    /// difference, if one was found.
     fn finish(mut self, behind_magic: u64) -> Result<Option<Difference>, AllocError>
         ensures { IfOk result (λ answer. Finishes behind_magic self.entry answer) }
     {
@@ -429,7 +428,7 @@ fn magic_bit(head: &Head) -> u64
     }
 }
 
-/// What stands before the blocks where the magics of two streams differ.
+/// What comes before the blocks, if the magics of two streams differ.
 fn magic_standing(head: &Head) -> Standing
     ensures { tree.standing_shown result ≡ tree.magic_standing (head_told head.now) }
 {
@@ -439,7 +438,7 @@ fn magic_standing(head: &Head) -> Standing
     }
 }
 
-/// The first difference of two inputs that were read, of which the first has this head.
+/// The first difference of two inputs that were read; `first` is the head of the first one.
 fn conclude(first: &Head, folded: Folded<Comparer<'_>>) -> Result<Option<Difference>, AllocError>
     ensures { IfOk result (λ answer. Concludes (head_told first.now) (head_told folded.entry.head)
         folded.entry.gatherer answer) }
@@ -456,11 +455,11 @@ fn conclude(first: &Head, folded: Folded<Comparer<'_>>) -> Result<Option<Differe
     folded.gatherer.finish(magic_bit(&second) + 32)
 }
 
-/// Reads an input to its end, in step with the accepted bytes of the first, and answers where their trees under a setting first
-/// differ, if they do. The source is handed back as it stands.
+/// Reads an input to its end, in step with the accepted bytes of the first, and returns where their trees under a setting first
+/// differ, if they do. The source is returned in its present state.
 ///
-/// Of the first input it asks for memory alone: before the second is asked for anything that is told of the first, and from
-/// then on of the second.
+/// For the first input only an allocation can fail. A failure before the second input is read is reported for the first, and a
+/// later one for the second.
 pub(crate) fn compare_with<S: Source>(
     alloc: Global,
     first: &[u8],

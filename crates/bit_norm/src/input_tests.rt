@@ -8,7 +8,7 @@ use std::io;
 use std::io::{Error, ErrorKind, Read};
 use std::process::Abort;
 
-/// The number that a hexadecimal digit stands for.
+/// The value of a hexadecimal digit.
 fn digit(byte: u8) -> u8 {
     match byte {
         b'0'..=b'9' => byte - b'0',
@@ -17,13 +17,13 @@ fn digit(byte: u8) -> u8 {
     }
 }
 
-/// Bytes that several inputs have, under a letter:
+/// Bytes that several inputs share, by a letter:
 ///
 /// - M, the magic of LLVM's bitcode;
 /// - E, an empty block 8;
 /// - T, `8 { 1 [30] }` in its normal form, and W, the same with ids of three bits and the value in two chunks;
-/// - D, a BLOCKINFO block that describes block 8, and a record by its definition, `0 { 1 [8] } 8 { 1 [100] }`; F, its normal
-///   form; H, the block 8 of this;
+/// - D, a BLOCKINFO block that describes block 8, and a record by its definition, `0 { 1 [8] } 8 { 1 [100] }`; F, its normal form;
+///   H, the block 8 of this;
 /// - N, `8 { 0 { 1 [8] } 8 { 1 [100] } }` by a definition;
 /// - S, a definition of eight literals that is used twice, two records of seven values;
 /// - B and A, five bytes as a blob and as an array, and R, their normal form;
@@ -65,7 +65,7 @@ fn bytes_named(name: u8) -> &'static [u8] {
     }
 }
 
-/// The bytes of a text of hexadecimal bytes and letters for what `named` gives.
+/// The bytes of a text of hexadecimal bytes and letters for `bytes_named`.
 pub(crate) fn bytes_of(alloc: Global, text: &str) -> Result<Vec<u8>, AllocError> {
     let mut bytes = Vec::new(alloc);
     for word in text.split_whitespace() {
@@ -78,7 +78,7 @@ pub(crate) fn bytes_of(alloc: Global, text: &str) -> Result<Vec<u8>, AllocError>
     Ok(bytes)
 }
 
-/// A reader of few bytes at a time, which fails at one of its reads.
+/// A reader that gives few bytes at a time and fails at one of its reads.
 #[derive(Drop)]
 pub(crate) struct Cuts<'a> {
     rest: &'a [u8],
@@ -113,7 +113,7 @@ impl<'a> Read for Cuts<'a> {
     }
 }
 
-/// What an input is normalised to. Where memory is refused, nothing is written.
+/// What an input is normalised to; nothing if an allocation failed.
 pub(crate) fn form_of<S: Source + Drop>(
     rt: &impl Abort,
     alloc: Global,
@@ -135,7 +135,7 @@ pub(crate) fn form_of<S: Source + Drop>(
     }
 }
 
-/// The input is normalised to this form.
+/// Checks that the input is normalised to this form.
 fn has_form(rt: &impl Abort, alloc: Global, input: &[u8], info: Info, form: &[u8]) {
     let source = SliceSource::new(input);
     let answer = form_of(rt, alloc, source, Limits::usual(), info);
@@ -143,7 +143,7 @@ fn has_form(rt: &impl Abort, alloc: Global, input: &[u8], info: Info, form: &[u8
     assert!(rt; got.as_slice() == form, "{input:?} to {got:?}");
 }
 
-/// The same, where the source gives and the sink takes so many bytes at once.
+/// The same, if the source gives and the sink takes a given number of bytes at once.
 fn has_form_by(rt: &impl Abort, alloc: Global, input: &[u8], info: Info, form: &[u8], most: usize) {
     let sink = Pieces::new(alloc, most, u64::MAX);
     let source = Cuts::source(input, most, 0);
@@ -154,7 +154,7 @@ fn has_form_by(rt: &impl Abort, alloc: Global, input: &[u8], info: Info, form: &
     );
 }
 
-/// The same, whatever the source gives and the sink takes at once, and the form is its own normal form.
+/// The same, whatever the source gives and the sink takes at once, and that the form is its own normal form.
 fn is_normalised(rt: &impl Abort, alloc: Global, input: &[u8], info: Info, form: &[u8]) {
     has_form(rt, alloc, input, info, form);
     has_form(rt, alloc, form, info, form);
@@ -163,7 +163,7 @@ fn is_normalised(rt: &impl Abort, alloc: Global, input: &[u8], info: Info, form:
     }
 }
 
-/// The same of a line with an input and its form, with a '=' between them. Answers whether the line has one.
+/// The same for a line with an input and its form, separated by '='. Returns whether the line has one.
 fn is_line_normalised(rt: &impl Abort, alloc: Global, line: &str, info: Info) -> bool {
     match line.split_once('=') {
         Some((input, form)) => {
@@ -176,7 +176,7 @@ fn is_line_normalised(rt: &impl Abort, alloc: Global, line: &str, info: Info) ->
     }
 }
 
-/// The same of each line. There are so many of them that have one.
+/// The same for each line, and that this many lines have a form.
 fn are_normalised(rt: &impl Abort, alloc: Global, lines: &str, info: Info, wanted: usize) {
     let mut count: usize = 0;
     for line in lines.lines() {
@@ -187,7 +187,7 @@ fn are_normalised(rt: &impl Abort, alloc: Global, lines: &str, info: Info, wante
     assert!(rt; count == wanted);
 }
 
-/// Inputs without BLOCKINFO blocks, and their normal forms; and lines of comment, each behind a '#'. One text, since a long table
+/// Inputs without BLOCKINFO blocks, and their normal forms; and comments, each after a '#'. This is one text, because a long table
 /// of texts takes long to prove.
 static PLAIN: &str = "\
     M = M\n\

@@ -25,14 +25,14 @@ fn vbr_bits(n: u32, value: u64) -> u64
     bits
 }
 
-/// The next multiple of 32. This and the positions below stay at the greatest number where they would pass it.
+/// The next multiple of 32. This and the positions below saturate at the greatest number.
 fn aligned(from: u64) -> u64
     ensures { result ≡ saturated (aligned from) }
 {
     from.saturating_add((32 - from % 32) % 32)
 }
 
-/// How many chunks of six bits the shortest VBR has: one, and another for each five bits below the highest.
+/// How many chunks of six bits the shortest VBR has: one, and one more for each five bits below the highest.
 #[inline(always)]
 fn chunks_of(value: u64) -> u64
     ensures chunks { shortest_length 6 value ≡ 6 * result }
@@ -65,14 +65,14 @@ fn end_of_record(code: u64, values: &[u64], from: u64) -> u64
         .saturating_add(chunks.saturating_mul(6))
 }
 
-/// How many bits a block's body has, where its items, begun at 0, end at a position.
+/// How many bits a block's body has, if its items begin at 0 and end at `inner`.
 fn body_bits(inner: u64) -> u64
     ensures { result ≡ saturated (aligned (inner + 2)) }
 {
     aligned(inner.saturating_add(2))
 }
 
-/// The position after a block whose items, begun at 0, end at a position.
+/// The position after a block whose items begin at 0 and end at `inner`.
 fn end_of_block(id: u32, inner: u64, from: u64) -> u64
     ensures { result ≡ saturated (body_at id from + aligned (inner + 2)) }
 {
@@ -114,7 +114,7 @@ pub(crate) fn body_words(items: &Items) -> u64
     body_bits(end_of_items(items, 0)) / 32
 }
 
-/// How many bytes the normal form of a tree with these blocks has, or `None` where they pass the limit on bytes.
+/// How many bytes the normal form of a tree with these blocks has, or `None` if they are more than the limit on bytes.
 pub(crate) fn form_len(blocks: &[Block], limits: Limits) -> Option<u64>
     ensures len { (tree : Tree) → tree.blocks ≡ forest_of_blocks blocks.now
         → MatchOption result (limits.bytes < size_of tree)
@@ -129,7 +129,7 @@ pub(crate) fn form_len(blocks: &[Block], limits: Limits) -> Option<u64>
     }
 }
 
-/// How many bytes the normal form of a document has, or `None` where they pass the limit on bytes. It takes no memory.
+/// How many bytes the normal form of a document has, or `None` if they are more than the limit on bytes. It allocates nothing.
 pub fn normal_len(doc: &Document, limits: Limits) -> Option<u64>
     ensures len { MatchOption result (limits.bytes < size_of doc.now)
         (λ bytes. (bytes ≡ size_of doc.now) × (bytes ≤ limits.bytes)) }

@@ -1,16 +1,17 @@
-//! Normal forms, and comparison. Begin with `normalise`, which writes the normal form of an input to a sink, `same`, which
-//! returns whether two inputs have the same tree, and `first_difference`, which returns where they first differ. `write_normal`
-//! writes the normal form of a `Document`.
+//! Normal forms, and comparison. Begin with `normalise`, which writes the normal form of an input to a sink, `same`, which returns
+//! whether two inputs have the same tree, and `first_difference`, which returns where they first differ. `write_normal` writes the
+//! normal form of a `Document`, and a `FormWriter` that of a tree given item by item.
 //!
-//! `normalise` is a fold into `FormBuilder`: the bits of the form so far and, for each open block, the word for its length.
-//! Closed by whatever events follow, these bits are the normal form of the tree of all events. `FormValues` holds few values of a
-//! record as numbers and many as bits. Nothing is written before the input is accepted.
+//! `normalise` is a fold into `FormBuilder`: the bits of the form so far and, for each open block, the word for its length. Closed
+//! by whatever events follow, these bits are the normal form of the tree of all events. `FormValues` holds few values of a record
+//! as numbers and many as bits. Nothing is written before the input is accepted. `FormWriter` is the same builder for callers that
+//! have a tree.
 //!
 //! `first_difference` reads the first input alone and keeps its bytes, and then reads the second in step with them. The trees are
 //! compared as sequences of entries, each with a place, a sign (a block's id, a record's code and values, an end) and a bit.
-//! `Comparer` gathers the second's events and holds each sign against the next entry of the first; until the first difference
-//! both are at the same place, so one `Walk` serves both. A record of the first is read into `ExpectedValues` of the second's
-//! record, so its values are not held. `same` is that there is no first difference.
+//! `Comparer` gathers the second's events and compares each sign with the next entry of the first; until the first difference both
+//! are at the same place, so one `Walk` serves both. A record of the first is read into `ExpectedValues` of the second's record, so
+//! its values are not held. `same` is true if there is no first difference.
 #![tactic(auto)]
 
 mod comparing;
@@ -22,6 +23,9 @@ mod differences;
 mod fault_tests;
 mod form_builder;
 mod form_values;
+mod form_writer;
+#[cfg(test)]
+mod form_writer_tests;
 mod in_step;
 #[cfg(test)]
 mod input_tests;
@@ -40,6 +44,7 @@ pub use bit_tree::{Info, RecordName};
 pub use comparing::{SameFault, Which, first_difference, first_difference_from, same, same_as};
 pub use difference_laws::one_difference;
 pub use differences::{Difference, OpenBlock, Place, Standing, ValueDifference, What};
+pub use form_writer::{FormWriter, Untold};
 pub use lengths::normal_len;
 pub use normalising::normalise;
 pub use writing::write_normal;

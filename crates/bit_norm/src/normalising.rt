@@ -15,7 +15,7 @@ use bit_fields::{BitText, BitWriter, Fault, Limits, Sink, Source};
 use bit_tree::Info;
 use std::alloc::Global;
 
-/// Writes a magic and the text behind it, and gives the sink all of it.
+/// Writes a magic and the text after it, and gives the sink all of it.
 fn write_text<K: Sink>(
     writer: &mut BitWriter<K>,
     magic: [u8; 4],
@@ -33,8 +33,8 @@ fn write_text<K: Sink>(
     writer.finish()
 }
 
-/// Gives a sink a magic and the text behind it, and answers how many bytes that are.
-fn give<K: Sink>(magic: [u8; 4], text: BitText, sink: K) -> (Result<u64, Fault>, K)
+/// Gives a sink a magic and the text after it, and returns how many bytes they have.
+pub(crate) fn give<K: Sink>(magic: [u8; 4], text: BitText, sink: K) -> (Result<u64, Fault>, K)
     requires whole { length text % 32 ≡ 0 }
     requires few { length text < 2 ^ 38 }
     ensures { (tree : Tree) (limit : ℕ) → tree.magic ≡ magic_number magic
@@ -49,12 +49,12 @@ fn give<K: Sink>(magic: [u8; 4], text: BitText, sink: K) -> (Result<u64, Fault>,
     }
 }
 
-/// Gives a sink the normal form of what is left of an input under a setting, and answers how many bytes that are. The input
-/// goes from the first byte that its source still has to the last.
+/// Gives a sink the normal form of an input under a setting, and returns its length in bytes. The input goes from the first byte
+/// that its source still has to the last.
 ///
-/// Nothing is given to the sink before the whole input is accepted. `Refused` names the one reason and bit at which it breaks
-/// the rules, and `OutputTooLong` comes where its form passes the limit on bytes; both, as `Read` and `Memory`, give the sink
-/// nothing. `Write` leaves it a front of the form. The source and the sink are handed back as they stand.
+/// The sink gets nothing before the whole input is accepted. `Refused` has the one reason and bit at which it breaks the rules, and
+/// `OutputTooLong` means that its form is longer than the limit on bytes; after these, `Read` and `Memory` the sink has got
+/// nothing, and after `Write` a prefix of the form. The source and the sink are returned in their present state.
 pub fn normalise<S: Source, K: Sink>(
     alloc: Global,
     source: S,

@@ -1,4 +1,4 @@
-//! Whether two inputs hold the same.
+//! Whether two inputs have the same tree.
 
 use crate::fault_tests::agrees;
 use crate::input_tests::{Cuts, bytes_of};
@@ -8,7 +8,7 @@ use bit_fields::{Fault, Limits, Reason, SliceSource, Source};
 use std::alloc::{AllocError, Global};
 use std::process::Abort;
 
-/// An answer as text; where memory was refused there is none.
+/// A result as text; none if an allocation failed.
 fn text_of(alloc: Global, answer: Result<bool, SameFault>) -> Result<String, AllocError> {
     match answer {
         Ok(are_same) => are_same.to_string(alloc),
@@ -22,7 +22,7 @@ fn text_of(alloc: Global, answer: Result<bool, SameFault>) -> Result<String, All
     }
 }
 
-/// What is answered of two inputs, as text.
+/// The result for two inputs, as text.
 fn answer_text<A: Source + Drop, B: Source + Drop>(
     alloc: Global,
     a: A,
@@ -34,13 +34,13 @@ fn answer_text<A: Source + Drop, B: Source + Drop>(
     text_of(alloc, answer)
 }
 
-/// What is answered of bytes and an input, as text.
+/// The result for bytes and an input, as text.
 fn told_as(alloc: Global, a: &[u8], b: &[u8], info: Info) -> Result<String, AllocError> {
     let (answer, _) = same_as(alloc, a, SliceSource::new(b), Limits::usual(), info);
     text_of(alloc, answer)
 }
 
-/// This is told of two inputs.
+/// Checks the result for two inputs.
 fn is_told(rt: &impl Abort, alloc: Global, a: &[u8], b: &[u8], info: Info, wanted: &str) {
     let (first, second) = (SliceSource::new(a), SliceSource::new(b));
     let told = answer_text(alloc, first, second, Limits::usual(), info);
@@ -48,7 +48,7 @@ fn is_told(rt: &impl Abort, alloc: Global, a: &[u8], b: &[u8], info: Info, wante
     agrees(rt, told_as(alloc, a, b, info), wanted, "bytes and an input");
 }
 
-/// This is told of two inputs, and this the other way round.
+/// Checks the result for two inputs, and the one the other way round.
 fn are_told(
     rt: &impl Abort,
     alloc: Global,
@@ -69,7 +69,7 @@ const TWO: &str = "M 21 08 00 00 02 00 00 00 07 81 77 10 78 00 00 00";
 /// A block in a block.
 const NESTED: &str = "M 21 08 00 00 04 00 00 00 25 08 00 00 01 00 00 00 00 00 00 00 00 00 00 00";
 
-/// Pairs of inputs, what is told of them where BLOCKINFO blocks are kept, and what the other way round.
+/// Pairs of inputs, the result if BLOCKINFO blocks are kept, and the one the other way round.
 static PAIRS: [(&str, &str, &str, &str); 22] = [
     ("M", "M", "true", "true"),
     ("M T", "M W", "true", "true"),
@@ -118,7 +118,7 @@ fn inputs_are_compared(rt: HostRuntime) {
     }
 }
 
-/// Pairs of inputs, and what is told of them both ways where BLOCKINFO blocks are dropped.
+/// Pairs of inputs, and the result both ways if BLOCKINFO blocks are dropped.
 static WITHOUT_INFO: [(&str, &str, &str); 8] = [
     (TWO, TWO, "true"),
     ("M D", "M H", "true"),
@@ -137,7 +137,7 @@ fn blockinfo_is_dropped(rt: HostRuntime) {
     }
 }
 
-/// Pairs of inputs, and what is told of them both ways without blocks 0 and 9, and the records with code 1 of blocks 8.
+/// Pairs of inputs, and the result both ways without blocks 0 and 9, and the records with code 1 of blocks 8.
 static WITHOUT_NAMED: [(&str, &str, &str); 5] = [
     ("M T", "M H", "true"),
     ("M E", NESTED, "true"),
@@ -165,7 +165,7 @@ fn no_normal_form_has_to_fit(rt: HostRuntime) {
     agrees(&rt, told, "true", "24 bytes");
 }
 
-/// What is told where one of the sources fails at a pull of a byte.
+/// Checks the result if one of the sources fails at a pull of a byte.
 fn are_cut(rt: &impl Abort, alloc: Global, input: &[u8], fails_at: u64) {
     let (a, b) = (Cuts::source(input, 1, fails_at), SliceSource::new(input));
     agrees(
@@ -183,7 +183,7 @@ fn are_cut(rt: &impl Abort, alloc: Global, input: &[u8], fails_at: u64) {
     );
 }
 
-/// Two sources that give so many bytes at once, and five, hold the same.
+/// Checks that two sources have the same tree, if one gives `most` bytes at once and the other five.
 fn are_same_by(rt: &impl Abort, alloc: Global, input: &[u8], most: usize) {
     let (a, b) = (Cuts::source(input, most, 0), Cuts::source(input, 5, 0));
     agrees(
@@ -214,7 +214,7 @@ fn the_second_waits(rt: HostRuntime) {
     assert!(rt; answer.is_err() && b.into_inner().reads() == 0);
 }
 
-/// A fault of one of two inputs is shown so.
+/// Checks how a fault of one of two inputs is shown.
 fn is_shown(rt: &impl Abort, alloc: Global, which: Which, fault: Fault, wanted: &str) {
     let told = SameFault { which, fault }.to_string(alloc);
     agrees(rt, told, wanted, "a fault");

@@ -1,4 +1,4 @@
-//! What stands at a place of a tree, as it is compared.
+//! What is at a place of a tree, for comparison.
 
 ghost use Rattle.std.specs.Prelude.{◌≡◌, ◌↔◌, IsTrue};
 ghost use Rattle.bit_norm.specs.Entries.{begins, has_record, ends, over, first_unlike, value_apart, what_of, what_shown};
@@ -7,8 +7,8 @@ ghost use Rattle.bit_norm.specs.InStep.{sign_shown};
 use crate::differences::{ValueDifference, What};
 use bit_fields::PackedValues;
 
-/// What stands at a place of a tree: a block with this id begins, a record with this code and these values, a block ends, or the
-/// stream.
+/// What is at a place of a tree: a block with this id begins, a record with this code and these values, a block ends, or the stream
+/// ends.
 #[derive(Clone, Copy)]
 pub(crate) enum Sign<'a> {
     Begins(u32),
@@ -85,7 +85,7 @@ fn first_unlike(first: &PackedValues, second: &PackedValues) -> Option<ValueDiff
 }
 
 impl Sign<'_> {
-    /// Whether it is the same as another one.
+    /// Whether it equals another sign.
     #[inline(always)]
     pub(crate) fn is(self, other: Sign<'_>) -> bool
         ensures { IsTrue result ↔ (sign_shown self.entry ≡ sign_shown other.entry) }
@@ -98,7 +98,7 @@ impl Sign<'_> {
         }
     }
 
-    /// What is answered of it.
+    /// The sign as a result has it.
     pub(crate) fn what(self) -> What
         ensures { what_shown result ≡ what_of (sign_shown self.entry) }
     {

@@ -7,7 +7,7 @@ use bit_tree::{Block, Document, Item, Items, Record, Values};
 use std::alloc::Global;
 use std::process::Abort;
 
-/// A sink that takes few bytes a put, and fails after some puts.
+/// A sink that takes few bytes a put, and fails after a number of puts.
 #[derive(Drop)]
 pub(crate) struct Pieces {
     pub(crate) bytes: Vec<u8>,
@@ -26,7 +26,7 @@ impl Pieces {
         }
     }
 
-    /// The sink has these bytes, and failed so often.
+    /// Whether the sink has these bytes and failed this often.
     pub(crate) fn has(&self, bytes: &[u8], failures: u64) -> bool {
         self.bytes.as_slice() == bytes && self.failures == failures
     }
@@ -63,7 +63,7 @@ impl Sink for Pieces {
 /// The magic of LLVM's bitcode.
 pub(crate) const MAGIC: [u8; 4] = [0x42, 0x43, 0xc0, 0xde];
 
-/// Limits with this one on bytes.
+/// Limits with this limit on bytes.
 pub(crate) fn within(rt: &impl Abort, bytes: u64) -> Limits {
     Limits::new(bytes, 64, 1000).expect(rt, "limits within their caps")
 }
@@ -129,12 +129,12 @@ fn document_of(rt: &impl Abort, magic: [u8; 4], blocks: Vec<Block>) -> Document 
     Document::new(magic, blocks).ok().expect(rt, "a document")
 }
 
-/// The form is what a sink has, and its length is told.
+/// Checks that a sink has the form, and that the result is its length.
 fn is_whole(answer: Result<u64, Fault>, bytes: &[u8], form: &[u8]) -> bool {
     answer == Ok(form.len() as u64) && bytes == form
 }
 
-/// A document is so many bytes long, and has no length under a lower limit.
+/// Checks that a document has this length, and none under a lower limit.
 fn has_len(rt: &impl Abort, doc: &Document, len: u64) {
     let exact = normal_len(doc, within(rt, len));
     let fewer = normal_len(doc, within(rt, len.saturating_sub(1)));
@@ -143,14 +143,14 @@ fn has_len(rt: &impl Abort, doc: &Document, len: u64) {
     );
 }
 
-/// The form is what a document is written as under a limit.
+/// Checks the form that is written of a document under a limit.
 fn fits(rt: &impl Abort, alloc: Global, doc: &Document, form: &[u8]) {
     let limits = within(rt, form.len() as u64);
     let (result, sink) = write_normal(doc, VecSink::new(alloc), limits);
     assert!(rt; is_whole(result, sink.bytes(), form));
 }
 
-/// A document is not written under a limit of a byte less than its form.
+/// Checks that a document is not written under a limit of one byte less than its form.
 fn is_too_long(rt: &impl Abort, alloc: Global, doc: &Document, form: &[u8]) {
     let limits = within(rt, (form.len() as u64).saturating_sub(1));
     let (result, sink) = write_normal(doc, VecSink::new(alloc), limits);
@@ -158,7 +158,7 @@ fn is_too_long(rt: &impl Abort, alloc: Global, doc: &Document, form: &[u8]) {
     assert!(rt; sink.bytes().is_empty());
 }
 
-/// The form is what a document is written as, whatever a sink takes at once.
+/// Checks the form that is written of a document, whatever a sink takes at once.
 fn is_written(rt: &impl Abort, alloc: Global, doc: &Document, form: &[u8]) {
     for most in [1, 3, 4] {
         let sink = Pieces::new(alloc, most, u64::MAX);
@@ -168,7 +168,7 @@ fn is_written(rt: &impl Abort, alloc: Global, doc: &Document, form: &[u8]) {
     }
 }
 
-/// Whether a sink has the whole form, or failed and has a front of it.
+/// Whether a sink has the whole form, or failed and has a prefix of it.
 fn is_front(answer: Result<u64, Fault>, sink: &Pieces, form: &[u8]) -> bool {
     match answer {
         Ok(_) => sink.has(form, 0),
@@ -178,7 +178,7 @@ fn is_front(answer: Result<u64, Fault>, sink: &Pieces, form: &[u8]) -> bool {
     }
 }
 
-/// A sink that fails at a put has a front of the form.
+/// Checks that a sink that fails at a put has a prefix of the form.
 fn keeps_front(rt: &impl Abort, alloc: Global, doc: &Document, form: &[u8], most: usize) {
     for puts in 0..8 {
         let sink = Pieces::new(alloc, most, puts);
@@ -225,7 +225,7 @@ static NESTS: [(Blocks, &str); 2] = [
     ),
 ];
 
-/// The form of a document is the text's, of its length, under limits, and whatever a sink takes at once or fails at.
+/// Checks the form of a document, its length, the limits, and sinks that take few bytes or fail.
 fn is_form(rt: &impl Abort, alloc: Global, doc: &Document, text: &str) {
     let form = bytes_of(alloc, text).expect(rt, "memory");
     has_len(rt, doc, form.len() as u64);

@@ -1,4 +1,4 @@
-//! Where two trees stand that are gone through while nothing differs.
+//! The place in two trees that are compared while nothing differs.
 
 ghost use Rattle.std.specs.Prelude.{◌≡◌, ◌+◌, ℕ, [], IfOk, OnOk};
 ghost use Rattle.bit_norm.specs.InStep.{ended_from, stand_behind, sign_shown, stand_of};
@@ -7,14 +7,14 @@ use crate::differences::OpenBlock;
 use crate::sign::Sign;
 use std::alloc::{AllocError, Global};
 
-/// The blocks that are open in both trees, and how many items stand before the place in the innermost of them, or at the top.
+/// The open blocks of both trees, and how many items come before the place in the innermost of them, or at the top.
 #[derive(Drop)]
 pub(crate) struct Walk {
     pub(crate) open: Vec<OpenBlock>,
     pub(crate) items: u64,
 }
 
-/// One item more. Each has bits of its own, so that their number never gets to the greatest of 64 bits.
+/// One item more. Each item has bits of its own, so their number never reaches 2^64 - 1.
 fn one_more(items: u64) -> Result<u64, AllocError>
     ensures { IfOk result (λ more. more ≡ items + 1) }
 {
@@ -22,7 +22,7 @@ fn one_more(items: u64) -> Result<u64, AllocError>
 }
 
 impl Walk {
-    /// The place behind the magic.
+    /// The place after the magic.
     pub(crate) fn new(alloc: Global) -> Walk
         ensures open { result.open.items ≡ [] }
         ensures items { result.items ≡ 0 }
@@ -33,7 +33,7 @@ impl Walk {
         }
     }
 
-    /// Where what stands before the place ended: that is the magic where nothing does, and else it ended at this bit.
+    /// Where what comes before the place ended: the magic if nothing else does, and else at the bit `ended`.
     pub(crate) fn ended_from(&self, behind_magic: u64, ended: u64) -> u64
         ensures { result ≡ ended_from behind_magic self.now.open.items self.now.items ended }
     {
@@ -43,7 +43,7 @@ impl Walk {
         ended
     }
 
-    /// Goes on behind a sign.
+    /// Moves to the place after a sign.
     pub(crate) fn pass(&mut self, sign: Sign<'_>) -> Result<(), AllocError>
         ensures { OnOk result ((before ended : ℕ)
             → stand_of self.new ended ≡ stand_behind (stand_of self.old before)

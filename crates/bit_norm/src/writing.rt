@@ -33,7 +33,7 @@ fn write_record<K: Sink>(writer: &mut BitWriter<K>, code: u64, values: &[u64]) -
     write_values(writer, values)
 }
 
-/// Writes what stands before the body of a block.
+/// Writes what comes before the body of a block.
 fn write_head<K: Sink>(writer: &mut BitWriter<K>, id: u32, words: u64) -> Result<(), Fault>
     requires room { HasRoom writer.old (chain (put (bits_of 2 1)) (head_text id words)
         writer.old.position) }
@@ -57,7 +57,7 @@ fn write_end<K: Sink>(writer: &mut BitWriter<K>) -> Result<(), Fault>
     writer.pad()
 }
 
-/// Writes a block. Its length is summed anew here, so that none has to be kept.
+/// Writes a block. Its length is computed again here, so that no lengths are kept.
 #[cycle(write)]
 fn write_block<K: Sink>(writer: &mut BitWriter<K>, block: &Block) -> Result<(), Fault>
     requires { HasRoom writer.old (whole_block block.now.id block.now.items writer.old.position) }
@@ -69,7 +69,7 @@ fn write_block<K: Sink>(writer: &mut BitWriter<K>, block: &Block) -> Result<(), 
     write_end(writer)
 }
 
-/// Writes what a block holds.
+/// Writes the items of a block.
 #[cycle(write)]
 fn write_items<K: Sink>(writer: &mut BitWriter<K>, items: &Items) -> Result<(), Fault>
     requires { HasRoom writer.old (normal items.now writer.old.position) }
@@ -121,7 +121,7 @@ fn write_tree<K: Sink>(
     writer.finish()
 }
 
-/// Gives a sink the normal form of a tree, and answers how many bytes that are.
+/// Gives a sink the normal form of a tree, and returns its length in bytes.
 pub(crate) fn write_form<K: Sink>(
     magic: [u8; 4],
     blocks: &[Block],
@@ -143,10 +143,10 @@ pub(crate) fn write_form<K: Sink>(
     }
 }
 
-/// Gives a sink the normal form of a document, and answers how many bytes that are. It takes no memory; so the length of each
-/// block is summed anew where it is written, and the time grows with the number of items times the depth at which they stand.
+/// Gives a sink the normal form of a document, and returns its length in bytes. It allocates nothing: the length of each block is
+/// computed again when it is written. So the time grows with the number of items times their depth.
 ///
-/// `OutputTooLong`, where they pass the limit on bytes, gives the sink nothing; `Write` leaves it a front of the form.
+/// `OutputTooLong`, if the form is longer than the limit on bytes, gives the sink nothing; after `Write` it has a prefix of it.
 pub fn write_normal<K: Sink>(doc: &Document, sink: K, limits: Limits) -> (Result<u64, Fault>, K)
     ensures { WritesForm doc.now limits.bytes (K.outgoing sink) result.0 (K.outgoing result.1) }
 {

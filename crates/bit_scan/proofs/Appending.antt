@@ -1,10 +1,10 @@
 -- Texts that grow, and bytes of a magic.
 use Rattle.std.proofs.Common.{◌≡◌, ℕ, zero, suc, ◌+◌, ◌*◌, ◌/◌, ◌%◌, ◌^◌, ◌<◌, ◌≤◌, List, [], ◌∷◌, ◌++◌, length, get_or, replicate, Result, Ok, Err, refl, sym, ap, ◌∙◌, append_assoc, arith}
-use Rattle.std.specs.Prelude.{OnOk, codes, decimal, flat_map}
+use Rattle.std.specs.Prelude.{OnOk, codes, decimal, flat_map, is_ok, if◌then◌else◌}
 use Rattle.std.proofs.lemmas.Fmt.{decimal_digit, decimal_step}
 use Rattle.std.specs.declared.alloc.AllocError.{AllocError}
 use Rattle.std.specs.Int.{w32, from_le_bytes}
-use Rattle.bit_grammar.specs.Texts.{magic_bytes, hex_text, magic_text}
+use Rattle.bit_grammar.specs.Texts.{magic_bytes, hex_text}
 use Rattle.bit_fields.specs.Opening.{magic_number}
 use Rattle.bit_scan.specs.Lines.{block_row_text, block_start, block_middle, block_end}
 use Rattle.bit_scan.specs.declared.rows.BlockRow.{BlockRow}
@@ -41,15 +41,20 @@ bytes_back (a ∷ b ∷ c ∷ d ∷ []) n h =
     bytes_of_sum a b c d (magic_number (a ∷ b ∷ c ∷ d ∷ [])) (sym is ∙ (let sum : from_le_bytes w32 (a ∷ b ∷ c ∷ d ∷ []) ≡ a + 256 * (b + 256 * (c + 256 * d)) = omega arith in sum)) (h 0) (h 1) (h 2) (h 3)
 bytes_back (a ∷ b ∷ c ∷ d ∷ e ∷ bytes) n h = absurd (omega arith)
 
--- the text of a magic is the digits of its bytes
-pub magic_digits : (bytes : List ℕ) → length bytes ≡ 4 → ((k : ℕ) → get_or bytes k 0 < 256) → magic_text (magic_number bytes) ≡ codes "magic " ++ flat_map hex_text bytes
-magic_digits bytes n h = ap (λ (l : List ℕ). codes "magic " ++ flat_map hex_text l) (bytes_back bytes n h)
+-- a text, and another one after it
+pub then_pushed : (a b : List ℕ) (r : Result (Unit {0}) AllocError) (old middle new : List ℕ) → middle ≡ old ++ a → OnOk r (new ≡ middle ++ b) → OnOk r (new ≡ old ++ (a ++ b))
+then_pushed a b (Ok x) old middle new first second = second ∙ ap (λ (l : List ℕ). l ++ b) first ∙ append_assoc old a b
+then_pushed a b (Err x) old middle new first second = tt
 
-pub magic_pushed : (bytes : List ℕ) → length bytes ≡ 4 → ((k : ℕ) → get_or bytes k 0 < 256) → (r : Result (Unit {0}) AllocError) (old middle new : List ℕ) → middle ≡ old ++ codes "magic " → OnOk r (new ≡ middle ++ flat_map hex_text bytes)
-    → OnOk r (new ≡ old ++ magic_text (magic_number bytes))
-magic_pushed bytes n h (Ok x) old middle new first second =
-    second ∙ ap (λ (l : List ℕ). l ++ flat_map hex_text bytes) first ∙ append_assoc old (codes "magic ") (flat_map hex_text bytes) ∙ ap (λ (l : List ℕ). old ++ l) (sym (magic_digits bytes n h))
-magic_pushed bytes n h (Err x) old middle new first second = tt
+-- a push whose contract covers a failed allocation too
+pub pushed_on_ok : (a : List ℕ) (r : Result (Unit {0}) AllocError) (old new : List ℕ) → new ≡ (if is_ok r then old ++ a else old) → OnOk r (new ≡ old ++ a)
+pushed_on_ok a (Ok x) old new pushed = pushed
+pushed_on_ok a (Err x) old new pushed = tt
+
+-- the digits of a magic are those of its bytes
+pub digits_pushed : (bytes : List ℕ) → length bytes ≡ 4 → ((k : ℕ) → get_or bytes k 0 < 256) → (r : Result (Unit {0}) AllocError) (old new : List ℕ) → OnOk r (new ≡ old ++ flat_map hex_text bytes) → OnOk r (new ≡ old ++ flat_map hex_text (magic_bytes (magic_number bytes)))
+digits_pushed bytes n h (Ok x) old new pushed = pushed ∙ ap (λ (l : List ℕ). old ++ flat_map hex_text l) (sym (bytes_back bytes n h))
+digits_pushed bytes n h (Err x) old new pushed = tt
 
 -- ---- the line of a block id in a report
 
@@ -71,7 +76,7 @@ all_parts e (Ok x) old one two new first second third =
     joined a b c d = simp append_assoc
 all_parts e (Err x) old one two new first second third = tt
 
--- ---- a line behind its bit
+-- ---- a line after its bit
 
 pub line_placed : (bit : ℕ) (text : List ℕ) (r : Result (Unit {0}) AllocError) (old middle new : List ℕ) → middle ≡ old ++ (decimal bit ++ (32 ∷ [])) → OnOk r (new ≡ middle ++ text) → OnOk r (new ≡ old ++ (decimal bit ++ (32 ∷ text)))
 line_placed bit text (Ok x) old middle new first second = second ∙ ap (λ (l : List ℕ). l ++ text) first ∙ joined old (decimal bit) text
@@ -80,7 +85,7 @@ line_placed bit text (Ok x) old middle new first second = second ∙ ap (λ (l :
     joined a b c = simp append_assoc
 line_placed bit text (Err x) old middle new first second = tt
 
--- the last digit of a number behind the others
+-- the last digit of a number after the others
 pub digit_behind : (number last : ℕ) (r : Result (Unit {0}) AllocError) (old middle new : List ℕ) → 10 ≤ number → number < 2 ^ 64 → last ≡ number % 10 → middle ≡ old ++ decimal (number / 10) → OnOk r (new ≡ middle ++ decimal last) → OnOk r (new ≡ old ++ decimal number)
 digit_behind number last (Ok x) old middle new some below last_is first second =
     let digit : decimal last ≡ (48 + number % 10) ∷ [] = ap decimal last_is ∙ decimal_digit (number % 10) (omega arith) in

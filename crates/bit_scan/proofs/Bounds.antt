@@ -1,4 +1,4 @@
--- Bounds on the rows that events add up to.
+-- Bounds on the totals of events in rows.
 use Rattle.std.proofs.Common.{ℕ, ◌+◌, ◌≤◌, Bool, true, false, eqb, List, [], ◌∷◌, length, arith}
 use Rattle.std.specs.Prelude.{if◌then◌else◌}
 use Rattle.std.specs.List.{AllByRecursion}
@@ -9,7 +9,7 @@ use Rattle.bit_grammar.specs.Tally.{CodeTally, BlockTally, record_bits, is_abbre
 use Rattle.bit_grammar.specs.Counting.{rows_with, fresh_code, fresh_row, one_use, one_block, more_bits, one_definition, one_record, OpenCount, Counts, with_row, count_here, count_end, count_event, count_events}
 use Rattle.bit_scan.proofs.Spans.{bits_told, all_bits_told}
 
--- what holds of rows holds, weaker, of rows with one of them changed
+-- a bound of rows also holds, weaker, for rows with one of them changed
 all_weaker : {Row : Type 0} (P Q : Row → Type 0) → ((row : Row) → P row → Q row) → (rows : List Row) → AllByRecursion P rows → AllByRecursion Q rows
 all_weaker P Q weaker [] all = tt
 all_weaker P Q weaker (row ∷ rows) all = (weaker row all.0, all_weaker P Q weaker rows all.1)

@@ -43,7 +43,7 @@ use_absent es tallies code bits new count sum shown absent =
 rows_shown : AreShown block_tally (λ (x : BlockTally). x.id) cut_row
 rows_shown = record { by_key = λ e. refl; kept = λ row. refl }
 
--- something more in a row that was there, if it was added
+-- an addition to an existing row
 pub added_at : (result : Result (Unit {0}) AllocError) (es : List (ℕ × BlockRow)) (tallies : List BlockTally) (id j i : ℕ) (addition : Addition) (old new : BlockRow)
     → ((tally : BlockTally) → block_tally (id, old) ≡ cut_row tally → OnOk result (block_tally (id, new) ≡ cut_row (with_added addition tally)))
     → AreDistinct (keys_of es) → slice_get es i ≡ Some (j, old) → slice_get (keys_of es) i ≡ Some id → block_tallies es ≡ cut_rows tallies

@@ -1,4 +1,4 @@
--- Rows by key with one of them changed, against the rows that they are shown as.
+-- Rows by key with one of them changed, compared with the rows that they show.
 use Rattle.std.proofs.Common.{◌≡◌, ℕ, zero, suc, List, [], ◌∷◌, ◌++◌, length, map, Some, refl, sym, ap, ◌∙◌, slice_get}
 use Rattle.std.proofs.Math.ListN.{set}
 use Rattle.std.proofs.lemmas.Bool.{eq-eqb, ne_eqb}
@@ -6,7 +6,7 @@ use Rattle.std.specs.Map.{keys_of}
 use Rattle.bit_grammar.specs.Counting.{rows_with}
 use Rattle.bit_scan.specs.Indexed.{IsAbsent, AreDistinct}
 
--- entries are shown as rows, each cut, and both have the same keys
+-- entries show rows, each cut, and both have the same keys
 pub record AreShown {V Row : Type 0} (show : ℕ × V → Row) (key : Row → ℕ) (cut : Row → Row) : Type 0 where
   pub by_key : (e : ℕ × V) → key (show e) ≡ e.0
   pub kept : (row : Row) → key (cut row) ≡ key row
@@ -14,7 +14,7 @@ pub record AreShown {V Row : Type 0} (show : ℕ × V → Row) (key : Row → �
 key_is : {V Row : Type 0} (show : ℕ × V → Row) (key : Row → ℕ) (cut : Row → Row) → AreShown show key cut → (e : ℕ × V) (row : Row) → show e ≡ cut row → key row ≡ e.0
 key_is show key cut shown e row same = sym (shown.kept row) ∙ ap key (sym same) ∙ shown.by_key e
 
--- a key that is absent differs from each that is there
+-- an absent key differs from each key in the list
 differs : (keys : List ℕ) (j i k : ℕ) → IsAbsent j keys → slice_get keys i ≡ Some k → j ≡ k → ⊥
 differs [] j i k none at = absurd cc
 differs (y ∷ keys) j zero k none at = (let same : y ≡ k = cc in rw same at none.0)
@@ -43,7 +43,7 @@ changed_at {V} {Row} show key cut fresh change shown k j old new step (e ∷ es)
     let more = changed_at show key cut fresh change shown k j old new step es rows i tail distinct.1 found at in
     rw (ne_eqb (key row) k (λ x. other (sym (key_is show key cut shown e row head) ∙ x))) (let joined : show e ∷ map show (set es i (j, new)) ≡ cut row ∷ map cut (rows_with key fresh change k rows) = cc in joined)
 
--- the keys stay
+-- the keys are unchanged
 pub keys_set : {V : Type 0} (es : List (ℕ × V)) (i j : ℕ) (old new : V) → slice_get es i ≡ Some (j, old) → keys_of (set es i (j, new)) ≡ keys_of es
 keys_set [] i j old new found = absurd cc
 keys_set {V} (e ∷ es) zero j old new found =
@@ -51,7 +51,7 @@ keys_set {V} (e ∷ es) zero j old new found =
     ap (λ (n : ℕ). n ∷ keys_of es) (sym (ap (λ (x : ℕ × V). x.0) whole))
 keys_set (e ∷ es) (suc i) j old new found = ap (λ (ks : List ℕ). e.0 ∷ ks) (keys_set es i j old new found)
 
--- the value of a key that was not there was added
+-- the value of an absent key was added
 pub changed_absent : {V Row : Type 0} (show : ℕ × V → Row) (key : Row → ℕ) (cut : Row → Row) (fresh : ℕ → Row) (change : Row → Row) → AreShown show key cut
     → (k : ℕ) (new : V) → show (k, new) ≡ cut (change (fresh k))
     → (es : List (ℕ × V)) (rows : List Row) → map show es ≡ map cut rows → IsAbsent k (keys_of es)

@@ -1,4 +1,4 @@
--- Counting one event behind others.
+-- Counting one event after others.
 use Rattle.std.proofs.Common.{◌≡◌, ℕ, ◌+◌, ◌-◌, ◌^◌, min, Bool, true, false, List, [], ◌∷◌, ◌++◌, Result, Ok, Err, refl, sym, ap, ◌∙◌, arith, if◌then◌else◌, ◌==◌}
 use Rattle.std.specs.Prelude.{OnOk}
 use Rattle.std.specs.declared.alloc.AllocError.{AllocError}
@@ -13,12 +13,12 @@ use Rattle.bit_scan.specs.Cut.{capped_counts, cut_row, cut_rows}
 use Rattle.bit_grammar.specs.Bits.{saturated}
 use Rattle.bit_scan.specs.declared.rows.Addition.TheVariants as addition
 
--- one event behind others
+-- one event after others
 count_then : (done : List Event) (event : Event) (c : Counts) → count_events (done ++ event ∷ []) c ≡ count_event event (count_events done c)
 count_then [] event c = refl
 count_then (first ∷ done) event c = count_then done event (count_event first c)
 
--- what counts an event gathers it
+-- a step that counts an event gathers it
 pub gathers_counts : (old new : Counts) (event : Event) (result : Result (Unit {0}) AllocError) → ((counts : Counts) → old ≡ capped_counts counts → OnOk result (new ≡ capped_counts (count_event event counts)))
     → OnOk result ((first : Counts) (done : List Event) (deepest : ℕ) → old ≡ capped_counts (count_events done no_counts) → MayStand deepest event (left_open done) → new ≡ capped_counts (count_events (done ++ event ∷ []) no_counts))
 gathers_counts old new event (Ok x) counted = λ first done deepest was stands. counted (count_events done no_counts) was ∙ ap capped_counts (sym (count_then done event no_counts))

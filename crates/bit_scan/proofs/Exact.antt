@@ -1,4 +1,4 @@
--- What is counted of an accepted input is exact: no number reaches 2 ^ 64.
+-- The counts of an accepted input are exact: no number reaches 2 ^ 64.
 use Rattle.std.proofs.Common.{◌≡◌, ℕ, ◌+◌, ◌*◌, ◌^◌, ◌<◌, ◌≤◌, List, [], ◌∷◌, length, map, refl, ap, arith}
 use Rattle.std.specs.Prelude.{sum_by}
 use Rattle.std.specs.List.{AllByRecursion}

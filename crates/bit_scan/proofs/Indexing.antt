@@ -21,7 +21,7 @@ one_of [] k q (suc i) h = absurd cc
 one_of (y ∷ keys) k q zero h = inl h
 one_of (y ∷ keys) k q (suc i) h = elim (one_of keys k q i h) [ inl there ↦ inl there | inr last ↦ inr (ap suc last.0, last.1) ]
 
--- what is reached is still reached once more links lead to rows
+-- what is reached is still reached after more links lead to rows
 still : (n : ℕ) (old new : List ℕ) (slot rest place : ℕ) → KeepsLinks old new → Reaches n old slot rest place → Reaches n new slot rest place
 still zero old new slot rest place keeps h =
     let same : slice_index new slot ≡ slice_index old slot = keeps slot h.0 in
@@ -50,7 +50,7 @@ pub on_success : {T E P Q : Type 0} (r : Result T E) → (P → Q) → OnOk r P 
 on_success (Ok x) follows h = follows h
 on_success (Err e) follows h = h
 
--- a place that was found is one of the rows
+-- a found place is one of the rows
 pub place_within : {V : Type 0} (es : List (ℕ × V)) (k i : ℕ) → slice_get (keys_of es) i ≡ Some k → i < length es
 place_within es k i at = omega (arith, slice_get_within (keys_of es) i k at, keys_length es)
 

@@ -4,6 +4,7 @@ pub mod Changes
 pub mod Changing
 pub mod Exact
 pub mod Indexing
+pub mod Joined
 pub mod Lists
 pub mod OpenBlocks
 pub mod Prints

@@ -20,7 +20,7 @@ use Rattle.bit_scan.proofs.Prints.{Goes, goes_starts, goes_as, goes_on, goes_wro
 
 -- ---- events
 
--- the line of an event, with so many blocks that are left around it, if it is left; and how many stand around what follows
+-- the line of an event, with `around` kept blocks around it, if it is kept; and how many are around what follows
 abbrev pub line_left : OpenUnder → (around : ℕ) → Event → List ℕ
 line_left stood around event = if leaves_event stood event then event_text around event else []
 
@@ -37,7 +37,7 @@ left_first stood around event events = go (leaves_event stood event)
     go true = refl
     go false = refl
 
--- as many blocks that are left stand around what follows as are open
+-- the number of kept blocks around what follows is the number of open ones
 kept_after : (s : Setting) (ids : List ℕ) (event : Event) → kept_count s (ids_after event ids) ≡ (if is_left s ids event then open_after event (kept_count s ids) else kept_count s ids)
 kept_after s ids (enters o) = refl
 kept_after s ids (defines mark) = go (list_all (keeps s) ids)
@@ -64,7 +64,7 @@ length_after ids (notes mark) = refl
 length_after [] (leaves after) = refl
 length_after (id ∷ ids) (leaves after) = omega arith
 
--- a line that was not printed, or not all of it
+-- not all of a line was printed
 pub line_stops : (around : ℕ) (stood : OpenUnder) (old new : Coming) (p q : Printing) (event : Event) (fault : Fault) → GivesEvent old event new → Prints (line_left stood around event) p (Err fault) q → TellsComing old → Prints (left_text around stood old.told.0) p (Err fault) q
 line_stops around stood old new p q event fault gives prints tells =
     let line = line_left stood around event in
@@ -72,7 +72,7 @@ line_stops around stood old new p q event fault gives prints tells =
     let whole : left_text around stood old.told.0 ≡ line ++ rest = ap (λ (t : Told). left_text around stood t.0) (gives.told tells) ∙ left_first stood around event new.told.0 in
     subst (λ (l : List ℕ). Prints l p (Err fault) q) (sym whole) (goes_wrong (line ++ rest) p line rest p q fault (goes_starts (line ++ rest) p) prints)
 
--- of a text, the lines of the events to come that are left are to be printed, with so many blocks around the first
+-- the lines of the remaining kept events of a text are still to be printed, with `around` blocks around the first
 pub record Listing (text : List ℕ) (first : Printing) (around : ℕ) (stood : OpenUnder) (now : Coming) (p : Printing) : Type 0 where
   pub tells : TellsComing now
   pub deepest : now.deepest ≤ 255

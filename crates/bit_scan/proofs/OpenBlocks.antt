@@ -1,4 +1,4 @@
--- Open blocks: one is entered, one ends, and something is counted in the innermost.
+-- Open blocks: one is entered, one ends, and an item is counted in the innermost.
 use Rattle.std.proofs.Common.{◌≡◌, ℕ, zero, suc, ◌+◌, ◌-◌, ◌<◌, List, [], ◌∷◌, ◌++◌, length, map, get_or, Some, Result, Ok, Err, refl, sym, ap, ◌∙◌, slice_get, min, arith}
 use Rattle.std.specs.Prelude.{OnOk}
 use Rattle.std.proofs.Math.ListN.{set}
@@ -28,7 +28,7 @@ pub entered : (counts : Counts) (opened : Opened) (id place first : ℕ) (rows :
 entered counts opened id place first rows before after id_is first_is counted shown pushed =
     rw (id_is, first_is, counted, pushed, open_push before (record { id = id; place = place; first = first; inside = 0 }) [], shown) refl
 
--- ---- a block in which something is counted
+-- ---- a block in which an item is counted
 
 -- the last of a list, and those before it
 pub record Last (xs : List OpenBlock) (x : OpenBlock) : Type 0 where

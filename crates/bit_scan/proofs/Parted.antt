@@ -37,7 +37,7 @@ behind_second whole a b c old now last parts p q = goes_on whole old b c now las
 pub third : (whole a b c : List ℕ) (old now last new : Printing) (r : Result (Unit {0}) Fault) → Parts whole a b c → Printed a old now → Printed b now last → Prints c last r new → Prints whole old r new
 third whole a b c old now last new r parts p q e = goes_last whole old c last r new (behind_second whole a b c old now last parts p q) e
 
--- where the third part is one and a fourth
+-- if the third part is one and a fourth
 pub no_third : (whole a b c d : List ℕ) (old now last new : Printing) (fault : Fault) → Parts whole a b (c ++ d) → Printed a old now → Printed b now last → Prints c last (Err fault) new → Prints whole old (Err fault) new
 no_third whole a b c d old now last new fault parts p q e = goes_wrong whole old c d last new fault (behind_second whole a b (c ++ d) old now last parts p q) e
 
@@ -54,7 +54,7 @@ last_part part whole old now xs i h g = goes_ends whole old now (goes_as whole o
 
 -- ---- values
 
--- a value behind a space
+-- a value after a space
 abbrev pub value_text : ℕ → List ℕ
 value_text v = 32 ∷ decimal v
 
@@ -96,7 +96,7 @@ noted_parts values around first code abbreviation vs = record { are = regrouped 
 
 -- ---- operands
 
--- an operand behind another one
+-- an operand after another one
 abbrev pub further_text : Op → List ℕ
 further_text op = codes ", " ++ op_text op
 
@@ -107,7 +107,7 @@ definition_parts around first ops = record { are = regrouped (decimal first) (re
     regrouped : (a b c d e : List ℕ) → a ++ (32 ∷ (b ++ ((c ++ d) ++ e))) ≡ ((a ++ (32 ∷ b)) ++ c) ++ (d ++ e)
     regrouped a b c d e = simp append_assoc
 
--- the first operand was not written, or not all of it
+-- not all of the first operand was written
 pub first_wrong : (ops others : List Op) (op : Op) (old new : Printing) (fault : Fault) → ops ≡ op ∷ others → Prints (op_text op) old (Err fault) new → Prints (ops_text ops) old (Err fault) new
 first_wrong ops others op old new fault is p =
     let more = flat_map further_text others in

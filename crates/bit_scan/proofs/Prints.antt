@@ -12,7 +12,7 @@ use Rattle.bit_scan.specs.Written.{TookText, TookFront, HasFailed, WritesText}
 
 -- ---- one call
 
--- a text that was held, and then what was held was put or not
+-- a text was buffered, and then the buffer was put or not
 pub settled : (text : List ℕ) (old : Printing) (held : List ℕ) (r : Result (Unit {0}) Fault) (new : Printing) → held ≡ old.held ++ text → Prints [] (record { outgoing = old.outgoing; held = held }) r new → Prints text old r new
 settled text old held (Ok v) new is p = record { part = p.part; split = sym is ∙ sym (append-nil held) ∙ p.split; bytes = p.bytes; failures = p.failures }
 settled text old held (Err Write) new is p = (record { front = p.0.front; rest = p.0.rest; split = sym is ∙ sym (append-nil held) ∙ p.0.split; bytes = p.0.bytes }, p.1)
@@ -24,7 +24,7 @@ settled text old held (Err Failed) new is p = p
 
 -- ---- calls in turn
 
--- of a whole text, this is left to print
+-- of a whole text, this remains to print
 pub record Goes (whole : List ℕ) (old : Printing) (rest : List ℕ) (now : Printing) : Type 0 where
   pub done : List ℕ
   pub split : whole ≡ done ++ rest
@@ -53,7 +53,7 @@ failed_then : (old now new : Outgoing) → now.failures ≡ old.failures → Has
 failed_then old now new same (inl more) = inl (omega (arith, same, more))
 failed_then old now new same (inr spent) = inr (omega (arith, same, spent))
 
--- what is left was printed, or not all of it
+-- the rest was printed, or not all of it
 pub goes_last : (whole : List ℕ) (old : Printing) (rest : List ℕ) (now : Printing) (r : Result (Unit {0}) Fault) (new : Printing) → Goes whole old rest now → Prints rest now r new → Prints whole old r new
 goes_last whole old rest now (Ok v) new g p = subst (λ (l : List ℕ). Printed l old new) (sym g.split) (printed_then g.done rest old now new g.printed p)
 goes_last whole old rest now (Err Write) new g p = (subst (λ (l : List ℕ). PrintedFront l old new) (sym g.split) (front_then g.done rest old now new g.printed p.0), failed_then old.outgoing now.outgoing new.outgoing g.printed.failures p.1)
@@ -67,7 +67,7 @@ goes_last whole old rest now (Err Failed) new g p = p
 pub goes_on : (whole : List ℕ) (old : Printing) (a b : List ℕ) (now new : Printing) → Goes whole old (a ++ b) now → Printed a now new → Goes whole old b new
 goes_on whole old a b now new g p = record { done = g.done ++ a; split = g.split ∙ sym (append_assoc g.done a b); printed = printed_then g.done a old now new g.printed p }
 
--- the first part was not printed, or not all of it
+-- not all of the first part was printed
 pub goes_wrong : (whole : List ℕ) (old : Printing) (a b : List ℕ) (now new : Printing) (fault : Fault) → Goes whole old (a ++ b) now → Prints a now (Err fault) new → Prints whole old (Err fault) new
 goes_wrong whole old a b now new fault g p = goes_last whole old (a ++ b) now (Err fault) new g (longer fault p)
   where
@@ -86,13 +86,13 @@ goes_wrong whole old a b now new fault g p = goes_last whole old (a ++ b) now (E
 pub goes_as : (whole : List ℕ) (old : Printing) (a b : List ℕ) (now : Printing) → a ≡ b → Goes whole old a now → Goes whole old b now
 goes_as whole old a b now same g = subst (λ (l : List ℕ). Goes whole old l now) same g
 
--- nothing is left
+-- nothing remains
 pub goes_ends : (whole : List ℕ) (old : Printing) (now : Printing) → Goes whole old [] now → Printed whole old now
 goes_ends whole old now g = subst (λ (l : List ℕ). Printed l old now) (sym (g.split ∙ append-nil g.done)) g.printed
 
 -- ---- a whole text
 
--- nothing was held before, and nothing is held where all was printed
+-- nothing was buffered before, and nothing is buffered if all was printed
 pub all_written : (text : List ℕ) (old new : Printing) → old.held ≡ [] → new.held ≡ [] → Printed text old new → TookText text old.outgoing new.outgoing
 all_written text old new none all p =
     let same : p.part ≡ text = sym (append-nil p.part) ∙ ap (λ (l : List ℕ). p.part ++ l) (sym all) ∙ sym p.split ∙ ap (λ (l : List ℕ). l ++ text) none in

@@ -6,13 +6,13 @@ use Rattle.std.proofs.KnownBytes.{Appends-trans}
 use Rattle.bit_fields.specs.Devices.{Outgoing, Accepted}
 use Rattle.bit_scan.specs.Written.{TookText}
 
--- the sink took a front of a text, and this is left of it
+-- the sink took a prefix of a text, and this remains
 pub record PutSoFar (text : List ℕ) (old : Outgoing) (rest : List ℕ) (now : Outgoing) : Type 0 where
   pub part : List ℕ
   pub split : text ≡ part ++ rest
   pub took : TookText part old now
 
--- a put took the front of what is left
+-- a put took a prefix of what remains
 pub put_on : (text : List ℕ) (old : Outgoing) (rest : List ℕ) (now new : Outgoing) (count : ℕ) → 0 < count → PutSoFar text old rest now → Accepted now new count rest → PutSoFar text old (take (length rest - count) (drop count rest)) new
 put_on text old rest now new count some p a =
     let whole : take (length rest - count) (drop count rest) ≡ drop count rest = grind (arith, common_steps, length-drop count rest) in

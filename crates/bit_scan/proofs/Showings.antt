@@ -27,7 +27,7 @@ use Rattle.bit_scan.specs.Written.{WritesText}
 use Rattle.bit_scan.specs.Showing.{ReadsLeft, Shows}
 use Rattle.bit_scan.proofs.Untold.{some_forest}
 
--- what is known of an accepted input and of the bytes that were kept of it
+-- facts about an accepted input and the bytes that were kept of it
 abbrev pub HoldsKept : Limits → List ℕ → Vec ℕ Global → Type 0
 HoldsKept limits bytes kept = (kept.items ≡ bytes) × ((m : Marked) × SpellsInput limits bytes m)
 
@@ -43,7 +43,7 @@ not_kept s limits i now o Write r = absurd r
 not_kept s limits i now o OutputTooLong r = absurd r
 not_kept s limits i now o Failed r = absurd r
 
--- one that was read
+-- an input that was read
 pub shown : (s : Setting) (limits : Limits) (i now : Incoming) (old new : Outgoing) (tree : Tree) (answer : Result (Unit {0}) Fault) → ReadsLeft s limits i (Ok tree) now → WritesText (listing_of tree) old answer new → Shows s limits i old answer now new
 shown s limits i now old new tree (Ok _) r w = (tree, r, w)
 shown s limits i now old new tree (Err Write) r w = (tree, r, w)
@@ -53,14 +53,14 @@ shown s limits i now old new tree (Err Read) r w = absurd w
 shown s limits i now old new tree (Err OutputTooLong) r w = absurd w
 shown s limits i now old new tree (Err Failed) r w = absurd w
 
--- what is left of what is told of bytes that spell a marked tree is the listing of what is left of its tree
+-- the kept events of bytes that spell a marked tree have the listing of its kept tree
 told_of_spelled : (s : Setting) (limits : Limits) (bytes : List ℕ) (m : Marked) (x : Head × Told) → SpellsInput limits bytes m → outlook limits bytes ≡ Ok x → told_text s x.0 x.1 ≡ listing_of (under s (tree_of m))
 told_of_spelled s limits bytes m x spelled told =
     let same : Path (Result (Head × Told) grammar.Fault) (Ok x) (Ok (m.head, (flat m.blocks [], accepted m.after))) = sym told ∙ (told_if_spelled limits bytes m).0 spelled in
     let pair : Path (Head × Told) x (m.head, (flat m.blocks [], accepted m.after)) = cc in
     ap (λ (y : Head × Told). told_text s y.0 y.1) pair ∙ ap (λ (l : List ℕ). listing_head m.head.magic ++ l) (lines_by_events s m.blocks)
 
--- where the source told no bytes there is some tree all the same
+-- if the source's bytes are unknown there is some tree too
 untold_shown : (s : Setting) (limits : Limits) (i now : Incoming) (kept : Vec ℕ Global) (old new : Outgoing) (answer : Result (Unit {0}) Fault) (x : Head × Told) → ReadsKept limits i (Ok kept) now → i.to_come ≡ None → WritesText (told_text s x.0 x.1) old answer new → Shows s limits i old answer now new
 untold_shown s limits i now kept old new answer x k none writes =
     let f = some_forest (events_under s [] x.1.0) in

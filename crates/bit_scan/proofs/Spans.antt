@@ -1,4 +1,4 @@
--- The bits of the records of a stream are at most those that the stream has.
+-- The bits of the records of a stream are at most those of the stream.
 use Rattle.std.proofs.Common.{◌≡◌, ℕ, ◌+◌, ◌*◌, ◌≤◌, List, [], ◌∷◌, length, Bool, sym, ap, subst, ◌∙◌, arith, inl, inr, Some, None}
 use Rattle.std.proofs.lemmas.List.{length-append}
 use Rattle.bit_grammar.specs.Bits.{bits_of_bytes}
@@ -29,7 +29,7 @@ all_bits_told (event ∷ events) = bits_told event + all_bits_told events
 
 -- ---- a step
 
--- the record of an event, if it has one, stands from bit first on and before bit after
+-- the record of an event, if it has one, is from bit `first` on and before bit `after`
 record Spanned (first after : ℕ) (v : Event × Machine) : Type 0 where
   few : first + bits_told v.0 ≤ after
 
@@ -62,7 +62,7 @@ frames_spanned limits (f ∷ frames) handed p s v k =
 
 -- ---- a stream
 
--- events in so many bits: no more of them, and no more bits of records
+-- the number of events and the bits of their records are at most the bits that the events take
 pub record Told (bits : ℕ) (events : List Event) : Type 0 where
   pub count : length events ≤ bits
   pub records : all_bits_told events ≤ bits
@@ -75,7 +75,7 @@ steps_told limits m p r (event ∷ events) ending h =
     let len : length r ≡ length h.0 + length h.1 = ap length h.3 ∙ length-append h.0 h.1 in
     record { count = omega (arith, more.count, h.4, len); records = omega (arith, more.records, one, len) }
 
--- the events of an input of so many bits, which ends before bit after
+-- the events of an input with these bits, which ends before bit `after`
 pub record InputTold (limits : Limits) (bits : ℕ) (m : Marked) : Type 0 where
   pub told : Told bits (flat m.blocks [])
   pub after : m.after ≤ bits

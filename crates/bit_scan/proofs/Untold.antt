@@ -13,7 +13,7 @@ abbrev nothing : (n : ℕ) → Around n
 nothing zero = tt
 nothing (suc n) = (empty, nothing n)
 
--- the lines of what stands in so many blocks, and of what follows in these
+-- the lines of the items of n blocks, and of what follows in these
 abbrev lines_around : (n : ℕ) → Forest → Around n → List ℕ
 lines_around zero f around = lines_of 0 f
 lines_around (suc n) f around = lines_of (suc n) f ++ lines_around n around.0 around.1

@@ -2,25 +2,25 @@
 use Rattle.std.proofs.Common.{◌≡◌, ℕ, zero, suc, ◌+◌, ◌-◌, ◌*◌, ◌/◌, ◌%◌, ◌<◌, List, [], ◌∷◌, Some, ap, sym, subst, refl, arith, slice_get, slice_index}
 use Rattle.bit_scan.specs.Indexed.{IsAbsent, Leads, Reaches, IsReached, IsIndexed, KeepsLinks, IsFree}
 
--- A walk by the bits of a key has come to a slot: the key's row, if there is one, is reached from there; and what is reached from there
--- is reached from the beginning, also once more links lead to rows.
+-- A walk by the bits of a key is at a slot. The key's row, if there is one, is reached from there; and what is reached from there
+-- is also reached from the beginning, even after more links lead to rows.
 pub record IsWalked (keys links : List ℕ) (k slot rest : ℕ) : Type 0 where
-  pub ahead : (place : ℕ) → slice_get keys place ≡ Some k → IsReached links slot rest place
+  pub buffered : (place : ℕ) → slice_get keys place ≡ Some k → IsReached links slot rest place
   pub behind : (new : List ℕ) (place : ℕ) → KeepsLinks links new → IsReached new slot rest place → IsReached new 0 k place
 
 pub begun : (keys links : List ℕ) (k : ℕ) → IsIndexed keys links → IsWalked keys links k 0 k
-begun keys links k ix = record { ahead = ix.reached k; behind = λ new place keeps reached. reached }
+begun keys links k ix = record { buffered = ix.reached k; behind = λ new place keeps reached. reached }
 
 leads_first : (n : ℕ) (links : List ℕ) (slot rest place : ℕ) → Reaches n links slot rest place → Leads links slot
 leads_first zero links slot rest place h = h.0
 leads_first (suc n) links slot rest place h = h.0
 
--- the row that a link leads to is not the one, so that it is reached from there
+-- the row that a link leads to is another one, so the key's row is reached from there
 further : (n : ℕ) (links : List ℕ) (slot rest place : ℕ) → Reaches n links slot rest place → (place ≡ slice_index links slot - 1 → ⊥) → IsReached links (2 * slice_index links slot - 1 + rest % 2) (rest / 2) place
 further zero links slot rest place h other = absurd (other (let is = h.1 in omega (arith, is)))
 further (suc n) links slot rest place h other = (n, h.1)
 
--- one link more
+-- one more link
 onto : (n : ℕ) (links new : List ℕ) (slot rest place : ℕ) → KeepsLinks links new → Leads links slot → Reaches n new (2 * slice_index links slot - 1 + rest % 2) (rest / 2) place → Reaches (suc n) new slot rest place
 onto n links new slot rest place keeps leads h =
     let same : slice_index new slot ≡ slice_index links slot = keeps slot leads in
@@ -29,7 +29,7 @@ onto n links new slot rest place keeps leads h =
 pub walked : (keys links : List ℕ) (k slot rest : ℕ) → IsWalked keys links k slot rest → Leads links slot → (slice_get keys (slice_index links slot - 1) ≡ Some k → ⊥)
     → IsWalked keys links k (2 * slice_index links slot - 1 + rest % 2) (rest / 2)
 walked keys links k slot rest w leads other = record {
-  ahead = λ place is. let r = w.ahead place is in further r.0 links slot rest place r.1 (λ same. other (subst (λ (x : ℕ). slice_get keys x ≡ Some k) same is));
+  buffered = λ place is. let r = w.buffered place is in further r.0 links slot rest place r.1 (λ same. other (subst (λ (x : ℕ). slice_get keys x ≡ Some k) same is));
   behind = λ new place keeps r. w.behind new place keeps (suc r.0, onto r.0 links new slot rest place keeps leads r.1);
 }
 
@@ -39,7 +39,7 @@ absent_of (y ∷ keys) k h = (λ same. h 0 (ap Some (sym same)), absent_of keys 
 
 pub free : (keys links : List ℕ) (k slot rest : ℕ) → IsWalked keys links k slot rest → (Leads links slot → ⊥) → IsFree keys links k slot
 free keys links k slot rest w none = record {
-  absent = absent_of keys k (λ place is. let r = w.ahead place is in none (leads_first r.0 links slot rest place r.1));
+  absent = absent_of keys k (λ place is. let r = w.buffered place is in none (leads_first r.0 links slot rest place r.1));
   none = none;
   leads = λ new place keeps leads is. w.behind new place keeps (0, (leads, is));
 }

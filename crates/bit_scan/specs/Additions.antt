@@ -1,4 +1,4 @@
--- What is added to a row.
+-- Additions to a row.
 use Rattle.std.specs.Prelude.{◌+◌, if◌then◌else◌}
 use Rattle.bit_grammar.specs.Tally.{BlockTally}
 use Rattle.bit_grammar.specs.Counting.{one_block, more_bits, one_definition}
@@ -6,7 +6,7 @@ use Rattle.bit_scan.specs.CodesView.{with_use}
 use Rattle.bit_scan.specs.declared.rows.Addition.{Addition}
 use Rattle.bit_scan.specs.declared.rows.Addition.TheVariants as addition
 
--- a row with what was added
+-- a row with an addition
 abbrev pub with_added : Addition → BlockTally → BlockTally
 with_added addition.Block row = one_block row
 with_added (addition.Bits bits) row = more_bits bits row

@@ -1,4 +1,4 @@
--- What an analysis tells of an input.
+-- The result of analysing an input.
 use Rattle.std.specs.Prelude.{◌≡◌, ℕ, ◌+◌, List}
 use Rattle.bit_grammar.specs.Blocks.{Limits}
 use Rattle.bit_grammar.specs.Input.{SpellsInput}

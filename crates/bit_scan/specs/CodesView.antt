@@ -1,4 +1,4 @@
--- What is seen of the rows of codes.
+-- The view of the rows of codes.
 use Rattle.std.specs.Prelude.{◌≡◌, ℕ, ◌+◌, List, map, Result, OnOk}
 use Rattle.bit_grammar.specs.Tally.{CodeTally}
 use Rattle.bit_grammar.specs.Counting.{rows_with, fresh_code}
@@ -12,7 +12,7 @@ code_tally e = record { code = e.0; count = e.1.count; bits = e.1.bits }
 abbrev pub code_tallies : List (ℕ × CodeRow) → List CodeTally
 code_tallies rows = map code_tally rows
 
--- one more record with so many bits
+-- one more record of `bits` bits
 abbrev pub one_more : (bits : ℕ) → CodeTally → CodeTally
 one_more bits row = record { code = row.code; count = row.count + 1; bits = row.bits + bits }
 
@@ -20,7 +20,7 @@ one_more bits row = record { code = row.code; count = row.count + 1; bits = row.
 abbrev pub with_use : (code bits : ℕ) → List CodeTally → List CodeTally
 with_use code bits rows = rows_with (λ (x : CodeTally). x.code) fresh_code (one_more bits) code rows
 
--- on success, rows that told of some tallies tell of these with one more record of a code
+-- on success, rows that show some tallies show these with one more record of a code
 abbrev pub CountsUse : {T E : Type 0} → (code bits : ℕ) → List (ℕ × CodeRow) → Result T E
     → List (ℕ × CodeRow) → Type 0
 CountsUse code bits old result new = (tallies : List CodeTally)

@@ -1,4 +1,4 @@
--- What is seen of a counter.
+-- The view of a counter.
 use Rattle.std.specs.Prelude.{◌≡◌, ℕ, ◌-◌, List, [], ◌∷◌, map, Option, Some, None}
 use Rattle.bit_grammar.specs.Counting.{OpenCount, Counts, count_here, more_inside}
 use Rattle.bit_scan.specs.Additions.{with_added}
@@ -25,8 +25,8 @@ added_here addition c = record {
   around = c.around;
 }
 
--- The innermost of the open blocks was closed before a bit, with its own bits; its bits went to the block round
--- it. Or there was none.
+-- The innermost open block was closed before a bit, with its own bits; its bits went to the block around it. Or there was
+-- none.
 abbrev pub ClosesCount : List OpenCount → (after : ℕ) → Option (OpenBlock × ℕ) → List OpenCount
     → Type 0
 ClosesCount [] after None new = new ≡ []

@@ -1,10 +1,10 @@
--- Numbers as the code counts them: they stop at the greatest of 64 bits.
+-- Numbers as the code counts them: they saturate at the greatest number of 64 bits.
 use Rattle.bit_grammar.specs.Bits.{saturated}
 use Rattle.std.specs.Prelude.{List, map}
 use Rattle.bit_grammar.specs.Tally.{CodeTally, BlockTally}
 use Rattle.bit_grammar.specs.Counting.{OpenCount, Counts}
 
--- ---- each number cut so
+-- ---- saturated numbers
 
 abbrev pub cut_code : CodeTally → CodeTally
 cut_code row = record { code = row.code; count = saturated row.count; bits = saturated row.bits }

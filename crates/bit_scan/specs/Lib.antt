@@ -5,11 +5,13 @@ pub mod Counting
 pub mod Cut
 pub mod Fitting
 pub mod Indexed
+pub mod Json
 pub mod Lines
 pub mod Listing
 pub mod Printing
 pub mod Reporting
 pub mod Rows
 pub mod Showing
+pub mod Styles
 pub mod Telling
 pub mod Written

@@ -42,7 +42,7 @@ code_row_text e = code_text (code_tally e)
 abbrev pub record_line_front : (around code : ℕ) → List ℕ
 record_line_front around code = replicate (2 * around) 32 ++ (codes "record " ++ decimal code)
 
--- a bit, a space, and the spaces before what stands there
+-- a bit, a space, and the indentation
 abbrev pub line_front : (bit around : ℕ) → List ℕ
 line_front bit around = decimal bit ++ (32 ∷ replicate (2 * around) 32)
 

@@ -18,28 +18,28 @@ use Rattle.bit_scan.specs.Lines.{listing_head}
 use Rattle.bit_scan.specs.Printing.{Printing, Printed, Prints}
 use Rattle.bit_scan.specs.Written.{WritesText}
 
--- the line of a head's magic, and those of what is left of the events that are told
+-- the line of a head's magic, and those of its events that are kept under the setting
 abbrev pub told_text : Setting → Head → Told → List ℕ
 told_text setting head told = listing_head head.magic
     ++ events_text 0 (events_under setting [] told.0)
 
--- the lines of what is left of events, with so many blocks that are left around the first
+-- the lines of the events that are kept, with `around` kept blocks around the first
 abbrev pub left_text : (around : ℕ) → OpenUnder → List Event → List ℕ
 left_text around standing events = events_text around (left_of standing events)
 
--- an event came, and its line was printed if it is left; so many blocks that are left stand around what follows
+-- an event came, and its line was printed if it is kept; `next` kept blocks are around what follows
 pub record PrintsOne (around : ℕ) (stood : OpenUnder) (old : Coming) (before : Printing) (next : ℕ)
     (stands : OpenUnder) (new : Coming) (after : Printing) : Type 0 where
   pub event : Event
-  -- the values that are held, which the events do not where a record was read where it lies
+  -- the buffered values, which the events do not hold if a record was read in the buffer
   pub held : List ℕ
   pub gives : GivesEvent old event (record new { held = held })
   pub stands_is : stands ≡ stands_after event stood
   pub next_is : next ≡ (if leaves stood event then open_after event around else around)
   pub printed : Printed (if leaves stood event then event_text around event else []) before after
 
--- What is printed of an event, with so many blocks that are left around it: its line, if it is left; and so many stand around
--- what follows. Or memory was refused, and nothing was printed; or the line was not, or not all of it.
+-- What is printed of an event, with `around` kept blocks around it: its line, if it is kept; `next` kept blocks are around what
+-- follows. Or an allocation failed, and nothing was printed; or not all of the line was printed.
 abbrev pub WritesLeft : (around : ℕ) → OpenUnder → Event → Printing → Result ℕ Fault → OpenUnder
     → Printing → Type 0
 WritesLeft around stood event before (Ok next) stands after = (stands ≡ stands_after event stood)
@@ -48,8 +48,8 @@ WritesLeft around stood event before (Ok next) stands after = (stands ≡ stands
 WritesLeft around stood event before (Err fault) stands after = Prints
     (if leaves stood event then event_text around event else []) before (Err fault) after
 
--- The line of the next event was printed, if it has one; or no event was left; or the text of the events to come was not
--- printed, or not all of it.
+-- The line of the next event was printed, if it has one; or no event remained; or not all of the text of the remaining events
+-- was printed.
 abbrev pub Continues : (around : ℕ) → OpenUnder → Coming → Printing → Result (Option ℕ) Fault
     → OpenUnder → Coming → Printing → Type 0
 Continues around stood old before (Ok (Some next)) stands new after = PrintsOne around stood old
@@ -58,7 +58,7 @@ Continues around stood old before (Ok None) stands new after = EndsEvents old ne
 Continues around stood old before (Err fault) stands new after = TellsComing old
     → Prints (left_text around stood old.told.0) before (Err fault) after
 
--- The same of a record that is read where it lies, if one came; else nothing was done.
+-- The same for a record that is read in the buffer, if one came; otherwise nothing changed.
 abbrev pub ContinuesSeen : (around : ℕ) → OpenUnder → Coming → Printing → Result (Option ℕ) Fault
     → OpenUnder → Coming → Printing → Type 0
 ContinuesSeen around stood old before (Ok (Some next)) stands new after = PrintsOne around stood old
@@ -68,7 +68,7 @@ ContinuesSeen around stood old before (Ok None) stands new after = (new ≡ old)
 ContinuesSeen around stood old before (Err fault) stands new after = TellsComing old
     → Prints (left_text around stood old.told.0) before (Err fault) after
 
--- A sink took the text of what is left of what is told of bytes, or a front of it; or memory was refused, and it took nothing.
+-- A sink took the text of the kept events of some bytes, or a prefix of it; or an allocation failed, and the sink took nothing.
 abbrev pub ListsBytes : Setting → Limits → List ℕ → Outgoing → Result (Unit {0}) Fault → Outgoing
     → Type 0
 ListsBytes setting limits bytes old answer new = (Capped limits × (x : Head × Told)

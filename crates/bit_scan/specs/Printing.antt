@@ -6,26 +6,26 @@ use Rattle.bit_fields.specs.declared.fault.Fault.{Fault}
 use Rattle.bit_fields.specs.declared.fault.Fault.TheVariants.{Refused, Read, Write, Memory, OutputTooLong, Failed}
 use Rattle.bit_scan.specs.Written.{HasFailed}
 
--- the sink, and the text that it has not got yet
+-- the sink, and the text that it does not have yet
 pub record Printing : Type 0 where
   pub outgoing : Outgoing
   pub held : List ℕ
 
--- text was printed: the sink took a part of what was held and of the text, and the rest is held
+-- text was printed: the sink took a part of the buffered text and of this text, and the rest is buffered
 pub record Printed (text : List ℕ) (old new : Printing) : Type 0 where
   pub part : List ℕ
   pub split : old.held ++ text ≡ part ++ new.held
   pub bytes : Appends old.outgoing.bytes new.outgoing.bytes part
   pub failures : new.outgoing.failures ≡ old.outgoing.failures
 
--- the sink took a front of what was held and of the text
+-- the sink took a prefix of the buffered text and of this text
 pub record PrintedFront (text : List ℕ) (old new : Printing) : Type 0 where
   pub front : List ℕ
   pub rest : List ℕ
   pub split : old.held ++ text ≡ front ++ rest
   pub bytes : Appends old.outgoing.bytes new.outgoing.bytes front
 
--- text was printed, or not all of it, because the sink failed, or because memory was refused
+-- text was printed, or not all of it, because the sink failed, or because an allocation failed
 abbrev pub Prints : List ℕ → Printing → Result (Unit {0}) Fault → Printing → Type 0
 Prints text old (Ok _) new = Printed text old new
 Prints text old (Err Write) new = PrintedFront text old new × HasFailed old.outgoing new.outgoing

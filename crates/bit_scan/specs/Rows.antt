@@ -1,4 +1,4 @@
--- What is seen of the rows of an analysis.
+-- The view of the rows of an analysis.
 use Rattle.std.specs.Prelude.{◌≡◌, ℕ, List, map, Result, OnOk}
 use Rattle.bit_grammar.specs.Tally.{BlockTally}
 use Rattle.bit_grammar.specs.Counting.{with_row}
@@ -24,7 +24,7 @@ block_tally e = record {
 abbrev pub block_tallies : List (ℕ × BlockRow) → List BlockTally
 block_tallies rows = map block_tally rows
 
--- on success, rows that told of some tallies tell of these with something added to the row of an id
+-- on success, rows that show some tallies show these with an addition to the row of an id
 abbrev pub AddsToRow : {T E : Type 0} → Addition → (id : ℕ) → List (ℕ × BlockRow) → Result T E
     → List (ℕ × BlockRow) → Type 0
 AddsToRow addition id old result new = (tallies : List BlockTally)

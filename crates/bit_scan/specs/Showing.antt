@@ -11,11 +11,11 @@ use Rattle.bit_events.specs.Reading.{ReadsWhole}
 use Rattle.bit_tree.specs.Reading.{HasFit}
 use Rattle.bit_scan.specs.Written.{WritesText}
 
--- of an input this tree was left under a setting, or it was not read
+-- this tree of an input was kept under a setting, or the input was not read
 abbrev pub ReadsLeft : Setting → Limits → Incoming → Result Tree Fault → Incoming → Type 0
 ReadsLeft setting limits = ReadsWhole (HasFit setting limits) limits
 
--- an input was read, and this was done with the listing of what is left of it
+-- an input was read, and this happened to the listing of its kept tree
 abbrev pub ReadsAndLists : Setting → Limits → Incoming → Outgoing → Result (Unit {0}) Fault
     → Incoming → Outgoing → Type 0
 ReadsAndLists setting limits i old answer now new = (tree : Tree)
@@ -27,7 +27,7 @@ abbrev pub ListsNothing : Setting → Limits → Incoming → Outgoing → Fault
 ListsNothing setting limits i old fault now new = ReadsLeft setting limits i (Err fault) now
     × (new ≡ old)
 
--- The sink took the listing of what is left of the input, or a front of it; or the input was not read, and the sink took
+-- The sink took the listing of the kept tree of the input, or a prefix of it; or the input was not read, and the sink took
 -- nothing.
 abbrev pub Shows : Setting → Limits → Incoming → Outgoing → Result (Unit {0}) Fault → Incoming
     → Outgoing → Type 0

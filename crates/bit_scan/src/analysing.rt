@@ -22,10 +22,10 @@ pub(crate) fn begin_of(head: Head) -> u64
     }
 }
 
-/// Analyses an input, from the first byte that its source still has to the last, in one pass that keeps no tree: memory goes
-/// for open blocks and for the rows.
+/// Analyses an input, from the first unread byte of its source to the last, in one pass without a tree. Memory is used for open
+/// blocks and for the rows.
 ///
-/// `Refused` names the one reason and bit at which the input breaks the rules. The source is handed back as it stands.
+/// `Refused` names the one reason and bit at which the input breaks the rules. The source is returned.
 pub fn analyse<S: Source>(alloc: Global, source: S, limits: Limits) -> (Result<Analysis, Fault>, S)
     ensures { ReadsWhole (HasTally limits) limits (S.incoming source) result.0
         (S.incoming result.1) }

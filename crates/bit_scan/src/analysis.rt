@@ -1,18 +1,20 @@
 ghost use Rattle.std.specs.Prelude.{◌≡◌, [], OnOk, flat_map};
-ghost use Rattle.bit_grammar.specs.Texts.{code_text, row_text, report_of};
+ghost use Rattle.bit_grammar.specs.Texts.{report_of};
 ghost use Rattle.bit_fields.specs.Opening.{magic_number};
-ghost use Rattle.bit_scan.specs.CodesView.{code_tallies};
+ghost use Rattle.bit_scan.specs.CodesView.{code_tally, code_tallies};
 ghost use Rattle.bit_scan.specs.Printing.{Prints};
 ghost use Rattle.bit_scan.specs.Rows.{block_tally, block_tallies};
+ghost use Rattle.bit_scan.specs.Styles.{code_as, report_as, row_as, row_line_as, stream_as};
 ghost use Rattle.bit_scan.specs.Written.{WritesText};
 
+use crate::format::Format;
 use crate::printer::Printer;
-use crate::rows::{BlockRow, Codes};
+use crate::rows::{BlockRow, CodeRow, Codes};
 use bit_fields::{Fault, Sink};
 use std::alloc::Global;
 use std::marker::Model;
 
-/// What a stream holds: its magic, its bits, and a row for each block id, in order of first entry.
+/// The totals of a stream: its magic, its bits, and a row for each block id, in order of first entry.
 #[derive(Drop)]
 pub struct Analysis {
     alloc: Global,
@@ -36,30 +38,112 @@ impl Model for Analysis {
     } };
 }
 
-/// Writes the lines of codes.
-fn write_codes<K: Sink>(printer: &mut Printer<K>, codes: &Codes) -> Result<(), Fault>
-    ensures { Prints (flat_map code_text (code_tallies codes.now)) printer.old result printer.new }
+/// Writes the line of the stream.
+fn write_stream<K: Sink>(
+    printer: &mut Printer<K>,
+    format: Format,
+    magic: [u8; 4],
+    bits: u64,
+) -> Result<(), Fault>
+    ensures { Prints (stream_as format (magic_number magic) bits) printer.old result printer.new }
+{
+    match format {
+        Format::Text => printer.report_head(magic, bits),
+        Format::JsonLines => printer.magic_line("stream", &[("bits", bits)], magic),
+    }
+}
+
+/// Writes the line of a code in the blocks with an id.
+fn write_code<K: Sink>(
+    printer: &mut Printer<K>,
+    format: Format,
+    id: u32,
+    code: u64,
+    row: CodeRow,
+) -> Result<(), Fault>
+    ensures { Prints (code_as format id (code_tally (code, row))) printer.old result printer.new }
+{
+    match format {
+        Format::Text => printer.code_row(code, row),
+        Format::JsonLines => {
+            let CodeRow { count, bits } = row;
+            let fields = [
+                ("block", id as u64),
+                ("code", code),
+                ("count", count),
+                ("bits", bits),
+            ];
+            printer.object_line("record", &fields)
+        }
+    }
+}
+
+/// Writes the lines of codes in the blocks with an id.
+fn write_codes<K: Sink>(
+    printer: &mut Printer<K>,
+    format: Format,
+    id: u32,
+    codes: &Codes,
+) -> Result<(), Fault>
+    ensures { Prints (flat_map (code_as format id) (code_tallies codes.now)) printer.old result
+        printer.new }
 {
     for (code, row) in codes.rows() {
-        printer.code_row(*code, *row)?;
+        write_code(printer, format, id, *code, *row)?;
     }
     Ok(())
 }
 
-/// Writes the line of a block id and those of its codes.
-fn write_row<K: Sink>(printer: &mut Printer<K>, id: u32, row: &BlockRow) -> Result<(), Fault>
-    ensures { Prints (row_text (block_tally (id, row.now))) printer.old result printer.new }
+/// Writes the line of a block id, without those of its codes.
+fn write_row_line<K: Sink>(
+    printer: &mut Printer<K>,
+    format: Format,
+    id: u32,
+    row: &BlockRow,
+) -> Result<(), Fault>
+    ensures { Prints (row_line_as format (id, row.now)) printer.old result printer.new }
 {
-    printer.block_row(id, row)?;
-    write_codes(printer, &row.codes)
+    match format {
+        Format::Text => printer.block_row(id, row),
+        Format::JsonLines => {
+            let fields = [
+                ("id", id as u64),
+                ("count", row.blocks),
+                ("bits", row.bits),
+                ("definitions", row.definitions),
+                ("records", row.records),
+                ("abbreviated", row.abbreviated),
+                ("values", row.values),
+            ];
+            printer.object_line("block", &fields)
+        }
+    }
+}
+
+/// Writes the line of a block id and those of its codes.
+fn write_row<K: Sink>(
+    printer: &mut Printer<K>,
+    format: Format,
+    id: u32,
+    row: &BlockRow,
+) -> Result<(), Fault>
+    ensures { Prints (row_as format (block_tally (id, row.now))) printer.old result printer.new }
+{
+    write_row_line(printer, format, id, row)?;
+    write_codes(printer, format, id, &row.codes)
 }
 
 /// Writes the lines of all rows.
-fn write_rows<K: Sink>(printer: &mut Printer<K>, rows: &[(u32, BlockRow)]) -> Result<(), Fault>
-    ensures { Prints (flat_map row_text (block_tallies rows.now)) printer.old result printer.new }
+fn write_rows<K: Sink>(
+    printer: &mut Printer<K>,
+    format: Format,
+    rows: &[(u32, BlockRow)],
+) -> Result<(), Fault>
+    ensures { Prints (flat_map (row_as format) (block_tallies rows.now)) printer.old result
+        printer.new }
 {
     for (id, row) in rows {
-        write_row(printer, *id, row)?;
+        write_row(printer, format, *id, row)?;
     }
     Ok(())
 }
@@ -108,24 +192,31 @@ impl Analysis {
     }
 
     /// Writes the report through a printer.
-    fn write_report<K: Sink>(&self, printer: &mut Printer<K>) -> Result<(), Fault>
-        ensures prints { Prints (report_of self.now) printer.old result printer.new }
+    fn write_report<K: Sink>(&self, printer: &mut Printer<K>, format: Format) -> Result<(), Fault>
+        ensures prints { Prints (report_as format self.now) printer.old result printer.new }
         ensures all { OnOk result (printer.new.held ≡ []) }
     {
-        printer.report_head(self.magic, self.bits)?;
-        write_rows(printer, &self.rows)?;
+        write_stream(printer, format, self.magic, self.bits)?;
+        write_rows(printer, format, &self.rows)?;
         printer.finish()
     }
 
     /// Appends the report to a sink: a line for the stream, then one for each row and each of its codes.
     ///
-    /// `Write`, where the sink fails, and `Memory`, where the buffer's growth is refused, leave the sink a front of the
-    /// report.
+    /// `Write` if the sink fails, and `Memory` if the buffer cannot grow, leave the sink a prefix of the report.
+    pub fn write_as<K: Sink>(&self, sink: K, format: Format) -> (Result<(), Fault>, K)
+        ensures { WritesText (report_as format self.now) (K.outgoing sink) result.0
+            (K.outgoing result.1) }
+    {
+        let mut printer = Printer::new(self.alloc, sink);
+        let answer = self.write_report(&mut printer, format);
+        (answer, printer.into_sink())
+    }
+
+    /// The same with the report as text.
     pub fn write<K: Sink>(&self, sink: K) -> (Result<(), Fault>, K)
         ensures { WritesText (report_of self.now) (K.outgoing sink) result.0 (K.outgoing result.1) }
     {
-        let mut printer = Printer::new(self.alloc, sink);
-        let answer = self.write_report(&mut printer);
-        (answer, printer.into_sink())
+        self.write_as(sink, Format::Text)
     }
 }

@@ -12,7 +12,7 @@ use bit_fields::{ValueCount, ValueTaker};
 use std::alloc::{AllocError, Global};
 use std::marker::Model;
 
-/// A block that is open: its id, the place of its row, its first bit, and the bits of the blocks in it that have ended.
+/// An open block: its id, the place of its row, its first bit, and the bits of the ended blocks in it.
 #[derive(Clone, Copy, Debug)]
 struct OpenBlock {
     id: u32,
@@ -21,7 +21,7 @@ struct OpenBlock {
     inside: u64,
 }
 
-/// What the events so far add up to: a row for each block id in order of first entry, and the open blocks, the innermost
+/// The totals of the events so far: a row for each block id in order of first entry, and the open blocks, the innermost
 /// last. It holds no tree.
 #[derive(Drop)]
 pub(crate) struct Counter {
@@ -29,8 +29,8 @@ pub(crate) struct Counter {
     open: Vec<OpenBlock>,
 }
 
-/// Takes the innermost open block off, which ends before a bit. All its bits go to the block round it.
-/// Answers it and the bits that are its own.
+/// Removes the innermost open block, which ends before a bit. All its bits go to the block around it.
+/// Returns the block and the bits that are its own.
 fn close_block(blocks: &mut Vec<OpenBlock>, after: u64) -> Option<(OpenBlock, u64)>
     ensures { (around : List OpenCount) → open_counts blocks.old.items ≡ map cut_open around
         → ClosesCount around after result (open_counts blocks.new.items) }
@@ -98,7 +98,7 @@ impl Counter {
         }
     }
 
-    /// Counts what stands in the innermost open block.
+    /// Counts an item of the innermost open block.
     #[inline(always)]
     fn count_here(&mut self, addition: Addition) -> Result<(), AllocError>
         ensures { (counts : Counts) → self.old ≡ capped_counts counts
@@ -125,7 +125,7 @@ impl Gatherer for Counter {
 
     type Values = ValueCount;
 
-    // A number that would pass the greatest of 64 bits stays there.
+    // Counts saturate at the greatest number of 64 bits.
     ghost gathered = { λ first events last. last ≡ capped_counts (count_events events no_counts) };
 
     #[inline]

@@ -1,17 +1,19 @@
-//! What a stream holds, in numbers and as text. Begin with `analyse`, which counts by block id and record code, `write_show`,
+//! The contents of a stream, in numbers and as text. Begin with `analyse`, which counts by block id and record code, `write_show`,
 //! which lists a tree, and `write_events`, which lists events as they are read.
 //!
-//! `analyse` is a fold into a counter: rows in order of first entry, found by a tree of links (`links`). An open block keeps the place
-//! of its row, and one table for all rows keeps the places of recent codes; each such place is judged by the key there. Counts
-//! saturate, and `numbers_fit` says that no accepted input gets there.
+//! `analyse` is a fold into a counter: rows in order of first entry, found by a tree of links (`links`). An open block caches the
+//! place of its row, and one table for all rows caches the places of recent codes. The key at such a place is checked. Counts
+//! saturate, and `numbers_fit` proves that no accepted input reaches the greatest number.
 //!
-//! `write_show` keeps the bytes that `check_keeping` accepts and prints them as they are read again, without a tree.
-//! `write_events` prints each event of `PackedEvents` as it comes. Lines are made in a string and put in pieces of about 8 KiB.
+//! `write_show` keeps the bytes that `check_keeping` accepts, reads them again, and prints items as they are read, without a tree.
+//! `write_events` prints each event of `PackedEvents` as it comes, as text or as a JSON object (`json`), in pieces of about 8 KiB.
 #![tactic(auto)]
 
 mod analysing;
 mod analysis;
 mod counter;
+mod format;
+mod json;
 mod laws;
 mod lines;
 mod links;
@@ -29,9 +31,11 @@ mod tests;
 pub use analysing::analyse;
 pub use analysis::Analysis;
 pub use bit_grammar::Values;
+pub use format::{EventStyle, Format};
+pub use json::{Field, push_fields, push_front, push_magic_part, push_object};
 pub use laws::numbers_fit;
 pub use lines::push_magic;
-pub use reporting::write_report;
+pub use reporting::{write_report, write_report_as};
 pub use rows::{BlockRow, CodeRow, Codes};
 pub use showing::write_show;
 pub use telling::write_events;

@@ -1,6 +1,6 @@
 ghost use Rattle.std.specs.Prelude.{◌≡◌, ℕ, ◌*◌, ◌-◌, ◌<◌, ◌++◌, ◌∷◌, OnOk, codes, decimal, flat_map, replicate, string_bytes};
 ghost use Rattle.bit_grammar.specs.EventTexts.{line_at, op_text, opened_text};
-ghost use Rattle.bit_grammar.specs.Texts.{hex_text, magic_text, block_line};
+ghost use Rattle.bit_grammar.specs.Texts.{hex_text, magic_bytes, magic_text, block_line};
 ghost use Rattle.bit_fields.specs.Opening.{magic_number};
 ghost use Rattle.bit_scan.specs.Lines.{report_head, listing_head, block_row_text, block_start, block_middle, block_end, code_row_text, record_line_front};
 ghost use Rattle.bit_scan.specs.Lines.{line_front, definition_head, noted_head};
@@ -28,14 +28,22 @@ fn push_bytes(text: &mut String, bytes: &[u8]) -> Result<(), AllocError>
     Ok(())
 }
 
-/// Appends the word magic and the eight hexadecimal digits of a magic, its first byte first. Where memory is refused the text
-/// may have a part of it.
+/// Appends the eight hexadecimal digits of a magic, its first byte first.
+pub(crate) fn push_magic_digits(text: &mut String, magic: [u8; 4]) -> Result<(), AllocError>
+    ensures { OnOk result (string_bytes text.new
+        ≡ string_bytes text.old ++ flat_map hex_text (magic_bytes (magic_number magic))) }
+{
+    push_bytes(text, &magic)
+}
+
+/// Appends the word magic and the eight hexadecimal digits of a magic, its first byte first. If an allocation fails, the text may
+/// contain a part of it.
 pub fn push_magic(text: &mut String, magic: [u8; 4]) -> Result<(), AllocError>
     ensures { OnOk result (string_bytes text.new
         ≡ string_bytes text.old ++ magic_text (magic_number magic)) }
 {
     text.push_str("magic ")?;
-    push_bytes(text, &magic)
+    push_magic_digits(text, magic)
 }
 
 /// Appends the first line of a report.
@@ -115,7 +123,7 @@ fn push_digit(text: &mut String, digit: u64) -> Result<(), AllocError>
     text.push(char::from(b'0' + digit as u8))
 }
 
-/// Appends the digits of a number of one or two.
+/// Appends a number of one or two digits.
 #[inline(always)]
 fn push_tens(text: &mut String, number: u64) -> Result<(), AllocError>
     requires { number < 100 }
@@ -128,7 +136,7 @@ fn push_tens(text: &mut String, number: u64) -> Result<(), AllocError>
     push_digit(text, number % 10)
 }
 
-/// Appends the digits of a number of up to three.
+/// Appends a number of up to three digits.
 #[inline(always)]
 fn push_hundreds(text: &mut String, number: u64) -> Result<(), AllocError>
     requires { number < 1000 }
@@ -141,7 +149,7 @@ fn push_hundreds(text: &mut String, number: u64) -> Result<(), AllocError>
     push_digit(text, number % 10)
 }
 
-/// Appends the digits of a number, by way of a buffer.
+/// Appends the digits of a number, through a buffer.
 #[inline(never)]
 fn push_formatted(text: &mut String, number: u64) -> Result<(), AllocError>
     ensures { OnOk result (string_bytes text.new ≡ string_bytes text.old ++ decimal number) }
@@ -150,9 +158,9 @@ fn push_formatted(text: &mut String, number: u64) -> Result<(), AllocError>
     text.push_str(buffer.format(number))
 }
 
-/// Appends the digits of a number. Most of the numbers in a stream have few.
+/// Appends the digits of a number. Most numbers in a stream have few digits.
 #[inline(always)]
-fn push_number(text: &mut String, number: u64) -> Result<(), AllocError>
+pub(crate) fn push_number(text: &mut String, number: u64) -> Result<(), AllocError>
     ensures { OnOk result (string_bytes text.new ≡ string_bytes text.old ++ decimal number) }
 {
     if number < 1000 {
@@ -264,7 +272,7 @@ pub(crate) fn push_operand(text: &mut String, op: Op) -> Result<(), AllocError>
     }
 }
 
-/// Appends an operand that stands behind another one.
+/// Appends an operand that follows another one.
 pub(crate) fn push_further_operand(text: &mut String, op: Op) -> Result<(), AllocError>
     ensures { OnOk result (string_bytes text.new
         ≡ string_bytes text.old ++ (codes ", " ++ op_text op)) }
@@ -289,7 +297,7 @@ pub(crate) fn push_noted_head(
     write!(text, "record {code} by {abbreviation} count {count}")
 }
 
-/// Appends the line of a block's end, with so many blocks open before it.
+/// Appends the line of a block's end, with `around` blocks open before it.
 pub(crate) fn push_end_line(text: &mut String, around: u32, after: u64) -> Result<(), AllocError>
     ensures { OnOk result (string_bytes text.new
         ≡ string_bytes text.old ++ line_at after (around - 1) (codes "end")) }

@@ -1,14 +1,14 @@
-//! Where a key stands among rows, found in a time that an input cannot make long.
+//! The place of a key among rows, found in bounded time on any input.
 //!
-//! The rows are the nodes of a binary tree by the bits of their keys, the lowest bit first. A row stands where a link was free when it
-//! came, so a look-up takes at most one step for each bit of a key, whatever the keys are, and a row has two links and no key more.
+//! The rows are the nodes of a binary tree by the bits of their keys, the lowest bit first. A row takes the first free link on
+//! its path, so a look-up takes at most one step for each bit of a key, for any keys, and a row has two links and no key more.
 
 ghost use Rattle.std.specs.Prelude.{◌≡◌, ◌↔◌, ◌+◌, ◌≤◌, ℕ, length, map, slice_get, slice_index, IsTrue, OnOk, Some};
 ghost use Rattle.bit_scan.specs.Indexed.{Finds, IsIndexed, KeepsLinks, Leads};
 
 use std::alloc::AllocError;
 
-/// What has a key.
+/// A type with a key.
 pub(crate) trait Keyed {
     ghost use Rattle.std.specs.Prelude.{ℕ};
 
@@ -19,7 +19,7 @@ pub(crate) trait Keyed {
         ensures { result ≡ key self.now };
 }
 
-/// Where a key was found: the place of its row, or the slot of the link that is to lead to one.
+/// The place of a key's row, or the slot of the link that would lead to it.
 #[derive(Clone, Copy)]
 pub(crate) enum Spot {
     Row(usize),
@@ -27,7 +27,7 @@ pub(crate) enum Spot {
 }
 
 /// Finds a key among rows by their links: that in slot 0 leads to the first row, those in slots 2 p + 1 and 2 p + 2 lead from the row
-/// at place p to rows whose keys have another bit next, 0 or 1. A link is one more than a place, or 0 where it leads nowhere.
+/// at place p to rows whose keys have another bit next, 0 or 1. A link is one more than a place, or 0 if it leads nowhere.
 pub(crate) fn find<R: Keyed>(rows: &[R], links: &[u32], key: u64) -> Spot
     requires { IsIndexed (map R.key rows.now) links.now }
     ensures { Finds (map R.key rows.now) links.now key result }
@@ -67,7 +67,7 @@ fn fill(links: &mut Vec<u32>, len: usize) -> Result<(), AllocError>
     ensures len { OnOk result (len ≤ length links.new.items) }
 {
     if links.len() < len {
-        // The lists of links are many, so that doubling would leave much unused.
+        // There are many lists of links, so doubling would leave much memory unused.
         if links.capacity() < len {
             links.reserve_exact((len - links.len()).saturating_add(len / 8))?;
         }
@@ -76,14 +76,14 @@ fn fill(links: &mut Vec<u32>, len: usize) -> Result<(), AllocError>
     Ok(())
 }
 
-/// Has the link in a slot lead to the row at a place.
+/// Makes the link in a slot lead to the row at a place.
 pub(crate) fn lead(links: &mut Vec<u32>, slot: usize, place: usize) -> Result<(), AllocError>
     requires { Leads links.old.items slot → ⊥ }
     ensures keeps { KeepsLinks links.old.items links.new.items }
     ensures leads { OnOk result (Leads links.new.items slot
         × (slice_index links.new.items slot ≡ place + 1)) }
 {
-    // The slot is of a row before this one, and places fit a link for as many rows as memory holds.
+    // The slot is of a row before this one. The places of all rows that fit in memory fit in a link.
     if place >= u32::MAX as usize || slot / 2 + slot % 2 > place {
         return Err(AllocError);
     }

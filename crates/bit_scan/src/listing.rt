@@ -15,7 +15,7 @@ use bit_fields::{Fault, Limits, PackedValues, Sink, SliceSource, ValueTaker};
 use bit_grammar::Info;
 use std::alloc::Global;
 
-/// Writes values that are bytes.
+/// Writes byte values.
 fn write_bytes<K: Sink>(printer: &mut Printer<K>, bytes: &[u8]) -> Result<(), Fault>
     ensures { Prints (values_text bytes.now) printer.old result printer.new }
 {
@@ -25,7 +25,7 @@ fn write_bytes<K: Sink>(printer: &mut Printer<K>, bytes: &[u8]) -> Result<(), Fa
     Ok(())
 }
 
-/// Writes values that are numbers.
+/// Writes number values.
 fn write_numbers<K: Sink>(printer: &mut Printer<K>, numbers: &[u64]) -> Result<(), Fault>
     ensures { Prints (values_text numbers.now) printer.old result printer.new }
 {
@@ -35,7 +35,7 @@ fn write_numbers<K: Sink>(printer: &mut Printer<K>, numbers: &[u64]) -> Result<(
     Ok(())
 }
 
-/// Writes so many values that are zeros.
+/// Writes `count` values that are zero.
 fn write_zeros<K: Sink>(printer: &mut Printer<K>, count: u64) -> Result<(), Fault>
     ensures { Prints (values_text (replicate count 0)) printer.old result printer.new }
 {
@@ -73,7 +73,7 @@ fn write_record<K: Sink>(
     printer.line_end()
 }
 
-/// Writes the line of an event with so many blocks around it, if it has one.
+/// Writes the line of an event with `around` blocks around it, if it has one.
 #[inline]
 fn write_event<K: Sink>(
     printer: &mut Printer<K>,
@@ -89,7 +89,7 @@ fn write_event<K: Sink>(
     }
 }
 
-/// How many blocks stand around what follows an event.
+/// The number of blocks around what follows an event.
 pub(crate) fn around_after(around: u32, event: &PackedEvent<'_>) -> u32
     requires { around ≤ 255 }
     ensures { result ≡ open_after (event_shown event.now) around }
@@ -101,8 +101,8 @@ pub(crate) fn around_after(around: u32, event: &PackedEvent<'_>) -> u32
     }
 }
 
-/// Takes an event: writes its line with so many blocks around it, if it is left and has one, and answers how many stand around
-/// the event that follows.
+/// Takes an event and writes its line with `around` blocks around it, if it is kept and has one. Returns the number of blocks
+/// around the event that follows.
 fn write_left<K: Sink>(
     printer: &mut Printer<K>,
     standing: &mut OpenBlocks<'_>,
@@ -123,8 +123,8 @@ fn write_left<K: Sink>(
     Ok(around_after(around, &event))
 }
 
-/// Takes the next event where it is a record that is read where it lies, and writes its line with so many blocks around it, if it
-/// is left. Answers how many stand around the event that follows, or nothing where no such record came. The values are those of
+/// Takes the next event if it is a record that can be read in the buffer, and writes its line with `around` blocks around it, if it
+/// is kept. Returns the number of blocks around the event that follows, or `None` if no such record came. The values are those of
 /// the record.
 fn write_seen<K: Sink>(
     events: &mut SliceEvents<'_>,
@@ -152,8 +152,8 @@ fn write_seen<K: Sink>(
     Ok(Some(next))
 }
 
-/// Takes the next event, whatever it is, and writes its line with so many blocks around it, if it is left and has one. Answers how
-/// many stand around the event that follows, or nothing where none is left.
+/// Takes any next event and writes its line with `around` blocks around it, if it is kept and has one. Returns the number of blocks
+/// around the event that follows, or `None` if no event remains.
 fn write_found<K: Sink>(
     events: &mut SliceEvents<'_>,
     printer: &mut Printer<K>,
@@ -170,13 +170,13 @@ fn write_found<K: Sink>(
             Ok(Some(next))
         }
         Ok(None) => Ok(None),
-        // The input was accepted before, so only memory can be refused.
+        // The input was accepted before, so only an allocation can fail.
         Err(_) => Err(Fault::Memory),
     }
 }
 
-/// Takes the next event, and writes its line with so many blocks around it, if it is left and has one. Answers how many stand
-/// around the event that follows, or nothing where none is left. The values are for a record that is read where it lies.
+/// Takes the next event and writes its line with `around` blocks around it, if it is kept and has one. Returns the number of blocks
+/// around the event that follows, or `None` if no event remains. The values are for a record that is read in the buffer.
 fn write_next<K: Sink>(
     events: &mut SliceEvents<'_>,
     printer: &mut Printer<K>,
@@ -194,7 +194,7 @@ fn write_next<K: Sink>(
     write_found(events, printer, standing, around)
 }
 
-/// Writes the lines of what is left of all events.
+/// Writes the lines of all events that are kept under the setting.
 fn write_events<K: Sink>(
     alloc: Global,
     events: &mut SliceEvents<'_>,
@@ -215,7 +215,7 @@ fn write_events<K: Sink>(
     Ok(())
 }
 
-/// Writes the line of a magic and those of what is left of all events.
+/// Writes the line of a magic and those of all events that are kept under the setting.
 fn write_told<K: Sink>(
     alloc: Global,
     events: &mut SliceEvents<'_>,
@@ -235,10 +235,10 @@ fn write_told<K: Sink>(
     printer.finish()
 }
 
-/// Appends the listing of what is left of the bytes of an accepted input to a sink: a line for the magic, and one for each block and record in
-/// order, as they are read.
+/// Appends a listing of the bytes of an accepted input, under a setting, to a sink: a line for the magic, and one for each block
+/// and record that is kept, in order, as they are read.
 ///
-/// `Write`, where the sink fails, and `Memory`, where memory is refused, leave the sink a front of the listing.
+/// `Write` if the sink fails, and `Memory` if an allocation fails, leave the sink a prefix of the listing.
 pub(crate) fn write_listing<K: Sink>(
     alloc: Global,
     bytes: &[u8],
@@ -251,7 +251,7 @@ pub(crate) fn write_listing<K: Sink>(
 {
     let mut events = match SliceEvents::start(alloc, SliceSource::new(bytes), limits) {
         Ok(events) => events,
-        // Accepted bytes begin with a magic, so this does not come.
+        // Accepted bytes begin with a magic, so this case does not occur.
         Err(_) => return (Err(Fault::Memory), sink),
     };
     let mut printer = Printer::new(alloc, sink);

@@ -1,26 +1,32 @@
-ghost use Rattle.std.specs.Prelude.{◌≡◌, ◌-◌, ◌∷◌, ◌++◌, [], OnOk, codes, decimal};
+ghost use Rattle.std.specs.Prelude.{◌≡◌, ◌-◌, ◌∷◌, ◌++◌, [], OnOk, codes, decimal, flat_map};
 ghost use Rattle.bit_grammar.specs.EventTexts.{line_at, op_text, opened_text};
-ghost use Rattle.bit_grammar.specs.Texts.{magic_text, block_line};
+ghost use Rattle.bit_grammar.specs.Reasons.{name_of};
+ghost use Rattle.bit_grammar.specs.Texts.{hex_text, magic_bytes, magic_text, block_line};
 ghost use Rattle.bit_fields.specs.Opening.{magic_number};
+ghost use Rattle.bit_scan.specs.Json.{comma, fields_told, list_front, number_json, object_line, op_json, text_line};
 ghost use Rattle.bit_scan.specs.Lines.{report_head, listing_head, block_row_text, code_row_text, record_line_front, definition_head, noted_head};
 ghost use Rattle.bit_scan.specs.Printing.{Prints};
 ghost use Rattle.bit_scan.specs.Written.{WritesText};
 
+use crate::json::{
+    Field, push_list_front, push_magic_line, push_number_item, push_object_line, push_op_item,
+    push_reason_line,
+};
 use crate::lines::{
     push_block_line, push_block_row, push_code_row, push_definition_head, push_end_line,
     push_further_operand, push_head_line, push_listing_head, push_noted_head, push_opened_line,
     push_operand, push_record_head, push_report_head, push_value,
 };
 use crate::rows::{BlockRow, CodeRow};
-use bit_fields::{Fault, Sink, SinkFailed};
+use bit_fields::{Fault, Reason, Sink, SinkFailed};
 use bit_grammar::Op;
 use std::alloc::{AllocError, Global};
 use std::marker::Model;
 
-/// How many bytes are held before they are put.
+/// The number of bytes that are buffered before they are put.
 const HELD: usize = 8192;
 
-/// Gives a sink all of some bytes, in as many puts as it takes.
+/// Gives a sink all of these bytes, in as many puts as it takes.
 fn put_all<K: Sink>(sink: &mut K, bytes: &[u8]) -> Result<(), Fault>
     ensures { WritesText bytes.now (K.outgoing sink.old) result (K.outgoing sink.new) }
 {
@@ -35,7 +41,7 @@ fn put_all<K: Sink>(sink: &mut K, bytes: &[u8]) -> Result<(), Fault>
     Ok(())
 }
 
-/// Text on its way to a sink, held until there is much of it. After a fault no more of it is put.
+/// Buffers text on its way to a sink. After a fault it puts no more text.
 #[derive(Drop)]
 pub(crate) struct Printer<K: Sink> {
     sink: K,
@@ -55,7 +61,7 @@ impl<K: Sink> Model for Printer<K> {
 }
 
 impl<K: Sink> Printer<K> {
-    /// Nothing is held.
+    /// With an empty buffer.
     pub(crate) fn new(alloc: Global, sink: K) -> Printer<K>
         ensures { result ≡ record { outgoing = K.outgoing sink; held = [] } }
     {
@@ -65,14 +71,14 @@ impl<K: Sink> Printer<K> {
         }
     }
 
-    /// The sink as it stands, without the text that is held.
+    /// The sink, without the buffered text.
     pub(crate) fn into_sink(self) -> K
         ensures { K.outgoing result ≡ self.outgoing }
     {
         self.sink
     }
 
-    /// Gives the sink all that is held.
+    /// Gives the sink all buffered text.
     pub(crate) fn finish(&mut self) -> Result<(), Fault>
         ensures prints { Prints [] self.old result self.new }
         ensures all { OnOk result (self.new.held ≡ []) }
@@ -82,7 +88,7 @@ impl<K: Sink> Printer<K> {
         Ok(())
     }
 
-    /// Gives the sink what is held once there is enough of it.
+    /// Gives the sink the buffered text once there is enough of it.
     fn settle(&mut self) -> Result<(), Fault>
         ensures { Prints [] self.old result self.new }
     {
@@ -132,7 +138,7 @@ impl<K: Sink> Printer<K> {
         }
     }
 
-    /// The line of a block in a listing, with so many blocks around it.
+    /// The line of a block in a listing, with `around` blocks around it.
     pub(crate) fn block_line(&mut self, around: u32, id: u32) -> Result<(), Fault>
         ensures { Prints (block_line around id) self.old result self.new }
     {
@@ -173,7 +179,7 @@ impl<K: Sink> Printer<K> {
         }
     }
 
-    /// The line of a magic among events, behind the bit where its stream begins.
+    /// The line of a magic among events, after the bit where its stream begins.
     pub(crate) fn head_line(&mut self, begin: u64, magic: [u8; 4]) -> Result<(), Fault>
         ensures { Prints (line_at begin 0 (magic_text (magic_number magic))) self.old result
             self.new }
@@ -184,7 +190,7 @@ impl<K: Sink> Printer<K> {
         }
     }
 
-    /// The line of a block's beginning, with so many blocks around it.
+    /// The line of a block's beginning, with `around` blocks around it.
     pub(crate) fn opened_line(
         &mut self,
         around: u32,
@@ -222,7 +228,7 @@ impl<K: Sink> Printer<K> {
         }
     }
 
-    /// An operand behind another one.
+    /// An operand after another one.
     pub(crate) fn further_operand(&mut self, op: Op) -> Result<(), Fault>
         ensures { Prints (codes ", " ++ op_text op) self.old result self.new }
     {
@@ -250,11 +256,99 @@ impl<K: Sink> Printer<K> {
         }
     }
 
-    /// The line of a block's end, with so many blocks open before it.
+    /// The line of a block's end, with `around` blocks open before it.
     pub(crate) fn end_line(&mut self, around: u32, after: u64) -> Result<(), Fault>
         ensures { Prints (line_at after (around - 1) (codes "end")) self.old result self.new }
     {
         match push_end_line(&mut self.held, around, after) {
+            Ok(()) => self.settle(),
+            Err(AllocError) => Err(Fault::Memory),
+        }
+    }
+
+    /// A line that is a JSON object with a kind and numbers.
+    pub(crate) fn object_line(&mut self, kind: &str, fields: &[Field<'_>]) -> Result<(), Fault>
+        ensures { Prints (object_line kind.now (fields_told fields.now)) self.old result self.new }
+    {
+        match push_object_line(&mut self.held, kind, fields) {
+            Ok(()) => self.settle(),
+            Err(AllocError) => Err(Fault::Memory),
+        }
+    }
+
+    /// A line that is a JSON object with a list, up to the list.
+    pub(crate) fn list_front(
+        &mut self,
+        kind: &str,
+        fields: &[Field<'_>],
+        key: &str,
+    ) -> Result<(), Fault>
+        ensures { Prints (list_front kind.now (fields_told fields.now) key.now) self.old result
+            self.new }
+    {
+        match push_list_front(&mut self.held, kind, fields, key) {
+            Ok(()) => self.settle(),
+            Err(AllocError) => Err(Fault::Memory),
+        }
+    }
+
+    /// The number at a place of a JSON list.
+    pub(crate) fn number_item(&mut self, place: u64, number: u64) -> Result<(), Fault>
+        ensures { Prints (comma place ++ number_json number) self.old result self.new }
+    {
+        match push_number_item(&mut self.held, place, number) {
+            Ok(()) => self.settle(),
+            Err(AllocError) => Err(Fault::Memory),
+        }
+    }
+
+    /// The operand at a place of a JSON list.
+    pub(crate) fn op_item(&mut self, place: u64, op: Op) -> Result<(), Fault>
+        ensures { Prints (comma place ++ op_json op) self.old result self.new }
+    {
+        match push_op_item(&mut self.held, place, op) {
+            Ok(()) => self.settle(),
+            Err(AllocError) => Err(Fault::Memory),
+        }
+    }
+
+    /// The end of a JSON list and of its line.
+    pub(crate) fn list_end(&mut self) -> Result<(), Fault>
+        ensures { Prints (codes "]}\n") self.old result self.new }
+    {
+        match self.held.push_str("]}\n") {
+            Ok(()) => self.settle(),
+            Err(AllocError) => Err(Fault::Memory),
+        }
+    }
+
+    /// A line that is a JSON object with the digits of a magic.
+    pub(crate) fn magic_line(
+        &mut self,
+        kind: &str,
+        fields: &[Field<'_>],
+        magic: [u8; 4],
+    ) -> Result<(), Fault>
+        ensures { Prints (text_line kind.now (fields_told fields.now) (codes "magic")
+            (flat_map hex_text (magic_bytes (magic_number magic)))) self.old result self.new }
+    {
+        match push_magic_line(&mut self.held, kind, fields, magic) {
+            Ok(()) => self.settle(),
+            Err(AllocError) => Err(Fault::Memory),
+        }
+    }
+
+    /// A line that is a JSON object with the name of a reason.
+    pub(crate) fn reason_line(
+        &mut self,
+        kind: &str,
+        fields: &[Field<'_>],
+        reason: Reason,
+    ) -> Result<(), Fault>
+        ensures { Prints (text_line kind.now (fields_told fields.now) (codes "reason")
+            (name_of reason)) self.old result self.new }
+    {
+        match push_reason_line(&mut self.held, kind, fields, reason) {
             Ok(()) => self.settle(),
             Err(AllocError) => Err(Fault::Memory),
         }

@@ -1,15 +1,37 @@
-ghost use Rattle.bit_scan.specs.Reporting.{Reports};
+ghost use Rattle.bit_scan.specs.Reporting.{Reports, ReportsAs};
 
 use crate::analysing::analyse;
+use crate::format::Format;
 use bit_fields::{Fault, Limits, Sink, Source};
 use std::alloc::Global;
 
 /// Appends the report of an input's analysis to a sink: a line for the stream, then one for each block id and each of its
-/// codes. The input goes from the first byte that its source still has to the last.
+/// codes. The input is read from the first unread byte of its source to the last.
 ///
-/// Nothing is given to the sink before the whole input is accepted. `Refused` names the one reason and bit at which it breaks
-/// the rules. `Write`, and `Memory` after acceptance, leave the sink a front of the report. The source and the sink are handed
-/// back as they stand.
+/// The sink gets nothing before the whole input is accepted. `Refused` names the one reason and bit at which it breaks
+/// the rules. `Write`, and `Memory` after acceptance, leave the sink a prefix of the report. The source and the sink are
+/// returned.
+pub fn write_report_as<S: Source, K: Sink>(
+    alloc: Global,
+    source: S,
+    sink: K,
+    limits: Limits,
+    format: Format,
+) -> (Result<(), Fault>, S, K)
+    ensures { ReportsAs format limits (S.incoming source) (K.outgoing sink) result.0
+        (S.incoming result.1) (K.outgoing result.2) }
+{
+    let (answer, source) = analyse(alloc, source, limits);
+    match answer {
+        Ok(analysis) => {
+            let (written, sink) = analysis.write_as(sink, format);
+            (written, source, sink)
+        }
+        Err(fault) => (Err(fault), source, sink),
+    }
+}
+
+/// The same with the report as text.
 pub fn write_report<S: Source, K: Sink>(
     alloc: Global,
     source: S,
@@ -19,12 +41,5 @@ pub fn write_report<S: Source, K: Sink>(
     ensures { Reports limits (S.incoming source) (K.outgoing sink) result.0 (S.incoming result.1)
         (K.outgoing result.2) }
 {
-    let (answer, source) = analyse(alloc, source, limits);
-    match answer {
-        Ok(analysis) => {
-            let (written, sink) = analysis.write(sink);
-            (written, source, sink)
-        }
-        Err(fault) => (Err(fault), source, sink),
-    }
+    write_report_as(alloc, source, sink, limits, Format::Text)
 }

@@ -12,10 +12,10 @@ use crate::links::{Keyed, Spot, find, is_at, lead};
 use std::alloc::{AllocError, Global};
 use std::marker::Model;
 
-/// What the records with one code add up to, in blocks with one id.
+/// Totals of the records with one code, in blocks with one id.
 #[derive(Clone, Copy, Debug, PartialEq, Eq)]
 pub struct CodeRow {
-    /// The records.
+    /// The number of records.
     pub count: u64,
     /// Their bits, from the first of the abbreviation id to the last, the padding of a blob included.
     pub bits: u64,
@@ -30,14 +30,14 @@ impl Keyed for (u64, CodeRow) {
     }
 }
 
-/// How many places of rows of codes are remembered.
+/// The number of cached row places.
 const REMEMBERED: usize = 2048;
 
-/// By the low bits of a row's place and of a code, the place of the row of codes that was found last there. A place that is another
-/// code's costs a look-up, and changes no answer.
+/// Caches, by the low bits of a row's place and of a code, the place of the row of codes that was found last there. A place of
+/// another code's row costs a look-up, and changes no result.
 type Places = [u8; REMEMBERED];
 
-/// Where the place of a code is remembered.
+/// The cache slot of a code.
 #[inline(always)]
 fn slot_of(row: usize, code: u64) -> usize
     ensures { result < 2048 }
@@ -45,7 +45,7 @@ fn slot_of(row: usize, code: u64) -> usize
     row % 32 * 64 + (code % 64) as usize
 }
 
-/// Has room for one more row. The lists of rows are many, so that doubling would leave much unused.
+/// Reserves room for one more row. There are many lists of rows, so doubling would leave much memory unused.
 #[inline(always)]
 fn make_room<T>(rows: &mut Vec<T>) -> Result<(), AllocError>
     ensures { rows.new.items ≡ rows.old.items }
@@ -92,7 +92,7 @@ fn count_at(rows: &mut [(u64, CodeRow)], place: usize, bits: u64)
     row.bits = row.bits.saturating_add(bits);
 }
 
-/// Begins the row of a code that has none, at the end, with one record, and answers its place.
+/// Begins the row of a code that has none, at the end, with one record, and returns its place.
 fn begin_code(
     rows: &mut Vec<(u64, CodeRow)>,
     links: &mut Vec<u32>,
@@ -117,7 +117,7 @@ fn begin_code(
     }
 }
 
-/// Counts one more record in the row of its code, which is a new one at the end if there is none, and answers the row's place.
+/// Counts one more record in the row of its code and returns the row's place. If there is no row, a new one is added at the end.
 fn count_by_code(
     rows: &mut Vec<(u64, CodeRow)>,
     links: &mut Vec<u32>,
@@ -155,7 +155,7 @@ impl Codes {
         self.rows.as_slice()
     }
 
-    /// Counts one more record, and remembers the place of its row.
+    /// Counts one more record, and caches the place of its row.
     #[cold]
     #[inline(never)]
     fn add_by_code(&mut self, place: &mut u8, code: u64, bits: u64) -> Result<(), AllocError>
@@ -166,7 +166,7 @@ impl Codes {
         Ok(())
     }
 
-    /// Counts one more record, whose row may be at the place that is remembered.
+    /// Counts one more record, whose row may be at the cached place.
     #[inline(always)]
     fn add(&mut self, place: &mut u8, code: u64, bits: u64) -> Result<(), AllocError>
         ensures { CountsUse code bits self.old result self.new }
@@ -180,36 +180,36 @@ impl Codes {
     }
 }
 
-/// What the blocks with one id add up to. No number counts what stands in blocks inside them.
+/// Totals of the blocks with one id. No number counts the items of blocks inside them.
 #[derive(Drop)]
 pub struct BlockRow {
-    /// The blocks.
+    /// The number of blocks.
     pub blocks: u64,
     /// Their bits, from the first of the abbreviation id to the last of the end's padding, without the bits of the
     /// blocks inside them.
     pub bits: u64,
-    /// The definitions of abbreviations that stand in them.
+    /// The number of abbreviation definitions directly in them.
     pub definitions: u64,
-    /// The records.
+    /// The number of records.
     pub records: u64,
-    /// The records whose id is 4 or more, which go by an abbreviation.
+    /// The number of records whose abbreviation id is 4 or more, and so use an abbreviation.
     pub abbreviated: u64,
-    /// The values of the records, codes not counted.
+    /// The number of values of the records, codes not counted.
     pub values: u64,
     /// The records by code.
     pub codes: Codes,
 }
 
-/// What an event adds to a row.
+/// An addition that an event makes to a row.
 #[derive(Clone, Copy, Debug)]
 pub(crate) enum Addition {
     /// A block begins.
     Block,
-    /// A block ends, which has so many bits of its own.
+    /// A block ends; its own bits are counted.
     Bits(u64),
     /// A definition.
     Definition,
-    /// A record with so many values and bits.
+    /// A record, with its number of values and its bits.
     Record {
         code: u64,
         abbreviated: bool,
@@ -234,7 +234,7 @@ impl BlockRow {
         }
     }
 
-    /// Counts what an event adds to the row at a place. A sum that would pass the greatest number stays there.
+    /// Counts what an event adds to the row at a place. Each sum saturates at the greatest number.
     #[inline(always)]
     fn add(
         &mut self,
@@ -301,7 +301,7 @@ fn add_at(
     row.add(places, place, addition)
 }
 
-/// Begins the row of an id that has none, at the end, with what an event adds, and answers its place.
+/// Begins the row of an id that has none, at the end, with what an event adds, and returns its place.
 #[cold]
 #[inline(never)]
 fn begin_row(
@@ -364,8 +364,8 @@ impl BlockRows {
         }
     }
 
-    /// Counts what an event adds to the row of an id, which is a new one at the end if there is none, and answers the row's
-    /// place.
+    /// Counts what an event adds to the row of an id and returns the row's place. If there is no row, a new one is added at the
+    /// end.
     pub(crate) fn add_by_id(&mut self, id: u32, addition: Addition) -> Result<usize, AllocError>
         ensures { AddsToRow addition id self.old result self.new }
     {
@@ -382,7 +382,7 @@ impl BlockRows {
         }
     }
 
-    /// The same, where the row's place is known. A place that is another id's costs a look-up, and changes no answer.
+    /// The same, if the row's place is known. A place of another id's row costs a look-up, and changes no result.
     #[inline(always)]
     pub(crate) fn add(
         &mut self,

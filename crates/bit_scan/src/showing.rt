@@ -7,13 +7,13 @@ use bit_fields::{Fault, Limits, Sink, Source};
 use bit_grammar::Info;
 use std::alloc::Global;
 
-/// Appends the listing of what is left of an input under a setting to a sink: a line for the magic, and one for each block and
-/// record in order. The input goes from the first byte that its source still has to the last, and its bytes are kept and read
-/// twice: to judge it, and then to write each line as it is read.
+/// Appends a listing of the part of an input that is kept under a setting to a sink: a line for the magic, and one for each block
+/// and record in order. The input is read from the first unread byte of its source to the last. Its bytes are kept and read twice:
+/// first to judge the input, and then to write each line as it is read.
 ///
-/// Nothing is given to the sink before the whole input is accepted. `Refused` names the one reason and bit at which it breaks
-/// the rules. `Write`, and `Memory` after acceptance, leave the sink a front of the listing. The source and the sink are
-/// handed back as they stand.
+/// The sink gets nothing before the whole input is accepted. `Refused` names the one reason and bit at which it breaks
+/// the rules. `Write`, and `Memory` after acceptance, leave the sink a prefix of the listing. The source and the sink are
+/// returned.
 pub fn write_show<S: Source, K: Sink>(
     alloc: Global,
     source: S,

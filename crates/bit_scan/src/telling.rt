@@ -1,18 +1,23 @@
 //! The events of an input as lines, written as they are read.
 
-ghost use Rattle.std.specs.Prelude.{◌≡◌, ◌≤◌, ◌++◌, codes, flat_map};
+ghost use Rattle.std.specs.Prelude.{◌≡◌, ◌≤◌, ◌++◌, OnOk, [], codes, flat_map};
 ghost use Rattle.bit_grammar.specs.EventTexts.{line_at, op_text, ops_text, shown_values, noted_text, event_line};
 ghost use Rattle.bit_grammar.specs.declared.op.Op.{Op};
+ghost use Rattle.bit_fields.specs.Opening.{head_told};
 ghost use Rattle.bit_events.specs.Coming.{going};
 ghost use Rattle.bit_events.specs.EventView.{event_shown};
+ghost use Rattle.bit_scan.specs.Json.{event_json, fields_told, joined, list_line, noted_json, number_json, op_json};
 ghost use Rattle.bit_scan.specs.Printing.{Prints};
-ghost use Rattle.bit_scan.specs.Telling.{TellsNext, TellsRest, TellsAll, TellsInput};
+ghost use Rattle.bit_scan.specs.Styles.{fault_as, head_as, refusal_as, styled_event};
+ghost use Rattle.bit_scan.specs.Telling.{PrintsLast, TellsNext, TellsRest, TellsAll, TellsInput};
 
 use crate::analysing::begin_of;
+use crate::format::{EventStyle, Format};
+use crate::json::Field;
 use crate::listing::{around_after, write_values};
 use crate::printer::Printer;
 use bit_events::{Event, PackedEvent, PackedEvents};
-use bit_fields::{Fault, Limits, PackedValues, Sink, Source};
+use bit_fields::{Fault, Head, Limits, PackedValues, Reason, Sink, Source};
 use bit_grammar::{Op, Values};
 use std::alloc::Global;
 
@@ -69,7 +74,7 @@ fn write_shown<K: Sink>(
     }
 }
 
-/// Where a record begins, its code and its abbreviation id.
+/// The first bit of a record, its code and its abbreviation id.
 #[derive(Clone, Copy)]
 struct Noted {
     first: u64,
@@ -100,7 +105,7 @@ fn write_noted<K: Sink>(
     printer.line_end()
 }
 
-/// Writes the line of an event, with so many blocks open before it.
+/// Writes the line of an event, with `around` blocks open before it.
 fn write_line<K: Sink>(
     printer: &mut Printer<K>,
     around: u32,
@@ -138,47 +143,232 @@ fn write_line<K: Sink>(
     }
 }
 
-/// Writes the line of the next event, with so many blocks open before it, and answers how many are open behind it. Where the
-/// events end, with acceptance or a fault, nothing is held back, and nothing or the fault is answered.
+/// Writes operands as the items of a JSON list.
+fn write_json_operands<K: Sink>(printer: &mut Printer<K>, ops: &[Op]) -> Result<(), Fault>
+    ensures { Prints (joined op_json ops.now) printer.old result printer.new }
+{
+    for place in 0..ops.len() {
+        printer.op_item(place as u64, ops[place])?;
+    }
+    Ok(())
+}
+
+/// Writes the line of a definition as JSON.
+fn write_json_definition<K: Sink>(
+    printer: &mut Printer<K>,
+    fields: &[Field<'_>],
+    ops: &[Op],
+) -> Result<(), Fault>
+    ensures { Prints (list_line (codes "define") (fields_told fields.now) (codes "operands")
+        (joined op_json ops.now)) printer.old result printer.new }
+{
+    printer.list_front("define", fields, "operands")?;
+    write_json_operands(printer, ops)?;
+    printer.list_end()
+}
+
+/// Writes values as the items of a JSON list.
+fn write_json_items<K: Sink>(printer: &mut Printer<K>, values: &PackedValues) -> Result<(), Fault>
+    ensures { Prints (joined number_json values.now) printer.old result printer.new }
+{
+    for place in 0..values.len() {
+        printer.number_item(place, values.get(place).unwrap())?;
+    }
+    Ok(())
+}
+
+/// Writes the line of a record with its values as JSON.
+fn write_json_values<K: Sink>(
+    printer: &mut Printer<K>,
+    fields: &[Field<'_>],
+    values: &PackedValues,
+) -> Result<(), Fault>
+    ensures { Prints (list_line (codes "record") (fields_told fields.now) (codes "values")
+        (joined number_json values.now)) printer.old result printer.new }
+{
+    printer.list_front("record", fields, "values")?;
+    write_json_items(printer, values)?;
+    printer.list_end()
+}
+
+/// Writes the line of a record as JSON.
+fn write_json_record<K: Sink>(
+    printer: &mut Printer<K>,
+    fields: &[Field<'_>],
+    values: Values,
+    listed: &PackedValues,
+) -> Result<(), Fault>
+    ensures { Prints (noted_json values (fields_told fields.now) listed.now) printer.old result
+        printer.new }
+{
+    match values {
+        Values::Shown => write_json_values(printer, fields, listed),
+        Values::LeftOut => printer.object_line("record", fields),
+    }
+}
+
+/// Writes the line of an event as JSON, with `around` blocks open before it.
+fn write_json_line<K: Sink>(
+    printer: &mut Printer<K>,
+    around: u32,
+    event: &PackedEvent<'_>,
+    values: Values,
+) -> Result<(), Fault>
+    ensures { Prints (event_json values around (event_shown event.now)) printer.old result
+        printer.new }
+{
+    match *event {
+        Event::Enter {
+            id,
+            width,
+            first,
+            body,
+        } => printer.object_line(
+            "block",
+            &[
+                ("bit", first),
+                ("depth", around as u64),
+                ("id", id as u64),
+                ("width", width as u64),
+                ("body", body),
+            ],
+        ),
+        Event::Define { abbrev, first, .. } => {
+            let fields = [("bit", first), ("depth", around as u64)];
+            write_json_definition(printer, &fields, abbrev.ops())
+        }
+        Event::Record {
+            abbrev,
+            code,
+            values: listed,
+            first,
+            ..
+        } => {
+            let fields = [
+                ("bit", first),
+                ("depth", around as u64),
+                ("code", code),
+                ("abbreviation", abbrev as u64),
+                ("count", listed.len()),
+            ];
+            write_json_record(printer, &fields, values, listed)
+        }
+        Event::Leave { after } => {
+            let depth = around.saturating_sub(1);
+            printer.object_line("end", &[("bit", after), ("depth", depth as u64)])
+        }
+    }
+}
+
+/// Writes the line of an event in a style, with `around` blocks open before it.
+fn write_styled<K: Sink>(
+    printer: &mut Printer<K>,
+    around: u32,
+    event: &PackedEvent<'_>,
+    style: EventStyle,
+) -> Result<(), Fault>
+    ensures { Prints (styled_event style around (event_shown event.now)) printer.old result
+        printer.new }
+{
+    match style.format {
+        Format::Text => write_line(printer, around, event, style.values),
+        Format::JsonLines => write_json_line(printer, around, event, style.values),
+    }
+}
+
+/// Writes the line of a head's magic.
+fn write_head<K: Sink>(printer: &mut Printer<K>, head: Head, format: Format) -> Result<(), Fault>
+    ensures { Prints (head_as format (head_told head)) printer.old result printer.new }
+{
+    let begin = begin_of(head);
+    match format {
+        Format::Text => printer.head_line(begin, head.magic),
+        Format::JsonLines => printer.magic_line("magic", &[("bit", begin)], head.magic),
+    }
+}
+
+/// Writes the line of a refusal, if the format has one.
+fn write_refusal<K: Sink>(
+    printer: &mut Printer<K>,
+    format: Format,
+    reason: Reason,
+    bit: u64,
+) -> Result<(), Fault>
+    ensures { Prints (refusal_as format reason bit) printer.old result printer.new }
+{
+    match format {
+        Format::Text => Ok(()),
+        Format::JsonLines => printer.reason_line("refused", &[("bit", bit)], reason),
+    }
+}
+
+/// Writes the line of a fault, if it has one.
+fn write_fault<K: Sink>(printer: &mut Printer<K>, format: Format, fault: Fault) -> Result<(), Fault>
+    ensures { Prints (fault_as format fault) printer.old result printer.new }
+{
+    match fault {
+        Fault::Refused { reason, bit } => write_refusal(printer, format, reason, bit),
+        _ => Ok(()),
+    }
+}
+
+/// Writes the line of a fault, if it has one, and all buffered text.
+fn write_end<K: Sink>(printer: &mut Printer<K>, format: Format, fault: Fault) -> Result<(), Fault>
+    ensures prints { Prints (fault_as format fault) printer.old result printer.new }
+    ensures all { OnOk result (printer.new.held ≡ []) }
+{
+    write_fault(printer, format, fault)?;
+    printer.finish()
+}
+
+/// Ends with a fault: writes its line, if it has one, and all buffered text. Returns that fault, or the fault of that writing.
+fn write_last<K: Sink>(printer: &mut Printer<K>, format: Format, fault: Fault) -> Fault
+    ensures { PrintsLast (fault_as format fault) fault printer.old result printer.new }
+{
+    match write_end(printer, format, fault) {
+        Ok(()) => fault,
+        Err(other) => other,
+    }
+}
+
+/// Writes the line of the next event, with `around` blocks open before it, and returns how many are open after it. At the end of
+/// the events nothing stays buffered, and the call returns `None` on acceptance, and otherwise the fault.
 fn write_next<S: Source, K: Sink>(
     events: &mut PackedEvents<S>,
     printer: &mut Printer<K>,
     around: u32,
-    values: Values,
+    style: EventStyle,
 ) -> Result<Option<u32>, Fault>
     requires around { around ≤ 255 }
     requires goes { events.old.stage ≡ going }
-    ensures { TellsNext values around events.old printer.old result events.new printer.new }
+    ensures { TellsNext style around events.old printer.old result events.new printer.new }
 {
     match events.next() {
         Ok(Some(event)) => {
-            write_line(printer, around, &event, values)?;
+            write_styled(printer, around, &event, style)?;
             Ok(Some(around_after(around, &event)))
         }
         Ok(None) => {
             printer.finish()?;
             Ok(None)
         }
-        Err(fault) => {
-            printer.finish()?;
-            Err(fault)
-        }
+        Err(fault) => Err(write_last(printer, style.format, fault)),
     }
 }
 
-/// Writes the lines of all events that are to come.
+/// Writes the lines of all remaining events.
 fn write_rest<S: Source, K: Sink>(
     events: &mut PackedEvents<S>,
     printer: &mut Printer<K>,
-    values: Values,
+    style: EventStyle,
 ) -> Result<(), Fault>
     requires goes { events.old.stage ≡ going }
     requires outside { events.old.depth ≡ 0 }
     requires deepest { events.old.deepest ≤ 255 }
-    ensures { TellsRest values 0 events.old printer.old result events.new printer.new }
+    ensures { TellsRest style 0 events.old printer.old result events.new printer.new }
 {
     let mut around = 0;
-    while let Some(next) = write_next(events, printer, around, values)? {
+    while let Some(next) = write_next(events, printer, around, style)? {
         around = next;
     }
     Ok(())
@@ -188,41 +378,45 @@ fn write_rest<S: Source, K: Sink>(
 fn write_all<S: Source, K: Sink>(
     events: &mut PackedEvents<S>,
     printer: &mut Printer<K>,
-    values: Values,
+    style: EventStyle,
 ) -> Result<(), Fault>
     requires goes { events.old.stage ≡ going }
     requires outside { events.old.depth ≡ 0 }
     requires deepest { events.old.deepest ≤ 255 }
-    ensures { TellsAll values events.old printer.old result events.new printer.new }
+    ensures { TellsAll style events.old printer.old result events.new printer.new }
 {
     let head = *events.head();
-    printer.head_line(begin_of(head), head.magic)?;
-    write_rest(events, printer, values)
+    write_head(printer, head, style.format)?;
+    write_rest(events, printer, style)
 }
 
 /// Appends the events of an input to a sink, one a line, as they are read: a line for the magic, and one for each block's
-/// beginning, definition, record and block's end, each behind the bit at which it stands, counted from the input's first bit.
-/// Memory goes for the open blocks and for one record. The input goes from the first byte that its source still has to the
-/// last.
+/// beginning, definition, record and block's end, each with its bit, counted from the input's first bit.
+/// The style sets text or JSON. Memory is used for the open blocks and for one record. The input is read from the first unread byte
+/// of its source to the last.
 ///
-/// `Refused` names the one reason and bit at which the input breaks the rules; the sink then has the lines of all events before
-/// that, as it has all lines where the input is accepted, and none where the input breaks before its first block. `Read`,
-/// `Write` and `Memory` leave the sink a front of the text. The source and the sink are handed back as they stand.
+/// `Refused` names the one reason and bit at which the input breaks the rules. The sink then has the lines of all events before
+/// that bit. If the input is accepted, the sink has all lines; if it breaks before its first block, the sink has none. As JSON, the
+/// last line of a refused input is the reason and the bit. `Read`, `Write` and `Memory` leave the sink a prefix of the text. The
+/// source and the sink are returned.
 pub fn write_events<S: Source, K: Sink>(
     alloc: Global,
     source: S,
     sink: K,
     limits: Limits,
-    values: Values,
+    style: EventStyle,
 ) -> (Result<(), Fault>, S, K)
-    ensures { TellsInput values limits (S.incoming source) (K.outgoing sink) result.0
+    ensures { TellsInput style limits (S.incoming source) (K.outgoing sink) result.0
         (S.incoming result.1) (K.outgoing result.2) }
 {
+    let mut printer = Printer::new(alloc, sink);
     let mut events = match PackedEvents::start(alloc, source, limits) {
         Ok(events) => events,
-        Err((fault, source)) => return (Err(fault), source, sink),
+        Err((fault, source)) => {
+            let fault = write_last(&mut printer, style.format, fault);
+            return (Err(fault), source, printer.into_sink());
+        }
     };
-    let mut printer = Printer::new(alloc, sink);
-    let answer = write_all(&mut events, &mut printer, values);
+    let answer = write_all(&mut events, &mut printer, style);
     (answer, events.into_source(), printer.into_sink())
 }

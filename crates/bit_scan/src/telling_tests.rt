@@ -1,7 +1,7 @@
 //! The events of inputs as lines.
 
 use crate::tests::{DESCRIBED, EMPTY, Pieces, SINKS, TAIL, Told, answer_of, tells, wanted_answer};
-use crate::{Values, write_events};
+use crate::{EventStyle, Format, Values, write_events};
 use bit_fields::{Fault, Limits, ReadSource, Reason, SliceSource, Source};
 use std::alloc::{AllocError, Global};
 use std::io;
@@ -16,7 +16,7 @@ static KINDS: [u8; 52] = [
     0, 0, 0x95, 0x09, 0, 0, 0xff, 0, 0, 0, 0, 0, 0, 0,
 ];
 
-/// An empty block in a wrapper, and bytes behind the stream.
+/// An empty block in a wrapper, and bytes after the stream.
 static WRAPPED: [u8; 40] = [
     0xde, 0xc0, 0x17, 0x0b, 0, 0, 0, 0, 20, 0, 0, 0, 16, 0, 0, 0, 7, 0, 0, 1, 0x42, 0x43, 0xc0,
     0xde, 0x21, 0x08, 0, 0, 0x01, 0, 0, 0, 0, 0, 0, 0, 0xff, 0xff, 0xff, 0xff,
@@ -54,31 +54,73 @@ static KINDS_COUNTED: &str = "0 magic 4243c0de\n\
     320   record 300 by 5 count 3\n\
     416 end\n";
 
-/// What the events of a source tell with such a sink.
+/// The same as JSON.
+static KINDS_JSON: &str = "{\"kind\":\"magic\",\"bit\":0,\"magic\":\"4243c0de\"}\n\
+    {\"kind\":\"block\",\"bit\":32,\"depth\":0,\"id\":8,\"width\":4,\"body\":96}\n\
+    {\"kind\":\"define\",\"bit\":96,\"depth\":1,\"operands\":[{\"kind\":\"literal\",\"value\":1},\
+    {\"kind\":\"fixed\",\"width\":7},{\"kind\":\"vbr\",\"width\":6},{\"kind\":\"array\"},{\"kind\":\"char6\"}]}\n\
+    {\"kind\":\"define\",\"bit\":140,\"depth\":1,\"operands\":[{\"kind\":\"literal\",\"value\":300},\
+    {\"kind\":\"char6\"},{\"kind\":\"blob\"}]}\n\
+    {\"kind\":\"record\",\"bit\":174,\"depth\":1,\"code\":1,\"abbreviation\":4,\"count\":5,\
+    \"values\":[100,5,97,98,95]}\n\
+    {\"kind\":\"block\",\"bit\":215,\"depth\":1,\"id\":9,\"width\":2,\"body\":288}\n\
+    {\"kind\":\"record\",\"bit\":288,\"depth\":2,\"code\":7,\"abbreviation\":3,\"count\":0,\"values\":[]}\n\
+    {\"kind\":\"end\",\"bit\":320,\"depth\":1}\n\
+    {\"kind\":\"record\",\"bit\":320,\"depth\":1,\"code\":300,\"abbreviation\":5,\"count\":3,\
+    \"values\":[122,255,0]}\n\
+    {\"kind\":\"end\",\"bit\":416,\"depth\":0}\n";
+
+/// A block and bytes after it, as JSON without values.
+static TAIL_JSON: &str = "{\"kind\":\"magic\",\"bit\":0,\"magic\":\"4243c0de\"}\n\
+    {\"kind\":\"block\",\"bit\":32,\"depth\":0,\"id\":8,\"width\":2,\"body\":96}\n\
+    {\"kind\":\"end\",\"bit\":128,\"depth\":0}\n\
+    {\"kind\":\"refused\",\"bit\":128,\"reason\":\"TopLevel\"}\n";
+
+const TEXT: EventStyle = EventStyle {
+    format: Format::Text,
+    values: Values::Shown,
+};
+
+const COUNTED: EventStyle = EventStyle {
+    format: Format::Text,
+    values: Values::LeftOut,
+};
+
+const JSON: EventStyle = EventStyle {
+    format: Format::JsonLines,
+    values: Values::Shown,
+};
+
+const JSON_COUNTED: EventStyle = EventStyle {
+    format: Format::JsonLines,
+    values: Values::LeftOut,
+};
+
+/// What `write_events` returns and writes with such a sink.
 fn source_told<S: Source + Drop>(
     alloc: Global,
     source: S,
-    values: Values,
+    style: EventStyle,
     text: &str,
     most: usize,
     puts: u64,
 ) -> Result<Told, AllocError> {
     let sink = Pieces::new(alloc, most, puts)?;
-    let (answer, _, sink) = write_events(alloc, source, sink, Limits::usual(), values);
+    let (answer, _, sink) = write_events(alloc, source, sink, Limits::usual(), style);
     Ok(answer_of(answer, sink, text))
 }
 
-/// The events of an input are this text, and its end this answer.
+/// The events of an input have this text, and the call returns this result.
 fn has_events(
     rt: &impl Abort,
     alloc: Global,
     input: &[u8],
-    values: Values,
+    style: EventStyle,
     text: &str,
     answer: Result<(), Fault>,
 ) -> Result<(), Fail> {
     let source = SliceSource::new(input);
-    let told = source_told(alloc, source, values, text, 100, u64::MAX);
+    let told = source_told(alloc, source, style, text, 100, u64::MAX);
     tells(rt, told, (answer, 0, Some(text.len())))
 }
 
@@ -86,17 +128,10 @@ fn has_events(
 fn events_of_inputs(rt: HostRuntime) -> Result<(), Fail> {
     let alloc = rt.alloc();
     let wrapped = "160 magic 4243c0de\n192 block 8 width 2 body 256\n288 end\n";
-    has_events(&rt, alloc, &KINDS, Values::Shown, KINDS_EVENTS, Ok(()))?;
-    has_events(&rt, alloc, &KINDS, Values::LeftOut, KINDS_COUNTED, Ok(()))?;
-    has_events(&rt, alloc, &WRAPPED, Values::Shown, wrapped, Ok(()))?;
-    has_events(
-        &rt,
-        alloc,
-        &EMPTY,
-        Values::Shown,
-        &DESCRIBED_EVENTS[..17],
-        Ok(()),
-    )
+    has_events(&rt, alloc, &KINDS, TEXT, KINDS_EVENTS, Ok(()))?;
+    has_events(&rt, alloc, &KINDS, COUNTED, KINDS_COUNTED, Ok(()))?;
+    has_events(&rt, alloc, &WRAPPED, TEXT, wrapped, Ok(()))?;
+    has_events(&rt, alloc, &EMPTY, TEXT, &DESCRIBED_EVENTS[..17], Ok(()))
 }
 
 /// A refusal for a reason at a bit.
@@ -104,7 +139,7 @@ fn refused(reason: Reason, bit: u64) -> Result<(), Fault> {
     Err(Fault::Refused { reason, bit })
 }
 
-/// An input that was cut has the lines of the events that are whole, and so has one with bytes behind the last block.
+/// A truncated input has the lines of its complete events, and so has an input with bytes after the last block.
 #[test]
 fn events_before_a_fault(rt: HostRuntime) -> Result<(), Fail> {
     let alloc = rt.alloc();
@@ -113,7 +148,7 @@ fn events_before_a_fault(rt: HostRuntime) -> Result<(), Fail> {
         &rt,
         alloc,
         &TAIL,
-        Values::Shown,
+        TEXT,
         tail,
         refused(Reason::TopLevel, 128),
     )?;
@@ -123,7 +158,7 @@ fn events_before_a_fault(rt: HostRuntime) -> Result<(), Fail> {
             &rt,
             alloc,
             &DESCRIBED[..*bytes],
-            Values::Shown,
+            TEXT,
             &DESCRIBED_EVENTS[..*lines],
             answer,
         )?;
@@ -131,25 +166,42 @@ fn events_before_a_fault(rt: HostRuntime) -> Result<(), Fail> {
     Ok(())
 }
 
-/// Whatever a sink takes at once, and a sink that fails has a front of the text.
+/// As JSON. A refusal has a line of its own, even if the magic is incomplete.
+#[test]
+fn events_as_json(rt: HostRuntime) -> Result<(), Fail> {
+    let alloc = rt.alloc();
+    let short = "{\"kind\":\"refused\",\"bit\":0,\"reason\":\"Truncated\"}\n";
+    has_events(&rt, alloc, &KINDS, JSON, KINDS_JSON, Ok(()))?;
+    has_events(
+        &rt,
+        alloc,
+        &TAIL,
+        JSON_COUNTED,
+        TAIL_JSON,
+        refused(Reason::TopLevel, 128),
+    )?;
+    has_events(
+        &rt,
+        alloc,
+        &DESCRIBED[..3],
+        JSON,
+        short,
+        refused(Reason::Truncated, 0),
+    )
+}
+
+/// The text does not depend on how many bytes the sink takes per put. A sink that fails has a prefix of the text.
 #[test]
 fn events_into_sinks(rt: HostRuntime) -> Result<(), Fail> {
     for (most, puts) in &SINKS {
         let source = SliceSource::new(&DESCRIBED);
-        let told = source_told(
-            rt.alloc(),
-            source,
-            Values::Shown,
-            DESCRIBED_EVENTS,
-            *most,
-            *puts,
-        );
+        let told = source_told(rt.alloc(), source, TEXT, DESCRIBED_EVENTS, *most, *puts);
         tells(&rt, told, wanted_answer(DESCRIBED_EVENTS, *most, *puts))?;
     }
     Ok(())
 }
 
-/// A reader that fails behind its bytes.
+/// A reader that fails after its bytes.
 #[derive(Drop)]
 struct Broken<'a> {
     rest: &'a [u8],
@@ -164,19 +216,12 @@ impl<'a> Read for Broken<'a> {
     }
 }
 
-/// What was read before the source failed has its lines.
+/// The events that were read before the source failed have their lines.
 #[test]
 fn events_of_a_source_that_fails(rt: HostRuntime) -> Result<(), Fail> {
     let source = ReadSource::new(Broken {
         rest: &DESCRIBED[..26],
     });
-    let told = source_told(
-        rt.alloc(),
-        source,
-        Values::Shown,
-        DESCRIBED_EVENTS,
-        100,
-        u64::MAX,
-    );
+    let told = source_told(rt.alloc(), source, TEXT, DESCRIBED_EVENTS, 100, u64::MAX);
     tells(&rt, told, (Err(Fault::Read), 0, Some(113)))
 }

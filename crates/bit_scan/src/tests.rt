@@ -1,13 +1,14 @@
 ghost use Rattle.std.specs.Prelude.{Some};
 
-use crate::{Analysis, analyse, push_magic, write_show};
+use crate::json::push_json_number;
+use crate::{Analysis, Format, analyse, push_magic, write_show};
 use bit_fields::{Fault, Limits, Reason, Sink, SinkFailed, SliceSource, VecSink};
 use bit_grammar::{Info, RecordName};
 use std::alloc::{AllocError, Global};
 use std::process::Abort;
 use std::test::Fail;
 
-/// A sink that takes few bytes a put, and fails after some puts.
+/// A sink that takes few bytes per put, and fails after some puts.
 #[derive(Drop)]
 pub(crate) struct Pieces {
     bytes: Vec<u8>,
@@ -79,7 +80,7 @@ static ZEROS: [u8; 20] = [
     0x42, 0x43, 0xc0, 0xde, 0x21, 0x0c, 0, 0, 0x02, 0, 0, 0, 0x1a, 0x03, 0x4c, 0, 0x07, 0, 0, 0,
 ];
 
-/// Bytes behind the last block.
+/// Bytes after the last block.
 pub(crate) static TAIL: [u8; 20] = [
     0x42, 0x43, 0xc0, 0xde, 0x21, 0x08, 0, 0, 0x01, 0, 0, 0, 0, 0, 0, 0, 0x0a, 0x0a, 0x0a, 0x0a,
 ];
@@ -89,7 +90,7 @@ fn analysis_of(alloc: Global, input: &[u8]) -> Result<Analysis, Fault> {
     analyse(alloc, SliceSource::new(input), Limits::usual()).0
 }
 
-/// How many bytes these are, where they are a front of a text.
+/// The number of these bytes, if they are a prefix of a text.
 fn front_of(text: &[u8], bytes: &[u8]) -> Option<usize> {
     if text.starts_with(bytes) {
         Some(bytes.len())
@@ -98,10 +99,10 @@ fn front_of(text: &[u8], bytes: &[u8]) -> Option<usize> {
     }
 }
 
-/// What a call answers, how often its sink fails, and how much of a text the sink has.
+/// The result of a call, the failures of its sink, and how much of a text the sink has.
 pub(crate) type Told = (Result<(), Fault>, u64, Option<usize>);
 
-/// What a call of a text tells by its answer and its sink.
+/// Summarises a call that writes a text, from its result and its sink.
 pub(crate) fn answer_of(answer: Result<(), Fault>, sink: Pieces, text: &str) -> Told {
     (
         answer,
@@ -110,7 +111,7 @@ pub(crate) fn answer_of(answer: Result<(), Fault>, sink: Pieces, text: &str) -> 
     )
 }
 
-/// A call tells this; where memory was refused its sink has a front of the text, and no failure.
+/// A call has this outcome. If an allocation failed, its sink has a prefix of the text, and no failure.
 pub(crate) fn tells(
     rt: &impl Abort,
     told: Result<Told, AllocError>,
@@ -125,7 +126,7 @@ pub(crate) fn tells(
     }
 }
 
-/// How many bytes a sink takes at once, and after how many puts it fails.
+/// The number of bytes that a sink takes per put, and the number of puts after which it fails.
 pub(crate) static SINKS: [(usize, u64); 7] = [
     (1, u64::MAX),
     (5, u64::MAX),
@@ -136,7 +137,7 @@ pub(crate) static SINKS: [(usize, u64); 7] = [
     (5, 3),
 ];
 
-/// What a call of a longer text tells with such a sink: all of it, or a front where the sink fails.
+/// The outcome of a call that writes a longer text, with such a sink: all of it, or a prefix if the sink fails.
 pub(crate) fn wanted_answer(text: &str, most: usize, puts: u64) -> Told {
     match puts {
         0..=3 => (
@@ -148,7 +149,7 @@ pub(crate) fn wanted_answer(text: &str, most: usize, puts: u64) -> Told {
     }
 }
 
-/// What the report of an analysis tells with such a sink.
+/// The outcome of writing the report of an analysis with such a sink.
 fn report_told(
     alloc: Global,
     analysis: &Analysis,
@@ -160,7 +161,7 @@ fn report_told(
     Ok(answer_of(answer, sink, text))
 }
 
-/// The report is this text, whatever a sink takes at once, and a sink that fails has a front of it.
+/// The report is this text, however many bytes a sink takes per put. A sink that fails has a prefix of it.
 fn is_report(rt: &impl Abort, alloc: Global, analysis: &Analysis, text: &str) -> Result<(), Fail> {
     for (most, puts) in &SINKS {
         let told = report_told(alloc, analysis, text, *most, *puts);
@@ -199,13 +200,40 @@ fn reports_of_inputs(rt: HostRuntime) -> Result<(), Fail> {
     reports(&rt, rt.alloc(), &EMPTY, EMPTY_REPORT)
 }
 
+static DESCRIBED_JSON: &str = "{\"kind\":\"stream\",\"bits\":256,\"magic\":\"4243c0de\"}\n\
+    {\"kind\":\"block\",\"id\":0,\"count\":1,\"bits\":128,\"definitions\":1,\"records\":1,\
+    \"abbreviated\":0,\"values\":1}\n\
+    {\"kind\":\"record\",\"block\":0,\"code\":1,\"count\":1,\"bits\":20}\n\
+    {\"kind\":\"block\",\"id\":8,\"count\":1,\"bits\":96,\"definitions\":0,\"records\":1,\
+    \"abbreviated\":1,\"values\":1}\n\
+    {\"kind\":\"record\",\"block\":8,\"code\":1,\"count\":1,\"bits\":10}\n";
+
+#[test]
+fn report_as_json(rt: HostRuntime) -> Result<(), Fail> {
+    let alloc = rt.alloc();
+    let analysis = analysis_of(alloc, &DESCRIBED)?;
+    let (answer, sink) = analysis.write_as(Pieces::new(alloc, 100, u64::MAX)?, Format::JsonLines);
+    let told = Ok(answer_of(answer, sink, DESCRIBED_JSON));
+    tells(&rt, told, (Ok(()), 0, Some(DESCRIBED_JSON.len())))
+}
+
+/// Numbers from 2^53 on are strings.
+#[test]
+fn numbers_as_json(rt: HostRuntime) -> Result<(), Fail> {
+    let mut text = String::new(rt.alloc());
+    push_json_number(&mut text, 9_007_199_254_740_991)?;
+    push_json_number(&mut text, 9_007_199_254_740_992)?;
+    assert!(rt; text.as_str() == "9007199254740991\"9007199254740992\"");
+    Ok(())
+}
+
 /// The magic, the bits and the number of rows of the analysis of an input.
 fn parts(alloc: Global, input: &[u8]) -> Result<([u8; 4], u64, usize), Fault> {
     let analysis = analysis_of(alloc, input)?;
     Ok((analysis.magic(), analysis.bits(), analysis.rows().len()))
 }
 
-/// What the listing of an input tells with such a sink.
+/// The outcome of writing the listing of an input with such a sink.
 fn listing_told(
     alloc: Global,
     input: &[u8],
@@ -238,7 +266,7 @@ fn parts_and_refusals(rt: HostRuntime) -> Result<(), Fail> {
     tells(&rt, told, (Err(fault), 0, Some(0)))
 }
 
-/// The listing of an input is this text, whatever a sink takes at once, and a sink that fails has a front of it.
+/// The listing of an input is this text, however many bytes a sink takes per put. A sink that fails has a prefix of it.
 fn lists(rt: &impl Abort, alloc: Global, input: &[u8], text: &str) -> Result<(), Fail> {
     for (most, puts) in &SINKS[..6] {
         let told = listing_told(alloc, input, text, *most, *puts);
@@ -258,7 +286,7 @@ fn listings_of_inputs(rt: HostRuntime) -> Result<(), Fail> {
     lists(&rt, alloc, &[0, 0xff, 9, 0x10], "magic 00ff0910\n")
 }
 
-/// The listing of what is left of an input under a setting is this text.
+/// The listing of the kept part of an input under a setting is this text.
 fn lists_left(
     rt: &impl Abort,
     alloc: Global,
@@ -282,7 +310,7 @@ fn listings_without_blockinfo(rt: HostRuntime) -> Result<(), Fail> {
     lists_left(&rt, rt.alloc(), &DESCRIBED, Info::Drop, text)
 }
 
-/// A block 9 around a block 8 with a record and a block 9, and behind it a block 8 with a record 1, a block 10 with another one,
+/// A block 9 around a block 8 with a record and a block 9. After it a block 8 with a record 1, a block 10 with another one,
 /// a record 2 and a record 1.
 static ROUND: [u8; 76] = [
     0x42, 0x43, 0xc0, 0xde, 0x25, 0x08, 0, 0, 0x08, 0, 0, 0, 0x21, 0x08, 0, 0, 0x05, 0, 0, 0, 0x0b,
@@ -309,12 +337,12 @@ fn listings_of_what_is_left(rt: HostRuntime) -> Result<(), Fail> {
     lists_left(&rt, alloc, &ROUND, named, round)
 }
 
-/// A stream of one block up to the values of its record, which are 20000 and stand in 6 bits each.
+/// A stream of one block up to the values of its record: 20000 values of 6 bits each.
 static LONG: [u8; 16] = [
     0x42, 0x43, 0xc0, 0xde, 0x21, 0x08, 0, 0, 0xa7, 0x0e, 0, 0, 0x1f, 0x60, 0x3c, 0x01,
 ];
 
-/// The whole stream, where all values are 0: a record whose line is far longer than what is held at once.
+/// The whole stream with values 0: a record whose line is far longer than the buffer.
 fn long_input(alloc: Global) -> Result<Vec<u8>, AllocError> {
     let mut input = Vec::new(alloc);
     input.extend_from_slice(&LONG)?;
@@ -332,7 +360,7 @@ fn long_text(alloc: Global) -> Result<String, AllocError> {
     Ok(text)
 }
 
-/// What its listing tells with such a sink.
+/// The outcome of writing its listing with such a sink.
 fn long_told(alloc: Global, text: &str, most: usize, puts: u64) -> Result<Told, AllocError> {
     let input = long_input(alloc)?;
     listing_told(alloc, &input, text, most, puts)
@@ -347,14 +375,14 @@ fn long_lines(rt: HostRuntime) -> Result<(), Fail> {
     tells(&rt, told, (Err(Fault::Write), 1, Some(13_193)))
 }
 
-/// What the report of the empty stream answers with a vector as the sink, and how much of it the vector has.
+/// The result of writing the report of the empty stream to a vector, and how much of it the vector has.
 fn vector_told(alloc: Global) -> Result<(Result<(), Fault>, Option<usize>), Fault> {
     let analysis = analysis_of(alloc, &EMPTY)?;
     let (answer, sink) = analysis.write(VecSink::new(alloc));
     Ok((answer, front_of(EMPTY_REPORT.as_bytes(), sink.bytes())))
 }
 
-/// A vector as the sink: where its growth is refused it failed, and has a front of the text.
+/// A vector as the sink: if it cannot grow, it failed, and has a prefix of the text.
 #[test]
 fn into_vectors(rt: HostRuntime) -> Result<(), Fail> {
     match vector_told(rt.alloc())? {
@@ -366,7 +394,7 @@ fn into_vectors(rt: HostRuntime) -> Result<(), Fail> {
     }
 }
 
-/// The text of a magic behind what was there.
+/// The text of a magic after earlier text.
 fn magic_behind(alloc: Global, front: &str) -> Result<String, AllocError> {
     let mut text = String::from_str(alloc, front)?;
     push_magic(&mut text, [0, 0xff, 9, 0x10])?;

@@ -1,4 +1,4 @@
--- Copying the items of a marked block, one after the other.
+-- Copying the items of a marked block, one after another.
 use Rattle.std.proofs.Common.{◌≡◌, ℕ, suc, ◌+◌, ◌<◌, List, [], ◌∷◌, ◌++◌, length, drop, get_or, refl, sym, ap, ◌∙◌, drop-cons, add-one}
 use Rattle.bit_grammar.specs.Setting.{Setting}
 use Rattle.bit_grammar.specs.Under.{items_under}
@@ -11,7 +11,7 @@ use Rattle.bit_tree.specs.declared.tree.Item.{Item}
 use Rattle.bit_tree.specs.declared.marked.MarkedBlock.{MarkedBlock}
 use Rattle.bit_tree.specs.declared.marked.MarkedItem.{MarkedItem}
 
--- what is left of marks in a block with this id
+-- the kept marks of a block with this id
 abbrev pub left_of : Setting → (around : ℕ) → Marks → Forest
 left_of s around m = items_under s around (forest_of m)
 

@@ -9,12 +9,12 @@ use Rattle.bit_tree.specs.Judging.{InRange}
 deep_past : (levels inner rest : ℕ) → (levels ≡ 0 → ⊥) → nat_lt (levels - 1) inner ≡ false → nat_lt levels (max (suc inner) rest) ≡ nat_lt levels rest
 deep_past levels inner rest some h = grind (arith, nat_tests)
 
--- What is left of a forest tells whether it is too deep, and whether its numbers are in range.
+-- The rest of a forest determines whether it is too deep, and whether its numbers are in range.
 pub record Tells (levels : ℕ) (whole rest : Forest) : Type 0 where
   pub depth : nat_lt levels (forest_depth rest) ≡ nat_lt levels (forest_depth whole)
   pub range : InRange rest → InRange whole
 
--- so does what is left after a block that is not too deep
+-- so does the rest after a block that is not too deep
 pub after_block : (levels id : ℕ) (whole here inner rest : Forest) → here ≡ a_block id inner rest → id < 2 ^ 32 → (levels ≡ 0 → ⊥) →
     nat_lt (levels - 1) (forest_depth inner) ≡ false → InRange inner → Tells levels whole here → Tells levels whole rest
 after_block levels id whole here inner rest is fits some shallow range told = record {
@@ -22,7 +22,7 @@ after_block levels id whole here inner rest is fits some shallow range told = re
   range = λ rest_range. told.range (rw is (fits, range, rest_range));
 }
 
--- and what is left after a record
+-- and the rest after a record
 pub after_record : (levels code : ℕ) (values : List ℕ) (whole here rest : Forest) → here ≡ a_record code values rest → code < 2 ^ 64 →
     AllByRecursion (λ v. v < 2 ^ 64) values → Tells levels whole here → Tells levels whole rest
 after_record levels code values whole here rest is fits range told = record {

@@ -65,7 +65,7 @@ judged_fit : (magic : List ℕ) (blocks : List Block) → (tree_with magic block
     InRange (forest_of_blocks blocks) → forest_depth (forest_of_blocks blocks) ≤ 255 → KeepsInfoRule (forest_of_blocks blocks) → Fit (tree_with magic blocks)
 judged_fit magic blocks fits bare range depth rule = record { magic = fits; bare = bare; blocks = are_blocks blocks; fit = fit_of (forest_of_blocks blocks) range rule; depth = depth }
 
--- what the tests of a document's parts say, where its magic and depth passed
+-- the results of the tests of a document's parts, if its magic and depth passed
 pub record Passed (magic : List ℕ) (blocks : List Block) : Type 0 where
   pub fits : (tree_with magic blocks).magic < 2 ^ 32
   pub bare : (tree_with magic blocks).magic ≢ wrapper_magic
@@ -76,11 +76,11 @@ pub record Passed (magic : List ℕ) (blocks : List Block) : Type 0 where
 pub shallow : (depth : ℕ) → false ≡ nat_lt 255 depth → depth ≤ 255
 shallow depth h = grind (arith, nat_tests)
 
--- where the rule's test passes too, the tree is fit
+-- if the rule's test passes too, the tree is fit
 pub passed_fit : (magic : List ℕ) (blocks : List Block) → Passed magic blocks → keeps_info_rule (forest_of_blocks blocks) ≡ true → Fit (tree_with magic blocks)
 passed_fit magic blocks p h = judged_fit magic blocks p.fits p.bare p.range p.depth (test_keeps (forest_of_blocks blocks) h)
 
--- where it fails the rule is broken
+-- if it fails the rule is broken
 pub rule_broken : (f : Forest) → keeps_info_rule f ≡ false → KeepsInfoRule f → ⊥
 rule_broken f h k = let e = keeps_test f k in absurd cc
 

@@ -1,4 +1,4 @@
--- What is built of the events of an input.
+-- The tree that is built of the events of an input.
 use Rattle.std.proofs.Common.{◌≡◌, ℕ, zero, suc, false, ◌==◌, ◌-◌, ◌<◌, List, [], ◌∷◌, ◌++◌, length, vec_len, refl, sym, ap, subst, ◌∙◌, arith, append_assoc, length-append, Result, Ok, Err}
 use Rattle.std.proofs.lemmas.List.{append-nil}
 use Rattle.std.specs.Global.{Vec}
@@ -28,7 +28,7 @@ use Rattle.bit_tree.proofs.MarkedFlats.{flat_frames-push}
 one_less : (count : ℕ) → suc count - 1 ≡ count
 one_less count = omega arith
 
--- the events of marks leave as many blocks open as were before them
+-- the events of marks leave as many blocks open as before them
 pub open_behind-flat : (m : Marks) (following : List Event) (count : ℕ) → open_behind (flat m following) count ≡ open_behind following count
 open_behind-flat no_marks following count = refl
 open_behind-flat (marked_block mark inner rest) following count = open_behind-flat inner (leaves mark.after ∷ flat rest following) (suc count) ∙ ap (λ (n : ℕ). open_behind (flat rest following) n) (one_less count) ∙ open_behind-flat rest following count
@@ -37,7 +37,7 @@ open_behind-flat (marked_definition mark rest) following count = open_behind-fla
 
 -- ---- marked blocks
 
--- one more event, where something was open or the event opens a block
+-- one more event, if a block was open or the event opens one
 pub built_more : (event : Event) (events : List Event) (old new : MarkedBuilder) → IsBuiltFrom events old → ((following : List Event) → built_from new following ≡ built_from old (event ∷ following)) → vec_len new.frames ≡ open_after event (vec_len old.frames) → IsBuiltFrom (events ++ event ∷ []) new
 built_more event events old new built more depth = record {
   whole = λ following. more following ∙ built.whole (event ∷ following) ∙ sym (append_assoc events (event ∷ []) following);
@@ -73,7 +73,7 @@ built_whole m b built =
     let none : length b.frames.items ≡ 0 = omega (arith, b.frames.ok.0, built.depth, open_behind-flat m [] 0) in
     flat_only (marks_of_blocks b.blocks.items) m (ap (flat (marks_of_blocks b.blocks.items)) (sym (no_frames b.frames.items [] none)) ∙ built.whole [] ∙ append-nil (flat m []))
 
--- ---- answers
+-- ---- results
 
 pub some_left : (count : ℕ) → false ≡ (count == 0) → 0 < count
 some_left zero e = absurd cc

@@ -47,7 +47,7 @@ pub flat_frames-push : (frames : List MarkedFrame) (frame : MarkedFrame) (follow
 flat_frames-push [] frame following = refl
 flat_frames-push (f ∷ frames) frame following = ap (λ (es : List Event). enters (opened f) ∷ flat (marks_of_items f.items.items) es) (flat_frames-push frames frame following)
 
--- one more block at the top is whole
+-- one more block at the top is complete
 flat-push_block : (blocks : List MarkedBlock) (b : MarkedBlock) (following : List Event) →
     flat (marks_of_blocks (blocks ++ b ∷ [])) following ≡ flat (marks_of_blocks blocks) (flat_item (Block b) following)
 flat-push_block [] b following = refl

@@ -1,4 +1,4 @@
--- Items and blocks, one after the other.
+-- Items and blocks, one after another.
 use Rattle.std.proofs.Common.{◌≡◌, ℕ, suc, ◌+◌, ◌<◌, List, length, drop, get_or, sym, ap, ◌∙◌, drop-cons, add-one}
 use Rattle.bit_tree.specs.TreeView.{put_item, put_block, forest_of_items, forest_of_blocks}
 use Rattle.bit_tree.specs.declared.tree.Block.{Block}

@@ -1,11 +1,11 @@
--- What is judged of blocks before they are a document.
+-- What is judged before blocks are a document.
 use Rattle.std.specs.Prelude.{◌≡◌, ◌≢◌, ◌^◌, ◌<◌, ◌≤◌, Bool, true, false, ◌&&◌, ◌==◌, if◌then◌else◌}
 use Rattle.std.specs.List.{AllByRecursion}
 use Rattle.bit_grammar.specs.Forest.{Forest, empty, a_block, a_record, Tree, forest_depth, set_bid, names_block, DescribesBlocks, wrapper_magic}
 use Rattle.bit_tree.specs.declared.document.DocumentReason.{DocumentReason}
 use Rattle.bit_tree.specs.declared.document.DocumentReason.TheVariants.{WrapperMagic, DepthOver255, BlockInfoRule}
 
--- ids have 32 bits, codes and values 64, as their types have it
+-- ids have 32 bits, codes and values 64, by their types
 abbrev pub InRange : Forest → Type 0
 InRange empty = Unit {0}
 InRange (a_block id inner rest) = (id < 2 ^ 32) × InRange inner × InRange rest
@@ -28,7 +28,7 @@ IsFirstReason tree BlockInfoRule = (tree.magic ≢ wrapper_magic) × (forest_dep
 
 -- ---- the same as tests
 
--- whether these are records only, where a block is described already or else the first record says which
+-- whether these are only records, if a block is described already or else the first record describes one
 abbrev pub describes_blocks : (described : Bool) → Forest → Bool
 describes_blocks described empty = true
 describes_blocks described (a_block id inner rest) = false

@@ -1,4 +1,4 @@
--- Marked blocks that are partly built, as the events that they were built from.
+-- Marked blocks that are partly built, by the events that they were built from.
 use Rattle.std.specs.Prelude.{◌≡◌, List, [], ◌∷◌, ◌++◌, vec_len}
 use Rattle.bit_grammar.specs.Machine.{Event, enters, flat}
 use Rattle.bit_grammar.specs.Marks.{no_marks}
@@ -19,7 +19,7 @@ flat_frames (f ∷ frames) following = enters (record
     { id = f.id; width = f.width; first = f.first; body = f.body })
     ∷ flat (marks_of_items f.items.items) (flat_frames frames following)
 
--- the events that were built from, before those that follow
+-- the events that they were built from, before those that follow
 abbrev pub built_from : MarkedBuilder → List Event → List Event
 built_from b following = flat (marks_of_blocks b.blocks.items)
     (flat_frames b.frames.items following)

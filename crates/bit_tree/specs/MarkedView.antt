@@ -1,4 +1,4 @@
--- What is seen of a marked tree of the program.
+-- The model of a marked tree of the program.
 use Rattle.std.specs.Prelude.{List, [], ◌∷◌}
 use Rattle.bit_grammar.specs.Marks.{BlockMark, RecordMark, DefinitionMark, Marks, no_marks, marked_block, marked_record, marked_definition}
 use Rattle.bit_tree.specs.declared.marked.MarkedBlock.{MarkedBlock}

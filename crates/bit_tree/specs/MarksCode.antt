@@ -1,4 +1,4 @@
--- How a proof tells marked trees apart.
+-- How a proof distinguishes marked trees.
 use Rattle.std.specs.Prelude.{◌≡◌, ℕ, zero, suc, List, [], ◌∷◌, Option, refl}
 use Rattle.std.specs.Coded.{Coded, code_by, coded_ℕ, coded_list, coded×, coded_option}
 use Rattle.std.proofs.Common.{ap, ◌∙◌}

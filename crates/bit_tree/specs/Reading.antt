@@ -1,4 +1,4 @@
--- What is known of what was read.
+-- Facts about a tree that was read.
 use Rattle.std.specs.Prelude.{ℕ, List}
 use Rattle.bit_grammar.specs.Setting.{Setting}
 use Rattle.bit_grammar.specs.Forest.{Tree, Fit}

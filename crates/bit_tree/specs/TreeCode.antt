@@ -1,4 +1,4 @@
--- How a proof tells trees apart.
+-- How a proof distinguishes trees.
 use Rattle.std.specs.Prelude.{◌≡◌, ℕ, zero, suc, List, [], ◌∷◌, refl}
 use Rattle.std.specs.Coded.{Coded, code_by, coded_ℕ, coded_list, coded×}
 use Rattle.std.proofs.Common.{ap, ◌∙◌}

@@ -1,4 +1,4 @@
--- What a block holds is smaller than a list that the block stands in.
+-- The items of a block are smaller than a list that contains the block.
 use Rattle.std.specs.Prelude.{◌≤◌, max, List, [], ◌∷◌}
 use Rattle.std.proofs.Common.{arith}
 use denote.Param.Weighed.{most}

@@ -1,4 +1,4 @@
--- What is seen of a tree of the program.
+-- The model of a tree of the program.
 use Rattle.std.specs.Prelude.{ℕ, List, [], ◌∷◌}
 use Rattle.bit_grammar.specs.Forest.{Forest, empty, a_block, a_record, Tree}
 use Rattle.bit_fields.specs.Opening.{magic_number}

@@ -6,7 +6,7 @@ use bit_events::Gatherer;
 use std::alloc::{AllocError, Global};
 use std::process::Abort;
 
-/// An event of a table; what it lends of a definition is made in the test.
+/// An event of a table; a definition is made in the test.
 enum Row {
     Enter {
         id: u32,
@@ -68,7 +68,7 @@ fn marked_of(alloc: Global, rows: &[Row], define: &Abbrev) -> Result<MarkedBlock
     Ok(builder.finish())
 }
 
-/// The events of two blocks, of which the first has a definition and the second a block.
+/// The events of two blocks: the first has a definition and the second a block.
 static MARKED: [Row; 9] = [
     Row::Enter {
         id: 0,
@@ -111,7 +111,7 @@ static MARKED: [Row; 9] = [
     Row::Leave { after: 352 },
 ];
 
-/// What they build.
+/// The marked blocks that they build.
 static MARKED_TEXT: &str = "MarkedBlocks([\
     MarkedBlock { id: 0, width: 2, first: 32, body: 96, after: 160, items: MarkedItems([\
     Record(MarkedRecord { abbrev: 3, code: 1, values: Values([8]), first: 96, after: 116 }), \

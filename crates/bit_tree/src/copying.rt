@@ -21,7 +21,7 @@ pub fn tree_of(alloc: Global, marked: &Marked) -> Result<Document, AllocError>
     tree_with(alloc, marked, Info::Keep)
 }
 
-/// What is left of the tree of a marked tree under a setting.
+/// The tree of a marked tree under a setting.
 pub fn tree_with(alloc: Global, marked: &Marked, info: Info<'_>) -> Result<Document, AllocError>
     requires { Fit (under (setting_of info) (input.tree_of marked.now)) }
     ensures { IfOk result (λ document. document
@@ -31,7 +31,7 @@ pub fn tree_with(alloc: Global, marked: &Marked, info: Info<'_>) -> Result<Docum
     Ok(Document::of(marked.head.magic, blocks))
 }
 
-/// Whether an item of a block with this id is in the tree.
+/// Whether an item of a block with this id is kept in the tree.
 fn is_left(item: &MarkedItem, around: u32, info: Info<'_>) -> bool {
     match item {
         MarkedItem::Block(block) => info.keeps(block.id),
@@ -51,7 +51,7 @@ fn record_of(alloc: Global, code: u64, values: &[u64]) -> Result<Record, AllocEr
     })
 }
 
-/// What is left of the tree of what a marked block with this id holds.
+/// The kept items of a marked block with this id.
 fn items_of(
     alloc: Global,
     around: u32,
@@ -90,7 +90,7 @@ fn items_of(
     Ok(Items(items))
 }
 
-/// What is left of the blocks of a tree.
+/// The kept blocks of a tree.
 pub(crate) fn blocks_of(
     alloc: Global,
     marked: &[MarkedBlock],

@@ -20,7 +20,7 @@ pub enum DocumentReason {
     BlockInfoRule,
 }
 
-/// Blocks that are no document, handed back, with the first reason.
+/// Blocks that are no document: the blocks, and the first reason.
 #[derive(Debug, Drop, Error)]
 #[error("{reason}")]
 pub struct BadDocument {
@@ -68,7 +68,7 @@ fn first_reason(magic: [u8; 4], blocks: &[Block]) -> Option<DocumentReason>
 }
 
 impl Document {
-    /// Takes a magic and blocks that are a fit tree, and hands any other blocks back. It takes no memory.
+    /// Makes a document of a magic and blocks that are a fit tree, and returns any other blocks. It allocates nothing.
     pub fn new(magic: [u8; 4], blocks: Vec<Block>) -> Result<Document, BadDocument>
         ensures fit { IsOk result ↔ Fit (tree_with magic blocks.items) }
         ensures ok { IfOk result (λ document. document ≡ tree_with magic blocks.items) }

@@ -26,7 +26,7 @@ fn names_block(values: &[u64]) -> bool
     }
 }
 
-/// Whether these are records only, the first of which says which block is described, and each that says so names one.
+/// Whether these are only records, the first of which is a SETBID, and each SETBID names a block id.
 fn describes_blocks(items: &Items) -> bool
     ensures { result ≡ describes_blocks false items.now }
 {
@@ -50,18 +50,18 @@ fn describes_blocks(items: &Items) -> bool
     true
 }
 
-/// An id has 32 bits, as its type has it.
+/// An id has 32 bits, by its type.
 fn known_id(id: u32)
     ensures { id < 2 ^ 32 }
 {}
 
-/// A code and values have 64 bits, as their types have it.
+/// A code and values have 64 bits, by their types.
 fn known_record(code: u64, values: &[u64])
     ensures code { code < 2 ^ 64 }
     ensures values { AllByRecursion (λ v. v < 2 ^ 64) values.now }
 {}
 
-/// Whether the items go deeper than a number of levels. It goes down no further than that.
+/// Whether the items are nested deeper than a number of levels. It recurses no further than that.
 fn is_deep(items: &Items, levels: u32) -> bool
     ensures deep { result ≡ nat_lt levels (forest_depth items.now) }
     ensures range { result ≡ false → InRange items.now }
@@ -100,7 +100,7 @@ fn keeps_info_rule(items: &Items) -> bool
     true
 }
 
-/// Whether the blocks go deeper than 255 levels.
+/// Whether the blocks are nested deeper than 255 levels.
 pub(crate) fn are_deep(blocks: &[Block]) -> bool
     ensures deep { result ≡ nat_lt 255 (forest_depth (forest_of_blocks blocks.now)) }
     ensures range { result ≡ false → InRange (forest_of_blocks blocks.now) }

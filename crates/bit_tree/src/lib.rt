@@ -1,10 +1,10 @@
-//! Trees of blocks and records. Begin with `read`, which reads an input as a tree with the bits of each item, and `tree_of`,
-//! which leaves these out. `Document::new` judges a tree that was made by hand. Whoever only walks over an input takes `Events`,
-//! which builds no tree.
+//! Trees of blocks and records. Begin with `read`, which reads an input as a tree with the bits of each item, and `tree_of`, which
+//! leaves these out. `Document::new` judges a tree that was made by hand. For a walk over an input that builds no tree, take
+//! `Events`.
 //!
 //! Trees are plain types over vectors. Contracts see a list of items as one `Forest`, in which each item carries those after it,
-//! and a marked list as `Marks`. `read` is a fold into `MarkedBuilder`: what is built so far, put before whatever follows, is the
-//! marked tree. `tree_with` makes what a setting leaves.
+//! and a marked list as `Marks`. `read` is a fold into `MarkedBuilder`: what is built so far, before whatever follows, is the
+//! marked tree. `tree_with` makes the tree that a setting leaves.
 #![tactic(auto)]
 
 #[cfg(test)]

@@ -42,7 +42,7 @@ pub struct MarkedBlock {
     pub items: MarkedItems,
 }
 
-/// What a block holds, in order.
+/// The items of a block, in order.
 #[cycle(marked)]
 #[derive(Debug, Drop)]
 pub struct MarkedItems(pub Vec<MarkedItem>);
@@ -85,7 +85,7 @@ impl Model for MarkedBlocks {
     ghost view = { λ a. marks_of_blocks a.0.items };
 }
 
-/// The tree of an input with its definitions, and with the place of each part: its head, its blocks, and the bit after the
+/// The tree of an input with its definitions, and with the position of each part: its head, its blocks, and the bit after the
 /// stream.
 #[derive(Debug, Drop)]
 pub struct Marked {

@@ -12,7 +12,7 @@ use bit_abbrev::Abbrev;
 use bit_events::Gatherer;
 use std::alloc::{AllocError, Global};
 
-/// A marked block that is open: its head, and the items that were read.
+/// An open marked block: its head, and the items that were read.
 #[derive(Drop)]
 struct MarkedFrame {
     id: u32,
@@ -35,7 +35,7 @@ fn add_marked(frames: &mut Vec<MarkedFrame>, item: MarkedItem) -> Result<(), All
     Ok(())
 }
 
-/// What was built of the events so far: whole blocks at the top, and the blocks that are open, the outermost first.
+/// The result of the events so far: complete blocks at the top, and the open blocks, the outermost first.
 #[derive(Drop)]
 pub(crate) struct MarkedBuilder {
     alloc: Global,

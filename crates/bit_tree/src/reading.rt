@@ -11,8 +11,8 @@ use std::alloc::Global;
 
 /// Reads an input as a marked tree, from the first byte that its source still has to the last.
 ///
-/// It takes no byte past the one behind the limit on bytes. `Refused` names the one reason and bit at which the input breaks
-/// the rules. The source is handed back as it stands.
+/// It takes no byte past the first one after the limit on bytes. `Refused` has the one reason and bit at which the input breaks the
+/// rules. The source is returned in its present state.
 pub fn read<S: Source>(alloc: Global, source: S, limits: Limits) -> (Result<Marked, Fault>, S)
     ensures { ReadsWhole (SpellsFit limits) limits (S.incoming source) result.0
         (S.incoming result.1) }

@@ -1,4 +1,4 @@
-//! Inputs and what the rules answer to them, read in pieces of several sizes, from sources that fail, and under limits.
+//! Inputs and their results by the rules, read in pieces of several sizes, from sources that fail, and under limits.
 
 use crate::copying::blocks_of;
 use crate::tests::{agrees, blocks_text, document_text, is_fit};
@@ -9,7 +9,7 @@ use std::io;
 use std::io::{Error, ErrorKind, Read};
 use std::process::Abort;
 
-/// A reader that gives at most so many bytes at a time, counts its reads and fails at one of them.
+/// A reader that gives a limited number of bytes at a time, counts its reads and fails at one of them.
 #[derive(Drop)]
 pub(crate) struct Pieces<'a> {
     rest: &'a [u8],
@@ -19,7 +19,7 @@ pub(crate) struct Pieces<'a> {
 }
 
 impl<'a> Pieces<'a> {
-    /// How many bytes it still has.
+    /// How many bytes it has left.
     pub(crate) fn left(&self) -> usize {
         self.rest.len()
     }
@@ -36,7 +36,7 @@ impl<'a> Read for Pieces<'a> {
     }
 }
 
-/// A source over such a reader; one that fails at no read where the number of the read is 0.
+/// A source over such a reader. It fails at no read if `fails_at` is 0.
 pub(crate) fn in_pieces(bytes: &[u8], most: usize, fails_at: u64) -> ReadSource<Pieces<'_>> {
     ReadSource::new(Pieces {
         rest: bytes,
@@ -46,7 +46,7 @@ pub(crate) fn in_pieces(bytes: &[u8], most: usize, fails_at: u64) -> ReadSource<
     })
 }
 
-/// The number that a hexadecimal digit stands for.
+/// The value of a hexadecimal digit.
 fn digit(byte: u8) -> u8 {
     match byte {
         b'0'..=b'9' => byte - b'0',
@@ -55,8 +55,8 @@ fn digit(byte: u8) -> u8 {
     }
 }
 
-/// Bytes that several inputs have, under a letter: the usual magic, an empty block, a BLOCKINFO block that defines
-/// [Literal 1, Fixed 7] for block 8, a block 8 of width 3 that uses it, and a wrapper of 16 bytes.
+/// Bytes that several inputs share, by a letter: the usual magic, an empty block, a BLOCKINFO block that defines [Literal 1, Fixed
+/// 7] for block 8, a block 8 of width 3 that uses it, and a wrapper of 16 bytes.
 fn bytes_named(name: u8) -> &'static [u8] {
     match name {
         b'M' => &[0x42, 0x43, 0xC0, 0xDE],
@@ -72,7 +72,7 @@ fn bytes_named(name: u8) -> &'static [u8] {
     }
 }
 
-/// The bytes of a text of hexadecimal bytes and letters for what `named` gives.
+/// The bytes of a text of hexadecimal bytes and letters for `bytes_named`.
 pub(crate) fn bytes_of(alloc: Global, text: &str) -> Result<Vec<u8>, AllocError> {
     let mut bytes = Vec::new(alloc);
     for word in text.split_whitespace() {
@@ -85,7 +85,7 @@ pub(crate) fn bytes_of(alloc: Global, text: &str) -> Result<Vec<u8>, AllocError>
     Ok(bytes)
 }
 
-/// A fault as text; where memory was refused there is none.
+/// A fault as text; none if an allocation failed.
 pub(crate) fn told_of_fault(alloc: Global, fault: Fault) -> Result<String, AllocError> {
     match fault {
         Fault::Memory => Err(AllocError),
@@ -93,7 +93,7 @@ pub(crate) fn told_of_fault(alloc: Global, fault: Fault) -> Result<String, Alloc
     }
 }
 
-/// An answer of `read` as text: its tree, or the fault.
+/// A result of `read` as text: its tree, or the fault.
 fn told_of_marked(alloc: Global, answer: Result<Marked, Fault>) -> Result<String, AllocError> {
     match answer {
         Ok(marked) => blocks_text(alloc, &blocks_of(alloc, &marked.blocks.0, Info::Keep)?),
@@ -101,7 +101,7 @@ fn told_of_marked(alloc: Global, answer: Result<Marked, Fault>) -> Result<String
     }
 }
 
-/// What `read` answers, as text.
+/// The result of `read`, as text.
 fn tree_text<S: Source + Drop>(
     alloc: Global,
     source: S,
@@ -111,7 +111,7 @@ fn tree_text<S: Source + Drop>(
     told_of_marked(alloc, answer)
 }
 
-/// The answers to an input in pieces: the same, however it is cut.
+/// Checks the result for an input in pieces: the same, however it is cut.
 fn is_read(rt: &impl Abort, alloc: Global, text: &str, limits: Limits, wanted: &str) {
     let bytes = bytes_of(alloc, text).expect(rt, "memory");
     for most in [1, 3, 4, 64] {
@@ -120,7 +120,7 @@ fn is_read(rt: &impl Abort, alloc: Global, text: &str, limits: Limits, wanted: &
     }
 }
 
-/// From a source that fails at this pull the answer is `Read` exactly where that pull was made.
+/// Checks that with a source that fails at this pull the result is `Read` exactly if that pull was made.
 fn fails_at(rt: &impl Abort, alloc: Global, bytes: &[u8], pull: u64, limits: Limits, wanted: &str) {
     let (answer, source) = read(alloc, in_pieces(bytes, 1, pull), limits);
     let failed = source.into_inner().reads >= pull;
@@ -141,8 +141,8 @@ fn fails(rt: &impl Abort, alloc: Global, text: &str, limits: Limits, wanted: &st
     }
 }
 
-/// Inputs and their answers under the usual limits, behind a '='; and lines of comment, each behind a '#'. One text, since a
-/// long table of texts takes long to prove.
+/// Inputs and their results under the usual limits, after a '='; and comments, each after a '#'. This is one text, because a long
+/// table of texts takes long to prove.
 static INPUTS: &str = "\
     =refused: Truncated at bit 0\n\
     42 43 C0 =refused: Truncated at bit 0\n\
@@ -254,10 +254,10 @@ static INPUTS: &str = "\
     # another magic\n\
     44 49 41 47 21 08 00 00 01 00 00 00 07 01 07 00 = 8 { 1 [28] }";
 
-/// How many inputs those are.
+/// How many inputs these are.
 const INPUT_COUNT: usize = 82;
 
-/// The input is read as its line says, however it is cut, and from sources that fail. Answers whether it was no comment.
+/// Checks that the input is read as its line says, however it is cut and if its source fails. Returns whether it was no comment.
 fn is_line_read(rt: &impl Abort, alloc: Global, line: &str) -> bool {
     match line.split_once('=') {
         Some((text, wanted)) => {
@@ -283,7 +283,7 @@ fn inputs(rt: HostRuntime) {
 /// Two records of seven values each, by a definition of eight literals.
 const FOURTEEN: &str = "M 21 0C 00 00 03 00 00 00 42 03 06 14 38 90 60 41 83 07 24 00";
 
-/// Limits on bytes, depth and values, inputs, and their answers.
+/// Limits on bytes, depth and values, inputs, and their results.
 static LIMITED: [((u64, u32, u64), &str, &str); 14] = [
     (
         (1000, 64, 14),
@@ -337,7 +337,7 @@ static LIMITED: [((u64, u32, u64), &str, &str); 14] = [
         "M 21 0C 00 00 02 00 00 00 1A 03 4C 00 07 00 00 00",
         "refused: TooManyValues at bit 129",
     ),
-    // the stream of a wrapper that is whole within the limit ends within it, or goes on past it
+    // a wrapper header that is complete within the limit: its stream ends within the limit, or goes on past it
     (
         (47, 64, 1000),
         "DE C0 17 0B 00 00 00 00 14 00 00 00 06 00 00 00 07 00 00 01 M E 00 00 00 00 00 00 00 00 00 00 00 00",
@@ -364,7 +364,7 @@ fn limited_inputs(rt: HostRuntime) {
     }
 }
 
-/// Limits on bytes, what inputs of 2,000 bytes begin with, and the answers.
+/// Limits on bytes, what inputs of 2,000 bytes begin with, and the results.
 static LONG: [(u64, &str, &str); 5] = [
     (1000, "H M E", "refused: TooLong at bit 8000"),
     (
@@ -381,7 +381,7 @@ static LONG: [(u64, &str, &str); 5] = [
     (10, "DE C0 17 0B", "refused: TooLong at bit 80"),
 ];
 
-/// An input of 2,000 bytes; its source is asked for one byte more than the limit, or for fewer.
+/// Checks an input of 2,000 bytes. At most one byte more than the limit is taken from its source.
 fn is_long(rt: &impl Abort, alloc: Global, limit: u64, text: &str, wanted: &str) {
     let mut bytes = bytes_of(alloc, text).expect(rt, "memory");
     bytes.resize(2000, 0).expect(rt, "memory");
@@ -402,13 +402,13 @@ fn inputs_past_the_limit(rt: HostRuntime) {
     }
 }
 
-/// Inputs, the number of pulls of a byte each that they need, and the answers; one more makes no difference.
+/// Inputs, the number of pulls of one byte that they need, and the results; one pull more makes no difference.
 static PULLS: [(&str, u64, &str); 2] = [
     ("M 21 08 00 00 01 00 00 00 07 81 07 00", 17, " 8 { 1 [30] }"),
     ("M 21 00 00 00", 6, "refused: AbbrevWidth at bit 42"),
 ];
 
-/// The answer to an input whose source fails at one of the pulls.
+/// Checks the result for an input whose source fails at one of the pulls.
 fn is_pulled(rt: &impl Abort, alloc: Global, text: &str, needs: u64, wanted: &str) {
     let bytes = bytes_of(alloc, text).expect(rt, "memory");
     for pull in 1..needs.saturating_add(2) {
@@ -425,7 +425,7 @@ fn pulls(rt: HostRuntime) {
     }
 }
 
-/// Inputs, and their answers where BLOCKINFO blocks are dropped.
+/// Inputs, and their results if BLOCKINFO blocks are dropped.
 static DROPPED: [(&str, &str); 7] = [
     ("M B U", " 8 { 1 [100] }"),
     (
@@ -473,8 +473,7 @@ fn blockinfo_is_dropped(rt: HostRuntime) {
     }
 }
 
-/// The magic and so many heads of blocks, one in another, with lengths as if they were as many whole blocks; then so many
-/// ends of blocks.
+/// The magic and `heads` heads of nested blocks, with the lengths of that many complete blocks; then `ends` ends of blocks.
 fn deep(alloc: Global, heads: u16, ends: u16) -> Result<Vec<u8>, AllocError> {
     let mut bytes = bytes_of(alloc, "M")?;
     for left in (0..heads).rev() {
@@ -487,7 +486,7 @@ fn deep(alloc: Global, heads: u16, ends: u16) -> Result<Vec<u8>, AllocError> {
     Ok(bytes)
 }
 
-/// The answer to such an input, under limits on bytes and depth.
+/// Checks the result for such an input, under limits on bytes and depth.
 fn is_deep(
     rt: &impl Abort,
     alloc: Global,
@@ -505,7 +504,7 @@ fn is_deep(
     );
 }
 
-/// So many blocks, one in another, as text.
+/// Blocks nested `depth` deep, as text.
 fn nest(rt: &impl Abort, alloc: Global, depth: usize) -> String {
     let mut text = " 8 {".repeat(alloc, depth).expect(rt, "memory");
     let ends = " }".repeat(alloc, depth).expect(rt, "memory");
@@ -560,7 +559,7 @@ fn shown_marked(alloc: Global, bytes: &[u8]) -> Result<String, AllocError> {
     }
 }
 
-/// The document of an input: what is read of a slice is fit.
+/// The document of an input. The tree that is read of a slice is fit.
 fn document_of(alloc: Global, bytes: &[u8]) -> Result<Document, Fault> {
     let (answer, _) = read(alloc, SliceSource::new(bytes), Limits::usual());
     let marked = answer?;
@@ -584,13 +583,13 @@ fn marked_trees_and_documents(rt: HostRuntime) {
     }
 }
 
-/// Writes a field of so many bits.
+/// Writes a field of `width` bits.
 fn put(rt: &impl Abort, writer: &mut BitWriter<VecSink>, width: u32, value: u64) {
     assert!(rt; writer.position() < 1 << 62 && width >= 1 && width <= 32 && value < 1 << width);
     assert!(rt; writer.fixed(width, value).is_ok());
 }
 
-/// The same so many times.
+/// The same a number of times.
 fn put_each(
     rt: &impl Abort,
     writer: &mut BitWriter<VecSink>,
@@ -621,14 +620,14 @@ fn put_fields(rt: &impl Abort, writer: &mut BitWriter<VecSink>, fields: &[(u32, 
     }
 }
 
-/// What a writer wrote of whole bytes.
+/// The whole bytes that a writer wrote.
 fn bytes_written(rt: &impl Abort, alloc: Global, mut writer: BitWriter<VecSink>) -> Vec<u8> {
     assert!(rt; writer.position() % 8 == 0);
     assert!(rt; writer.finish().is_ok());
     Vec::from_slice(alloc, writer.into_sink().bytes()).expect(rt, "memory")
 }
 
-/// A block with a definition of 1,001 literals, which is used 100 times; and then this id.
+/// A block with a definition of 1,001 literals, which is used 100 times; and then an id.
 fn bomb(rt: &impl Abort, alloc: Global, last: u64) -> Vec<u8> {
     let mut writer = BitWriter::new(VecSink::new(alloc));
     put_fields(rt, &mut writer, &BOMB_HEAD);
@@ -655,7 +654,7 @@ fn are_full(items: &[MarkedItem]) -> bool {
     records.len() == 100
 }
 
-/// Whether an input in pieces has one block, of a definition and 100 records of 1,000 values each.
+/// Whether an input in pieces has one block, with a definition and 100 records of 1,000 values each.
 fn has_many(alloc: Global, bytes: &[u8], limits: Limits) -> Result<bool, Fault> {
     let (answer, _) = read(alloc, in_pieces(bytes, 3, 0), limits);
     match answer?.blocks.0.as_slice() {

@@ -50,7 +50,7 @@ fn block_of(alloc: Global, id: u32, records: &[(u64, &[u64])]) -> Result<Block, 
     Ok(block(id, items))
 }
 
-/// The block in so many others, one in another.
+/// The block nested in `others` other blocks.
 fn within(alloc: Global, others: u32, innermost: Block) -> Result<Block, AllocError> {
     let mut outermost = innermost;
     for _ in 0..others {
@@ -86,13 +86,13 @@ pub(crate) fn blocks_text(alloc: Global, blocks: &[Block]) -> Result<String, All
     Ok(text)
 }
 
-/// The text is the wanted one.
+/// Checks that a text is the wanted one.
 pub(crate) fn agrees(rt: &impl Abort, told: Result<String, AllocError>, wanted: &str, row: &str) {
     let told = told.expect(rt, "memory");
     assert!(rt; told.as_str() == wanted, "{row}: {told}, not {wanted}");
 }
 
-/// These blocks are no document for this reason, or are one where there is none; as text they are then kept or handed back.
+/// Checks that these blocks are no document for this reason, or are one if there is none; and their text, kept or returned.
 fn answer_text(
     rt: &impl Abort,
     alloc: Global,
@@ -112,7 +112,7 @@ fn answer_text(
     }
 }
 
-/// The same of one block, which is kept or handed back as it was.
+/// The same for one block, which is kept or returned as it was.
 fn is_judged(
     rt: &impl Abort,
     alloc: Global,
@@ -129,7 +129,7 @@ fn is_judged(
 /// A magic, the number of blocks around, an id, and records.
 type Row = ([u8; 4], u32, u32, &'static [(u64, &'static [u64])]);
 
-/// The same, of a block with this id and these records in so many others.
+/// The same, for a block with this id and these records, nested in other blocks.
 fn is_row_judged(rt: &impl Abort, alloc: Global, row: Row, wanted: Option<DocumentReason>) {
     let (magic, others, id, records) = row;
     let innermost = block_of(alloc, id, records).expect(rt, "memory");
@@ -152,7 +152,7 @@ fn no_block_stands_in_blockinfo(rt: HostRuntime) {
 
 /// Rows, and why they are no document.
 static REASONS: [(Row, Option<DocumentReason>); 22] = [
-    // records that say which blocks are described
+    // lawful BLOCKINFO blocks
     ((MAGIC, 2, 0, &[]), None),
     ((MAGIC, 2, 0, &[(1, &[8])]), None),
     (
@@ -160,7 +160,7 @@ static REASONS: [(Row, Option<DocumentReason>); 22] = [
         None,
     ),
     ((MAGIC, 2, 0, &[(1, &[0xFFFF_FFFF]), (0, &[1 << 40])]), None),
-    // records that don't, in a block 0 and in another
+    // unlawful ones, and the same records in another block
     (
         (MAGIC, 2, 0, &[(2, &[])]),
         Some(DocumentReason::BlockInfoRule),
@@ -194,7 +194,7 @@ static REASONS: [(Row, Option<DocumentReason>); 22] = [
         (MAGIC, 0, 9, &[(1, &[8]), (3, &[]), (1, &[1 << 32, 8])]),
         None,
     ),
-    // the first reason comes
+    // the first reason is returned
     ((MAGIC, 254, 0, &[(1, &[8])]), None),
     (
         (MAGIC, 255, 0, &[(1, &[8])]),
@@ -222,7 +222,7 @@ fn blocks_are_judged(rt: HostRuntime) {
     }
 }
 
-/// Why an empty list is no document under the magic of a wrapper, as text.
+/// Why an empty list is no document with the magic of a wrapper, as text.
 fn told_of_refusal(alloc: Global) -> Result<String, AllocError> {
     match Document::new(WRAPPER, Vec::new(alloc)) {
         Ok(_) => Ok(String::new(alloc)),
@@ -318,7 +318,7 @@ fn sample(rt: &impl Abort, alloc: Global) -> Marked {
     }
 }
 
-/// Whether what is left of the tree is fit, found by making it a document.
+/// Whether the tree under a setting is fit, found by making it a document.
 pub(crate) fn is_fit(rt: &impl Abort, alloc: Global, marked: &Marked, info: Info<'_>) -> bool
     ensures { result ≡ true → Fit (under (setting_of info.entry) (input.tree_of marked.now)) }
 {
@@ -375,13 +375,13 @@ fn trees_keep_or_drop_blockinfo(rt: HostRuntime) {
     );
 }
 
-/// What is left of the sample without blocks with these ids, and without its records with code 1 where these are named.
+/// The sample without blocks with these ids, and without its records with code 1 if they are named.
 fn told_without(rt: &impl Abort, alloc: Global, blocks: &[u32], records: &[RecordName]) -> String {
     let info = Info::Without { blocks, records };
     told_of_tree_with(rt, alloc, info).expect(rt, "memory")
 }
 
-/// Ids of blocks, and what is left of the sample without these, and without records with code 1 of blocks 8 and 0 as well.
+/// Ids of blocks, and the sample without these, and without records with code 1 of blocks 8 and 0 as well.
 static WITHOUT: [(&[u32], &str, &str); 5] = [
     (
         &[],

@@ -27,7 +27,7 @@ pub enum Item {
     Record(Record),
 }
 
-/// A block: its id, and what it holds.
+/// A block: its id and its items.
 #[cycle(tree)]
 #[derive(Debug, Drop)]
 pub struct Block {
@@ -35,7 +35,7 @@ pub struct Block {
     pub items: Items,
 }
 
-/// What a block holds, in order.
+/// The items of a block, in order.
 #[cycle(tree)]
 #[derive(Debug, Drop)]
 pub struct Items(pub Vec<Item>);

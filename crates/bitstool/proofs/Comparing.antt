@@ -24,22 +24,24 @@ use Rattle.bit_norm.specs.Whole.{FindsDifference, Misreads}
 use Rattle.bitstool.specs.declared.outcome.Outcome.{Outcome}
 use Rattle.bitstool.specs.declared.outcome.Outcome.TheVariants.{Done, Different, Refused, RefusedOf, TooLong, Usage, Read, Write, Memory}
 use Rattle.bitstool.specs.declared.task.LeftOut.{LeftOut}
+use Rattle.bitstool.specs.declared.task.Explain.{Explain}
+use Rattle.bitstool.specs.declared.task.Explain.TheVariants.{Word, Lines, Json}
 use Rattle.bitstool.specs.declared.task.Task.TheVariants.{Same}
 use Rattle.bit_norm.proofs.Apart.{never_same}
-use Rattle.bitstool.specs.Differences.{different_text}
+use Rattle.bitstool.specs.Differences.{different_text, same_text}
 use Rattle.bitstool.specs.LeftOut.{setting_for}
 use Rattle.bitstool.specs.Performing.{AreFirst, ComparesParts, ComparesTold, FindsForTask, Found, TakesFirst, TakesRest, outcome_found, outcome_in, outcome_of}
 use Rattle.bitstool.specs.Runs.{Answers, DifferFirst, IsDrained, TakesInput, ToldBytes}
 use Rattle.bitstool.proofs.Taking.{drained, fails_more, fails_then, spends_more, spends_none, spends_then}
 use Rattle.bitstool.proofs.Known.{if_told}
 
--- ---- what a comparison found
+-- ---- the result of a comparison
 
--- a fact of an input that is known
+-- a fact of a known input
 known_first : (i : Incoming) (first : List ℕ) (P : List ℕ → Type 0) → i.to_come ≡ Some first → (IsSome i.to_come → P (known_bytes i.to_come)) → P first
 known_first i first P is h = subst (λ (o : ToldBytes). (IsSome o → P (known_bytes o)) → P first) (sym is) (λ of_first. of_first refl) h
 
--- what was found of bytes and an input
+-- the result for bytes and an input
 pub found_both : (setting : Setting) (limits : Limits) (first : List ℕ) (i j now later : Incoming) (found : Option Difference) → i.to_come ≡ Some first → FindsDifference setting limits i j (Ok found) now later → ComparesTold setting limits (Some first) j.to_come (Ok found)
 found_both setting limits first i j now later found is h = go found h.4
   where
@@ -70,9 +72,9 @@ found_fault setting limits limit first i j now later Second fault.OutputTooLong 
 found_fault setting limits limit first i j now later First fault.Failed is h = absurd h.0
 found_fault setting limits limit first i j now later Second fault.Failed is h = absurd h.2
 
--- ---- what was taken of the second input
+-- ---- the bytes that were taken of the second input
 
--- all, where it was read
+-- all, if it was read
 pub rest_taken : (setting : Setting) (limits : Limits) (i j now later : Incoming) (found : Option Difference) → FindsDifference setting limits i j (Ok found) now later → TakesRest limits j later (outcome_found (Ok found))
 rest_taken setting limits i j now later None h = (h.3.0, drained j later h.3.0.tells (λ t. (h.3.1 t).1))
 rest_taken setting limits i j now later (Some difference) h = (h.3.0, drained j later h.3.0.tells (λ t. (h.3.1 t).1))
@@ -87,7 +89,7 @@ never_fails limits i now capped fresh slice lost = elim lost.failed [
   | inr worn ↦ omega (arith, slice, worn.1, lost.pulls, fresh, capped)
 ]
 
--- none, where the first was not read
+-- none, if the first was not read
 none_spent : (limits : Limits) (j later : Incoming) → later ≡ j → Spent limits j later
 none_spent limits j later same = subst (λ (n : Incoming). Spent limits j n) (sym same) (spends_none j (limits.bytes + 1))
 
@@ -116,8 +118,8 @@ drained_then i mid later most h all = drained i later (λ t. (left (h.tells t)).
         go None told all = absurd (cc)
         go (Some bytes) told all = rw all (refl, refl)
 
--- what was taken of both
-pub both_taken : (out : LeftOut) (limits : Limits) (first count : ℕ) (explain : Bool) (i mid later : Incoming) (outcome : Outcome) → count ≡ min first (limits.bytes + 1) → Spends i count mid 0 → TakesRest limits mid later outcome → TakesInput (Same first explain limits out) i later outcome
+-- the bytes that were taken of both
+pub both_taken : (out : LeftOut) (limits : Limits) (first count : ℕ) (explain : Explain) (i mid later : Incoming) (outcome : Outcome) → count ≡ min first (limits.bytes + 1) → Spends i count mid 0 → TakesRest limits mid later outcome → TakesInput (Same first explain limits out) i later outcome
 both_taken out limits first count explain i mid later outcome counted h rest = go outcome rest
   where
     both : Spent limits mid later → Spends i (min first (limits.bytes + 1) + (limits.bytes + 1)) later 0
@@ -143,7 +145,7 @@ both_taken out limits first count explain i mid later outcome counted h rest = g
 
 -- ---- the bytes that were taken first
 
--- they are the first ones, and the others are left
+-- they are the first ones, and the others remain
 taken_all : (input bytes rest : List ℕ) (count : ℕ) → input ≡ bytes ++ rest → length bytes ≡ count → (bytes ≡ take count input) × (rest ≡ drop count input)
 taken_all input bytes rest count is long = (sym (ap (take count) is ∙ take_at bytes rest count long), sym (ap (drop count) is ∙ drop_at bytes rest count long))
 
@@ -153,7 +155,7 @@ taken_few input bytes rest count is few none =
     let short : length input ≤ count = omega (arith, ap length whole) in
     (sym (take_all count input short ∙ whole), none ∙ sym (drop_of_length-le input short))
 
--- an input breaks as another one does that begins with the same bytes up to the limit, and goes on past it as well
+-- an input breaks as another one does that has the same bytes up to the limit and is longer than the limit too
 breaks_alike : (limits : Limits) (a b : List ℕ) (fault : Fault) → limits.bytes < length a → limits.bytes < length b → take limits.bytes a ≡ take limits.bytes b → BreaksInput limits a fault → BreaksInput limits b fault
 breaks_alike limits a b fault long_a long_b same (inl within) = absurd (omega (arith, within.0))
 breaks_alike limits a b fault long_a long_b same (inr past) = inr (long_b, cut past.1)
@@ -162,8 +164,8 @@ breaks_alike limits a b fault long_a long_b same (inr past) = inr (long_b, cut p
     cut (front_spelled m spelled is) = front_spelled m (rw (← same) spelled) is
     cut (front_broken own stops is) = front_broken own (rw (← same) stops) (rw (← same) is)
 
--- What was taken are the first bytes, so many; or the limit on bytes came before that, and they go past it, as the first bytes
--- do, and begin as these.
+-- The taken bytes are the first `first` bytes; or the limit on bytes came before that. Then both are longer than the limit, and
+-- equal up to it.
 data Taken (limits : Limits) (first : ℕ) (input bytes rest : List ℕ) : Type 0 where
   whole : bytes ≡ take first input → rest ≡ drop first input → Taken limits first input bytes rest
   past : limits.bytes < length bytes → limits.bytes < length (take first input) → take limits.bytes bytes ≡ take limits.bytes (take first input) → Taken limits first input bytes rest
@@ -182,7 +184,7 @@ taken limits first count input bytes rest counted is few ended =
       ]
     ]
 
--- past the limit only the first can have been found to break
+-- past the limit only the first can break
 of_past : (setting : Setting) (limits : Limits) (bytes all rest others : List ℕ) (found : Found) → limits.bytes < length bytes → limits.bytes < length all → take limits.bytes bytes ≡ take limits.bytes all
     → ComparesTold setting limits (Some bytes) (Some rest) found → ComparesTold setting limits (Some all) (Some others) found
 of_past setting limits bytes all rest others (Ok None) long also same h = absurd (omega (arith, h.1.1.fits))
@@ -191,7 +193,7 @@ of_past setting limits bytes all rest others (Err (RefusedOf First reason bit)) 
 of_past setting limits bytes all rest others (Err (RefusedOf Second reason bit)) long also same h = absurd (omega (arith, h.0.1.fits))
 of_past setting limits bytes all rest others (Err outcome) long also same h = h
 
--- nothing is said of an input that does not tell its bytes
+-- nothing is claimed of an input whose bytes are unknown
 of_none : (setting : Setting) (limits : Limits) (a b : ToldBytes) (found : Found) → ComparesTold setting limits a b found → ComparesTold setting limits None None found
 of_none setting limits a b (Ok None) h = tt
 of_none setting limits a b (Ok (Some difference)) h = tt
@@ -199,7 +201,7 @@ of_none setting limits a b (Err (RefusedOf First reason bit)) h = tt
 of_none setting limits a b (Err (RefusedOf Second reason bit)) h = tt
 of_none setting limits a b (Err outcome) h = h
 
--- the comparison of what was taken is that of the first bytes and the others
+-- the comparison with the taken bytes is that of the first bytes and the others
 pub compared : (setting : Setting) (limits : Limits) (first count : ℕ) (told left : ToldBytes) (bytes : List ℕ) (found : Found) → count ≡ min first (limits.bytes + 1)
     → (IsSome told → AreFirst count told bytes left) → ComparesTold setting limits (Some bytes) left found → ComparesParts setting limits first told found
 compared setting limits first count None left bytes found counted are h = of_none setting limits (Some bytes) left found h
@@ -210,9 +212,9 @@ compared setting limits first count (Some input) (Some rest) bytes found counted
     go (whole is rest_is) = rw (← is, ← rest_is) h
     go (past long also same) = of_past setting limits bytes (take first input) rest (drop first input) found long also same h
 
--- they were not taken
+-- the first bytes were not taken
 module _ (limits : Limits) (first count : ℕ) (i now : Incoming) (counted : count ≡ min first (limits.bytes + 1)) where
-  pub none_taken : (out : LeftOut) (explain : Bool) (why : code.Fault) → TakesFirst count i (Err why) now → TakesInput (Same first explain limits out) i now (outcome_of limits.bytes why)
+  pub none_taken : (out : LeftOut) (explain : Explain) (why : code.Fault) → TakesFirst count i (Err why) now → TakesInput (Same first explain limits out) i now (outcome_of limits.bytes why)
   none_taken out explain fault.Read h = (fails_more i now count _ (omega (arith, counted)) h, tt)
   none_taken out explain fault.Memory h = (inl (spends_more i now count _ (omega (arith, counted)) h), tt)
   none_taken out explain fault.Write h = absurd h
@@ -228,25 +230,27 @@ none_compared setting limits limit first count i now fault.OutputTooLong h = abs
 none_compared setting limits limit first count i now fault.Failed h = absurd h
 none_compared setting limits limit first count i now (fault.Refused reason bit) h = absurd h
 
--- ---- what is told of that
+-- ---- the report on that
 
 -- both have one tree
-pub same_answers : (out : LeftOut) (limits : Limits) (first : ℕ) (explain : Bool) (input : ToldBytes) → ComparesParts (setting_for out) limits first input (Ok None) → Answers (Same first explain limits out) input Done (bits_of_bytes (codes "same\n"))
+pub same_answers : (out : LeftOut) (limits : Limits) (first : ℕ) (explain : Explain) (input : ToldBytes) → ComparesParts (setting_for out) limits first input (Ok None) → Answers (Same first explain limits out) input Done (bits_of_bytes (same_text explain))
 same_answers out limits first explain None h = (refl, tt)
 same_answers out limits first explain (Some input) h = (refl, h)
 
 -- they differ
-pub apart_answers : (out : LeftOut) (limits : Limits) (first : ℕ) (explain : Bool) (input : ToldBytes) (difference : Difference) → ComparesParts (setting_for out) limits first input (Ok (Some difference))
+pub apart_answers : (out : LeftOut) (limits : Limits) (first : ℕ) (explain : Explain) (input : ToldBytes) (difference : Difference) → ComparesParts (setting_for out) limits first input (Ok (Some difference))
     → Answers (Same first explain limits out) input Different (bits_of_bytes (different_text explain (difference_shown difference)))
-apart_answers out limits first true None difference h = (difference_shown difference, refl, tt)
-apart_answers out limits first true (Some input) difference h = (difference_shown difference, refl, h)
-apart_answers out limits first false None difference h = (refl, tt)
-apart_answers out limits first false (Some input) difference h =
+apart_answers out limits first Lines None difference h = (difference_shown difference, refl, tt)
+apart_answers out limits first Lines (Some input) difference h = (difference_shown difference, refl, h)
+apart_answers out limits first Json None difference h = (difference_shown difference, refl, tt)
+apart_answers out limits first Json (Some input) difference h = (difference_shown difference, refl, h)
+apart_answers out limits first Word None difference h = (refl, tt)
+apart_answers out limits first Word (Some input) difference h =
     let setting = setting_for out in
     (refl, (under setting (tree_of h.0), under setting (tree_of h.1), (h.0, h.2, refl), (h.1, h.3, refl), never_same setting h.0 h.1 (difference_shown difference) h.4))
 
 -- one was not read
-pub unread_finds : (out : LeftOut) (limits : Limits) (first : ℕ) (explain : Bool) (input : ToldBytes) (outcome : Outcome) → ComparesParts (setting_for out) limits first input (Err outcome) → FindsForTask (Same first explain limits out) input outcome
+pub unread_finds : (out : LeftOut) (limits : Limits) (first : ℕ) (explain : Explain) (input : ToldBytes) (outcome : Outcome) → ComparesParts (setting_for out) limits first input (Err outcome) → FindsForTask (Same first explain limits out) input outcome
 unread_finds out limits first explain None (RefusedOf First reason bit) h = tt
 unread_finds out limits first explain None (RefusedOf Second reason bit) h = tt
 unread_finds out limits first explain (Some input) (RefusedOf First reason bit) h = h

@@ -1,4 +1,4 @@
--- What commands do, by their steps.
+-- The contracts of commands, from their steps.
 use Rattle.std.proofs.Common.{◌≡◌, ◌∙◌, ℕ, ◌+◌, Bool, List, Some, None, Result, Ok, Err, ◌<◌, ◌≤◌, codes, refl, sym, subst, inl, inr, arith}
 use Rattle.std.specs.Prelude.{IfSome}
 use Rattle.std.specs.Io.KnownBytes.{Keeps}
@@ -11,16 +11,18 @@ use Rattle.bit_grammar.specs.Blocks.{Limits}
 use Rattle.bit_grammar.specs.Input.{BreaksInput, Accepts}
 use Rattle.bit_grammar.specs.Normal.{HasTree, normal_form}
 use Rattle.bit_grammar.specs.Size.{size_of}
-use Rattle.bit_grammar.specs.Texts.{report_of, listing_of}
-use Rattle.bit_grammar.specs.EventTexts.{outlook_end, outlook_text}
+use Rattle.bit_grammar.specs.Texts.{listing_of}
+use Rattle.bit_grammar.specs.EventTexts.{outlook_end}
 use Rattle.bit_grammar.specs.Machine.{Ending, accepted, broke}
 use Rattle.bit_grammar.specs.Outlook.{Outlook, outlook}
-use Rattle.bit_grammar.specs.declared.values.Values.{Values}
 use Rattle.bit_events.specs.Reading.{ReadsWhole}
 use Rattle.bit_tree.specs.Reading.{HasFit}
 use Rattle.bit_scan.specs.Analysing.{HasTally}
-use Rattle.bit_scan.specs.Reporting.{ReadsAndReports, Reports, ReportsNothing}
+use Rattle.bit_scan.specs.declared.format.EventStyle.{EventStyle}
+use Rattle.bit_scan.specs.declared.format.Format.{Format}
+use Rattle.bit_scan.specs.Reporting.{ReadsAndReports, ReportsAs, ReportsNothing}
 use Rattle.bit_scan.specs.Showing.{ListsNothing, ReadsAndLists, Shows}
+use Rattle.bit_scan.specs.Styles.{report_as, styled_outlook}
 use Rattle.bit_scan.specs.Telling.{IsTold, TellsInput}
 use Rattle.bit_scan.specs.Written.{HasFailed, TookFront, WritesText}
 use Rattle.bit_fields.specs.declared.fault.Fault.{Fault}
@@ -31,42 +33,43 @@ use Rattle.bit_norm.specs.declared.comparing.Which.TheVariants.{First, Second}
 use Rattle.bit_norm.specs.Whole.{Normalises, ReadsTree}
 use Rattle.bitstool.specs.declared.outcome.Outcome.{Outcome}
 use Rattle.bitstool.specs.declared.outcome.Outcome.TheVariants.{Done, Different, Refused, RefusedOf, TooLong, Usage, Read, Write, Memory}
+use Rattle.bitstool.specs.declared.task.Explain.{Explain}
 use Rattle.bitstool.specs.declared.task.LeftOut.{LeftOut}
 use Rattle.bitstool.specs.declared.task.Task.{Task}
 use Rattle.bitstool.specs.declared.task.Task.TheVariants.{Check, Normal, Same, Analyse, Show, Events}
 use Rattle.bitstool.specs.Performing.{ComparesParts, FindsForTask, Found, Judges, Settles, TellsDifference, TellsFound, TellsLine, outcome_of_writing, outcome_found, outcome_of}
-use Rattle.bitstool.specs.Differences.{different_text}
+use Rattle.bitstool.specs.Differences.{different_text, same_text}
 use Rattle.bitstool.specs.LeftOut.{setting_for}
 use Rattle.bitstool.specs.Runs.{ToldBytes, Answers, Refuses, StopsShort, LacksMemory, LeavesRefused, LeavesUnread, StaysOutput, TakesInput, LeavesOutput, Does, most_taken, PaysForRun}
 use Rattle.bitstool.proofs.Known.{gained, gained_front, gains_front, gains_text, gains_part, gains_kept, front_kept, if_told}
 use Rattle.bitstool.proofs.Comparing.{apart_answers, same_answers, unread_finds}
 use Rattle.bitstool.proofs.Taking.{drained, fails_more, spends_more, takes_done, takes_fault, takes_long, takes_memory, takes_write}
 
--- an output that is as it was
+-- an unchanged output
 pub stays_same : (old new : Outgoing) → new ≡ old → StaysOutput old new
 stays_same old new same = subst (λ (o : Outgoing). StaysOutput old o) (sym same) (Keeps-refl old.bytes, refl)
 
--- ---- want of memory
+-- ---- out of memory
 
--- an output that is as it was
+-- an unchanged output
 memory_kept : (task : Task) (input old new : ToldBytes) → Keeps old new → LacksMemory task input old new
 memory_kept (Check limits) input old new k = k
 memory_kept (Normal limits out) input old new k = k
 memory_kept (Same first explain limits out) input old new k = k
-memory_kept (Analyse limits) input old new k = inl k
+memory_kept (Analyse limits format) input old new k = inl k
 memory_kept (Show limits out) input old new k = inl k
-memory_kept (Events limits values) input old new k = inl k
+memory_kept (Events limits style) input old new k = inl k
 
--- it is a kind of stopping short
+-- it is a case of `StopsShort`
 memory_stops : (task : Task) (input old new : ToldBytes) → LacksMemory task input old new → StopsShort task input old new
 memory_stops (Check limits) input old new k = inl k
 memory_stops (Normal limits out) input old new k = inl k
 memory_stops (Same first explain limits out) input old new k = inl k
-memory_stops (Analyse limits) input old new h = h
+memory_stops (Analyse limits format) input old new h = h
 memory_stops (Show limits out) input old new h = h
-memory_stops (Events limits values) input old new h = h
+memory_stops (Events limits style) input old new h = h
 
--- an output that stays as it is then
+-- it still holds if the output then keeps its bytes
 stopped_then : (task : Task) (input old new last : ToldBytes) → StopsShort task input old new → Keeps new last → StopsShort task input old last
 stopped_then task input old new last (inl k) keeps = inl (Keeps-trans old new last k keeps)
 stopped_then task input old new last (inr d) keeps = inr (d.0, d.1, d.2, front_kept d.0 old new last d.3 keeps)
@@ -75,39 +78,39 @@ memory_then : (task : Task) (input old new last : ToldBytes) → LacksMemory tas
 memory_then (Check limits) input old new last k keeps = Keeps-trans old new last k keeps
 memory_then (Normal limits out) input old new last k keeps = Keeps-trans old new last k keeps
 memory_then (Same first explain limits out) input old new last k keeps = Keeps-trans old new last k keeps
-memory_then (Analyse limits) input old new last h keeps = stopped_then (Analyse limits) input old new last h keeps
+memory_then (Analyse limits format) input old new last h keeps = stopped_then (Analyse limits format) input old new last h keeps
 memory_then (Show limits out) input old new last h keeps = stopped_then (Show limits out) input old new last h keeps
-memory_then (Events limits values) input old new last h keeps = stopped_then (Events limits values) input old new last h keeps
+memory_then (Events limits style) input old new last h keeps = stopped_then (Events limits style) input old new last h keeps
 
 -- ---- inputs that were not accepted
 
--- an output that is as it was, where the input could not be read
+-- an unchanged output, if the input could not be read
 unread_kept : (task : Task) (input : ToldBytes) (old new : Outgoing) → StaysOutput old new → LeavesUnread task input old new
 unread_kept (Check limits) input old new stays = stays
 unread_kept (Normal limits out) input old new stays = stays
 unread_kept (Same first explain limits out) input old new stays = stays
-unread_kept (Analyse limits) input old new stays = stays
+unread_kept (Analyse limits format) input old new stays = stays
 unread_kept (Show limits out) input old new stays = stays
-unread_kept (Events limits values) input old new stays = (inl stays.0, stays.1)
+unread_kept (Events limits style) input old new stays = (inl stays.0, stays.1)
 
--- it is a kind of stopping short
+-- it is a case of `StopsShort`
 unread_stops : (task : Task) (input : ToldBytes) (old new : Outgoing) → LeavesUnread task input old new → StopsShort task input old.bytes new.bytes × (new.failures ≡ old.failures)
 unread_stops (Check limits) input old new stays = (inl stays.0, stays.1)
 unread_stops (Normal limits out) input old new stays = (inl stays.0, stays.1)
 unread_stops (Same first explain limits out) input old new stays = (inl stays.0, stays.1)
-unread_stops (Analyse limits) input old new stays = (inl stays.0, stays.1)
+unread_stops (Analyse limits format) input old new stays = (inl stays.0, stays.1)
 unread_stops (Show limits out) input old new stays = (inl stays.0, stays.1)
-unread_stops (Events limits values) input old new h = h
+unread_stops (Events limits style) input old new h = h
 
 refused_stops : (task : Task) (input : ToldBytes) (reason : Reason) (bit : ℕ) (old new : Outgoing) → LeavesRefused task input reason bit old new → StopsShort task input old.bytes new.bytes × (new.failures ≡ old.failures)
 refused_stops (Check limits) input reason bit old new h = (inl h.1.0, h.1.1)
 refused_stops (Normal limits out) input reason bit old new h = (inl h.1.0, h.1.1)
 refused_stops (Same first explain limits out) input reason bit old new h = (inl h.1.0, h.1.1)
-refused_stops (Analyse limits) input reason bit old new h = (inl h.1.0, h.1.1)
+refused_stops (Analyse limits format) input reason bit old new h = (inl h.1.0, h.1.1)
 refused_stops (Show limits out) input reason bit old new h = (inl h.1.0, h.1.1)
-refused_stops (Events limits values) input reason bit old new h = (inr (h.0, Refused reason bit, h.1, gains_front h.0 old.bytes new.bytes h.2), h.3)
+refused_stops (Events limits style) input reason bit old new h = (inr (h.0, Refused reason bit, h.1, gains_front h.0 old.bytes new.bytes h.2), h.3)
 
--- an output that stays as it is then
+-- it still holds if the output then keeps its bytes
 stays_then : (old new last : Outgoing) → StaysOutput old new → StaysOutput new last → StaysOutput old last
 stays_then old new last h k = (Keeps-trans old.bytes new.bytes last.bytes h.0 k.0, k.1 ∙ h.1)
 
@@ -115,17 +118,17 @@ unread_then : (task : Task) (input : ToldBytes) (old new last : Outgoing) → Le
 unread_then (Check limits) input old new last h stays = stays_then old new last h stays
 unread_then (Normal limits out) input old new last h stays = stays_then old new last h stays
 unread_then (Same first explain limits out) input old new last h stays = stays_then old new last h stays
-unread_then (Analyse limits) input old new last h stays = stays_then old new last h stays
+unread_then (Analyse limits format) input old new last h stays = stays_then old new last h stays
 unread_then (Show limits out) input old new last h stays = stays_then old new last h stays
-unread_then (Events limits values) input old new last h stays = (stopped_then (Events limits values) input old.bytes new.bytes last.bytes h.0 stays.0, stays.1 ∙ h.1)
+unread_then (Events limits style) input old new last h stays = (stopped_then (Events limits style) input old.bytes new.bytes last.bytes h.0 stays.0, stays.1 ∙ h.1)
 
 refused_then : (task : Task) (input : ToldBytes) (reason : Reason) (bit : ℕ) (old new last : Outgoing) → LeavesRefused task input reason bit old new → StaysOutput new last → LeavesRefused task input reason bit old last
 refused_then (Check limits) input reason bit old new last h stays = (h.0, stays_then old new last h.1 stays)
 refused_then (Normal limits out) input reason bit old new last h stays = (h.0, stays_then old new last h.1 stays)
 refused_then (Same first explain limits out) input reason bit old new last h stays = (h.0, stays_then old new last h.1 stays)
-refused_then (Analyse limits) input reason bit old new last h stays = (h.0, stays_then old new last h.1 stays)
+refused_then (Analyse limits format) input reason bit old new last h stays = (h.0, stays_then old new last h.1 stays)
 refused_then (Show limits out) input reason bit old new last h stays = (h.0, stays_then old new last h.1 stays)
-refused_then (Events limits values) input reason bit old new last h stays = (h.0, h.1, gains_kept h.0 old.bytes new.bytes last.bytes h.2 stays.0, stays.1 ∙ h.3)
+refused_then (Events limits style) input reason bit old new last h stays = (h.0, h.1, gains_kept h.0 old.bytes new.bytes last.bytes h.2 stays.0, stays.1 ∙ h.3)
 
 -- ---- checking
 
@@ -145,7 +148,7 @@ refused_here limits i now why h = (takes_fault {A = Unit {0}} (λ bytes done. Ac
 
 -- ---- normal forms
 
--- the form of a tree answers for the input that has it
+-- the form of a tree is an answer for the input that has it
 form_answers : (out : LeftOut) (limits : Limits) (i now : Incoming) (tree : Tree) → ReadsTree (setting_for out) limits i (Ok tree) now → size_of tree ≤ limits.bytes → Answers (Normal limits out) i.to_come Done (normal_form tree)
 form_answers out limits i now tree h small = (tree, refl, small, if_told i.to_come (λ bytes. HasTree (setting_for out) limits bytes tree) (λ tells. (h.1 tells).0.0))
 
@@ -184,7 +187,7 @@ module _ {A : Type 0} (Holds : List ℕ → A → Type 0) (task : Task) (limits 
   not_accepted fault.OutputTooLong refuses stays h = absurd h
   not_accepted fault.Failed refuses stays h = absurd h
 
-  -- the text of an answer was written, or a front of it
+  -- the text of an answer was written, or a prefix of it
   text_written : (a : A) (text : List ℕ) (answer : Result (Unit {0}) Fault) → (StopsShort task i.to_come old.bytes new.bytes → LacksMemory task i.to_come old.bytes new.bytes)
       → Answers task i.to_come Done (bits_of_bytes text) → ReadsWhole Holds limits i (Ok a) now → WritesText text old answer new → Does task i now old new (outcome_of_writing limits.bytes answer)
   text_written a text (Ok _) stops answers h w = (takes_done Holds task limits most i now a h, (bits_of_bytes text, answers, gains_text old.bytes new.bytes text w.bytes, w.failures))
@@ -198,30 +201,30 @@ module _ {A : Type 0} (Holds : List ℕ → A → Type 0) (task : Task) (limits 
   text_written a text (Err fault.Failed) stops answers h w = absurd w
 
 -- the input was analysed
-reported : (limits : Limits) (i now : Incoming) (old new : Outgoing) (answer : Result (Unit {0}) Fault) → ReadsAndReports limits i old answer now new → Does (Analyse limits) i now old new (outcome_of_writing limits.bytes answer)
-reported limits i now old new answer h =
-    text_written (HasTally limits) (Analyse limits) limits (λ o. refl) i now old new h.0 (report_of h.0) answer (λ s. s) (h.0, refl, if_told i.to_come (λ bytes. HasTally limits bytes h.0) (λ tells. (h.1.1 tells).0)) h.1 h.2
+reported : (format : Format) (limits : Limits) (i now : Incoming) (old new : Outgoing) (answer : Result (Unit {0}) Fault) → ReadsAndReports format limits i old answer now new → Does (Analyse limits format) i now old new (outcome_of_writing limits.bytes answer)
+reported format limits i now old new answer h =
+    text_written (HasTally limits) (Analyse limits format) limits (λ o. refl) i now old new h.0 (report_as format h.0) answer (λ s. s) (h.0, refl, if_told i.to_come (λ bytes. HasTally limits bytes h.0) (λ tells. (h.1.1 tells).0)) h.1 h.2
 
--- it was not
-not_reported : (limits : Limits) (i now : Incoming) (old new : Outgoing) (why : Fault) → ReportsNothing limits i old why now new → Does (Analyse limits) i now old new (outcome_of limits.bytes why)
-not_reported limits i now old new why h = not_accepted (HasTally limits) (Analyse limits) limits (λ o. refl) i now old new why (λ reason bit breaks. (breaks, stays_same old new h.1)) (stays_same old new h.1) h.0
+-- it was not analysed
+not_reported : (format : Format) (limits : Limits) (i now : Incoming) (old new : Outgoing) (why : Fault) → ReportsNothing limits i old why now new → Does (Analyse limits format) i now old new (outcome_of limits.bytes why)
+not_reported format limits i now old new why h = not_accepted (HasTally limits) (Analyse limits format) limits (λ o. refl) i now old new why (λ reason bit breaks. (breaks, stays_same old new h.1)) (stays_same old new h.1) h.0
 
-pub told_report : (limits : Limits) (i now : Incoming) (old new : Outgoing) (answer : Result (Unit {0}) Fault) → Reports limits i old answer now new → Does (Analyse limits) i now old new (outcome_of_writing limits.bytes answer)
-told_report limits i now old new (Ok _) h = reported limits i now old new (Ok tt) h
-told_report limits i now old new (Err fault.Write) h = reported limits i now old new (Err fault.Write) h
-told_report limits i now old new (Err fault.Memory) (inl h) = not_reported limits i now old new fault.Memory h
-told_report limits i now old new (Err fault.Memory) (inr h) = reported limits i now old new (Err fault.Memory) h
-told_report limits i now old new (Err (fault.Refused reason bit)) h = not_reported limits i now old new (fault.Refused reason bit) h
-told_report limits i now old new (Err fault.Read) h = not_reported limits i now old new fault.Read h
-told_report limits i now old new (Err fault.OutputTooLong) h = absurd h
-told_report limits i now old new (Err fault.Failed) h = absurd h
+pub told_report : (format : Format) (limits : Limits) (i now : Incoming) (old new : Outgoing) (answer : Result (Unit {0}) Fault) → ReportsAs format limits i old answer now new → Does (Analyse limits format) i now old new (outcome_of_writing limits.bytes answer)
+told_report format limits i now old new (Ok _) h = reported format limits i now old new (Ok tt) h
+told_report format limits i now old new (Err fault.Write) h = reported format limits i now old new (Err fault.Write) h
+told_report format limits i now old new (Err fault.Memory) (inl h) = not_reported format limits i now old new fault.Memory h
+told_report format limits i now old new (Err fault.Memory) (inr h) = reported format limits i now old new (Err fault.Memory) h
+told_report format limits i now old new (Err (fault.Refused reason bit)) h = not_reported format limits i now old new (fault.Refused reason bit) h
+told_report format limits i now old new (Err fault.Read) h = not_reported format limits i now old new fault.Read h
+told_report format limits i now old new (Err fault.OutputTooLong) h = absurd h
+told_report format limits i now old new (Err fault.Failed) h = absurd h
 
 -- the tree was read
 listed : (out : LeftOut) (limits : Limits) (i now : Incoming) (old new : Outgoing) (answer : Result (Unit {0}) Fault) → ReadsAndLists (setting_for out) limits i old answer now new → Does (Show limits out) i now old new (outcome_of_writing limits.bytes answer)
 listed out limits i now old new answer h =
     text_written (HasFit (setting_for out) limits) (Show limits out) limits (λ o. refl) i now old new h.0 (listing_of h.0) answer (λ s. s) (h.0, refl, if_told i.to_come (λ bytes. HasTree (setting_for out) limits bytes h.0) (λ tells. (h.1.1 tells).0.0)) h.1 h.2
 
--- it was not
+-- it was not read
 not_listed : (out : LeftOut) (limits : Limits) (i now : Incoming) (old new : Outgoing) (why : Fault) → ListsNothing (setting_for out) limits i old why now new → Does (Show limits out) i now old new (outcome_of limits.bytes why)
 not_listed out limits i now old new why h = not_accepted (HasFit (setting_for out) limits) (Show limits out) limits (λ o. refl) i now old new why (λ reason bit breaks. (breaks, stays_same old new h.1)) (stays_same old new h.1) h.0
 
@@ -237,43 +240,43 @@ showed out limits i now old new (Err fault.Failed) h = absurd h
 
 -- ---- events
 
--- what is told of an input answers for it
-told_answers : (limits : Limits) (values : Values) (i : Incoming) (told : Outlook) → IsTold limits i told → (answer : Outcome) × Answers (Events limits values) i.to_come answer (bits_of_bytes (outlook_text values told))
-told_answers limits values i told is_told = go (outlook_end told) refl
+-- the outlook of an input gives an answer for it
+told_answers : (limits : Limits) (style : EventStyle) (i : Incoming) (told : Outlook) → IsTold limits i told → (answer : Outcome) × Answers (Events limits style) i.to_come answer (bits_of_bytes (styled_outlook style told))
+told_answers limits style i told is_told = go (outlook_end told) refl
   where
     known : IfSome i.to_come (λ bytes. outlook limits bytes ≡ told)
     known = if_told i.to_come (λ bytes. outlook limits bytes ≡ told) is_told
 
-    go : (end : Ending) → outlook_end told ≡ end → (answer : Outcome) × Answers (Events limits values) i.to_come answer (bits_of_bytes (outlook_text values told))
+    go : (end : Ending) → outlook_end told ≡ end → (answer : Outcome) × Answers (Events limits style) i.to_come answer (bits_of_bytes (styled_outlook style told))
     go (accepted bit) is = (Done, (bit, (told, is, refl, known)))
     go (broke fault) is = (Refused fault.reason fault.bit, (told, is, refl, known))
 
--- a front of their lines
-events_stop : (limits : Limits) (values : Values) (i : Incoming) (old new : Outgoing) (told : Outlook) → IsTold limits i told → TookFront (outlook_text values told) old new → StopsShort (Events limits values) i.to_come old.bytes new.bytes
-events_stop limits values i old new told is_told w =
-    let answers = told_answers limits values i told is_told in
-    inr (bits_of_bytes (outlook_text values told), answers.0, answers.1, gains_part old.bytes new.bytes (outlook_text values told) w.front w.rest w.split w.bytes)
+-- a prefix of their lines
+events_stop : (limits : Limits) (style : EventStyle) (i : Incoming) (old new : Outgoing) (told : Outlook) → IsTold limits i told → TookFront (styled_outlook style told) old new → StopsShort (Events limits style) i.to_come old.bytes new.bytes
+events_stop limits style i old new told is_told w =
+    let answers = told_answers limits style i told is_told in
+    inr (bits_of_bytes (styled_outlook style told), answers.0, answers.1, gains_part old.bytes new.bytes (styled_outlook style told) w.front w.rest w.split w.bytes)
 
-pub told_events : (limits : Limits) (values : Values) (i now : Incoming) (old new : Outgoing) (answer : Result (Unit {0}) Fault) → TellsInput values limits i old answer now new → Does (Events limits values) i now old new (outcome_of_writing limits.bytes answer)
-told_events limits values i now old new (Ok _) h =
+pub told_events : (limits : Limits) (style : EventStyle) (i now : Incoming) (old new : Outgoing) (answer : Result (Unit {0}) Fault) → TellsInput style limits i old answer now new → Does (Events limits style) i now old new (outcome_of_writing limits.bytes answer)
+told_events limits style i now old new (Ok _) h =
     let known = if_told i.to_come (λ bytes. outlook limits bytes ≡ h.1) h.2 in
-    let text = outlook_text values h.1 in (
+    let text = styled_outlook style h.1 in (
       (h.0, drained i now h.0.tells h.3.2),
       (bits_of_bytes text, (h.3.1.0, (h.1, h.3.1.1, refl, known)), gains_text old.bytes new.bytes text h.3.0.bytes, h.3.0.failures),
     )
-told_events limits values i now old new (Err (fault.Refused reason bit)) h =
+told_events limits style i now old new (Err (fault.Refused reason bit)) h =
     let known = if_told i.to_come (λ bytes. outlook limits bytes ≡ h.1) h.2 in
-    let text = outlook_text values h.1 in
+    let text = styled_outlook style h.1 in
     ((h.0, tt), (bits_of_bytes text, (h.1, h.3.1, refl, known), gains_text old.bytes new.bytes text h.3.0.bytes, h.3.0.failures))
-told_events limits values i now old new (Err fault.Read) h = ((h.0, tt), (events_stop limits values i old new h.1 h.2 h.3.0, h.3.1))
-told_events limits values i now old new (Err fault.Write) h = ((h.0, tt), (events_stop limits values i old new h.1 h.2 h.3.0, h.3.1))
-told_events limits values i now old new (Err fault.Memory) h = ((h.0, tt), (events_stop limits values i old new h.1 h.2 h.3.0, h.3.1))
-told_events limits values i now old new (Err fault.OutputTooLong) h = absurd h.3
-told_events limits values i now old new (Err fault.Failed) h = absurd h.3
+told_events limits style i now old new (Err fault.Read) h = ((h.0, tt), (events_stop limits style i old new h.1 h.2 h.3.0, h.3.1))
+told_events limits style i now old new (Err fault.Write) h = ((h.0, tt), (events_stop limits style i old new h.1 h.2 h.3.0, h.3.1))
+told_events limits style i now old new (Err fault.Memory) h = ((h.0, tt), (events_stop limits style i old new h.1 h.2 h.3.0, h.3.1))
+told_events limits style i now old new (Err fault.OutputTooLong) h = absurd h.3
+told_events limits style i now old new (Err fault.Failed) h = absurd h.3
 
 -- ---- lines
 
--- a line was told of an input that was drained
+-- a line was written for a drained input
 pub done_told : (task : Task) (i now : Incoming) (old new : Outgoing) (line : List ℕ) (after : Outcome) → most_taken task Write ≡ most_taken task Done → TakesInput task i now Done
     → Answers task i.to_come Done (bits_of_bytes line) → TellsLine Done line old after new → Does task i now old new after
 done_told task i now old new line after most takes answers (inl h) = rw (h.0) (takes, (bits_of_bytes line, answers, gains_text old.bytes new.bytes line h.1.bytes, h.1.failures))
@@ -302,15 +305,15 @@ no_line task i now old new outcome not_done not_different stays refuses judged =
     go Write not_done not_different found = absurd found
     go Memory not_done not_different found = (memory_kept task i.to_come old.bytes new.bytes stays.0, stays.1)
 
--- what two inputs were found to be was told
-module _ (out : LeftOut) (limits : Limits) (first : ℕ) (explain : Bool) (i now : Incoming) (old new : Outgoing) (after : Outcome) where
+-- the result for two inputs was reported
+module _ (out : LeftOut) (limits : Limits) (first : ℕ) (explain : Explain) (i now : Incoming) (old new : Outgoing) (after : Outcome) where
   difference_told : (text : List ℕ) → TakesInput (Same first explain limits out) i now Different → Answers (Same first explain limits out) i.to_come Different (bits_of_bytes text) → TellsDifference text old after new → Does (Same first explain limits out) i now old new after
   difference_told text takes answers (inl told) = different_told (Same first explain limits out) i now old new text after refl takes answers told
   difference_told text takes answers (inr none) = rw (none.0) ((inl takes.0, tt), stays_same old new none.1)
 
   pub told_same : (found : Found) → TakesInput (Same first explain limits out) i now (outcome_found found) → ComparesParts (setting_for out) limits first i.to_come found → TellsFound explain found old after new
       → Does (Same first explain limits out) i now old new after
-  told_same (Ok None) takes compares tells = done_told (Same first explain limits out) i now old new (codes "same\n") after refl takes (same_answers out limits first explain i.to_come compares) tells
+  told_same (Ok None) takes compares tells = done_told (Same first explain limits out) i now old new (same_text explain) after refl takes (same_answers out limits first explain i.to_come compares) tells
   told_same (Ok (Some difference)) takes compares tells = difference_told (different_text explain (difference_shown difference)) takes (apart_answers out limits first explain i.to_come difference compares) tells
   told_same (Err outcome) takes compares tells =
       let never : (other : Outcome) → ComparesParts (setting_for out) limits first i.to_come (Err outcome) → outcome ≡ other → ComparesParts (setting_for out) limits first i.to_come (Err other) = λ other h is. subst (λ (o : Outcome). ComparesParts (setting_for out) limits first i.to_come (Err o)) is h in
@@ -322,13 +325,13 @@ never_different limits i now outcome judged is = let it : FindsForTask (Check li
 
 -- ---- flushing
 
--- the most is taken where the output fails
+-- the most is taken if the output fails
 most_write : (task : Task) (o : Outcome) → most_taken task o ≤ most_taken task Write
 most_write (Check limits) o = omega arith
 most_write (Normal limits out) o = omega arith
-most_write (Analyse limits) o = omega arith
+most_write (Analyse limits format) o = omega arith
 most_write (Show limits out) o = omega arith
-most_write (Events limits values) o = omega arith
+most_write (Events limits style) o = omega arith
 most_write (Same first explain limits out) (RefusedOf First reason bit) = omega arith
 most_write (Same first explain limits out) (RefusedOf Second reason bit) = omega arith
 most_write (Same first explain limits out) Done = omega arith
@@ -349,7 +352,7 @@ failed_still : (old new last : Outgoing) → HasFailed old new → new.failures 
 failed_still old new last (inl rose) more = inl (omega (arith, rose, more))
 failed_still old new last (inr spent) more = inr spent
 
--- what was done stays done where the output keeps it, or the output failed
+-- a finished command stays finished if the output keeps its bytes, or the output failed
 pub settled : (task : Task) (i now : Incoming) (old new last : Outgoing) (outcome after : Outcome) → Does task i now old new outcome → Settles outcome new after last → Does task i now old last after
 settled task i now old new last outcome after does (inl same) = rw (same.0) (does.0, kept outcome does.1)
   where

@@ -1,4 +1,4 @@
--- What is read of a parse is what it found.
+-- The values read from a parse are those that it found.
 use Rattle.std.proofs.Common.{◌≡◌, ◌∙◌, ℕ, Bool, true, false, ◌&&◌, not, Option, Some, None, refl, sym, ap, codes, true≢false}
 use Rattle.std.specs.Str.{bytes_eq}
 use Rattle.std.specs.Prelude.{◌<◌, ◌^◌, IfSome, Result, Ok, Err}
@@ -24,7 +24,7 @@ numeral_found f id n none value = go (one_text f id) refl
     go None e = let bad = none e in absurd (cc)
     go (Some t) e = let v = value t e in (t, sym (one_text-rows f id) ∙ e, (v.0, sym v.1))
 
--- what was read as a number, if anything was
+-- the value read as a number, if any was read
 pub number_found : {E : Type 0} (f : Found) (id : Text) (gives : Text → Result ℕ E → Type 0) (o : Option ℕ)
     → ((t : Text) (r : Result ℕ E) → gives t r → ParsesUnsigned 64 10 t r)
     → (one_text f id ≡ None → o ≡ None) → ((t : Text) → one_text f id ≡ Some t → ReadsOne gives t o)
@@ -32,7 +32,7 @@ pub number_found : {E : Type 0} (f : Found) (id : Text) (gives : Text → Result
 number_found f id gives None reads none value = tt
 number_found f id gives (Some n) reads none value = numeral_found f id n none (λ t e. let p = reads t (Ok n) (value t e) in (p.0.0, p.1))
 
--- a number that was found is read
+-- a found number is read
 pub number_read : {E : Type 0} (f : Found) (id : Text) (gives : Text → Result ℕ E → Type 0) (o : Option ℕ) (n : ℕ)
     → ((t : Text) (r : Result ℕ E) → gives t r → ParsesUnsigned 64 10 t r)
     → ((t : Text) → one_text f id ≡ Some t → ReadsOne gives t o) → HasNumber id (rows_of f) n → n < 2 ^ 64 → o ≡ Some n
@@ -42,7 +42,7 @@ number_read {E} f id gives o n reads value has small = go o (value has.0 (one_te
     go (Some v) r = let p = reads has.0 (Ok v) r in ap Some (p.1 ∙ has.2.1)
     go None r = absurd (reads has.0 (Err r.0) r.1 (has.2.0, rw has.2.1 small))
 
--- a flag that was read as given
+-- a flag that is read as given
 pub flag_found : (f : Found) (id : Text) (b : Bool) → b ≡ true → (one_text f id ≡ None → Some b ≡ None)
     → ((t : Text) → one_text f id ≡ Some t → MatchBool b (t ≡ true_text) (t ≡ false_text)) → one_of id (rows_of f) ≡ Some (codes "true")
 flag_found f id false e none value = absurd (cc)
@@ -52,7 +52,7 @@ flag_found f id true is none value = go (one_text f id) refl
     go None e = let bad = none e in absurd (cc)
     go (Some t) e = sym (one_text-rows f id) ∙ e ∙ ap Some (value t e)
 
--- a flag that was read as not given
+-- a flag that is read as not given
 pub flag_not_found : (f : Found) (id : Text) → ((t : Text) → one_text f id ≡ Some t → t ≡ codes "true" → ⊥) → one_of id (rows_of f) ≡ Some (codes "true") → ⊥
 flag_not_found f id value found = value (codes "true") (one_text-rows f id ∙ found) refl
 
@@ -79,7 +79,7 @@ no_is_false true e = absurd (cc)
 pub third_denied : (a b d rest : Bool) → (a && (b && (not d && rest))) ≡ true → d ≡ false
 third_denied a b d rest e = no_is_false d (and_left _ rest (and_right b _ (and_right a _ e)))
 
--- what was found of a command, by its parts
+-- the result of a parse for a command, by its parts
 module _ {Z : Type 0} (name : Text) (rows : List Row) where
   pub parts_found : (o : Option (Box SubCommand Z)) → Some name ≡ option_map (λ b. (out-SubCommand (box_value b)).name.now) o → Some rows ≡ option_map (λ p. p.1) (subcommand_rows o)
       → FindsAll (subcommand_rows o) → IsComplete rows name

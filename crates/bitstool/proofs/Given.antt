@@ -19,7 +19,7 @@ use Rattle.clap.specs.declared.error.kind.ErrorKind.{ErrorKind}
 use Rattle.clap.specs.declared.parser.matches.ValueSource.{ValueSource}
 use Rattle.clap.specs.declared.parser.matches.ValueSource.TheVariants.{DefaultValue}
 use Rattle.clap.proofs.ValueTestLemmas.{accepts-Accepts}
-use Rattle.bitstool.specs.Words.{HasAllLimits, HasWithin, IsComplete, checks, normalises, compares, analyses, lists, tells, FindsAll, bitstool, with_limits, leaving, dropping, comparing, telling, faults_of, named_by, bytes_rule, depth_rule, values_rule, first_rule}
+use Rattle.bitstool.specs.Words.{HasAllLimits, HasWithin, IsComplete, checks, normalises, compares, analyses, lists, tells, FindsAll, bitstool, with_json, with_limits, leaving, dropping, comparing, telling, faults_of, named_by, bytes_rule, depth_rule, values_rule, first_rule}
 use Rattle.bitstool.proofs.Walked.{GoodRow, GoodRows, IsNumeric, IsOnly, defaults_good, first_none, settle_good, then_none, walk_good}
 
 -- ---- rows
@@ -40,12 +40,12 @@ within id most rows g has =
     let number = accepts-Accepts false (Unsigned 0 most) found.0 found.2 in
     (digits_value 10 (without_leading_plus found.0), (found.0, found.1, (number.0, refl)), number.3)
 
--- ---- what is there
+-- ---- the rows that exist
 
 abbrev Has : Text → List Row → Type 0
 Has id rows = has_row id rows ≡ true
 
--- a row more leaves those that are there
+-- one more row leaves the existing ones
 with_values_keeps : (id key : Text) (how : Reading) (s : ValueSource) (values : List Text) (rows : List Row) → Has id rows → Has id (with_values key how s values rows)
 with_values_keeps id key how s values [] has = absurd (true≢false (sym has))
 with_values_keeps id key how s values (r ∷ rs) has = go (bytes_eq r.id key) (bytes_eq r.id id) has (λ rest. with_values_keeps id key how s values rs rest)
@@ -58,7 +58,7 @@ with_values_keeps id key how s values (r ∷ rs) has = go (bytes_eq r.id key) (b
     go true b has rest = has
     go false b has rest = inner (bytes_eq r.id id) (with_values key how s values rs) has rest
 
--- and is there
+-- and exists
 with_values_has : (key : Text) (how : Reading) (s : ValueSource) (values : List Text) (rows : List Row) → Has key (with_values key how s values rows)
 with_values_has key how s values [] = rw ((bytes_eq-Decides key key).1 refl) refl
 with_values_has key how s values (r ∷ rs) = go (bytes_eq r.id key) refl (with_values_has key how s values rs)
@@ -79,7 +79,7 @@ defaults_keep : (id : Text) (rules : List Rule) (rows : List Row) → Has id row
 defaults_keep id [] rows has = has
 defaults_keep id (b ∷ rest) rows has = defaults_keep id rest (with_default rows b) (default_keeps id rows b has)
 
--- a rule stands in a list
+-- a rule is in a list
 abbrev pub IsIn : Rule → List Rule → Type 0
 IsIn a [] = ⊥
 IsIn a (x ∷ xs) = (x ≡ a) ⊎ IsIn a xs
@@ -91,13 +91,13 @@ default_has rows a v vs is = go (has_row a.id rows) refl
     go true has = has
     go false has = rw is (with_values_has a.id (reading_by a) DefaultValue (v ∷ vs) rows)
 
--- an option with a default is there
+-- an option with a default exists
 defaults_have : (rules : List Rule) (rows : List Row) (a : Rule) (v : Text) (vs : List Text) → IsIn a rules → a.defaults ≡ v ∷ vs → Has a.id (fold with_default rows rules)
 defaults_have [] rows a v vs there is = absurd there
 defaults_have (x ∷ xs) rows a v vs (inl here) is = defaults_keep a.id xs (with_default rows x) (subst (λ (y : Rule). Has a.id (with_default rows y)) (sym here) (default_has rows a v vs is))
 defaults_have (x ∷ xs) rows a v vs (inr later) is = defaults_have xs (with_default rows x) a v vs later is
 
--- what the words gave is there
+-- what the words gave exists
 given_has : (id : Text) (rows : List Row) → is_given id rows ≡ true → Has id rows
 given_has id [] e = absurd (true≢false (sym e))
 given_has id (r ∷ rs) e = go (bytes_eq r.id id) e (λ rest. given_has id rs rest)
@@ -162,7 +162,7 @@ module _ (s : Shape) (words : List Text) (passes : level_fault s [] nothing_held
 abbrev IsCommand : Shape → Type 0
 IsCommand s = (words : List Text) → level_fault s [] nothing_held words false [] ≡ [] → IsComplete (AfterWords s words) s.name
 
--- what building makes of a command below the top
+-- the result of building a command below the top
 abbrev leaf : App → Shape
 leaf a = built_leaf (inherited (with_leaf_noted (marked_built bitstool.top)) a.top)
 
@@ -190,7 +190,7 @@ others id a (x ∷ xs) none = go (bytes_eq x.id id) refl none (others id a xs)
     go true is none rest = absurd (true≢false none)
     go false is none rest = ((λ yes. never (sym is ∙ yes)), rest none)
 
--- a command that begins with the limits that are numbers, and has other options behind them
+-- a command that begins with the limits that are numbers, and has other options after them
 abbrev Others : List Rule → Type 0
 Others tail = (list_any (λ x. bytes_eq x.id (codes "bytes")) tail ≡ false) × (list_any (λ x. bytes_eq x.id (codes "depth")) tail ≡ false) × (list_any (λ x. bytes_eq x.id (codes "values")) tail ≡ false)
 
@@ -208,6 +208,9 @@ numbers_within s tail is apart words passes =
 limits_within : (name : Text) (words : List Text) → level_fault (leaf (with_limits name)) [] nothing_held words false [] ≡ [] → HasAllLimits (AfterWords (leaf (with_limits name)) words)
 limits_within name words passes = numbers_within (leaf (with_limits name)) _ refl (refl, refl, refl) words passes
 
+json_within : (name : Text) (words : List Text) → level_fault (leaf (with_json name)) [] nothing_held words false [] ≡ [] → HasAllLimits (AfterWords (leaf (with_json name)) words)
+json_within name words passes = numbers_within (leaf (with_json name)) _ refl (refl, refl, refl) words passes
+
 leaving_within : (name : Text) (words : List Text) → level_fault (leaf (leaving name)) [] nothing_held words false [] ≡ [] → HasAllLimits (AfterWords (leaf (leaving name)) words)
 leaving_within name words passes = numbers_within (leaf (leaving name)) _ refl (refl, refl, refl) words passes
 
@@ -221,7 +224,7 @@ telling_within : (words : List Text) → level_fault (leaf telling) [] nothing_h
 telling_within words passes = numbers_within (leaf telling) _ refl (refl, refl, refl) words passes
 
 first_within : (words : List Text) → level_fault (leaf comparing) [] nothing_held words false [] ≡ [] → HasWithin (codes "first") 17179869180 (AfterWords (leaf comparing) words)
-first_within words passes = required_within (leaf comparing) words passes 17179869180 (filled first_rule) first_numeric (never, (never, (never, (never, (never, (never, (never, ((λ _. refl), (never, (never, tt))))))))))
+first_within words passes = required_within (leaf comparing) words passes 17179869180 (filled first_rule) first_numeric (never, (never, (never, (never, (never, (never, (never, ((λ _. refl), (never, (never, (never, tt)))))))))))
     (inr (inr (inr (inr (inr (inr (inr (inl refl)))))))) refl refl
 
 -- ---- the whole command line
@@ -238,7 +241,7 @@ commands = (
     (
       λ words passes. compares (comparing_within words passes) (first_within words passes),
       (
-        λ words passes. analyses (limits_within (codes "analyse") words passes),
+        λ words passes. analyses (json_within (codes "analyse") words passes),
         (λ words passes. lists (leaving_within (codes "show") words passes), (λ words passes. tells (telling_within words passes), tt)),
       ),
     ),
@@ -254,7 +257,7 @@ found_command f (x ∷ xs) s all e = go (f x) e (λ rest. found_command f xs s a
     go false e rest = rest e
 
 module _ (a : App) (needs : a.top.subcommand_required ≡ true) (all : AreCommands a.subs) where
-  -- the top asks for a command
+  -- the top requires a command
   asked : (rows : List Row) → check_fault a.top rows false ≡ [] → ⊥
   asked rows e = let none = (none_wanted _ _ _ e).0 in true≢false (sym needs ∙ none)
 
@@ -276,7 +279,7 @@ module _ (a : App) (needs : a.top.subcommand_required ≡ true) (all : AreComman
       let checked = then_none (defaults_fault (settled a.top.rules w.held).rows a.top.rules) _ settled_then in
       enters (finished a.top.rules w.held) w.stopped (first_none _ _ below) checked
 
--- where clap finds no fault with the words, it finds a command in them, and all that this needs
+-- if clap finds no fault with the words, it finds a command in them, and all that the command needs
 pub all_found : (words : List Text) → faults_of words ≡ [] → FindsAll (named_by words)
 unfolding faults_of named_by
 all_found words e = finds_all (built bitstool) refl commands words e

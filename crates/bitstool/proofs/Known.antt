@@ -1,4 +1,4 @@
--- What follows for a part of a text that a sink took, and for bytes that a source gave.
+-- Facts about the part of a text that a sink took, and about bytes that a source gave.
 use Rattle.std.proofs.Common.{◌≡◌, ◌∙◌, ℕ, ◌-◌, Bool, List, [], ◌++◌, length, take, drop, refl, sym, ap, subst, append_assoc, arith, Some, None, length-drop}
 use Rattle.std.specs.Prelude.{IsSome, IfSome}
 use Rattle.std.proofs.lemmas.List.{take-append-drop, append-nil}
@@ -10,7 +10,7 @@ use Rattle.bit_fields.specs.Devices.{known_bytes}
 use Rattle.bit_fields.proofs.BitLaws.{bits_of_bytes-append}
 use Rattle.bitstool.specs.Runs.{ToldBytes, GainsBits, GainsFront}
 
--- one more put takes the front of the rest
+-- one more put takes a prefix of the rest
 pub part_grows : (a b d : ToldBytes) (text part rest : List ℕ) (n : ℕ) → text ≡ part ++ rest → Appends a b part → Appends b d (take n rest)
     → (x : List ℕ) × (text ≡ x ++ take (length rest - n) (drop n rest)) × Appends a d x
 part_grows a b d text part rest n e h k =
@@ -18,7 +18,7 @@ part_grows a b d text part rest n e h k =
     let split : take n rest ++ drop n rest ≡ rest = take-append-drop n rest in
     (part ++ take n rest, e ∙ ap (λ (r : List ℕ). part ++ r) (sym split ∙ ap (λ (r : List ℕ). take n rest ++ r) (sym whole)) ∙ sym (append_assoc part (take n rest) _), Appends-trans a b d part (take n rest) h k)
 
--- a put that takes nothing leaves the part as it is
+-- a put that takes nothing leaves the part unchanged
 pub part_stays : (a b d : ToldBytes) (part rest : List ℕ) (n : ℕ) → n ≡ 0 → Appends a b part → Appends b d (take n rest) → Appends a d part
 part_stays a b d part rest n none h k =
     let nothing : take n rest ≡ [] = grind (arith, common_steps) in
@@ -31,13 +31,13 @@ gains_text None new text h = tt
 gains_text (Some held) None text h = absurd h
 gains_text (Some held) (Some now) text h = (text, ap Some h, refl)
 
--- an output gained a front of a text
+-- an output gained a prefix of a text
 pub gains_part : (old new : ToldBytes) (text part rest : List ℕ) → text ≡ part ++ rest → Appends old new part → GainsFront (bits_of_bytes text) old new
 gains_part None new text part rest e h = tt
 gains_part (Some held) None text part rest e h = absurd h
 gains_part (Some held) (Some now) text part rest e h = (part, bits_of_bytes rest, ap Some h, sym (bits_of_bytes-append part rest) ∙ ap bits_of_bytes (sym e))
 
--- what a whole is the front of itself
+-- a whole text is a prefix of itself
 pub gains_front : (bits : List Bool) (old new : ToldBytes) → GainsBits bits old new → GainsFront bits old new
 gains_front bits None new h = tt
 gains_front bits (Some held) new h = (h.0, [], h.1, append-nil (bits_of_bytes h.0) ∙ h.2)
@@ -55,7 +55,7 @@ gained_front bits None new tells bytes = tt
 gained_front bits (Some held) None tells bytes = let bad = tells refl in absurd (cc)
 gained_front bits (Some held) (Some now) tells bytes = let b = bytes refl in (b.0, b.1, ap Some b.2, b.3)
 
--- a fact of the bytes that are told
+-- a fact of the known bytes
 pub if_told : (o : ToldBytes) (P : List ℕ → Type 0) → (IsSome o → P (known_bytes o)) → IfSome o P
 if_told None P h = tt
 if_told (Some bytes) P h = h refl

@@ -1,4 +1,4 @@
--- What the words mean, from what clap says of a command that it reads as this one.
+-- The meaning of the words, from clap's contract for a command that is read as this one.
 use Rattle.std.proofs.Common.{◌≡◌, ◌∙◌, ◌⊎◌, true, List, [], Option, Result, Ok, Err, ap, sym, subst, inl, inr}
 use Rattle.std.specs.Prelude.{MatchResult}
 use Rattle.clap.specs.Words.{App, Row, Text, is_simple, subcommand_of}
@@ -16,7 +16,7 @@ pub faultless : (app : App) (words : List Text) → app ≡ bitstool → (is_sim
 unfolding faults_of
 faultless app words is none = subst (λ (a : App). fault_of a words ≡ []) is (none (ap is_simple_and_free is))
 
--- what is said of the rows that were found is said of those that the words name
+-- what holds of the found rows holds of those that the words name
 pub meant : (app : App) (words : List Text) (rows : Option (Text × List Row)) (P : Option (Text × List Row) → Type 0) → app ≡ bitstool → (is_simple app ≡ true → rows ≡ subcommand_of app words) → P rows → P (named_by words)
 unfolding named_by
 meant app words rows P is found holds = subst P (found (ap is_simple is) ∙ ap (λ (a : App). subcommand_of a words) is) holds
@@ -36,11 +36,11 @@ found_as app words rows is none found =
     let same : rows ≡ named_by words = found (ap is_simple is) ∙ ap (λ (a : App). subcommand_of a words) is in
     subst FindsAll (sym same) (all_found words (faultless app words is none))
 
--- a task that was found, or why the names are none
+-- a found task, or the reason why the names are invalid
 abbrev pub AnswersFor : Option (Text × List Row) → Result Task Unnamed → Type 0
 AnswersFor rows answer = MatchResult answer (Means rows) (MisnamedIn rows)
 
--- is one that the words ask for, or why their names are none
+-- is one that the words ask for, or the reason why their names are invalid
 pub said : (words : List Text) (answer : Result Task Unnamed) → faults_of words ≡ [] → AnswersFor (named_by words) answer → MatchResult answer (λ task. Says words (Parsed.Task task)) (MisnamesIn words)
 said words (Ok task) none h = (none, h)
 said words (Err why) none h = (none, h)

@@ -10,27 +10,27 @@ use Rattle.bit_scan.specs.Written.{HasFailed, TookFront, TookText}
 use Rattle.bitstool.specs.Performing.{PutsAll}
 use Rattle.bitstool.proofs.Known.{part_stays}
 
--- a call that failed is a failure
+-- a failed call is a failure
 pub declined_fails : (old new : Outgoing) → Declined old new → HasFailed old new
 declined_fails old new h = elim (cases_lt old.failures (2 ^ 64 - 1)) [
   | inl fresh ↦ let rose = h.counted fresh in inl (omega (arith, rose))
   | inr spent ↦ inr spent
 ]
 
--- an output that failed later failed
+-- an output that failed later has failed
 pub failed_after : (old mid new : Outgoing) → mid.failures ≡ old.failures → HasFailed mid new → HasFailed old new
 failed_after old mid new same (inl rose) = inl (omega (arith, same, rose))
 failed_after old mid new same (inr spent) = inr (omega (arith, same, spent))
 
 -- ---- the puts of a text
 
--- all of it, where nothing is left
+-- all of it, if nothing remains
 pub took_all : (old new : Outgoing) (text part rest : List ℕ) → length rest ≡ 0 → text ≡ part ++ rest → Appends old.bytes new.bytes part → new.failures ≡ old.failures → TookText text old new
 took_all old new text part rest none e h same =
     let whole : part ≡ text = sym (e ∙ ap (λ (r : List ℕ). part ++ r) (nil_from_length rest none) ∙ append-nil part) in
     record { bytes = subst (λ (p : List ℕ). Appends old.bytes new.bytes p) whole h; failures = same }
 
--- a front of it, where a put failed
+-- a prefix of it, if a put failed
 pub put_failed : (old mid new : Outgoing) (text part rest : List ℕ) → text ≡ part ++ rest → Appends old.bytes mid.bytes part → mid.failures ≡ old.failures → Declined mid new → TookFront text old new × HasFailed old new
 put_failed old mid new text part rest e h same d = (record { front = part; rest = rest; split = e; bytes = Appends-kept old.bytes mid.bytes new.bytes part h d.bytes }, failed_after old mid new same (declined_fails mid new d))
 

@@ -1,4 +1,4 @@
--- What commands take of their input.
+-- The bytes that commands take of their input.
 use Rattle.std.proofs.Common.{◌≡◌, ℕ, ◌+◌, ◌<◌, ◌≤◌, true, List, [], ◌∷◌, ◌++◌, length, Some, None, Ok, Err, refl, sym, ap, ◌∙◌, subst, inl, arith, take, length-append, length-take}
 use Rattle.std.specs.Prelude.{IsSome}
 use Rattle.std.specs.Io.KnownBytes.{Consumes, prepend_known}
@@ -19,7 +19,7 @@ use Rattle.bitstool.specs.Performing.{AreFirst, PullsFirst, TakesFirst, outcome_
 use Rattle.bitstool.specs.Runs.{IsDrained, TakesInput, ToldBytes, most_taken}
 use Rattle.bitstool.proofs.Known.{if_told}
 
--- ---- what is paid for
+-- ---- the counts of bytes and pulls
 
 pub spends_none : (i : Incoming) (most : ℕ) → Spends i most i 0
 spends_none i most = record { pulls = omega arith; failures = refl; tells = λ t. t; bytes = λ t. omega arith; accounts = λ n all says. says }
@@ -62,7 +62,7 @@ known_after None b bytes h told = absurd (cc)
 known_after (Some xs) None bytes h told = absurd h
 known_after (Some xs) (Some ys) bytes h told = (refl, ap length h ∙ length-append bytes ys)
 
--- bytes that a pull gave, of which each pays for it
+-- bytes that a pull gave, each of which pays for it
 pub gave_spends : (old new : Incoming) (count : ℕ) (into : List ℕ) → Gave old new count into → 0 < count → Spends old count new 0
 gave_spends old new count into g some =
     let long : length (take count into) ≤ count = omega (arith, length-take count into) in
@@ -74,7 +74,7 @@ gave_spends old new count into g some =
       accounts = g.accounts;
     }
 
--- so many bytes were pulled
+-- `count` bytes were pulled
 abbrev pub Pulled : Incoming → ℕ → Incoming → Type 0
 Pulled i count now = Spends i count now 0 × ((bytes : List ℕ) × Consumes i.to_come now.to_come bytes × (length bytes ≡ count))
 
@@ -85,7 +85,7 @@ pulled_more i mid now count came into h g some =
       (h.1.0 ++ take came into, Consumes-trans i.to_come mid.to_come now.to_come h.1.0 (take came into) h.1.1 g.bytes, omega (arith, length-append h.1.0 (take came into), h.1.2, all)),
     )
 
--- ---- a source that keeps what is pulled
+-- ---- a source that keeps the pulled bytes
 
 says_whole : (a b : Account) (old new : List Account) (all : List ℕ) → ((n : ℕ) (all : List ℕ) → SaysOf (a ∷ old) n all → SaysOf (b ∷ new) n all) → a.whole ≡ Some all → b.kept ≡ true → b.whole ≡ Some all
 unfolding SaysOf
@@ -98,7 +98,7 @@ kept_are (Some all) (Some rest) bytes gone says takes told =
     let same : Some (bytes ++ rest) ≡ Some all = says all refl in
     append_cancel_right gone bytes rest (sym takes ∙ sym (ap (λ (o : ToldBytes). known_bytes o) same))
 
--- it has kept what was pulled, where it tells its bytes
+-- it has kept the pulled bytes, if its bytes are known
 pub first_kept : (i p q now : Incoming) (count : ℕ) (bytes : List ℕ) → p ≡ keeps_of true [] i → q ≡ keeps_of true bytes now → PullsFirst count p (Ok tt) q → TakesFirst count i (Ok bytes) now
 first_kept i p q now count bytes begun ended pulls = go (subst (λ (r : Incoming). PullsFirst count (keeps_of true [] i) (Ok tt) r) ended (subst (λ (r : Incoming). PullsFirst count r (Ok tt) q) begun pulls))
   where
@@ -110,7 +110,7 @@ first_kept i p q now count bytes begun ended pulls = go (subst (λ (r : Incoming
           λ told. subst (λ (b : List ℕ). AreFirst count i.to_come b now.to_come) (kept_are i.to_come now.to_come bytes h.1.0 says h.1.1.0 told) h.1.1,
         )
 
--- memory for that was refused
+-- an allocation for that failed
 pub first_lost : (i p q now : Incoming) (count : ℕ) → p ≡ keeps_of true [] i → Stands q now → PullsFirst count p (Ok tt) q → TakesFirst count i (Err fault.Memory) now
 first_lost i p q now count begun s pulls = spends_within true s.is [] s.bytes i now count 0 (subst (λ (r : Incoming). Spends (keeps_of true [] i) count r 0) s.same (subst (λ (r : Incoming). Spends r count q 0) begun pulls.0))
 
@@ -118,7 +118,7 @@ first_lost i p q now count begun s pulls = spends_within true s.is [] s.bytes i 
 pub first_unread : (i p q now : Incoming) (count : ℕ) (e : SourceFailed) → p ≡ keeps_of true [] i → Stands q now → PullsFirst count p (Err e) q → TakesFirst count i (Err fault.Read) now
 first_unread i p q now count e begun s pulls = fails_within true s.is [] s.bytes i now count 0 (subst (λ (r : Incoming). Fails (keeps_of true [] i) count r 0) s.same (subst (λ (r : Incoming). Fails r count q 0) begun pulls))
 
--- ---- what is left
+-- ---- the remaining bytes
 
 none_left : (o : ToldBytes) → IsSome o → known_bytes o ≡ [] → o ≡ Some []
 none_left None told empty = absurd (cc)

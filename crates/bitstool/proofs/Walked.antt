@@ -1,5 +1,4 @@
--- What a walk over words leaves for an option with a number, where clap finds no fault: each of its values is a number in its
--- range.
+-- After a walk over words, if clap finds no fault, each value of an option with a number is a number in its range.
 use Rattle.std.proofs.Common.{◌≡◌, ℕ, Bool, true, false, cond, zero, suc, ◌∙◌, List, [], ◌∷◌, ◌++◌, Option, Some, None, refl, sym, ap, subst, fold, length, drop, min, ◌+◌, ◌&&◌, ◌||◌, true≢false, arith}
 use Rattle.std.specs.Prelude.{encode_utf8, find, slice_get, is_some, unwrap_or}
 use Rattle.std.specs.Option.{option_map_or}
@@ -30,7 +29,7 @@ pub record IsNumeric (most : ℕ) (a : Rule) : Type 0 where
   pub least : (unwrap_or_range a.range).start_inclusive ≡ 1
   pub parser : parser_of_value a.parser ≡ Unsigned 0 most
 
--- what was found for it: its first value is such a number
+-- the result for it: its first value is such a number
 pub record GoodRow (most : ℕ) (r : Row) : Type 0 where
   pub reading : r.reading ≡ AsWritten
   pub text : Text
@@ -55,7 +54,7 @@ pub either : {X : Type 0} (P : X → Type 0) (b : Bool) (x y : X) → (b ≡ tru
 either P true x y is_so is_not = is_so refl
 either P false x y is_so is_not = is_not refl
 
--- the same where a test chooses the kinds of fault as well, of which there are none
+-- the same if a test also chooses the kinds of fault, of which there are none
 either_none : {X : Type 0} (P : X → Type 0) (b : Bool) (x y : X) (f g : Kinds) → cond b f g ≡ [] → (f ≡ [] → P x) → (g ≡ [] → P y) → P (cond b x y)
 either_none P true x y f g e is_so is_not = is_so e
 either_none P false x y f g e is_so is_not = is_not e
@@ -114,7 +113,7 @@ module _ (id : Text) (most : ℕ) where
   used_other action.HelpLong key how values rows other g = g
   used_other action.Version key how values rows other g = g
 
--- values of such a rule of which none is refused
+-- values of such a rule, none of which is refused
 accepted : (b : Bool) (k : ErrorKind) → cond b [] (k ∷ []) ≡ [] → b ≡ true
 accepted true k e = refl
 accepted false k e = absurd (not_nil k [] e)

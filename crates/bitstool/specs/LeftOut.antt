@@ -1,4 +1,4 @@
--- What of a tree a command leaves out.
+-- The part of a tree that a command leaves out.
 use Rattle.bit_grammar.specs.Setting.{Setting}
 use Rattle.bitstool.specs.declared.task.LeftOut.{LeftOut}
 

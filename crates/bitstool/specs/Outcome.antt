@@ -1,4 +1,4 @@
--- The exit status of an outcome, and its line on errors.
+-- The exit status of an outcome, and its line on the errors.
 use Rattle.std.specs.Prelude.{ℕ, List, [], ◌++◌, codes, decimal}
 use Rattle.bit_grammar.specs.declared.reason.Reason.{Reason}
 use Rattle.bit_grammar.specs.Reasons.{name_of}
@@ -21,7 +21,7 @@ status_of Memory = 3
 abbrev pub reason_text : Reason → ℕ → List ℕ
 reason_text reason bit = name_of reason ++ (codes " at bit " ++ (decimal bit ++ codes "\n"))
 
--- the line, where there is one
+-- the line, if there is one
 abbrev pub line_of : Outcome → List ℕ
 line_of Done = []
 line_of Different = []

@@ -20,26 +20,27 @@ use Rattle.bit_norm.specs.declared.comparing.Which.TheVariants.{First, Second}
 use Rattle.bitstool.specs.declared.outcome.Outcome.{Outcome}
 use Rattle.bitstool.specs.declared.outcome.Outcome.TheVariants.{Done, Different, Refused, RefusedOf, TooLong, Usage, Read, Write, Memory}
 use Rattle.bitstool.specs.declared.task.Task.{Task}
-use Rattle.bitstool.specs.Differences.{different_text}
+use Rattle.bitstool.specs.declared.task.Explain.{Explain}
+use Rattle.bitstool.specs.Differences.{different_text, same_text}
 use Rattle.bitstool.specs.Runs.{ToldBytes, Answers, DifferFirst, Refuses, EndsAs, TakesInput, StaysOutput, PaysForRun}
 
--- a sink took all of a text; or a front of it, since it failed
+-- a sink took all of a text; or a prefix of it, because it failed
 abbrev pub PutsAll : List ℕ → Outgoing → Result (Unit {0}) SinkFailed → Outgoing → Type 0
 PutsAll text old (Ok _) new = TookText text old new
 PutsAll text old (Err e) new = TookFront text old new × HasFailed old new
 
--- these bytes were pulled out of a source: so many, or all where it had fewer
+-- these bytes were pulled out of a source: `count` bytes, or all if it had fewer
 abbrev pub AreFirst : ℕ → ToldBytes → List ℕ → ToldBytes → Type 0
 AreFirst count told bytes left = Consumes told left bytes × (length bytes ≤ count)
     × (length bytes < count → IsAtEnd left)
 
--- so were some, or it failed
+-- first bytes were pulled, or the source failed
 abbrev pub PullsFirst : ℕ → Incoming → Result (Unit {0}) SourceFailed → Incoming → Type 0
 PullsFirst count i (Ok _) now = Spends i count now 0
     × ((bytes : List ℕ) × AreFirst count i.to_come bytes now.to_come)
 PullsFirst count i (Err e) now = Fails i count now 0
 
--- These were taken into memory, where the source tells its bytes; or it failed, or no memory.
+-- These bytes were read into memory, if those of the source are known; or the source failed, or an allocation failed.
 abbrev pub TakesFirst : ℕ → Incoming → Result (List ℕ) Fault → Incoming → Type 0
 TakesFirst count i (Ok bytes) now = Spends i count now 0
     × (IsSome i.to_come → AreFirst count i.to_come bytes now.to_come)
@@ -47,7 +48,7 @@ TakesFirst count i (Err fault.Read) now = Fails i count now 0
 TakesFirst count i (Err fault.Memory) now = Spends i count now 0
 TakesFirst count i (Err fault) now = ⊥
 
--- the outcome of a fault, under this limit on bytes; a call of a whole input never answers that it had failed before
+-- the outcome of a fault, under this limit on bytes; a call on a whole input never returns `Failed`
 abbrev pub outcome_of : ℕ → Fault → Outcome
 outcome_of limit (fault.Refused reason bit) = Refused reason bit
 outcome_of limit fault.Read = Read
@@ -65,12 +66,12 @@ outcome_in which limit fault.Memory = Memory
 outcome_in which limit fault.OutputTooLong = TooLong limit
 outcome_in which limit fault.Failed = Read
 
--- the outcome of a text's writing, under this limit on bytes
+-- the outcome of writing a text, under this limit on bytes
 abbrev pub outcome_of_writing : ℕ → Result (Unit {0}) Fault → Outcome
 outcome_of_writing limit (Ok _) = Done
 outcome_of_writing limit (Err fault) = outcome_of limit fault
 
--- what a command has found before it writes
+-- the finding of a command before it writes
 abbrev pub FindsForTask : Task → ToldBytes → Outcome → Type 0
 FindsForTask task input Done = (bits : List Bool) × Answers task input Done bits
 FindsForTask task input Different = (bits : List Bool) × Answers task input Different bits
@@ -87,13 +88,13 @@ FindsForTask task input Memory = ⊤
 abbrev pub Judges : Task → Incoming → Incoming → Outcome → Type 0
 Judges task i now outcome = TakesInput task i now outcome × FindsForTask task i.to_come outcome
 
--- what was taken of the second for that: nothing where the first is refused
+-- the bytes that were taken of the second for that: none if the first is refused
 abbrev pub TakesRest : Limits → Incoming → Incoming → Outcome → Type 0
 TakesRest limits j later (RefusedOf First reason bit) = later ≡ j
 TakesRest limits j later outcome = PaysForRun outcome j (limits.bytes + 1) later
     × EndsAs outcome j later
 
--- what two inputs were found to be: this first difference, or none; or another outcome
+-- the result for two inputs: this first difference, or none; or another outcome
 abbrev pub Found : Type 0
 Found = Result (Option Difference) Outcome
 
@@ -103,8 +104,8 @@ outcome_found (Ok None) = Done
 outcome_found (Ok (Some difference)) = Different
 outcome_found (Err outcome) = outcome
 
--- Two inputs were compared: both have this tree; or this is where they first differ; or one breaks so, the second after the
--- first was accepted; or a source failed, or no memory.
+-- Two inputs were compared: both have this tree; or they first differ at this place; or one breaks with this fault, the second
+-- after the first was accepted; or a source failed, or an allocation failed.
 abbrev pub ComparesTold : Setting → Limits → (a b : ToldBytes) → Found → Type 0
 ComparesTold setting limits a b (Ok None) = IfSome a (λ x. IfSome b (λ y. (tree : Tree)
     × HasTree setting limits x tree × HasTree setting limits y tree))
@@ -118,29 +119,29 @@ ComparesTold setting limits a b (Err Read) = ⊤
 ComparesTold setting limits a b (Err Memory) = ⊤
 ComparesTold setting limits a b (Err outcome) = ⊥
 
--- so were the first bytes of an input, so many, and the others
+-- so were the first `first` bytes of an input and the rest
 abbrev pub ComparesParts : Setting → Limits → ℕ → ToldBytes → Found → Type 0
 ComparesParts setting limits first input = ComparesTold setting limits
     (option_map (take first) input) (option_map (drop first) input)
 
--- an answer was written as this line; or the output failed, and took a front of it
+-- an answer was written as this line; or the output failed, and took a prefix of it
 abbrev pub TellsLine : Outcome → List ℕ → Outgoing → Outcome → Outgoing → Type 0
 TellsLine answer line old after new = ((after ≡ answer) × TookText line old new)
     ⊎ ((after ≡ Write) × TookFront line old new × HasFailed old new)
 
--- a difference was told; or the output failed; or there was no memory for the lines, and the output is as it was
+-- a difference was reported; or the output failed; or there was no memory for the lines, and the output is unchanged
 abbrev pub TellsDifference : List ℕ → Outgoing → Outcome → Outgoing → Type 0
 TellsDifference lines old after new = TellsLine Different lines old after new
     ⊎ ((after ≡ Memory) × (new ≡ old))
 
--- what two inputs were found to be was told
-abbrev pub TellsFound : (explain : Bool) → Found → Outgoing → Outcome → Outgoing → Type 0
-TellsFound explain (Ok None) old after new = TellsLine Done (codes "same\n") old after new
+-- the result for two inputs was reported
+abbrev pub TellsFound : Explain → Found → Outgoing → Outcome → Outgoing → Type 0
+TellsFound explain (Ok None) old after new = TellsLine Done (same_text explain) old after new
 TellsFound explain (Ok (Some difference)) old after new = TellsDifference
     (different_text explain (difference_shown difference)) old after new
 TellsFound explain (Err outcome) old after new = (after ≡ outcome) × (new ≡ old)
 
--- the outcome after a flush: as it was, or the output failed; no byte came or went
+-- the outcome after a flush: unchanged, or the output failed; the bytes are unchanged
 abbrev pub Settles : Outcome → Outgoing → Outcome → Outgoing → Type 0
 Settles outcome old after new =
     ((after ≡ outcome) × StaysOutput old new)

@@ -1,9 +1,8 @@
 -- What a command does with its input and its output, and what a run of the program does, over any devices.
-use Rattle.std.specs.Prelude.{◌≡◌, ◌≢◌, ◌⊎◌, ⊤, ℕ, ◌+◌, ◌<◌, ◌≤◌, min, Bool, true, false, List, [], ◌++◌, take, drop, codes, Option, Some, IfSome, string_bytes}
+use Rattle.std.specs.Prelude.{◌≡◌, ◌≢◌, ◌⊎◌, ⊤, ℕ, ◌+◌, ◌<◌, ◌≤◌, min, Bool, List, [], ◌++◌, take, drop, codes, Option, Some, IfSome, string_bytes}
 use Rattle.std.specs.Io.KnownBytes.{Keeps}
 use Rattle.bit_grammar.specs.Setting.{Setting}
 use Rattle.bit_grammar.specs.declared.reason.Reason.{Reason}
-use Rattle.bit_grammar.specs.declared.values.Values.{Values}
 use Rattle.bit_grammar.specs.Bits.{bits_of_bytes}
 use Rattle.bit_grammar.specs.Grammar.{at}
 use Rattle.bit_grammar.specs.Forest.{Tree}
@@ -13,12 +12,14 @@ use Rattle.bit_grammar.specs.Terms.{Marked}
 use Rattle.bit_grammar.specs.Normal.{HasTree, normal_form}
 use Rattle.bit_grammar.specs.Size.{size_of}
 use Rattle.bit_grammar.specs.Tally.{Tally}
-use Rattle.bit_grammar.specs.Texts.{report_of, listing_of}
-use Rattle.bit_grammar.specs.EventTexts.{outlook_text, outlook_end}
+use Rattle.bit_grammar.specs.Texts.{listing_of}
+use Rattle.bit_grammar.specs.EventTexts.{outlook_end}
 use Rattle.bit_grammar.specs.Machine.{Ending, accepted, broke}
 use Rattle.bit_grammar.specs.Outlook.{Outlook, outlook}
 use Rattle.bit_fields.specs.Devices.{Incoming, Outgoing, Spends, Fails}
+use Rattle.bit_scan.specs.declared.format.EventStyle.{EventStyle}
 use Rattle.bit_scan.specs.Analysing.{HasTally}
+use Rattle.bit_scan.specs.Styles.{report_as, styled_outlook}
 use Rattle.bit_norm.specs.Entries.{FirstDifference, Seen}
 use Rattle.bit_scan.specs.Written.{TookText, TookFront, HasFailed}
 use Rattle.bit_norm.specs.declared.comparing.Which.TheVariants.{First, Second}
@@ -28,68 +29,69 @@ use Rattle.bitstool.specs.declared.task.Task.{Task}
 use Rattle.bitstool.specs.declared.task.Task.TheVariants.{Check, Normal, Same, Analyse, Show, Events}
 use Rattle.bitstool.specs.declared.task.Parsed.{Parsed}
 use Rattle.bitstool.specs.declared.task.Parsed.TheVariants as parsed
-use Rattle.bitstool.specs.Differences.{difference_text}
+use Rattle.bitstool.specs.declared.task.Explain.{Explain}
+use Rattle.bitstool.specs.declared.task.Explain.TheVariants.{Word}
+use Rattle.bitstool.specs.Differences.{different_text, same_text}
 use Rattle.bitstool.specs.LeftOut.{setting_for}
 use Rattle.bitstool.specs.Outcome.{status_of, line_of}
 
--- ---- what a command says of its input
+-- ---- what a command reports of its input
 
--- the bytes of an input, or of what an output holds, where they are told
+-- the bytes of an input or of an output, if they are known
 abbrev pub ToldBytes : Type 0
 ToldBytes = Option (List ℕ)
 
--- the text that is written, as bits
+-- the written text, as bits
 abbrev pub SpellsText : List ℕ → List Bool → Type 0
 SpellsText text bits = bits ≡ bits_of_bytes text
 
--- two inputs spell marked trees whose trees first differ so
+-- two inputs spell marked trees with this first difference
 abbrev pub DifferFirst : Setting → Limits → (first second : List ℕ) → Seen → Type 0
 DifferFirst setting limits first second seen =
     (a : Marked) × (b : Marked) × SpellsInput limits first a × SpellsInput limits second b
     × FirstDifference setting a b seen
 
--- The parts of an input before and behind so many bytes have two trees, and a word says so; or, explained, lines say where
+-- The first `first` bytes of an input and the rest have two trees, and a word reports that; or, explained, lines report where
 -- they first differ.
-abbrev pub TellsApart : (explain : Bool) → Setting → Limits → ℕ → ToldBytes → List Bool → Type 0
-TellsApart false setting limits first input bits = SpellsText (codes "different\n") bits
+abbrev pub TellsApart : Explain → Setting → Limits → ℕ → ToldBytes → List Bool → Type 0
+TellsApart Word setting limits first input bits = SpellsText (codes "different\n") bits
     × IfSome input (λ bytes. (a : Tree) × (b : Tree) × HasTree setting limits (take first bytes) a
     × HasTree setting limits (drop first bytes) b × (a ≢ b))
-TellsApart true setting limits first input bits = (seen : Seen)
-    × SpellsText (difference_text seen) bits × IfSome input
+TellsApart explain setting limits first input bits = (seen : Seen)
+    × SpellsText (different_text explain seen) bits × IfSome input
     (λ bytes. DifferFirst setting limits (take first bytes) (drop first bytes) seen)
 
--- What is told of an input ends so, and these are the lines of the magic and the events that are told.
-abbrev pub TellsEvents : Limits → Values → ToldBytes → Ending → List Bool → Type 0
-TellsEvents limits values input end bits = (told : Outlook) × (outlook_end told ≡ end)
-    × SpellsText (outlook_text values told) bits
+-- The outlook of an input has this end, and these are the lines of its magic and its events, in this style.
+abbrev pub TellsEvents : Limits → EventStyle → ToldBytes → Ending → List Bool → Type 0
+TellsEvents limits style input end bits = (told : Outlook) × (outlook_end told ≡ end)
+    × SpellsText (styled_outlook style told) bits
     × IfSome input (λ bytes. outlook limits bytes ≡ told)
 
--- A command that is done with this outcome says so of its input, and has these bits for the output: a line, the normal form
--- of the input's tree under the setting, the report of its analysis, the listing of its tree under the setting, or the lines of its
--- events.
--- `events` has lines for an input that it refuses too, of the events before the fault.
+-- The answer of a command with this outcome is true of its input and has these bits: a line, the normal form of the input's tree
+-- under the setting, the report of its analysis, the listing of its tree under the setting, or the lines of its events. `events`
+-- also has lines for an input that it refuses: those of the events before the fault.
 abbrev pub Answers : Task → ToldBytes → Outcome → List Bool → Type 0
 Answers (Check limits) input Done bits = SpellsText (codes "accepted\n") bits
     × IfSome input (Accepts limits)
 Answers (Normal limits left) input Done bits = (tree : Tree) × (bits ≡ normal_form tree)
     × (size_of tree ≤ limits.bytes) × IfSome input
     (λ bytes. HasTree (setting_for left) limits bytes tree)
-Answers (Same first explain limits left) input Done bits = SpellsText (codes "same\n") bits
+Answers (Same first explain limits left) input Done bits = SpellsText (same_text explain) bits
     × IfSome input (λ bytes. (tree : Tree) × HasTree (setting_for left) limits (take first bytes)
     tree × HasTree (setting_for left) limits (drop first bytes) tree)
 Answers (Same first explain limits left) input Different bits = TellsApart explain
     (setting_for left) limits first input bits
-Answers (Analyse limits) input Done bits = (tally : Tally) × SpellsText (report_of tally) bits
+Answers (Analyse limits format) input Done bits = (tally : Tally) × SpellsText (report_as format tally) bits
     × IfSome input (λ bytes. HasTally limits bytes tally)
 Answers (Show limits left) input Done bits = (tree : Tree) × SpellsText (listing_of tree) bits
     × IfSome input (λ bytes. HasTree (setting_for left) limits bytes tree)
-Answers (Events limits values) input Done bits = (bit : ℕ)
-    × TellsEvents limits values input (accepted bit) bits
-Answers (Events limits values) input (Refused reason bit) bits = TellsEvents limits values input
+Answers (Events limits style) input Done bits = (bit : ℕ)
+    × TellsEvents limits style input (accepted bit) bits
+Answers (Events limits style) input (Refused reason bit) bits = TellsEvents limits style input
     (broke (at reason bit)) bits
 Answers task input outcome bits = ⊥
 
--- A command that refuses its input with this outcome says so of it.
+-- A refusal by a command, with this outcome, is true of its input.
 abbrev pub Refuses : Task → ToldBytes → Outcome → Type 0
 Refuses (Check limits) input (Refused reason bit) = IfSome input
     (λ bytes. BreaksInput limits bytes (at reason bit))
@@ -103,31 +105,31 @@ Refuses (Same first explain limits left) input (RefusedOf First reason bit) = If
 Refuses (Same first explain limits left) input (RefusedOf Second reason bit) = IfSome input
     (λ bytes. Accepts limits (take first bytes)
     × BreaksInput limits (drop first bytes) (at reason bit))
-Refuses (Analyse limits) input (Refused reason bit) = IfSome input
+Refuses (Analyse limits format) input (Refused reason bit) = IfSome input
     (λ bytes. BreaksInput limits bytes (at reason bit))
 Refuses (Show limits left) input (Refused reason bit) = IfSome input
     (λ bytes. BreaksInput limits bytes (at reason bit))
 Refuses task input outcome = ⊥
 
--- ---- what it takes of its input
+-- ---- the bytes that a command takes of its input
 
--- The most bytes that a command takes of its input, and the most pulls that it makes: as many as the limit on bytes, and one more. Of
--- two inputs so many each, and of the first no more than it has; where the first is refused, the second is asked for none.
+-- The most bytes that a command takes of its input, and the most pulls that it makes: the limit on bytes, plus one. For two inputs
+-- that is the most of each, and at most `first` bytes of the first. If the first is refused, the second is not read.
 abbrev pub most_taken : Task → Outcome → ℕ
 most_taken (Check limits) outcome = limits.bytes + 1
 most_taken (Normal limits left) outcome = limits.bytes + 1
 most_taken (Same first explain limits left) (RefusedOf First reason bit) = min first (limits.bytes + 1)
 most_taken (Same first explain limits left) outcome = min first (limits.bytes + 1) + (limits.bytes + 1)
-most_taken (Analyse limits) outcome = limits.bytes + 1
+most_taken (Analyse limits format) outcome = limits.bytes + 1
 most_taken (Show limits left) outcome = limits.bytes + 1
-most_taken (Events limits values) outcome = limits.bytes + 1
+most_taken (Events limits style) outcome = limits.bytes + 1
 
--- nothing is left of an input that tells its bytes
+-- an input whose bytes are known has none left
 abbrev pub IsDrained : Incoming → Incoming → Type 0
 IsDrained i now = IfSome i.to_come (λ bytes. now.to_come ≡ Some [])
 
--- So much was paid for. The source did not fail, or once, where the input could not be read; where the output failed or memory
--- was refused, it may have failed before that.
+-- The bytes and pulls of a run are at most `most`. The source did not fail, or it failed once if the input could not be read. If
+-- the output or an allocation failed, the source may have failed before.
 abbrev pub PaysForRun : Outcome → Incoming → (most : ℕ) → Incoming → Type 0
 PaysForRun Read i most now = Fails i most now 0
 PaysForRun Write i most now = Spends i most now 0 ⊎ Fails i most now 0
@@ -145,56 +147,56 @@ abbrev pub TakesInput : Task → Incoming → Incoming → Outcome → Type 0
 TakesInput task i now outcome = PaysForRun outcome i (most_taken task outcome) now
     × EndsAs outcome i now
 
--- ---- what it leaves on the output
+-- ---- the bytes that a command leaves on the output
 
--- an output that tells its bytes gained bytes with these bits
+-- an output whose bytes are known gained bytes with these bits
 abbrev pub GainsBits : List Bool → ToldBytes → ToldBytes → Type 0
 GainsBits bits old new = IfSome old (λ held. (text : List ℕ) × (new ≡ Some (held ++ text))
     × (bits_of_bytes text ≡ bits))
 
--- it gained a front of them
+-- it gained a prefix of them
 abbrev pub GainsFront : List Bool → ToldBytes → ToldBytes → Type 0
 GainsFront bits old new = IfSome old (λ held. (text : List ℕ) × (rest : List Bool)
     × (new ≡ Some (held ++ text)) × (bits_of_bytes text ++ rest ≡ bits))
 
--- it is as it was, or gained a front of an answer
+-- it is unchanged, or gained a prefix of an answer
 abbrev pub StopsShort : Task → ToldBytes → ToldBytes → ToldBytes → Type 0
 StopsShort task input old new = Keeps old new
     ⊎ ((bits : List Bool) × (answer : Outcome) × Answers task input answer bits
     × GainsFront bits old new)
 
--- Where memory is wanting the output is as it was; but of a report, of a listing and of events, whose lines are made while they
--- are written, it may have a front.
+-- If an allocation fails, the output is unchanged. But it may have a prefix of a report, of a listing or of events, because their
+-- lines are made while they are written.
 abbrev pub LacksMemory : Task → ToldBytes → ToldBytes → ToldBytes → Type 0
-LacksMemory (Analyse limits) input old new = StopsShort (Analyse limits) input old new
+LacksMemory (Analyse limits format) input old new = StopsShort (Analyse limits format) input old new
 LacksMemory (Show limits left) input old new = StopsShort (Show limits left) input old new
-LacksMemory (Events limits values) input old new = StopsShort (Events limits values) input old new
+LacksMemory (Events limits style) input old new = StopsShort (Events limits style) input old new
 LacksMemory task input old new = Keeps old new
 
--- no byte came or went, and the output did not fail
+-- the bytes are unchanged, and the output did not fail
 abbrev pub StaysOutput : Outgoing → Outgoing → Type 0
 StaysOutput old new = Keeps old.bytes new.bytes × (new.failures ≡ old.failures)
 
--- an answer was written whole, and the output did not fail
+-- a whole answer was written, and the output did not fail
 abbrev pub WritesAnswer : Task → ToldBytes → Outcome → Outgoing → Outgoing → Type 0
 WritesAnswer task input outcome old new = (bits : List Bool) × Answers task input outcome bits
     × GainsBits bits old.bytes new.bytes × (new.failures ≡ old.failures)
 
--- where the input is refused the output is as it was; but it has the lines of the events before the fault
+-- if the input is refused, the output is unchanged; but it has the lines of the events before the fault
 abbrev pub LeavesRefused : Task → ToldBytes → Reason → ℕ → Outgoing → Outgoing → Type 0
-LeavesRefused (Events limits values) input reason bit old new = WritesAnswer (Events limits values)
+LeavesRefused (Events limits style) input reason bit old new = WritesAnswer (Events limits style)
     input (Refused reason bit) old new
 LeavesRefused task input reason bit old new = Refuses task input (Refused reason bit)
     × StaysOutput old new
 
--- where the input could not be read the output is as it was; but of events it may have a front
+-- if the input could not be read, the output is unchanged; but it may have a prefix of the events
 abbrev pub LeavesUnread : Task → ToldBytes → Outgoing → Outgoing → Type 0
-LeavesUnread (Events limits values) input old new = StopsShort (Events limits values) input
+LeavesUnread (Events limits style) input old new = StopsShort (Events limits style) input
     old.bytes new.bytes × (new.failures ≡ old.failures)
 LeavesUnread task input old new = StaysOutput old new
 
--- What it leaves, by its outcome: an answer is written whole; a refusal, and what fails before there is an answer, writes nothing,
--- but for the events that came before it; and where the output fails, and only there, it has nothing, or a front of an answer.
+-- The output by the outcome. An answer is written whole. A refusal, or a failure before the answer, writes nothing but the events
+-- before it. If the output fails, and only then, it has nothing, or a prefix of an answer.
 abbrev pub LeavesOutput : Task → ToldBytes → Outgoing → Outgoing → Outcome → Type 0
 LeavesOutput task input old new Done = WritesAnswer task input Done old new
 LeavesOutput task input old new Different = WritesAnswer task input Different old new
@@ -210,14 +212,14 @@ LeavesOutput task input old new Write = StopsShort task input old.bytes new.byte
 LeavesOutput task input old new Memory = LacksMemory task input old.bytes new.bytes
     × (new.failures ≡ old.failures)
 
--- what a command does
+-- the contract of a command
 abbrev pub Does : Task → Incoming → Incoming → Outgoing → Outgoing → Outcome → Type 0
 Does task i now old new outcome = TakesInput task i now outcome
     × LeavesOutput task i.to_come old new outcome
 
 -- ---- a run
 
--- a text was written whole; or a front of it, since the writer failed
+-- a whole text was written; or a prefix of it, because the writer failed
 abbrev pub WritesOutput : List ℕ → Outgoing → Outgoing → Type 0
 WritesOutput text old new = TookText text old new ⊎ (TookFront text old new × HasFailed old new)
 
@@ -226,14 +228,14 @@ abbrev pub TellsOutcome : Outcome → ℕ → Outgoing → Outgoing → Type 0
 TellsOutcome outcome status errors last = (status ≡ status_of outcome)
     × WritesOutput (line_of outcome) errors last
 
--- a help was written whole; or a front of it, since the output failed
+-- a whole help text was written; or a prefix of it, because the output failed
 abbrev pub Helps : List ℕ → Outgoing → Outgoing → Outcome → Type 0
 Helps text old new Done = TookText text old new
 Helps text old new Write = TookFront text old new × HasFailed old new
 Helps text old new outcome = ⊥
 
--- What follows from what the words say: a command is carried out; help is written; of a usage fault the text goes to errors, with
--- status 2; and want of memory is told. Only a command takes of the input, and only a command and help write.
+-- A run by the meaning of the arguments. A command is carried out; help is written; the text of a usage fault goes to the errors,
+-- with status 2; out of memory is reported. Only a command reads the input, and only a command and help write to the output.
 abbrev pub Runs : Parsed → Incoming → Incoming → Outgoing → Outgoing → Outgoing → Outgoing → ℕ
     → Type 0
 Runs (parsed.Task task) i now old new errors last status = (outcome : Outcome)

@@ -1,4 +1,4 @@
-//! Sinks that hold bytes back, and whole texts for sinks.
+//! Sinks with buffers, and whole texts for sinks.
 
 ghost use Rattle.std.specs.Prelude.{◌≡◌, ◌++◌, decimal};
 ghost use Rattle.bitstool.specs.Performing.{PutsAll};
@@ -7,21 +7,21 @@ use bit_fields::{Sink, SinkFailed, WriteSink};
 use itoa::Buffer;
 use std::io::Write;
 
-/// A sink that may hold back what it took.
+/// A sink that may buffer the bytes that it took.
 pub trait Flush: Sink {
     ghost use Rattle.std.specs.Prelude.{OnOk};
     ghost use Rattle.bit_fields.specs.Devices.{Flushes};
 
-    // Whether it was told to hand on what it took, up to the last byte, and did so.
+    // Whether it was flushed successfully, up to the last byte that it took.
     ghost handed_on: { Self → Type 0 };
 
-    /// Hands on what it holds back. `SinkFailed` is counted as a failure unless the sink was worn.
+    /// Flushes the buffer. `SinkFailed` is counted as a failure unless the sink's counter was exhausted.
     fn hand_on(&mut self) -> Result<(), SinkFailed>
         ensures flushes { Flushes (Self.outgoing self.old) (Self.outgoing self.new) result }
         ensures handed_on { OnOk result (handed_on self.new) };
 }
 
-/// A writer that a program gives its output to.
+/// A writer for a program's output.
 #[derive(Drop)]
 pub struct Output<W: Write> {
     sink: WriteSink<W>,
@@ -30,7 +30,7 @@ pub struct Output<W: Write> {
 }
 
 impl<W: Write> Output<W> {
-    /// The output goes to this writer.
+    /// An output to this writer.
     pub fn new(writer: W) -> Output<W>
         ensures { ⟦<Output<W> as Sink>⟧.outgoing result
             ≡ record { bytes = W.contents writer; failures = 0 } }
@@ -41,7 +41,7 @@ impl<W: Write> Output<W> {
         }
     }
 
-    /// The writer as it stands.
+    /// The writer, with the bytes that it holds.
     pub fn into_inner(self) -> W
         ensures { W.contents result ≡ (⟦<Output<W> as Sink>⟧.outgoing self).bytes }
     {
@@ -70,7 +70,7 @@ impl<W: Write> Flush for Output<W> {
     }
 }
 
-/// Gives a sink all of a text, in as many puts as it wants. `SinkFailed` leaves it a front of the text.
+/// Gives a sink all of a text, in as many puts as it needs. `SinkFailed` leaves it a prefix of the text.
 pub fn put_all<K: Sink>(sink: &mut K, text: &[u8]) -> Result<(), SinkFailed>
     ensures { PutsAll text.now (K.outgoing sink.old) result (K.outgoing sink.new) }
 {
@@ -85,7 +85,7 @@ pub fn put_all<K: Sink>(sink: &mut K, text: &[u8]) -> Result<(), SinkFailed>
     Ok(())
 }
 
-/// Gives a sink a number in digits, and a text behind it.
+/// Gives a sink a number in digits, and then a text.
 pub fn put_number<K: Sink>(sink: &mut K, number: u64, after: &[u8]) -> Result<(), SinkFailed>
     ensures { PutsAll (decimal number ++ after.now) (K.outgoing sink.old) result
         (K.outgoing sink.new) }

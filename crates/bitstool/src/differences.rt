@@ -41,7 +41,7 @@ fn push_place(text: &mut String, place: &Place) -> Result<(), AllocError>
     }
 }
 
-/// Appends what stands at a place.
+/// Appends the item at a place.
 fn push_what(text: &mut String, what: What) -> Result<(), AllocError>
     ensures { OnOk result (string_bytes text.new
         ≡ string_bytes text.old ++ what_text (what_shown what)) }
@@ -73,7 +73,7 @@ fn push_value(text: &mut String, index: u64, value: u64) -> Result<(), AllocErro
     write!(text, ", value {index} is {value}")
 }
 
-/// Appends the value of the first record, where one differs.
+/// Appends the value of the first record, if values differ.
 fn push_first_value(text: &mut String, value: Option<ValueDifference>) -> Result<(), AllocError>
     ensures { OnOk result (string_bytes text.new ≡ string_bytes text.old ++ first_value value) }
 {
@@ -83,7 +83,7 @@ fn push_first_value(text: &mut String, value: Option<ValueDifference>) -> Result
     }
 }
 
-/// Appends the value of the second record, where one differs.
+/// Appends the value of the second record, if values differ.
 fn push_second_value(text: &mut String, value: Option<ValueDifference>) -> Result<(), AllocError>
     ensures { OnOk result (string_bytes text.new ≡ string_bytes text.old ++ second_value value) }
 {
@@ -93,7 +93,7 @@ fn push_second_value(text: &mut String, value: Option<ValueDifference>) -> Resul
     }
 }
 
-/// The lines that say that two inputs differ, where, and what stands there in each.
+/// The lines that report that two inputs differ, the place, and the item there in each.
 pub fn text_of(alloc: Global, difference: &Difference) -> Result<String, AllocError>
     ensures { IfOk result (λ text. string_bytes text
         ≡ difference_text (difference_shown difference.now)) }

@@ -2,13 +2,14 @@
 //! Begin with `run`.
 //!
 //! `parse` makes a task of the arguments, `perform` carries it out and returns how it ended, and `run` does both and writes the
-//! line on errors. All are over any source and sinks; `main` alone opens standard input, output and errors. `Runs` and `Does` in
-//! `specs/` say what a run takes from the input and leaves on the output. That good arguments give a task is proved over `clap`'s
-//! own definitions (`proofs/Walked`, `proofs/Given`).
+//! line to the errors. All work with any source and sinks; `main` alone opens standard input, output and errors. `Runs` and `Does`
+//! in `specs/` define what a run takes from the input and leaves on the output. That good arguments give a task is proved over
+//! `clap`'s own definitions (`proofs/Walked`, `proofs/Given`).
 #![tactic(auto)]
 
 mod devices;
 mod differences;
+mod json_differences;
 mod names;
 mod outcome;
 mod parse;
@@ -27,10 +28,10 @@ use std::io::{BufReader, BufWriter};
 use std::process::ExitCode;
 use std::{env, io};
 
-/// How many bytes are read or written at once.
+/// The number of bytes that are read or written at once.
 const CHUNK: usize = 65536;
 
-/// The words of the command line, without the program's name.
+/// The arguments of the command line, without the program's name.
 fn words_of(alloc: Global, rt: &HostRuntime) -> io::Result<Vec<String>> {
     let mut words = Vec::new(alloc);
     for word in env::args(rt)?.skip(1) {
@@ -39,7 +40,7 @@ fn words_of(alloc: Global, rt: &HostRuntime) -> io::Result<Vec<String>> {
     Ok(words)
 }
 
-/// Runs the program on standard input, output and errors, each with a buffer but the last.
+/// Runs the program on standard input, output and errors. All but the last have a buffer.
 fn run_here(alloc: Global, rt: &HostRuntime, words: Vec<String>) -> io::Result<u8> {
     let source = BufSource::new(BufReader::with_capacity(alloc, CHUNK, rt.stdin())?);
     let sink = Output::new(BufWriter::with_capacity(alloc, CHUNK, rt.stdout())?);
@@ -47,7 +48,7 @@ fn run_here(alloc: Global, rt: &HostRuntime, words: Vec<String>) -> io::Result<u
     Ok(run(alloc, words, source, sink, &mut errors).status)
 }
 
-/// Says that the run could not begin.
+/// Reports that the run could not begin.
 fn refuse(rt: &HostRuntime, error: io::Error) -> u8 {
     let mut errors = WriteSink::new(rt.stderr());
     let outcome = match error.kind() {

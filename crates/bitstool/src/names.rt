@@ -1,4 +1,4 @@
-//! The names of what is left out, as words give them.
+//! The names of what is left out, read from arguments.
 
 ghost use Rattle.std.specs.Prelude.{ℕ, [], MatchOption, MatchResult};
 ghost use Rattle.clap.specs.Walk.{texts};
@@ -8,14 +8,14 @@ ghost use Rattle.bitstool.specs.Names.{IsUnnamed, NameEach, NamesBlock, NamesCod
 use bit_tree::RecordName;
 use std::alloc::Global;
 
-/// Why texts do not name what is left out.
+/// The reason why texts do not name what is left out.
 #[derive(Clone, Copy, Debug)]
 pub enum Unnamed<'a> {
-    /// This one was to name blocks.
+    /// This text should name blocks.
     Block(&'a str),
-    /// This one was to name records.
+    /// This text should name records.
     Record(&'a str),
-    /// There is no memory for the names.
+    /// An allocation for the names failed.
     Memory,
 }
 
@@ -26,7 +26,7 @@ fn block_named(text: &str) -> Option<u32>
     text.parse::<u32>().ok()
 }
 
-/// The code that a text has behind its colon.
+/// The code that a text has after its colon.
 fn code_named(text: &str) -> Option<u64>
     ensures { MatchOption result ((code : ℕ) → NamesCode text.now code → ⊥) (NamesCode text.now) }
 {

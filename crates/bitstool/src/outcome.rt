@@ -1,4 +1,4 @@
-//! How a command ended.
+//! The outcome of a command.
 
 ghost use Rattle.std.specs.Prelude.{◌≡◌, ◌++◌};
 ghost use Rattle.bitstool.specs.Outcome.{line_of, reason_text, status_of};
@@ -8,10 +8,10 @@ use crate::devices::{put_all, put_number};
 use bit_fields::{Reason, Sink, SinkFailed};
 use bit_norm::Which;
 
-/// How a command ended.
+/// The outcome of a command.
 #[derive(Clone, Copy, Debug, PartialEq, Eq)]
 pub enum Outcome {
-    /// It did what was asked; two inputs are the same.
+    /// It succeeded; two inputs are the same.
     Done,
     /// Two inputs are not the same.
     Different,
@@ -26,17 +26,17 @@ pub enum Outcome {
         reason: Reason,
         bit: u64,
     },
-    /// The normal form has more bytes than the limit, which is this.
+    /// The normal form has more bytes than the limit, which is given.
     TooLong {
         limit: u64,
     },
-    /// The words are no command.
+    /// The arguments are no command.
     Usage,
     /// The input could not be read.
     Read,
     /// The output could not be written.
     Write,
-    /// Memory was refused.
+    /// An allocation failed.
     Memory,
 }
 
@@ -58,7 +58,7 @@ impl Outcome {
         }
     }
 
-    /// Writes the line on errors, if there is one.
+    /// Writes the line for the errors, if there is one.
     pub fn report<K: Sink>(self, errors: &mut K) -> Result<(), SinkFailed>
         ensures { PutsAll (line_of self) (K.outgoing errors.old) result (K.outgoing errors.new) }
     {

@@ -1,15 +1,15 @@
-//! What the words say, by `clap`.
+//! The meaning of the arguments, read with `clap`.
 
 ghost use Rattle.std.specs.Prelude.{◌≡◌, ◌<◌, ◌^◌, ◌↔◌, ℕ, false, map, string_bytes, IfOk, IfErr, IfSome, IsSome, IsTrue, MatchResult, Some};
 ghost use Rattle.bitstool.specs.declared.task.Parsed.{Parsed as ParsedValue};
 ghost use Rattle.clap.specs.Words.{app_of, found_of, kind_of, rows_of, rule_of, subcommand_rows_of};
-ghost use Rattle.bitstool.specs.Words.{with_numbers, FindsAll, HasAllLimits, HasLimits, HasLeftOut, HasNumber, HasShapes, HasValues, IsGiven, IsNormal, IsSame, IsShow, Means, Misnamed, MisnamedIn, MisnamesIn, Says, GivesNoTask, Shows, ShowsError, TellsOf, NamesBlocks, NamesRecords};
-ghost use Rattle.bitstool.specs.Words.{for_all_commands, bitstool, flag_rule, leaving, limit_rule, with_limits, name_rule, number_rule, dropping, comparing, telling, wrong_value};
+ghost use Rattle.bitstool.specs.Words.{with_numbers, FindsAll, HasAllLimits, HasExplain, HasFormat, HasLimits, HasLeftOut, HasNumber, HasShapes, HasStyle, HasValues, IsGiven, IsNormal, IsSame, IsShow, Means, Misnamed, MisnamedIn, MisnamesIn, Says, GivesNoTask, Shows, ShowsError, TellsOf, NamesBlocks, NamesRecords};
+ghost use Rattle.bitstool.specs.Words.{for_all_commands, bitstool, flag_rule, leaving, limit_rule, with_json, with_limits, name_rule, number_rule, dropping, comparing, telling, wrong_value};
 
 use crate::names::{Unnamed, blocks_named, records_named};
-use crate::task::{LeftOut, Parsed, Task};
+use crate::task::{Explain, LeftOut, Parsed, Task};
 use bit_fields::{Limits, MOST_BYTES, MOST_DEPTH, MOST_VALUES, Shapes};
-use bit_scan::Values;
+use bit_scan::{EventStyle, Format, Values};
 use bit_tree::RecordName;
 use clap::builder::ValueParser;
 use clap::error::ErrorKind;
@@ -85,6 +85,11 @@ with this id, which is not 0; may be given again";
 const INFO: &str = "Leave out all BLOCKINFO blocks, which hold definitions for other
 blocks and no content, as --drop-block 0 does";
 
+const JSON: &str = "Write JSON lines, one object a line; numbers from 2^53 on are strings
+of their digits";
+
+const SAME_JSON: &str = "Say it as a line of JSON, and always where they first differ";
+
 const FIRST: &str = "How many bytes the first input has; the second is the rest;
 at most 17179869180";
 
@@ -113,7 +118,7 @@ fn limit<'a>(alloc: Global, name: &'a str, usual: &'a str, most: u64, help: &'a 
         .help(help)
 }
 
-/// An option with a name of what is left out, which may be given again.
+/// An option with a name of what is left out. It may be repeated.
 fn name_option<'a>(alloc: Global, name: &'a str, value: &'a str, help: &'a str) -> Arg<'a>
     ensures rule { rule_of result ≡ name_rule name.entry.now }
     ensures local { result.global ≡ false }
@@ -136,7 +141,7 @@ fn flag<'a>(alloc: Global, name: &'a str, help: &'a str) -> Arg<'a>
         .help(help)
 }
 
-/// A command with the limits that are numbers.
+/// A command with the limits that are numbers as its options.
 fn with_numbers<'a>(alloc: Global, name: &'a str, about: &'a str) -> Result<Command<'a>, AllocError>
     ensures { IfOk result (λ command. app_of command ≡ (with_numbers name.entry.now)) }
 {
@@ -164,7 +169,7 @@ fn with_limits<'a>(alloc: Global, name: &'a str, about: &'a str) -> Result<Comma
     with_numbers(alloc, name, about)?.arg(shapes)
 }
 
-/// A command with the limits as its options, and those that name what is left out.
+/// A command with the limits as its options, and the options that name what is left out.
 fn leaving<'a>(alloc: Global, name: &'a str, about: &'a str) -> Result<Command<'a>, AllocError>
     ensures { IfOk result (λ command. app_of command ≡ (leaving name.entry.now)) }
 {
@@ -189,7 +194,19 @@ fn comparing<'a>(alloc: Global) -> Result<Command<'a>, AllocError>
         .required(true)
         .help(FIRST);
     let place = flag(alloc, "where", "Say also where they first differ");
-    dropping(alloc, "same", SAME)?.arg(first)?.arg(place)
+    let json = flag(alloc, "json", SAME_JSON);
+    dropping(alloc, "same", SAME)?
+        .arg(first)?
+        .arg(place)?
+        .arg(json)
+}
+
+/// A command with the limits as its options, and the flag for JSON lines.
+fn with_json<'a>(alloc: Global, name: &'a str, about: &'a str) -> Result<Command<'a>, AllocError>
+    ensures { IfOk result (λ command. app_of command ≡ (with_json name.entry.now)) }
+{
+    let json = flag(alloc, "json", JSON);
+    with_limits(alloc, name, about)?.arg(json)
 }
 
 /// The command that lists events.
@@ -197,10 +214,10 @@ fn telling<'a>(alloc: Global) -> Result<Command<'a>, AllocError>
     ensures { IfOk result (λ command. app_of command ≡ telling) }
 {
     let values = flag(alloc, "no-values", "Leave out the values of records");
-    with_limits(alloc, "events", EVENTS)?.arg(values)
+    with_json(alloc, "events", EVENTS)?.arg(values)
 }
 
-/// What goes for all commands.
+/// The settings for all commands.
 fn above<'a>(alloc: Global) -> Result<Command<'a>, AllocError>
     ensures { IfOk result (λ command. app_of command ≡ for_all_commands) }
 {
@@ -222,7 +239,7 @@ fn command<'a>(alloc: Global) -> Result<Command<'a>, AllocError>
     let check = with_limits(alloc, "check", CHECK)?;
     let normal = dropping(alloc, "normal", NORMAL)?;
     let same = comparing(alloc)?;
-    let analyse = with_limits(alloc, "analyse", ANALYSE)?;
+    let analyse = with_json(alloc, "analyse", ANALYSE)?;
     let show = leaving(alloc, "show", SHOW)?;
     let events = telling(alloc)?;
     above(alloc)?
@@ -234,7 +251,7 @@ fn command<'a>(alloc: Global) -> Result<Command<'a>, AllocError>
         .subcommand(events)
 }
 
-/// The number that an option was given.
+/// The number given for an option.
 fn number(matches: &ArgMatches<'_>, name: &str) -> Option<u64>
     ensures number { IfSome result (λ n. HasNumber name.now (rows_of (found_of matches.now)) n) }
     ensures found { (n : ℕ) → HasNumber name.now (rows_of (found_of matches.now)) n → n < 2 ^ 64
@@ -254,7 +271,7 @@ fn is_given(matches: &ArgMatches<'_>, name: &str) -> bool
     }
 }
 
-/// Where a command was told to judge the shapes of definitions.
+/// Where a command judges the shapes of definitions, by its flag.
 fn shapes_of(matches: &ArgMatches<'_>) -> Shapes
     ensures { HasShapes (rows_of (found_of matches.now)) result }
 {
@@ -265,7 +282,7 @@ fn shapes_of(matches: &ArgMatches<'_>) -> Shapes
     }
 }
 
-/// The limits that a command was given.
+/// The limits given to a command.
 fn limits_of(matches: &ArgMatches<'_>) -> Option<Limits>
     ensures limits { IfSome result (λ limits. HasLimits (rows_of (found_of matches.now)) limits) }
     ensures found { HasAllLimits (rows_of (found_of matches.now)) → IsSome result }
@@ -280,7 +297,7 @@ fn limits_of(matches: &ArgMatches<'_>) -> Option<Limits>
     }
 }
 
-/// The blocks that a command was told to leave out by their ids.
+/// The ids of the blocks that a command leaves out.
 fn blocks_of<'a>(alloc: Global, matches: &ArgMatches<'a>) -> Result<Vec<u32>, Unnamed<'a>>
     ensures { MatchResult result (λ ids. NamesBlocks (rows_of (found_of matches.now)) ids.items)
         (Misnamed (rows_of (found_of matches.now))) }
@@ -291,7 +308,7 @@ fn blocks_of<'a>(alloc: Global, matches: &ArgMatches<'a>) -> Result<Vec<u32>, Un
     }
 }
 
-/// The records that a command was told to leave out by their names.
+/// The names of the records that a command leaves out.
 fn records_of<'a>(alloc: Global, matches: &ArgMatches<'a>) -> Result<Vec<RecordName>, Unnamed<'a>>
     ensures { MatchResult result (λ names. NamesRecords (rows_of (found_of matches.now))
         names.items) (Misnamed (rows_of (found_of matches.now))) }
@@ -302,7 +319,7 @@ fn records_of<'a>(alloc: Global, matches: &ArgMatches<'a>) -> Result<Vec<RecordN
     }
 }
 
-/// What a command was told to leave out.
+/// The blocks and records that a command leaves out.
 fn left_out<'a>(alloc: Global, matches: &ArgMatches<'a>) -> Result<LeftOut, Unnamed<'a>>
     ensures { MatchResult result (HasLeftOut (rows_of (found_of matches.now)))
         (Misnamed (rows_of (found_of matches.now))) }
@@ -315,7 +332,7 @@ fn left_out<'a>(alloc: Global, matches: &ArgMatches<'a>) -> Result<LeftOut, Unna
     Ok(LeftOut { blocks, records })
 }
 
-/// Whether a command was told to leave values out.
+/// Whether a command leaves values out.
 fn values_of(matches: &ArgMatches<'_>) -> Values
     ensures { HasValues (rows_of (found_of matches.now)) result }
 {
@@ -323,6 +340,41 @@ fn values_of(matches: &ArgMatches<'_>) -> Values
         Values::LeftOut
     } else {
         Values::Shown
+    }
+}
+
+/// The format of the lines that a command writes.
+fn format_of(matches: &ArgMatches<'_>) -> Format
+    ensures { HasFormat (rows_of (found_of matches.now)) result }
+{
+    if is_given(matches, "json") {
+        Format::JsonLines
+    } else {
+        Format::Text
+    }
+}
+
+/// The report of a comparison on two inputs that differ.
+fn explain_of(matches: &ArgMatches<'_>) -> Explain
+    ensures { HasExplain (rows_of (found_of matches.now)) result }
+{
+    if is_given(matches, "json") {
+        return Explain::Json;
+    }
+    if is_given(matches, "where") {
+        Explain::Lines
+    } else {
+        Explain::Word
+    }
+}
+
+/// The style in which a command writes events.
+fn style_of(matches: &ArgMatches<'_>) -> EventStyle
+    ensures { HasStyle (rows_of (found_of matches.now)) result }
+{
+    EventStyle {
+        format: format_of(matches),
+        values: values_of(matches),
     }
 }
 
@@ -352,7 +404,7 @@ fn same_of<'a>(
     let left = left_out(alloc, matches)?;
     Ok(Task::Same {
         first,
-        explain: is_given(matches, "where"),
+        explain: explain_of(matches),
         limits,
         left,
     })
@@ -367,7 +419,7 @@ fn show_of<'a>(alloc: Global, limits: Limits, matches: &ArgMatches<'a>) -> Resul
     Ok(Task::Show { limits, left })
 }
 
-/// The command that was given, or why the names of what it leaves out are none.
+/// The given command, or the reason why the names of what it leaves out are invalid.
 fn task_of<'a>(alloc: Global, matches: &ArgMatches<'a>) -> Option<Result<Task, Unnamed<'a>>>
     ensures task { IfSome result (λ answer. MatchResult answer
         (Means (subcommand_rows_of matches.now)) (MisnamedIn (subcommand_rows_of matches.now))) }
@@ -379,17 +431,20 @@ fn task_of<'a>(alloc: Global, matches: &ArgMatches<'a>) -> Option<Result<Task, U
         "check" => Some(Ok(Task::Check { limits })),
         "normal" => Some(normal_of(alloc, limits, inner)),
         "same" => Some(same_of(alloc, number(inner, "first")?, limits, inner)),
-        "analyse" => Some(Ok(Task::Analyse { limits })),
+        "analyse" => Some(Ok(Task::Analyse {
+            limits,
+            format: format_of(inner),
+        })),
         "show" => Some(show_of(alloc, limits, inner)),
         "events" => Some(Ok(Task::Events {
             limits,
-            values: values_of(inner),
+            style: style_of(inner),
         })),
         _ => None,
     }
 }
 
-/// The task that the words mean, or why the names in them are none.
+/// The task that the arguments mean, or the reason why the names in them are invalid.
 fn task<'a>(alloc: Global, words: &'a [String]) -> Result<Result<Task, Unnamed<'a>>, Error>
     ensures ok { IfOk result (λ answer. MatchResult answer
         (λ task. Says (map string_bytes words.entry.now) (ParsedValue.Task task))
@@ -402,7 +457,7 @@ fn task<'a>(alloc: Global, words: &'a [String]) -> Result<Result<Task, Unnamed<'
     Ok(task_of(alloc, &matches).unwrap())
 }
 
-/// A usage fault for a text that does not do for an option, which wants something else.
+/// A usage fault for a text that is invalid for an option, with what the option needs.
 fn wrong_value(alloc: Global, text: &str, option: &str, wanted: &str) -> Result<String, AllocError>
     ensures { IfOk result (λ line. string_bytes line ≡ wrong_value text.now option.now wanted.now) }
 {
@@ -411,7 +466,7 @@ fn wrong_value(alloc: Global, text: &str, option: &str, wanted: &str) -> Result<
     )
 }
 
-/// What comes of names that are none.
+/// The result if names are invalid.
 fn fault_of_names(alloc: Global, why: Unnamed<'_>) -> Parsed
     ensures { TellsOf why.entry result }
 {
@@ -438,7 +493,7 @@ fn fault_of_names(alloc: Global, why: Unnamed<'_>) -> Parsed
     }
 }
 
-/// What an error displays, this behind it, and the end of the line where it has none.
+/// The text that an error displays, then this text, and the end of the line if it is missing.
 fn shown<E: Display>(alloc: Global, error: &E, tip: &str) -> Result<String, AllocError>
     ensures { IfOk result (λ text. Shows (E.output error.now) tip.now (string_bytes text)) }
 {
@@ -451,7 +506,7 @@ fn shown<E: Display>(alloc: Global, error: &E, tip: &str) -> Result<String, Allo
     Ok(text)
 }
 
-/// The text of an error, and where it belongs.
+/// The text of an error, for the output or the errors.
 fn text_of_error(alloc: Global, error: &Error) -> Result<Parsed, AllocError>
     ensures { IfOk result (λ parsed. ShowsError (kind_of error.now) parsed) }
 {
@@ -469,7 +524,7 @@ fn text_of_error(alloc: Global, error: &Error) -> Result<Parsed, AllocError>
     Ok(Parsed::Usage(format!(in alloc; "error: {text}")?))
 }
 
-/// What these words say.
+/// The meaning of these arguments.
 pub fn parse(alloc: Global, words: &[String]) -> Parsed
     ensures { Says (map string_bytes words.now) result }
 {

@@ -1,28 +1,31 @@
 //! Carrying out a command.
 
-ghost use Rattle.std.specs.Prelude.{◌≡◌, ◌<◌, ◌≤◌, ◌^◌, Bool, vec_items};
+ghost use Rattle.std.specs.Prelude.{◌≡◌, ◌<◌, ◌≤◌, ◌^◌, ℕ, List, IfOk, string_bytes, vec_items};
 ghost use Rattle.bit_grammar.specs.Setting.{setting_of};
 ghost use Rattle.bit_fields.specs.Reader.{told_by};
+ghost use Rattle.bitstool.specs.declared.outcome.Outcome.{Outcome as OutcomeValue};
+ghost use Rattle.bitstool.specs.declared.task.Explain.{Explain as ExplainValue};
 ghost use Rattle.bitstool.specs.declared.task.Task.{Task as TaskValue};
 ghost use Rattle.bitstool.specs.Performing.{ComparesParts, ComparesTold, Judges, PullsFirst, TellsDifference, TellsFound, outcome_found, Settles, TakesFirst, TakesRest, TellsLine, outcome_of_writing, outcome_in, outcome_of};
 ghost use Rattle.bit_norm.specs.Entries.{difference_shown};
-ghost use Rattle.bitstool.specs.Differences.{different_text};
+ghost use Rattle.bitstool.specs.Differences.{different_text, same_text};
 ghost use Rattle.bitstool.specs.LeftOut.{setting_for};
 ghost use Rattle.bitstool.specs.Runs.{Does, TakesInput};
 ghost use Rattle.bitstool.specs.Outcome.{status_of};
 
 use crate::devices::{Flush, put_all};
 use crate::differences::text_of;
+use crate::json_differences::json_of;
 use crate::outcome::Outcome;
-use crate::task::{LeftOut, Task};
+use crate::task::{Explain, LeftOut, Task};
 use bit_events::check;
 use bit_fields::{Fault, KeptSource, Limits, Sink, Source, SourceFailed};
 use bit_norm::{Difference, Which, first_difference_from, normalise};
-use bit_scan::{Values, write_events, write_report, write_show};
+use bit_scan::{EventStyle, Format, write_events, write_report_as, write_show};
 use bit_tree::Info;
 use std::alloc::{AllocError, Global};
 
-/// How many bytes of a first input are taken at once.
+/// The number of bytes of a first input that are pulled at once.
 const PIECE: usize = 4096;
 
 /// The outcome of a fault, under a limit on bytes.
@@ -35,7 +38,7 @@ fn outcome_of(limit: u64, fault: Fault) -> Outcome
         Fault::Write => Outcome::Write,
         Fault::Memory => Outcome::Memory,
         Fault::OutputTooLong => Outcome::TooLong { limit },
-        // No call on a whole input answers this.
+        // No call on a whole input returns this.
         Fault::Failed => Outcome::Read,
     }
 }
@@ -50,7 +53,7 @@ fn outcome_in(which: Which, limit: u64, fault: Fault) -> Outcome
     }
 }
 
-/// The outcome of a text's writing, under a limit on bytes.
+/// The outcome of writing a text, under a limit on bytes.
 fn outcome_of_writing(limit: u64, answer: Result<(), Fault>) -> Outcome
     ensures { result ≡ outcome_of_writing limit answer }
 {
@@ -60,7 +63,7 @@ fn outcome_of_writing(limit: u64, answer: Result<(), Fault>) -> Outcome
     }
 }
 
-/// Pulls bytes out of a source: so many, or all where it has fewer.
+/// Pulls `count` bytes out of a source, or all if it has fewer.
 fn pull_first<S: Source>(source: &mut S, count: u64) -> Result<(), SourceFailed>
     requires { count < 2 ^ 60 }
     ensures { PullsFirst count (S.incoming source.old) result (S.incoming source.new) }
@@ -78,8 +81,8 @@ fn pull_first<S: Source>(source: &mut S, count: u64) -> Result<(), SourceFailed>
     Ok(())
 }
 
-/// Takes bytes of a source into memory: so many, or all where it has fewer. Besides them at most as many bytes are held as the
-/// list of a `KeptSource` has unused.
+/// Reads `count` bytes of a source into memory, or all if it has fewer. Besides them memory holds at most as many bytes as the list
+/// of a `KeptSource` has unused.
 fn take_first<S: Source>(alloc: Global, source: S, count: u64) -> (Result<Vec<u8>, Fault>, S)
     requires { count < 2 ^ 60 }
     ensures { TakesFirst count (S.incoming source) (told_by vec_items result.0)
@@ -95,7 +98,7 @@ fn take_first<S: Source>(alloc: Global, source: S, count: u64) -> (Result<Vec<u8
     }
 }
 
-/// Compares two inputs, of which the first is in memory.
+/// Compares two inputs, the first of which is in memory.
 fn compare_rest<S: Source>(
     alloc: Global,
     first: &[u8],
@@ -118,7 +121,7 @@ fn compare_rest<S: Source>(
     }
 }
 
-/// Compares the first bytes of a source, so many, with the rest.
+/// Compares the first `first` bytes of a source with the rest.
 fn compare<S: Source>(
     alloc: Global,
     first: u64,
@@ -126,7 +129,7 @@ fn compare<S: Source>(
     limits: Limits,
     left: &LeftOut,
 ) -> (Result<Option<Difference>, Outcome>, S)
-    ensures taken { (explain : Bool)
+    ensures taken { (explain : ExplainValue)
         → TakesInput (TaskValue.Same first explain limits left.now) (S.incoming source)
         (S.incoming result.1) (outcome_found result.0) }
     ensures found { ComparesParts (setting_for left.now) limits first (S.incoming source).to_come
@@ -151,7 +154,7 @@ fn judge<S: Source>(alloc: Global, source: S, limits: Limits) -> (Outcome, S)
     }
 }
 
-/// Writes the line of an answer.
+/// Writes a line as the answer.
 fn tell<K: Sink>(answer: Outcome, line: &[u8], sink: &mut K) -> Outcome
     ensures { TellsLine answer line.now (K.outgoing sink.old) result (K.outgoing sink.new) }
 {
@@ -161,7 +164,7 @@ fn tell<K: Sink>(answer: Outcome, line: &[u8], sink: &mut K) -> Outcome
     }
 }
 
-/// Says whether the input is accepted.
+/// Writes whether the input is accepted.
 fn perform_check<S: Source, K: Sink>(
     alloc: Global,
     limits: Limits,
@@ -198,47 +201,67 @@ fn perform_normal<S: Source, K: Sink>(
     (outcome, source, sink)
 }
 
-/// Says that two inputs differ; explained, also where.
+/// Writes the text that reports that two inputs differ, unless there was no memory for it.
+fn tell_text<K: Sink>(text: Result<String, AllocError>, sink: &mut K) -> Outcome
+    ensures { (lines : List ℕ) → IfOk text (λ made. string_bytes made ≡ lines)
+        → TellsDifference lines (K.outgoing sink.old) result (K.outgoing sink.new) }
+{
+    match text {
+        Ok(text) => tell(Outcome::Different, text.as_bytes(), sink),
+        Err(AllocError) => Outcome::Memory,
+    }
+}
+
+/// Writes that two inputs differ; if asked to explain, also where.
 fn tell_difference<K: Sink>(
     alloc: Global,
-    explain: bool,
+    explain: Explain,
     difference: &Difference,
     sink: &mut K,
 ) -> Outcome
     ensures { TellsDifference (different_text explain (difference_shown difference.now))
         (K.outgoing sink.old) result (K.outgoing sink.new) }
 {
-    if explain {
-        match text_of(alloc, difference) {
-            Ok(text) => tell(Outcome::Different, text.as_bytes(), sink),
-            Err(AllocError) => Outcome::Memory,
-        }
-    } else {
-        tell(Outcome::Different, b"different\n", sink)
+    match explain {
+        Explain::Word => tell(Outcome::Different, b"different\n", sink),
+        Explain::Lines => tell_text(text_of(alloc, difference), sink),
+        Explain::Json => tell_text(json_of(alloc, difference), sink),
     }
 }
 
-/// Says what two inputs were found to be.
+/// Writes that two inputs are the same.
+fn tell_same<K: Sink>(explain: Explain, sink: &mut K) -> Outcome
+    ensures { TellsLine (OutcomeValue.Done) (same_text explain) (K.outgoing sink.old) result
+        (K.outgoing sink.new) }
+{
+    match explain {
+        Explain::Word => tell(Outcome::Done, b"same\n", sink),
+        Explain::Lines => tell(Outcome::Done, b"same\n", sink),
+        Explain::Json => tell(Outcome::Done, b"{\"kind\":\"same\"}\n", sink),
+    }
+}
+
+/// Writes the result of comparing two inputs.
 fn tell_found<K: Sink>(
     alloc: Global,
-    explain: bool,
+    explain: Explain,
     found: Result<Option<Difference>, Outcome>,
     sink: &mut K,
 ) -> Outcome
     ensures { TellsFound explain found (K.outgoing sink.old) result (K.outgoing sink.new) }
 {
     match found {
-        Ok(None) => tell(Outcome::Done, b"same\n", sink),
+        Ok(None) => tell_same(explain, sink),
         Ok(Some(difference)) => tell_difference(alloc, explain, &difference, sink),
         Err(outcome) => outcome,
     }
 }
 
-/// Compares the first bytes of the input, so many, with the rest; explained, says where they first differ.
+/// Compares the first `first` bytes of the input with the rest; if asked to explain, writes where they first differ.
 fn perform_same<S: Source, K: Sink>(
     alloc: Global,
     first: u64,
-    explain: bool,
+    explain: Explain,
     limits: Limits,
     left: LeftOut,
     source: S,
@@ -256,17 +279,18 @@ fn perform_same<S: Source, K: Sink>(
 fn perform_analyse<S: Source, K: Sink>(
     alloc: Global,
     limits: Limits,
+    format: Format,
     source: S,
     sink: K,
 ) -> (Outcome, S, K)
-    ensures { Does (TaskValue.Analyse limits) (S.incoming source) (S.incoming result.1)
+    ensures { Does (TaskValue.Analyse limits format) (S.incoming source) (S.incoming result.1)
         (K.outgoing sink) (K.outgoing result.2) result.0 }
 {
-    let (answer, source, sink) = write_report(alloc, source, sink, limits);
+    let (answer, source, sink) = write_report_as(alloc, source, sink, limits, format);
     (outcome_of_writing(limits.bytes(), answer), source, sink)
 }
 
-/// Writes the listing of what the input has under the setting.
+/// Writes the listing of the part of the input that is kept under the setting.
 fn perform_show<S: Source, K: Sink>(
     alloc: Global,
     limits: Limits,
@@ -285,14 +309,14 @@ fn perform_show<S: Source, K: Sink>(
 fn perform_events<S: Source, K: Sink>(
     alloc: Global,
     limits: Limits,
-    values: Values,
+    style: EventStyle,
     source: S,
     sink: K,
 ) -> (Outcome, S, K)
-    ensures { Does (TaskValue.Events limits values) (S.incoming source) (S.incoming result.1)
+    ensures { Does (TaskValue.Events limits style) (S.incoming source) (S.incoming result.1)
         (K.outgoing sink) (K.outgoing result.2) result.0 }
 {
-    let (answer, source, sink) = write_events(alloc, source, sink, limits, values);
+    let (answer, source, sink) = write_events(alloc, source, sink, limits, style);
     (outcome_of_writing(limits.bytes(), answer), source, sink)
 }
 
@@ -310,13 +334,13 @@ fn carry_out<S: Source, K: Sink>(alloc: Global, task: Task, source: S, sink: K) 
             limits,
             left,
         } => perform_same(alloc, first, explain, limits, left, source, sink),
-        Task::Analyse { limits } => perform_analyse(alloc, limits, source, sink),
+        Task::Analyse { limits, format } => perform_analyse(alloc, limits, format, source, sink),
         Task::Show { limits, left } => perform_show(alloc, limits, left, source, sink),
-        Task::Events { limits, values } => perform_events(alloc, limits, values, source, sink),
+        Task::Events { limits, style } => perform_events(alloc, limits, style, source, sink),
     }
 }
 
-/// Flushes the output of a command that answered or refused.
+/// Flushes the output of a command that gave an answer or refused its input.
 fn settle<K: Flush>(outcome: Outcome, sink: &mut K) -> Outcome
     ensures settles { Settles outcome (K.outgoing sink.old) result (K.outgoing sink.new) }
     ensures handed_on { status_of result ≤ 1 → K.handed_on sink.new }
@@ -330,7 +354,7 @@ fn settle<K: Flush>(outcome: Outcome, sink: &mut K) -> Outcome
     }
 }
 
-/// Carries out a command, and answers how it ended; the output is flushed where the command answered or refused.
+/// Carries out a command and returns how it ended. The output is flushed if the command gave an answer or refused its input.
 pub fn perform<S: Source, K: Flush>(
     alloc: Global,
     task: Task,

@@ -20,7 +20,7 @@ use crate::task::{LeftOut, Parsed, Task};
 use bit_fields::{Limits, Sink, SinkFailed, Source};
 use std::alloc::Global;
 
-/// What a run hands back: its exit status, and the devices as they stand.
+/// The result of a run: its exit status, and the devices.
 #[derive(Debug, Drop)]
 pub struct Ran<S, K> {
     pub status: u8,
@@ -28,7 +28,7 @@ pub struct Ran<S, K> {
     pub sink: K,
 }
 
-/// Writes a text whole, and has it handed on.
+/// Writes a whole text, and flushes it.
 fn put_help<K: Flush>(sink: &mut K, text: &[u8]) -> Result<(), SinkFailed>
     ensures puts { PutsAll text.now (K.outgoing sink.old) result (K.outgoing sink.new) }
     ensures handed_on { OnOk result (K.handed_on sink.new) }
@@ -37,7 +37,7 @@ fn put_help<K: Flush>(sink: &mut K, text: &[u8]) -> Result<(), SinkFailed>
     sink.hand_on()
 }
 
-/// Writes a help.
+/// Writes a help text.
 fn help<K: Flush>(sink: &mut K, text: &[u8]) -> Outcome
     ensures helps { Helps text.now (K.outgoing sink.old) (K.outgoing sink.new) result }
     ensures handed_on { status_of result ≤ 1 → K.handed_on sink.new }
@@ -48,14 +48,14 @@ fn help<K: Flush>(sink: &mut K, text: &[u8]) -> Outcome
     }
 }
 
-/// Writes a text on errors. What fails there changes nothing.
+/// Writes a text to the errors. A failure there changes nothing.
 fn put_on_errors<K: Sink>(errors: &mut K, text: &[u8])
     ensures { WritesOutput text.now (K.outgoing errors.old) (K.outgoing errors.new) }
 {
     let _ = put_all(errors, text);
 }
 
-/// Says on errors how the run ended, and answers the status. What fails there changes nothing.
+/// Writes to the errors how the run ended, and returns the status. A failure there changes nothing.
 fn tell<K: Sink>(outcome: Outcome, errors: &mut K) -> u8
     ensures { TellsOutcome outcome result (K.outgoing errors.old) (K.outgoing errors.new) }
 {
@@ -63,7 +63,7 @@ fn tell<K: Sink>(outcome: Outcome, errors: &mut K) -> u8
     outcome.status()
 }
 
-/// Does what the words say.
+/// Does what the arguments ask for.
 fn obey<S: Source, K: Flush, E: Sink>(
     alloc: Global,
     parsed: Parsed,
@@ -115,10 +115,10 @@ fn obey<S: Source, K: Flush, E: Sink>(
     }
 }
 
-/// The whole program on these words, which are without its name: takes its input from the source, gives its output to the sink,
-/// and writes one line on errors where it refuses the input or fails. The status is 0 where it is done or found two inputs the
-/// same, 1 where it refused or found them different, 2 where the words are no command, and 3 where the source or the sink
-/// failed or memory was refused.
+/// The whole program on these arguments, which exclude its name. It reads its input from the source, writes its output to the sink,
+/// and writes one line to the errors if it refuses the input or fails. The status is 0 if it succeeds or finds two inputs the same,
+/// 1 if it refuses an input or finds two inputs different, 2 if the arguments are no command, and 3 if the source or the sink
+/// fails or memory runs out.
 pub fn run<S: Source, K: Flush, E: Sink>(
     alloc: Global,
     words: Vec<String>,
@@ -126,18 +126,18 @@ pub fn run<S: Source, K: Flush, E: Sink>(
     sink: K,
     errors: &mut E,
 ) -> Ran<S, K>
-    // Without words it writes the normal form under the usual limits, and leaves nothing out.
+    // Without arguments it writes the normal form under the usual limits, and leaves nothing out.
     ensures plain { words.items ≡ [] → (left : LeftOutValue) × (setting_for left ≡ keep)
         × Runs (ParsedValue.Task (TaskValue.Normal usual_limits left))
         (S.incoming source) (S.incoming result.source) (K.outgoing sink) (K.outgoing result.sink)
         (E.outgoing errors.old) (E.outgoing errors.new) result.status }
-    // With words it does what they say.
+    // With arguments it does what they ask for.
     ensures any { (words.items ≡ [] → ⊥) → (parsed : ParsedValue)
         × Says (map string_bytes words.items) parsed
         × Runs parsed (S.incoming source) (S.incoming result.source) (K.outgoing sink)
         (K.outgoing result.sink)
         (E.outgoing errors.old) (E.outgoing errors.new) result.status }
-    // What it wrote is handed on, unless the words were no command or a device or memory failed.
+    // The output is flushed, unless the arguments were no command or a device or an allocation failed.
     ensures handed_on { result.status ≤ 1 → K.handed_on result.sink }
 {
     let parsed = if words.is_empty() {

@@ -1,11 +1,11 @@
-//! What the words ask for.
+//! The task that the arguments ask for.
 
 use bit_fields::Limits;
-use bit_scan::Values;
+use bit_scan::{EventStyle, Format};
 use bit_tree::{Info, RecordName};
 use std::alloc::Global;
 
-/// What of a tree is left out: the blocks with these ids, and the records with these names.
+/// The part of a tree that is left out: the blocks with these ids, and the records with these names.
 #[derive(Debug, PartialEq, Eq, Drop)]
 pub struct LeftOut {
     pub blocks: Vec<u32>,
@@ -38,7 +38,18 @@ impl LeftOut {
     }
 }
 
-/// A command, with what it was given.
+/// The report on two inputs that differ.
+#[derive(Clone, Copy, Debug, PartialEq, Eq)]
+pub enum Explain {
+    /// Only that they differ.
+    Word,
+    /// Also where they first differ, in lines of text.
+    Lines,
+    /// The same as a line of JSON.
+    Json,
+}
+
+/// A command with its options.
 #[derive(Debug, PartialEq, Eq, Drop)]
 pub enum Task {
     /// Say whether the input is accepted.
@@ -50,16 +61,17 @@ pub enum Task {
         limits: Limits,
         left: LeftOut,
     },
-    /// Compare the first bytes of the input, so many, with the rest; explained, say where they first differ.
+    /// Compare the first `first` bytes of the input with the rest.
     Same {
         first: u64,
-        explain: bool,
+        explain: Explain,
         limits: Limits,
         left: LeftOut,
     },
-    /// Report what the input adds up to.
+    /// Report the totals of the input.
     Analyse {
         limits: Limits,
+        format: Format,
     },
     /// List the blocks and records of the input.
     Show {
@@ -69,11 +81,11 @@ pub enum Task {
     /// List the events of the input as they are read.
     Events {
         limits: Limits,
-        values: Values,
+        style: EventStyle,
     },
 }
 
-/// What the words say.
+/// The meaning of the arguments.
 #[derive(Debug, Drop)]
 pub enum Parsed {
     /// A command to carry out.
@@ -82,6 +94,6 @@ pub enum Parsed {
     Help(String),
     /// A text for the errors.
     Usage(String),
-    /// The words could not be read for want of memory.
+    /// Memory ran out while the arguments were read.
     Memory,
 }

@@ -23,7 +23,7 @@ const INFO: [u8; 32] = [
     0, 1, 0, 0, 0, 0x24, 3, 0, 0,
 ];
 
-/// A writer that takes so many bytes and then fails, and may fail when it is flushed.
+/// A writer that takes `room` bytes and then fails, and may fail when it is flushed.
 #[derive(Drop)]
 struct Room {
     bytes: Vec<u8>,
@@ -114,7 +114,7 @@ fn words_of(alloc: Global, line: &str) -> Result<Vec<String>, AllocError> {
     Ok(words)
 }
 
-/// The status of a run, and what its writers hold.
+/// The status of a run, and the bytes in its writers.
 #[derive(Drop)]
 struct Finished<W, E> {
     status: u8,
@@ -145,7 +145,7 @@ fn run_over<R: BufRead + Drop, W: Write, E: Write>(
     }
 }
 
-/// What a run on these words and this input ends with.
+/// The end of a run on these words and this input.
 fn ran<R: BufRead + Drop>(
     alloc: Global,
     line: &str,
@@ -156,7 +156,7 @@ fn ran<R: BufRead + Drop>(
     Ok(run_over(alloc, words, input, output, errors))
 }
 
-/// A status, an output, and a line on errors.
+/// A status, an output, and a line on the errors.
 type End = (u8, &'static [u8], &'static str);
 
 /// A run on these words ended so.
@@ -318,7 +318,7 @@ fn checks_normal_forms_and_comparisons(rt: HostRuntime) -> Result<(), Fail> {
     Ok(())
 }
 
-static PLACES: [Row; 4] = [
+static PLACES: [Row; 5] = [
     (
         "same --where --first 16",
         (&SHORT, &LONG),
@@ -343,6 +343,15 @@ static PLACES: [Row; 4] = [
         ),
     ),
     (
+        "same --json --first 16",
+        (&SHORT, &MAGIC),
+        (
+            1,
+            b"{\"kind\":\"different\",\"at\":[{\"kind\":\"item\",\"item\":0}],\"first\":{\"kind\":\"block\",\"bit\":32,\"id\":8},\"second\":{\"kind\":\"end\",\"bit\":32}}\n",
+            "",
+        ),
+    ),
+    (
         "same --where --first 32 --drop-info",
         (&INFO, &SHORT),
         (
@@ -359,7 +368,7 @@ fn where_inputs_first_differ(rt: HostRuntime) -> Result<(), Fail> {
     Ok(())
 }
 
-/// What of `INFO` is left under names.
+/// The part of `INFO` that is kept under names.
 static LEFT: [Row; 6] = [
     ("normal --drop-block 0", (&INFO, &[]), (0, &DROPPED, "")),
     (
@@ -389,7 +398,7 @@ static LEFT: [Row; 6] = [
     ),
 ];
 
-/// Names that name nothing, and what a run says of them.
+/// Invalid names, and the usage fault of a run with them.
 static NO_NAMES: [Row; 2] = [
     (
         "show --drop-block 8 --drop-block 4294967296",
@@ -427,7 +436,7 @@ const NESTED: [u8; 28] = [
     0, 0,
 ];
 
-/// A record of three values without bits, which are those of an array.
+/// A record of three values without bits, which are in an array.
 const ZEROS: [u8; 20] = [
     0x42, 0x43, 0xc0, 0xde, 0x21, 0xc, 0, 0, 2, 0, 0, 0, 0x1a, 3, 0x4c, 0, 7, 0, 0, 0,
 ];
@@ -437,12 +446,12 @@ const PLAIN_ZEROS: [u8; 20] = [
     0x42, 0x43, 0xc0, 0xde, 0x21, 8, 0, 0, 2, 0, 0, 0, 7, 3, 0, 0, 0, 0, 0, 0,
 ];
 
-/// A definition of a field of 0 bits for the code, which a record goes by.
+/// A definition of a field of 0 bits for the code, and a record by it.
 const CODE_WITHOUT_BITS: [u8; 16] = [
     0x42, 0x43, 0xc0, 0xde, 0x21, 0xc, 0, 0, 1, 0, 0, 0, 0xa, 2, 8, 0,
 ];
 
-/// A definition with a variable field of 0 bits before one of 4, which a record goes by.
+/// A definition with a variable field of 0 bits before one of 4, and a record by it.
 const VALUE_WITHOUT_BITS: [u8; 20] = [
     0x42, 0x43, 0xc0, 0xde, 0x21, 0xc, 0, 0, 2, 0, 0, 0, 0x1a, 3, 8, 8, 0x61, 2, 0, 0,
 ];
@@ -565,7 +574,7 @@ static SHORT_TEXTS: [Row; 11] = [
     ),
 ];
 
-/// Words with an input that is cut off, and what it is refused for.
+/// Words with an input that is truncated, and the reason for its refusal.
 static WITHOUT_A_REPORT: [(&str, &str); 8] = [
     ("analyse", "refused: Truncated at bit 224\n"),
     ("show", "refused: Truncated at bit 224\n"),
@@ -587,20 +596,20 @@ fn short_texts_and_inputs_without_a_report(rt: HostRuntime) -> Result<(), Fail> 
     Ok(())
 }
 
-/// The status of a run, whether it wrote a help, and whether it said what is wrong with its words.
+/// The status of a run, whether it wrote a help text, and whether it reported what is wrong with its words.
 fn told_by(ran: &Finished<Vec<u8>, Vec<u8>>) -> (u8, bool, bool) {
     let help = ran.output.len() > 100 && ran.errors.is_empty();
     let usage = ran.output.is_empty() && ran.errors.starts_with(b"error: ");
     (ran.status, help, usage)
 }
 
-/// What a run on these words tells.
+/// The summary of a run on these words.
 fn run_answer(alloc: Global, line: &str, input: &[u8]) -> Result<(u8, bool, bool), AllocError> {
     let ran = ran(alloc, line, input)?;
     Ok(told_by(&ran))
 }
 
-/// All of so many lines tell this.
+/// All of these lines, `count` of them, have this summary.
 fn all_tell(
     rt: &impl Abort,
     alloc: Global,
@@ -652,7 +661,7 @@ show -h
 events --help
 ";
 
-/// Events before a fault stand on the output, with the line of the refusal on errors; a version is told.
+/// Events before a fault are on the output, with the line of the refusal on the errors. The version is written.
 #[test]
 fn events_before_a_fault_and_the_version(rt: HostRuntime) -> Result<(), Fail> {
     let front = b"0 magic 4243c0de\n32 block 8 width 2 body 96\n".as_slice();
@@ -751,7 +760,7 @@ static ALL_COMMANDS: [&str; 7] = [
     "show",
 ];
 
-/// A run with a room of three bytes for its errors has a front of its line there.
+/// A run with room for three bytes of its errors leaves a prefix of its line there.
 fn errors_fail(rt: &impl Abort, alloc: Global, line: &str) -> Result<(), AllocError> {
     let input = LONG;
     let words = words_of(alloc, line)?;

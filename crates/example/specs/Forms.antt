@@ -1,4 +1,4 @@
--- What a form is the form of.
+-- What a normal form is.
 use Rattle.std.specs.Prelude.{◌≡◌, ℕ, List}
 use Rattle.bit_grammar.specs.Bits.{bits_of_bytes}
 use Rattle.bit_grammar.specs.Blocks.{Limits}

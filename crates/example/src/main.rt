@@ -1,5 +1,5 @@
-//! How a program uses the libraries: it walks the events of standard input and counts what they tell, and then makes the
-//! normal form of the same bytes. Begin with `describe`.
+//! How a program uses the libraries: it walks the events of standard input and counts them, and then makes the normal form of the
+//! same bytes. Begin with `describe`.
 #![tactic(auto)]
 
 ghost use Rattle.std.specs.Prelude.{◌≡◌, ℕ, List, Some, IfOk};
@@ -14,7 +14,7 @@ use bit_norm::{Info, normalise};
 use std::alloc::Global;
 use std::process::ExitCode;
 
-/// A sink that has the normal form of the tree that bytes spell.
+/// A sink with the normal form of the tree that bytes spell.
 fn normal_form(alloc: Global, bytes: &[u8], limits: Limits) -> Result<VecSink, Fault>
     ensures { IfOk result (λ sink. (form : List ℕ)
         × ((⟦<VecSink as Sink>⟧.outgoing sink).bytes ≡ Some form)
@@ -26,14 +26,14 @@ fn normal_form(alloc: Global, bytes: &[u8], limits: Limits) -> Result<VecSink, F
     Ok(form)
 }
 
-/// What is told of accepted bytes: their outline, and how long their normal form is.
+/// The result for accepted bytes: their outline, and the length of their normal form.
 fn describe(alloc: Global, bytes: &[u8], limits: Limits) -> Result<(Outline, usize), Fault> {
     let outline = outline_of(alloc, bytes, limits)?;
     let form = normal_form(alloc, bytes, limits)?;
     Ok((outline, form.bytes().len()))
 }
 
-/// Writes what is told of standard input, or why it was refused, and answers the status.
+/// Writes the result for standard input, or why it was refused, and returns the status.
 fn run(rt: &HostRuntime) -> u8 {
     let limits = Limits::usual();
     let (kept, _) = check_keeping(rt.alloc(), ReadSource::new(rt.stdin()), limits);

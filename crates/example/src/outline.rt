@@ -5,14 +5,14 @@ use bit_fields::{Fault, Limits, SliceSource};
 use std::alloc::Global;
 use std::fmt::{self, Display, Formatter, Write};
 
-/// How many blocks, definitions, records and values an input has, and how deep its blocks nest.
+/// How many blocks, definitions, records and values an input has, and how deep its blocks are nested.
 #[derive(Clone, Copy, Debug, Default, PartialEq, Eq)]
 pub struct Outline {
     pub blocks: u64,
     pub definitions: u64,
     pub records: u64,
     pub values: u64,
-    /// The blocks that are open.
+    /// How many blocks are open.
     open: u64,
     pub deepest: u64,
 }

@@ -1,16 +1,16 @@
-//! Definitions that a table takes.
+//! Definitions in a table.
 
 use crate::ending::Ending;
 use bit_abbrev::{Abbrev, InfoTable, Op, Ops};
 use std::alloc::Global;
 
-/// How many block ids definitions are made for.
+/// For how many block ids definitions are made.
 const IDS: u32 = 10;
 
 /// How many definitions are made, for each block id in turn.
 const DEFINITIONS: u32 = 60;
 
-/// A definition with this literal alone, which takes no memory.
+/// A definition with only this literal. It allocates nothing.
 fn literal(alloc: Global, value: u32) -> Option<Abbrev> {
     let mut ops = Ops::new(alloc);
     match ops.push(Op::Literal(u64::from(value))) {
@@ -19,7 +19,7 @@ fn literal(alloc: Global, value: u32) -> Option<Abbrev> {
     }
 }
 
-/// Whether a list holds the definition with this literal in its place.
+/// Whether a list has the definition with this literal at its place.
 fn has(list: &[Abbrev], value: u32) -> bool {
     match list.get((value / IDS) as usize).map(Abbrev::ops) {
         Some([Op::Literal(found)]) => *found == u64::from(value),
@@ -27,7 +27,7 @@ fn has(list: &[Abbrev], value: u32) -> bool {
     }
 }
 
-/// Whether a table has the definitions with these literals, each for its block id and in its place.
+/// Whether a table has the definitions with these literals, each for its block id and at its place.
 fn has_all(table: &InfoTable, made: u32) -> bool {
     let mut all = true;
     for value in 0..made {
@@ -36,7 +36,7 @@ fn has_all(table: &InfoTable, made: u32) -> bool {
     all
 }
 
-/// Whether a table has no more than so many definitions.
+/// Whether a table has at most `made` definitions.
 fn has_no_more(table: &InfoTable, made: u32) -> bool {
     let mut none = true;
     for id in 0..IDS {
@@ -46,7 +46,7 @@ fn has_no_more(table: &InfoTable, made: u32) -> bool {
     none
 }
 
-/// Makes the definition with this literal: None where the table took it, and else how the call ended.
+/// Adds the definition with this literal: `None` if the table took it, and else how the call ended.
 fn define_one(alloc: Global, table: &mut InfoTable, value: u32) -> Option<Ending> {
     let Some(definition) = literal(alloc, value) else {
         return Some(Ending::Wrong);
@@ -57,7 +57,7 @@ fn define_one(alloc: Global, table: &mut InfoTable, value: u32) -> Option<Ending
     }
 }
 
-/// Makes the definitions: how many the table took, and how the call for the next one ended.
+/// Adds the definitions: how many the table took, and how the call for the next one ended.
 fn define_all(alloc: Global, table: &mut InfoTable) -> (u32, Ending) {
     for value in 0..DEFINITIONS {
         if let Some(ending) = define_one(alloc, table, value) {
@@ -67,7 +67,7 @@ fn define_all(alloc: Global, table: &mut InfoTable) -> (u32, Ending) {
     (DEFINITIONS, Ending::Answered)
 }
 
-/// `InfoTable::define`, for each block id in turn: where memory is refused the table is as it was.
+/// `InfoTable::define`, for each block id in turn: if an allocation fails, the table is as it was.
 pub fn define(alloc: Global) -> Ending {
     let mut table = InfoTable::new(alloc);
     let (made, ending) = define_all(alloc, &mut table);

@@ -4,18 +4,18 @@ ghost use Rattle.refused_calls.specs.declared.ending.Ending.TheVariants.{Answere
 /// How a call ended.
 #[derive(Clone, Copy)]
 pub enum Ending {
-    /// It answered what it should.
+    /// It returned what it should.
     Answered,
-    /// Memory was refused before the call.
+    /// An allocation failed before the call.
     Unready,
-    /// It answered want of memory, and what it left is as promised.
+    /// It reported out of memory, and left what is promised.
     Memory,
-    /// What it answered or left is not as promised.
+    /// It returned or left something else than is promised.
     Wrong,
 }
 
 impl Ending {
-    /// How a call ended that answered what it should, or something else.
+    /// How a call ended that returned what it should, or something else.
     pub fn of_answer(is_right: bool) -> Ending {
         if is_right {
             Ending::Answered
@@ -24,7 +24,7 @@ impl Ending {
         }
     }
 
-    /// How a call ended that answered want of memory and left all as promised, or did not.
+    /// How a call ended that reported out of memory and left what is promised, or did not.
     pub fn of_memory(is_right: bool) -> Ending {
         if is_right {
             Ending::Memory
@@ -33,7 +33,7 @@ impl Ending {
         }
     }
 
-    /// The line on it.
+    /// The line for it.
     pub fn line(self) -> &'static str {
         match self {
             Ending::Answered => "answered",
@@ -43,7 +43,7 @@ impl Ending {
         }
     }
 
-    /// The program's status for it: 0 only where the call answered what it should.
+    /// The program's status for it: 0 only if the call returned what it should.
     pub fn status(self) -> u8
         ensures { result ≡ 0 → self ≡ Answered }
     {

@@ -1,5 +1,5 @@
-/// An input that is accepted: blocks with a definition of ten operands, a blob, an array of characters, a BLOCKINFO block, a
-/// record by its definition, one by eight literals, and a block in a block.
+/// An input that is accepted: blocks with a definition of ten operands, a blob, an array of characters, a BLOCKINFO block, a record
+/// by its definition, one by eight literals, and a nested block.
 pub static INPUT: [u8; 156] = [
     0x42, 0x43, 0xC0, 0xDE, 0x21, 0x0C, 0, 0, 0x08, 0, 0, 0, 0x52, 0x64, 0x24, 0x08, 0x14, 0x98,
     0x55, 0x80, 0x84, 0, 0x82, 0xC2, 0x64, 0xB0, 0xF8, 0xEE, 0xDB, 0xEA, 0xFD, 0x1B, 0, 0, 0, 0x20,

@@ -1,5 +1,5 @@
-//! Asks calls of the libraries that take memory, each named by a letter on standard input, and writes how each of them ended.
-//! `tests/refused_memory` refuses it each request for memory.
+//! Makes calls of the libraries that allocate, each named by a letter on standard input, and writes how each of them ended.
+//! `tests/refused_memory` makes each allocation fail.
 #![tactic(auto)]
 
 mod definitions;
@@ -12,7 +12,7 @@ use crate::ending::Ending;
 use std::io::Read;
 use std::process::ExitCode;
 
-/// Asks the call with this letter; none has another letter.
+/// Makes the call with this letter; there is none for other letters.
 fn ask(rt: &HostRuntime, letter: u8) -> Ending {
     match letter {
         b'c' | b'd' | b'a' => streams::ask(rt.alloc(), letter),
@@ -24,7 +24,7 @@ fn ask(rt: &HostRuntime, letter: u8) -> Ending {
     }
 }
 
-/// Asks the calls that are named, each by a letter, and writes how each ended; answers the status of the worst.
+/// Makes the calls that are named, each by a letter, and writes how each ended. Returns the status of the worst.
 fn ask_all(rt: &HostRuntime, letters: &[u8]) -> u8 {
     let mut worst = 0;
     for letter in letters {
@@ -37,7 +37,7 @@ fn ask_all(rt: &HostRuntime, letters: &[u8]) -> u8 {
     worst
 }
 
-/// The status is 0 where all calls answered, 3 where memory was refused and all is as promised, and else 4.
+/// The status is 0 if all calls succeeded, 3 if an allocation failed and all is as promised, and else 4.
 fn main(rt: HostRuntime) -> ExitCode {
     let mut letters = [0; 64];
     match rt.stdin().read(&mut letters) {

@@ -7,7 +7,7 @@ use bit_events::{Event, Events};
 use bit_fields::{BitReader, Fault, Limits, Shapes, SliceSource};
 use std::alloc::Global;
 
-/// The operands of the definition that the input begins with.
+/// The operands of the first definition of the input.
 static OPERANDS: [Op; 10] = [
     Op::Vbr(6),
     Op::Fixed(1),
@@ -21,17 +21,17 @@ static OPERANDS: [Op; 10] = [
     Op::Fixed(3),
 ];
 
-/// The values of the record by it, whose code is 5, behind one that stands there before.
+/// The values of the record by it, whose code is 5, after a value that is there before.
 static VALUES: [u64; 10] = [77, 1, 0xDEAD_BEEF, 95, 300, 2, 0, 1 << 33, 7, 0];
 
 type Reader = BitReader<SliceSource<'static>>;
 
-/// Whether a reader is brought before the operands of the first definition.
+/// Whether a reader reads up to the operands of the first definition.
 fn is_brought(reader: &mut Reader) -> bool {
     reader.fixed(32).is_ok() && reader.fixed(32).is_ok() && reader.fixed(3).is_ok()
 }
 
-/// Whether a reader takes nothing more.
+/// Whether a reader has failed.
 fn has_failed(reader: &mut Reader) -> bool {
     !reader.is_live() && matches!(reader.fixed(1), Err(Fault::Failed))
 }
@@ -41,7 +41,7 @@ fn is_first(definition: &Abbrev) -> bool {
     definition.ops() == OPERANDS.as_slice()
 }
 
-/// `read_define`: where memory is refused the reader has failed.
+/// `read_define`: if an allocation fails, the reader has failed.
 fn define(alloc: Global, reader: &mut Reader) -> Ending {
     match read_define(alloc, reader, Shapes::AtDefinition) {
         Ok(definition) => Ending::of_answer(is_first(&definition)),
@@ -58,7 +58,7 @@ fn copy(alloc: Global, definition: &Abbrev) -> Ending {
     }
 }
 
-/// `read_abbreviated`: where memory is refused the values are those from before, and the reader has failed.
+/// `read_abbreviated`: if an allocation fails, the values are those from before, and the reader has failed.
 fn record(reader: &mut Reader, definition: &Abbrev, first: u64, values: &mut Vec<u64>) -> Ending {
     if !definition.is_usable() {
         return Ending::Wrong;
@@ -72,7 +72,7 @@ fn record(reader: &mut Reader, definition: &Abbrev, first: u64, values: &mut Vec
     }
 }
 
-/// The same behind the record's id, with a list that holds a value.
+/// The same after the record's id, with a list that has a value.
 fn behind_a_value(alloc: Global, reader: &mut Reader, definition: &Abbrev) -> Ending {
     let first = reader.position();
     let mut values = Vec::new(alloc);
@@ -83,7 +83,7 @@ fn behind_a_value(alloc: Global, reader: &mut Reader, definition: &Abbrev) -> En
     }
 }
 
-/// Asks a call that needs a definition.
+/// Makes a call that needs a definition.
 fn by_definition(alloc: Global, reader: &mut Reader, definition: &Abbrev, letter: u8) -> Ending {
     if letter == b'c' {
         copy(alloc, definition)
@@ -92,7 +92,7 @@ fn by_definition(alloc: Global, reader: &mut Reader, definition: &Abbrev, letter
     }
 }
 
-/// Reads the definition, and asks a call that needs it.
+/// Reads the definition, and makes a call that needs it.
 fn with_definition(alloc: Global, reader: &mut Reader, letter: u8) -> Ending {
     match read_define(alloc, reader, Shapes::AtDefinition) {
         Ok(definition) => by_definition(alloc, reader, &definition, letter),
@@ -100,7 +100,7 @@ fn with_definition(alloc: Global, reader: &mut Reader, letter: u8) -> Ending {
     }
 }
 
-/// Asks `read_define` (d), `Abbrev::copy` (c) or `read_abbreviated` (a).
+/// Makes the call `read_define` (d), `Abbrev::copy` (c) or `read_abbreviated` (a).
 pub fn ask(alloc: Global, letter: u8) -> Ending {
     match BitReader::start(SliceSource::new(&INPUT), Limits::usual()) {
         Ok((mut reader, _)) => {
@@ -116,12 +116,12 @@ pub fn ask(alloc: Global, letter: u8) -> Ending {
     }
 }
 
-/// Whether the next call answers that one before it failed.
+/// Whether the next call returns that an earlier one failed.
 fn fails(events: &mut Events<SliceSource<'static>>) -> bool {
     matches!(events.next(), Err(Fault::Failed))
 }
 
-/// How a call ended that said so, where memory was refused to it the events have failed, and stand where they stood.
+/// How a call ended: if an allocation failed in it, the events have failed, at the position from before.
 fn judge(events: &mut Events<SliceSource<'static>>, before: u64, ending: Ending) -> Ending {
     match ending {
         Ending::Memory => {
@@ -139,7 +139,7 @@ fn write(rt: &HostRuntime, event: &Event<'_>) -> Option<Ending> {
     }
 }
 
-/// Writes the next event; answers how the events ended, if they did.
+/// Writes the next event. Returns how the events ended, if they did.
 fn write_next(rt: &HostRuntime, events: &mut Events<SliceSource<'static>>) -> Option<Ending> {
     match events.next() {
         Ok(Some(event)) => write(rt, &event),
@@ -149,7 +149,7 @@ fn write_next(rt: &HostRuntime, events: &mut Events<SliceSource<'static>>) -> Op
     }
 }
 
-/// Writes all events; answers how they ended.
+/// Writes all events. Returns how they ended.
 fn write_all(rt: &HostRuntime, events: &mut Events<SliceSource<'static>>) -> Ending {
     for _ in 0..100 {
         let before = events.position();
@@ -160,7 +160,7 @@ fn write_all(rt: &HostRuntime, events: &mut Events<SliceSource<'static>>) -> End
     Ending::Wrong
 }
 
-/// `Events::next`, up to the end: where memory is refused the events have failed, and stand where they stood.
+/// `Events::next`, up to the end: if an allocation fails, the events have failed, at the position from before.
 pub fn next(rt: &HostRuntime) -> Ending {
     match Events::start(rt.alloc(), SliceSource::new(&INPUT), Limits::usual()) {
         Ok(mut events) => write_all(rt, &mut events),

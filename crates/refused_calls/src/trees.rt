@@ -1,4 +1,4 @@
-//! Inputs that are read whole, and the trees of them.
+//! Whole inputs and their trees.
 
 ghost use Rattle.bit_grammar.specs.Forest.{Fit};
 ghost use Rattle.bit_grammar.specs.Input.{tree_of};
@@ -28,7 +28,7 @@ fn write_tree(rt: &HostRuntime, made: Result<Document, AllocError>) -> Ending {
     }
 }
 
-/// Asks a call on the marked tree of the input, or writes it.
+/// Makes a call on the marked tree of the input, or writes it.
 fn ask_of(rt: &HostRuntime, marked: &Marked, letter: u8) -> Ending
     requires { Fit (tree_of marked.now) }
 {
@@ -39,7 +39,7 @@ fn ask_of(rt: &HostRuntime, marked: &Marked, letter: u8) -> Ending
     }
 }
 
-/// Asks `read` (r), `tree_of` (t) the input, or `tree_with` (w) of it without its BLOCKINFO block, and writes the tree.
+/// Makes the call `read` (r), `tree_of` (t) or, without the BLOCKINFO block, `tree_with` (w), and writes the tree.
 pub fn ask(rt: &HostRuntime, letter: u8) -> Ending {
     match bit_tree::read(rt.alloc(), SliceSource::new(&INPUT), Limits::usual()).0 {
         Ok(marked) => ask_of(rt, &marked, letter),
@@ -57,7 +57,7 @@ fn blocks(alloc: Global) -> Result<Vec<Block>, AllocError> {
     Ok(blocks)
 }
 
-/// Whether a list holds one block, with the id 8.
+/// Whether a list has one block, with the id 8.
 fn are_eight(blocks: &[Block]) -> bool {
     match blocks {
         [block] => block.id == 8,
@@ -65,7 +65,7 @@ fn are_eight(blocks: &[Block]) -> bool {
     }
 }
 
-/// Whether a block is taken for a document, which gives its magic and its block.
+/// Whether a block is accepted as a document, which has its magic and its block.
 fn is_taken(blocks: Vec<Block>) -> bool {
     match Document::new(MAGIC, blocks) {
         Ok(document) => document.magic() == MAGIC && are_eight(document.blocks()),
@@ -73,7 +73,7 @@ fn is_taken(blocks: Vec<Block>) -> bool {
     }
 }
 
-/// Whether a block comes back from under the magic of a wrapper.
+/// Whether a block is returned that came with the magic of a wrapper.
 fn comes_back(blocks: Vec<Block>) -> bool {
     match Document::new(WRAPPER, blocks) {
         Ok(_) => false,
@@ -81,7 +81,7 @@ fn comes_back(blocks: Vec<Block>) -> bool {
     }
 }
 
-/// `Document::new` under the magic of a wrapper.
+/// `Document::new` with the magic of a wrapper.
 fn under_a_wrapper(alloc: Global) -> Ending {
     match blocks(alloc) {
         Ok(bad) => Ending::of_answer(comes_back(bad)),
@@ -89,7 +89,7 @@ fn under_a_wrapper(alloc: Global) -> Ending {
     }
 }
 
-/// The calls of `Document`, which take no memory.
+/// The calls of `Document`, which allocate nothing.
 pub fn document(alloc: Global) -> Ending {
     match blocks(alloc) {
         Ok(good) => {

@@ -43,7 +43,7 @@ same_bytes (x ∷ a) (y ∷ b) small small' e =
 pub one_list_of_bytes : (a b : List ℕ) → All (λ x. x < 256) a → All (λ x. x < 256) b → bits_of_bytes a ≡ bits_of_bytes b → a ≡ b
 one_list_of_bytes a b small small' e = same_bytes a b (recursion_from_All (λ x. x < 256) a small) (recursion_from_All (λ x. x < 256) b small') e
 
--- so many bytes with these bits
+-- n bytes with these bits
 pub record BytesOf (s : List Bool) (n : ℕ) : Type 0 where
   pub bytes : List ℕ
   pub small : AllByRecursion (λ b. b < 256) bytes

@@ -23,11 +23,11 @@ fits_below (suc n) c fits below =
 pub character_is : (c : ℕ) → c < 64 → character c ≡ get_or characters c 0
 character_is c below = fits_below 64 c refl below
 
--- so many chunks have 64 payload bits
+-- the permitted chunks have 64 payload bits
 pub limit_enough : (payload : ℕ) → 1 ≤ payload → 64 ≤ chunk_limit payload * payload
 limit_enough payload some = omega (arith, div-add-mod' (63 + payload) payload)
 
--- and no fewer have
+-- and no fewer chunks have
 pub limit_least : (payload k : ℕ) → 64 ≤ k * payload → chunk_limit payload ≤ k
 limit_least payload k enough =
     elim (cases_lt k (chunk_limit payload)) [

@@ -1,4 +1,4 @@
--- The machine tells what the grammar reads: the events of its tree, and its fault.
+-- The machine finds what the grammar reads: the events of its tree, and its fault.
 use Rattle.std.proofs.Common.{◌≡◌, ℕ, zero, suc, ◌+◌, ◌<◌, ◌≤◌, Bool, true, false, ltb, eqb, List, [], ◌∷◌, length, Result, Ok, Err, refl, sym, ap, subst, ◌∙◌, arith}
 use Rattle.std.specs.Prelude.{is_none, if◌then◌else◌}
 use Rattle.std.proofs.lemmas.Bool.{lt-ltb, le-ltb}
@@ -28,7 +28,7 @@ Front = List Event → List Event
 abbrev put_before : Front → Told → Told
 put_before front told = (front told.0, told.1)
 
--- What is told is the events of the value that is read and then what comes next, or it ends with the fault that is read.
+-- The remaining events are those of the value that is read and then those that follow, or they end with the fault that is read.
 abbrev Follows : {X : Type 0} → Told → Reading X → (X → Front) → (X → ℕ → List Bool → Told) → Type 0
 Follows told (Ok x) events next = told ≡ put_before (events x.0) (next x.0 x.1 x.2)
 Follows told (Err fault) events next = told.1 ≡ broke fault
@@ -36,7 +36,7 @@ Follows told (Err fault) events next = told.1 ≡ broke fault
 abbrev Coming : Type 0
 Coming = Machine → ℕ → List Bool → Told
 
--- a first part that both read
+-- a first part of both
 both : {A X : Type 0} (others : Coming) (first : Reading A) (f : A × ℕ × List Bool → Step) (g : A × ℕ × List Bool → Reading X) (events : X → Front) (next : X → ℕ → List Bool → Told)
     → ((x : A × ℕ × List Bool) → first ≡ Ok x → Follows (told_of_step others (f x)) (g x) events next) → Follows (told_of_step others (first and_then f)) (first and_then g) events next
 both others (Ok x) f g events next more = more x refl
@@ -48,7 +48,7 @@ chosen : {X : Type 0} (others : Coming) (test : Bool) (f f' : Step) (g g' : Read
 chosen others true f f' g g' events next a b = a
 chosen others false f f' g g' events next a b = b
 
--- the value made into another
+-- a function of the value
 made : {X Y : Type 0} (told : Told) (read : Reading X) (f : X → Y) (events : X → Front) (next : X → ℕ → List Bool → Told) (events' : Y → Front) (next' : Y → ℕ → List Bool → Told)
     → ((x : X) (q : ℕ) (rest : List Bool) → put_before (events x) (next x q rest) ≡ put_before (events' (f x)) (next' (f x) q rest))
     → Follows told read events next → Follows told (read and_then λ x. Ok (f x.0, x.1, x.2)) events' next'
@@ -91,7 +91,7 @@ body_events v following = flat (marks_of v.0) (leaves v.1.0 ∷ following)
 abbrev body_next : Coming → List Frame → List Item × (ℕ × Handed) → ℕ → List Bool → Told
 body_next others frames v = others (record { frames = frames; handed = v.1.1 })
 
--- what is known of the blocks within
+-- the hypothesis for the blocks within
 abbrev Within : Limits → ℕ → Type 0
 Within limits depth = (frames : List Frame) (first : ℕ) (handed : Handed) (q : ℕ) (rest : List Bool) → AreWide frames → depth + length frames ≡ limits.depth
     → Follows (told_of_step (to_come limits) (reading (open_block limits frames first handed) q rest)) (reading (block limits.shapes depth limits.values first handed) q rest) block_events (block_next (to_come limits) frames)
@@ -233,7 +233,7 @@ things_follow limits idle (suc n) handed p (b ∷ bits) le =
     go (Ok x) e told more = go_on x.0 x.1 x.2 (shorter x.0 x.1 x.2 e) told more
     go (Err fault) e told more = told
 
--- The machine tells the events of the blocks that the grammar reads, or ends with its fault.
+-- The machine finds the events of the blocks that the grammar reads, or ends with its fault.
 pub machine_tells : (limits : Limits) (p : ℕ) (r : List Bool) → Tells (to_come limits at_start p r) (reading_all (top_blocks limits) p r)
 unfolding top_blocks
 machine_tells limits p r = things_follow limits (at Truncated 0) (length r) nothing_handed p r (omega arith)

@@ -1,4 +1,4 @@
--- What is told of an input before its end is the events of the steps of its stream.
+-- The events of an outlook are those of the steps of its stream.
 use Rattle.std.proofs.Common.{◌≡◌, ℕ, ◌+◌, ◌*◌, ◌≤◌, ◌<◌, Bool, true, false, leb, List, [], ◌++◌, length, take, Some, None, Result, Ok, Err, refl, sym, ap, ◌∙◌, subst, arith, inl, inr}
 use Rattle.std.specs.Prelude.{◌↔◌, if◌then◌else◌}
 use Rattle.std.proofs.lemmas.Bool.{cases_lt, eqb-true}
@@ -22,7 +22,7 @@ use Rattle.bit_grammar.proofs.Readings.Wholes.{is_le, is_not_le}
 use Rattle.bit_grammar.proofs.Events.Steps.{steps_come, told_steps, spelled_steps}
 use Rattle.bit_grammar.proofs.Events.Nesting.{nested_from_start, values_from_start}
 
--- these events are told, with some end
+-- the outlook has these events, with some end
 abbrev Tells : Outlook → Head → List Event → Type 0
 Tells told head events = (ending : Ending) × (told ≡ Ok (head, (events, ending)))
 
@@ -32,7 +32,7 @@ told_is a b e = cc
 no_fault : (a : Head × Told) (fault : Fault) → ◌≡◌ {A = Outlook} (Err fault) (Ok a) → ⊥
 no_fault a fault e = absurd cc
 
--- what stands first is read, and then the others are told
+-- a first part is read, and then the events of the rest are found
 tells_after : {X : Type 0} (first : Result (X × ℕ × List Bool) Fault) (after : X → ℕ → List Bool → Outlook) (head : Head) (events : List Event) → Tells (and_all first after) head events → (v : X × ℕ × List Bool) × (first ≡ Ok v) × Tells (after v.0 v.1 v.2) head events
 tells_after (Ok v) after head events h = (v, refl, h)
 tells_after (Err fault) after head events h = absurd (no_fault _ fault h.1)
@@ -45,14 +45,14 @@ tells_by end fault_by (Err fault) head events h = absurd (no_fault _ _ h.1)
 by_tells : (end : Ending → Ending) (fault_by : Fault → Fault) (told : Outlook) (head : Head) (events : List Event) → Tells told head events → Tells (ending_by end fault_by told) head events
 by_tells end fault_by told head events h = (end h.0, ap (ending_by end fault_by) h.1)
 
--- the events to come behind a head
+-- the remaining events after a head
 tells_steps : (limits : Limits) (made head : Head) (q : ℕ) (rest : List Bool) (events : List Event) → Tells (Ok (made, to_come limits at_start q rest)) head events → (made ≡ head) × ((ending : Ending) × Steps limits at_start q rest events ending)
 tells_steps limits made head q rest events h = (let same = told_is _ _ h.1 in (ap (λ (y : Head × Told). y.0) same, (h.0, told_steps limits at_start q rest events h.0 tt (ap (λ (y : Head × Told). y.1) same))))
 
 steps_tell : (limits : Limits) (made head : Head) (q : ℕ) (rest : List Bool) (events : List Event) (ending : Ending) → made ≡ head → Steps limits at_start q rest events ending → Tells (Ok (made, to_come limits at_start q rest)) head events
 steps_tell limits made head q rest events ending same h = (ending, rw (same, steps_come limits at_start q rest events ending tt h) refl)
 
--- ---- from what is told
+-- ---- from the outlook
 
 abbrev pub in_a_wrapper : Limits → Wrapper → ℕ → List Bool → Outlook
 in_a_wrapper limits w q rest = and_all (reading inner_magic q (take (8 * w.size) rest)) λ magic q' rest'. Ok (record { magic = magic; wrapper = Some w }, to_come limits at_start q' rest')
@@ -88,7 +88,7 @@ told_events limits bits head events h =
         let none : None ≡ head.wrapper = ap (λ (x : Head). x.wrapper) s.0 in
         (q, rest, s.1.0, bare front parts (subst (Spells (fixed 32) 0 front) same spelled) (subst (λ (n : ℕ). is_wrapped n ≡ false) same is) (sym none) place, s.1.1)
 
--- ---- and to what is told
+-- ---- and to the outlook
 
 and_read : {X : Type 0} (first : Result (X × ℕ × List Bool) Fault) (v : X × ℕ × List Bool) (after : X → ℕ → List Bool → Outlook) (head : Head) (events : List Event) → first ≡ Ok v → Tells (after v.0 v.1 v.2) head events → Tells (and_all first after) head events
 and_read first v after head events e h = subst (λ (x : Result _ Fault). Tells (and_all x after) head events) (sym e) h
@@ -141,7 +141,7 @@ events_had limits bytes head events h =
 pub events_if_told : (limits : Limits) (bytes : List ℕ) (head : Head) (events : List Event) → (HasEvents limits bytes head events ↔ ((ending : Ending) × (outlook limits bytes ≡ Ok (head, (events, ending)))))
 events_if_told limits bytes head events = (events_had limits bytes head events, has_events limits bytes head events)
 
--- ---- what the events keep to
+-- ---- properties of the events
 
 pub input_nested : (limits : Limits) (bytes : List ℕ) (head : Head) (events : List Event) → HasEvents limits bytes head events → ((left : ℕ) × (left ≤ limits.depth) × IsNested limits.depth 0 events left) × (all_values_told events ≤ limits.values)
 input_nested limits bytes head events (p, r, accepted q, heads, h) = ((0, omega arith, nested_from_start limits p r events (accepted q) h), values_from_start limits p r events (accepted q) h)

@@ -1,4 +1,4 @@
--- The machine's steps take bits, so that what is to come is told step by step.
+-- The machine's steps take bits, so that the remaining events are found step by step.
 use Rattle.std.proofs.Common.{◌≡◌, ℕ, zero, suc, ◌<◌, ◌≤◌, Bool, false, List, [], ◌∷◌, length, Result, Ok, Err, refl, sym, ap, subst, arith, inl, inr}
 use Rattle.std.proofs.lemmas.List.{length-append}
 use Rattle.bit_grammar.specs.Grammar.{Fault, Spells, reading}
@@ -50,7 +50,7 @@ stepped limits m p r x wide e =
       shorter = omega (arith, step_takes limits m.frames m.handed p f.0 x.0 wide f.3, ap length f.1, length-append f.0 x.2);
     }
 
--- ---- what is to come, whatever bounds the events
+-- ---- the remaining events, whatever bounds them
 
 abbrev pub Step : Type 0
 Step = Result ((Event × Machine) × ℕ × List Bool) Fault

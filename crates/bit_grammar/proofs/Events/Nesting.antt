@@ -1,4 +1,4 @@
--- What the events of a stream keep to: blocks in one another within the limit, and values within the limit.
+-- Properties of the events of a stream: blocks are nested within the limit, and the values are within the limit.
 use Rattle.std.proofs.Common.{◌≡◌, ℕ, suc, ◌+◌, ◌-◌, ◌<◌, ◌≤◌, Bool, List, [], ◌∷◌, length, refl, sym, ap, subst, arith, inl, inr}
 use Rattle.std.proofs.lemmas.Bool.{ltb-true}
 use Rattle.bit_grammar.specs.Grammar.{Spells}
@@ -10,8 +10,8 @@ use Rattle.bit_grammar.specs.Steps.{Steps, Leads, open_after, MayStand, IsNested
 use Rattle.bit_grammar.proofs.WholeInputs.Limits.{leave_used, defines_used}
 use Rattle.bit_grammar.proofs.WholeInputs.Rooms.{entry_fitted}
 
--- What a step from so many open blocks and so many values used keeps to: its event may stand there, a frame stands for
--- each open block, and the values used are those of records.
+-- Properties of a step with `count` open blocks and `used` values before it: its event is allowed there, there is a frame for each
+-- open block, and the values used are those of records.
 pub record StepKept (limits : Limits) (count used : ℕ) (v : Event × Machine) : Type 0 where
   pub may : MayStand limits.depth v.0 count
   pub frames : length v.1.frames ≡ open_after v.0 count
@@ -51,7 +51,7 @@ frames_kept limits (f ∷ frames) handed p s v k = after_kept limits f.head fram
 pub step_kept : (limits : Limits) (m : Machine) (p : ℕ) (s : List Bool) (v : Event × Machine) → Spells (step limits m) p s v → StepKept limits (length m.frames) m.handed.used v
 step_kept limits m p s v k = frames_kept limits m.frames m.handed p s v k
 
--- an event that may stand within the limit leaves no more blocks open
+-- an event that is allowed within the limit leaves no more blocks open
 pub open_within : (deepest : ℕ) (event : Event) (count : ℕ) → MayStand deepest event count → count ≤ deepest → open_after event count ≤ deepest
 open_within deepest (enters o) count may few = omega (arith, may)
 open_within deepest (defines mark) count may few = few
@@ -63,7 +63,7 @@ frames_within limits m new p s event k few =
     let kept = step_kept limits m p s (event, new) k in
     omega (arith, kept.frames, open_within limits.depth event (length m.frames) kept.may few)
 
--- ---- all that is to come
+-- ---- all remaining events
 
 pub run_nested : (limits : Limits) (m : Machine) (p : ℕ) (r : List Bool) (events : List Event) (ending : Ending) → length m.frames ≤ limits.depth → Steps limits m p r events ending → EndsNested limits.depth (length m.frames) events ending
 run_nested limits m p r [] (accepted q) few h = sym (ap length h.0.0)
@@ -83,7 +83,7 @@ run_values limits m p r (event ∷ events) ending few h =
     let kept = step_kept limits m p h.0 (event, h.2) h.5 in
     omega (arith, kept.values, run_values limits h.2 (p + length h.0) h.1 events ending (kept.within few) h.6)
 
--- ---- a step, and all that is to come from the start
+-- ---- a step, and all remaining events from the start
 
 pub frames_of_step : (limits : Limits) (m new : Machine) (p : ℕ) (s : List Bool) (event : Event) → Spells (step limits m) p s (event, new)
     → MayStand limits.depth event (length m.frames) × (length new.frames ≡ open_after event (length m.frames)) × (length m.frames ≤ limits.depth → length new.frames ≤ limits.depth)
@@ -99,7 +99,7 @@ nested_from_start limits p r events ending h = run_nested limits at_start p r ev
 pub values_from_start : (limits : Limits) (p : ℕ) (r : List Bool) (events : List Event) (ending : Ending) → Steps limits at_start p r events ending → all_values_told events ≤ limits.values
 values_from_start limits p r events ending h = omega (arith, run_values limits at_start p r events ending (omega arith) h)
 
--- what holds of the machine after these events
+-- properties of the machine after these events
 pub leads_kept : (limits : Limits) (m new : Machine) (p : ℕ) (s : List Bool) (events : List Event) → Leads limits m p s events new
     → IsNested limits.depth (length m.frames) events (length new.frames) × (new.handed.used ≡ m.handed.used + all_values_told events) × (m.handed.used ≤ limits.values → new.handed.used ≤ limits.values)
 leads_kept limits m new p s [] h =
@@ -118,7 +118,7 @@ values_of_marks (marked_block mark inner rest) following = omega (arith, values_
 values_of_marks (marked_record mark rest) following = omega (arith, values_of_marks rest following)
 values_of_marks (marked_definition mark rest) following = omega (arith, values_of_marks rest following)
 
--- in a block, where so many blocks more may stand in one another
+-- in a block, with room for this much more depth
 nested_inside : (deepest count left : ℕ) (marks : Marks) (following : List Event) → 0 < count → count + depth_in marks ≤ deepest → IsNested deepest count following left → IsNested deepest count (flat marks following) left
 nested_inside deepest count left no_marks following some few more = more
 nested_inside deepest count left (marked_block mark inner rest) following some few more =

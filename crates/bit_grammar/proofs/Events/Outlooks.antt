@@ -1,4 +1,4 @@
--- What is told of a whole input: its head and the events of its tree, or an end with its fault.
+-- The outlook of a whole input: its head and the events of its tree, or an end with its fault.
 use Rattle.std.proofs.Common.{◌≡◌, ℕ, ◌*◌, Bool, true, false, leb, List, [], length, take, Some, None, Result, Ok, Err, refl, ap, subst, inl, inr}
 use Rattle.std.specs.Prelude.{if◌then◌else◌}
 use Rattle.bit_grammar.specs.declared.reason.Reason.TheVariants.{WrapperSize}

@@ -1,4 +1,4 @@
--- The steps of a stream are what is to come of it.
+-- The steps of a stream are its remaining events.
 use Rattle.std.proofs.Common.{◌≡◌, ℕ, zero, suc, ◌+◌, ◌<◌, Bool, false, List, [], ◌∷◌, ◌++◌, length, Ok, Err, refl, sym, ap, subst, ◌∙◌, append_assoc, arith, inl, inr}
 use Rattle.std.specs.Prelude.{◌↔◌}
 use Rattle.std.proofs.lemmas.List.{length-append}
@@ -14,7 +14,7 @@ use Rattle.bit_grammar.proofs.Readings.Wholes.{decides_all}
 use Rattle.bit_grammar.proofs.Events.Machines.{Step, Stepped, stepped, comes, step_takes, step_wide}
 use Rattle.bit_grammar.proofs.Events.Follows.{tells_spelled, tells_stopped}
 
--- where bits are left, or a block is open, it isn't done
+-- if bits are left, or a block is open, it isn't done
 not_done : (frames : List Frame) (r : List Bool) → ((frames ≡ []) × (r ≡ []) → ⊥) → is_done frames r ≡ false
 not_done [] [] open_more = absurd (open_more (refl, refl))
 not_done [] (b ∷ bits) open_more = refl
@@ -39,7 +39,7 @@ over_comes : (limits : Limits) (m : Machine) (p : ℕ) (r : List Bool) → m.fra
 unfolding to_come
 over_comes limits m p r none empty = rw (none, empty) refl
 
--- what steps there are is to come
+-- the steps are the remaining events
 pub steps_come : (limits : Limits) (m : Machine) (p : ℕ) (r : List Bool) (events : List Event) (ending : Ending) → AreWide m.frames → Steps limits m p r events ending → to_come limits m p r ≡ (events, ending)
 steps_come limits m p r [] (accepted q) wide h = over_comes limits m p r h.0.0 h.0.1 ∙ ap (λ (n : ℕ). ([], accepted n)) (sym h.1)
 steps_come limits m p r [] (broke fault) wide h = comes limits m p r wide (not_done m.frames r h.0) ∙ ap (told_of_step (to_come limits)) (breaks (step limits m) p r fault h.1)
@@ -55,11 +55,11 @@ steps_come limits m p r (event ∷ events) ending wide h =
 abbrev AreSteps : Limits → Machine → ℕ → List Bool → Told → Type 0
 AreSteps limits m p r told = Steps limits m p r told.0 told.1
 
--- what is to come after a step are steps
+-- the remaining events after a step are steps
 abbrev StepsAfter : Limits → List Bool → Type 0
 StepsAfter limits r = (x : (Event × Machine) × ℕ × List Bool) → Stepped r x → AreSteps limits x.0.1 x.1 x.2 (to_come limits x.0.1 x.1 x.2)
 
--- what is to come are steps
+-- the remaining events are steps
 come_steps : (limits : Limits) (n : ℕ) (m : Machine) (p : ℕ) (r : List Bool) → length r < n → AreWide m.frames → AreSteps limits m p r (to_come limits m p r)
 come_steps limits zero m p r lt wide = absurd (omega (arith, lt))
 come_steps limits (suc n) m p r lt wide = by_done (decide_done m.frames r) (λ x s. come_steps limits n x.0.1 x.1 x.2 (omega (arith, lt, s.shorter)) s.wide)
@@ -117,7 +117,7 @@ steps_spelled limits p r events q h =
           absurd (no_other_end q stopped.0 (one_run limits at_start p r events other.0 (accepted q) (broke stopped.0) tt h other.1).1)
     ]
 
--- a stream whose steps break breaks so
+-- a stream whose steps break breaks with the same fault
 pub steps_stopped : (limits : Limits) (p : ℕ) (r : List Bool) (events : List Event) (fault : Fault) → Steps limits at_start p r events (broke fault) → StopsAll (top_blocks limits) p r fault
 steps_stopped limits p r events fault h =
     elim (decides_all (top_blocks limits) p r) [
@@ -139,7 +139,7 @@ accepted_steps limits p r events q = (steps_spelled limits p r events q, λ h. s
 pub broken_steps : (limits : Limits) (p : ℕ) (r : List Bool) (fault : Fault) → (StopsAll (top_blocks limits) p r fault ↔ ((events : List Event) × Steps limits at_start p r events (broke fault)))
 broken_steps limits p r fault = (stopped_steps limits p r fault, λ h. steps_stopped limits p r h.0 fault h.1)
 
--- a machine whose open blocks have widths takes bits with each step, and the new one has widths too
+-- with widths for its open blocks a machine takes bits with each step, and the next one has widths too
 pub step_on : (limits : Limits) (m new : Machine) (p : ℕ) (s : List Bool) (event : Event) → AreWide m.frames → Spells (step limits m) p s (event, new) → (0 < length s) × AreWide new.frames
 step_on limits m new p s event wide h = (step_takes limits m.frames m.handed p s (event, new) wide h, step_wide limits m.frames m.handed p s (event, new) wide h)
 
@@ -154,7 +154,7 @@ steps_after limits m new p s r (event ∷ events) others ending k h =
     let place : p + length s ≡ p + length k.0 + length k.1 = omega (arith, ap length k.3, length-append k.0 k.1) in
     (k.0, k.1 ++ r, k.2, parts, k.4, k.5, steps_after limits k.2 new (p + length k.0) k.1 r events others ending k.6 (subst (λ (n : ℕ). Steps limits new n r others ending) place h))
 
--- the machine after the first events, and the bits up to it and behind it
+-- the machine after the first events, and the bits before and after that
 abbrev pub Parted : Limits → Machine → ℕ → List Bool → List Event → List Event → Ending → Type 0
 Parted limits m p r events others ending = (first rest : List Bool) × (new : Machine) × (r ≡ first ++ rest) × Leads limits m p first events new × Steps limits new (p + length first) rest others ending
 

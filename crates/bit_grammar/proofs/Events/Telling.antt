@@ -1,4 +1,4 @@
--- What is told of an input and what the input spells, or how it breaks, determine each other.
+-- The outlook of an input and what the input spells, or how it breaks, determine each other.
 use Rattle.std.proofs.Common.{◌≡◌, ℕ, List, [], ◌∷◌, Ok, Err, refl, sym, ap, ◌∙◌, subst, inl, inr}
 use Rattle.std.specs.Prelude.{◌↔◌}
 use Rattle.bit_grammar.specs.Grammar.{Fault}
@@ -36,7 +36,7 @@ defines_is a b e = cc
 leaves_is : (a b : ℕ) → leaves a ≡ leaves b → a ≡ b
 leaves_is a b e = cc
 
--- what stands first is no event of an item
+-- the first event is not that of an item
 not_first : (event : Event) (f g : List Event) → Stand f → (Stand (event ∷ g) → ⊥) → f ≡ event ∷ g → ⊥
 not_first event f g stand other e = other (subst Stand e stand)
 
@@ -101,7 +101,7 @@ broke_is f g e = cc
 no_other_end : (p : ℕ) (fault : Fault) → accepted p ≡ broke fault → ⊥
 no_other_end p fault e = absurd cc
 
--- a tree is known by what is told of it
+-- the outlook determines the tree
 told_only : (m n : Marked) → told_of m ≡ told_of n → m ≡ n
 told_only m n e =
     let same = told_is _ _ e in
@@ -111,7 +111,7 @@ told_only m n e =
     let whole : ◌≡◌ {A = Marked} (record { head = m.head; blocks = m.blocks; after = m.after }) (record { head = n.head; blocks = n.blocks; after = n.after }) = rw (head, blocks, after) refl in
     whole
 
--- what is accepted ends with no fault
+-- an outlook that is accepted ends with no fault
 not_broken : (m : Marked) (fault : Fault) (told : Outlook) → told ≡ told_of m → EndsBy told fault → ⊥
 not_broken m fault told e (inl h) = no_both _ fault (sym e ∙ h)
 not_broken m fault told e (inr h) = no_other_end m.after fault (sym (ap (λ (x : Head × Told). x.1.1) (told_is h.0 _ (sym h.1 ∙ e))) ∙ h.2)

@@ -150,7 +150,7 @@ info_lawful id = go (eqb id 0)
 
 -- ---- items
 
--- what a BLOCKINFO block holds describes blocks
+-- the items of a BLOCKINFO block describe blocks
 abbrev InfoFit : Option BlockInfo → Forest → Type 0
 InfoFit None f = Unit {0}
 InfoFit (Some info) f = DescribesBlocks (is_some info.described) f
@@ -158,11 +158,11 @@ InfoFit (Some info) f = DescribesBlocks (is_some info.described) f
 abbrev BodyFit : Option BlockInfo → Forest → Type 0
 BodyFit info f = FitForest f × InfoFit info f
 
--- put before fit items, the item makes fit items
+-- before fit items, the item makes fit items
 abbrev Adds : Option BlockInfo → Item → Option BlockInfo → Type 0
 Adds info x info' = (ms : Marks) → BodyFit info' (forest_of ms) → BodyFit info (forest_of (item_then x ms))
 
--- a block, put before others
+-- a block, before others
 abbrev Holds : Item → Type 0
 Holds x = (ms : Marks) → (FitForest (forest_of ms) → FitForest (forest_of (item_then x ms))) × (AreBlocks (forest_of ms) → AreBlocks (forest_of (item_then x ms)))
 

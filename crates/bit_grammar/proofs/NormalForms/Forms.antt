@@ -35,7 +35,7 @@ items_take (a_record code values rest) p = omega (arith, values_take values, ite
 
 -- ---- one tree of a form
 
--- limits that each tree keeps to whose normal form fits
+-- limits that each tree with a fitting normal form keeps to
 abbrev widest : Limits
 widest = record { bytes = most_bytes; depth = most_depth; values = 8 * 17179869180; shapes = AtDefinition }
 

@@ -1,4 +1,4 @@
--- A normal form is spelled by the tree that it is the form of.
+-- A normal form is spelled by the tree whose form it is.
 use Rattle.std.proofs.Common.{◌≡◌, ℕ, zero, suc, ◌+◌, ◌*◌, ◌/◌, ◌<◌, ◌≤◌, ◌^◌, ◌≢◌, Bool, true, false, eqb, List, [], ◌∷◌, ◌++◌, length, get_or, Option, Some, None, refl, sym, ap, subst, ◌∙◌, append_assoc, arith, inr}
 use Rattle.std.specs.Prelude.{if◌then◌else◌, is_some}
 use Rattle.std.proofs.lemmas.Bool.Decides.{nat_tests}
@@ -186,13 +186,13 @@ entered (suc id) used some =
     let no_info : eqb (suc id) 0 ≡ false = grind (arith, nat_tests) in
     rw no_info refl
 
--- what a block holds, by its id
+-- the items of a block, by its id
 inner_made : (shapes : Shapes) (limit depth id : ℕ) (inner : Forest) (h : BlockHead) (used q : ℕ) → h.width ≡ 2 → (id ≡ 0 → DescribesBlocks false inner) → FitForest inner → used + forest_values inner ≤ limit → limit < 2 ^ 64
     → Made shapes limit depth h (plain used) (used + forest_values inner) inner q → Made shapes limit depth h (enter id (handed_of used)) (used + forest_values inner) inner q
 inner_made shapes limit depth zero inner h used q wide info fits room capped made = info_made shapes limit depth inner h None used q wide (info refl) fits room capped
 inner_made shapes limit depth (suc id) inner h used q wide info fits room capped made = subst (λ (s : Scope). Made shapes limit depth h s (used + forest_values inner) inner q) (sym (entered (suc id) used (λ e. absurd (omega (arith, e))))) made
 
--- a block, with as many blocks allowed in one another as it has
+-- a block, if the limit allows its depth
 block_at : (shapes : Shapes) (limit depth first used id : ℕ) (inner : Forest) (q : ℕ) → suc (forest_depth inner) ≤ depth → id < 2 ^ 32 → (id ≡ 0 → DescribesBlocks false inner) → FitForest inner → used + forest_values inner ≤ limit → limit < 2 ^ 64
     → length (block_text id (body_of inner) q) < 2 ^ 37
     → ((depth' : ℕ) (h : BlockHead) (at_body : ℕ) → forest_depth inner ≤ depth' → h.width ≡ 2 → length (normal inner at_body) < 2 ^ 37 → Made shapes limit depth' h (plain used) (used + forest_values inner) inner at_body)
@@ -284,7 +284,7 @@ not_wrapped magic h = grind (arith, nat_tests)
 abbrev pub IsSpelled : Limits → List ℕ → Tree → Type 0
 IsSpelled limits bytes tree = (m : Marked) × SpellsInput limits bytes m × (tree_of m ≡ tree)
 
--- limits within which no length is too great for its field
+-- limits within which each length fits its field
 pub form_spelled : (limits : Limits) (tree : Tree) (bytes : List ℕ) → limits.bytes ≤ 17179869180 → limits.values < 2 ^ 64 → Fit tree → bits_of_bytes bytes ≡ normal_form tree → length bytes ≤ limits.bytes → forest_depth tree.blocks ≤ limits.depth → forest_values tree.blocks ≤ limits.values
     → IsSpelled limits bytes tree
 unfolding normal_form input stream top_blocks

@@ -1,4 +1,4 @@
--- The normal form of items goes by its position modulo 32.
+-- The normal form of items depends on its position modulo 32.
 use Rattle.std.proofs.Common.{◌≡◌, ℕ, ◌+◌, ◌*◌, ◌/◌, Bool, false, List, [], ◌++◌, length, replicate, refl, ap, ◌∙◌, arith}
 use Rattle.bit_grammar.specs.Bits.{bits_of}
 use Rattle.bit_grammar.specs.FormatFields.{shortest}

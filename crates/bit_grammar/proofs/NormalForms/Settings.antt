@@ -17,7 +17,7 @@ use Rattle.bit_grammar.proofs.NormalForms.Under.{tree_kept, under_again, depth_u
 pub fit_of_setting : (s : Setting) (limits : Limits) (bytes : List ℕ) (m : Marked) → Capped limits → SpellsInput limits bytes m → Fit (under s (tree_of m))
 fit_of_setting s limits bytes m capped h = fit_under s (tree_of m) (fit_of_spelled limits bytes m capped h)
 
--- an input that has a tree under a setting has a whole one, of which that is left, and the other way round
+-- an input has a tree under a setting exactly if it has a whole one of which that is left
 pub whole_of : (s : Setting) (limits : Limits) (bytes : List ℕ) (tree : Tree) → HasTree s limits bytes tree → (all : Tree) × HasTree keep limits bytes all × (under s all ≡ tree)
 whole_of s limits bytes tree h = (tree_of h.0, (h.0, h.1, tree_kept (tree_of h.0)), h.2)
 
@@ -34,7 +34,7 @@ values_of_setting s limits bytes m h =
     let within = (limits_judged limits limits bytes m h).0 h in
     omega (arith, values_under s 0 (tree_of m).blocks, values_kept m.blocks, within.2)
 
--- the normal form spells a whole tree, of which nothing is left out any more
+-- the normal form spells a whole tree, of which the setting leaves out nothing
 spelled_whole : (s : Setting) (limits : Limits) (bytes out : List ℕ) (m : Marked) → Capped limits → SpellsInput limits bytes m → bits_of_bytes out ≡ normal_form (under s (tree_of m)) → length out ≤ limits.bytes → IsSpelled limits out (under s (tree_of m))
 spelled_whole s limits bytes out m capped h is fits =
     whole_spelled limits (under s (tree_of m)) out capped (fit_of_setting s limits bytes m capped h) is fits (depth_of_setting s limits bytes m h) (values_of_setting s limits bytes m h)

@@ -33,7 +33,7 @@ body_again id p k =
     let same : p + 32 * k + 2 + shortest_length 8 id + 4 ≡ x + 32 * k = omega arith in
     omega (arith, ap aligned same, aligned_again x k)
 
--- the end of items goes by the position modulo 32
+-- the end of items depends on the position modulo 32
 pub end_again : (f : Forest) (p k : ℕ) → end_of f (p + 32 * k) ≡ end_of f p + 32 * k
 unfolding end_of
 end_again empty p k = refl
@@ -79,7 +79,7 @@ limit_some payload some = go (chunk_limit payload) (div-add-mod' (63 + payload) 
     go zero e = absurd (omega (arith, e, some))
     go (suc k) e = omega arith
 
--- a VBR has a chunk at least, and no more than are permitted
+-- a VBR has at least one chunk, and no more than are permitted
 pub short_range : (n v : ℕ) → 2 ≤ n → (n ≤ shortest_length n v) × (shortest_length n v ≤ n * chunk_limit (n - 1))
 unfolding shortest_length
 short_range n v wide =
@@ -110,7 +110,7 @@ record_end code values =
 width_length : length (shortest 4 2) ≡ 4
 width_length = refl
 
--- where the body begins, q being the bit after the abbreviation id
+-- where the body begins, if q is the bit after the abbreviation id
 head_end : (id p q : ℕ) → q ≡ p + 2 → q + length (head_text id 0 q) ≡ body_at id p
 head_end id p q e =
     let a = shortest 8 id in
@@ -128,7 +128,7 @@ end_length p =
     let pad : length (padding q) ≡ padding_length (p + 2) = pad_length q ∙ ap padding_length place in
     omega (arith, place, pad, length-append (bits_of 2 0) (padding q))
 
--- what is said of items, of the body that they make
+-- from the items to the body that they make
 body_end : (inner : Forest) (p k : ℕ) → ((q : ℕ) → q + length (normal inner q) ≡ end_of inner q) → p ≡ 32 * k → length (chain (normal inner) end_text p) ≡ body_length inner
 body_end inner p k items e =
     let q = p + length (normal inner p) in
@@ -228,7 +228,7 @@ end_more (a_record code values rest) p q le = end_more rest (p + record_length c
 pub end_grows : (f : Forest) (p : ℕ) → p ≤ end_of f p
 end_grows f p = omega (arith, items_end f p)
 
--- what is left is no larger
+-- a tree under a setting is no larger
 items_end_under : (s : Setting) (around : ℕ) (f : Forest) (p : ℕ) → end_of (items_under s around f) p ≤ end_of f p
 unfolding end_of
 items_end_under s around empty p = omega arith

@@ -1,4 +1,4 @@
--- What the texts of a normal form spell: fields, records, and a block's head and its end.
+-- What the texts of a normal form spell: fields, records, and the head and the end of a block.
 use Rattle.std.proofs.Common.{◌≡◌, ℕ, zero, suc, ◌+◌, ◌-◌, ◌*◌, ◌<◌, ◌≤◌, ◌^◌, Bool, true, false, eqb, List, [], ◌∷◌, ◌++◌, length, replicate, Option, refl, sym, subst, ◌∙◌, arith, inl, inr}
 use Rattle.std.specs.List.{AllByRecursion}
 use Rattle.std.proofs.lemmas.Bool.{lt-ltb}
@@ -21,7 +21,7 @@ use Rattle.bit_grammar.proofs.Readings.Wholes.{is_le}
 
 -- ---- spelling by parts
 
--- what a rule spells, as a record, so that its arguments are found
+-- a spelling as a record, so that its arguments are inferred
 pub record Spelled {A : Type 0} (rule : Grammar A) (p : ℕ) (s : List Bool) (v : A) : Type 0 where
   pub is : Spells rule p s v
 
@@ -51,7 +51,7 @@ first_chosen b e h = record { is = inl (e, h.is) }
 pub other_chosen : {A : Type 0} (b : Bool) {one_rule other_rule : Grammar A} {p : ℕ} {s : List Bool} {v : A} → b ≡ false → Spelled other_rule p s v → Spelled (choose b one_rule other_rule) p s v
 other_chosen b e h = record { is = inr (e, h.is) }
 
--- the same bits at the same position, written otherwise
+-- the same bits at the same position, in other terms
 pub moved : {A : Type 0} {rule : Grammar A} {p q : ℕ} {s : List Bool} {v : A} → p ≡ q → Spelled rule p s v → Spelled rule q s v
 moved {rule = rule} {s = s} {v = v} e h = record { is = subst (λ (x : ℕ). Spells rule x s v) e h.is }
 

@@ -30,7 +30,7 @@ head_length id words q =
       length-bits_of 32 0,
     )
 
--- it begins at a multiple of 32
+-- a body begins at a multiple of 32
 pub body_aligned : (id q : ℕ) → (k : ℕ) × (q + length (head_text id 0 q) ≡ 32 * k)
 body_aligned id q =
     let a = shortest 8 id in

@@ -1,4 +1,4 @@
--- What is left of trees and events under a setting.
+-- Trees and events under a setting.
 use Rattle.std.proofs.Common.{◌≡◌, ℕ, suc, ◌+◌, ◌≤◌, Bool, true, false, max, List, [], ◌∷◌, ◌++◌, refl, sym, ap, subst, ◌∙◌, arith}
 use Rattle.std.specs.Prelude.{if◌then◌else◌, not, ◌&&◌, ◌||◌, ◌==◌}
 use Rattle.std.specs.List.{list_any, list_all}
@@ -27,13 +27,13 @@ none_named code (name ∷ names) = none_named code names
 pub info_kept : (s : Setting) (code : ℕ) → keeps_record s 0 code ≡ true
 info_kept s code = ap not (none_named code s.records)
 
--- what describes blocks stays
+-- items that describe blocks still do
 describes_stays : (s : Setting) (described : Bool) (f : Forest) → DescribesBlocks described f → items_under s 0 f ≡ f
 describes_stays s described empty h = refl
 describes_stays s described (a_block id inner rest) h = absurd h
 describes_stays s described (a_record code values rest) h = rw (info_kept s code, describes_stays s true rest h.1) refl
 
--- ---- blocks of which no record is named
+-- ---- blocks without named records
 
 no_record : (block code : ℕ) (names : List RecordName) → list_any (λ (name : RecordName). name.block == block) names ≡ false → list_any (is_named block code) names ≡ false
 no_record block code [] none = refl
@@ -44,7 +44,7 @@ no_record block code (name ∷ names) none = go (name.block == block) none (no_r
     go true e others = absurd cc
     go false e others = rw (and_false (not (block == 0)) false refl) (others e)
 
--- where no record of a block is named, each is kept
+-- if no record of a block is named, each is kept
 pub unnamed_kept : (s : Setting) (block : ℕ) → keeps_records s block ≡ true → (code : ℕ) → keeps_record s block code ≡ true
 unnamed_kept s block kept code = ap not (no_record block code s.records (not_true (list_any (λ (name : RecordName). name.block == block) s.records) kept))
   where
@@ -157,7 +157,7 @@ fit_under s tree fit = record {
 
 -- ---- events
 
--- the ids behind one more event
+-- the ids after one more event
 pub ids_behind-push : (events : List Event) (event : Event) (ids : List ℕ) → ids_behind (events ++ event ∷ []) ids ≡ ids_after event (ids_behind events ids)
 ids_behind-push [] event ids = refl
 ids_behind-push (e ∷ events) event ids = ids_behind-push events event (ids_after e ids)
@@ -179,7 +179,7 @@ forest_left s around (marked_record mark rest) = go (keeps_record s around mark.
     go false y = y
 forest_left s around (marked_definition mark rest) = forest_left s around rest
 
--- an event before others, if it is left
+-- an event before others, if it is kept
 abbrev put : Bool → Event → List Event → List Event
 put b event others = if b then event ∷ others else others
 
@@ -189,7 +189,7 @@ left_out b event others e = ap (λ (c : Bool). put c event others) e
 left : (b : Bool) (event : Event) (others : List Event) → b ≡ true → put b event others ≡ event ∷ others
 left b event others e = ap (λ (c : Bool). put c event others) e
 
--- in a block that is left out nothing is left
+-- in a block that is left out nothing is kept
 events_passed : (s : Setting) (ids : List ℕ) (m : Marks) (following : List Event) → list_all (keeps s) ids ≡ false → events_under s ids (flat m following) ≡ events_under s ids following
 events_passed s ids no_marks following none = refl
 events_passed s ids (marked_block mark inner rest) following none =
@@ -204,7 +204,7 @@ events_passed s ids (marked_record mark rest) following none =
     ∙ events_passed s ids rest following none
 events_passed s ids (marked_definition mark rest) following none = left_out (list_all (keeps s) ids) (defines mark) (events_under s ids (flat rest following)) none ∙ events_passed s ids rest following none
 
--- the events that are left of those of marks are those of the marks that are left
+-- the kept events of marks are those of the kept marks
 pub events_left : (s : Setting) (ids : List ℕ) (m : Marks) (following : List Event) → list_all (keeps s) ids ≡ true → events_under s ids (flat m following) ≡ flat (marks_under s (innermost ids) m) (events_under s ids following)
 events_left s ids no_marks following all = refl
 events_left s ids (marked_block mark inner rest) following all = go (keeps s mark.id) refl (events_left s inside inner (leaves mark.after ∷ flat rest following)) (events_left s ids rest following all)
@@ -244,6 +244,6 @@ events_left s ids (marked_record mark rest) following all = go (keeps_record s (
 events_left s ids (marked_definition mark rest) following all =
     left (list_all (keeps s) ids) (defines mark) (events_under s ids (flat rest following)) all ∙ ap (λ (es : List Event). defines mark ∷ es) (events_left s ids rest following all)
 
--- the events that are left of those of marks are those of marks, whose items are those that are left
+-- the kept events of marks are those of other marks, whose items are the kept ones
 pub marks_left : (s : Setting) (m : Marks) → (n : Marks) × (events_under s [] (flat m []) ≡ flat n []) × (forest_of n ≡ items_under s 0 (forest_of m))
 marks_left s m = (marks_under s 0 m, events_left s [] m [] refl, forest_left s 0 m)

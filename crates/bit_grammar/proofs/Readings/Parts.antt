@@ -1,11 +1,11 @@
--- What a rule spells, taken apart.
+-- The parts of what a rule spells.
 use Rattle.std.proofs.Common.{◌≡◌, ℕ, ◌+◌, ◌⊎◌, Bool, true, false, List, [], ◌++◌, length, ap, sym, subst, ◌∙◌, arith, inl, inr}
 use Rattle.std.proofs.lemmas.List.{append-nil}
 use Rattle.bit_grammar.specs.Grammar.{Fault, Grammar, gives, position, test, choose, ◌>>=◌, Spells}
 use Rattle.bit_grammar.proofs.Readings.Deciding.{position-first}
 use Rattle.bit_grammar.proofs.NormalForms.SpelledParts.{Spelled}
 
--- the parts that two rules spell, one after the other
+-- the parts that two rules spell, one after another
 pub record Both {A B : Type 0} (first : Grammar A) (second : A → Grammar B) (p : ℕ) (s : List Bool) (v : B) : Type 0 where
   pub front : List Bool
   pub others : List Bool
@@ -46,7 +46,7 @@ chosen {b = b} {one_rule = one_rule} {other_rule = other_rule} {p = p} {s = s} {
     either (inl k) = inl (k.0, record { is = k.1 })
     either (inr k) = inr (k.0, record { is = k.1 })
 
--- a first part, where nothing follows it
+-- a first part with nothing after it
 pub ends : (s a b : List Bool) → s ≡ a ++ b → b ≡ [] → s ≡ a
 ends s a b parts none = parts ∙ ap (λ (t : List Bool). a ++ t) none ∙ append-nil a
 

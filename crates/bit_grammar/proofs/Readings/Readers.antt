@@ -1,4 +1,4 @@
--- What a reader answers for a rule for all that is left, and for a whole input: from left to right.
+-- The readings of a rule for the rest of an input, and of a whole input: from left to right.
 use Rattle.std.specs.Prelude.{ℕ, zero, suc, Bool, List, [], ◌∷◌, length, take, Result, Ok, Err, nat_lt, nat_le, if◌then◌else◌}
 use Rattle.bit_grammar.specs.Grammar.{Fault, reading}
 use Rattle.bit_grammar.specs.Bits.{bits_of_bytes}
@@ -19,7 +19,7 @@ abbrev pub after_thing : {S A : Type 0} → Fault → ℕ
 after_thing idle p others x q rest = if nat_lt p q then before_all x.0 (others x.1 q rest)
     else Err idle
 
--- the things, each by its reading, at most so many
+-- the things, each by its reading, with an upper bound on their number
 abbrev pub go_things : {S A : Type 0} → Fault
     → (S → ℕ → List Bool → Result ((A × S) × ℕ × List Bool) Fault) → ℕ → S → ℕ → List Bool
     → Result (List A × ℕ) Fault
@@ -28,17 +28,17 @@ go_things idle read zero state p (b ∷ bits) = Err idle
 go_things idle read (suc n) state p (b ∷ bits) = and_all (read state p (b ∷ bits))
     (after_thing idle p (go_things idle read n))
 
--- where the bits were few, a value is a fault
+-- if there were too few bits, a value is a fault
 abbrev pub long_enough : {A : Type 0} → Bool → Fault → Result A Fault → Result A Fault
 long_enough enough few (Ok v) = if enough then Ok v else Err few
 long_enough enough few (Err fault) = Err fault
 
--- the value made of what was read
+-- a function of the value that was read
 abbrev pub made_by : {A B : Type 0} → (A → B) → Result A Fault → Result B Fault
 made_by f (Ok v) = Ok (f v)
 made_by f (Err fault) = Err fault
 
--- what a rule reads in all that is left
+-- what a rule reads in the rest of an input
 abbrev pub reading_all : {A : Type 0} → Whole A → ℕ → List Bool → Result A Fault
 reading_all (first then_all after) p r = and_all (reading first p r)
     (λ x q rest. reading_all (after x) q rest)

@@ -1,4 +1,4 @@
--- A rule whose value is made into another, and what it spells.
+-- A rule with a function of its value, and what it spells.
 use Rattle.std.proofs.Common.{◌≡◌, ℕ, Bool, List, [], ◌++◌, refl, sym, ap, subst, ◌∙◌}
 use Rattle.std.proofs.lemmas.List.{append-nil}
 use Rattle.bit_grammar.specs.Grammar.{Grammar, gives, ◌>>=◌, Spells}

@@ -1,4 +1,4 @@
--- What a rule for all that is left reads, and what it spells and where it stops, agree.
+-- What a rule for the rest of an input reads agrees with what it spells and where it stops.
 use Rattle.std.proofs.Common.{◌≡◌, ℕ, zero, suc, ◌+◌, ◌<◌, ◌≤◌, ◌⊎◌, Bool, true, false, leb, List, [], ◌∷◌, ◌++◌, length, take, drop, Ok, Err, refl, sym, ap, ◌∙◌, arith, inl, inr}
 use Rattle.std.proofs.lemmas.Bool.{cases_lt}
 use Rattle.std.proofs.lemmas.Bool.Decides.{nat_tests}
@@ -86,7 +86,7 @@ reads_all (either b one_rule other_rule) p r v (inl h) = rw h.0 (reads_all one_r
 reads_all (either b one_rule other_rule) p r v (inr h) = rw h.0 (reads_all other_rule p r v h.1)
 reads_all (making f whole) p r v h = rw (reads_all whole p r h.0 h.1, h.2) refl
 
--- where a rule stops, that fault is read
+-- if a rule stops, its fault is read
 pub breaks_all : {A : Type 0} (whole : Whole A) (p : ℕ) (r : List Bool) (fault : Fault) → StopsAll whole p r fault → reading_all whole p r ≡ Err fault
 breaks_all (first then_all after) p r fault (inl h) = rw (breaks first p r fault h) refl
 breaks_all (first then_all after) p r fault (inr h) =
@@ -99,7 +99,7 @@ breaks_all (either b one_rule other_rule) p r fault (inl h) = rw h.0 (breaks_all
 breaks_all (either b one_rule other_rule) p r fault (inr h) = rw h.0 (breaks_all other_rule p r fault h.1)
 breaks_all (making f whole) p r fault h = rw (breaks_all whole p r fault h) refl
 
--- all that is left spells a value, or a rule stops in it
+-- the rest spells a value, or a rule stops in it
 pub decides_all : {A : Type 0} (whole : Whole A) (p : ℕ) (r : List Bool) → DecidedAll whole p r
 decides_all (first then_all after) p r =
     elim (decides first p r) [

@@ -1,4 +1,4 @@
--- Worked inputs that nest deeply or claim much.
+-- Worked inputs with deep nesting, or with numbers that are too large for them.
 use Rattle.std.proofs.Common.{ℕ, zero, suc, ◌+◌, ◌*◌, ◌/◌, ◌%◌, ◌≡◌, Bool, true, false, List, [], ◌∷◌, ◌++◌, length, take, drop, replicate, Ok, Err, refl}
 use Rattle.bit_grammar.specs.declared.reason.Reason.TheVariants.{AbbrevEncoding, TooDeep, TooManyValues, ValueTooWide}
 use Rattle.bit_grammar.specs.Bits.{bits_of, number}
@@ -19,7 +19,7 @@ use Rattle.bit_grammar.proofs.Readings.Readers.{reading_input}
 abbrev beginning : List ℕ
 beginning = hex "21080000 00000000"
 
--- so many blocks 8 of width 2, one in another
+-- nested blocks 8 of width 2
 abbrev nest : ℕ → List ℕ
 nest zero = []
 nest (suc inner) = hex "21080000" ++ ((1 + 3 * inner) % 256) ∷ ((1 + 3 * inner) / 256) ∷ 0 ∷ 0 ∷ nest inner ++ hex "00000000"
@@ -44,7 +44,7 @@ record Claims : Type 0 where
   -- 2 ^ 64 - 1 values
   -- refuses: values judged after the fields of the record, which are not there
   values : blocks usual (hex "4243C0DE 21080000 03000000 07FFFFFF FFFFFFFF FFFF0F00") ≡ Err (at TooManyValues 104)
-  -- a number of operands whose sixteenth chunk says that another follows
+  -- a number of operands whose sixteenth chunk has a continuation bit of 1
   operands_in_17_chunks : blocks usual (hex "4243C0DE 210C0000 03000000 FAFFFFFF FFFFFFFF FFFFFFFF FFFF") ≡ Err (at ValueTooWide 99)
   -- 2 ^ 64 - 1 operands
   operands_without_end : blocks usual (hex "4243C0DE 210C0000 03000000 FAFFFFFF FFFFFFFF FFFF0300") ≡ Err (at AbbrevEncoding 180)
@@ -53,21 +53,21 @@ claims : Claims
 unfolding fixed vbr char6 align32 byte kind valued operand operands definition value_count unabbreviated scalar values_of abbreviated block_id new_width block_head end_of_block define by_definition entry describe record_after nested item_after item block top_block version offset wrapper any_bits wrapper_and_gap inner_magic top_blocks stream wrapped input outer_wrapper reading_input
 claims = record { values = refl; operands_in_17_chunks = refl; operands_without_end = refl }
 
--- bits, so many times
+-- bits, repeated
 abbrev again : ℕ → List Bool → List Bool
 again zero bits = []
 again (suc count) bits = bits ++ again count bits
 
--- so many bytes of bits
+-- bits as bytes
 abbrev packed : ℕ → List Bool → List ℕ
 packed zero bits = []
 packed (suc count) bits = number (take 8 bits) ∷ packed count (drop 8 bits)
 
--- 1,180 bytes: a block 8 with ids of three bits, with a definition of 1,001 literals of value 0, which is used so many times
+-- 1,180 bytes: a block 8 with ids of three bits, with a definition of 1,001 literals of value 0, which is used several times
 abbrev literals_used : ℕ → List ℕ
 literals_used uses = hex "4243C0DE 210C0000 24010000" ++ packed 1168 (bits_of 3 2 ++ shortest 5 1001 ++ again 1001 (true ∷ bits_of 8 0) ++ again uses (bits_of 3 4) ++ replicate 32 false)
 
--- so many records with a thousand zeros each
+-- records with a thousand zeros each
 abbrev thousands : ℕ → Forest
 thousands zero = empty
 thousands (suc count) = a_record 0 (replicate 1000 0) (thousands count)

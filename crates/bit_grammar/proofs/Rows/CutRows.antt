@@ -12,7 +12,7 @@ use Rattle.bit_grammar.proofs.Rows.Hex.{hex}
 use Rattle.bit_grammar.proofs.Rows.Worked.{usual, blocks}
 use Rattle.bit_grammar.proofs.Readings.Readers.{reading_input}
 
--- what the first bytes of a block 8 with a record of code 1 and the value 30 are read as, for each of these numbers
+-- the readings of the first bytes of a block 8 with a record of code 1 and the value 30, for each of these lengths
 abbrev cut_at : List ℕ → List (Result Forest Fault)
 cut_at counts = map (λ n. blocks usual (take n (hex "4243C0DE 21080000 01000000 07810700"))) counts
 
@@ -23,7 +23,7 @@ record Cuts : Type 0 where
   in_the_padding : cut_at (6 ∷ 7 ∷ []) ≡ replicate 2 (Err (at Truncated 46))
   in_the_length : cut_at (8 ∷ 9 ∷ 10 ∷ 11 ∷ []) ≡ replicate 4 (Err (at Truncated 64))
   before_an_id : cut_at (12 ∷ []) ≡ Err (at Truncated 96) ∷ []
-  -- the code is whole after 13 bytes, and of the number of values no bit is there
+  -- the code is complete after 13 bytes, and no bit of the number of values is there
   before_the_count : cut_at (13 ∷ []) ≡ Err (at Truncated 104) ∷ []
   in_the_value : cut_at (14 ∷ []) ≡ Err (at Truncated 110) ∷ []
   in_the_last_padding : cut_at (15 ∷ []) ≡ Err (at Truncated 118) ∷ []

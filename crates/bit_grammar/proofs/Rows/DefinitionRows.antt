@@ -17,7 +17,7 @@ use Rattle.bit_grammar.proofs.Rows.Hex.{hex}
 use Rattle.bit_grammar.proofs.Rows.Worked.{usual, with_values, blocks, Accepted}
 use Rattle.bit_grammar.proofs.Readings.Readers.{made_by, reading_input}
 
--- in a block 8 with ids of three bits and a body of so many words: these bytes
+-- a block 8 with ids of three bits and a body of this many words: these bytes
 abbrev in_block : (words : ℕ) → (body : List ℕ) → List ℕ
 in_block words body = hex "4243C0DE 210C0000" ++ words ∷ 0 ∷ 0 ∷ 0 ∷ body
 
@@ -33,7 +33,7 @@ faults : Faults
 unfolding fixed vbr char6 align32 byte kind valued operand operands definition value_count unabbreviated scalar values_of abbreviated block_id new_width block_head end_of_block define by_definition entry describe record_after nested item_after item block top_block version offset wrapper any_bits wrapper_and_gap inner_magic top_blocks stream wrapped input outer_wrapper reading_input
 faults = record { no_operands = refl; encoding_0 = refl; fixed_33 = refl; vbr_1 = refl; array_first = refl; array_second_of_four = refl }
 
--- the operands of the definition that stands first in the block, and the bit after them
+-- the operands of the first definition in the block, and the bit after them
 abbrev operands_in : List ℕ → Result (List Op × ℕ) Fault
 operands_in body = made_by (λ x. (x.0, x.1)) (reading (definition AtDefinition) 99 (drop 99 (bits_of_bytes (in_block 1 body))))
 

@@ -1,4 +1,4 @@
--- Worked inputs and trees of which blocks and records are left out.
+-- Worked inputs and trees without some of their blocks and records.
 use Rattle.std.proofs.Common.{ℕ, ◌≡◌, List, [], ◌∷◌, ◌++◌, Ok, Err, refl}
 use Rattle.bit_grammar.specs.declared.reason.Reason.TheVariants.{BadSetBid, NestedInBlockInfo, NoBlockSet}
 use Rattle.bit_grammar.specs.declared.info.RecordName.{RecordName}
@@ -32,7 +32,7 @@ record Drops : Type 0 where
   -- refuses: a BLOCKINFO block that is skipped, so that its definitions are lost
   definitions_hold : rewritten drop_info usual (magic ++ info ++ use_of_info) ≡ Ok (bits_of_bytes (hex "4243C0DE 21080000 01000000 07013900"))
   tree_of_the_rest : left drop_info usual (magic ++ info ++ use_of_info) ≡ Ok (a_block 8 (a_record 1 (100 ∷ []) empty) empty)
-  -- where BLOCKINFO blocks are dropped an input has the tree of its normal form; where they are kept, another
+  -- if BLOCKINFO blocks are dropped an input has the tree of its normal form; if they are kept, another tree
   same_as_normal_form : tree drop_info usual (magic ++ info ++ use_of_info) ≡ tree drop_info usual (hex "4243C0DE 21080000 01000000 07013900")
   other_where_kept : blocks usual (magic ++ info ++ use_of_info) ≡ Ok (a_block 0 (a_record 1 (8 ∷ []) empty) (a_block 8 (a_record 1 (100 ∷ []) empty) empty))
   normal_form_where_kept : blocks usual (hex "4243C0DE 21080000 01000000 07013900") ≡ Ok (a_block 8 (a_record 1 (100 ∷ []) empty) empty)
@@ -46,7 +46,7 @@ unfolding fixed vbr char6 align32 byte kind valued operand operands definition v
 drops = record { definitions_hold = refl; tree_of_the_rest = refl; same_as_normal_form = refl; other_where_kept = refl; normal_form_where_kept = refl; inside_a_block = refl; nothing_left = refl; magic_left = refl }
 
 record DroppedFaults : Type 0 where
-  -- what is left out is judged all the same
+  -- blocks that are left out are judged too
   name_of_no_block : left drop_info usual (hex "4243C0DE 01080000 01000000 0B000000") ≡ Err (at NoBlockSet 96)
   definition_for_no_block : left drop_info usual (hex "4243C0DE 01080000 01000000 02000000") ≡ Err (at NoBlockSet 96)
   no_id : left drop_info usual (hex "4243C0DE 01080000 01000000 07000000") ≡ Err (at BadSetBid 96)
@@ -71,22 +71,22 @@ inner rest = a_record 1 (11 ∷ []) (a_record 2 (12 ∷ []) rest)
 abbrev tower : Forest
 tower = a_block 8 (a_record 1 (1 ∷ []) (a_block 9 (inner empty) (a_record 2 (2 ∷ []) (a_block 8 (inner empty) (a_record 1 (3 ∷ []) empty))))) (a_block 9 (inner empty) empty)
 
--- a BLOCKINFO block in a block 8, and behind it a record with the code that its records have
+-- a BLOCKINFO block in a block 8, and after it a record with the code of its records
 abbrev described : Forest
 described = a_block 8 (a_block 0 (a_record 1 (8 ∷ []) empty) (a_record 1 (5 ∷ []) empty)) empty
 
 record Named : Type 0 where
-  -- refuses: only blocks at the top left out; what stands behind a block that is left out lost
+  -- refuses: only blocks at the top left out; the items after a block that is left out lost
   blocks_at_any_depth : items_under (without (9 ∷ []) []) 0 tower ≡ a_block 8 (a_record 1 (1 ∷ []) (a_record 2 (2 ∷ []) (a_block 8 (inner empty) (a_record 1 (3 ∷ []) empty)))) empty
   -- refuses: the blocks in a block that is left out kept
   all_that_they_hold : items_under (without (8 ∷ []) []) 0 tower ≡ a_block 9 (inner empty) empty
   -- a block that is left out in one that is left out
   one_in_another : items_under (without (8 ∷ 9 ∷ []) []) 0 tower ≡ empty
-  -- refuses: a record of another block with the same code left out; records behind a block taken for records of it
+  -- refuses: a record of another block with the same code left out; records after a block taken for records of it
   records_around_blocks : items_under (without [] (name 8 1 ∷ [])) 0 tower ≡ a_block 8 (a_block 9 (inner empty) (a_record 2 (2 ∷ []) (a_block 8 (a_record 2 (12 ∷ []) empty) empty))) (a_block 9 (inner empty) empty)
   records_of_inner_blocks : items_under (without [] (name 9 2 ∷ name 9 1 ∷ [])) 0 tower ≡ a_block 8 (a_record 1 (1 ∷ []) (a_block 9 empty (a_record 2 (2 ∷ []) (a_block 8 (inner empty) (a_record 1 (3 ∷ []) empty))))) (a_block 9 empty empty)
   both : items_under (without (9 ∷ []) (name 8 1 ∷ [])) 0 tower ≡ a_block 8 (a_record 2 (2 ∷ []) (a_block 8 (a_record 2 (12 ∷ []) empty) empty)) empty
-  -- refuses: a BLOCKINFO block of which no more is left than definitions for no block
+  -- refuses: a BLOCKINFO block with only definitions for no block left
   records_of_info : items_under (without [] (name 0 1 ∷ [])) 0 described ≡ described
   records_behind_info : items_under (without [] (name 0 1 ∷ name 8 1 ∷ [])) 0 described ≡ a_block 8 (a_block 0 (a_record 1 (8 ∷ []) empty) empty) empty
   info_by_its_id : items_under (without (0 ∷ []) []) 0 described ≡ items_under drop_info 0 described

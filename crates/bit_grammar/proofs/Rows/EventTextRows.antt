@@ -17,7 +17,7 @@ use Rattle.bit_grammar.specs.Outlook.{outlook}
 use Rattle.bit_grammar.proofs.Rows.Hex.{hex}
 use Rattle.bit_grammar.proofs.Rows.Worked.{usual}
 
--- the text of what is told of bytes, and how it ends
+-- the text of the outlook of bytes, and its end
 abbrev text_of : Values → List ℕ → List ℕ × Ending
 text_of values bytes = (outlook_text values (outlook usual bytes), outlook_end (outlook usual bytes))
 
@@ -29,7 +29,7 @@ info_and_use = hex "4243C0DE 01080000 02000000 0701A218 20070000 210C0000 010000
 abbrev kinds : List ℕ
 kinds = hex "4243C0DE 21100000 0A000000 5206C821 632823AB 002A918B 0108FE48 10000000 01000000 1F000000 95090000 FF000000 00000000"
 
--- an empty block in a wrapper, and bytes behind it
+-- an empty block in a wrapper, and bytes after it
 abbrev wrapped : List ℕ
 wrapped = hex "DEC0170B 00000000 14000000 10000000 07000001 4243C0DE 21080000 01000000 00000000 00000000"
 

@@ -1,4 +1,4 @@
--- Worked fields, each read at bit 32, behind a magic.
+-- Worked fields, each read at bit 32, after a magic.
 use Rattle.std.proofs.Common.{ℕ, ◌≡◌, List, [], ◌∷◌, ◌++◌, length, drop, Result, Ok, Err, refl}
 use Rattle.bit_grammar.specs.declared.reason.Reason.TheVariants.{Truncated, ValueTooWide}
 use Rattle.bit_grammar.specs.Bits.{bits_of_bytes, bits_of}
@@ -9,7 +9,7 @@ use Rattle.bit_grammar.specs.Normal.{put, chain, padding}
 use Rattle.bit_grammar.proofs.Rows.Hex.{hex, times}
 use Rattle.bit_grammar.proofs.Readings.Readers.{made_by}
 
--- what a rule reads in these bytes behind a magic: the value and the bit after it, or the fault
+-- what a rule reads in these bytes after a magic: the value and the bit after it, or the fault
 abbrev read : {A : Type 0} → Grammar A → List ℕ → Result (A × ℕ) Fault
 read rule bytes = made_by (λ x. (x.0, x.1)) (reading rule 32 (drop 32 (bits_of_bytes (hex "4243C0DE" ++ bytes))))
 

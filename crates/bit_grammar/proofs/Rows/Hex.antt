@@ -25,7 +25,7 @@ bytes_of text = paired (digits_of text)
 abbrev pub hex : String → List ℕ
 hex text = bytes_of (codes text)
 
--- bytes again and again, so many times
+-- bytes, repeated
 abbrev pub times : ℕ → List ℕ → List ℕ
 times zero bytes = []
 times (suc count) bytes = bytes ++ times count bytes

@@ -20,7 +20,7 @@ record Magics : Type 0 where
   three_bytes : blocks usual (hex "4243C0") ≡ Err (at Truncated 0)
   magic_alone : IsNormal usual (hex "4243C0DE") empty
   empty_block : IsNormal usual (hex "4243C0DE 21080000 01000000 00000000") (a_block 8 empty empty)
-  -- a magic is kept, whatever it is
+  -- any magic is kept
   another_magic : Accepted usual (hex "44494147 210C0000 01000000 0B021E00") (a_block 8 (a_record 1 (28 ∷ []) empty) empty) (hex "44494147 21080000 01000000 07010700")
 
 magics : Magics
@@ -28,7 +28,7 @@ unfolding fixed vbr char6 align32 byte kind valued operand operands definition v
 magics = record { nothing = refl; three_bytes = refl; magic_alone = (refl, refl); empty_block = (refl, refl); another_magic = (refl, refl) }
 
 record Records : Type 0 where
-  -- id, code, number of values and one value, in six bits each but the id
+  -- id, code, number of values and one value, in six bits each except the id
   one_value : IsNormal usual (hex "4243C0DE 21080000 01000000 07810700") (a_block 8 (a_record 1 (30 ∷ []) empty) empty)
   -- ids of three bits, and the value in one chunk more than it needs
   -- refuses: a normal form with the width or the chunks of its input
@@ -57,7 +57,7 @@ ends : Ends
 unfolding fixed vbr char6 align32 byte kind valued operand operands definition value_count unabbreviated scalar values_of abbreviated block_id new_width block_head end_of_block define by_definition entry describe record_after nested item_after item block top_block version offset wrapper any_bits wrapper_and_gap inner_magic top_blocks stream wrapped input outer_wrapper reading_input
 ends = record { one_in_padding = refl; length_too_large = refl; length_too_small = refl; newlines_behind = refl }
 
--- a block of width 1 that holds one of width 2
+-- a block of width 1 that contains one of width 2
 abbrev narrow : List ℕ
 narrow = hex "4243C0DE 21040000 04000000 13040000 01000000 00000000 00000000"
 

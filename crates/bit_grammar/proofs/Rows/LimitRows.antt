@@ -66,7 +66,7 @@ record BytesAndDepth : Type 0 where
   bytes_16 : blocks (with_bytes 16) empty_block ≡ Ok (a_block 8 empty empty)
   bytes_15 : blocks (with_bytes 15) empty_block ≡ Err (at TooLong 120)
   bytes_before_newlines : blocks (with_bytes 16) (empty_block ++ hex "0A0A0A0A") ≡ Err (at TooLong 128)
-  -- refuses: the limit on bytes judged before a reason that stands earlier
+  -- refuses: the limit on bytes judged before an earlier reason
   first_newline_seen : blocks (with_bytes 17) (empty_block ++ hex "0A0A0A0A") ≡ Err (at TopLevel 128)
   no_depth : blocks (with_depth 0) one_value ≡ Err (at TooDeep 32)
 

@@ -1,4 +1,4 @@
--- Worked inputs about BLOCKINFO, and about where a definition holds.
+-- Worked inputs about BLOCKINFO, and about the scope of a definition.
 use Rattle.std.proofs.Common.{ℕ, ◌≡◌, List, [], ◌∷◌, ◌++◌, Err, refl}
 use Rattle.bit_grammar.specs.declared.reason.Reason.TheVariants.{BadSetBid, NestedInBlockInfo, NoBlockSet, UndefinedAbbrev}
 use Rattle.bit_grammar.specs.Grammar.{at}
@@ -44,9 +44,9 @@ record Scopes : Type 0 where
   -- the second BLOCKINFO block makes an empty table
   -- refuses: a second BLOCKINFO block that appends
   replaced : blocks usual (magic ++ info ++ use_of_info ++ hex "01080000 01000000 00000000" ++ use_of_info) ≡ Err (at UndefinedAbbrev 416)
-  -- refuses: a BLOCKINFO block that reaches a block already open
+  -- refuses: a BLOCKINFO block that changes a block already open
   already_open : blocks usual (hex "4243C0DE 210C0000 05000000 01100000 02000000 0701A218 20070000 24030000") ≡ Err (at UndefinedAbbrev 224)
-  -- refuses: a BLOCKINFO block that does not reach a block entered later
+  -- refuses: a BLOCKINFO block that does not change a block entered later
   entered_later : Accepted usual block_after_info (a_block 8 (a_block 0 (a_record 1 (8 ∷ []) empty) (a_block 8 (a_record 1 (100 ∷ []) empty) empty)) empty) (hex "4243C0DE 21080000 07000000 01080000 01000000 07010200 21080000 01000000 07013900 00000000")
   -- block 8 has the definition [Literal 1, Fixed 7] of its own, and block 9 in it uses id 4
   -- refuses: a block's own definition that reaches its sub-blocks

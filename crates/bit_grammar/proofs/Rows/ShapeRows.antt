@@ -30,7 +30,7 @@ one_record = a_block 8 (a_record 1 (100 ∷ []) empty) empty
 -- [Literal 1, Array, Fixed 7, Fixed 7] as the first definition of a block 8
 record ArrayInTheMiddle : Type 0 where
   unused : blocks usual (hex "4243C0DE 210C0000 02000000 22034C8E 1C000000") ≡ Err (at AbbrevShape 113)
-  -- refuses: a shape that is judged though it was not asked for
+  -- refuses: a shape that is judged at the definition although the limits say at its use
   unused_at_use : Accepted at_use (hex "4243C0DE 210C0000 02000000 22034C8E 1C000000") no_records (hex "4243C0DE 21080000 01000000 00000000")
   -- refuses: a definition that is left out of the events
   marked_at_use : marks at_use (hex "4243C0DE 210C0000 02000000 22034C8E 1C000000") ≡ Ok (marked_block (record { id = 8; width = 3; first = 32; body = 96; after = 160 }) (marked_definition (record { ops = Literal 1 ∷ Array ∷ Fixed 7 ∷ Fixed 7 ∷ []; first = 96; after = 135 }) no_marks) no_marks)

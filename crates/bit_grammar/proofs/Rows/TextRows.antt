@@ -35,9 +35,9 @@ record Reports : Type 0 where
   report_of_magic : reported (reading_input usual (hex "42 43 C0 DE")) ≡ Ok (codes "magic 4243c0de bits 32" ++ 10 ∷ [])
   -- an array of three fields that take no bits
   report_of_no_width : reported (reading_input usual (hex "42 43 C0 DE 21 0C 00 00 02 00 00 00 1A 03 4C 00 07 00 00 00")) ≡ Ok (codes "magic 4243c0de bits 160" ++ 10 ∷ codes "block 8 count 1 bits 128 definitions 1 records 1 abbreviated 1 values 3" ++ 10 ∷ codes "  record 1 count 1 bits 9" ++ 10 ∷ [])
-  -- in a wrapper, with bytes behind the stream
+  -- in a wrapper, with bytes after the stream
   report_of_wrapped : reported (reading_input usual (hex "DE C0 17 0B 00 00 00 00 14 00 00 00 10 00 00 00 07 00 00 01 42 43 C0 DE 21 08 00 00 01 00 00 00 00 00 00 00 00 00 00 00 00 00 00 00 00 00 00 00")) ≡ Ok (codes "magic 4243c0de bits 128" ++ 10 ∷ codes "block 8 count 1 bits 96 definitions 0 records 0 abbreviated 0 values 0" ++ 10 ∷ [])
-  -- rows in the order of first entry, codes in the order of first use, also where a block with the same id stands between
+  -- rows in the order of first entry, codes in the order of first use, also with a block with the same id between
   report_of_order : reported (reading_input usual (hex "44 49 41 0F 21 0C 00 00 09 00 00 00 3B 02 2F 08 04 00 00 00 02 00 00 00 53 00 73 08 81 00 00 00 33 80 24 08 01 00 00 00 07 00 00 00 2B 00 00 00 29 08 00 00 04 00 00 00 B3 49 F0 FF FF FF FF FF FF FF FF FF 00 00 00 00 21 08 00 00 01 00 00 00 0B 00 00 00")) ≡ Ok (codes "magic 4449410f bits 672" ++ 10 ∷ codes "block 8 count 3 bits 367 definitions 0 records 6 abbreviated 0 values 3" ++ 10 ∷ codes "  record 7 count 2 bits 49" ++ 10 ∷ codes "  record 5 count 2 bits 31" ++ 10 ∷ codes "  record 6 count 1 bits 15" ++ 10 ∷ codes "  record 2 count 1 bits 14" ++ 10 ∷ codes "block 9 count 1 bits 81 definitions 0 records 1 abbreviated 0 values 0" ++ 10 ∷ codes "  record 1 count 1 bits 14" ++ 10 ∷ codes "block 10 count 1 bits 192 definitions 0 records 1 abbreviated 0 values 1" ++ 10 ∷ codes "  record 300 count 1 bits 98" ++ 10 ∷ [])
 
 reports : Reports

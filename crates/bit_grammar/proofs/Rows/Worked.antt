@@ -1,4 +1,4 @@
--- What worked inputs are read as, and what they are written as again.
+-- The readings of worked inputs, and their normal forms.
 use Rattle.std.proofs.Common.{◌≡◌, ℕ, Bool, List, Result, Ok}
 use Rattle.bit_grammar.specs.declared.shapes.Shapes.TheVariants.{AtUse}
 use Rattle.bit_grammar.specs.Setting.{Setting, keep}
@@ -37,15 +37,15 @@ marks limits bytes = made_by (λ m. m.blocks) (reading_input limits bytes)
 abbrev pub blocks : Limits → List ℕ → Result Forest Fault
 blocks limits bytes = made_by (λ m. forest_of m.blocks) (reading_input limits bytes)
 
--- what is left of them
+-- the blocks under a setting
 abbrev pub left : Setting → Limits → List ℕ → Result Forest Fault
 left setting limits bytes = made_by (λ m. items_under setting 0 (forest_of m.blocks)) (reading_input limits bytes)
 
--- the magic and what is left of the blocks
+-- the magic and the blocks under a setting
 abbrev pub tree : Setting → Limits → List ℕ → Result Tree Fault
 tree setting limits bytes = made_by (λ m. under setting (tree_of m)) (reading_input limits bytes)
 
--- the normal form of what is left of what bytes are read as, in bits
+-- the normal form of what bytes are read as under a setting, in bits
 abbrev pub rewritten : Setting → Limits → List ℕ → Result (List Bool) Fault
 rewritten setting limits bytes = made_by (λ m. normal_form (under setting (tree_of m))) (reading_input limits bytes)
 

@@ -22,7 +22,7 @@ bare = hex "4243C0DE 21080000 01000000 00000000"
 abbrev header : List ℕ
 header = hex "DEC0170B 00000000 14000000 10000000 07000001"
 
--- the bytes behind a stream
+-- the bytes after a stream
 abbrev tail : List ℕ
 tail = times 12 (hex "00")
 
@@ -50,7 +50,7 @@ with_a_gap = hex "DEC0170B 00000000 18000000 10000000 07000001 FFFFFFFF" ++ bare
 
 record Parts : Type 0 where
   size_6 : blocks usual short ≡ Err (at Truncated 206)
-  -- refuses: a wrapper's Truncated turned into TooLong though its stream is whole within the limit
+  -- refuses: a wrapper's Truncated turned into TooLong though its stream is complete within the limit
   size_6_within_limit : blocks (with_bytes 47) short ≡ Err (at Truncated 206)
   size_6_past_limit : blocks (with_bytes 25) short ≡ Err (at TooLong 200)
   gap : Accepted usual with_a_gap (a_block 8 empty empty) bare
@@ -72,13 +72,13 @@ lies : Lies
 unfolding fixed vbr char6 align32 byte kind valued operand operands definition value_count unabbreviated scalar values_of abbreviated block_id new_width block_head end_of_block define by_definition entry describe record_after nested item_after item block top_block version offset wrapper any_bits wrapper_and_gap inner_magic top_blocks stream wrapped input outer_wrapper reading_input
 lies = record { large_size = refl; large_size_with_a_tail = refl; large_offset = refl }
 
--- the first 2,000 bytes of these and of zeros behind them
+-- the first 2,000 bytes of these and of zeros after them
 abbrev and_zeros : List ℕ → List ℕ
 and_zeros bytes = take 2000 (bytes ++ replicate 2000 0)
 
 record LongInputs : Type 0 where
   accepted_front : blocks (with_bytes 1000) (and_zeros (header ++ bare)) ≡ Err (at TooLong 8000)
-  -- refuses: the limit on bytes judged before a reason that stands earlier
+  -- refuses: the limit on bytes judged before an earlier reason
   size_2000 : blocks (with_bytes 1000) (and_zeros (hex "DEC0170B 00000000 14000000 D0070000 07000001" ++ bare)) ≡ Err (at TopLevel 288)
   large_offset : blocks (with_bytes 1000) (and_zeros (hex "DEC0170B 00000000 FCFFFFFF 10000000 07000001" ++ bare)) ≡ Err (at TooLong 8000)
   zeros_only : blocks (with_bytes 1000) (and_zeros []) ≡ Err (at TopLevel 32)

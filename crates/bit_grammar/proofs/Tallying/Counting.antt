@@ -59,7 +59,7 @@ codes_more records r =
     rows_changed (λ (x : CodeTally). x.code) fresh_code (one_use r) r.code (map (λ (x : RecordMark). x.code) records) (code_row records) (code_row (records ++ r ∷ [])) (code_moved records r)
     ∙ ap (λ (ks : List ℕ). map (code_row (records ++ r ∷ [])) (distinct ks)) (sym (map-append (λ (x : RecordMark). x.code) records (r ∷ [])))
 
--- ---- what has been seen
+-- ---- what was seen
 
 -- the ids of the blocks that began, in order; the own bits of those that ended; the records and the definitions
 pub record Seen : Type 0 where
@@ -245,7 +245,7 @@ see_whole : (id bits : ℕ) (ids others : List ℕ) (seen : Seen) (left more : L
     })
 see_whole id bits ids others seen left more records later definitions following = simp append_assoc
 
--- the open block with so many bits in it, and with more
+-- the open block with these bits in it, and with more
 abbrev with_inside : OpenCount → ℕ → OpenCount
 with_inside b bits = record { id = b.id; first = b.first; inside = bits }
 

@@ -1,4 +1,4 @@
--- Rows by keys, each key once in the order of its first place, when one more thing comes.
+-- Rows by keys, each key once in the order of its first occurrence, with one more thing.
 use Rattle.std.proofs.Common.{◌≡◌, ℕ, ◌⊎◌, not, eqb, List, [], ◌∷◌, ◌++◌, map, refl, sym, ap, subst, ◌∙◌, inl, inr}
 use Rattle.std.proofs.lemmas.Bool.{eq-eqb, ne_eqb}
 use Rattle.std.proofs.lemmas.List.{map-append, append-nil}
@@ -123,7 +123,7 @@ changed_here key fresh change id row rows same = rw (eq-eqb (key row) id same) r
 changed_later : {Row : Type 0} (key : Row → ℕ) (fresh : ℕ → Row) (change : Row → Row) (id : ℕ) (row : Row) (rows : List Row) → (key row ≡ id → ⊥) → rows_with key fresh change id (row ∷ rows) ≡ row ∷ rows_with key fresh change id rows
 changed_later key fresh change id row rows other = rw (ne_eqb (key row) id other) refl
 
--- Each row f k has the key k, and is fresh where k is not among the keys; the rows f' are these, with one changed.
+-- Each row f k has the key k, and is new if k is not among the keys; the rows f' are these, with one changed.
 pub record Moved {Row : Type 0} (key : Row → ℕ) (fresh : ℕ → Row) (change : Row → Row) (id : ℕ) (keys : List ℕ) (f g : ℕ → Row) : Type 0 where
   pub own : (k : ℕ) → key (f k) ≡ k
   pub unseen : (k : ℕ) → (Has k keys → ⊥) → f k ≡ fresh k

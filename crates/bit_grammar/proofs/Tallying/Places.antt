@@ -21,7 +21,7 @@ AreWithin (marked_block mark inner rest) = (bits_in inner ≤ block_bits mark) �
 AreWithin (marked_record mark rest) = AreWithin rest
 AreWithin (marked_definition mark rest) = AreWithin rest
 
--- the own bits of all blocks are the bits of those that stand here directly
+-- the own bits of all blocks are the bits of those at this level
 pub own_sum : (marks : Marks) → AreWithin marks → sum_by own_bits (blocks_in marks) ≡ bits_in marks
 own_sum no_marks within = refl
 own_sum (marked_record mark rest) within = own_sum rest within
@@ -51,19 +51,19 @@ only_then (block_item mark inner) rest one others = others
 only_then (record_item mark) rest one others = absurd one
 only_then (definition_item mark) rest one others = absurd one
 
--- ---- what is spelled from bit first up to bit after
+-- ---- an item from bit first up to bit after
 
 -- an item whose blocks have no more bits
 pub record ItemPlaced (first after : ℕ) (x : Item) : Type 0 where
   pub few : first + bits_in (alone x) ≤ after
   pub within : AreWithin (alone x)
 
--- an item, or the end, which is there
+-- an item, or the end at this bit
 abbrev RoundPlaced : (first after : ℕ) → Round Scope Item (ℕ × Handed) → Type 0
 RoundPlaced first after (one_more x t) = ItemPlaced first after x
 RoundPlaced first after (last e) = e.0 ≡ after
 
--- a block, which has as many bits
+-- a block, with its bits
 pub record BlockPlaced (first after : ℕ) (x : Item) : Type 0 where
   pub only : AreMarkedBlocks (alone x)
   pub all : first + bits_in (alone x) ≡ after

@@ -1,4 +1,4 @@
--- What is added up for each key adds up to the whole.
+-- The sums for each key add up to the whole.
 use Rattle.std.proofs.Common.{◌≡◌, ℕ, ◌+◌, ◌⊎◌, Bool, true, false, not, cond, eqb, List, [], ◌∷◌, map, refl, sym, ap, ◌∙◌, arith, inl, inr}
 use Rattle.std.specs.Prelude.{filter, sum_by}
 use Rattle.std.proofs.lemmas.Bool.{eqb-true, eqb-false, eq-eqb, ne_eqb}
@@ -24,7 +24,7 @@ compare a b = go (eqb a b) refl
     go true e = are_same (eqb-true a b e)
     go false e = are_other (eqb-false a b e)
 
--- what is added at k, where k is the key q
+-- what is added at k, if k is the key q
 abbrev at_key : (q v : ℕ) → ℕ → ℕ
 at_key q v k = cond (eqb q k) v 0
 
@@ -43,7 +43,7 @@ at_same q v k same = rw (eq-eqb q k same) refl
 at_other : (q v k : ℕ) → (q ≡ k → ⊥) → at_key q v k ≡ 0
 at_other q v k other = rw (ne_eqb q k other) refl
 
--- where the key is left out, nothing is added
+-- without the key, nothing is added
 left_out : (q v : ℕ) (ks : List ℕ) → sum_by (at_key q v) (without q ks) ≡ 0
 left_out q v [] = refl
 left_out q v (k ∷ ks) =
@@ -52,7 +52,7 @@ left_out q v (k ∷ ks) =
       | are_other other ↦ ap (sum_by (at_key q v)) (keep_other k q ks other) ∙ sum_by-cons (at_key q v) k (without q ks) ∙ (let none = at_other q v k (λ e. other (sym e)) in omega (arith, none, left_out q v ks))
     ]
 
--- where another is left out, the same is added
+-- without another key, the same is added
 other_out : (q v x : ℕ) (ks : List ℕ) → (q ≡ x → ⊥) → sum_by (at_key q v) (without x ks) ≡ sum_by (at_key q v) ks
 other_out q v x [] other = refl
 other_out q v x (k ∷ ks) other =
@@ -65,7 +65,7 @@ abbrev pub Has : ℕ → List ℕ → Type 0
 Has q [] = ⊥
 Has q (y ∷ ys) = (q ≡ y) ⊎ Has q ys
 
--- a key that stands there is counted once
+-- a key that occurs is counted once
 once : (q v : ℕ) (ys : List ℕ) → Has q ys → sum_by (at_key q v) (distinct ys) ≡ v
 once q v [] has = absurd has
 once q v (y ∷ ys) has = sum_by-cons (at_key q v) y (without y (distinct ys)) ∙ go (compare q y) has (once q v ys)
@@ -80,7 +80,7 @@ once q v (y ∷ ys) has = sum_by-cons (at_key q v) y (without y (distinct ys)) �
         let none = at_other q v y other in
         omega (arith, none, other_out q v y (distinct ys) other, more has)
 
--- what the things with a key add up to
+-- the sum of the things with a key
 abbrev with_key : {X : Type 0} → (X → ℕ) → (X → ℕ) → List X → ℕ → ℕ
 with_key key w xs k = sum_by w (filter (λ x. eqb (key x) k) xs)
 
@@ -115,6 +115,6 @@ keyed : {X : Type 0} (key : X → ℕ) (xs : List X) → Keyed key (map key xs) 
 keyed key [] = tt
 keyed key (x ∷ xs) = (inl refl, keyed_more key (key x) (map key xs) xs (keyed key xs))
 
--- what the things of each key add up to adds up to what all things do
+-- the sums of the things of each key add up to the sum of all things
 pub by_keys : {X : Type 0} (key w : X → ℕ) (xs : List X) → sum_by (λ k. sum_by w (filter (λ x. eqb (key x) k) xs)) (distinct (map key xs)) ≡ sum_by w xs
 by_keys key w xs = over_keys key w (map key xs) xs (keyed key xs)

@@ -80,7 +80,7 @@ magic_length p s magic k =
     let n = fixed_is 32 _ i.0 i.2 i.4 in
     omega (arith, ap length k.3, length-append k.0 k.1, ap length k.4.0, ap length i.3, length-append i.0 i.1, n.length, ap length j.3, length-append j.0 j.1, ap length j.4.0, ap length j.5.0)
 
--- the bits of the blocks, behind a magic that begins where the stream does
+-- the bits of the blocks, after a magic at the beginning of the stream
 abbrev pub IsCounted : Marked → Type 0
 IsCounted m = Counted (stream_begin m.head.wrapper + 32) m
 

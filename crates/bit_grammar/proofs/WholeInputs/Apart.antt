@@ -1,4 +1,4 @@
--- What differs between the settings for shapes: where a definition's shape is judged at the definition, more is refused, with
+-- The difference between the settings for shapes: if shapes are judged at the definition, more inputs are refused, with
 -- AbbrevShape, and all else is the same.
 use Rattle.std.proofs.Common.{◌≡◌, ◌⊎◌, ℕ, zero, suc, ◌+◌, ◌*◌, ◌<◌, ◌≤◌, Bool, true, false, List, [], ◌∷◌, ◌++◌, length, take, Some, None, refl, sym, ap, subst, inl, inr}
 use Rattle.bit_grammar.specs.declared.shapes.Shapes.{Shapes}
@@ -16,7 +16,7 @@ use Rattle.bit_grammar.specs.Fields.{fixed}
 use Rattle.bit_grammar.specs.Input.{wrapper_and_gap, inner_magic, is_wrapped, top_blocks, stream, wrapped, input, SpellsInput, Cut, front_spelled, front_broken, by_cut, cut_fault, is_closed, front_of, BreaksInput}
 use Rattle.bit_grammar.specs.Terms.{Wrapper, Head, Marked}
 
--- ---- rules, of which the second takes what the first takes, and breaks where the first does, but for shapes
+-- ---- rules, of which the second takes all that the first takes, and breaks as the first does, except for shapes
 
 abbrev pub AtShape : Fault → Type 0
 AtShape fault = fault.reason ≡ AbbrevShape
@@ -275,11 +275,11 @@ breaks_cut : (limits : Limits) (bytes : List ℕ) (fault : Fault) → limits.byt
 breaks_cut limits bytes fault more (inl h) = inl h
 breaks_cut limits bytes fault more (inr h) = inr (inr (more, h))
 
--- what is taken where shapes are judged at the definition is taken where they are judged at their use
+-- what is accepted with shapes judged at the definition is accepted with shapes judged at their use
 pub also_taken : (limits : Limits) (bytes : List ℕ) (m : Marked) → SpellsInput (judged_at AtDefinition limits) bytes m → SpellsInput (judged_at AtUse limits) bytes m
 also_taken limits bytes m h = record { fits = h.fits; spelled = input_spells limits 0 (bits_of_bytes bytes) m h.spelled }
 
--- what is refused there is refused here with the same fault, unless it is refused there for a shape
+-- what is refused with shapes judged at the definition is refused at their use with the same fault, unless for a shape
 pub also_refused : (limits : Limits) (bytes : List ℕ) (fault : Fault) → BreaksInput (judged_at AtDefinition limits) bytes fault → AtShape fault ⊎ BreaksInput (judged_at AtUse limits) bytes fault
 also_refused limits bytes fault (inl h) = breaks_whole limits bytes fault h.0 (input_stops limits 0 (bits_of_bytes bytes) fault h.1)
 also_refused limits bytes fault (inr h) = breaks_cut limits bytes fault h.0 (cut_looser limits bytes fault h.1)

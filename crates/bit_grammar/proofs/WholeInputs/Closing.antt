@@ -1,4 +1,4 @@
--- What it is that a wrapper ends within the limit on bytes.
+-- What it means that a wrapper ends within the limit on bytes.
 use Rattle.std.proofs.Common.{◌≡◌, ℕ, ◌+◌, ◌≤◌, ◌↔◌, Bool, true, List, Option, Some, None, Ok, Err, refl, sym, ap, ◌∙◌, inl, inr}
 use Rattle.std.proofs.lemmas.Bool.{leb-true, le-leb}
 use Rattle.bit_grammar.specs.Grammar.{Fault, reading}

@@ -47,7 +47,7 @@ values_then (block_item mark inner) rest = refl
 values_then (record_item mark) rest = refl
 values_then (definition_item mark) rest = omega arith
 
--- what is asked of the definitions in an item
+-- the judgement of the definitions in an item
 abbrev pub PassAt : Shapes → Item → Type 0
 PassAt shapes (block_item mark inner) = PassIn shapes inner
 PassAt shapes (record_item mark) = Unit {0}
@@ -72,7 +72,7 @@ all_pass (marked_definition mark rest) = (tt, all_pass rest)
 
 -- ---- a definition
 
--- it passes, and is spelled wherever it does
+-- it passes, and is spelled under each judgement that it passes
 define_passes : (shapes : Shapes) (first : ℕ) (scope : Scope) (p : ℕ) (s : List Bool) (v : DefinitionMark × Scope) → Spells (define shapes first scope) p s v → PassesShape shapes v.0.ops
 unfolding define
 define_passes shapes first scope p s v k =

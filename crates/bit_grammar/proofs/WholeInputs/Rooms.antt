@@ -1,4 +1,4 @@
--- The room for values: a record keeps to it, and is spelled in every room that is large enough.
+-- The limit on values: a record keeps to its room, and is spelled in every room that is large enough.
 use Rattle.std.proofs.Common.{◌≡◌, ℕ, zero, suc, ◌+◌, ◌-◌, ◌≤◌, Bool, List, [], ◌∷◌, length, get_or, ap, ◌∙◌, arith, inl, inr}
 use Rattle.std.proofs.lemmas.Bool.{leb-true}
 use Rattle.bit_grammar.specs.declared.op.Op.{Op}
@@ -48,7 +48,7 @@ unabbreviated_bounded = record {
       (k.0, k.1, k.2, k.3, k.4, (c.0, c.1, c.2, c.3, count_again room other _ c.0 c.2 c.4 (omega (arith, is, len, fits)), v));
 }
 
--- the values of operands, with room for some beyond those that stand for one each
+-- the values of operands, with room for some beyond those of the single operands
 pub record ValuesBounded (room : ℕ) (ops : List Op) (p : ℕ) (s : List Bool) (vs : List ℕ) : Type 0 where
   pub some : singles ops ≤ length vs
   pub within : length vs ≤ singles ops + room

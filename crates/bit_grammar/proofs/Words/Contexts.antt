@@ -1,4 +1,4 @@
--- What holds at an item, by the rules and in the words of the format.
+-- The state at an item, by the rules and in the words of the format.
 use Rattle.std.proofs.Common.{◌≡◌, ℕ, zero, suc, ◌<◌, ◌^◌, Bool, true, false, eqb, List, [], ◌∷◌, ◌++◌, get_or, Option, Some, None, refl, sym, ap, subst, ◌∙◌, arith, inl, inr}
 use Rattle.std.specs.Prelude.{if◌then◌else◌, is_some, is_none, slice_get}
 use Rattle.std.specs.List.{AllByRecursion}
@@ -13,7 +13,7 @@ use Rattle.bit_grammar.specs.FormatBlocks.{Context, context_inside, made_or, tab
 use Rattle.bit_grammar.proofs.NormalForms.SpelledParts.{Spelled, given, judge_spelled, first_chosen, other_chosen}
 use Rattle.bit_grammar.proofs.Readings.Parts.{after_judge, is_given, chosen}
 
--- the words' context of a scope, with the width of the ids
+-- the context of a scope in the words of the format, with the width of the ids
 abbrev pub context_of : (width : ℕ) → Scope → Context
 context_of width scope = record { width = width; definitions = scope.definitions; table = scope.handed.table; info = scope.info }
 
@@ -154,7 +154,7 @@ described_lawful None e c new same h ok = subst LawfulContext (sym h) ok
 described_lawful (Some info) e c new same (inl h) ok = subst LawfulContext (sym h.4) (record { definitions = ok.definitions; table = ok.table; info = subst HoldsLawfulInfo same ok.info })
 described_lawful (Some info) e c new same (inr h) ok = subst LawfulContext (sym h.2) ok
 
--- items leave what can be defined where they found such
+-- from a table of definable lists items leave a table of such lists
 pub items_lawful : (marks : Marks) (c : Context) (p : ℕ) (s : List Bool) (left : Context) → AreItems marks c p s left → LawfulContext c → LawfulContext left
 items_lawful no_marks c p s left h ok = subst LawfulContext (sym h.1) ok
 items_lawful (marked_definition mark rest) c p s left h ok = items_lawful rest h.2 _ h.1 left h.5 (defined_lawful c.info mark.ops c h.2 refl h.4.1 h.4.0.4.definable ok)

@@ -1,4 +1,4 @@
--- A definition that is spelled has operands with lawful values, and in a lawful order where that is judged there.
+-- A definition that is spelled has operands with lawful values, and in a lawful order if that is judged there.
 use Rattle.std.proofs.Common.{◌≡◌, ℕ, zero, suc, ◌+◌, ◌<◌, ◌≢◌, Bool, true, false, ltb, List, [], ◌∷◌, length, refl, sym, ap, subst, ◌∙◌, arith}
 use Rattle.std.specs.List.{AllByRecursion}
 use Rattle.std.proofs.lemmas.Bool.{ltb-true, leb-true, eqb-true, eqb-false, and_parts, not-true}
@@ -47,7 +47,7 @@ operand_is shapes place after p s op h =
     let v = valued_is k.2 (p + length k.0) k.1 op j.1 in
     (ap (λ (x : Kind). passes shapes (fits place after x)) v.0 ∙ j.0, v.1)
 
--- each operand passes at the place at which it stands, and has a lawful value
+-- each operand passes at its place, and has a lawful value
 abbrev pub PassFrom : Shapes → Place → List Op → Type 0
 PassFrom shapes place [] = Unit {0}
 PassFrom shapes place (op ∷ others) = (passes shapes (fits place (length others) (kind_of op)) ≡ true) × HasLawfulValue op × PassFrom shapes (place_after op) others
@@ -67,7 +67,7 @@ pub values_pass : (shapes : Shapes) (place : Place) (ops : List Op) → PassFrom
 values_pass shapes place [] h = tt
 values_pass shapes place (op ∷ others) h = (h.1, values_pass shapes (place_after op) others h.2)
 
--- operands that pass where their order is judged are in order
+-- operands that pass are in order, if their order is judged
 pub order_passed : (place : Place) (ops : List Op) → PassFrom AtDefinition place ops → in_order place ops ≡ true
 order_passed place [] h = refl
 order_passed place (op ∷ others) h = (let rest = order_passed (place_after op) others h.2 in rw (h.0, rest) refl)
@@ -142,7 +142,7 @@ is_in_order (op ∷ others) h = record { first = first_is op others h; array = a
 pub is_lawful : (ops : List Op) → 0 < length ops → PassFrom AtDefinition first ops → Lawful ops
 is_lawful ops some h = record { some = some; order = is_in_order ops (order_passed first ops h); values = values_pass AtDefinition first ops h }
 
--- operands that pass are in order where that is judged
+-- operands that pass are in order if that is judged
 pub passed : (shapes : Shapes) (ops : List Op) → PassFrom shapes first ops → PassesShape shapes ops
 passed AtDefinition ops h = is_in_order ops (order_passed first ops h)
 passed AtUse ops h = tt

@@ -17,7 +17,7 @@ use Rattle.bit_grammar.proofs.Words.Operands.{shape_of}
 use Rattle.bit_grammar.proofs.Words.Spellings.{definition_is, is_definition, unabbreviated_is, is_unabbreviated, abbreviated_is, is_abbreviated}
 use Rattle.bit_grammar.proofs.Words.Contexts.{context_of, LawfulContext, one_lawful, defined_is, is_defined, described_is, is_described}
 
--- a definition after its id, which began at first
+-- a definition after its id, which began at `first`
 pub record DefineIs (first : ℕ) (c : Context) (p : ℕ) (s : List Bool) (mark : DefinitionMark) (new : Context) : Type 0 where
   pub spelled : IsDefinition mark.ops s
   pub defines : Defined c.info mark.ops c new
@@ -84,7 +84,7 @@ is_entry limit first id width scope p s e ok fits (inr k) =
     let one : Spelled (by_definition first (limit - scope.handed.used) k.1) p s e = is_by_definition first (limit - scope.handed.used) k.1 p s e lawful k.3 k.4 (omega (arith, fits)) in
     other_chosen _ (ne_eqb _ _ (λ x. absurd (omega (arith, x, k.0)))) (first_chosen _ (lt-ltb _ _ (slice_get_within scope.definitions (id - 4) k.1 k.2)) (subst (λ (ops : List Op). Spelled (by_definition first (limit - scope.handed.used) ops) p s e) (sym is) one))
 
--- a record after its id, which began at first
+-- a record after its id, which began at `first`
 pub record NoteIs (first id : ℕ) (c : Context) (p : ℕ) (s : List Bool) (mark : RecordMark) (new : Context) : Type 0 where
   pub spelled : IsRecord c id p (entry_of_mark mark) s
   pub describes : Described c.info (entry_of_mark mark) c new
@@ -105,7 +105,7 @@ note_is limit first id width scope p s v big ok h =
     subst (λ (x : RecordMark × Scope). NoteIs first id (context_of width scope) p s x.0 (context_of width x.1)) (sym g.1)
     (record { spelled = subst (IsRecord (context_of width scope) id p a.value) (sym all) e; describes = d.1; abbreviation = refl; begins = refl; after = omega (arith, ap length all) })
 
--- the scope after a record with so many values, which leaves this context
+-- the scope after a record with this many values, which leaves this context
 abbrev pub noted : Scope → Context → ℕ → Scope
 noted scope new n = record scope { info = new.info; handed = record { table = scope.handed.table; used = scope.handed.used + n } }
 

@@ -52,7 +52,7 @@ pub record AreChunks (payload permitted places v : ℕ) (s : List Bool) : Type 0
   pub value : v ≡ joined payload payloads
   pub below : v < 2 ^ places
 
--- what follows a whole chunk with this payload and this last bit
+-- what follows a complete chunk with this payload and this continuation bit
 abbrev after_chunk : (payload start permitted places low : ℕ) → Bool → Grammar ℕ
 after_chunk payload start permitted places low more =
     judge (ltb low (2 ^ places)) ValueTooWide start >>
@@ -107,7 +107,7 @@ chunks_are payload start (suc permitted) places p s v h =
           }
     ]
 
--- a chunk's payload and last bit, where what follows it is known of them
+-- a chunk's payload and continuation bit, if it is known what follows it
 chunk_spells : (payload start permitted places p : ℕ) (x : List Bool) (more : Bool) (others : List Bool) (v : ℕ) → length x ≡ payload
     → ((q : ℕ) → Spells (after_chunk payload start permitted places (number x) more) q others v) → Spells (chunks payload start (suc permitted) places) p ((x ++ more ∷ []) ++ others) v
 chunk_spells payload start permitted places p x more others v len h =
@@ -303,7 +303,7 @@ short_is_vbr n v wide below =
       below = below;
     }
 
--- the payloads of a number that is not below the first chunk's limit go on, with the number's high part
+-- the payloads of a number of more than one chunk go on, with the number's high part
 high_part : (payload : ℕ) (x : List Bool) (high v : ℕ) → length x ≡ payload → v ≡ number x + 2 ^ payload * high → v / 2 ^ payload ≡ high
 high_part payload x high v len e =
     let narrow : number x < 2 ^ payload = subst (λ (k : ℕ). number x < 2 ^ k) len (number_below x) in

@@ -47,7 +47,7 @@ is_offset p s n k lawful =
     let whole : eqb (n % 4) 0 ≡ true = ap (λ (x : ℕ). eqb x 0) lawful.1 in
     here_spelled _ (then_last _ (record { is = is_fixed 32 p s n k }) (judge_spelled _ _ _ (rw (low, whole) refl) given))
 
--- the wrapper's fields behind its magic
+-- the wrapper's fields after its magic
 record FieldsAre (w : Wrapper) (s : List Bool) : Type 0 where
   version : List Bool
   offset : List Bool
@@ -149,14 +149,14 @@ is_inner p s magic k bare =
     let no = not_wrapped magic bare in
     here_spelled _ (then_last _ (record { is = is_fixed 32 p s magic k }) (judge_spelled _ _ _ (rw no refl) given))
 
--- a magic and the blocks behind it
+-- a magic and the blocks after it
 stream_made : (p q magic : ℕ) (blocks : Marks) (front rest s : List Bool) (after : ℕ) → s ≡ front ++ rest → IsFixed 32 magic front → magic ≢ wrapper_magic → q ≡ p + 32 → BlocksAre blocks no_definitions q rest after
     → IsStream p magic blocks s × (after ≡ p + length s)
 stream_made p q magic blocks front rest s after parts is bare place k =
     let b = subst (λ (x : ℕ). BlocksAre blocks no_definitions x rest after) place k in
     (record { front = front; rest = rest; left = b.left; parts = parts; is_magic = is; bare = bare; only = b.only; items = b.items }, omega (arith, b.ends, ap length parts, length-append front rest, is.length))
 
--- the blocks behind a stream's magic
+-- the blocks after a stream's magic
 blocks_made : (p q magic : ℕ) (blocks : Marks) (s : List Bool) (after : ℕ) (k : IsStream p magic blocks s) → q ≡ p + 32 → after ≡ p + length s → BlocksAre blocks no_definitions q k.rest after
 blocks_made p q magic blocks s after k place end =
     subst (λ (x : ℕ). BlocksAre blocks no_definitions x k.rest after) (sym place) (record { left = k.left; only = k.only; items = k.items; ends = omega (arith, end, ap length k.parts, length-append k.front k.rest, k.is_magic.length) })
@@ -167,7 +167,7 @@ blocks_made p q magic blocks s after k place end =
 regrouped : (a h g s : List Bool) → a ++ ((h ++ g) ++ s) ≡ (a ++ h) ++ (g ++ s)
 regrouped a h g s = ap (λ (x : List Bool). a ++ x) (append_assoc h g s) ∙ sym (append_assoc a h (g ++ s))
 
--- a wrapped input behind its magic
+-- a wrapped input after its magic
 wrapped_is : (limits : Limits) (p : ℕ) (front others s : List Bool) (m : Marked) → s ≡ front ++ others → IsFixed 32 wrapper_magic front → p ≡ 32 → SpellsAll (wrapped limits) p others m → IsInput m s
 unfolding wrapped
 wrapped_is limits p front others s m parts is place k =

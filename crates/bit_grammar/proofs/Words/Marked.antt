@@ -1,4 +1,4 @@
--- Items and blocks in the words of the format, as the rules come upon them.
+-- Items and blocks in the words of the format, in the order of the rules.
 use Rattle.std.proofs.Common.{◌≡◌, ℕ, ◌+◌, ◌*◌, ◌^◌, ◌<◌, ◌≤◌, Bool, List, [], ◌∷◌, ◌++◌, length, None, refl, sym, ap, ◌∙◌, append_assoc, arith}
 use Rattle.std.proofs.lemmas.List.{length-append}
 use Rattle.bit_grammar.specs.Grammar.{Round, one_more, last}
@@ -38,8 +38,7 @@ marks_again (marked_definition mark rest) = ap (marked_definition mark) (marks_a
 
 -- ---- blocks
 
--- The end of a block with this head: the id 0 and the padding, where the length is right; the bit after it, and what is
--- handed along.
+-- The end of a block with this head: the id 0 and the padding, if the length is right; the bit after it, and what is passed on.
 pub record EndIs (h : BlockHead) (scope : Scope) (p : ℕ) (s : List Bool) (e : ℕ × Handed) : Type 0 where
   pub leaves : List Bool
   pub padding : List Bool
@@ -55,7 +54,7 @@ abbrev pub RoundIs : BlockHead → Scope → ℕ → List Bool → Round Scope I
 RoundIs h scope p s (one_more x t) = IsMarked x (context_of h.width scope) p s (context_of h.width t)
 RoundIs h scope p s (last e) = EndIs h scope p s e
 
--- a block after its abbreviation id, which began at first: all of it that goes by the table alone
+-- a block after its abbreviation id, which began at `first`: all of it that depends on the table alone
 pub record BlockAfter (Inside : Context → ℕ → List Bool → Context → Type 0) (first : ℕ) (table : Table) (p : ℕ) (mark : BlockMark) (s : List Bool) (new : Table) : Type 0 where
   pub id : List Bool
   pub width : List Bool
@@ -88,7 +87,7 @@ IsAfter (block_item mark inner) first table p s new = BlockAfter (AreItems inner
 IsAfter (record_item mark) first table p s new = ⊥
 IsAfter (definition_item mark) first table p s new = ⊥
 
--- a block behind its abbreviation id is a block
+-- a block is one after its abbreviation id
 pub with_id : (Inside : Context → ℕ → List Bool → Context → Type 0) (c : Context) (p : ℕ) (mark : BlockMark) (enter s : List Bool) (new : Table) → c.info ≡ None → IsFixed c.width 1 enter
     → BlockAfter Inside p c.table (p + length enter) mark s new → IsBlock Inside c p mark (enter ++ s) (record c { table = new })
 with_id Inside c p mark enter s new none enters k =
@@ -124,7 +123,7 @@ with_id Inside c p mark enter s new none enters k =
       after = omega (arith, k.after, length-append enter s);
     }
 
--- what stands behind a block's abbreviation id
+-- what comes after a block's abbreviation id
 pub record WithoutId (Inside : Context → ℕ → List Bool → Context → Type 0) (c : Context) (p : ℕ) (mark : BlockMark) (s : List Bool) (new : Context) : Type 0 where
   pub enter : List Bool
   pub rest : List Bool

@@ -1,4 +1,4 @@
--- In the words of the format alone an input has one marked tree at most.
+-- In the words of the format alone an input has at most one marked tree.
 use Rattle.std.proofs.Common.{◌≡◌, ℕ, ◌+◌, List, length, arith}
 use Rattle.bit_grammar.specs.declared.shapes.Shapes.TheVariants.{AtUse}
 use Rattle.bit_grammar.specs.Bits.{bits_of_bytes}

@@ -25,13 +25,13 @@ use Rattle.bit_grammar.proofs.Words.Definitions.{PassFrom, order_parts, is_in_or
 
 -- ---- a lawful order, from the index to the place
 
--- what is known of the operand at a place
+-- a fact about the operand at a place
 abbrev Starts : Place → Op → Type 0
 Starts first op = (op ≢ Array) × (op ≢ Blob)
 Starts element op = IsElement op
 Starts later op = Unit {0}
 
--- an operand of which that is known fits the place, an array with one operand after it and a blob with none
+-- an operand with that fact fits the place, an array with one operand after it and a blob with none
 fits_there : (place : Place) (after : ℕ) (op : Op) → Starts place op → (op ≡ Array → after ≡ 1) → (op ≡ Blob → after ≡ 0) → fits place after (kind_of op) ≡ true
 fits_there first after (Literal v) starts one none = refl
 fits_there first after (Fixed width) starts one none = refl
@@ -78,7 +78,7 @@ shape_of ops h = order_there first ops h.first h.array h.element h.blob
 pub order_is : (ops : List Op) → (has_shape ops ≡ true) ↔ InOrder ops
 order_is ops = (is_in_order ops, shape_of ops)
 
--- operands in order pass, and without a judgement all do
+-- operands in order pass, and if order is not judged all do
 order_passes : (place : Place) (ops : List Op) → in_order place ops ≡ true → AllByRecursion HasLawfulValue ops → PassFrom AtDefinition place ops
 order_passes place [] h values = tt
 order_passes place (op ∷ others) h values = (let k = order_parts place op others h in (k.0, values.0, order_passes (place_after op) others k.1 values.1))

@@ -19,9 +19,9 @@ use Rattle.bit_grammar.proofs.Readings.Sequences.{made, made-spells}
 use Rattle.bit_grammar.proofs.Words.Definitions.{PassFrom, field_fits}
 use Rattle.bit_grammar.proofs.Readings.Wholes.{is_le}
 
--- ---- operands that stand for one value
+-- ---- operands that give one value
 
--- an operand that stands for one value
+-- an operand that gives one value
 abbrev pub IsSingle : Op → Type 0
 IsSingle Array = ⊥
 IsSingle Blob = ⊥
@@ -73,9 +73,9 @@ is_scalar Array lawful p s v h = absurd h
 is_scalar Char6 lawful p s v h = is_char6 p s v h
 is_scalar Blob lawful p s v h = absurd h
 
--- ---- fields one after the other
+-- ---- fields one after another
 
--- a rule is repeated to fields of an operand, where it spells one such field
+-- a repeated rule spells fields of an operand, if the rule spells one such field
 pub fields_are : (op : Op) (rule : Grammar ℕ) → ((p : ℕ) (s : List Bool) (v : ℕ) → Spells rule p s v → IsScalar op v s)
     → (n p : ℕ) (s : List Bool) (vs : List ℕ) → Spells (repeat n rule) p s vs → AreFields op vs s × (length vs ≡ n)
 fields_are op rule one zero p s vs h = subst (λ (xs : List ℕ). AreFields op xs s × (length xs ≡ 0)) (sym h.1) (h.0, refl)
@@ -107,7 +107,7 @@ is_count room p s n h fits =
 
 -- ---- the values of operands
 
--- what one value and those after it are, at an operand that stands for one
+-- one value and those after it, at an operand that gives one
 abbrev OneThen : (op : Op) (others : List Op) → ℕ → List ℕ → List Bool → Type 0
 OneThen op others p vs s = (v : ℕ) × (rest : List ℕ) × (front behind : List Bool) × (vs ≡ v ∷ rest) × (s ≡ front ++ behind) × IsScalar op v front × AreValues others (p + length front) rest behind
 
@@ -185,7 +185,7 @@ are_values room (Fixed n ∷ others) p s vs l h fits = then_one room (Fixed n) o
 are_values room (Vbr n ∷ others) p s vs l h fits = then_one room (Vbr n) others p s vs l.1 (λ q t xs k few. are_values room others q t xs l.2 k few) h fits
 are_values room (Char6 ∷ others) p s vs l h fits = then_one room Char6 others p s vs l.1 (λ q t xs k few. are_values room others q t xs l.2 k few) h fits
 
--- there is at least one value for each operand that stands for one
+-- there is at least one value for each operand that gives one
 pub values_some : (ops : List Op) (p : ℕ) (s : List Bool) (vs : List ℕ) → AreValues ops p vs s → singles ops ≤ length vs
 values_some [] p s vs h = omega arith
 values_some (Array ∷ []) p s vs h = omega arith

@@ -25,11 +25,11 @@ use Rattle.bit_grammar.proofs.Words.WordBlocks.{block_spelled, items_spelled}
 
 -- ---- a block
 
--- a block behind its id leaves lawful definitions where it found such
+-- a block after its id leaves lawful definitions if those before it were lawful
 after_lawful : (inner : Marks) (first : ℕ) (table : Table) (p : ℕ) (mark : BlockMark) (s : List Bool) (new : Table) → HoldsDefinable table → BlockAfter (AreItems inner) first table p mark s new → HoldsDefinable new
 after_lawful inner first table p mark s new ok k = subst HoldsDefinable (sym k.handed) (table_lawful k.inner (items_lawful inner _ _ _ k.inner k.inside (entered_lawful (top_with table) mark.id mark.width ok)))
 
--- a block at the top: its id, and what stands behind it
+-- a block at the top: its id, and what comes after it
 record TopIs (x : Item) (handed : Handed) (p : ℕ) (s : List Bool) (new : Handed) : Type 0 where
   enter : List Bool
   rest : List Bool
@@ -68,7 +68,7 @@ top_spelled limits handed p enter rest s mark inner table ok fits deep passes pa
     subst (λ (t : List Bool). Spelled (top_block limits handed) p t (block_item mark inner, record { table = table; used = handed.used + values_in inner })) (sym parts)
     (here_spelled _ (then_spelled _ (record { is = is_fixed 2 p enter 1 is }) (judge_spelled _ _ _ refl b)))
 
--- what a block at the top is, in the words of the format
+-- a block at the top, in the words of the format
 block_words : (x : Item) (handed : Handed) (p : ℕ) (s : List Bool) (new : Handed) → TopIs x handed p s new → IsMarked x (top_with handed.table) p s (top_with new.table)
 block_words (block_item mark inner) handed p s new k = subst (λ (t : List Bool). IsBlock (AreItems inner) (top_with handed.table) p mark t (top_with new.table)) (sym k.parts) (with_id (AreItems inner) (top_with handed.table) p mark k.enter k.rest new.table refl k.enters k.block)
 block_words (record_item mark) handed p s new k = absurd k.block
@@ -79,7 +79,7 @@ top_lawful (block_item mark inner) handed p s new ok k = after_lawful inner p ha
 top_lawful (record_item mark) handed p s new ok k = absurd k.block
 top_lawful (definition_item mark) handed p s new ok k = absurd k.block
 
--- what is spelled at the top leaves lawful definitions where it found such
+-- what is spelled at the top leaves lawful definitions if those before it were lawful
 pub block_leaves : (limits : Limits) (handed : Handed) (p : ℕ) (s : List Bool) (v : Item × Handed) → HoldsDefinable handed.table → Spells (top_block limits handed) p s v → HoldsDefinable v.1.table
 block_leaves limits handed p s v ok k = top_lawful v.0 handed p s v.1 ok (top_is limits handed p s v ok (record { is = k }))
 
@@ -157,7 +157,7 @@ things_spelled limits (marked_block mark inner rest) handed p r after ok fits de
     (record { left = k.left; only = k.only; items = rest_are; ends = omega (arith, k.ends, ap length i.3, length-append first i.1) }) in
     (first, i.1, new, i.3, some, one.is, others)
 
--- ---- a stream behind its magic
+-- ---- a stream after its magic
 
 pub record StreamIs (head : Head) (p : ℕ) (r : List Bool) (m : Marked) : Type 0 where
   pub begins : m.head ≡ head

@@ -1,4 +1,4 @@
--- What is a block in the words of the format the rules spell, within limits that it keeps to.
+-- The rules spell each block in the words of the format, within limits that it keeps to.
 use Rattle.std.proofs.Common.{◌≡◌, ℕ, zero, suc, ◌+◌, ◌*◌, ◌≤◌, ◌<◌, Bool, false, eqb, List, [], ◌∷◌, ◌++◌, length, Option, Some, None, refl, sym, ap, subst, ◌∙◌, append_assoc, arith, inl, inr}
 use Rattle.std.proofs.lemmas.Bool.{ne_eqb}
 use Rattle.std.proofs.lemmas.List.{length-append}
@@ -22,7 +22,7 @@ use Rattle.bit_grammar.proofs.Words.Marked.{items_of, marks_again, BlockAfter, w
 
 -- ---- one item
 
--- a block in a block, behind its id
+-- a block in a block, after its id
 nested_spelled : (shapes : Shapes) (inner : ℕ → Handed → Grammar (Item × Handed)) (h : BlockHead) (limit : ℕ) (scope : Scope) (p : ℕ) (enter rest : List Bool) (x : Item) (handed : Handed) → scope.info ≡ None → IsFixed h.width 1 enter
     → Spelled (inner p scope.handed) (p + length enter) rest (x, handed) → Spelled (item shapes inner h limit scope) p (enter ++ rest) (one_more x (record scope { handed = handed }))
 unfolding item item_after nested

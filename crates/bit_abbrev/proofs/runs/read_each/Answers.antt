@@ -1,18 +1,18 @@
 use Rattle.std.proofs.Common.{refl, arith}
 use Rattle.std.proofs.lemmas.Result.{err_from_is_err_and}
 use Rattle.bit_grammar.specs.Record.{scalar}
-use Rattle.bit_fields.specs.Ahead.{reader_at}
+use Rattle.bit_fields.specs.Buffered.{reader_at}
 use Rattle.bit_abbrev.proofs.Taking.{far_begins, far_goes_on, far_ends}
 use Rattle.bit_abbrev.proofs.runs.read_each.Goals as goal
 
 pub loop-done-init : goal.loop-done-init
 loop-done-init g c = record {
   forward = omega arith;
-  gains = λ many few before t. far_begins g.V.ValueTaker.took c.args.values.now (scalar c.args.element) many (reader_at c.args.ahead.now) before refl t;
+  gains = λ many few before t. far_begins g.V.ValueTaker.took c.args.values.now (scalar c.args.element) many (reader_at c.args.buffered.now) before refl t;
 }
 
 pub returns-in_default-clause-adds : goal.returns-in_default-clause-adds
-returns-in_default-clause-adds g c = rw c.in_default.ensures.missed (λ before t. far_ends g.V.ValueTaker.took c.loop-done.values (scalar c.args.element) c.loop-done.done (reader_at c.args.ahead.now) before c.loop-done.done (reader_at c.loop-done.ahead) (omega arith) (omega arith) (c.loop-done.invariant.gains c.loop-done.done (omega arith) before t))
+returns-in_default-clause-adds g c = rw c.in_default.ensures.missed (λ before t. far_ends g.V.ValueTaker.took c.loop-done.values (scalar c.args.element) c.loop-done.done (reader_at c.args.buffered.now) before c.loop-done.done (reader_at c.loop-done.buffered) (omega arith) (omega arith) (c.loop-done.invariant.gains c.loop-done.done (omega arith) before t))
 
 pub returns-in_default-clause-moves : goal.returns-in_default-clause-moves
 returns-in_default-clause-moves g c = rw c.in_default.ensures.missed c.loop-done.invariant.forward
@@ -21,14 +21,14 @@ pub returns-in_err-take-clause-refused : goal.returns-in_err-take-clause-refused
 returns-in_err-take-clause-refused g c =
     let failed = err_from_is_err_and c.from_residual.result c.from_residual.ensures.1 in
     rw failed.1 (λ before t.
-    let h = far_ends g.V.ValueTaker.took c.loop-done.values (scalar c.args.element) c.loop-done.done (reader_at c.args.ahead.now) before c.loop-done.done (reader_at c.loop-done.ahead) (omega arith) (omega arith) (c.loop-done.invariant.gains c.loop-done.done (omega arith) before t) in
+    let h = far_ends g.V.ValueTaker.took c.loop-done.values (scalar c.args.element) c.loop-done.done (reader_at c.args.buffered.now) before c.loop-done.done (reader_at c.loop-done.buffered) (omega arith) (omega arith) (c.loop-done.invariant.gains c.loop-done.done (omega arith) before t) in
     (h.0, c.in_err-take.ensures.err h.0 h.1, (h.2.0.0, h.2.0.1)))
 
 pub loop-done-preserved : goal.loop-done-preserved
 loop-done-preserved g c = record {
   forward = omega (arith, c.loop-done.invariant.forward, c.in-Ok.ensures.takes.forward);
-  gains = λ many few before t. far_goes_on g.V.ValueTaker.took c.loop-done.values c.take.new.self (scalar c.args.element) many (reader_at c.args.ahead.now) before c.loop-done.done (reader_at c.loop-done.ahead) c.in-Ok.value (reader_at c.read_scalar.new.bits) (omega (arith, few)) (c.loop-done.invariant.gains many (omega (arith, few)) before t) c.in-Ok.ensures.takes c.in_ok-take.ensures.ok;
+  gains = λ many few before t. far_goes_on g.V.ValueTaker.took c.loop-done.values c.take.new.self (scalar c.args.element) many (reader_at c.args.buffered.now) before c.loop-done.done (reader_at c.loop-done.buffered) c.in-Ok.value (reader_at c.read_scalar.new.bits) (omega (arith, few)) (c.loop-done.invariant.gains many (omega (arith, few)) before t) c.in-Ok.ensures.takes c.in_ok-take.ensures.ok;
 }
 
 pub returns-clause-adds : goal.returns-clause-adds
-returns-clause-adds g c = λ before t. far_ends g.V.ValueTaker.took c.loop-done.values (scalar c.args.element) c.args.most (reader_at c.args.ahead.now) before c.loop-done.done (reader_at c.loop-done.ahead) c.loop-done-test.false (omega arith) (c.loop-done.invariant.gains c.args.most (omega arith) before t)
+returns-clause-adds g c = λ before t. far_ends g.V.ValueTaker.took c.loop-done.values (scalar c.args.element) c.args.most (reader_at c.args.buffered.now) before c.loop-done.done (reader_at c.loop-done.buffered) c.loop-done-test.false (omega arith) (c.loop-done.invariant.gains c.args.most (omega arith) before t)

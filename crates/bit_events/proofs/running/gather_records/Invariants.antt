@@ -5,9 +5,9 @@ use Rattle.bit_events.proofs.running.gather_records.Given as goal
 
 abbrev pub invariant-loop-id : goal.invariant-loop-id
 invariant-loop-id g l = record {
-  gathers : GathersTo g.G.Gatherer.gathered l.limits l.frame l.fn.used l.fn.ahead l.fn.gatherer l.spent l.ahead l.gatherer;
+  gathers : GathersTo g.G.Gatherer.gathered l.limits l.frame l.fn.used l.fn.buffered l.fn.gatherer l.spent l.buffered l.gatherer;
   room : l.room ≡ l.limits.values - l.spent;
-  first : l.first ≡ l.ahead.position;
+  first : l.first ≡ l.buffered.position;
   took : TookSome g.G.Values.ValueTaker.took l.values;
 }
 

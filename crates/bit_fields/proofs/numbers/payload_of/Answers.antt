@@ -3,4 +3,4 @@ use Rattle.std.proofs.lemmas.Nat.{one_shl, and_mask}
 use Rattle.bit_fields.proofs.numbers.payload_of.Goals as goal
 
 pub returns : goal.returns
-returns c = rw (one_shl (c.args.n - 1) 64 (omega arith)) (and_mask c.args.chunk (c.args.n - 1))
+returns c = rw (one_shl (c.args.n.bits - 1) 64 (omega arith)) (and_mask c.args.chunk (c.args.n.bits - 1))

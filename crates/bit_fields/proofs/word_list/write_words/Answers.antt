@@ -6,7 +6,7 @@ use Rattle.bit_fields.proofs.BitLaws.{left_after, nothing_left}
 use Rattle.bit_fields.proofs.Texts.{going_starts, going_as, going_on, going_wrong, going_ends, words-length, words-append}
 use Rattle.bit_fields.proofs.word_list.write_words.Goals as goal
 
--- the words of a piece, and those behind it
+-- the words of a piece, and those after it
 in_parts : (k : ℕ) (ws : List ℕ) → bits_of_words ws ≡ bits_of_words (take k ws) ++ bits_of_words (drop k ws)
 in_parts k ws = ap bits_of_words (sym (take-append-drop k ws)) ∙ words-append (take k ws) (drop k ws)
 

@@ -9,7 +9,7 @@ use Rattle.bit_norm.proofs.Going.{Goes, goes_starts, goes_on, goes_wrong}
 use Rattle.bit_norm.proofs.Texts.{front_text}
 use Rattle.bit_norm.proofs.writing.write_head.Goals as goal
 
--- what is left before the padding, and before the width
+-- what remains before the padding, and before the width
 abbrev from_pad : ℕ → Text
 from_pad words = chain padding (put (bits_of 32 words))
 

@@ -8,7 +8,7 @@ use Rattle.bit_norm.specs.Writing.{record_text, HasRoom}
 use Rattle.bit_norm.proofs.Going.{Goes, goes_starts, goes_on, goes_wrong}
 use Rattle.bit_norm.proofs.writing.write_record.Goals as goal
 
--- what is left before the number of values
+-- what remains before the number of values
 abbrev from_count : List ℕ → Text
 from_count values = chain (put (shortest 6 (length values))) (put (values_bits values))
 

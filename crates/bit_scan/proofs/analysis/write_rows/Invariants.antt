@@ -4,4 +4,4 @@ use Rattle.bit_scan.proofs.Reports.{lines_of_rows}
 use Rattle.bit_scan.proofs.analysis.write_rows.Given as goal
 
 abbrev pub invariant-loop-id : goal.invariant-loop-id
-invariant-loop-id g l = Goes (lines_of_rows l.rows) l.fn.printer (lines_of_rows (drop l.id-index l.rows)) l.printer
+invariant-loop-id g l = Goes (lines_of_rows l.format l.rows) l.fn.printer (lines_of_rows l.format (drop l.id-index l.rows)) l.printer

@@ -10,7 +10,7 @@ returns-in_err-next g c =
 
 pub loop-next-preserved : goal.loop-next-preserved
 loop-next-preserved g c =
-    telling_goes_on c.args.values c.args.events.now c.args.printer.now c.loop-next.around c.in-Some.next c.loop-next.events c.write_next.new.events c.loop-next.printer c.write_next.new.printer c.loop-next.invariant (rw c.in-Some.is at c.in_ok-next.ensures)
+    telling_goes_on c.args.style c.args.events.now c.args.printer.now c.loop-next.around c.in-Some.next c.loop-next.events c.write_next.new.events c.loop-next.printer c.write_next.new.printer c.loop-next.invariant (rw c.in-Some.is at c.in_ok-next.ensures)
 
 pub returns : goal.returns
 returns g c = c.loop-next.invariant.leads (Ok tt) c.write_next.new.events c.write_next.new.printer (rw c.in_default.is at c.in_ok-next.ensures)

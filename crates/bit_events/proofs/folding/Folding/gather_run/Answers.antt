@@ -15,7 +15,7 @@ pub returns-in-Ok-clause-takes : goal.returns-in-Ok-clause-takes
 returns-in-Ok-clause-takes g c =
     let m = c.args.self.now.machine in
     let k = length m.frames.items - 1 in
-    let b = c.sight.follows.lender-at-none in
-    let shows = rw c.in_ok-sight.was at c.sight.follows.holds-at-none in
+    let b = c.buffered_parts.follows.lender-at-none in
+    let shows = rw c.in_ok-buffered_parts.was at c.buffered_parts.follows.holds-at-none in
     let split : frames_shown m.frames.items ≡ frame_shown c.in-Some.frame.now ∷ frames_onto (take k m.frames.items) [] = frames-some m.frames.items k c.in-Some.frame.now (omega (arith, m.frames.ok.0, ltb-true 0 (length m.frames.items) (sym (rw c.deref.ensures.value at c.in-Some.ensures.item.0)))) (rw c.deref.ensures.value at c.in-Some.ensures.item.1) in
-    run_gathered g.G.Gatherer.gathered c.args.limits.now c.in-Some.frame.now m (frames_onto (take k m.frames.items) []) c.args.self.now.reader c.args.self.now.gatherer b c.new-ahead.result c.gather_records.new.used c.in-Ok.after c.gather_records.new.gatherer c.catch_up.result c.catch_up.new.self split shows.nothing (rw c.new-ahead.ensures shows.sees) c.in-Ok.ensures.gathers (rw (sym c.position-start.ensures) c.catch_up.ensures.takes)
+    run_gathered g.G.Gatherer.gathered c.args.limits.now c.in-Some.frame.now m (frames_onto (take k m.frames.items) []) c.args.self.now.reader c.args.self.now.gatherer b c.new-buffered.result c.gather_records.new.used c.in-Ok.after c.gather_records.new.gatherer c.catch_up.result c.catch_up.new.self split shows.nothing (rw c.new-buffered.ensures shows.sees) c.in-Ok.ensures.gathers (rw (sym c.position-start.ensures) c.catch_up.ensures.takes)

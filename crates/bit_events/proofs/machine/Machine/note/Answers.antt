@@ -5,7 +5,7 @@ use Rattle.bit_events.specs.MachineView.{handed_shown}
 use Rattle.bit_events.proofs.Stepping.{held_record_missed, held_record_took}
 use Rattle.bit_events.proofs.machine.Machine.note.Goals as goal
 
--- a number of values that has room is told whole
+-- a number of values that fits the room is counted exactly
 counted : (count few many : ℕ) → count ≡ min few (2 ^ 64 - 1) → few ≤ 4294967295 → count ≡ min many (2 ^ 64 - 1) → count ≡ many
 counted count few many is fits same = omega arith
 

@@ -27,18 +27,18 @@ returns-then-id-lt3-clause-takes g c = (
   λ f outer split is.
       let list = c.requires.took.0 in
       let width : c.from.result ≡ f.head.width = c.from.ensures ∙ sym (ap (λ (h : blocks.BlockHead). h.width) is) in
-      in_then c.args.limits.now f.head outer (scope_of f (handed_shown c.args.self.now)) c.args.reader.now c.in_ok-id.id c.fixed.new.self c.position-first.result (told_by (after_step c.step_aside.new.self list) c.step_aside.result) c.step_aside.new.reader c.position-first.ensures.position (subst (λ (n : ℕ). Took (fixed n) c.args.reader.now c.in_ok-id.id c.fixed.new.self) width c.in_ok-id.ensures.takes)
-      (c.step_aside.ensures.takes list f outer split),
+      in_then c.args.limits.now f.head outer (scope_of f (handed_shown c.args.self.now)) c.args.reader.now c.in_ok-id.id c.fixed.new.self c.position-first.result (told_by (after_step c.step_apart.new.self list) c.step_apart.result) c.step_apart.new.reader c.position-first.ensures.position (subst (λ (n : ℕ). Took (fixed n) c.args.reader.now c.in_ok-id.id c.fixed.new.self) width c.in_ok-id.ensures.takes)
+      (c.step_apart.ensures.takes list f outer split),
 )
 
 pub returns-then-id-lt3-clause-leaves : goal.returns-then-id-lt3-clause-leaves
-returns-then-id-lt3-clause-leaves g c = λ list. left_later c.args.limits.now.depth c.args.self.now c.args.reader.now c.fixed.new.self (step_shown c.step_aside.new.self list) c.step_aside.new.self c.step_aside.new.reader c.step_aside.result c.in_ok-id.ensures.takes.forward (c.step_aside.ensures.leaves list)
+returns-then-id-lt3-clause-leaves g c = λ list. left_later c.args.limits.now.depth c.args.self.now c.args.reader.now c.fixed.new.self (step_shown c.step_apart.new.self list) c.step_apart.new.self c.step_apart.new.reader c.step_apart.result c.in_ok-id.ensures.takes.forward (c.step_apart.ensures.leaves list)
 
 pub returns-then-id-lt3-clause-moves : goal.returns-then-id-lt3-clause-moves
-returns-then-id-lt3-clause-moves g c = moved_later c.args.limits.now.depth c.args.self.now c.args.reader.now c.fixed.new.self (step_shown c.step_aside.new.self []) c.step_aside.new.self c.step_aside.new.reader c.step_aside.result (omega (arith, c.in_ok-id.ensures.moves, c.from.ensures, c.args.head.least)) (c.step_aside.ensures.leaves [])
+returns-then-id-lt3-clause-moves g c = moved_later c.args.limits.now.depth c.args.self.now c.args.reader.now c.fixed.new.self (step_shown c.step_apart.new.self []) c.step_apart.new.self c.step_apart.new.reader c.step_apart.result (omega (arith, c.in_ok-id.ensures.moves, c.from.ensures, c.args.head.least)) (c.step_apart.ensures.leaves [])
 
 pub returns-then-id-lt3-clause-keeps : goal.returns-then-id-lt3-clause-keeps
-returns-then-id-lt3-clause-keeps g c = kept_alone c.args.values.now.taker c.step_aside.result
+returns-then-id-lt3-clause-keeps g c = kept_alone c.args.values.now.taker c.step_apart.result
 
 pub returns-in_err-code-clause-takes : goal.returns-in_err-code-clause-takes
 returns-in_err-code-clause-takes g c =
@@ -48,8 +48,8 @@ returns-in_err-code-clause-takes g c =
       λ f outer split is.
           let p = err_from_is_err_and c.from_residual-in_err-code.result c.from_residual-in_err-code.ensures.1 in
           let width : c.from.result ≡ f.head.width = c.from.ensures ∙ sym (ap (λ (h : blocks.BlockHead). h.width) is) in
-          rw (p.1, p.2) (in_then c.args.limits.now f.head outer (scope_of f (handed_shown c.args.self.now)) c.args.reader.now c.in_ok-id.id c.fixed.new.self c.position-first.result (Err c.in_err-code.field-0.0) c.note_in_sight.new.reader c.position-first.ensures.position (subst (λ (n : ℕ). Took (fixed n) c.args.reader.now c.in_ok-id.id c.fixed.new.self) width c.in_ok-id.ensures.takes)
-          (after_record c.args.limits.now f outer c.position-first.result c.in_ok-id.id (handed_shown c.args.self.now) c.fixed.new.self (Err c.in_err-code.field-0.0) c.note_in_sight.new.reader (other_than c.in_ok-id.id 0 c.if-id-lt3.false (omega arith)) (other_than c.in_ok-id.id 1 c.if-id-lt3.false (omega arith)) (other_than c.in_ok-id.id 2 c.if-id-lt3.false (omega arith)) (noted.2 f outer split))),
+          rw (p.1, p.2) (in_then c.args.limits.now f.head outer (scope_of f (handed_shown c.args.self.now)) c.args.reader.now c.in_ok-id.id c.fixed.new.self c.position-first.result (Err c.in_err-code.field-0.0) c.record_from_buffer.new.reader c.position-first.ensures.position (subst (λ (n : ℕ). Took (fixed n) c.args.reader.now c.in_ok-id.id c.fixed.new.self) width c.in_ok-id.ensures.takes)
+          (after_record c.args.limits.now f outer c.position-first.result c.in_ok-id.id (handed_shown c.args.self.now) c.fixed.new.self (Err c.in_err-code.field-0.0) c.record_from_buffer.new.reader (other_than c.in_ok-id.id 0 c.if-id-lt3.false (omega arith)) (other_than c.in_ok-id.id 1 c.if-id-lt3.false (omega arith)) (other_than c.in_ok-id.id 2 c.if-id-lt3.false (omega arith)) (noted.2 f outer split))),
     )
 
 pub returns-clause-takes : goal.returns-clause-takes
@@ -59,9 +59,9 @@ returns-clause-takes g c =
       noted.1,
       λ f outer split is.
           let width : c.from.result ≡ f.head.width = c.from.ensures ∙ sym (ap (λ (h : blocks.BlockHead). h.width) is) in
-          let read : Event × machine.Machine = (record_of c.in_ok-id.id noted.0 c.position-first.result (c.in_ok-code.code, c.in_ok-code.after), machine_shown c.note_in_sight.new.self) in
-          in_then c.args.limits.now f.head outer (scope_of f (handed_shown c.args.self.now)) c.args.reader.now c.in_ok-id.id c.fixed.new.self c.position-first.result (Ok read) c.note_in_sight.new.reader c.position-first.ensures.position (subst (λ (n : ℕ). Took (fixed n) c.args.reader.now c.in_ok-id.id c.fixed.new.self) width c.in_ok-id.ensures.takes)
-          (after_record c.args.limits.now f outer c.position-first.result c.in_ok-id.id (handed_shown c.args.self.now) c.fixed.new.self (Ok read) c.note_in_sight.new.reader (other_than c.in_ok-id.id 0 c.if-id-lt3.false (omega arith)) (other_than c.in_ok-id.id 1 c.if-id-lt3.false (omega arith)) (other_than c.in_ok-id.id 2 c.if-id-lt3.false (omega arith)) (noted.2 f outer split)),
+          let read : Event × machine.Machine = (record_of c.in_ok-id.id noted.0 c.position-first.result (c.in_ok-code.code, c.in_ok-code.after), machine_shown c.record_from_buffer.new.self) in
+          in_then c.args.limits.now f.head outer (scope_of f (handed_shown c.args.self.now)) c.args.reader.now c.in_ok-id.id c.fixed.new.self c.position-first.result (Ok read) c.record_from_buffer.new.reader c.position-first.ensures.position (subst (λ (n : ℕ). Took (fixed n) c.args.reader.now c.in_ok-id.id c.fixed.new.self) width c.in_ok-id.ensures.takes)
+          (after_record c.args.limits.now f outer c.position-first.result c.in_ok-id.id (handed_shown c.args.self.now) c.fixed.new.self (Ok read) c.record_from_buffer.new.reader (other_than c.in_ok-id.id 0 c.if-id-lt3.false (omega arith)) (other_than c.in_ok-id.id 1 c.if-id-lt3.false (omega arith)) (other_than c.in_ok-id.id 2 c.if-id-lt3.false (omega arith)) (noted.2 f outer split)),
     )
 
 pub returns-clause-leaves : goal.returns-clause-leaves

@@ -1,6 +1,6 @@
 use Rattle.std.proofs.Common.{◌<◌, None, subst, sym, ◌∙◌}
 use Rattle.bit_grammar.specs.Machine.{step}
-use Rattle.bit_fields.specs.Ahead.{InSight, Glimpsed}
+use Rattle.bit_fields.specs.Buffered.{BufferedBits, Reads}
 use Rattle.bit_events.specs.Coming.{Coming, GivesEvent}
 use Rattle.bit_events.specs.MachineView.{machine_shown, record_of}
 use Rattle.bit_events.specs.Events.{coming_of}
@@ -13,21 +13,21 @@ invariant_of-self-2 g c =
     let s = c.self.inside in
     let e = c.in_ok-read.ensures in
     let r = c.in_ok-read.read in
-    let new = c.note_ahead.new in
+    let new = c.buffered_step.new in
     let was = c.requires.took in
-    let h = e.glimpsed was.0 was.1 in
+    let h = e.reads was.0 was.1 in
     let live = sym c.is_live.ensures ∙ c.if-not-is_live.false in
-    seen_behind s.limits s.machine new.self s.reader s.ahead new.ahead (record_of r.«abbrev» h.2.0 r.first (r.code, r.after)) live e.«open» e.frames (subst (λ (x : InSight). x.position < new.ahead.position) c.copy-ahead.ensures e.moves) c.self.invariant
-    (subst (λ (x : InSight). Glimpsed (step s.limits (machine_shown s.machine)) x (record_of r.«abbrev» h.2.0 r.first (r.code, r.after), machine_shown new.self) new.ahead) c.copy-ahead.ensures h.2.2)
+    seen_behind s.limits s.machine new.self s.reader s.buffered new.buffered (record_of r.«abbrev» h.2.0 r.first (r.code, r.after)) live e.«open» e.frames (subst (λ (x : BufferedBits). x.position < new.buffered.position) c.copy-buffered.ensures e.moves) c.self.invariant
+    (subst (λ (x : BufferedBits). Reads (step s.limits (machine_shown s.machine)) x (record_of r.«abbrev» h.2.0 r.first (r.code, r.after), machine_shown new.self) new.buffered) c.copy-buffered.ensures h.2.2)
 
 pub returns-clause-gives : goal.returns-clause-gives
 returns-clause-gives g c = λ before was.
     let s = c.self.inside in
     let e = c.in_ok-read.ensures in
     let r = c.in_ok-read.read in
-    let new = c.note_ahead.new in
-    let h = e.glimpsed before was in
+    let new = c.buffered_step.new in
+    let h = e.reads before was in
     let live = sym c.is_live.ensures ∙ c.if-not-is_live.false in
-    let given = seen_given s.over s.limits s.head s.machine new.self s.values.taker h.2.0 s.found s.reader s.ahead new.ahead r.«abbrev» r.code r.first r.after live e.«open» e.frames (subst (λ (x : InSight). x.position < new.ahead.position) c.copy-ahead.ensures e.moves) e.below c.self.invariant
-    (subst (λ (x : InSight). Glimpsed (step s.limits (machine_shown s.machine)) x (record_of r.«abbrev» h.2.0 r.first (r.code, r.after), machine_shown new.self) new.ahead) c.copy-ahead.ensures h.2.2) in
-    (h.0, h.1, (h.2.0, h.2.1, subst (λ (old : Coming). GivesEvent old (record_of r.«abbrev» h.2.0 r.first (r.code, r.after)) (coming_of s.over s.limits s.head new.self h.2.0 None new.ahead.position (reader_seen s.reader new.ahead))) c.self.view_is given))
+    let given = seen_given s.over s.limits s.head s.machine new.self s.values.taker h.2.0 s.found s.reader s.buffered new.buffered r.«abbrev» r.code r.first r.after live e.«open» e.frames (subst (λ (x : BufferedBits). x.position < new.buffered.position) c.copy-buffered.ensures e.moves) e.below c.self.invariant
+    (subst (λ (x : BufferedBits). Reads (step s.limits (machine_shown s.machine)) x (record_of r.«abbrev» h.2.0 r.first (r.code, r.after), machine_shown new.self) new.buffered) c.copy-buffered.ensures h.2.2) in
+    (h.0, h.1, (h.2.0, h.2.1, subst (λ (old : Coming). GivesEvent old (record_of r.«abbrev» h.2.0 r.first (r.code, r.after)) (coming_of s.over s.limits s.head new.self h.2.0 None new.buffered.position (reader_seen s.reader new.buffered))) c.self.view_is given))

@@ -1,6 +1,6 @@
 use Rattle.std.proofs.Common.{arith, sym, subst, ℕ, ap, ◌∙◌, ◌≡◌, [], Some, None, false}
 use Rattle.std.proofs.lemmas.Result.{err_from_is_err_and}
-use Rattle.bit_fields.specs.Ahead.{InSight}
+use Rattle.bit_fields.specs.Buffered.{BufferedBits}
 use Rattle.bit_fields.specs.Devices.{Incoming}
 use Rattle.bit_fields.specs.Reader.{Reader}
 use Rattle.bit_events.specs.Events.{Begun, coming_of}
@@ -17,8 +17,8 @@ returns-in_err-reader-clause-declined c =
 pub returns-clause-begun : goal.returns-clause-begun
 returns-clause-begun c =
     let r = c.in_ok-reader.reader in
-    let a = c.new-ahead.result in
-    let there : r.position ≡ a.position = c.sight_in_slice.ensures.sees.position ∙ sym (ap (λ (x : InSight). x.position) c.new-ahead.ensures) in
+    let a = c.new-buffered.result in
+    let there : r.position ≡ a.position = c.parts_in_slice.ensures.sees.position ∙ sym (ap (λ (x : BufferedBits). x.position) c.new-buffered.ensures) in
     let i : Incoming = record { to_come = Some c.args.source.rest.now; pulls = c.args.source.pulls; failures = 0; accounts = [] } in
     let m = c.new.result in
     let head = c.in_ok-reader.head in

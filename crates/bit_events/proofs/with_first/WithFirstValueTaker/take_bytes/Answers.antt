@@ -3,7 +3,7 @@ use Rattle.std.proofs.Common.{◌≡◌, ℕ, List, [], ◌∷◌, ◌++◌, ref
 use Rattle.std.proofs.lemmas.Result.{on_err_weaker}
 use Rattle.bit_events.proofs.with_first.WithFirstValueTaker.take_bytes.Goals as goal
 
--- the first one stays that, whatever comes behind another one
+-- the first value stays the first, whatever comes after another one
 first_stays : (values others : List ℕ) (value : ℕ) → slice_get (values ++ value ∷ []) 0 ≡ slice_get (values ++ value ∷ others) 0
 first_stays [] others value = refl
 first_stays (x ∷ values) others value = refl

@@ -4,7 +4,7 @@ use Rattle.bit_fields.specs.Inside.{reader_of}
 use Rattle.bit_fields.specs.Reader.{Reader}
 use Rattle.bit_fields.proofs.reader.BitReader.halt.Goals as goal
 
--- what has failed has nothing left, wherever it stands
+-- a failed reader has no input left, at any position
 failed_before : (live : Bool) (p first : ℕ) (f g : Flow) (now : Reader) → reader_of live p f ≡ now → now.live ≡ false → g ≡ record f { window = [] } → reader_of false first g ≡ record now { position = first }
 failed_before live p first f g now view dead clear =
     let l : live ≡ false = ap (λ (r : Reader). r.live) view ∙ dead in

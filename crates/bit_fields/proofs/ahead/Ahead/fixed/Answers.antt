@@ -1,5 +1,0 @@
-use Rattle.bit_fields.proofs.Sights.{fixed_glimpsed}
-use Rattle.bit_fields.proofs.ahead.Ahead.fixed.Goals as goal
-
-pub returns-clause-glimpsed : goal.returns-clause-glimpsed
-returns-clause-glimpsed c = fixed_glimpsed c.args.n c.in_ok-value.value c.args.self.now c.part.new.self (c.in_ok-value.ensures.glimpsed c.args.self.now.position)

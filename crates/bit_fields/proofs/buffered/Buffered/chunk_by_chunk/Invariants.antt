@@ -1,0 +1,11 @@
+use Rattle.std.proofs.Common.{◌-◌, ◌+◌, ◌≤◌}
+use Rattle.bit_grammar.specs.Fields.{vbr}
+use Rattle.bit_fields.specs.Buffered.{reader_at}
+use Rattle.bit_fields.proofs.Chunks.{Chunking}
+use Rattle.bit_fields.proofs.buffered.Buffered.chunk_by_chunk.Given as goal
+
+abbrev pub invariant-loop-place : goal.invariant-loop-place
+invariant-loop-place l = Chunking (l.n.bits - 1) l.fn.self.position (vbr l.n.bits) (reader_at l.fn.self) (reader_at l.self) l.place l.value × (l.fn.self.position + l.n.bits ≤ l.self.position)
+
+abbrev pub decreases-loop-place : goal.decreases-loop-place
+decreases-loop-place l = 128 - l.place

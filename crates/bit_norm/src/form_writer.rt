@@ -1,0 +1,256 @@
+ghost use Rattle.std.specs.Prelude.{◌≡◌, ◌==◌, ◌+◌, ◌<◌, ◌^◌, true, List, length, IfOk, MatchOption};
+ghost use Rattle.std.specs.List.{AllByRecursion};
+ghost use Rattle.bit_fields.specs.Opening.{magic_number};
+ghost use Rattle.bit_grammar.specs.Forest.{names_block, wrapper_magic};
+ghost use Rattle.bit_norm.specs.Building.{HasTaken};
+ghost use Rattle.bit_norm.specs.Telling.{Begins, Call, HasTold, IsFit, Tells, begins, behind_record, ends, fits, holds, inside_block, place_of, takes_block, takes_record, tree_told};
+ghost use Rattle.bit_norm.specs.Writing.{WritesForm};
+
+use crate::form_builder::FormBuilder;
+use crate::form_values::FormValues;
+use crate::normalising::give;
+use crate::writing::number_of_magic;
+use bit_events::Gatherer;
+use bit_fields::{Fault, Limits, Sink, ValueTaker};
+use bit_grammar::{SET_BID, WRAPPER_MAGIC};
+use bit_tree::Info;
+use std::alloc::{AllocError, Global};
+use thiserror::Error;
+
+/// What may come in the innermost open block.
+#[derive(Clone, Copy, Debug, PartialEq, Eq)]
+pub(crate) enum Inside {
+    /// Any block or record.
+    Any,
+    /// The first record of a BLOCKINFO block, which says which block is described.
+    NewInfo,
+    /// Another record of a BLOCKINFO block.
+    Info,
+}
+
+/// Why a writer was not told of an item.
+#[derive(Clone, Copy, Debug, PartialEq, Eq, Error)]
+pub enum Untold {
+    /// No tree that keeps to the limits has it there.
+    #[error("no tree has this there")]
+    Misplaced,
+    #[error("out of memory")]
+    Memory,
+}
+
+/// Whether the first value is a block id.
+fn names_block(values: &[u64]) -> bool
+    ensures { result ≡ names_block values.now }
+{
+    match values {
+        [] => false,
+        [id, ..] => *id < 1 << 32,
+    }
+}
+
+/// Values have 64 bits, as their type has it.
+fn known_values(values: &[u64])
+    ensures { AllByRecursion (λ v. v < 2 ^ 64) values.now }
+{}
+
+impl Inside {
+    /// What may come in a block with this id.
+    fn of_block(id: u32) -> Inside
+        ensures { result ≡ inside_block id }
+    {
+        if id == 0 {
+            Inside::NewInfo
+        } else {
+            Inside::Any
+        }
+    }
+
+    fn takes_block(self) -> bool
+        ensures { result ≡ takes_block self }
+    {
+        match self {
+            Inside::Any => true,
+            Inside::NewInfo | Inside::Info => false,
+        }
+    }
+
+    fn takes_record(self, code: u64, values: &[u64]) -> bool
+        ensures { result ≡ takes_record self code values.now }
+    {
+        match self {
+            Inside::Any => true,
+            Inside::NewInfo => code == SET_BID && names_block(values),
+            Inside::Info => code != SET_BID || names_block(values),
+        }
+    }
+
+    /// What may come after a record.
+    fn behind_record(self) -> Inside
+        ensures { result ≡ behind_record self }
+    {
+        match self {
+            Inside::Any => Inside::Any,
+            Inside::NewInfo | Inside::Info => Inside::Info,
+        }
+    }
+}
+
+/// Writes the normal form of a tree whose items it is told in order: where a block begins, a record, where the innermost block
+/// ends. An item that no tree within the limits has there is refused, and changes nothing. The form so far is held, and 16 bytes
+/// for each open block.
+///
+/// After `Untold::Memory` it is of no use.
+#[derive(Drop)]
+pub struct FormWriter {
+    builder: FormBuilder<'static>,
+    limits: Limits,
+    magic: [u8; 4],
+    depth: u32,
+    inside: Inside,
+    values: u64,
+}
+
+impl FormWriter {
+    /// A writer that was told nothing. `None` if the magic is that of a wrapper.
+    pub fn new(alloc: Global, magic: [u8; 4], limits: Limits) -> Option<FormWriter>
+        ensures { MatchOption result (magic_number magic ≡ wrapper_magic)
+            (λ writer. Begins magic limits writer) }
+    {
+        if number_of_magic(magic) == WRAPPER_MAGIC {
+            return None;
+        }
+        // It brings the caps of the limits.
+        let _bytes = limits.bytes();
+        Some(FormWriter {
+            builder: FormBuilder::new(alloc, Info::Keep, limits),
+            limits,
+            magic,
+            depth: 0,
+            inside: Inside::Any,
+            values: 0,
+        })
+    }
+
+    /// Whether a block may begin.
+    fn fits_block(&self, id: u32) -> bool
+        ensures fits { result ≡ fits self.now.limits (place_of self.now) (begins id) }
+        ensures few { result ≡ true → self.now.depth < 255 }
+    {
+        self.inside.takes_block() && self.depth < self.limits.depth()
+    }
+
+    /// Whether a record may come.
+    fn fits_record(&self, code: u64, values: &[u64]) -> bool
+        ensures fits { result ≡ fits self.now.limits (place_of self.now) (holds code values.now) }
+        ensures few { result ≡ true → self.now.values + length values.now < 2 ^ 64 }
+    {
+        let count = self.values.saturating_add(values.len() as u64);
+        self.depth > 0 && self.inside.takes_record(code, values) && count <= self.limits.values()
+    }
+
+    /// Takes values for the form.
+    fn take(&self, values: &[u64]) -> Result<FormValues, AllocError>
+        ensures { IfOk result (λ taken. HasTaken taken values.now) }
+    {
+        let mut taken = self.builder.values();
+        for value in values {
+            if taken.take(*value).is_err() {
+                return Err(AllocError);
+            }
+        }
+        Ok(taken)
+    }
+
+    /// Tells where a block begins.
+    pub fn enter(&mut self, id: u32) -> Result<(), Untold>
+        ensures { Tells (begins id) self.old result self.new }
+    {
+        if !self.fits_block(id) {
+            return Err(Untold::Misplaced);
+        }
+        match self.builder.enter(id, 2, 0, 0) {
+            Ok(()) => {
+                self.depth += 1;
+                self.inside = Inside::of_block(id);
+                Ok(())
+            }
+            Err(AllocError) => Err(Untold::Memory),
+        }
+    }
+
+    /// Tells a record of the innermost block.
+    pub fn record(&mut self, code: u64, values: &[u64]) -> Result<(), Untold>
+        ensures { Tells (holds code values.now) self.old result self.new }
+    {
+        if !self.fits_record(code, values) {
+            return Err(Untold::Misplaced);
+        }
+        known_values(values);
+        let Ok(mut taken) = self.take(values) else {
+            return Err(Untold::Memory);
+        };
+        match self.builder.record(3, code, &mut taken, 0, 0) {
+            Ok(()) => {
+                self.inside = self.inside.behind_record();
+                self.values += values.len() as u64;
+                Ok(())
+            }
+            Err(AllocError) => Err(Untold::Memory),
+        }
+    }
+
+    /// Tells where the innermost block ends.
+    pub fn leave(&mut self) -> Result<(), Untold>
+        ensures { Tells ends self.old result self.new }
+    {
+        if self.depth == 0 {
+            return Err(Untold::Misplaced);
+        }
+        match self.builder.leave(0) {
+            Ok(()) => {
+                self.depth -= 1;
+                self.inside = Inside::Any;
+                Ok(())
+            }
+            Err(AllocError) => Err(Untold::Memory),
+        }
+    }
+
+    /// Whether no block is open.
+    pub fn is_complete(&self) -> bool
+        ensures { result ≡ ((place_of self.now).depth == 0) }
+    {
+        self.depth == 0
+    }
+
+    /// Gives a sink the normal form of the tree that was told, and returns how many bytes that are.
+    ///
+    /// `OutputTooLong`, where they pass the limit on bytes, gives the sink nothing; `Write` leaves it a front of the form.
+    pub fn finish<K: Sink>(self, sink: K) -> (Result<u64, Fault>, K)
+        requires { (place_of self).depth ≡ 0 }
+        ensures form { (calls : List Call) → HasTold calls self
+            → WritesForm (tree_told self.magic calls) self.limits.bytes (K.outgoing sink) result.0
+            (K.outgoing result.1) }
+        ensures fit { (calls : List Call) → HasTold calls self
+            → IsFit self.limits (tree_told self.magic calls) }
+    {
+        let FormWriter {
+            builder,
+            magic,
+            limits: _,
+            depth: _,
+            inside: _,
+            values: _,
+        } = self;
+        match builder.finish() {
+            Some(text) => {
+                // The form of a tree is whole words.
+                if text.len() % 32 != 0 {
+                    return (Err(Fault::Failed), sink);
+                }
+                give(magic, text, sink)
+            }
+            None => (Err(Fault::OutputTooLong), sink),
+        }
+    }
+}
