@@ -13,10 +13,6 @@
 
 mod abbrev;
 mod bits;
-#[cfg(test)]
-mod buffered_tests;
-#[cfg(test)]
-mod counting_tests;
 mod definition;
 mod in_force;
 mod info;

@@ -1,4 +1,4 @@
-use crate::{Abbrev, read_abbreviated, read_define};
+use crate::{Abbrev, read_abbreviated, read_define, read_plain};
 use bit_fields::{
     BitReader, Fault, Limits, ReadSource, Reason, Shapes, SliceSource, Source, ValueCount,
     ValueTaker,
@@ -12,7 +12,7 @@ use std::test::Fail;
 const HEAD: [u8; 12] = [0x42, 0x43, 0xC0, 0xDE, 0x21, 0x0C, 0, 0, 4, 0, 0, 0];
 
 /// A stream with this block.
-pub(super) fn in_block(alloc: Global, body: &[u8]) -> Result<Vec<u8>, AllocError> {
+fn in_block(alloc: Global, body: &[u8]) -> Result<Vec<u8>, AllocError> {
     let mut bytes = Vec::new(alloc);
     bytes.extend_from_slice(&HEAD)?;
     bytes.extend_from_slice(body)?;
@@ -20,7 +20,7 @@ pub(super) fn in_block(alloc: Global, body: &[u8]) -> Result<Vec<u8>, AllocError
 }
 
 /// Reads what comes before the operands of a definition.
-pub(super) fn open_block<S: Source + Drop>(reader: &mut BitReader<S>) -> Result<(), Fault> {
+fn open_block<S: Source + Drop>(reader: &mut BitReader<S>) -> Result<(), Fault> {
     reader.fixed(32)?;
     reader.fixed(32)?;
     reader.fixed(3)?;
@@ -73,7 +73,7 @@ fn has_failed<S: Source + Drop>(alloc: Global, reader: &mut BitReader<S>) -> boo
 }
 
 /// The same from a source, and whether the reader has failed after a fault.
-pub(super) fn record_of<S: Source + Drop, V: ValueTaker>(
+fn record_of<S: Source + Drop, V: ValueTaker>(
     alloc: Global,
     source: S,
     room: u64,
@@ -141,15 +141,15 @@ fn reads_block(
 }
 
 /// An array of characters.
-pub(super) const CHARACTERS: [u8; 8] = [0x1A, 0x03, 0x0C, 0x39, 0x00, 0xFF, 0x0C, 0x00];
+const CHARACTERS: [u8; 8] = [0x1A, 0x03, 0x0C, 0x39, 0x00, 0xFF, 0x0C, 0x00];
 
 /// A blob of five bytes.
-pub(super) const BLOB: [u8; 16] = [
+const BLOB: [u8; 16] = [
     0x12, 0x03, 0x94, 0x05, 0x61, 0x62, 0x63, 0x64, 0x65, 0, 0, 0, 0, 0, 0, 0,
 ];
 
 /// Eight literals.
-pub(super) const LITERALS: [u8; 12] = [
+const LITERALS: [u8; 12] = [
     0x42, 0x03, 0x06, 0x14, 0x38, 0x90, 0x60, 0x41, 0x83, 0x07, 0x24, 0,
 ];
 
@@ -203,6 +203,42 @@ fn records(rt: HostRuntime) -> Result<(), Fail> {
     for (body, record, values) in &RECORDS {
         let answer = reads_block(rt.alloc(), body, 9, values)?;
         assert!(rt; answer == (Ok(*record), true), "{body:?}");
+    }
+    Ok(())
+}
+
+/// Reads a record 5 that is not abbreviated, with the values 1, 40 and 2: its code and the bit after it.
+fn plain_record<V: ValueTaker>(
+    bytes: &[u8],
+    room: u64,
+    values: &mut V,
+) -> Result<(u64, u64), Fault> {
+    let mut reader = match BitReader::start(SliceSource::new(bytes), Limits::usual()) {
+        Ok((reader, _)) => reader,
+        Err((fault, _)) => return Err(fault),
+    };
+    open_block(&mut reader)?;
+    let code = read_plain::<(), BitReader<SliceSource<'_>>, V>(&mut reader, room, values)?;
+    Ok((code, reader.position()))
+}
+
+#[test]
+fn plain_records(rt: HostRuntime) -> Result<(), Fail> {
+    let bytes = in_block(rt.alloc(), &[0x2B, 0x86, 0, 0x0D, 4])?;
+    for room in 0..5 {
+        let mut kept = Vec::new(rt.alloc());
+        let mut counted = ValueCount::new();
+        let answer = plain_record(&bytes, room, &mut kept);
+        let both = answer == plain_record(&bytes, room, &mut counted);
+        let whole = answer == Ok((5, 135)) && kept.as_slice() == [1, 40, 2].as_slice();
+        assert!(rt;
+            both && if room < 3 {
+                answer.is_err()
+            } else {
+                whole && counted.count() == 3
+            },
+            "{room}"
+        );
     }
     Ok(())
 }
