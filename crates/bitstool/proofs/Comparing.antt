@@ -22,7 +22,7 @@ use Rattle.bit_norm.specs.declared.differences.Difference.{Difference}
 use Rattle.bit_norm.specs.Entries.{Differs, difference_shown}
 use Rattle.bit_norm.specs.Whole.{FindsDifference, Misreads}
 use Rattle.bitstool.specs.declared.outcome.Outcome.{Outcome}
-use Rattle.bitstool.specs.declared.outcome.Outcome.TheVariants.{Done, Different, Refused, RefusedOf, TooLong, Usage, Read, Write, Memory}
+use Rattle.bitstool.specs.declared.outcome.Outcome.TheVariants.{Done, Different, Refused, RefusedOf, RefusedLine, TooLong, Usage, Read, Write, Memory}
 use Rattle.bitstool.specs.declared.task.LeftOut.{LeftOut}
 use Rattle.bitstool.specs.declared.task.Explain.{Explain}
 use Rattle.bitstool.specs.declared.task.Explain.TheVariants.{Word, Lines, Json}
@@ -142,6 +142,7 @@ both_taken out limits first count explain i mid later outcome counted h rest = g
     go Write r = (either r.0, tt)
     go Usage r = (both r.0, tt)
     go (Refused reason bit) r = (both r.0, tt)
+    go (RefusedLine reason line) r = (both r.0, tt)
 
 -- ---- the bytes that were taken first
 

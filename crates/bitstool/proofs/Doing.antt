@@ -1,7 +1,8 @@
 -- The contracts of commands, from their steps.
-use Rattle.std.proofs.Common.{◌≡◌, ◌∙◌, ℕ, ◌+◌, Bool, List, Some, None, Result, Ok, Err, ◌<◌, ◌≤◌, codes, refl, sym, subst, inl, inr, arith}
+use Rattle.std.proofs.Common.{◌≡◌, ◌∙◌, ℕ, ◌+◌, Bool, List, Some, None, Result, Ok, Err, ◌<◌, ◌≤◌, [], ◌++◌, codes, refl, sym, ap, subst, inl, inr, arith}
 use Rattle.std.specs.Prelude.{IfSome}
-use Rattle.std.specs.Io.KnownBytes.{Keeps}
+use Rattle.std.specs.Io.KnownBytes.{Consumes, IsAtEnd, Keeps}
+use Rattle.std.proofs.lemmas.List.{append-nil}
 use Rattle.std.proofs.KnownBytes.{Keeps-refl, Keeps-trans}
 use Rattle.bit_grammar.specs.declared.reason.Reason.{Reason}
 use Rattle.bit_grammar.specs.Bits.{bits_of_bytes}
@@ -28,19 +29,24 @@ use Rattle.bit_scan.specs.Written.{HasFailed, TookFront, WritesText}
 use Rattle.bit_fields.specs.declared.fault.Fault.{Fault}
 use Rattle.bit_fields.specs.declared.fault.Fault.TheVariants as fault
 use Rattle.bit_fields.specs.Devices.{Incoming, Outgoing, Spends, Fails}
+use Rattle.bit_text.specs.declared.fault.AssembleFault.{AssembleFault}
+use Rattle.bit_text.specs.declared.fault.AssembleFault.TheVariants as text
+use Rattle.bit_text.specs.declared.reason.TextReason.{TextReason}
+use Rattle.bit_text.specs.Assembling.{Assembles, IsRead, Took, TookAll}
+use Rattle.bit_text.specs.Listings.{reading_of}
 use Rattle.bit_norm.specs.Entries.{difference_shown}
 use Rattle.bit_norm.specs.declared.comparing.Which.TheVariants.{First, Second}
 use Rattle.bit_norm.specs.Whole.{Normalises, ReadsTree}
 use Rattle.bitstool.specs.declared.outcome.Outcome.{Outcome}
-use Rattle.bitstool.specs.declared.outcome.Outcome.TheVariants.{Done, Different, Refused, RefusedOf, TooLong, Usage, Read, Write, Memory}
+use Rattle.bitstool.specs.declared.outcome.Outcome.TheVariants.{Done, Different, Refused, RefusedOf, RefusedLine, TooLong, Usage, Read, Write, Memory}
 use Rattle.bitstool.specs.declared.task.Explain.{Explain}
 use Rattle.bitstool.specs.declared.task.LeftOut.{LeftOut}
 use Rattle.bitstool.specs.declared.task.Task.{Task}
-use Rattle.bitstool.specs.declared.task.Task.TheVariants.{Check, Normal, Same, Analyse, Show, Events}
-use Rattle.bitstool.specs.Performing.{ComparesParts, FindsForTask, Found, Judges, Settles, TellsDifference, TellsFound, TellsLine, outcome_of_writing, outcome_found, outcome_of}
+use Rattle.bitstool.specs.declared.task.Task.TheVariants.{Check, Normal, Same, Analyse, Show, Events, Assemble}
+use Rattle.bitstool.specs.Performing.{ComparesParts, FindsForTask, Found, Judges, Settles, TellsDifference, TellsFound, TellsLine, outcome_of_assembling, outcome_of_writing, outcome_found, outcome_of}
 use Rattle.bitstool.specs.Differences.{different_text, same_text}
 use Rattle.bitstool.specs.LeftOut.{setting_for}
-use Rattle.bitstool.specs.Runs.{ToldBytes, Answers, Refuses, StopsShort, LacksMemory, LeavesRefused, LeavesUnread, StaysOutput, TakesInput, LeavesOutput, Does, most_taken, PaysForRun}
+use Rattle.bitstool.specs.Runs.{IsDrained, ToldBytes, Answers, Refuses, StopsShort, LacksMemory, LeavesRefused, LeavesUnread, StaysOutput, TakesInput, LeavesOutput, Does, most_taken, Pays, PaysForRun}
 use Rattle.bitstool.proofs.Known.{gained, gained_front, gains_front, gains_text, gains_part, gains_kept, front_kept, if_told}
 use Rattle.bitstool.proofs.Comparing.{apart_answers, same_answers, unread_finds}
 use Rattle.bitstool.proofs.Taking.{drained, fails_more, spends_more, takes_done, takes_fault, takes_long, takes_memory, takes_write}
@@ -59,6 +65,7 @@ memory_kept (Same first explain limits out) input old new k = k
 memory_kept (Analyse limits format) input old new k = inl k
 memory_kept (Show limits out) input old new k = inl k
 memory_kept (Events limits style) input old new k = inl k
+memory_kept (Assemble limits) input old new k = k
 
 -- it is a case of `StopsShort`
 memory_stops : (task : Task) (input old new : ToldBytes) → LacksMemory task input old new → StopsShort task input old new
@@ -68,6 +75,7 @@ memory_stops (Same first explain limits out) input old new k = inl k
 memory_stops (Analyse limits format) input old new h = h
 memory_stops (Show limits out) input old new h = h
 memory_stops (Events limits style) input old new h = h
+memory_stops (Assemble limits) input old new k = inl k
 
 -- it still holds if the output then keeps its bytes
 stopped_then : (task : Task) (input old new last : ToldBytes) → StopsShort task input old new → Keeps new last → StopsShort task input old last
@@ -81,6 +89,7 @@ memory_then (Same first explain limits out) input old new last k keeps = Keeps-t
 memory_then (Analyse limits format) input old new last h keeps = stopped_then (Analyse limits format) input old new last h keeps
 memory_then (Show limits out) input old new last h keeps = stopped_then (Show limits out) input old new last h keeps
 memory_then (Events limits style) input old new last h keeps = stopped_then (Events limits style) input old new last h keeps
+memory_then (Assemble limits) input old new last k keeps = Keeps-trans old new last k keeps
 
 -- ---- inputs that were not accepted
 
@@ -92,6 +101,7 @@ unread_kept (Same first explain limits out) input old new stays = stays
 unread_kept (Analyse limits format) input old new stays = stays
 unread_kept (Show limits out) input old new stays = stays
 unread_kept (Events limits style) input old new stays = (inl stays.0, stays.1)
+unread_kept (Assemble limits) input old new stays = stays
 
 -- it is a case of `StopsShort`
 unread_stops : (task : Task) (input : ToldBytes) (old new : Outgoing) → LeavesUnread task input old new → StopsShort task input old.bytes new.bytes × (new.failures ≡ old.failures)
@@ -101,6 +111,7 @@ unread_stops (Same first explain limits out) input old new stays = (inl stays.0,
 unread_stops (Analyse limits format) input old new stays = (inl stays.0, stays.1)
 unread_stops (Show limits out) input old new stays = (inl stays.0, stays.1)
 unread_stops (Events limits style) input old new h = h
+unread_stops (Assemble limits) input old new stays = (inl stays.0, stays.1)
 
 refused_stops : (task : Task) (input : ToldBytes) (reason : Reason) (bit : ℕ) (old new : Outgoing) → LeavesRefused task input reason bit old new → StopsShort task input old.bytes new.bytes × (new.failures ≡ old.failures)
 refused_stops (Check limits) input reason bit old new h = (inl h.1.0, h.1.1)
@@ -109,6 +120,7 @@ refused_stops (Same first explain limits out) input reason bit old new h = (inl 
 refused_stops (Analyse limits format) input reason bit old new h = (inl h.1.0, h.1.1)
 refused_stops (Show limits out) input reason bit old new h = (inl h.1.0, h.1.1)
 refused_stops (Events limits style) input reason bit old new h = (inr (h.0, Refused reason bit, h.1, gains_front h.0 old.bytes new.bytes h.2), h.3)
+refused_stops (Assemble limits) input reason bit old new h = (inl h.1.0, h.1.1)
 
 -- it still holds if the output then keeps its bytes
 stays_then : (old new last : Outgoing) → StaysOutput old new → StaysOutput new last → StaysOutput old last
@@ -121,6 +133,7 @@ unread_then (Same first explain limits out) input old new last h stays = stays_t
 unread_then (Analyse limits format) input old new last h stays = stays_then old new last h stays
 unread_then (Show limits out) input old new last h stays = stays_then old new last h stays
 unread_then (Events limits style) input old new last h stays = (stopped_then (Events limits style) input old.bytes new.bytes last.bytes h.0 stays.0, stays.1 ∙ h.1)
+unread_then (Assemble limits) input old new last h stays = stays_then old new last h stays
 
 refused_then : (task : Task) (input : ToldBytes) (reason : Reason) (bit : ℕ) (old new last : Outgoing) → LeavesRefused task input reason bit old new → StaysOutput new last → LeavesRefused task input reason bit old last
 refused_then (Check limits) input reason bit old new last h stays = (h.0, stays_then old new last h.1 stays)
@@ -129,6 +142,7 @@ refused_then (Same first explain limits out) input reason bit old new last h sta
 refused_then (Analyse limits format) input reason bit old new last h stays = (h.0, stays_then old new last h.1 stays)
 refused_then (Show limits out) input reason bit old new last h stays = (h.0, stays_then old new last h.1 stays)
 refused_then (Events limits style) input reason bit old new last h stays = (h.0, h.1, gains_kept h.0 old.bytes new.bytes last.bytes h.2 stays.0, stays.1 ∙ h.3)
+refused_then (Assemble limits) input reason bit old new last h stays = (h.0, stays_then old new last h.1 stays)
 
 -- ---- checking
 
@@ -144,7 +158,7 @@ check_refuses limits i now fault.OutputTooLong h = absurd h
 check_refuses limits i now fault.Failed h = absurd h
 
 pub refused_here : (limits : Limits) (i now : Incoming) (why : Fault) → Checks limits i (Err why) now → Judges (Check limits) i now (outcome_of limits.bytes why)
-refused_here limits i now why h = (takes_fault {A = Unit {0}} (λ bytes done. Accepts limits bytes) (Check limits) limits (λ o. refl) i now why h, check_refuses limits i now why h)
+refused_here limits i now why h = (takes_fault {A = Unit {0}} (λ bytes done. Accepts limits bytes) (Check limits) limits (λ i now o p. p) i now why h, check_refuses limits i now why h)
 
 -- ---- normal forms
 
@@ -155,34 +169,108 @@ form_answers out limits i now tree h small = (tree, refl, small, if_told i.to_co
 pub form_done : (out : LeftOut) (limits : Limits) (i now : Incoming) (old new : Outgoing) (count : ℕ) → Normalises (setting_for out) limits i old (Ok count) now new → Does (Normal limits out) i now old new Done
 form_done out limits i now old new count h =
     let gain = h.2.2 in
-    (takes_done (HasFit (setting_for out) limits) (Normal limits out) limits (λ o. refl) i now h.0 h.1, (normal_form h.0, form_answers out limits i now h.0 h.1 h.2.0, gained (normal_form h.0) old.bytes new.bytes gain.tells gain.bytes, gain.failures))
+    (takes_done (HasFit (setting_for out) limits) (Normal limits out) limits (λ i now o p. p) i now h.0 h.1, (normal_form h.0, form_answers out limits i now h.0 h.1 h.2.0, gained (normal_form h.0) old.bytes new.bytes gain.tells gain.bytes, gain.failures))
 
 pub form_not_done : (out : LeftOut) (limits : Limits) (i now : Incoming) (old new : Outgoing) (why : Fault) → Normalises (setting_for out) limits i old (Err why) now new → Does (Normal limits out) i now old new (outcome_of limits.bytes why)
 form_not_done out limits i now old new (fault.Refused reason bit) h =
-    (takes_fault (HasFit (setting_for out) limits) (Normal limits out) limits (λ o. refl) i now (fault.Refused reason bit) h.0, (if_told i.to_come (λ bytes. BreaksInput limits bytes (at reason bit)) h.0.1, stays_same old new h.1))
-form_not_done out limits i now old new fault.Read h = (takes_fault (HasFit (setting_for out) limits) (Normal limits out) limits (λ o. refl) i now fault.Read h.0, stays_same old new h.1)
-form_not_done out limits i now old new fault.Memory h = (takes_fault (HasFit (setting_for out) limits) (Normal limits out) limits (λ o. refl) i now fault.Memory h.0, stays_same old new h.1)
+    (takes_fault (HasFit (setting_for out) limits) (Normal limits out) limits (λ i now o p. p) i now (fault.Refused reason bit) h.0, (if_told i.to_come (λ bytes. BreaksInput limits bytes (at reason bit)) h.0.1, stays_same old new h.1))
+form_not_done out limits i now old new fault.Read h = (takes_fault (HasFit (setting_for out) limits) (Normal limits out) limits (λ i now o p. p) i now fault.Read h.0, stays_same old new h.1)
+form_not_done out limits i now old new fault.Memory h = (takes_fault (HasFit (setting_for out) limits) (Normal limits out) limits (λ i now o p. p) i now fault.Memory h.0, stays_same old new h.1)
 form_not_done out limits i now old new fault.Write h =
     let gain = h.2.1 in (
-      takes_write (HasFit (setting_for out) limits) (Normal limits out) limits (λ o. refl) i now h.0 h.1,
+      takes_write (HasFit (setting_for out) limits) (Normal limits out) limits (λ i now o p. p) i now h.0 h.1,
       (inr (normal_form h.0, Done, form_answers out limits i now h.0 h.1 h.2.0, gained_front (normal_form h.0) old.bytes new.bytes gain.tells gain.bytes), gain.why),
     )
 form_not_done out limits i now old new fault.OutputTooLong h = (
-  takes_long (HasFit (setting_for out) limits) (Normal limits out) limits (λ o. refl) i now h.0 limits.bytes h.1,
+  takes_long (HasFit (setting_for out) limits) (Normal limits out) limits (λ i now o p. p) i now h.0 limits.bytes h.1,
   ((refl, if_told i.to_come (λ bytes. (tree : Tree) × HasTree (setting_for out) limits bytes tree × (limits.bytes < size_of tree)) (λ tells. (h.0, (h.1.1 tells).0.0, h.2.0))), stays_same old new h.2.1),
 )
 form_not_done out limits i now old new fault.Failed h = absurd h
 
+-- ---- assembling
+
+-- a fact of a text is one of the input, if that is read to its end
+whole_text : (text : List ℕ) (i now : Incoming) (P : List ℕ → Type 0) → TookAll text i now → P text → IfSome i.to_come P
+whole_text text i now P all holds = go i.to_come now.to_come all.took.bytes all.end
+  where
+    go : (o left : ToldBytes) → Consumes o left text → IsAtEnd left → IfSome o P
+    go None left takes none = tt
+    go (Some bytes) None takes none = absurd takes
+    go (Some bytes) (Some rest) takes none = subst P (sym (takes ∙ ap (λ (r : List ℕ). text ++ r) none ∙ append-nil text)) holds
+
+text_drained : (text : List ℕ) (i now : Incoming) → TookAll text i now → IsDrained i now
+text_drained text i now all = go i.to_come now.to_come all.took.bytes all.end
+  where
+    go : (o left : ToldBytes) → Consumes o left text → IsAtEnd left → IfSome o (λ bytes. left ≡ Some [])
+    go None left takes none = tt
+    go (Some bytes) None takes none = absurd takes
+    go (Some bytes) (Some rest) takes none = ap Some none
+
+-- what holds of all texts that begin with the part that was read holds of the input
+begun_text : (text : List ℕ) (i now : Incoming) (P : List ℕ → Type 0) → Took text i now → ((rest : List ℕ) → P (text ++ rest)) → IfSome i.to_come P
+begun_text text i now P took holds = go i.to_come now.to_come took.bytes
+  where
+    go : (o left : ToldBytes) → Consumes o left text → IfSome o P
+    go None left takes = tt
+    go (Some bytes) None takes = absurd takes
+    go (Some bytes) (Some rest) takes = subst P (sym takes) (holds rest)
+
+line_refused : (limits : Limits) (i now : Incoming) (answer : Result Tree (TextReason × ℕ)) → IsRead limits i answer now → IfSome i.to_come (λ text. reading_of limits text ≡ answer) × (now.failures ≡ i.failures)
+line_refused limits i now answer (text, inl h) = (whole_text text i now (λ t. reading_of limits t ≡ answer) h.0 h.1, h.0.took.failures)
+line_refused limits i now answer (text, inr h) = (begun_text text i now (λ t. reading_of limits t ≡ answer) h.0 h.1, h.0.failures)
+
+pub assembled : (limits : Limits) (i now : Incoming) (old new : Outgoing) (answer : Result ℕ AssembleFault) → Assembles limits i old answer now new → Does (Assemble limits) i now old new (outcome_of_assembling limits.bytes answer)
+assembled limits i now old new (Ok count) h =
+    let w = h.2 in
+    let gain = w.writes.2 in (
+      (h.1.took.failures, text_drained h.0 i now h.1),
+      (
+        normal_form w.tree,
+        (w.tree, refl, w.writes.0, whole_text h.0 i now (λ t. reading_of limits t ≡ Ok w.tree) h.1 w.spells),
+        gained (normal_form w.tree) old.bytes new.bytes gain.tells gain.bytes,
+        gain.failures,
+      ),
+    )
+assembled limits i now old new (Err (text.Refused reason line)) h =
+    let read = line_refused limits i now (Err (reason, line)) h.0 in
+    ((read.1, tt), (read.0, stays_same old new h.1))
+assembled limits i now old new (Err (text.Fault fault.Write)) h =
+    let w = h.2 in
+    let gain = w.writes.1 in (
+      (tt, tt),
+      (
+        inr (
+          normal_form w.tree,
+          Done,
+          (w.tree, refl, w.writes.0, whole_text h.0 i now (λ t. reading_of limits t ≡ Ok w.tree) h.1 w.spells),
+          gained_front (normal_form w.tree) old.bytes new.bytes gain.tells gain.bytes,
+        ),
+        gain.why,
+      ),
+    )
+assembled limits i now old new (Err (text.Fault fault.OutputTooLong)) h =
+    let w = h.2 in (
+      (h.1.took.failures, text_drained h.0 i now h.1),
+      (
+        (refl, whole_text h.0 i now (λ t. (tree : Tree) × (reading_of limits t ≡ Ok tree) × (limits.bytes < size_of tree)) h.1 (w.tree, w.spells, w.writes.0)),
+        stays_same old new w.writes.1,
+      ),
+    )
+assembled limits i now old new (Err (text.Fault fault.Read)) h = ((h.0, tt), stays_same old new h.1)
+assembled limits i now old new (Err (text.Fault fault.Memory)) h = let same = stays_same old new h in ((tt, tt), (same.0, same.1))
+assembled limits i now old new (Err (text.Fault fault.Failed)) h = absurd h
+assembled limits i now old new (Err (text.Fault (fault.Refused reason bit))) h = absurd h
+
 -- ---- reports and listings
 
 -- an input that was not read
-module _ {A : Type 0} (Holds : List ℕ → A → Type 0) (task : Task) (limits : Limits) (most : (o : Outcome) → most_taken task o ≡ limits.bytes + 1) (i now : Incoming) (old new : Outgoing) where
+module _ {A : Type 0} (Holds : List ℕ → A → Type 0) (task : Task) (limits : Limits) (pays : (i now : Incoming) (o : Outcome) → PaysForRun o i (limits.bytes + 1) now → Pays task o i now) (i now : Incoming) (old new : Outgoing) where
   not_accepted : (why : Fault) → ((reason : Reason) (bit : ℕ) → IfSome i.to_come (λ bytes. BreaksInput limits bytes (at reason bit)) → LeavesRefused task i.to_come reason bit old new)
       → StaysOutput old new → ReadsWhole Holds limits i (Err why) now → Does task i now old new (outcome_of limits.bytes why)
   not_accepted (fault.Refused reason bit) refuses stays h =
-      (takes_fault Holds task limits most i now (fault.Refused reason bit) h, refuses reason bit (if_told i.to_come (λ bytes. BreaksInput limits bytes (at reason bit)) h.1))
-  not_accepted fault.Read refuses stays h = (takes_fault Holds task limits most i now fault.Read h, unread_kept task i.to_come old new stays)
-  not_accepted fault.Memory refuses stays h = (takes_fault Holds task limits most i now fault.Memory h, (memory_kept task i.to_come old.bytes new.bytes stays.0, stays.1))
+      (takes_fault Holds task limits pays i now (fault.Refused reason bit) h, refuses reason bit (if_told i.to_come (λ bytes. BreaksInput limits bytes (at reason bit)) h.1))
+  not_accepted fault.Read refuses stays h = (takes_fault Holds task limits pays i now fault.Read h, unread_kept task i.to_come old new stays)
+  not_accepted fault.Memory refuses stays h = (takes_fault Holds task limits pays i now fault.Memory h, (memory_kept task i.to_come old.bytes new.bytes stays.0, stays.1))
   not_accepted fault.Write refuses stays h = absurd h
   not_accepted fault.OutputTooLong refuses stays h = absurd h
   not_accepted fault.Failed refuses stays h = absurd h
@@ -190,11 +278,11 @@ module _ {A : Type 0} (Holds : List ℕ → A → Type 0) (task : Task) (limits 
   -- the text of an answer was written, or a prefix of it
   text_written : (a : A) (text : List ℕ) (answer : Result (Unit {0}) Fault) → (StopsShort task i.to_come old.bytes new.bytes → LacksMemory task i.to_come old.bytes new.bytes)
       → Answers task i.to_come Done (bits_of_bytes text) → ReadsWhole Holds limits i (Ok a) now → WritesText text old answer new → Does task i now old new (outcome_of_writing limits.bytes answer)
-  text_written a text (Ok _) stops answers h w = (takes_done Holds task limits most i now a h, (bits_of_bytes text, answers, gains_text old.bytes new.bytes text w.bytes, w.failures))
+  text_written a text (Ok _) stops answers h w = (takes_done Holds task limits pays i now a h, (bits_of_bytes text, answers, gains_text old.bytes new.bytes text w.bytes, w.failures))
   text_written a text (Err fault.Write) stops answers h w =
-      (takes_write Holds task limits most i now a h, (inr (bits_of_bytes text, Done, answers, gains_part old.bytes new.bytes text w.0.front w.0.rest w.0.split w.0.bytes), w.1))
+      (takes_write Holds task limits pays i now a h, (inr (bits_of_bytes text, Done, answers, gains_part old.bytes new.bytes text w.0.front w.0.rest w.0.split w.0.bytes), w.1))
   text_written a text (Err fault.Memory) stops answers h w =
-      (takes_memory Holds task limits most i now a h, (stops (inr (bits_of_bytes text, Done, answers, gains_part old.bytes new.bytes text w.0.front w.0.rest w.0.split w.0.bytes)), w.1))
+      (takes_memory Holds task limits pays i now a h, (stops (inr (bits_of_bytes text, Done, answers, gains_part old.bytes new.bytes text w.0.front w.0.rest w.0.split w.0.bytes)), w.1))
   text_written a text (Err (fault.Refused reason bit)) stops answers h w = absurd w
   text_written a text (Err fault.Read) stops answers h w = absurd w
   text_written a text (Err fault.OutputTooLong) stops answers h w = absurd w
@@ -203,11 +291,11 @@ module _ {A : Type 0} (Holds : List ℕ → A → Type 0) (task : Task) (limits 
 -- the input was analysed
 reported : (format : Format) (limits : Limits) (i now : Incoming) (old new : Outgoing) (answer : Result (Unit {0}) Fault) → ReadsAndReports format limits i old answer now new → Does (Analyse limits format) i now old new (outcome_of_writing limits.bytes answer)
 reported format limits i now old new answer h =
-    text_written (HasTally limits) (Analyse limits format) limits (λ o. refl) i now old new h.0 (report_as format h.0) answer (λ s. s) (h.0, refl, if_told i.to_come (λ bytes. HasTally limits bytes h.0) (λ tells. (h.1.1 tells).0)) h.1 h.2
+    text_written (HasTally limits) (Analyse limits format) limits (λ i now o p. p) i now old new h.0 (report_as format h.0) answer (λ s. s) (h.0, refl, if_told i.to_come (λ bytes. HasTally limits bytes h.0) (λ tells. (h.1.1 tells).0)) h.1 h.2
 
 -- it was not analysed
 not_reported : (format : Format) (limits : Limits) (i now : Incoming) (old new : Outgoing) (why : Fault) → ReportsNothing limits i old why now new → Does (Analyse limits format) i now old new (outcome_of limits.bytes why)
-not_reported format limits i now old new why h = not_accepted (HasTally limits) (Analyse limits format) limits (λ o. refl) i now old new why (λ reason bit breaks. (breaks, stays_same old new h.1)) (stays_same old new h.1) h.0
+not_reported format limits i now old new why h = not_accepted (HasTally limits) (Analyse limits format) limits (λ i now o p. p) i now old new why (λ reason bit breaks. (breaks, stays_same old new h.1)) (stays_same old new h.1) h.0
 
 pub told_report : (format : Format) (limits : Limits) (i now : Incoming) (old new : Outgoing) (answer : Result (Unit {0}) Fault) → ReportsAs format limits i old answer now new → Does (Analyse limits format) i now old new (outcome_of_writing limits.bytes answer)
 told_report format limits i now old new (Ok _) h = reported format limits i now old new (Ok tt) h
@@ -222,11 +310,11 @@ told_report format limits i now old new (Err fault.Failed) h = absurd h
 -- the tree was read
 listed : (out : LeftOut) (limits : Limits) (i now : Incoming) (old new : Outgoing) (answer : Result (Unit {0}) Fault) → ReadsAndLists (setting_for out) limits i old answer now new → Does (Show limits out) i now old new (outcome_of_writing limits.bytes answer)
 listed out limits i now old new answer h =
-    text_written (HasFit (setting_for out) limits) (Show limits out) limits (λ o. refl) i now old new h.0 (listing_of h.0) answer (λ s. s) (h.0, refl, if_told i.to_come (λ bytes. HasTree (setting_for out) limits bytes h.0) (λ tells. (h.1.1 tells).0.0)) h.1 h.2
+    text_written (HasFit (setting_for out) limits) (Show limits out) limits (λ i now o p. p) i now old new h.0 (listing_of h.0) answer (λ s. s) (h.0, refl, if_told i.to_come (λ bytes. HasTree (setting_for out) limits bytes h.0) (λ tells. (h.1.1 tells).0.0)) h.1 h.2
 
 -- it was not read
 not_listed : (out : LeftOut) (limits : Limits) (i now : Incoming) (old new : Outgoing) (why : Fault) → ListsNothing (setting_for out) limits i old why now new → Does (Show limits out) i now old new (outcome_of limits.bytes why)
-not_listed out limits i now old new why h = not_accepted (HasFit (setting_for out) limits) (Show limits out) limits (λ o. refl) i now old new why (λ reason bit breaks. (breaks, stays_same old new h.1)) (stays_same old new h.1) h.0
+not_listed out limits i now old new why h = not_accepted (HasFit (setting_for out) limits) (Show limits out) limits (λ i now o p. p) i now old new why (λ reason bit breaks. (breaks, stays_same old new h.1)) (stays_same old new h.1) h.0
 
 pub showed : (out : LeftOut) (limits : Limits) (i now : Incoming) (old new : Outgoing) (answer : Result (Unit {0}) Fault) → Shows (setting_for out) limits i old answer now new → Does (Show limits out) i now old new (outcome_of_writing limits.bytes answer)
 showed out limits i now old new (Ok _) h = listed out limits i now old new (Ok tt) h
@@ -274,20 +362,59 @@ told_events limits style i now old new (Err fault.Memory) h = ((h.0, tt), (event
 told_events limits style i now old new (Err fault.OutputTooLong) h = absurd h.3
 told_events limits style i now old new (Err fault.Failed) h = absurd h.3
 
+-- ---- what a command takes
+
+-- the most is taken if the output fails
+most_write : (first : ℕ) (explain : Explain) (limits : Limits) (out : LeftOut) (o : Outcome) → most_taken (Same first explain limits out) o ≤ most_taken (Same first explain limits out) Write
+most_write first explain limits out (RefusedOf First reason bit) = omega arith
+most_write first explain limits out (RefusedOf Second reason bit) = omega arith
+most_write first explain limits out Done = omega arith
+most_write first explain limits out Different = omega arith
+most_write first explain limits out (Refused reason bit) = omega arith
+most_write first explain limits out (RefusedLine reason line) = omega arith
+most_write first explain limits out (TooLong limit) = omega arith
+most_write first explain limits out Usage = omega arith
+most_write first explain limits out Read = omega arith
+most_write first explain limits out Write = omega arith
+most_write first explain limits out Memory = omega arith
+
+paid_more : (i now : Incoming) (a b : ℕ) (o : Outcome) → a ≤ b → PaysForRun o i a now → PaysForRun Write i b now
+paid_more i now a b Done le p = inl (spends_more i now a b le p)
+paid_more i now a b Different le p = inl (spends_more i now a b le p)
+paid_more i now a b (Refused reason bit) le p = inl (spends_more i now a b le p)
+paid_more i now a b (RefusedOf which reason bit) le p = inl (spends_more i now a b le p)
+paid_more i now a b (RefusedLine reason line) le p = inl (spends_more i now a b le p)
+paid_more i now a b (TooLong limit) le p = inl (spends_more i now a b le p)
+paid_more i now a b Usage le p = inl (spends_more i now a b le p)
+paid_more i now a b Read le p = inr (fails_more i now a b le p)
+paid_more i now a b Write le p = elim p [ inl spends ↦ inl (spends_more i now a b le spends) | inr fails ↦ inr (fails_more i now a b le fails) ]
+paid_more i now a b Memory le p = elim p [ inl spends ↦ inl (spends_more i now a b le spends) | inr fails ↦ inr (fails_more i now a b le fails) ]
+
+-- what was taken is what is taken if the output then fails
+pays_write : (task : Task) (i now : Incoming) (o : Outcome) → Pays task o i now → Pays task Write i now
+pays_write (Check limits) i now o p = paid_more i now (limits.bytes + 1) (limits.bytes + 1) o (omega arith) p
+pays_write (Normal limits out) i now o p = paid_more i now (limits.bytes + 1) (limits.bytes + 1) o (omega arith) p
+pays_write (Same first explain limits out) i now o p =
+    paid_more i now (most_taken (Same first explain limits out) o) (most_taken (Same first explain limits out) Write) o (most_write first explain limits out o) p
+pays_write (Analyse limits format) i now o p = paid_more i now (limits.bytes + 1) (limits.bytes + 1) o (omega arith) p
+pays_write (Show limits out) i now o p = paid_more i now (limits.bytes + 1) (limits.bytes + 1) o (omega arith) p
+pays_write (Events limits style) i now o p = paid_more i now (limits.bytes + 1) (limits.bytes + 1) o (omega arith) p
+pays_write (Assemble limits) i now o p = tt
+
 -- ---- lines
 
 -- a line was written for a drained input
-pub done_told : (task : Task) (i now : Incoming) (old new : Outgoing) (line : List ℕ) (after : Outcome) → most_taken task Write ≡ most_taken task Done → TakesInput task i now Done
+pub done_told : (task : Task) (i now : Incoming) (old new : Outgoing) (line : List ℕ) (after : Outcome) → TakesInput task i now Done
     → Answers task i.to_come Done (bits_of_bytes line) → TellsLine Done line old after new → Does task i now old new after
-done_told task i now old new line after most takes answers (inl h) = rw (h.0) (takes, (bits_of_bytes line, answers, gains_text old.bytes new.bytes line h.1.bytes, h.1.failures))
-done_told task i now old new line after most takes answers (inr h) =
-    rw (h.0) ((inl (rw most takes.0), tt), (inr (bits_of_bytes line, Done, answers, gains_part old.bytes new.bytes line h.1.front h.1.rest h.1.split h.1.bytes), h.2))
+done_told task i now old new line after takes answers (inl h) = rw (h.0) (takes, (bits_of_bytes line, answers, gains_text old.bytes new.bytes line h.1.bytes, h.1.failures))
+done_told task i now old new line after takes answers (inr h) =
+    rw (h.0) ((pays_write task i now Done takes.0, tt), (inr (bits_of_bytes line, Done, answers, gains_part old.bytes new.bytes line h.1.front h.1.rest h.1.split h.1.bytes), h.2))
 
-pub different_told : (task : Task) (i now : Incoming) (old new : Outgoing) (line : List ℕ) (after : Outcome) → most_taken task Write ≡ most_taken task Different → TakesInput task i now Different
+pub different_told : (task : Task) (i now : Incoming) (old new : Outgoing) (line : List ℕ) (after : Outcome) → TakesInput task i now Different
     → Answers task i.to_come Different (bits_of_bytes line) → TellsLine Different line old after new → Does task i now old new after
-different_told task i now old new line after most takes answers (inl h) = rw (h.0) (takes, (bits_of_bytes line, answers, gains_text old.bytes new.bytes line h.1.bytes, h.1.failures))
-different_told task i now old new line after most takes answers (inr h) =
-    rw (h.0) ((inl (rw most takes.0), tt), (inr (bits_of_bytes line, Different, answers, gains_part old.bytes new.bytes line h.1.front h.1.rest h.1.split h.1.bytes), h.2))
+different_told task i now old new line after takes answers (inl h) = rw (h.0) (takes, (bits_of_bytes line, answers, gains_text old.bytes new.bytes line h.1.bytes, h.1.failures))
+different_told task i now old new line after takes answers (inr h) =
+    rw (h.0) ((pays_write task i now Different takes.0, tt), (inr (bits_of_bytes line, Different, answers, gains_part old.bytes new.bytes line h.1.front h.1.rest h.1.split h.1.bytes), h.2))
 
 -- an outcome that is no answer writes no line
 pub no_line : (task : Task) (i now : Incoming) (old new : Outgoing) (outcome : Outcome) → (outcome ≡ Done → ⊥) → (outcome ≡ Different → ⊥) → StaysOutput old new
@@ -299,6 +426,7 @@ no_line task i now old new outcome not_done not_different stays refuses judged =
     go Different not_done not_different found = absurd (not_different refl)
     go (Refused reason bit) not_done not_different found = refuses reason bit found
     go (RefusedOf which reason bit) not_done not_different found = (found, stays)
+    go (RefusedLine reason line) not_done not_different found = (found, stays)
     go (TooLong limit) not_done not_different found = (found, stays)
     go Usage not_done not_different found = found
     go Read not_done not_different found = unread_kept task i.to_come old new stays
@@ -308,12 +436,12 @@ no_line task i now old new outcome not_done not_different stays refuses judged =
 -- the result for two inputs was reported
 module _ (out : LeftOut) (limits : Limits) (first : ℕ) (explain : Explain) (i now : Incoming) (old new : Outgoing) (after : Outcome) where
   difference_told : (text : List ℕ) → TakesInput (Same first explain limits out) i now Different → Answers (Same first explain limits out) i.to_come Different (bits_of_bytes text) → TellsDifference text old after new → Does (Same first explain limits out) i now old new after
-  difference_told text takes answers (inl told) = different_told (Same first explain limits out) i now old new text after refl takes answers told
+  difference_told text takes answers (inl told) = different_told (Same first explain limits out) i now old new text after takes answers told
   difference_told text takes answers (inr none) = rw (none.0) ((inl takes.0, tt), stays_same old new none.1)
 
   pub told_same : (found : Found) → TakesInput (Same first explain limits out) i now (outcome_found found) → ComparesParts (setting_for out) limits first i.to_come found → TellsFound explain found old after new
       → Does (Same first explain limits out) i now old new after
-  told_same (Ok None) takes compares tells = done_told (Same first explain limits out) i now old new (same_text explain) after refl takes (same_answers out limits first explain i.to_come compares) tells
+  told_same (Ok None) takes compares tells = done_told (Same first explain limits out) i now old new (same_text explain) after takes (same_answers out limits first explain i.to_come compares) tells
   told_same (Ok (Some difference)) takes compares tells = difference_told (different_text explain (difference_shown difference)) takes (apart_answers out limits first explain i.to_come difference compares) tells
   told_same (Err outcome) takes compares tells =
       let never : (other : Outcome) → ComparesParts (setting_for out) limits first i.to_come (Err outcome) → outcome ≡ other → ComparesParts (setting_for out) limits first i.to_come (Err other) = λ other h is. subst (λ (o : Outcome). ComparesParts (setting_for out) limits first i.to_come (Err o)) is h in
@@ -324,24 +452,6 @@ pub never_different : (limits : Limits) (i now : Incoming) (outcome : Outcome) �
 never_different limits i now outcome judged is = let it : FindsForTask (Check limits) i.to_come Different = subst (λ (o : Outcome). FindsForTask (Check limits) i.to_come o) is judged.1 in absurd it.1
 
 -- ---- flushing
-
--- the most is taken if the output fails
-most_write : (task : Task) (o : Outcome) → most_taken task o ≤ most_taken task Write
-most_write (Check limits) o = omega arith
-most_write (Normal limits out) o = omega arith
-most_write (Analyse limits format) o = omega arith
-most_write (Show limits out) o = omega arith
-most_write (Events limits style) o = omega arith
-most_write (Same first explain limits out) (RefusedOf First reason bit) = omega arith
-most_write (Same first explain limits out) (RefusedOf Second reason bit) = omega arith
-most_write (Same first explain limits out) Done = omega arith
-most_write (Same first explain limits out) Different = omega arith
-most_write (Same first explain limits out) (Refused reason bit) = omega arith
-most_write (Same first explain limits out) (TooLong limit) = omega arith
-most_write (Same first explain limits out) Usage = omega arith
-most_write (Same first explain limits out) Read = omega arith
-most_write (Same first explain limits out) Write = omega arith
-most_write (Same first explain limits out) Memory = omega arith
 
 -- an output that failed before or after
 failed_then : (old new last : Outgoing) → new.failures ≡ old.failures → HasFailed new last → HasFailed old last
@@ -364,31 +474,15 @@ settled task i now old new last outcome after does (inl same) = rw (same.0) (doe
     kept Different d = (d.0, d.1, gains_kept d.0 old.bytes new.bytes last.bytes d.2 stays.0, stays.1 ∙ d.3)
     kept (Refused reason bit) d = refused_then task i.to_come reason bit old new last d stays
     kept (RefusedOf which reason bit) d = (d.0, stays_then old new last d.1 stays)
+    kept (RefusedLine reason line) d = (d.0, stays_then old new last d.1 stays)
     kept (TooLong limit) d = (d.0, stays_then old new last d.1 stays)
     kept Usage d = d
     kept Read d = unread_then task i.to_come old new last d stays
     kept Memory d = (memory_then task i.to_come old.bytes new.bytes last.bytes d.0 stays.0, stays.1 ∙ d.1)
     kept Write d = (stopped_then task i.to_come old.bytes new.bytes last.bytes d.0 stays.0, failed_still old new last d.1 (omega (arith, stays.1)))
 settled task i now old new last outcome after does (inr failed) =
-    rw (failed.0) ((paid outcome does.0.0, tt), lost outcome does.1)
+    rw (failed.0) ((pays_write task i now outcome does.0.0, tt), lost outcome does.1)
   where
-    more : (o : Outcome) → Spends i (most_taken task o) now 0 → PaysForRun Write i (most_taken task Write) now
-    more o p = inl (spends_more i now (most_taken task o) (most_taken task Write) (most_write task o) p)
-
-    lost_more : (o : Outcome) → Fails i (most_taken task o) now 0 → PaysForRun Write i (most_taken task Write) now
-    lost_more o p = inr (fails_more i now (most_taken task o) (most_taken task Write) (most_write task o) p)
-
-    paid : (o : Outcome) → PaysForRun o i (most_taken task o) now → PaysForRun Write i (most_taken task Write) now
-    paid Done p = more Done p
-    paid Different p = more Different p
-    paid (Refused reason bit) p = more (Refused reason bit) p
-    paid (RefusedOf which reason bit) p = more (RefusedOf which reason bit) p
-    paid (TooLong limit) p = more (TooLong limit) p
-    paid Usage p = more Usage p
-    paid Read p = lost_more Read p
-    paid Write p = p
-    paid Memory p = elim p [ inl spends ↦ more Memory spends | inr fails ↦ lost_more Memory fails ]
-
     keeps : Keeps new.bytes last.bytes
     keeps = failed.1
 
@@ -400,6 +494,7 @@ settled task i now old new last outcome after does (inr failed) =
     lost Different d = (inr (d.0, Different, d.1, gains_front d.0 old.bytes last.bytes (gains_kept d.0 old.bytes new.bytes last.bytes d.2 keeps)), failed_then old new last d.3 failed.3)
     lost (Refused reason bit) d = short (refused_stops task i.to_come reason bit old new d)
     lost (RefusedOf which reason bit) d = (inl (Keeps-trans old.bytes new.bytes last.bytes d.1.0 keeps), failed_then old new last d.1.1 failed.3)
+    lost (RefusedLine reason line) d = (inl (Keeps-trans old.bytes new.bytes last.bytes d.1.0 keeps), failed_then old new last d.1.1 failed.3)
     lost (TooLong limit) d = (inl (Keeps-trans old.bytes new.bytes last.bytes d.1.0 keeps), failed_then old new last d.1.1 failed.3)
     lost Usage d = absurd d
     lost Read d = short (unread_stops task i.to_come old new d)

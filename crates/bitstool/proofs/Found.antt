@@ -12,7 +12,7 @@ use Rattle.clap.specs.Words.{Row, Text, one_of, one_text, rows_of, subcommand_ro
 use Rattle.clap.specs.Matches.{ReadsOne}
 use Rattle.clap.specs.declared.parser.matches.Found.{Found}
 use Rattle.clap.proofs.WalkLemmas.{one_text-rows}
-use Rattle.bitstool.specs.Words.{FindsAll, HasAllLimits, HasNumber, HasWithin, IsComplete, checks, normalises, compares, analyses, lists, tells}
+use Rattle.bitstool.specs.Words.{FindsAll, HasAllLimits, HasNumber, HasWithin, IsComplete, checks, normalises, compares, analyses, lists, tells, assembles}
 
 -- a numeral that was read
 numeral_found : (f : Found) (id : Text) (n : ℕ) → (one_text f id ≡ None → Some n ≡ None)
@@ -96,6 +96,7 @@ limits_found name rows (compares limits first) = limits
 limits_found name rows (analyses limits) = limits
 limits_found name rows (lists limits) = limits
 limits_found name rows (tells limits) = limits
+limits_found name rows (assembles limits) = limits
 
 pub first_found : (name : Text) (rows : List Row) → IsComplete rows name → name ≡ codes "same" → HasWithin (codes "first") 17179869180 rows
 first_found name rows (compares limits first) is = first
@@ -104,3 +105,4 @@ first_found name rows (normalises limits) is = absurd (true≢false (sym (ap (λ
 first_found name rows (analyses limits) is = absurd (true≢false (sym (ap (λ (w : Text). bytes_eq w (codes "same")) is)))
 first_found name rows (lists limits) is = absurd (true≢false (sym (ap (λ (w : Text). bytes_eq w (codes "same")) is)))
 first_found name rows (tells limits) is = absurd (true≢false (sym (ap (λ (w : Text). bytes_eq w (codes "same")) is)))
+first_found name rows (assembles limits) is = absurd (true≢false (sym (ap (λ (w : Text). bytes_eq w (codes "same")) is)))

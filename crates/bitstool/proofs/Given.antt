@@ -19,7 +19,7 @@ use Rattle.clap.specs.declared.error.kind.ErrorKind.{ErrorKind}
 use Rattle.clap.specs.declared.parser.matches.ValueSource.{ValueSource}
 use Rattle.clap.specs.declared.parser.matches.ValueSource.TheVariants.{DefaultValue}
 use Rattle.clap.proofs.ValueTestLemmas.{accepts-Accepts}
-use Rattle.bitstool.specs.Words.{HasAllLimits, HasWithin, IsComplete, checks, normalises, compares, analyses, lists, tells, FindsAll, bitstool, with_json, with_limits, leaving, dropping, comparing, telling, faults_of, named_by, bytes_rule, depth_rule, values_rule, first_rule}
+use Rattle.bitstool.specs.Words.{HasAllLimits, HasWithin, IsComplete, checks, normalises, compares, analyses, lists, tells, assembles, FindsAll, bitstool, with_json, with_limits, with_numbers, leaving, dropping, comparing, telling, faults_of, named_by, bytes_rule, depth_rule, values_rule, first_rule}
 use Rattle.bitstool.proofs.Walked.{GoodRow, GoodRows, IsNumeric, IsOnly, defaults_good, first_none, settle_good, then_none, walk_good}
 
 -- ---- rows
@@ -205,6 +205,9 @@ numbers_within s tail is apart words passes =
       with_default_within s words passes 4294967295 (filled values_rule) (codes "134217728") values_numeric values_only (subst (IsIn (filled values_rule)) (sym is) (inr (inr (inl refl)))) refl,
     )
 
+numbers_alone : (name : Text) (words : List Text) → level_fault (leaf (with_numbers name)) [] nothing_held words false [] ≡ [] → HasAllLimits (AfterWords (leaf (with_numbers name)) words)
+numbers_alone name words passes = numbers_within (leaf (with_numbers name)) _ refl (refl, refl, refl) words passes
+
 limits_within : (name : Text) (words : List Text) → level_fault (leaf (with_limits name)) [] nothing_held words false [] ≡ [] → HasAllLimits (AfterWords (leaf (with_limits name)) words)
 limits_within name words passes = numbers_within (leaf (with_limits name)) _ refl (refl, refl, refl) words passes
 
@@ -242,7 +245,10 @@ commands = (
       λ words passes. compares (comparing_within words passes) (first_within words passes),
       (
         λ words passes. analyses (json_within (codes "analyse") words passes),
-        (λ words passes. lists (leaving_within (codes "show") words passes), (λ words passes. tells (telling_within words passes), tt)),
+        (
+          λ words passes. lists (leaving_within (codes "show") words passes),
+          (λ words passes. tells (telling_within words passes), (λ words passes. assembles (numbers_alone (codes "assemble") words passes), tt)),
+        ),
       ),
     ),
   ),

@@ -13,10 +13,10 @@ use Rattle.bit_fields.proofs.Keeping.{fails_within, spends_within}
 use Rattle.bit_events.proofs.Kept.{Stands}
 use Rattle.bit_events.specs.Reading.{ReadsWhole}
 use Rattle.bitstool.specs.declared.outcome.Outcome.{Outcome}
-use Rattle.bitstool.specs.declared.outcome.Outcome.TheVariants.{Done, TooLong, Write, Memory}
+use Rattle.bitstool.specs.declared.outcome.Outcome.TheVariants.{Done, Refused, Read, TooLong, Write, Memory}
 use Rattle.bitstool.specs.declared.task.Task.{Task}
 use Rattle.bitstool.specs.Performing.{AreFirst, PullsFirst, TakesFirst, outcome_of}
-use Rattle.bitstool.specs.Runs.{IsDrained, TakesInput, ToldBytes, most_taken}
+use Rattle.bitstool.specs.Runs.{IsDrained, Pays, PaysForRun, TakesInput, ToldBytes}
 use Rattle.bitstool.proofs.Known.{if_told}
 
 -- ---- the counts of bytes and pulls
@@ -129,29 +129,26 @@ drained i now tells empty = if_told i.to_come (λ bytes. now.to_come ≡ Some []
 
 -- ---- commands that read one input
 
-module _ {A : Type 0} (Holds : List ℕ → A → Type 0) (task : Task) (limits : Limits) (most : (o : Outcome) → most_taken task o ≡ limits.bytes + 1) (i now : Incoming) where
-  spent : (o : Outcome) → Spends i (limits.bytes + 1) now 0 → Spends i (most_taken task o) now 0
-  spent o h = subst (λ (n : ℕ). Spends i n now 0) (sym (most o)) h
-
+module _ {A : Type 0} (Holds : List ℕ → A → Type 0) (task : Task) (limits : Limits) (pays : (i now : Incoming) (o : Outcome) → PaysForRun o i (limits.bytes + 1) now → Pays task o i now) (i now : Incoming) where
   all_read : (a : A) → ReadsWhole Holds limits i (Ok a) now → IsDrained i now
   all_read a h = drained i now h.0.tells (λ t. (h.1 t).1)
 
   pub takes_done : (a : A) → ReadsWhole Holds limits i (Ok a) now → TakesInput task i now Done
-  takes_done a h = (spent Done h.0, all_read a h)
+  takes_done a h = (pays i now Done h.0, all_read a h)
 
   pub takes_long : (a : A) (limit : ℕ) → ReadsWhole Holds limits i (Ok a) now → TakesInput task i now (TooLong limit)
-  takes_long a limit h = (spent (TooLong limit) h.0, all_read a h)
+  takes_long a limit h = (pays i now (TooLong limit) h.0, all_read a h)
 
   pub takes_write : (a : A) → ReadsWhole Holds limits i (Ok a) now → TakesInput task i now Write
-  takes_write a h = (inl (spent Write h.0), tt)
+  takes_write a h = (pays i now Write (inl h.0), tt)
 
   pub takes_memory : (a : A) → ReadsWhole Holds limits i (Ok a) now → TakesInput task i now Memory
-  takes_memory a h = (inl (spent Memory h.0), tt)
+  takes_memory a h = (pays i now Memory (inl h.0), tt)
 
   pub takes_fault : (why : Fault) → ReadsWhole Holds limits i (Err why) now → TakesInput task i now (outcome_of limits.bytes why)
-  takes_fault (fault.Refused reason bit) h = (spent _ h.0, tt)
-  takes_fault fault.Read h = (subst (λ (n : ℕ). Fails i n now 0) (sym (most _)) h, tt)
-  takes_fault fault.Memory h = (inl (spent Memory h), tt)
+  takes_fault (fault.Refused reason bit) h = (pays i now (Refused reason bit) h.0, tt)
+  takes_fault fault.Read h = (pays i now Read h, tt)
+  takes_fault fault.Memory h = (pays i now Memory (inl h), tt)
   takes_fault fault.Write h = absurd h
   takes_fault fault.OutputTooLong h = absurd h
   takes_fault fault.Failed h = absurd h

@@ -12,13 +12,15 @@ use Rattle.bit_fields.specs.declared.fault.Fault.TheVariants as fault
 use Rattle.bit_fields.specs.declared.sink.SinkFailed.{SinkFailed}
 use Rattle.bit_fields.specs.declared.source.SourceFailed.{SourceFailed}
 use Rattle.bit_fields.specs.Devices.{Incoming, Outgoing, Spends, Fails}
+use Rattle.bit_text.specs.declared.fault.AssembleFault.{AssembleFault}
+use Rattle.bit_text.specs.declared.fault.AssembleFault.TheVariants as text
 use Rattle.bit_scan.specs.Written.{TookText, TookFront, HasFailed}
 use Rattle.bit_norm.specs.Entries.{difference_shown}
 use Rattle.bit_norm.specs.declared.differences.Difference.{Difference}
 use Rattle.bit_norm.specs.declared.comparing.Which.{Which}
 use Rattle.bit_norm.specs.declared.comparing.Which.TheVariants.{First, Second}
 use Rattle.bitstool.specs.declared.outcome.Outcome.{Outcome}
-use Rattle.bitstool.specs.declared.outcome.Outcome.TheVariants.{Done, Different, Refused, RefusedOf, TooLong, Usage, Read, Write, Memory}
+use Rattle.bitstool.specs.declared.outcome.Outcome.TheVariants.{Done, Different, Refused, RefusedOf, RefusedLine, TooLong, Usage, Read, Write, Memory}
 use Rattle.bitstool.specs.declared.task.Task.{Task}
 use Rattle.bitstool.specs.declared.task.Explain.{Explain}
 use Rattle.bitstool.specs.Differences.{different_text, same_text}
@@ -71,6 +73,12 @@ abbrev pub outcome_of_writing : ℕ → Result (Unit {0}) Fault → Outcome
 outcome_of_writing limit (Ok _) = Done
 outcome_of_writing limit (Err fault) = outcome_of limit fault
 
+-- the outcome of assembling a listing, under this limit on bytes
+abbrev pub outcome_of_assembling : ℕ → Result ℕ AssembleFault → Outcome
+outcome_of_assembling limit (Ok count) = Done
+outcome_of_assembling limit (Err (text.Refused reason line)) = RefusedLine reason line
+outcome_of_assembling limit (Err (text.Fault fault)) = outcome_of limit fault
+
 -- the finding of a command before it writes
 abbrev pub FindsForTask : Task → ToldBytes → Outcome → Type 0
 FindsForTask task input Done = (bits : List Bool) × Answers task input Done bits
@@ -78,6 +86,7 @@ FindsForTask task input Different = (bits : List Bool) × Answers task input Dif
 FindsForTask task input (Refused reason bit) = Refuses task input (Refused reason bit)
 FindsForTask task input (RefusedOf which reason bit) = Refuses task input
     (RefusedOf which reason bit)
+FindsForTask task input (RefusedLine reason line) = Refuses task input (RefusedLine reason line)
 FindsForTask task input (TooLong limit) = Refuses task input (TooLong limit)
 FindsForTask task input Usage = ⊥
 FindsForTask task input Read = ⊤

@@ -1,5 +1,5 @@
 -- What a command does with its input and its output, and what a run of the program does, over any devices.
-use Rattle.std.specs.Prelude.{◌≡◌, ◌≢◌, ◌⊎◌, ⊤, ℕ, ◌+◌, ◌<◌, ◌≤◌, min, Bool, List, [], ◌++◌, take, drop, codes, Option, Some, IfSome, string_bytes}
+use Rattle.std.specs.Prelude.{◌≡◌, ◌≢◌, ◌⊎◌, ⊤, ℕ, ◌+◌, ◌<◌, ◌≤◌, min, Bool, List, [], ◌++◌, take, drop, codes, Option, Some, IfSome, Ok, Err, string_bytes}
 use Rattle.std.specs.Io.KnownBytes.{Keeps}
 use Rattle.bit_grammar.specs.Setting.{Setting}
 use Rattle.bit_grammar.specs.declared.reason.Reason.{Reason}
@@ -16,17 +16,18 @@ use Rattle.bit_grammar.specs.Texts.{listing_of}
 use Rattle.bit_grammar.specs.EventTexts.{outlook_end}
 use Rattle.bit_grammar.specs.Machine.{Ending, accepted, broke}
 use Rattle.bit_grammar.specs.Outlook.{Outlook, outlook}
-use Rattle.bit_fields.specs.Devices.{Incoming, Outgoing, Spends, Fails}
+use Rattle.bit_fields.specs.Devices.{Incoming, IsWorn, Outgoing, Spends, Fails}
 use Rattle.bit_scan.specs.declared.format.EventStyle.{EventStyle}
 use Rattle.bit_scan.specs.Analysing.{HasTally}
 use Rattle.bit_scan.specs.Styles.{report_as, styled_outlook}
+use Rattle.bit_text.specs.Listings.{reading_of}
 use Rattle.bit_norm.specs.Entries.{FirstDifference, Seen}
 use Rattle.bit_scan.specs.Written.{TookText, TookFront, HasFailed}
 use Rattle.bit_norm.specs.declared.comparing.Which.TheVariants.{First, Second}
 use Rattle.bitstool.specs.declared.outcome.Outcome.{Outcome}
-use Rattle.bitstool.specs.declared.outcome.Outcome.TheVariants.{Done, Different, Refused, RefusedOf, TooLong, Usage, Read, Write, Memory}
+use Rattle.bitstool.specs.declared.outcome.Outcome.TheVariants.{Done, Different, Refused, RefusedOf, RefusedLine, TooLong, Usage, Read, Write, Memory}
 use Rattle.bitstool.specs.declared.task.Task.{Task}
-use Rattle.bitstool.specs.declared.task.Task.TheVariants.{Check, Normal, Same, Analyse, Show, Events}
+use Rattle.bitstool.specs.declared.task.Task.TheVariants.{Check, Normal, Same, Analyse, Show, Events, Assemble}
 use Rattle.bitstool.specs.declared.task.Parsed.{Parsed}
 use Rattle.bitstool.specs.declared.task.Parsed.TheVariants as parsed
 use Rattle.bitstool.specs.declared.task.Explain.{Explain}
@@ -89,6 +90,8 @@ Answers (Events limits style) input Done bits = (bit : ℕ)
     × TellsEvents limits style input (accepted bit) bits
 Answers (Events limits style) input (Refused reason bit) bits = TellsEvents limits style input
     (broke (at reason bit)) bits
+Answers (Assemble limits) input Done bits = (tree : Tree) × (bits ≡ normal_form tree)
+    × (size_of tree ≤ limits.bytes) × IfSome input (λ text. reading_of limits text ≡ Ok tree)
 Answers task input outcome bits = ⊥
 
 -- A refusal by a command, with this outcome, is true of its input.
@@ -109,20 +112,30 @@ Refuses (Analyse limits format) input (Refused reason bit) = IfSome input
     (λ bytes. BreaksInput limits bytes (at reason bit))
 Refuses (Show limits left) input (Refused reason bit) = IfSome input
     (λ bytes. BreaksInput limits bytes (at reason bit))
+Refuses (Assemble limits) input (RefusedLine reason line) = IfSome input
+    (λ text. reading_of limits text ≡ Err (reason, line))
+Refuses (Assemble limits) input (TooLong limit) = (limit ≡ limits.bytes)
+    × IfSome input (λ text. (tree : Tree) × (reading_of limits text ≡ Ok tree)
+    × (limits.bytes < size_of tree))
 Refuses task input outcome = ⊥
 
 -- ---- the bytes that a command takes of its input
 
+abbrev pub limits_of : Task → Limits
+limits_of (Check limits) = limits
+limits_of (Normal limits left) = limits
+limits_of (Same first explain limits left) = limits
+limits_of (Analyse limits format) = limits
+limits_of (Show limits left) = limits
+limits_of (Events limits style) = limits
+limits_of (Assemble limits) = limits
+
 -- The most bytes that a command takes of its input, and the most pulls that it makes: the limit on bytes, plus one. For two inputs
 -- that is the most of each, and at most `first` bytes of the first. If the first is refused, the second is not read.
 abbrev pub most_taken : Task → Outcome → ℕ
-most_taken (Check limits) outcome = limits.bytes + 1
-most_taken (Normal limits left) outcome = limits.bytes + 1
 most_taken (Same first explain limits left) (RefusedOf First reason bit) = min first (limits.bytes + 1)
 most_taken (Same first explain limits left) outcome = min first (limits.bytes + 1) + (limits.bytes + 1)
-most_taken (Analyse limits format) outcome = limits.bytes + 1
-most_taken (Show limits left) outcome = limits.bytes + 1
-most_taken (Events limits style) outcome = limits.bytes + 1
+most_taken task outcome = (limits_of task).bytes + 1
 
 -- an input whose bytes are known has none left
 abbrev pub IsDrained : Incoming → Incoming → Type 0
@@ -143,9 +156,20 @@ EndsAs Different i now = IsDrained i now
 EndsAs (TooLong limit) i now = IsDrained i now
 EndsAs outcome i now = ⊤
 
+-- A listing may have any length. The source failed if it could not be read. If the output or an allocation failed, the source may
+-- have failed before.
+abbrev pub TakesListing : Outcome → Incoming → Incoming → Type 0
+TakesListing Read i now = (i.failures < now.failures) ⊎ IsWorn now
+TakesListing Write i now = ⊤
+TakesListing Memory i now = ⊤
+TakesListing outcome i now = now.failures ≡ i.failures
+
+abbrev pub Pays : Task → Outcome → Incoming → Incoming → Type 0
+Pays (Assemble limits) outcome i now = TakesListing outcome i now
+Pays task outcome i now = PaysForRun outcome i (most_taken task outcome) now
+
 abbrev pub TakesInput : Task → Incoming → Incoming → Outcome → Type 0
-TakesInput task i now outcome = PaysForRun outcome i (most_taken task outcome) now
-    × EndsAs outcome i now
+TakesInput task i now outcome = Pays task outcome i now × EndsAs outcome i now
 
 -- ---- the bytes that a command leaves on the output
 
@@ -203,6 +227,8 @@ LeavesOutput task input old new Different = WritesAnswer task input Different ol
 LeavesOutput task input old new (Refused reason bit) = LeavesRefused task input reason bit old new
 LeavesOutput task input old new (RefusedOf which reason bit) = Refuses task input
     (RefusedOf which reason bit) × StaysOutput old new
+LeavesOutput task input old new (RefusedLine reason line) = Refuses task input
+    (RefusedLine reason line) × StaysOutput old new
 LeavesOutput task input old new (TooLong limit) = Refuses task input (TooLong limit)
     × StaysOutput old new
 LeavesOutput task input old new Usage = ⊥

@@ -25,7 +25,7 @@ use Rattle.bitstool.specs.declared.task.Explain.{Explain}
 use Rattle.bitstool.specs.declared.task.Explain.TheVariants.{Word, Lines, Json}
 use Rattle.bitstool.specs.declared.task.LeftOut.{LeftOut}
 use Rattle.bitstool.specs.declared.task.Task.{Task}
-use Rattle.bitstool.specs.declared.task.Task.TheVariants.{Check, Normal, Same, Analyse, Show, Events}
+use Rattle.bitstool.specs.declared.task.Task.TheVariants.{Check, Normal, Same, Analyse, Show, Events, Assemble}
 use Rattle.bitstool.specs.declared.task.Parsed.{Parsed}
 use Rattle.bitstool.specs.declared.task.Parsed.TheVariants as parsed
 use Rattle.bitstool.specs.Names.{IsNumeralOf, IsUnnamed, NameEach, NamesBlock, NamesRecord}
@@ -108,9 +108,9 @@ for_all_commands = record {
 -- the whole command line
 abbrev pub bitstool : App
 bitstool = with_subcommand (with_subcommand (with_subcommand (with_subcommand (with_subcommand
-    (with_subcommand for_all_commands (with_limits (codes "check")).top)
+    (with_subcommand (with_subcommand for_all_commands (with_limits (codes "check")).top)
     (dropping (codes "normal")).top) comparing.top) (with_json (codes "analyse")).top)
-    (leaving (codes "show")).top) telling.top
+    (leaving (codes "show")).top) telling.top) (with_numbers (codes "assemble")).top
 
 -- ---- the result of a parse
 
@@ -198,6 +198,7 @@ Asks name rows (Show limits left) = (name ≡ codes "show") × HasLimits rows li
     × HasLeftOut rows left
 Asks name rows (Events limits style) = (name ≡ codes "events") × HasLimits rows limits
     × HasStyle rows style
+Asks name rows (Assemble limits) = (name ≡ codes "assemble") × HasLimits rows limits
 
 abbrev pub Means : Option (Text × List Row) → Task → Type 0
 Means None task = ⊥
@@ -221,6 +222,7 @@ pub data IsComplete (rows : List Row) : Text → Type 0 where
   analyses : HasAllLimits rows → IsComplete rows (codes "analyse")
   lists : HasAllLimits rows → IsComplete rows (codes "show")
   tells : HasAllLimits rows → IsComplete rows (codes "events")
+  assembles : HasAllLimits rows → IsComplete rows (codes "assemble")
 
 abbrev pub FindsAll : Option (Text × List Row) → Type 0
 FindsAll None = ⊥

@@ -1,12 +1,13 @@
 //! The outcome of a command.
 
 ghost use Rattle.std.specs.Prelude.{◌≡◌, ◌++◌};
-ghost use Rattle.bitstool.specs.Outcome.{line_of, reason_text, status_of};
+ghost use Rattle.bitstool.specs.Outcome.{line_of, refused_at, status_of};
 ghost use Rattle.bitstool.specs.Performing.{PutsAll};
 
 use crate::devices::{put_all, put_number};
 use bit_fields::{Reason, Sink, SinkFailed};
 use bit_norm::Which;
+use bit_text::TextReason;
 
 /// The outcome of a command.
 #[derive(Clone, Copy, Debug, PartialEq, Eq)]
@@ -25,6 +26,11 @@ pub enum Outcome {
         which: Which,
         reason: Reason,
         bit: u64,
+    },
+    /// The listing is refused at a line.
+    RefusedLine {
+        reason: TextReason,
+        line: u64,
     },
     /// The normal form has more bytes than the limit, which is given.
     TooLong {
@@ -50,6 +56,7 @@ impl Outcome {
             Outcome::Different => 1,
             Outcome::Refused { .. } => 1,
             Outcome::RefusedOf { .. } => 1,
+            Outcome::RefusedLine { .. } => 1,
             Outcome::TooLong { .. } => 1,
             Outcome::Usage => 2,
             Outcome::Read => 3,
@@ -64,13 +71,21 @@ impl Outcome {
     {
         match self {
             Outcome::Done | Outcome::Different | Outcome::Usage => Ok(()),
-            Outcome::Refused { reason, bit } => put_refusal(errors, b"refused: ", reason, bit),
-            Outcome::RefusedOf { which, reason, bit } => {
-                let start = match which {
-                    Which::First => b"refused: first: ".as_slice(),
-                    Which::Second => b"refused: second: ".as_slice(),
-                };
-                put_refusal(errors, start, reason, bit)
+            Outcome::Refused { reason, bit } => {
+                put_refusal(errors, b"refused: ", reason.name(), b" at bit ", bit)
+            }
+            Outcome::RefusedOf {
+                which: Which::First,
+                reason,
+                bit,
+            } => put_refusal(errors, b"refused: first: ", reason.name(), b" at bit ", bit),
+            Outcome::RefusedOf {
+                which: Which::Second,
+                reason,
+                bit,
+            } => put_refusal(errors, b"refused: second: ", reason.name(), b" at bit ", bit),
+            Outcome::RefusedLine { reason, line } => {
+                put_refusal(errors, b"refused: ", reason.name(), b" at line ", line)
             }
             Outcome::TooLong { limit } => put_too_long(errors, limit),
             Outcome::Read => put_all(errors, b"fault: read failed\n"),
@@ -80,20 +95,21 @@ impl Outcome {
     }
 }
 
-/// Gives a sink the beginning of a line, a reason and a bit.
+/// Gives a sink the beginning of a line, a reason, and the number of the place where it is.
 fn put_refusal<K: Sink>(
     sink: &mut K,
     start: &[u8],
-    reason: Reason,
-    bit: u64,
+    reason: &str,
+    place: &[u8],
+    number: u64,
 ) -> Result<(), SinkFailed>
-    ensures { PutsAll (start.now ++ reason_text reason bit) (K.outgoing sink.old) result
-        (K.outgoing sink.new) }
+    ensures { PutsAll (start.now ++ refused_at reason.now place.now number) (K.outgoing sink.old)
+        result (K.outgoing sink.new) }
 {
     put_all(sink, start)?;
-    put_all(sink, reason.name().as_bytes())?;
-    put_all(sink, b" at bit ")?;
-    put_number(sink, bit, b"\n")
+    put_all(sink, reason.as_bytes())?;
+    put_all(sink, place)?;
+    put_number(sink, number, b"\n")
 }
 
 /// Gives a sink the line of a normal form that has more bytes than this limit.

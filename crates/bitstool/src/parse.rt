@@ -66,6 +66,10 @@ const EVENTS: &str =
 definition, record or end that stands there; of an input that is refused, all before
 the break";
 
+const ASSEMBLE: &str =
+    "Writes the normal form of the tree that a listing spells, as `show` prints it; lines that
+are empty or begin with `#` are skipped, and numbers may be hexadecimal, as in 0x1f";
+
 const SHAPES: &str = "Judge the order of a definition's operands where a record uses it,
 as LLVM's reader does, and not where it stands; precompiled headers
 and module files of Clang 19 and later want this";
@@ -242,13 +246,15 @@ fn command<'a>(alloc: Global) -> Result<Command<'a>, AllocError>
     let analyse = with_json(alloc, "analyse", ANALYSE)?;
     let show = leaving(alloc, "show", SHOW)?;
     let events = telling(alloc)?;
+    let assemble = with_numbers(alloc, "assemble", ASSEMBLE)?;
     above(alloc)?
         .subcommand(check)?
         .subcommand(normal)?
         .subcommand(same)?
         .subcommand(analyse)?
         .subcommand(show)?
-        .subcommand(events)
+        .subcommand(events)?
+        .subcommand(assemble)
 }
 
 /// The number given for an option.
@@ -440,6 +446,7 @@ fn task_of<'a>(alloc: Global, matches: &ArgMatches<'a>) -> Option<Result<Task, U
             limits,
             style: style_of(inner),
         })),
+        "assemble" => Some(Ok(Task::Assemble { limits })),
         _ => None,
     }
 }

@@ -6,7 +6,7 @@ ghost use Rattle.bit_fields.specs.Reader.{told_by};
 ghost use Rattle.bitstool.specs.declared.outcome.Outcome.{Outcome as OutcomeValue};
 ghost use Rattle.bitstool.specs.declared.task.Explain.{Explain as ExplainValue};
 ghost use Rattle.bitstool.specs.declared.task.Task.{Task as TaskValue};
-ghost use Rattle.bitstool.specs.Performing.{ComparesParts, ComparesTold, Judges, PullsFirst, TellsDifference, TellsFound, outcome_found, Settles, TakesFirst, TakesRest, TellsLine, outcome_of_writing, outcome_in, outcome_of};
+ghost use Rattle.bitstool.specs.Performing.{ComparesParts, ComparesTold, Judges, PullsFirst, TellsDifference, TellsFound, outcome_found, Settles, TakesFirst, TakesRest, TellsLine, outcome_of_assembling, outcome_of_writing, outcome_in, outcome_of};
 ghost use Rattle.bit_norm.specs.Entries.{difference_shown};
 ghost use Rattle.bitstool.specs.Differences.{different_text, same_text};
 ghost use Rattle.bitstool.specs.LeftOut.{setting_for};
@@ -22,6 +22,7 @@ use bit_events::check;
 use bit_fields::{Fault, KeptSource, Limits, Sink, Source, SourceFailed};
 use bit_norm::{Difference, Which, first_difference_from, normalise};
 use bit_scan::{EventStyle, Format, write_events, write_report_as, write_show};
+use bit_text::{AssembleFault, assemble};
 use bit_tree::Info;
 use std::alloc::{AllocError, Global};
 
@@ -320,6 +321,31 @@ fn perform_events<S: Source, K: Sink>(
     (outcome_of_writing(limits.bytes(), answer), source, sink)
 }
 
+/// The outcome of assembling a listing, under a limit on bytes.
+fn outcome_of_assembling(limit: u64, answer: Result<u64, AssembleFault>) -> Outcome
+    ensures { result ≡ outcome_of_assembling limit answer }
+{
+    match answer {
+        Ok(_) => Outcome::Done,
+        Err(AssembleFault::Refused { reason, line }) => Outcome::RefusedLine { reason, line },
+        Err(AssembleFault::Fault(fault)) => outcome_of(limit, fault),
+    }
+}
+
+/// Writes the normal form of the tree that a listing spells.
+fn perform_assemble<S: Source, K: Sink>(
+    alloc: Global,
+    limits: Limits,
+    source: S,
+    sink: K,
+) -> (Outcome, S, K)
+    ensures { Does (TaskValue.Assemble limits) (S.incoming source) (S.incoming result.1)
+        (K.outgoing sink) (K.outgoing result.2) result.0 }
+{
+    let (answer, source, sink) = assemble(alloc, source, sink, limits);
+    (outcome_of_assembling(limits.bytes(), answer), source, sink)
+}
+
 /// Carries out a command, up to the flush.
 fn carry_out<S: Source, K: Sink>(alloc: Global, task: Task, source: S, sink: K) -> (Outcome, S, K)
     ensures { Does task (S.incoming source) (S.incoming result.1) (K.outgoing sink)
@@ -337,6 +363,7 @@ fn carry_out<S: Source, K: Sink>(alloc: Global, task: Task, source: S, sink: K) 
         Task::Analyse { limits, format } => perform_analyse(alloc, limits, format, source, sink),
         Task::Show { limits, left } => perform_show(alloc, limits, left, source, sink),
         Task::Events { limits, style } => perform_events(alloc, limits, style, source, sink),
+        Task::Assemble { limits } => perform_assemble(alloc, limits, source, sink),
     }
 }
 

@@ -83,6 +83,10 @@ pub enum Task {
         limits: Limits,
         style: EventStyle,
     },
+    /// Write the normal form of the tree that a listing spells.
+    Assemble {
+        limits: Limits,
+    },
 }
 
 /// The meaning of the arguments.

@@ -12,6 +12,7 @@ returns c =
     let analyse = c.in_ok-analyse.ensures in
     let show = c.in_ok-show.ensures in
     let events = c.in_ok-events.ensures in
+    let assemble = c.in_ok-assemble.ensures in
     let base = c.in_ok-above.ensures in
     let first = c.in_ok-subcommand.ensures.shape (third_denied _ _ _ _ (ap (λ (a : App). a.top.is_plain) check))
     ∙ ap₂ with_subcommand base (ap (λ (a : App). a.top) check) in
@@ -23,5 +24,7 @@ returns c =
     ∙ ap₂ with_subcommand third (ap (λ (a : App). a.top) analyse) in
     let fifth = c.in_ok-subcommand-5.ensures.shape (third_denied _ _ _ _ (ap (λ (a : App). a.top.is_plain) show))
     ∙ ap₂ with_subcommand fourth (ap (λ (a : App). a.top) show) in
-    IfOk-weaker c.subcommand-6.result _ _ (λ r h. h.shape (third_denied _ _ _ _ (ap (λ (a : App). a.top.is_plain) events))
-    ∙ ap₂ with_subcommand fifth (ap (λ (a : App). a.top) events)) c.subcommand-6.ensures
+    let sixth = c.in_ok-subcommand-6.ensures.shape (third_denied _ _ _ _ (ap (λ (a : App). a.top.is_plain) events))
+    ∙ ap₂ with_subcommand fifth (ap (λ (a : App). a.top) events) in
+    IfOk-weaker c.subcommand-7.result _ _ (λ r h. h.shape (third_denied _ _ _ _ (ap (λ (a : App). a.top.is_plain) assemble))
+    ∙ ap₂ with_subcommand sixth (ap (λ (a : App). a.top) assemble)) c.subcommand-7.ensures

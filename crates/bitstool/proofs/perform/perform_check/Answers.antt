@@ -13,7 +13,7 @@ returns g c =
     elim c.match-outcome.branch [
       | in-Done w ↦
           let judged = rw w.in-Done.is at c.judge-outcome.ensures in
-          rw (w.sink-is, w.outcome-is) (done_told task i now old (g.K.Sink.outgoing w.tell-outcome.new.sink) (codes "accepted\n") w.tell-outcome.result refl judged.0 (refl, judged.1.1.1) w.tell-outcome.ensures)
+          rw (w.sink-is, w.outcome-is) (done_told task i now old (g.K.Sink.outgoing w.tell-outcome.new.sink) (codes "accepted\n") w.tell-outcome.result judged.0 (refl, judged.1.1.1) w.tell-outcome.ensures)
       | in_default w ↦
           rw (w.sink-is, w.outcome-is) (no_line task i now old old c.judge-outcome.result.0 w.in_default.not-Done (never_different c.args.limits i now c.judge-outcome.result.0 c.judge-outcome.ensures) (stays_same old old refl) (λ reason bit refuses. (refuses, stays_same old old refl)) c.judge-outcome.ensures)
     ]
