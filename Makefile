@@ -6,8 +6,8 @@
 # make dist         packs what make install puts there into out/bitstool-VERSION-x86_64-linux.tar.gz, the same bytes on each
 #                   run; OUT names another folder than out
 # make bench        the program beside other tools; bench/tool says on which files
-# make test         the gate: every proof from nothing, the edits that must be refused, and the tests; then make test-program
-# make test-program  the scripts of tests/ alone, which test the built program and the C library
+# make test         the gate: every proof from nothing, the edits that must be refused, and the scripts of tests/
+# make test-program  builds the program and the C library, and runs the scripts of tests/, which test both
 PREFIX ?= /usr/local
 # Where the Python module goes below PREFIX.
 PYTHON_FOLDER ?= lib/python3/dist-packages
