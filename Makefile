@@ -13,7 +13,7 @@ PREFIX ?= /usr/local
 PYTHON_FOLDER ?= lib/python3/dist-packages
 JOBS ?= $(shell nproc)
 PROGRAM := crates/bitstool/out/bitstool
-# Asks calls of the libraries for tests/refused_memory.
+# A program that makes calls of the libraries, for tests/refused_memory.
 ASKING := crates/refused_calls/out/refused_calls
 LIBRARIES := $(filter-out bit_c,$(patsubst crates/%/src/lib.rt,%,$(wildcard crates/*/src/lib.rt)))
 sources = $(shell find crates/$(1) -path '*/out' -prune -o \( -name '*.rt' -o -name '*.antt' \) -print)
@@ -115,7 +115,7 @@ dist: $(PROGRAM) lib
 bench: $(PROGRAM)
 	bench/tool
 
-# The gate leaves the program that it proved and built in the place of $(PROGRAM).
+# The gate stores the program that it proved and built as $(PROGRAM).
 test:
 	@tests/run --gate
 
