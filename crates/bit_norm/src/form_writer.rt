@@ -32,7 +32,7 @@ pub(crate) enum Inside {
 #[derive(Clone, Copy, Debug, PartialEq, Eq, Error)]
 pub enum Untold {
     /// No tree within the limits has it there.
-    #[error("no tree has this there")]
+    #[error("the item does not fit here")]
     Misplaced,
     #[error("out of memory")]
     Memory,
