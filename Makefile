@@ -31,7 +31,7 @@ all: $(PROGRAM)
 
 # Proved, built, and run once on its stored input.
 $(PROGRAM): crates.txt $(foreach name,$(LIBRARIES) bitstool,$(call sources,$(name)))
-	@echo "Proving and building: 9 to 25 minutes on 4 cores from nothing, and less after a change." >&2
+	@echo "Proving and building: 10 to 30 minutes on 4 cores from nothing, and less after a change." >&2
 	@$(MAKE) --no-print-directory -j2 libraries < /dev/null
 	@echo "proving bitstool" >&2
 	@mkdir -p crates/bitstool/out
