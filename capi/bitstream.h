@@ -148,8 +148,8 @@ uint32_t bs_show(const uint8_t *bytes, size_t bytes_len, const struct bs_limits 
 /* Whether two inputs have the same magic and the same blocks and records, whole or without what is left out: BS_DONE if they
    have, BS_DIFFERENT, or BS_REFUSED, BS_MEMORY, BS_LIMITS, BS_NAMES. The second is refused only if the first is accepted.
 
-   Reads the first twice, the second time in step with the second, which it reads once. Holds D of both, V of one record of each, and
-   N. */
+   Reads the first twice, the second time in step with the second, which it reads once. Holds D of both, V of one record of each,
+   and N. */
 uint32_t bs_same(const uint8_t *first, size_t first_len, const uint8_t *second, size_t second_len, const struct bs_limits *limits,
                  const struct bs_left_out *left_out, struct bs_fault *fault);
 
