@@ -6,14 +6,14 @@
 # make dist         packs what make install puts there into out/bitstool-VERSION-x86_64-linux.tar.gz, the same bytes on each
 #                   run; OUT names another folder than out
 # make bench        the program beside other tools; bench/tool says on which files
-# make test         the gate: every proof from nothing, the edits that must be refused, and the tests; then make test-program
-# make test-program  the scripts of tests/ alone, which test the built program and the C library
+# make test         the gate: every proof from nothing, the edits that must be refused, and the scripts of tests/
+# make test-program  builds the program and the C library, and runs the scripts of tests/, which test both
 PREFIX ?= /usr/local
 # Where the Python module goes below PREFIX.
 PYTHON_FOLDER ?= lib/python3/dist-packages
 JOBS ?= $(shell nproc)
 PROGRAM := crates/bitstool/out/bitstool
-# Asks calls of the libraries for tests/refused_memory.
+# A program that makes calls of the libraries, for tests/refused_memory.
 ASKING := crates/refused_calls/out/refused_calls
 LIBRARIES := $(filter-out bit_c,$(patsubst crates/%/src/lib.rt,%,$(wildcard crates/*/src/lib.rt)))
 sources = $(shell find crates/$(1) -path '*/out' -prune -o \( -name '*.rt' -o -name '*.antt' \) -print)
@@ -31,7 +31,7 @@ all: $(PROGRAM)
 
 # Proved, built, and run once on its stored input.
 $(PROGRAM): crates.txt $(foreach name,$(LIBRARIES) bitstool,$(call sources,$(name)))
-	@echo "Proving and building: 9 to 25 minutes on 4 cores from nothing, and less after a change." >&2
+	@echo "Proving and building: 10 to 30 minutes on 4 cores from nothing, and less after a change." >&2
 	@$(MAKE) --no-print-directory -j2 libraries < /dev/null
 	@echo "proving bitstool" >&2
 	@mkdir -p crates/bitstool/out
@@ -115,7 +115,7 @@ dist: $(PROGRAM) lib
 bench: $(PROGRAM)
 	bench/tool
 
-# The gate leaves the program that it proved and built in the place of $(PROGRAM).
+# The gate stores the program that it proved and built as $(PROGRAM).
 test:
 	@tests/run --gate
 

@@ -148,7 +148,8 @@ uint32_t bs_show(const uint8_t *bytes, size_t bytes_len, const struct bs_limits 
 /* Whether two inputs have the same magic and the same blocks and records, whole or without what is left out: BS_DONE if they
    have, BS_DIFFERENT, or BS_REFUSED, BS_MEMORY, BS_LIMITS, BS_NAMES. The second is refused only if the first is accepted.
 
-   Reads the first twice, the second time in step with the second, which it reads once. Holds D of both, V of one record, and N. */
+   Reads the first twice, the second time in step with the second, which it reads once. Holds D of both, V of one record of each,
+   and N. */
 uint32_t bs_same(const uint8_t *first, size_t first_len, const uint8_t *second, size_t second_len, const struct bs_limits *limits,
                  const struct bs_left_out *left_out, struct bs_fault *fault);
 
@@ -384,8 +385,8 @@ uint32_t bs_fed_show(struct bs_handle *handle, const struct bs_limits *limits, c
    BS_UNFIT and changes nothing, so the writer can continue. If a call returns BS_MEMORY, the handle is closed. With a handle that
    holds no writer, a call returns BS_CLOSED and changes nothing.
 
-   Each call takes time in proportion to its arguments. The handle holds the form so far, 16 bytes for each open block, and nothing
-   of the form once that is longer than the limit on bytes. */
+   Each call takes time in proportion to its arguments. The handle holds the form so far, with up to 1 MiB unused, and 16 bytes for
+   each open block; and nothing of the form once that is longer than the limit on bytes. */
 
 /* Begins a tree with a magic: BS_DONE. Or BS_UNFIT for the magic of a wrapper, DE C0 17 0B, or BS_MEMORY, BS_LIMITS; then the
    handle is closed. An open handle is closed first. The limits are those on the form's bytes, on the depth of blocks and on the
@@ -407,7 +408,7 @@ uint32_t bs_write_leave(struct bs_handle *handle, struct bs_fault *fault);
 
 /* The tree ends, and the handle holds its normal form as a text, for bs_text and bs_take: BS_DONE. Or BS_UNFIT if a block is open.
    Or BS_TOO_LONG if the form has more bytes than the limit, or BS_MEMORY; then the handle is closed. Or BS_CLOSED. While the text
-   is made, the handle's form is held beside it. */
+   is made, in a buffer of up to twice its bytes, the handle's form is held beside it. */
 uint32_t bs_write_finish(struct bs_handle *handle, struct bs_fault *fault);
 
 /* Closes a handle, and frees what it holds. Does nothing with a closed handle. */

@@ -11,7 +11,7 @@ complete -c bitstool -n "not $some $commands" -a events -d "The events of the in
 complete -c bitstool -n "not $some $commands" -s V -l version -d "Print the version"
 complete -c bitstool -s h -l help -d "Print help"
 complete -c bitstool -n "$some $commands" -l bytes -x -d "The most bytes of an input, and of a normal form"
-complete -c bitstool -n "$some $commands" -l depth -x -d "How deep blocks may be nested"
+complete -c bitstool -n "$some $commands" -l depth -x -d "The most levels of nested blocks"
 complete -c bitstool -n "$some $commands" -l values -x -d "The most values of all records"
 complete -c bitstool -n "$some $commands" -l shapes-at-use -d "Judge the shape of a definition when a record uses it"
 complete -c bitstool -n "$some normal same show" -l drop-block -x -d "Leave out the blocks with this id"

@@ -233,7 +233,7 @@ class Library:
         return self.as_run(made, limits, bytes(held))
 
     def pieces(self, call, given, size, options=(), setting=None):
-        """A text that is held, taken in pieces of one size, and behind its end; then whole again; and of a closed handle."""
+        """A held text, taken in pieces of one size, and past its end; then whole again; and of a closed handle."""
         limits, handle, taken, room = self.limits(options), Handle(), c_size_t(77), room_of(c_uint8, size)
         made = self.ask(call, given, c_size_t(len(given)), byref(limits), *self.left_out(setting), byref(handle))
         text, statuses = b"", set()
@@ -241,14 +241,14 @@ class Library:
             ctypes.memset(room, 0xA5, size)
             statuses.add(self.ask("bs_take", byref(handle), room, c_size_t(size), byref(taken)).status)
             if bytes(room[taken.value :]) != b"\xa5" * (size - taken.value):
-                return Answer("what is behind the piece was written to", bytes(room), "")
+                return Answer("bytes after the piece were written to", bytes(room), "")
             text += bytes(room[: taken.value])
             if taken.value < size:
                 break
         for _ in range(2):
             statuses.add(self.ask("bs_take", byref(handle), room, c_size_t(size * (made.status == DONE)), byref(taken)).status)
             if taken.value:
-                return Answer(f"{taken.value} bytes behind the end", b"", "")
+                return Answer(f"{taken.value} bytes past the end", b"", "")
         held = room_of(c_uint8, len(text))
         statuses.add(self.ask("bs_text", byref(handle), held, c_size_t(len(text)), byref(taken)).status)
         self.calls.bs_close(byref(handle))
@@ -313,7 +313,7 @@ class Library:
         return bytes(held)[: needed.value]
 
     def written(self, magic, calls, options=()):
-        """The form of a tree that fits, told call by call."""
+        """The form of a tree that fits, written call by call."""
         limits = self.limits(options)
         handle, status = self.begin(magic, limits)
         statuses = {status, *[self.tell(handle, call) for call in calls]}

@@ -160,7 +160,7 @@ static uint64_t mixed_pieces(uint64_t sum, struct bs_handle *handle) {
     return sum;
 }
 
-/* What a file holds, told to a writer. */
+/* The tree of a file, written item by item. */
 static uint64_t ask_writer(const struct file *file, const struct bs_limits *limits, uint64_t sum) {
     struct bs_handle reader = {0}, writer = {0};
     struct bs_magic_bytes magic = {{0}};

@@ -146,7 +146,7 @@ OPERANDS = {"literal": "value", "fixed": "width", "vbr": "width", "array": "", "
 
 
 def number_in(value):
-    """A number of a JSON line, in digits; None where it is not as it should be: a string of digits exactly from 2^53 on."""
+    """A number of a JSON line, in digits; None if it is malformed: a string of digits exactly from 2^53 on."""
     is_string = isinstance(value, str)
     digits = value if is_string else str(value)
     is_number = type(value) in (int, str) and re.fullmatch(r"0|[1-9][0-9]*", digits)
@@ -154,7 +154,7 @@ def number_in(value):
 
 
 def operand_in(operand):
-    """An operand of a JSON line, as text; None where it is none."""
+    """An operand of a JSON line, as text; None if it is not one."""
     kind, *others = operand
     wanted = OPERANDS.get(operand[kind], None) if kind == "kind" else None
     if wanted is None or others != wanted.split():
@@ -164,7 +164,7 @@ def operand_in(operand):
 
 
 def part_in(key, value):
-    """The value of a key of a JSON line, as text; None where it is none."""
+    """The value of a key of a JSON line, as text; None if it is not one."""
     if key in ("magic", "reason"):
         return value if isinstance(value, str) and re.fullmatch(r"[0-9A-Za-z]+", value) else None
     if key == "operands":
@@ -177,7 +177,7 @@ def part_in(key, value):
 
 
 def text_of_line(line, lines):
-    """The line of text that says what a JSON line says; None where that is none of these lines, with its keys in their order and
+    """The line of text that says what a JSON line says; None if that is not one of these lines, with its keys in their order and
     nothing between them."""
     told = json.loads(line)
     kind = told.get("kind")
@@ -212,7 +212,7 @@ STEPS = {"magic": ("", "magic"), "block": ("id item", "block {id} item {item}"),
 
 
 def object_text(told, kinds, more=()):
-    """The text of an object of one of some kinds, with its keys in their order and perhaps some more; None where it is none."""
+    """The text of an object of one of some kinds, with its keys in their order and perhaps some more; None if it is not one."""
     keys, text = kinds.get(told.get("kind"), (None, ""))
     if keys is None or list(told) not in (["kind", *keys.split()], ["kind", *keys.split(), *more]):
         return None
@@ -221,7 +221,7 @@ def object_text(told, kinds, more=()):
 
 
 def text_of_difference(output):
-    """The lines of text that say what a JSON line says of two inputs; None where it is no such line."""
+    """The lines of text that say what a JSON line says of two inputs; None if it is not such a line."""
     told = json.loads(output)
     if json.dumps(told, separators=(",", ":")) + "\n" != output:
         return None

@@ -1,5 +1,5 @@
 /* Prints a key for each file: a hash of its normal form without BLOCKINFO blocks, so that files that hold the same have the same
-   key. A cache of consequence takes a hash that nobody can find two equal ones for.
+   key. A real cache needs a cryptographic hash.
 
    cc cache_key.c $(pkg-config --cflags --libs bitstream) -o cache_key */
 #include <bitstream.h>
@@ -12,7 +12,7 @@ static uint64_t hash_of(const uint8_t *at, size_t len) {
     return hash;
 }
 
-/* The bytes of a file; NULL where it can't be read. */
+/* The bytes of a file; NULL if it cannot be read. */
 static uint8_t *bytes_of(const char *path, size_t *len) {
     FILE *file = fopen(path, "rb");
     uint8_t *bytes = NULL;

@@ -161,7 +161,7 @@ def _ask(name, *arguments):
     if status == _MEMORY:
         raise MemoryError
     if status == _UNFIT:
-        raise Unfit("no tree within the limits has this there")
+        raise Unfit("this item does not fit here")
     if status in _TEXTS:
         raise Error(_TEXTS[status])
     return status
@@ -298,7 +298,7 @@ def _numbers(given, bits):
     """Returns these numbers if they fit `bits` bits, which ctypes does not check."""
     for number in given:
         if not 0 <= number < 1 << bits:
-            raise Unfit("%d is no number of %d bits" % (number, bits))
+            raise Unfit("%d does not fit %d bits" % (number, bits))
     return given
 
 

@@ -86,7 +86,7 @@ impl fmt::Display for Error {
             Error::TooLong => to.write_str("normal form longer than the limit"),
             Error::Limits => to.write_str("a limit is past its cap"),
             Error::Names => to.write_str("a name of records of BLOCKINFO blocks"),
-            Error::Unfit => to.write_str("no tree within the limits has this there"),
+            Error::Unfit => to.write_str("this item does not fit here"),
             Error::Closed => to.write_str("the writer is closed"),
         }
     }

@@ -268,7 +268,7 @@ fn read_values<U, B: Runs, V: ValueTaker>(
     read_array::<U, B, V>(bits, left, ops[count + 1], values)
 }
 
-/// Reads a record by its operands, of which `count` behind the first one stand for one value each.
+/// Reads a record by its operands. After the first one, `count` of them give one value each.
 #[inline(always)]
 fn read_by_ops<U, B: Runs, V: ValueTaker>(
     bits: &mut B,
@@ -296,11 +296,11 @@ fn read_by_ops<U, B: Runs, V: ValueTaker>(
     Ok(code)
 }
 
-/// Reads a record by its definition, after its abbreviation id, which began at a bit: hands its values on and answers its code.
-/// Where it fails, some of its values may be added.
+/// Reads a record by its definition, after its abbreviation id, which began at `first`: gives its values to the value sink and
+/// returns its code. If it fails, some of its values may have been added.
 ///
-/// `U` is whom it is compiled for. Each user has a copy of its own, which the compiler writes into the user's loop, where what
-/// is buffered then stays in registers.
+/// `U` names the caller. So each caller has its own copy, which the compiler inlines into the caller's loop; the buffered bits
+/// then stay in registers.
 #[inline(always)]
 pub fn read_record<U, B: Runs, V: ValueTaker>(
     bits: &mut B,

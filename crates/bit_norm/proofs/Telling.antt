@@ -1,4 +1,4 @@
--- What calls tell, and the writer that is told them.
+-- The trees that calls describe, and the writer that takes the calls.
 use Rattle.std.proofs.Common.{◌≡◌, ◌≢◌, ℕ, zero, suc, ◌+◌, ◌-◌, ◌^◌, ◌<◌, ◌≤◌, Bool, true, false, not, ◌&&◌, nat_lt, List, [], ◌∷◌, ◌++◌, length, map, refl, sym, ap, subst, ◌∙◌, arith}
 use Rattle.std.specs.List.{list_all}
 use Rattle.std.proofs.lemmas.List.{map-append}
@@ -54,7 +54,7 @@ fitted limits w (holds code values) h =
     (below 0 w.depth q.0, q.1, not_above limits.values (w.values + length values) p.1)
 fitted limits w ends h = below 0 w.depth h
 
--- ---- what calls tell is fit
+-- ---- what calls describe is fit
 
 fit_begins : (id : ℕ) (calls : List Call) → id < 2 ^ 32 → (id ≡ 0 → DescribesBlocks false (told calls 0)) → ((level : ℕ) → FitForest (told calls level)) → (level : ℕ) → FitForest (told (begins id ∷ calls) level)
 fit_begins id calls small info others zero = (small, info, others 0, others 1)
@@ -117,7 +117,7 @@ blocks_told limits w (holds code values ∷ calls) h (suc n) is = blocks_told li
 blocks_told limits w (ends ∷ calls) h zero is = tt
 blocks_told limits w (ends ∷ calls) h (suc n) is = blocks_told limits (after_call ends w) calls h.2 n (omega (arith, is))
 
--- how many values stand at the levels up to one
+-- how many values there are at the levels up to one
 total : ℕ → (ℕ → Forest) → ℕ
 total zero f = forest_values (f 0)
 total (suc n) f = forest_values (f 0) + total n (λ level. f (suc level))
@@ -147,7 +147,7 @@ few_told limits w (begins id ∷ calls) h few = few_told limits (after_call (beg
 few_told limits w (holds code values ∷ calls) h few = few_told limits (after_call (holds code values) w) calls h.2 (fitted limits w (holds code values) h.0).2
 few_told limits w (ends ∷ calls) h few = few_told limits (after_call ends w) calls h.2 few
 
--- calls that fit tell a fit tree
+-- calls that fit describe a fit tree
 tree_fit : (limits : Limits) (magic : List ℕ) (calls : List Call) → Capped limits → magic_number magic < 2 ^ 32 → magic_number magic ≢ wrapper_magic → AreFit limits at_top calls → IsFit limits (tree_told magic calls)
 unfolding total
 tree_fit limits magic calls capped small bare h =
@@ -185,7 +185,7 @@ open_told (begins id ∷ calls) w = open_told calls (after_call (begins id) w)
 open_told (holds code values ∷ calls) w = open_told calls (after_call (holds code values) w)
 open_told (ends ∷ calls) w = open_told calls (after_call ends w)
 
--- nothing is left out where all is kept
+-- nothing is left out if all is kept
 all_kept : (ids : List ℕ) → list_all (keeps keep) ids ≡ true
 all_kept [] = refl
 all_kept (id ∷ ids) = all_kept ids
@@ -200,14 +200,14 @@ events_kept : (ids : List ℕ) (events : List Event) → events_under keep ids e
 events_kept ids [] = refl
 events_kept ids (event ∷ events) = rw (event_kept ids event) (ap (λ (es : List Event). event ∷ es) (events_kept (ids_after event ids) events))
 
--- the form of events that calls are is that of what they tell
+-- the form of calls as events is that of the tree that they describe
 pub form_told : (first : FormBuilder) (calls : List Call) → first.standing.setting ≡ keep → normal (told calls 0) 32 ≡ form_of first (map event_of calls)
 form_told first calls kept =
     ap (λ (f : Forest). normal f 32) (told_events calls 0)
     ∙ ap (λ (es : List Event). normal (told_at_level es 0) 32) (sym (events_kept [] (map event_of calls)))
     ∙ ap (λ (s : Setting). normal (told_at_level (events_under s [] (map event_of calls)) 0) 32) (sym kept)
 
--- a writer with no open block was told calls that leave none open
+-- a writer with no open block took calls that leave none open
 pub none_open : (calls : List Call) (w : FormWriter) → HasTold calls w → (place_of w).depth ≡ 0 → left_open (map event_of calls) ≡ 0
 none_open calls w was none = open_told calls at_top ∙ ap (λ (p : Where). p.depth) (sym was.place) ∙ none
 

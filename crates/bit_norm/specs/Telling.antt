@@ -1,4 +1,4 @@
--- Trees that are told call by call, and their writers.
+-- Trees that are described call by call, and their writers.
 use Rattle.std.specs.Prelude.{◌≡◌, ◌≢◌, ℕ, zero, suc, ◌+◌, ◌-◌, ◌^◌, ◌<◌, ◌≤◌, Bool, true, false, not, ◌&&◌, ◌==◌, nat_lt, List, [], ◌∷◌, ◌++◌, length, map, Result, Ok, Err, if◌then◌else◌}
 use Rattle.std.specs.List.{AllByRecursion}
 use Rattle.bit_grammar.specs.Blocks.{Limits}
@@ -21,8 +21,8 @@ pub data Call : Type 0 where
   holds : (code : ℕ) → List ℕ → Call
   ends : Call
 
--- what calls tell of the blocks that are open before them: the items to come in the innermost (level 0), in the one round it
--- (level 1), and so on
+-- the items that calls add to the blocks that are open before them: to the innermost (level 0), to the one around it (level 1),
+-- and so on
 abbrev pub told : List Call → (level : ℕ) → Forest
 told [] level = empty
 told (begins id ∷ calls) zero = a_block id (told calls 0) (told calls 1)
@@ -52,14 +52,13 @@ takes_block Any = true
 takes_block NewInfo = false
 takes_block Info = false
 
--- in a BLOCKINFO block the first record says which block is described, and each that says so names one
+-- in a BLOCKINFO block the first record sets the described block, and each record that sets it names a block id
 abbrev pub takes_record : Inside → (code : ℕ) → List ℕ → Bool
 takes_record Any code values = true
 takes_record NewInfo code values = if code == set_bid then names_block values else false
 takes_record Info code values = if code == set_bid then names_block values else true
 
--- whether a call fits there: then the blocks, as far as they are told, are those of a fit tree that keeps to the limits on depth
--- and values
+-- whether a call fits there: then the blocks described so far are those of a fit tree within the limits on depth and values
 abbrev pub fits : Limits → Where → Call → Bool
 fits limits w (begins id) = takes_block w.inside && nat_lt w.depth limits.depth
 fits limits w (holds code values) = nat_lt 0 w.depth && takes_record w.inside code values
@@ -87,7 +86,7 @@ abbrev pub where_after : List Call → Where → Where
 where_after [] w = w
 where_after (call ∷ calls) w = where_after calls (after_call call w)
 
--- ids have 32 bits, codes and values 64, as their types have it
+-- ids have 32 bits, codes and values 64, by their types
 abbrev pub InRange : Call → Type 0
 InRange (begins id) = id < 2 ^ 32
 InRange (holds code values) = (code < 2 ^ 64) × AllByRecursion (λ v. v < 2 ^ 64) values
@@ -107,7 +106,7 @@ pub record IsFit (limits : Limits) (tree : Tree) : Type 0 where
 
 -- ---- a writer
 
--- a call as an event, of which no bit is told
+-- a call as an event, with 0 for its bits
 abbrev pub event_of : Call → Event
 event_of (begins id) = enters (record { id = id; width = 2; first = 0; body = 0 })
 event_of (holds code values) = notes (record {
@@ -123,7 +122,7 @@ event_of ends = leaves 0
 abbrev pub place_of : FormWriter → Where
 place_of w = record { depth = w.depth; inside = w.inside; values = w.values }
 
--- a writer was told these calls, each of which fitted
+-- a writer took these calls, each of which fitted
 pub record HasTold (calls : List Call) (w : FormWriter) : Type 0 where
   pub first : FormBuilder
   pub keeps : first.standing.setting ≡ keep
@@ -135,20 +134,20 @@ pub record HasTold (calls : List Call) (w : FormWriter) : Type 0 where
   pub bare : magic_number w.magic ≢ wrapper_magic
   pub capped : Capped w.limits
 
--- a writer of a tree with this magic under these limits, which was told nothing
+-- a writer of a tree with this magic under these limits, which has taken no call
 pub record Begins (magic : List ℕ) (limits : Limits) (w : FormWriter) : Type 0 where
   pub nothing : HasTold [] w
   pub of_magic : w.magic ≡ magic
   pub under : w.limits ≡ limits
 
--- a writer was told one call more, which fits
+-- a writer took one call more, which fits
 pub record ToldMore (call : Call) (old new : FormWriter) : Type 0 where
   pub fits : fits old.limits (place_of old) call ≡ true
   pub told : (calls : List Call) → HasTold calls old → HasTold (calls ++ call ∷ []) new
   pub magic : new.magic ≡ old.magic
   pub limits : new.limits ≡ old.limits
 
--- A writer was told a call; or the call does not fit, and the writer is as it was; or an allocation failed.
+-- A writer took a call; or the call does not fit, and the writer is unchanged; or an allocation failed.
 abbrev pub Tells : Call → FormWriter → Result (Unit {0}) Untold → FormWriter → Type 0
 Tells call old (Ok done) new = ToldMore call old new
 Tells call old (Err Misplaced) new = (fits old.limits (place_of old) call ≡ false) × (new ≡ old)

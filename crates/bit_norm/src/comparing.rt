@@ -50,8 +50,9 @@ pub(crate) fn faulty(which: Which, fault: Fault) -> SameFault
 /// Each input goes from the first byte that its source still has to the last; the length of the normal forms does not matter.
 ///
 /// The first input is read completely before a byte of the second is taken, and the second is read to its end even after a
-/// difference. Only the bytes of the first and the open blocks of both are held. A fault names its input, which breaks the rules,
-/// or whose source failed, or during whose reading an allocation failed. The sources are returned in their present state.
+/// difference. Only the bytes of the first, the open blocks of both and one record of each are held. A fault names its input, which
+/// breaks the rules, or whose source failed, or during whose reading an allocation failed. The sources are returned in their
+/// present state.
 pub fn first_difference<A: Source, B: Source>(
     alloc: Global,
     a: A,

@@ -22,17 +22,17 @@ use thiserror::Error;
 pub(crate) enum Inside {
     /// Any block or record.
     Any,
-    /// The first record of a BLOCKINFO block, which says which block is described.
+    /// The first record of a BLOCKINFO block, which sets the described block.
     NewInfo,
     /// Another record of a BLOCKINFO block.
     Info,
 }
 
-/// Why a writer was not told of an item.
+/// Why a writer did not take an item.
 #[derive(Clone, Copy, Debug, PartialEq, Eq, Error)]
 pub enum Untold {
-    /// No tree that keeps to the limits has it there.
-    #[error("no tree has this there")]
+    /// No tree within the limits has it there.
+    #[error("the item does not fit here")]
     Misplaced,
     #[error("out of memory")]
     Memory,
@@ -48,7 +48,7 @@ fn names_block(values: &[u64]) -> bool
     }
 }
 
-/// Values have 64 bits, as their type has it.
+/// Values have 64 bits, by their type.
 fn known_values(values: &[u64])
     ensures { AllByRecursion (λ v. v < 2 ^ 64) values.now }
 {}
@@ -95,11 +95,11 @@ impl Inside {
     }
 }
 
-/// Writes the normal form of a tree whose items it is told in order: where a block begins, a record, where the innermost block
-/// ends. An item that no tree within the limits has there is refused, and changes nothing. The form so far is held, and 16 bytes
-/// for each open block.
+/// Writes the normal form of a tree that its calls describe in order: the beginning of a block, a record, the end of the innermost
+/// block. An item that no tree within the limits has there is refused, and changes nothing. The writer holds the form so far, and
+/// 16 bytes for each open block.
 ///
-/// After `Untold::Memory` it is of no use.
+/// It must not be used after `Untold::Memory`.
 #[derive(Drop)]
 pub struct FormWriter {
     builder: FormBuilder<'static>,
@@ -111,7 +111,7 @@ pub struct FormWriter {
 }
 
 impl FormWriter {
-    /// A writer that was told nothing. `None` if the magic is that of a wrapper.
+    /// A writer that has taken no item. `None` if the magic is that of a wrapper.
     pub fn new(alloc: Global, magic: [u8; 4], limits: Limits) -> Option<FormWriter>
         ensures { MatchOption result (magic_number magic ≡ wrapper_magic)
             (λ writer. Begins magic limits writer) }
@@ -119,7 +119,7 @@ impl FormWriter {
         if number_of_magic(magic) == WRAPPER_MAGIC {
             return None;
         }
-        // It brings the caps of the limits.
+        // The limits are within their caps.
         let _bytes = limits.bytes();
         Some(FormWriter {
             builder: FormBuilder::new(alloc, Info::Keep, limits),
@@ -161,7 +161,7 @@ impl FormWriter {
         Ok(taken)
     }
 
-    /// Tells where a block begins.
+    /// Begins a block.
     pub fn enter(&mut self, id: u32) -> Result<(), Untold>
         ensures { Tells (begins id) self.old result self.new }
     {
@@ -178,7 +178,7 @@ impl FormWriter {
         }
     }
 
-    /// Tells a record of the innermost block.
+    /// Adds a record to the innermost block.
     pub fn record(&mut self, code: u64, values: &[u64]) -> Result<(), Untold>
         ensures { Tells (holds code values.now) self.old result self.new }
     {
@@ -199,7 +199,7 @@ impl FormWriter {
         }
     }
 
-    /// Tells where the innermost block ends.
+    /// Ends the innermost block.
     pub fn leave(&mut self) -> Result<(), Untold>
         ensures { Tells ends self.old result self.new }
     {
@@ -223,9 +223,9 @@ impl FormWriter {
         self.depth == 0
     }
 
-    /// Gives a sink the normal form of the tree that was told, and returns how many bytes that are.
+    /// Gives a sink the normal form of the tree, and returns its length in bytes.
     ///
-    /// `OutputTooLong`, where they pass the limit on bytes, gives the sink nothing; `Write` leaves it a front of the form.
+    /// `OutputTooLong`, if the form is longer than the limit on bytes, gives the sink nothing; after `Write` it has a prefix of it.
     pub fn finish<K: Sink>(self, sink: K) -> (Result<u64, Fault>, K)
         requires { (place_of self).depth ≡ 0 }
         ensures form { (calls : List Call) → HasTold calls self

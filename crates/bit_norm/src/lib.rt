@@ -11,7 +11,7 @@
 //! compared as sequences of entries, each with a place, a sign (a block's id, a record's code and values, an end) and a bit.
 //! `Comparer` gathers the second's events and compares each sign with the next entry of the first; until the first difference both
 //! are at the same place, so one `Walk` serves both. A record of the first is read into `ExpectedValues` of the second's record, so
-//! its values are not held. `same` is true if there is no first difference.
+//! its values are not held unless they differ. `same` is true if there is no first difference.
 #![tactic(auto)]
 
 mod comparing;

@@ -14,7 +14,7 @@ use thiserror::Error;
 pub enum DocumentReason {
     #[error("the magic is that of a wrapper")]
     WrapperMagic,
-    #[error("blocks stand more than 255 deep in one another")]
+    #[error("blocks are nested more than 255 deep")]
     DepthOver255,
     #[error("a block with id 0 does not say which blocks it describes")]
     BlockInfoRule,

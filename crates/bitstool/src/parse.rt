@@ -25,21 +25,21 @@ const ABOUT: &str =
 The input is standard input; the output is standard output.
 
 With no arguments it writes the normal form of the input, as `bitstool normal` does. An input that
-breaks the rules is refused with one line on standard error, which names the rule and the bit. Then
-`events` has written all that came before the break, and the other commands have written nothing.
+breaks the rules is refused with one line on standard error, which names the reason and the bit.
+Then `events` has written the lines before the error, and the other commands have written nothing.
 
 Examples:
-  bitstool analyse < FILE        which blocks and records it has, and where its bits go
-  bitstool show < FILE | less    all of them, in order
-  bitstool events < FILE | tail  the last that could be read of a damaged file
+  bitstool analyse < FILE        its kinds of blocks and records, and where its bits go
+  bitstool show < FILE | less    all blocks and records, in order
+  bitstool events < FILE | tail  the last items before the error in a damaged file
   bitstool normal --drop-info < FILE > NORMAL
   cat FILE OTHER | bitstool same --where --first $(wc -c < FILE)";
 
 const USAGE: &str = "bitstool [COMMAND]";
 
 const AFTER: &str =
-    "Exit status: 0 done, or found the same; 1 refused, or found different; 2 wrong arguments;
-3 a read or a write failed, or no memory.";
+    "Exit status: 0 done, or the inputs are the same; 1 refused, or the inputs are different;
+2 wrong arguments; 3 a read, a write or an allocation failed.";
 
 const CHECK: &str =
     "Prints `accepted` if the input spells a tree of blocks and records, and otherwise
@@ -50,41 +50,40 @@ const NORMAL: &str =
 abbreviations, widths and wrapper the input has";
 
 const SAME: &str =
-    "Compares the trees of two inputs that stand in standard input one behind the other, and
-prints `same` or `different`";
+    "Compares the trees of two inputs, one after the other on standard input, and prints
+`same` or `different`";
 
 const ANALYSE: &str =
-    "Prints what the input adds up to: a line for each block id, and under it one for each
-code of its records, with their numbers and bits";
+    "Prints counts and bits: a line for each block id, and under it a line for each code of
+its records";
 
 const SHOW: &str =
-    "Prints the tree of the input: a line for each block, with its id, and for each record,
-with its code and values, indented by the blocks around it";
+    "Prints the tree of the input: a line for each block with its id, and a line for each
+record with its code and values, indented by depth";
 
 const EVENTS: &str =
-    "Prints the events of the input as they are read, one a line: the bit, and the block,
-definition, record or end that stands there; of an input that is refused, all before
-the break";
+    "Prints a line for each item as it is read: its bit, and the block, definition, record
+or end of a block there. If the input is refused, these are the lines before the error";
 
 const ASSEMBLE: &str =
-    "Writes the normal form of the tree that a listing spells, as `show` prints it; lines that
-are empty or begin with `#` are skipped, and numbers may be hexadecimal, as in 0x1f";
+    "Writes the normal form of the tree that a listing spells, a text as `show` prints it. Empty
+lines and comments after # are skipped, and numbers may be hexadecimal, such as 0x1f";
 
-const SHAPES: &str = "Judge the order of a definition's operands where a record uses it,
-as LLVM's reader does, and not where it stands; precompiled headers
-and module files of Clang 19 and later want this";
+const SHAPES: &str = "Judge the order of a definition's operands when a record uses it,
+as LLVM's reader does, and not at the definition; precompiled headers
+and module files of Clang 19 and later need this";
 
-const BYTES: &str = "The most bytes that the input may have, and a normal form too;
+const BYTES: &str = "Most bytes of the input, and of a normal form;
 at most 17179869180";
 
-const VALUES: &str = "The most values that the records may have in all;
+const VALUES: &str = "Most values of all records together;
 at most 4294967295";
 
-const BLOCKS: &str = "Leave out all blocks with this id, at any depth, with all that they
-hold; may be given again";
+const BLOCKS: &str = "Leave out all blocks with this id, at any depth, with their contents;
+may be repeated";
 
-const RECORDS: &str = "Leave out all records with this code that stand directly in blocks
-with this id, which is not 0; may be given again";
+const RECORDS: &str = "Leave out all records with this code directly in blocks with this id,
+which is not 0; may be repeated";
 
 const INFO: &str = "Leave out all BLOCKINFO blocks, which hold definitions for other
 blocks and no content, as --drop-block 0 does";
@@ -92,9 +91,9 @@ blocks and no content, as --drop-block 0 does";
 const JSON: &str = "Write JSON lines, one object a line; numbers from 2^53 on are strings
 of their digits";
 
-const SAME_JSON: &str = "Say it as a line of JSON, and always where they first differ";
+const SAME_JSON: &str = "Write one line of JSON, which also says where they first differ";
 
-const FIRST: &str = "How many bytes the first input has; the second is the rest;
+const FIRST: &str = "Number of bytes of the first input; the rest is the second;
 at most 17179869180";
 
 const TIP: &str = "
@@ -155,7 +154,7 @@ fn with_numbers<'a>(alloc: Global, name: &'a str, about: &'a str) -> Result<Comm
         "depth",
         "64",
         u64::from(MOST_DEPTH),
-        "How deep blocks may stand in one another; at most 255",
+        "Most levels of nested blocks; at most 255",
     );
     let values = limit(alloc, "values", "134217728", MOST_VALUES, VALUES);
     Command::new(alloc, name)
@@ -197,7 +196,7 @@ fn comparing<'a>(alloc: Global) -> Result<Command<'a>, AllocError>
     let first = number_option(alloc, "first", MOST_BYTES)
         .required(true)
         .help(FIRST);
-    let place = flag(alloc, "where", "Say also where they first differ");
+    let place = flag(alloc, "where", "Print also where they first differ");
     let json = flag(alloc, "json", SAME_JSON);
     dropping(alloc, "same", SAME)?
         .arg(first)?
