@@ -7,7 +7,7 @@ _bitstool() {
         --bytes | --depth | --values | --first | --drop-block | --drop-record) return ;;
     esac
     if [ "$COMP_CWORD" -eq 1 ]; then
-        words="check normal same analyse show events --help --version"
+        words="check normal same analyse show events assemble --help --version"
     else
         case ${COMP_WORDS[1]} in
             check) words=$limits ;;
@@ -16,6 +16,7 @@ _bitstool() {
             normal) words="$limits $names --drop-info" ;;
             same) words="$limits $names --drop-info --first --where --json" ;;
             events) words="$limits --no-values --json" ;;
+            assemble) words="--bytes --depth --values --help" ;;
         esac
     fi
     mapfile -t COMPREPLY < <(compgen -W "$words" -- "$now")

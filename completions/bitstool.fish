@@ -1,5 +1,5 @@
 # Completion of bitstool's arguments for fish.
-set -l commands check normal same analyse show events
+set -l commands check normal same analyse show events assemble
 set -l some "__fish_seen_subcommand_from"
 complete -c bitstool -f
 complete -c bitstool -n "not $some $commands" -a check -d "Whether the input spells a tree of blocks and records"
@@ -8,12 +8,13 @@ complete -c bitstool -n "not $some $commands" -a same -d "Compare two inputs, on
 complete -c bitstool -n "not $some $commands" -a analyse -d "The totals of the input"
 complete -c bitstool -n "not $some $commands" -a show -d "The tree of the input"
 complete -c bitstool -n "not $some $commands" -a events -d "The events of the input as they are read"
+complete -c bitstool -n "not $some $commands" -a assemble -d "The normal form of the tree that a listing spells"
 complete -c bitstool -n "not $some $commands" -s V -l version -d "Print the version"
 complete -c bitstool -s h -l help -d "Print help"
 complete -c bitstool -n "$some $commands" -l bytes -x -d "The most bytes of an input, and of a normal form"
 complete -c bitstool -n "$some $commands" -l depth -x -d "The most levels of nested blocks"
 complete -c bitstool -n "$some $commands" -l values -x -d "The most values of all records"
-complete -c bitstool -n "$some $commands" -l shapes-at-use -d "Judge the shape of a definition when a record uses it"
+complete -c bitstool -n "$some check normal same analyse show events" -l shapes-at-use -d "Judge the shape of a definition when a record uses it"
 complete -c bitstool -n "$some normal same show" -l drop-block -x -d "Leave out the blocks with this id"
 complete -c bitstool -n "$some normal same show" -l drop-record -x -d "Leave out the records with this code in blocks with this id, as ID:CODE"
 complete -c bitstool -n "$some normal same" -l drop-info -d "Leave out the BLOCKINFO blocks"
