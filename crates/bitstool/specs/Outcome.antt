@@ -3,6 +3,7 @@ use Rattle.std.specs.Prelude.{ℕ, List, [], ◌++◌, codes, decimal}
 use Rattle.bit_grammar.specs.declared.reason.Reason.{Reason}
 use Rattle.bit_grammar.specs.Reasons.{name_of}
 use Rattle.bit_text.specs.Reasons as TextReasons
+use Rattle.bit_norm.specs.declared.comparing.Which.{Which}
 use Rattle.bit_norm.specs.declared.comparing.Which.TheVariants.{First, Second}
 use Rattle.bitstool.specs.declared.outcome.Outcome.{Outcome}
 use Rattle.bitstool.specs.declared.outcome.Outcome.TheVariants.{Done, Different, Refused, RefusedOf, RefusedLine, TooLong, Usage, Read, Write, Memory}
@@ -23,15 +24,18 @@ status_of Memory = 3
 abbrev pub refused_at : (reason place : List ℕ) → (number : ℕ) → List ℕ
 refused_at reason place number = reason ++ (place ++ (decimal number ++ codes "\n"))
 
+-- the beginning of the line if one of two inputs is refused
+abbrev pub start_of : Which → List ℕ
+start_of First = codes "refused: first: "
+start_of Second = codes "refused: second: "
+
 -- the line, if there is one
 abbrev pub line_of : Outcome → List ℕ
 line_of Done = []
 line_of Different = []
 line_of (Refused reason bit) = codes "refused: "
     ++ refused_at (name_of reason) (codes " at bit ") bit
-line_of (RefusedOf First reason bit) = codes "refused: first: "
-    ++ refused_at (name_of reason) (codes " at bit ") bit
-line_of (RefusedOf Second reason bit) = codes "refused: second: "
+line_of (RefusedOf which reason bit) = start_of which
     ++ refused_at (name_of reason) (codes " at bit ") bit
 line_of (RefusedLine reason line) = codes "refused: "
     ++ refused_at (TextReasons.name_of reason) (codes " at line ") line

@@ -1,7 +1,7 @@
 //! The outcome of a command.
 
 ghost use Rattle.std.specs.Prelude.{◌≡◌, ◌++◌};
-ghost use Rattle.bitstool.specs.Outcome.{line_of, refused_at, status_of};
+ghost use Rattle.bitstool.specs.Outcome.{line_of, refused_at, start_of, status_of};
 ghost use Rattle.bitstool.specs.Performing.{PutsAll};
 
 use crate::devices::{put_all, put_number};
@@ -74,16 +74,9 @@ impl Outcome {
             Outcome::Refused { reason, bit } => {
                 put_refusal(errors, b"refused: ", reason.name(), b" at bit ", bit)
             }
-            Outcome::RefusedOf {
-                which: Which::First,
-                reason,
-                bit,
-            } => put_refusal(errors, b"refused: first: ", reason.name(), b" at bit ", bit),
-            Outcome::RefusedOf {
-                which: Which::Second,
-                reason,
-                bit,
-            } => put_refusal(errors, b"refused: second: ", reason.name(), b" at bit ", bit),
+            Outcome::RefusedOf { which, reason, bit } => {
+                put_refusal(errors, start_of(which), reason.name(), b" at bit ", bit)
+            }
             Outcome::RefusedLine { reason, line } => {
                 put_refusal(errors, b"refused: ", reason.name(), b" at line ", line)
             }
@@ -92,6 +85,16 @@ impl Outcome {
             Outcome::Write => put_all(errors, b"fault: write failed\n"),
             Outcome::Memory => put_all(errors, b"fault: no memory\n"),
         }
+    }
+}
+
+/// The beginning of the line if one of two inputs is refused.
+fn start_of(which: Which) -> &'static [u8]
+    ensures { result.now ≡ start_of which }
+{
+    match which {
+        Which::First => b"refused: first: ",
+        Which::Second => b"refused: second: ",
     }
 }
 
