@@ -1,5 +1,5 @@
 -- The bytes of events, and what their source tells.
-use Rattle.std.specs.Prelude.{◌≡◌, ⊤, true, ℕ, List, Option, Some, None}
+use Rattle.std.specs.Prelude.{◌≡◌, ⊤, true, ℕ, List, Some, None}
 use Rattle.bit_fields.specs.Devices.{Account, Incoming}
 use Rattle.bit_c.specs.declared.input_bytes.Bytes.{Bytes}
 use Rattle.bit_c.specs.declared.input_bytes.Bytes.TheVariants.{Lent, Owned}
