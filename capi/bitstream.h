@@ -390,8 +390,9 @@ uint32_t bs_fed_events(struct bs_handle *handle, const struct bs_limits *limits,
 
 /* A writer. Its calls describe a tree item by item, and at the end its handle holds the normal form of that tree: the bytes that
    bs_normal makes of each input with this tree. They are accepted under the limits of the writer. A call that does not fit returns
-   BS_UNFIT and changes nothing, so the writer can continue. If a call returns BS_MEMORY, the handle is closed. With a handle that
-   holds no writer, a call returns BS_CLOSED and changes nothing.
+   BS_UNFIT and changes nothing, so the writer can continue: no tree within its limits has that item there, whatever comes after it.
+   If a call returns BS_MEMORY, the handle is closed. With a handle that holds no writer, a call returns BS_CLOSED and changes
+   nothing.
 
    Each call takes time in proportion to its arguments. The handle holds the form so far, 16 bytes for each open block, and nothing
    of the form once that is longer than the limit on bytes. */
