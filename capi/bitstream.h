@@ -380,9 +380,9 @@ uint32_t bs_fed_normal(struct bs_handle *handle, const struct bs_limits *limits,
 uint32_t bs_fed_show(struct bs_handle *handle, const struct bs_limits *limits, const struct bs_left_out *left_out,
                      struct bs_fault *fault);
 
-/* bs_open for the input: BS_DONE, and then the handle holds the events instead of the input, for bs_next, bs_values, bs_operands and
-   bs_magic. Or BS_REFUSED, BS_MEMORY, BS_LIMITS, and then the input stays: if its magic was not complete, more pieces can be fed.
-   Or BS_CLOSED, also for a closed handle.
+/* bs_open for the input: BS_DONE, and then the handle holds the events instead of the input, for bs_next, bs_values, bs_operands
+   and bs_magic. Or BS_REFUSED, BS_MEMORY, BS_LIMITS, and then the input stays: if its magic was not complete, more pieces can be
+   fed. Or BS_CLOSED, also for a closed handle.
 
    Reads the magic, and a wrapper if there is one; it copies nothing, and makes no allocation. The handle holds what one from
    bs_open holds, and all pieces. */
