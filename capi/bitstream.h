@@ -108,7 +108,7 @@ struct bs_bytes {
 
 /* The version of these calls, structures and numbers, and that of a library. They are the same if a program was built for the
    library that it runs with. An added call does not change the version. */
-#define BS_VERSION 2
+#define BS_VERSION 3
 uint32_t bs_version(void);
 
 /* Sets limits that suit most inputs: 1073741824 bytes, depth 64, 134217728 values, and shapes not judged at their use. */
@@ -342,25 +342,26 @@ uint32_t bs_open(const uint8_t *bytes, size_t bytes_len, const struct bs_limits 
                  struct bs_fault *fault);
 
 /* The next event: BS_DONE. If no event remains and the whole input is accepted, the event has the kind BS_OVER, now and in each
-   later call. Or BS_REFUSED or BS_MEMORY, and each later call returns the same with the same fault. Or BS_CLOSED, also if the
-   handle holds a text. These leave the event unchanged. Reads the bytes of the event. */
+   later call. Or BS_REFUSED or BS_MEMORY, and each later call returns the same with the same fault. Or BS_CLOSED if the handle
+   holds no events. These leave the event unchanged. Reads the bytes of the event. */
 uint32_t bs_next(struct bs_handle *handle, struct bs_event *event, struct bs_fault *fault);
 
 /* Puts the values of the record returned last into the room, and sets `needed` to their number, 0 if there was none: BS_DONE, or
-   BS_ROOM. After a fault or with a closed handle it returns what bs_next returns, with `needed` 0. Copies, and holds nothing. */
+   BS_ROOM. After a fault, or if the handle holds no events, it returns what bs_next returns, with `needed` 0. Copies, and holds
+   nothing. */
 uint32_t bs_values(struct bs_handle *handle, uint64_t *room, size_t room_len, size_t *needed, struct bs_fault *fault);
 
 /* The same for the operands of the definition returned last. `needed` is 0 if the event returned last is no definition. */
 uint32_t bs_operands(struct bs_handle *handle, struct bs_operand *room, size_t room_len, size_t *needed, struct bs_fault *fault);
 
-/* Sets the magic of the stream: BS_DONE, from bs_open on, and also after a fault. Or BS_CLOSED, also if the handle holds a text,
-   and then the magic is unchanged. */
+/* Sets the magic of the stream: BS_DONE, as soon as the events are begun, and also after a fault. Or BS_CLOSED if the handle holds
+   no events, and then the magic is unchanged. */
 uint32_t bs_magic(struct bs_handle *handle, struct bs_magic_bytes *magic, struct bs_fault *fault);
 
 /* An input in pieces. A handle gathers the pieces passed to bs_feed, so a caller who reads a stream needs no buffer for all of it.
-   The calls on it return what those on bytes return for all pieces together, for any cut into pieces. One call reads an input from
-   its first bit to its last: so no piece is judged before such a call, the handle holds all n bytes, and there are no events of an
-   input in pieces. With a handle that holds something else, the calls return BS_CLOSED and change nothing. */
+   The calls on it return what those on bytes return for all pieces together, for any cut into pieces. No piece is judged before
+   such a call, and the handle holds all n bytes. With a handle that holds something else, the calls return BS_CLOSED and change
+   nothing. */
 
 /* Adds a piece to the input: BS_DONE. A closed handle begins an input with it. Or BS_MEMORY, and then the input is unchanged, and a
    closed handle stays closed. Or BS_CLOSED. Copies the piece. Holds at most 2 n bytes, and 3 n while the buffer grows. */
@@ -380,10 +381,19 @@ uint32_t bs_fed_normal(struct bs_handle *handle, const struct bs_limits *limits,
 uint32_t bs_fed_show(struct bs_handle *handle, const struct bs_limits *limits, const struct bs_left_out *left_out,
                      struct bs_fault *fault);
 
+/* bs_open for the input: BS_DONE, and then the handle holds the events instead of the input, for bs_next, bs_values, bs_operands
+   and bs_magic. Or BS_REFUSED, BS_MEMORY, BS_LIMITS, and then the input stays: if its magic was not complete, more pieces can be
+   fed. Or BS_CLOSED, also for a closed handle.
+
+   Reads the magic, and a wrapper if there is one; it copies nothing, and makes no allocation. The handle holds what one from
+   bs_open holds, and all pieces. */
+uint32_t bs_fed_events(struct bs_handle *handle, const struct bs_limits *limits, struct bs_fault *fault);
+
 /* A writer. Its calls describe a tree item by item, and at the end its handle holds the normal form of that tree: the bytes that
    bs_normal makes of each input with this tree. They are accepted under the limits of the writer. A call that does not fit returns
-   BS_UNFIT and changes nothing, so the writer can continue. If a call returns BS_MEMORY, the handle is closed. With a handle that
-   holds no writer, a call returns BS_CLOSED and changes nothing.
+   BS_UNFIT and changes nothing, so the writer can continue: no tree within its limits has that item there, whatever comes after it.
+   If a call returns BS_MEMORY, the handle is closed. With a handle that holds no writer, a call returns BS_CLOSED and changes
+   nothing.
 
    Each call takes time in proportion to its arguments. The handle holds the form so far, with up to 1 MiB unused, and 16 bytes for
    each open block; and nothing of the form once that is longer than the limit on bytes. */

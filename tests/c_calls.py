@@ -421,10 +421,26 @@ class Library:
 
     def events(self, given, options=()):
         """The lines of the events, without the bit of the first, and how they ended."""
-        limits, reader, event, lines, depth = self.limits(options), Handle(), Event(), [], 0
+        limits, reader = self.limits(options), Handle()
         told = self.ask("bs_open", given, c_size_t(len(given)), byref(limits), byref(reader))
+        lines, told = self.lines(reader, told)
+        return lines, told, self.ending(reader, told)
+
+    def fed_events(self, given, size, options=()):
+        """The same for an input in pieces. If its events are not begun, the input stays."""
+        limits, reader = self.limits(options), self.fed(given, size)
+        told = self.ask("bs_fed_events", byref(reader), byref(limits))
         if told.status == DONE:
-            lines.append(f"magic {self.magic(reader)}")
+            lines, told = self.lines(reader, told)
+            return lines, told, self.ending(reader, told)
+        again = [self.ask(call, byref(reader), byref(limits)) for call in ("bs_fed_events", "bs_fed_check")]
+        event = self.ask("bs_next", byref(reader), byref(Event()))
+        self.calls.bs_close(byref(reader))
+        return [], told, again == [told] * 2 and event.status == CLOSED
+
+    def lines(self, reader, told):
+        """The lines of the events of a reader, if it was opened, and how they ended."""
+        event, lines, depth = Event(), [f"magic {self.magic(reader)}"] if told.status == DONE else [], 0
         while told.status == DONE:
             told = self.ask("bs_next", byref(reader), byref(event))
             if told.status != DONE or event.kind == OVER:
@@ -433,7 +449,7 @@ class Library:
             bit = event.after if event.kind == LEAVE else event.first
             lines.append(f"{bit} {'  ' * depth}{self.event(reader, event)}")
             depth += event.kind == ENTER
-        return lines, told, self.ending(reader, told)
+        return lines, told
 
     def event(self, reader, event):
         """The contents of the line of an event."""

@@ -1,5 +1,7 @@
 /* Makes one call of the C library for a text of standard input, for tests/costs: c_costs CALL ROOM, where CALL is normal, report or
-   show, and ROOM a number of bytes, or `fits` for as many as the text has. Prints the status and the number of bytes needed. */
+   show, and ROOM a number of bytes, or `fits` for as many as the text has. Prints the status and the number of bytes needed.
+   c_costs events SIZE reads the events of standard input in pieces of SIZE bytes, at most 4096. Prints the status and the number of
+   events. */
 #include "bitstream.h"
 #include <stdio.h>
 #include <stdlib.h>
@@ -28,9 +30,37 @@ static uint32_t ask(const char *call, uint8_t *room, size_t room_len, size_t *ne
     return bs_show(input, input_len, &limits, &whole, room, room_len, needed, &fault);
 }
 
+static uint32_t feed(struct bs_handle *handle, size_t size) {
+    uint8_t piece[4096];
+    struct bs_fault fault;
+    uint32_t status = BS_DONE;
+    for (size_t len; status == BS_DONE && (len = fread(piece, 1, size, stdin)) > 0;) status = bs_feed(handle, piece, len, &fault);
+    return status;
+}
+
+static int read_events(size_t size) {
+    struct bs_handle handle = {0};
+    struct bs_limits limits;
+    struct bs_fault fault;
+    struct bs_event event = {0};
+    size_t events = 0;
+    bs_usual_limits(&limits);
+    uint32_t status = feed(&handle, size);
+    if (status == BS_DONE) status = bs_fed_events(&handle, &limits, &fault);
+    while (status == BS_DONE) {
+        status = bs_next(&handle, &event, &fault);
+        if (status != BS_DONE || event.kind == BS_OVER) break;
+        events++;
+    }
+    bs_close(&handle);
+    printf("%u %zu\n", status, events);
+    return 0;
+}
+
 int main(int count, char **words) {
     if (count != 3) return 9;
     size_t needed = 0, room_len = strtoull(words[2], NULL, 10);
+    if (!strcmp(words[1], "events")) return read_events(room_len < 4096 ? room_len : 4096);
     read_input();
     if (!strcmp(words[2], "fits")) {
         ask(words[1], NULL, 0, &room_len);

@@ -70,33 +70,40 @@ static void count_memory(int is_counted) {
 #endif
 }
 
-static uint64_t ask_events(const struct file *file, const struct bs_limits *limits, uint64_t sum) {
-    struct bs_handle handle = {0};
-    struct bs_fault fault;
+/* The events in a handle, which were begun with this status. */
+static uint64_t mixed_events(struct bs_handle *handle, uint32_t status) {
+    struct bs_fault fault = {0, 0, 0};
     struct bs_event event = {0};
     struct bs_magic_bytes magic = {{0}};
     struct bs_operand operands[64];
-    uint64_t values[64];
+    uint64_t values[64], sum = 0;
     size_t count = 0;
     memset(operands, 0, sizeof operands);
-    count_memory(1);
-    uint32_t status = noted(bs_open(file->at, file->len, limits, &handle, &fault));
-    if (status == BS_DONE) noted(bs_magic(&handle, &magic, &fault));
+    if (status == BS_DONE) noted(bs_magic(handle, &magic, &fault));
+    sum = mixed_text(sum, magic.bytes, 4);
     while (status == BS_DONE) {
-        status = noted(bs_next(&handle, &event, &fault));
+        status = noted(bs_next(handle, &event, &fault));
         sum = mixed(mixed(mixed(sum, status), event.kind), event.after);
         if (status != BS_DONE || event.kind == BS_OVER) break;
-        if (event.kind == BS_RECORD && bs_values(&handle, values, 64, &count, &fault) == BS_DONE) {
+        if (event.kind == BS_RECORD && bs_values(handle, values, 64, &count, &fault) == BS_DONE) {
             for (size_t i = 0; i < count; i++) sum = mixed(sum, values[i]);
         }
-        if (event.kind == BS_DEFINE && bs_operands(&handle, operands, 64, &count, &fault) == BS_DONE) {
+        if (event.kind == BS_DEFINE && bs_operands(handle, operands, 64, &count, &fault) == BS_DONE) {
             for (size_t i = 0; i < count; i++) sum = mixed(mixed(sum, operands[i].kind), operands[i].value);
         }
     }
-    bs_close(&handle);
-    bs_close(&handle);
-    count_memory(0);
+    bs_close(handle);
+    bs_close(handle);
     return mixed(mixed(sum, fault.reason), fault.bit);
+}
+
+static uint64_t ask_events(const struct file *file, const struct bs_limits *limits) {
+    struct bs_handle handle = {0};
+    struct bs_fault fault;
+    count_memory(1);
+    uint64_t sum = mixed_events(&handle, noted(bs_open(file->at, file->len, limits, &handle, &fault)));
+    count_memory(0);
+    return sum;
 }
 
 /* Names, some of which occur in most files, with BLOCKINFO blocks or without. */
@@ -193,17 +200,24 @@ static uint64_t ask_writer(const struct file *file, const struct bs_limits *limi
     return sum;
 }
 
-/* A file in pieces. */
+/* A file in pieces of one size. A piece that was not taken is fed again, so it does not count as lacking memory. */
+static uint32_t feed(struct bs_handle *handle, const struct file *file, size_t size) {
+    struct bs_fault fault;
+    uint32_t status = BS_DONE;
+    for (size_t at = 0; at < file->len && status == BS_DONE; at += size) {
+        size_t rest = file->len - at;
+        status = bs_feed(handle, file->at + at, rest < size ? rest : size, &fault);
+        if (status == BS_MEMORY) status = bs_feed(handle, file->at + at, rest < size ? rest : size, &fault);
+    }
+    return noted(status);
+}
+
 static uint64_t ask_fed(const struct file *file, const struct bs_limits *limits, uint64_t sum) {
     struct bs_left_out left_out = some_names(1);
     struct bs_handle handle = {0};
     struct bs_fault fault;
-    uint32_t status = BS_DONE;
     count_memory(1);
-    for (size_t at = 0; at < file->len && status == BS_DONE; at += 4095) {
-        size_t rest = file->len - at;
-        status = noted(bs_feed(&handle, file->at + at, rest < 4095 ? rest : 4095, &fault));
-    }
+    uint32_t status = feed(&handle, file, 4095);
     if (status == BS_DONE) status = noted(bs_fed_check(&handle, limits, &fault));
     if (status == BS_DONE) status = noted(bs_fed_normal(&handle, limits, &left_out, &fault));
     count_memory(0);
@@ -212,6 +226,26 @@ static uint64_t ask_fed(const struct file *file, const struct bs_limits *limits,
     bs_close(&handle);
     count_memory(0);
     return sum;
+}
+
+/* The events of a file, whole and in pieces: the same, unless memory lacks. */
+static uint64_t ask_fed_events(const struct file *file, const struct bs_limits *limits, uint64_t sum) {
+    static const size_t sizes[] = {1, 2, 3, 7, 4095};
+    uint64_t whole = ask_events(file, limits);
+    for (size_t i = 0; i < sizeof sizes / sizeof *sizes; i++) {
+        struct bs_handle handle = {0};
+        struct bs_fault fault;
+        count_memory(1);
+        uint32_t status = feed(&handle, file, sizes[i]);
+        if (status == BS_DONE) status = noted(bs_fed_events(&handle, limits, &fault));
+        uint64_t found = mixed_events(&handle, status);
+        count_memory(0);
+        if (found != whole && !lacked) {
+            printf("other events of pieces of %zu\n", sizes[i]);
+            exit(1);
+        }
+    }
+    return mixed(sum, whole);
 }
 
 static uint64_t ask_held(const struct file *file, const struct bs_limits *limits, uint64_t sum) {
@@ -262,7 +296,7 @@ static uint64_t ask(const struct file *file) {
     sum = mixed(sum, noted(bs_same(file->at, file->len, file->at, file->len, &limits, &left_out, &fault)));
     count_memory(0);
     sum = ask_fed(file, &limits, ask_writer(file, &limits, ask_differences(file, &limits, sum)));
-    return ask_held(file, &limits, ask_rows(file, &limits, ask_texts(file, &limits, ask_events(file, &limits, sum))));
+    return ask_held(file, &limits, ask_rows(file, &limits, ask_texts(file, &limits, ask_fed_events(file, &limits, sum))));
 }
 
 static struct file file_of(const char *path) {

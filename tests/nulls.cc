@@ -1,6 +1,7 @@
 // Makes each call of the library with null pointers of length 0, as an empty std::vector has them, and with all zeros for what is
-// left out: each returns the same as with a pointer that is not null.
+// left out: each returns the same as with a pointer that is not null. And reads events of pieces of several sizes.
 #include "bitstream.h"
+#include <algorithm>
 #include <cstdio>
 #include <vector>
 
@@ -14,6 +15,28 @@ static void is(const char *call, uint32_t found, uint32_t wanted) {
         std::printf("%s: %u, and not %u\n", call, unsigned(found), unsigned(wanted));
         failures++;
     }
+}
+
+// The events of the stream in pieces: a block, a record and the end of the block.
+static void in_pieces(size_t size, const bs_limits &limits) {
+    bs_handle handle = {};
+    bs_fault fault;
+    bs_event event;
+    uint64_t value = 0;
+    size_t count = 0;
+    is("bs_feed", bs_feed(&handle, nullptr, 0, &fault), BS_DONE);
+    is("bs_fed_events", bs_fed_events(&handle, &limits, &fault), BS_REFUSED);
+    for (size_t from = 0; from < len; from += size) {
+        is("bs_feed", bs_feed(&handle, at + from, std::min(size, len - from), &fault), BS_DONE);
+    }
+    is("bs_fed_events", bs_fed_events(&handle, &limits, &fault), BS_DONE);
+    for (const uint32_t kind : std::vector<uint32_t>{BS_ENTER, BS_RECORD, BS_LEAVE, BS_OVER}) {
+        is("bs_next", bs_next(&handle, &event, &fault), BS_DONE);
+        is("kind", event.kind, kind);
+        if (kind == BS_RECORD) is("bs_values", bs_values(&handle, &value, 1, &count, &fault), BS_DONE);
+    }
+    is("value", uint32_t(value), 28);
+    bs_close(&handle);
 }
 
 int main() {
@@ -62,6 +85,9 @@ int main() {
     bs_close(&handle);
     is("bs_feed", bs_feed(&handle, at, len, &fault), BS_DONE);
     is("bs_fed_normal", bs_fed_normal(&handle, &limits, &whole, &fault), BS_DONE);
+    is("bs_fed_events", bs_fed_events(&handle, &limits, &fault), BS_CLOSED);
+    bs_close(&handle);
+    for (const size_t size : std::vector<size_t>{1, 2, 3, 7, 4095}) in_pieces(size, limits);
     const bs_magic_bytes magic = {{'D', 'I', 'A', 'G'}};
     is("bs_write_open", bs_write_open(&magic, &limits, &handle, &fault), BS_DONE);
     is("bs_write_record", bs_write_record(&handle, 1, nullptr, 0, &fault), BS_UNFIT);

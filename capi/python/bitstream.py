@@ -9,7 +9,7 @@ import os
 from ctypes import POINTER, Structure, byref, c_bool, c_char_p, c_size_t, c_uint8, c_uint32, c_uint64, c_void_p
 from typing import List, NamedTuple, Optional, Sequence, Tuple
 
-VERSION = 2
+VERSION = 3
 _FILE = "libbitstream.so.%d" % VERSION
 _DONE, _DIFFERENT, _REFUSED, _MEMORY, _TOO_LONG, _LIMITS, _ROOM, _CLOSED, _NAMES, _UNFIT = range(10)
 _TEXTS = {_TOO_LONG: "normal form longer than the limit", _LIMITS: "a limit is past its cap",
@@ -277,11 +277,10 @@ def magic(data, limits=None):
         _calls.bs_close(byref(handle))
 
 
-def events(data, limits=None):
-    """Yields the events of an input. If the input is refused, it yields those before the fault, and then raises Refused."""
-    handle, event, (given, length) = _Handle(), _Event(), _input(data)
+def _each(handle):
+    """Yields the events that a handle holds, and closes it."""
+    event = _Event()
     try:
-        _ask("bs_open", given, length, byref(limits or Limits()), byref(handle))
         while True:
             _ask("bs_next", byref(handle), byref(event))
             if not event.kind:
@@ -292,6 +291,13 @@ def events(data, limits=None):
             yield Event(kind, event.first, event.after, event.id, event.width, event.code, values, operands)
     finally:
         _calls.bs_close(byref(handle))
+
+
+def events(data, limits=None):
+    """Yields the events of an input. If the input is refused, it yields those before the fault, and then raises Refused."""
+    handle, (given, length) = _Handle(), _input(data)
+    _ask("bs_open", given, length, byref(limits or Limits()), byref(handle))
+    yield from _each(handle)
 
 
 def _numbers(given, bits):
@@ -340,6 +346,21 @@ class Input(_Open):
     def show(self, left_out=LeftOut(), limits=None):
         """The listing. The input is closed."""
         return self._text("bs_fed_show", left_out, limits).decode()
+
+    def events(self, limits=None):
+        """Yields the events, and closes the input. If it is refused, it yields those before the fault, and then raises Refused. If
+        its magic is refused, this call raises Refused, and the input stays."""
+        _ask("bs_fed_events", byref(self._handle), byref(limits or Limits()))
+        return self._events()
+
+    def _events(self):
+        yield from _each(self._handle)
+
+    def magic(self):
+        """The magic of the stream, while its events are read."""
+        found = _Magic()
+        _ask("bs_magic", byref(self._handle), byref(found))
+        return bytes(found.bytes)
 
     def _text(self, name, left_out, limits):
         _ask(name, byref(self._handle), byref(limits or Limits()), _left_out(left_out))

@@ -121,6 +121,7 @@ extern "C" {
     pub fn bs_fed_check(handle: &mut Handle, limits: &Limits, fault: &mut Fault) -> u32;
     pub fn bs_fed_normal(handle: &mut Handle, limits: &Limits, left_out: &LeftOut, fault: &mut Fault) -> u32;
     pub fn bs_fed_show(handle: &mut Handle, limits: &Limits, left_out: &LeftOut, fault: &mut Fault) -> u32;
+    pub fn bs_fed_events(handle: &mut Handle, limits: &Limits, fault: &mut Fault) -> u32;
     pub fn bs_write_open(magic: &Magic, limits: &Limits, handle: &mut Handle, fault: &mut Fault) -> u32;
     pub fn bs_write_enter(handle: &mut Handle, id: u32, fault: &mut Fault) -> u32;
     pub fn bs_write_record(handle: &mut Handle, code: u64, values: *const u64, values_len: usize, fault: &mut Fault) -> u32;

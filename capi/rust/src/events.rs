@@ -48,7 +48,12 @@ impl<'a> Events<'a> {
         // SAFETY: the bytes are borrowed as long as the handle is open.
         let status = unsafe { calls::bs_open(bytes.as_ptr(), bytes.len(), limits, &mut held.0, &mut fault) };
         ended(status, &fault)?;
-        Ok(Events { held, over: false, bytes: PhantomData })
+        Ok(Events::of(held))
+    }
+
+    /// The events that a handle holds.
+    pub(crate) fn of(held: Held) -> Events<'a> {
+        Events { held, over: false, bytes: PhantomData }
     }
 
     fn values(&mut self, count: usize) -> Result<Vec<u64>, Error> {

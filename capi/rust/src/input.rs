@@ -1,6 +1,6 @@
 //! An input in pieces.
 use crate::calls::{self, Fault};
-use crate::{ended, Error, Held, LeftOut, Limits, Text};
+use crate::{ended, Error, Events, Held, LeftOut, Limits, Text};
 use std::io;
 
 /// An input that comes in pieces, as by `std::io::copy`. All of it is kept.
@@ -46,6 +46,15 @@ impl Input {
         let status = unsafe { calls::bs_fed_show(&mut self.0 .0, limits, &left_out.passed(), &mut fault) };
         ended(status, &fault)?;
         Ok(Text(self.0))
+    }
+
+    /// The events. They own the pieces.
+    pub fn events(mut self, limits: &Limits) -> Result<Events<'static>, Error> {
+        let mut fault = Fault::default();
+        // SAFETY: as in `check`.
+        let status = unsafe { calls::bs_fed_events(&mut self.0 .0, limits, &mut fault) };
+        ended(status, &fault)?;
+        Ok(Events::of(self.0))
     }
 }
 

@@ -96,3 +96,22 @@ fn pieces() {
         assert_eq!(Ok(listing), show(&given, &limits, &whole));
     }
 }
+
+#[test]
+fn events_of_pieces() {
+    let (limits, given) = (Limits::default(), stream(30));
+    for end in [given.len(), given.len() - 4, 2] {
+        let whole: Result<Vec<_>, _> = Events::new(&given[..end], &limits).map(|events| events.collect());
+        for size in [1, 2, 3, 7, 4095] {
+            let mut input = Input::new().unwrap();
+            for piece in given[..end].chunks(size) {
+                input.feed(piece).unwrap();
+            }
+            let events = input.events(&limits);
+            assert_eq!(events.map(|events| events.collect()), whole);
+        }
+    }
+    let mut input = Input::new().unwrap();
+    input.feed(&given).unwrap();
+    assert_eq!(input.events(&limits).unwrap().magic(), *b"DIAG");
+}

@@ -7,3 +7,4 @@ pub mod Walks
 pub mod Written
 pub mod Told
 pub mod Fed
+pub mod Sources

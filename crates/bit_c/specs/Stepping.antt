@@ -7,7 +7,7 @@ use Rattle.bit_grammar.specs.declared.op.Op.TheVariants.{Literal, Fixed, Vbr, Ar
 use Rattle.bit_fields.specs.declared.fault.Fault.{Fault}
 use Rattle.bit_fields.specs.declared.fault.Fault.TheVariants.{Memory}
 use Rattle.bit_fields.specs.Opening.{magic_number}
-use Rattle.bit_fields.specs.Devices.{Incoming}
+use Rattle.bit_fields.specs.Devices.{Account}
 use Rattle.bit_events.specs.Coming.{Coming, Goes}
 use Rattle.bit_events.specs.Events.{Begun}
 use Rattle.bit_c.specs.declared.asking.BsMagicBytes.{BsMagicBytes}
@@ -15,12 +15,15 @@ use Rattle.bit_c.specs.declared.event.BsEvent.{BsEvent}
 use Rattle.bit_c.specs.declared.home.Home.{Home}
 use Rattle.bit_c.specs.declared.home.Home.TheVariants as home
 use Rattle.bit_c.specs.declared.home.Reading.{Reading}
+use Rattle.bit_c.specs.declared.input_bytes.Bytes.{Bytes}
 use Rattle.bit_c.specs.declared.operand.BsOperand.{BsOperand}
 use Rattle.bit_c.specs.declared.outcome.Outcome.{Outcome}
 use Rattle.bit_c.specs.declared.outcome.Outcome.TheVariants.{Done, Closed}
+use Rattle.bit_c.specs.Bytes.{ComesBack, bytes_in, whole}
 use Rattle.bit_c.specs.Calls.{FailsCall}
 use Rattle.bit_c.specs.Ending.{ended_by}
 use Rattle.bit_c.specs.Handing.{HandsOut, LeavesRoom}
+use Rattle.bit_c.specs.Limiting.{Within}
 
 -- an event as C sees it, or that none remains; fields that its kind does not have are 0
 abbrev pub event_told : Option Event → BsEvent
@@ -94,22 +97,46 @@ Gets old (Err fault) operands new = Goes old (Err fault) new
 
 -- ---- a handle
 
--- the bytes of a slice, from the first to the last
-abbrev pub whole : List ℕ → Incoming
-whole bytes = record { to_come = Some bytes; pulls = 0; failures = 0; accounts = [] }
+-- the events of the bytes were begun
+abbrev pub IsBegun : blocks.Limits → List ℕ → Reading → Type 0
+IsBegun limits bytes new = (new.fault ≡ None) × (new.operands.items ≡ [])
+    × ((accounts : List Account) × Begun limits (whole bytes accounts) new.events)
 
--- the events of the bytes were begun; or not, for this reason
-abbrev pub BeginsReading : blocks.Limits → List ℕ → Result Reading Outcome → Type 0
-BeginsReading limits bytes (Ok new) = (new.fault ≡ None) × (new.operands.items ≡ [])
-    × Begun limits (whole bytes) new.events
-BeginsReading limits bytes (Err outcome) = FailsCall limits bytes outcome
+-- the events of the bytes were begun; or not, for this reason, and owned bytes come back
+abbrev pub BeginsReading : blocks.Limits → Bytes → Result Reading (Outcome × Bytes) → Type 0
+BeginsReading limits bytes (Ok new) = IsBegun limits (bytes_in bytes) new
+BeginsReading limits bytes (Err why) = FailsCall limits (bytes_in bytes) why.0 × ComesBack bytes why.1
 
 -- The events of the bytes are begun in a handle; or the handle is closed, for this reason.
 abbrev pub OpensHandle : blocks.Limits → List ℕ → Option Reading → Outcome → Type 0
-OpensHandle limits bytes (Some new) Done = (new.fault ≡ None) × (new.operands.items ≡ [])
-    × Begun limits (whole bytes) new.events
+OpensHandle limits bytes (Some new) Done = IsBegun limits bytes new
 OpensHandle limits bytes (Some new) outcome = ⊥
 OpensHandle limits bytes None outcome = FailsCall limits bytes outcome
+
+-- the events of the bytes replaced the input; or not, for this reason, and the input has the same bytes
+abbrev pub ReplacesInput : blocks.Limits → List ℕ → Home → Outcome → Type 0
+ReplacesInput limits bytes (home.Reading new) Done = IsBegun limits bytes new
+ReplacesInput limits bytes (home.Input new) outcome = FailsCall limits bytes outcome
+    × (new.items ≡ bytes)
+ReplacesInput limits bytes new outcome = ⊥
+
+-- the same for an object that may be no input
+abbrev pub BeginsIn : blocks.Limits → Home → Home → Outcome → Type 0
+BeginsIn limits (home.Input bytes) new outcome = ReplacesInput limits bytes.items new outcome
+BeginsIn limits old new outcome = (outcome ≡ Closed) × (new ≡ old)
+
+-- the same with limits that may be past their caps
+abbrev pub BeginsWithin : blocks.Limits → Home → Home → Outcome → Type 0
+BeginsWithin limits (home.Input bytes) new outcome = Within limits (new ≡ home.Input bytes)
+    (ReplacesInput limits bytes.items new) outcome
+BeginsWithin limits old new outcome = (outcome ≡ Closed) × (new ≡ old)
+
+-- The events of the input that a handle gathers were begun, and replaced the input; or not, for this reason, and the input has the
+-- same bytes; or the handle gathers none, the outcome reports that, and the handle is unchanged.
+abbrev pub BeginsFed : blocks.Limits → Option Home → Option Home → Outcome → Type 0
+BeginsFed limits (Some old) (Some new) outcome = BeginsWithin limits old new outcome
+BeginsFed limits None None outcome = outcome ≡ Closed
+BeginsFed limits old new outcome = ⊥
 
 -- the result of a call for the next event was set, and a fault is kept
 abbrev pub KeepsAnswer : (old : Reading) → (before : BsEvent) → Result BsEvent Fault → Reading

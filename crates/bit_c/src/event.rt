@@ -4,9 +4,10 @@ ghost use Rattle.std.specs.Prelude.{◌≡◌, None, Some};
 ghost use Rattle.bit_events.specs.EventView.{event_shown};
 ghost use Rattle.bit_c.specs.Stepping.{Gets, event_told};
 
+use crate::input_bytes::BytesSource;
 use crate::operand::{BsOperand, put_operands};
 use bit_events::{Event, Events};
-use bit_fields::{Fault, SliceSource};
+use bit_fields::Fault;
 use std::alloc::AllocError;
 
 const OVER: u32 = 0;
@@ -104,7 +105,7 @@ fn event_of(event: Event<'_>) -> BsEvent
 
 /// The next event as C sees it. The operands of a definition replace the earlier ones.
 pub(crate) fn next_of(
-    events: &mut Events<SliceSource<'static>>,
+    events: &mut Events<BytesSource>,
     operands: &mut Vec<BsOperand>,
 ) -> Result<BsEvent, Fault>
     ensures { Gets events.old result operands.new.items events.new }

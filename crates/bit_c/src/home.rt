@@ -1,14 +1,16 @@
 //! The object that a handle owns.
 
+use crate::input_bytes::BytesSource;
 use crate::operand::BsOperand;
 use bit_events::Events;
-use bit_fields::{Fault, SliceSource};
+use bit_fields::Fault;
 use bit_norm::FormWriter;
+use std::alloc::Global;
 
-/// The events of bytes that do not move, their fault, and the operands of the event returned last.
+/// The events of bytes, their fault, and the operands of the event returned last.
 #[derive(Drop)]
 pub struct Reading {
-    pub(crate) events: Events<SliceSource<'static>>,
+    pub(crate) events: Events<BytesSource>,
     pub(crate) fault: Option<Fault>,
     pub(crate) operands: Vec<BsOperand>,
 }
@@ -27,4 +29,12 @@ pub enum Home {
     Text(HeldText),
     Writing(FormWriter),
     Input(Vec<u8>),
+}
+
+/// A text of no bytes.
+pub(crate) fn no_text(alloc: Global) -> Home {
+    Home::Text(HeldText {
+        text: Vec::new(alloc),
+        taken: 0,
+    })
 }

@@ -2,8 +2,8 @@
 //! and for a refusal the reason, the bit and the input. The obligations of a C caller are in `capi/bitstream.h`.
 //!
 //! An export calls a function that returns an `Outcome`, and `Outcome::tell` makes the status and the fault of it. Below it one
-//! function checks the limits and names, one calls the crates below on a `SliceSource`, and one hands out the result. Each has
-//! one relation in `specs/`. Only numbers, `bool`, slices and `repr(C)` structs cross the border.
+//! function checks the limits and names, one calls the crates below on a `SliceSource` (for events on a `BytesSource`), and one hands
+//! out the result. Each has one relation in `specs/`. Only numbers, `bool`, slices and `repr(C)` structs cross the border.
 //!
 //! A handle owns a `Home`: the events of bytes, a text, the writer of a tree, or the pieces of an input. A `BsHandle` is a flag and
 //! an `Inner`, a pointer whose type is erased. Its object is a ghost field tied to memory by `also_owns`. `Parts` takes a box
@@ -22,6 +22,7 @@ mod handle;
 mod holding;
 mod home;
 mod inner;
+mod input_bytes;
 mod left_out;
 mod limits;
 mod operand;
@@ -51,7 +52,7 @@ pub use left_out::{BsLeftOut, BsRecordName};
 pub use limits::{BsLimits, bs_usual_limits};
 pub use operand::BsOperand;
 pub use outcome::BsFault;
-pub use reading::{bs_close, bs_next, bs_open};
+pub use reading::{bs_close, bs_fed_events, bs_next, bs_open};
 pub use reasons::{bs_reason_name, bs_version};
 pub use taking::bs_take;
 pub use telling::{

@@ -4,28 +4,30 @@ ghost use Rattle.std.specs.Prelude.{◌≡◌, None};
 ghost use Rattle.bit_c.specs.Ending.{EndsCall};
 ghost use Rattle.bit_c.specs.Limiting.{Within, limits_told};
 ghost use Rattle.bit_c.specs.Opened.{reading_of};
-ghost use Rattle.bit_c.specs.Stepping.{BeginsReading, Nexts, NextsIn, OpensHandle, StepsReading};
+ghost use Rattle.bit_c.specs.Stepping.{BeginsFed, BeginsIn, BeginsReading, BeginsWithin, Nexts, NextsIn, OpensHandle, StepsReading};
 
 use crate::event::{BsEvent, next_of};
 use crate::handle::{BsHandle, handle_of, take_out};
-use crate::home::{Home, Reading};
+use crate::home::{Home, Reading, no_text};
+use crate::input_bytes::{Bytes, BytesSource};
 use crate::limits::BsLimits;
 use crate::outcome::{BsFault, Outcome};
 use bit_events::Events;
-use bit_fields::{Limits, SliceSource};
+use bit_fields::Limits;
 use std::alloc::Global;
+use std::mem;
 
-/// Begins the events of bytes.
-fn begin(alloc: Global, bytes: &'static [u8], limits: Limits) -> Result<Reading, Outcome>
-    ensures { BeginsReading limits bytes.now result }
+/// Begins the events of bytes. If that fails, it returns the bytes.
+fn begin(alloc: Global, bytes: Bytes, limits: Limits) -> Result<Reading, (Outcome, Bytes)>
+    ensures { BeginsReading limits bytes result }
 {
-    match Events::start(alloc, SliceSource::new(bytes), limits) {
+    match Events::start(alloc, BytesSource::new(bytes), limits) {
         Ok(events) => Ok(Reading {
             events,
             fault: None,
             operands: Vec::new(alloc),
         }),
-        Err((fault, _)) => Err(Outcome::of(0, fault)),
+        Err((fault, source)) => Err((Outcome::of(0, fault), source.into_bytes())),
     }
 }
 
@@ -34,9 +36,9 @@ fn open_at(alloc: Global, bytes: &'static [u8], limits: Limits, handle: &mut BsH
     requires { handle.old.inner.home ≡ None }
     ensures { OpensHandle limits bytes.now (reading_of handle.new.inner.home) result }
 {
-    let reading = match begin(alloc, bytes, limits) {
+    let reading = match begin(alloc, Bytes::Lent(bytes), limits) {
         Ok(reading) => reading,
-        Err(outcome) => return outcome,
+        Err((outcome, _)) => return outcome,
     };
     match Box::new(alloc, Home::Reading(reading)) {
         Ok(home) => {
@@ -78,6 +80,72 @@ pub extern "C" fn bs_open(
         in EndsCall result fault.new (Within l (new ≡ None) (OpensHandle l bytes.now new)) }
 {
     open_within(alloc, bytes, limits, handle).tell(fault)
+}
+
+/// Replaces the input of a handle's object with its events.
+fn begin_in(alloc: Global, home: &mut Home, limits: Limits) -> Outcome
+    ensures { BeginsIn limits home.old home.new result }
+{
+    match mem::replace(home, no_text(alloc)) {
+        Home::Input(bytes) => match begin(alloc, Bytes::Owned(bytes), limits) {
+            Ok(reading) => {
+                *home = Home::Reading(reading);
+                Outcome::Done
+            }
+            Err((outcome, Bytes::Owned(bytes))) => {
+                *home = Home::Input(bytes);
+                outcome
+            }
+            // Owned bytes come back as owned ones.
+            Err((outcome, Bytes::Lent(_))) => outcome,
+        },
+        other => {
+            *home = other;
+            Outcome::Closed
+        }
+    }
+}
+
+/// The same with limits that may be past their caps.
+fn begin_within(alloc: Global, home: &mut Home, limits: &BsLimits) -> Outcome
+    ensures { BeginsWithin (limits_told limits.now) home.old home.new result }
+{
+    let Some(limits) = limits.to_limits() else {
+        return match home {
+            Home::Input(_) => Outcome::Limits,
+            Home::Reading(_) | Home::Text(_) | Home::Writing(_) => Outcome::Closed,
+        };
+    };
+    begin_in(alloc, home, limits)
+}
+
+/// The same for a handle.
+fn begin_of(alloc: Global, handle: &mut BsHandle, limits: &BsLimits) -> Outcome
+    ensures { BeginsFed (limits_told limits.now) handle.old.inner.home handle.new.inner.home result }
+{
+    match take_out(alloc, handle) {
+        Some(mut home) => {
+            let outcome = begin_within(alloc, &mut home, limits);
+            *handle = handle_of(home);
+            outcome
+        }
+        None => Outcome::Closed,
+    }
+}
+
+/// Begins the events of the input that a handle gathered. The handle then holds them instead of the input. If that fails, the input
+/// stays.
+#[unsafe(no_mangle)]
+pub extern "C" fn bs_fed_events(
+    alloc: Global,
+    handle: &mut BsHandle,
+    limits: &BsLimits,
+    fault: &mut BsFault,
+) -> u32
+    ensures { EndsCall result fault.new
+        (BeginsFed (limits_told limits.now) handle.old.inner.home handle.new.inner.home) }
+{
+    begin_of(alloc, handle, limits).tell(fault)
 }
 
 /// The next event of events, or their fault.

@@ -8,9 +8,9 @@ use bit_fields::Reason;
 /// The version of these calls, structures and numbers: `BS_VERSION` of `capi/bitstream.h`.
 #[unsafe(no_mangle)]
 pub extern "C" fn bs_version() -> u32
-    ensures { result ≡ 2 }
+    ensures { result ≡ 3 }
 {
-    2
+    3
 }
 
 /// The reason with this number.

@@ -8,7 +8,7 @@ ghost use Rattle.bit_c.specs.Telling.{EndsHandle, EndsIn, EndsWriter, MakesForm,
 
 use crate::asking::BsMagicBytes;
 use crate::handle::{BsHandle, handle_of, take_out};
-use crate::home::{HeldText, Home};
+use crate::home::{HeldText, Home, no_text};
 use crate::limits::BsLimits;
 use crate::outcome::{BsFault, Outcome};
 use crate::room_sink::{RoomSink, kept_of};
@@ -179,14 +179,6 @@ fn end_writer(alloc: Global, writer: FormWriter) -> (Outcome, Home)
         Ok(text) => (Outcome::Done, Home::Text(HeldText { text, taken: 0 })),
         Err(outcome) => (outcome, no_text(alloc)),
     }
-}
-
-/// A text of no bytes.
-fn no_text(alloc: Global) -> Home {
-    Home::Text(HeldText {
-        text: Vec::new(alloc),
-        taken: 0,
-    })
 }
 
 /// Ends the object of a handle.

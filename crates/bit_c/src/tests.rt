@@ -6,10 +6,10 @@ use crate::handle::closed_handle;
 use crate::{
     BsBlockRow, BsCodeRow, BsEvent, BsFault, BsHandle, BsLeftOut, BsLimits, BsMagicBytes,
     BsOpenBlock, BsOperand, BsRecordName, BsTally, bs_analyse, bs_check, bs_close, bs_fed_analyse,
-    bs_fed_check, bs_fed_normal, bs_fed_show, bs_feed, bs_first_difference, bs_hold_normal,
-    bs_hold_report, bs_hold_show, bs_magic, bs_next, bs_normal, bs_open, bs_operands, bs_report,
-    bs_same, bs_show, bs_take, bs_text, bs_usual_limits, bs_values, bs_write_enter,
-    bs_write_finish, bs_write_leave, bs_write_open, bs_write_record,
+    bs_fed_check, bs_fed_events, bs_fed_normal, bs_fed_show, bs_feed, bs_first_difference,
+    bs_hold_normal, bs_hold_report, bs_hold_show, bs_magic, bs_next, bs_normal, bs_open,
+    bs_operands, bs_report, bs_same, bs_show, bs_take, bs_text, bs_usual_limits, bs_values,
+    bs_write_enter, bs_write_finish, bs_write_leave, bs_write_open, bs_write_record,
 };
 use std::alloc::Global;
 
@@ -293,5 +293,29 @@ fn what_is_fed(rt: HostRuntime) {
     assert!(rt; statuses == [0, 2, 0, 0, 6, 0, 7]);
     let text = bs_text(rt.alloc(), &mut handle, &mut room, &mut needed, &mut fault);
     assert!(rt; text == 0 && needed == 16 && room == THIRTY);
+    bs_close(rt.alloc(), &mut handle);
+}
+
+/// Begins the events of an input in two pieces, before the second and after it, and feeds it more.
+fn begun_events(alloc: Global, handle: &mut BsHandle) -> [u32; 5] {
+    let (limits, mut fault) = (usual(), NO_FAULT);
+    [
+        bs_feed(alloc, handle, &THIRTY[..3], &mut fault),
+        bs_fed_events(alloc, handle, &limits, &mut fault),
+        bs_feed(alloc, handle, &THIRTY[3..], &mut fault),
+        bs_fed_events(alloc, handle, &limits, &mut fault),
+        bs_feed(alloc, handle, &THIRTY, &mut fault),
+    ]
+}
+
+#[test]
+fn what_is_read_of_pieces(rt: HostRuntime) {
+    let (mut handle, _) = closed_handle(rt.alloc());
+    let (mut fault, mut room, mut needed) = (NO_FAULT, [0; 1], 0);
+    let statuses = begun_events(rt.alloc(), &mut handle);
+    assert!(rt; statuses == [0, 2, 0, 0, 7]);
+    let first = [next(rt.alloc(), &mut handle), next(rt.alloc(), &mut handle)];
+    let values = bs_values(rt.alloc(), &mut handle, &mut room, &mut needed, &mut fault);
+    assert!(rt; first == [(0, 1, 0), (0, 3, 1)] && values == 0 && room == [30]);
     bs_close(rt.alloc(), &mut handle);
 }
