@@ -16,3 +16,4 @@ pub mod Building
 pub mod Forms
 pub mod Told
 pub mod Telling
+pub mod Calls

@@ -5,3 +5,4 @@ pub mod Entries
 pub mod Writing
 pub mod Told
 pub mod Telling
+pub mod Calls

@@ -37,6 +37,7 @@ mod sign;
 #[cfg(test)]
 mod tests;
 mod walk;
+mod writer_laws;
 mod writing;
 
 pub use bit_grammar::{normal_once, normal_spelled};
@@ -47,4 +48,5 @@ pub use differences::{Difference, OpenBlock, Place, Standing, ValueDifference, W
 pub use form_writer::{FormWriter, Untold};
 pub use lengths::normal_len;
 pub use normalising::normalise;
+pub use writer_laws::calls_of_trees;
 pub use writing::write_normal;
