@@ -1,0 +1,5 @@
+pub mod Decimals
+pub mod Spelling
+pub mod Takings
+pub mod Tellings
+pub mod Written

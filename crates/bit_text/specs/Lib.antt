@@ -1,0 +1,5 @@
+pub mod Assembling
+pub mod Lines
+pub mod Listings
+pub mod Numbers
+pub mod Stops
