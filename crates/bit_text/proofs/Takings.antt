@@ -1,8 +1,9 @@
 -- A text that comes in pieces.
-use Rattle.std.proofs.Common.{◌≡◌, refl, ℕ, ◌+◌, ◌<◌, ◌≤◌, nat_eq, List, [], ◌∷◌, ◌++◌, length, drop, get_or, Option, Some, None, Result, Ok, Err, if◌then◌else◌, sym, ◌∙◌, ap, subst, arith, append_assoc}
+use Rattle.std.proofs.Common.{◌≡◌, refl, false, ℕ, ◌+◌, ◌<◌, ◌≤◌, nat_eq, List, [], ◌∷◌, ◌++◌, length, drop, get_or, Option, Some, None, Result, Ok, Err, if◌then◌else◌, sym, ◌∙◌, ap, subst, arith, append_assoc}
 use Rattle.std.proofs.lemmas.List.{at_drop_more, at_drop_all}
 use Rattle.std.specs.Io.KnownBytes.{Consumes}
 use Rattle.std.proofs.KnownBytes.{Consumes-trans}
+use Rattle.std.specs.Result.{is_err, is_ok}
 use Rattle.bit_grammar.specs.Blocks.{Limits}
 use Rattle.bit_grammar.specs.Forest.{Tree}
 use Rattle.bit_fields.specs.Devices.{Incoming, Gave}
@@ -53,12 +54,16 @@ outlook_ended a b later rest limits number line = rw (limits, number, line) refl
 pub far_line : (now : Standing) (bytes : List ℕ) (i : ℕ) (first a b : Assembler) → i < length bytes → get_or bytes i 0 ≡ 10
     → ((n : Standing) → IsAt a.limits n a.writer → EndsLine a (after_line a.limits n a.line.items) (Ok tt) b) → Far now bytes i first a → Far now bytes (i + 1) first b
 far_line now bytes i first a b k same ends far =
-    let e = ends far.0 far.1 in
-    (e.0, e.2, e.3 ∙ far.2, λ rest.
-    far.3 rest
-    ∙ ap (lines_read a.limits a.number far.0) (cut_line a.line.items bytes rest i k same)
-    ∙ line_read a.limits a.number far.0 e.0 a.line.items (parts_after 10 [] (drop (i + 1) bytes ++ rest)) e.1
-    ∙ outlook_ended a b e.0 (drop (i + 1) bytes ++ rest) e.3 e.4 e.5)
+    let e = ends far.0 far.1 in (
+      e.0,
+      e.2,
+      e.3 ∙ far.2,
+      λ rest.
+          far.3 rest
+          ∙ ap (lines_read a.limits a.number far.0) (cut_line a.line.items bytes rest i k same)
+          ∙ line_read a.limits a.number far.0 e.0 a.line.items (parts_after 10 [] (drop (i + 1) bytes ++ rest)) e.1
+          ∙ outlook_ended a b e.0 (drop (i + 1) bytes ++ rest) e.3 e.4 e.5,
+    )
 
 pub far_byte : (now : Standing) (bytes : List ℕ) (i : ℕ) (first a b : Assembler) → i < length bytes → (get_or bytes i 0 ≡ 10 → ⊥) → b.limits ≡ a.limits → b.number ≡ a.number → b.writer ≡ a.writer
     → b.line.items ≡ a.line.items ++ get_or bytes i 0 ∷ [] → Far now bytes i first a → Far now bytes (i + 1) first b
@@ -97,3 +102,7 @@ takes_both now text more first a b (Err (FaultOf fault)) front behind = behind f
 
 pub takes_none : (now : Standing) (a : Assembler) → IsAt a.limits now a.writer → TakesBytes now [] a (Ok tt) a
 takes_none now a here = (now, here, refl, λ rest. refl)
+
+pub pushed : {E : Type 0} (r : Result (Unit {0}) E) (old new : List ℕ) (b : ℕ) → is_err r ≡ false → new ≡ (if is_ok r then old ++ b ∷ [] else old) → new ≡ old ++ b ∷ []
+pushed (Ok x) old new b h items = items
+pushed (Err e) old new b h items = absurd cc

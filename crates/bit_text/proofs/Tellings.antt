@@ -1,5 +1,5 @@
 -- What a writer is told of a listing.
-use Rattle.std.proofs.Common.{◌≡◌, refl, ℕ, ◌+◌, ◌-◌, ◌/◌, ◌%◌, ◌<◌, ◌≤◌, Bool, true, false, nat_eq, nat_lt, List, [], ◌∷◌, ◌++◌, length, take, drop, replicate, Option, Some, None, Result, Ok, Err, if◌then◌else◌, sym, ◌∙◌, ap, subst, inl, inr, arith, append_assoc, append-nil}
+use Rattle.std.proofs.Common.{◌≡◌, refl, ℕ, zero, suc, ◌+◌, ◌-◌, ◌/◌, ◌%◌, ◌<◌, ◌≤◌, Bool, true, false, nat_eq, nat_lt, List, [], ◌∷◌, ◌++◌, length, take, drop, replicate, Option, Some, None, Result, Ok, Err, if◌then◌else◌, sym, ◌∙◌, ap, subst, inl, inr, arith, append_assoc, append-nil}
 use Rattle.std.proofs.lemmas.List.{replicate_more, take_rest}
 use Rattle.std.proofs.lemmas.Bool.{cases_lt}
 use Rattle.std.proofs.lemmas.Bool.Decides.{nat_tests}
@@ -51,7 +51,7 @@ too_far_in limits w spaces call h = rw (is_below w.depth (spaces / 2) h) refl
 pub odd_spaces : (limits : Limits) (w : Where) (spaces : ℕ) (call : Call) → spaces / 2 ≤ w.depth → (spaces % 2 ≡ 0 → ⊥) → item_calls limits w spaces call ≡ Err BadIndentation
 odd_spaces limits w spaces call h odd = rw (not_below w.depth (spaces / 2) h, other_byte (spaces % 2) 0 odd) refl
 
-at_level : (limits : Limits) (w : Where) (spaces : ℕ) (call : Call) → spaces / 2 ≤ w.depth → spaces % 2 ≡ 0 → item_calls limits w spaces call ≡ if_last_fits limits w (ends_before w spaces) call
+pub at_level : (limits : Limits) (w : Where) (spaces : ℕ) (call : Call) → spaces / 2 ≤ w.depth → spaces % 2 ≡ 0 → item_calls limits w spaces call ≡ if_last_fits limits w (ends_before w spaces) call
 at_level limits w spaces call h even = rw (not_below w.depth (spaces / 2) h, same_byte (spaces % 2) 0 even) refl
 
 -- where a writer is after the ends before an item
@@ -114,6 +114,24 @@ all_ended limits magic calls level counter depth old new here above within far s
     elim (cases_lt level depth) [ inl k ↦ (let w = within (omega (arith, k)) in omega (arith, deep, here, above, far, w)) | inr k ↦ (let e = start k in omega (arith, deep, here, e, k)) ] in
     subst (λ (n : ℕ). IsTold limits magic (calls ++ replicate n ends) new) same told
 
+pub depth_ended : (k : ℕ) (w : Where) → (where_after (replicate k ends) w).depth ≡ w.depth - k
+depth_ended zero w = omega arith
+depth_ended (suc k) w = depth_ended k (after_call ends w) ∙ (let less : w.depth - 1 - k ≡ w.depth - suc k = omega arith in less)
+
+-- all open blocks are ended
+pub told_closed : (limits : Limits) (magic : List ℕ) (calls : List Call) (w : FormWriter) → IsTold limits magic (calls ++ replicate ((where_after calls at_top).depth - 0) ends) w → IsTold limits magic (calls ++ replicate (where_after calls at_top).depth ends) w
+told_closed limits magic calls w was =
+    let same : (where_after calls at_top).depth - 0 ≡ (where_after calls at_top).depth = omega arith in
+    subst (λ (n : ℕ). IsTold limits magic (calls ++ replicate n ends) w) same was
+
+pub none_open : (limits : Limits) (magic : List ℕ) (calls : List Call) (w : FormWriter) → IsTold limits magic (calls ++ replicate (where_after calls at_top).depth ends) w → (place_of w).depth ≡ 0
+none_open limits magic calls w was =
+    let d = (where_after calls at_top).depth in
+    sym (depth_told limits magic (calls ++ replicate d ends) w was)
+    ∙ ap (λ (p : Where). p.depth) (where_append calls (replicate d ends) at_top)
+    ∙ depth_ended d (where_after calls at_top)
+    ∙ (let none : d - d ≡ 0 = omega arith in none)
+
 -- ---- a line
 
 pub content_is : (line : List ℕ) (count : ℕ) → count ≡ spaces line → take (length line - count) (drop count line) ≡ content line
@@ -125,7 +143,7 @@ free_line limits now line text w is free here =
     (now, ap (λ (b : Bool). if b then Ok now else said limits now line) f, here)
 
 -- a line that is not free says something
-says : (limits : Limits) (now : Standing) (line text : List ℕ) → text ≡ content line → is_free text ≡ false → after_line limits now line ≡ said limits now line
+pub says : (limits : Limits) (now : Standing) (line text : List ℕ) → text ≡ content line → is_free text ≡ false → after_line limits now line ≡ said limits now line
 says limits now line text is other = ap (λ (b : Bool). if b then Ok now else said limits now line) (ap is_free (sym is) ∙ other)
 
 item_line_at : (limits : Limits) (magic : List ℕ) (calls : List Call) (now : Result Standing TextReason) (wanted : Result (List Call) TextReason) (r : Result (Unit {0}) Stop) (new : FormWriter)

@@ -1,5 +1,5 @@
 -- The effect of assembling a text.
-use Rattle.std.specs.Prelude.{◌≡◌, ℕ, ◌<◌, ◌⊎◌, List, [], ◌∷◌, ◌++◌, Result, Ok, Err}
+use Rattle.std.specs.Prelude.{◌≡◌, ℕ, ◌+◌, ◌⊎◌, List, [], ◌∷◌, ◌++◌, Result, Ok, Err}
 use Rattle.std.specs.Io.KnownBytes.{Consumes, IsAtEnd}
 use Rattle.bit_grammar.specs.Blocks.{Limits}
 use Rattle.bit_grammar.specs.Forest.{Tree}
@@ -75,9 +75,9 @@ pub record TookAll (text : List ℕ) (old new : Incoming) : Type 0 where
   pub took : Took text old new
   pub end : IsAtEnd new.to_come
 
--- it failed, or its counter is exhausted
+-- it failed once, or its counter is exhausted
 abbrev pub HasFailed : Incoming → Incoming → Type 0
-HasFailed old new = (old.failures < new.failures) ⊎ IsWorn new
+HasFailed old new = (new.failures ≡ old.failures + 1) ⊎ IsWorn new
 
 -- All bytes of a source were read; or a line was refused, whatever follows; or the source or an allocation failed.
 abbrev pub TakesAll : Standing → Incoming → Assembler → Result (Unit {0}) AssembleFault → Incoming
@@ -87,7 +87,7 @@ TakesAll now i old (Ok _) later new = (text : List ℕ) × TookAll text i later
 TakesAll now i old (Err (Refused reason line)) later new = (text : List ℕ) × Took text i later
     × TakesBytes now text old (Err (Refused reason line)) new
 TakesAll now i old (Err (FaultOf Read)) later new = HasFailed i later
-TakesAll now i old (Err (FaultOf Memory)) later new = Unit {0}
+TakesAll now i old (Err (FaultOf Memory)) later new = later.failures ≡ i.failures
 TakesAll now i old (Err (FaultOf Write)) later new = ⊥
 TakesAll now i old (Err (FaultOf OutputTooLong)) later new = ⊥
 TakesAll now i old (Err (FaultOf Failed)) later new = ⊥
@@ -119,6 +119,7 @@ Assembles limits i old (Err (FaultOf Write)) later new = ReadsAndFinishes limits
 Assembles limits i old (Err (FaultOf OutputTooLong)) later new = ReadsAndFinishes limits i old
     (Err (FaultOf OutputTooLong)) later new
 Assembles limits i old (Err (FaultOf Read)) later new = HasFailed i later × (new ≡ old)
-Assembles limits i old (Err (FaultOf Memory)) later new = new ≡ old
+Assembles limits i old (Err (FaultOf Memory)) later new = (later.failures ≡ i.failures)
+    × (new ≡ old)
 Assembles limits i old (Err (FaultOf Failed)) later new = ⊥
 Assembles limits i old (Err (FaultOf (RefusedBits reason bit))) later new = ⊥

@@ -26,7 +26,10 @@ fn give<K: Sink>(mut writer: FormWriter, sink: K) -> (Result<u64, AssembleFault>
         return (Err(AssembleFault::Fault(Fault::Failed)), sink);
     }
     let (written, sink) = writer.finish(sink);
-    (written.map_err(AssembleFault::Fault), sink)
+    match written {
+        Ok(count) => (Ok(count), sink),
+        Err(fault) => (Err(AssembleFault::Fault(fault)), sink),
+    }
 }
 
 /// Reads a text piece by piece. It holds the form of the lines so far, the beginning of the next line, and the numbers of a line.

@@ -9,6 +9,7 @@
 mod assembler;
 mod assembling;
 mod fault;
+mod laws;
 mod line;
 mod numbers;
 mod reason;
@@ -18,4 +19,5 @@ mod tests;
 
 pub use assembling::assemble;
 pub use fault::AssembleFault;
+pub use laws::listing_spells;
 pub use reason::TextReason;

@@ -45,8 +45,7 @@ fn no_blocks(rt: HostRuntime) {
 }
 
 /// Blocks in blocks, which end where an item is further out.
-const NESTED: &str =
-    "magic 4243c0de
+const NESTED: &str = "magic 4243c0de
 block 1
   block 0
     record 1 7
@@ -66,32 +65,87 @@ static REFUSED: [(&str, TextReason, u64); 28] = [
     ("magic 4243c0d\n", TextReason::NoMagic, 1),
     ("magic 4243c0de \n", TextReason::NoMagic, 1),
     ("#\nmagic dec0170b\n", TextReason::WrapperMagic, 2),
-    ("magic 4243c0de\n#\nmagic 4243c0de\n", TextReason::BadLine, 3),
+    (
+        "magic 4243c0de\n#\nmagic 4243c0de\n",
+        TextReason::BadLine,
+        3,
+    ),
     ("magic 4243c0de\nblock\n", TextReason::BadLine, 2),
     ("magic 4243c0de\nblock 8 9\n", TextReason::BadLine, 2),
     ("magic 4243c0de\nblock 8\r\n", TextReason::BadLine, 2),
-    ("magic 4243c0de\nblock 8\n  record 1  2\n", TextReason::BadLine, 3),
-    ("magic 4243c0de\nblock 8\n  record 1 0x\n", TextReason::BadLine, 3),
-    ("magic 4243c0de\nblock 8\n  record 1 2 # x\n", TextReason::BadLine, 3),
-    ("magic 4243c0de\nblock 4294967296\n", TextReason::NumberTooLarge, 2),
-    ("magic 4243c0de\nblock 8\n  record 18446744073709551616\n", TextReason::NumberTooLarge, 3),
+    (
+        "magic 4243c0de\nblock 8\n  record 1  2\n",
+        TextReason::BadLine,
+        3,
+    ),
+    (
+        "magic 4243c0de\nblock 8\n  record 1 0x\n",
+        TextReason::BadLine,
+        3,
+    ),
+    (
+        "magic 4243c0de\nblock 8\n  record 1 2 # x\n",
+        TextReason::BadLine,
+        3,
+    ),
+    (
+        "magic 4243c0de\nblock 4294967296\n",
+        TextReason::NumberTooLarge,
+        2,
+    ),
+    (
+        "magic 4243c0de\nblock 8\n  record 18446744073709551616\n",
+        TextReason::NumberTooLarge,
+        3,
+    ),
     ("magic 4243c0de\n block 8\n", TextReason::BadIndentation, 2),
     ("magic 4243c0de\n  block 8\n", TextReason::BadIndentation, 2),
-    ("magic 4243c0de\nblock 8\n   record 1\n", TextReason::BadIndentation, 3),
+    (
+        "magic 4243c0de\nblock 8\n   record 1\n",
+        TextReason::BadIndentation,
+        3,
+    ),
     ("magic 4243c0de\nrecord 1\n", TextReason::Misplaced, 2),
-    ("magic 4243c0de\nblock 0\n  record 2 7\n", TextReason::Misplaced, 3),
-    ("magic 4243c0de\nblock 0\n  record 1\n", TextReason::Misplaced, 3),
-    ("magic 4243c0de\nblock 0\n  block 8\n", TextReason::Misplaced, 3),
-    ("magic 4243c0de\nblock 1\n  block 1\n    block 1\n", TextReason::TooDeep, 4),
-    ("magic 4243c0de\nblock 1\n  record 1 2 3\n  record 1 2 3\n", TextReason::TooManyValues, 4),
-    ("magic 4243c0de\nblock 1\n  record 1 2 3 4 5", TextReason::TooManyValues, 3),
+    (
+        "magic 4243c0de\nblock 0\n  record 2 7\n",
+        TextReason::Misplaced,
+        3,
+    ),
+    (
+        "magic 4243c0de\nblock 0\n  record 1\n",
+        TextReason::Misplaced,
+        3,
+    ),
+    (
+        "magic 4243c0de\nblock 0\n  block 8\n",
+        TextReason::Misplaced,
+        3,
+    ),
+    (
+        "magic 4243c0de\nblock 1\n  block 1\n    block 1\n",
+        TextReason::TooDeep,
+        4,
+    ),
+    (
+        "magic 4243c0de\nblock 1\n  record 1 2 3\n  record 1 2 3\n",
+        TextReason::TooManyValues,
+        4,
+    ),
+    (
+        "magic 4243c0de\nblock 1\n  record 1 2 3 4 5",
+        TextReason::TooManyValues,
+        3,
+    ),
 ];
 
 #[test]
 fn refused(rt: HostRuntime) {
     for (text, reason, line) in REFUSED.iter() {
         let (answer, sink) = assembled(&rt, rt.alloc(), text, 100);
-        let wanted = AssembleFault::Refused { reason: *reason, line: *line };
+        let wanted = AssembleFault::Refused {
+            reason: *reason,
+            line: *line,
+        };
         assert!(rt; answer == Err(wanted) && sink.bytes().is_empty());
     }
 }
@@ -129,4 +183,14 @@ fn too_long(rt: HostRuntime) {
     let (answer, sink) = assembled(&rt, rt.alloc(), SPELLINGS[0], 15);
     let wanted = AssembleFault::Fault(Fault::OutputTooLong);
     assert!(rt; answer == Err(wanted) && sink.bytes().is_empty());
+}
+
+#[test]
+fn shown(rt: HostRuntime) {
+    let (answer, _) = assembled(&rt, rt.alloc(), "magic 4243c0de\nblock\n", 100);
+    let text = match answer {
+        Ok(_) => String::new(rt.alloc()),
+        Err(fault) => format!(in rt.alloc(); "{fault}").expect(&rt, "memory"),
+    };
+    assert!(rt; text.as_str() == "refused: BadLine at line 2");
 }

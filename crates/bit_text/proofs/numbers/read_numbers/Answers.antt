@@ -12,12 +12,12 @@ returns-in_err-add_number c =
 pub loop-i-preserved : goal.loop-i-preserved
 loop-i-preserved c =
     elim c.if-b-eq32.branch [
-    then-b-eq32+in_ok-add_number w ↦ rw (w.from-is, w.numbers-is) (record {
-      within = omega arith;
-      far = word_read c.args.text.now c.loop-i.numbers.items w.add_number.new.numbers.items c.loop-i.from c.loop-i.i c.loop-i-test.true w.if-b-eq32.true w.in_ok-add_number.ensures c.loop-i.invariant.far;
-    })
-    | else-b-eq32 w ↦ rw (w.from-is, w.numbers-is) (record {
-      within = omega arith;
-      far = word_goes_on c.args.text.now c.loop-i.numbers.items c.loop-i.from c.loop-i.i c.loop-i.invariant.within c.loop-i-test.true w.if-b-eq32.false c.loop-i.invariant.far;
-    })
+      | then-b-eq32+in_ok-add_number w ↦ rw (w.from-is, w.numbers-is) (record {
+        within = omega arith;
+        far = word_read c.args.text.now c.loop-i.numbers.items w.add_number.new.numbers.items c.loop-i.from c.loop-i.i c.loop-i-test.true w.if-b-eq32.true w.in_ok-add_number.ensures c.loop-i.invariant.far;
+      })
+      | else-b-eq32 w ↦ rw (w.from-is, w.numbers-is) (record {
+        within = omega arith;
+        far = word_goes_on c.args.text.now c.loop-i.numbers.items c.loop-i.from c.loop-i.i c.loop-i.invariant.within c.loop-i-test.true w.if-b-eq32.false c.loop-i.invariant.far;
+      })
     ]
