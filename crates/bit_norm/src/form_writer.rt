@@ -216,6 +216,20 @@ impl FormWriter {
         }
     }
 
+    /// How many blocks are open.
+    pub fn depth(&self) -> u32
+        ensures { result ≡ (place_of self.now).depth }
+    {
+        self.depth
+    }
+
+    /// How many values all records have so far.
+    pub fn values(&self) -> u64
+        ensures { result ≡ (place_of self.now).values }
+    {
+        self.values
+    }
+
     /// Whether no block is open.
     pub fn is_complete(&self) -> bool
         ensures { result ≡ ((place_of self.now).depth == 0) }

@@ -1,0 +1,9 @@
+pub mod Decimals
+pub mod Finishing
+pub mod Rows
+pub mod Sources
+pub mod Spelled
+pub mod Spelling
+pub mod Takings
+pub mod Tellings
+pub mod Written

@@ -1,5 +1,5 @@
 -- The effect of assembling a text.
-use Rattle.std.specs.Prelude.{◌≡◌, ℕ, ◌<◌, ◌⊎◌, List, [], ◌∷◌, ◌++◌, Result, Ok, Err}
+use Rattle.std.specs.Prelude.{◌≡◌, ℕ, ◌+◌, ◌⊎◌, List, [], ◌∷◌, ◌++◌, Result, Ok, Err}
 use Rattle.std.specs.Io.KnownBytes.{Consumes, IsAtEnd}
 use Rattle.bit_grammar.specs.Blocks.{Limits}
 use Rattle.bit_grammar.specs.Forest.{Tree}
@@ -11,7 +11,34 @@ use Rattle.bit_norm.specs.Writing.{WritesForm}
 use Rattle.bit_text.specs.declared.reason.TextReason.{TextReason}
 use Rattle.bit_text.specs.declared.fault.AssembleFault.{AssembleFault}
 use Rattle.bit_text.specs.declared.fault.AssembleFault.TheVariants.{Refused, Fault as FaultOf}
+use Rattle.bit_text.specs.declared.assembler.Assembler.{Assembler}
+use Rattle.bit_text.specs.Numbers.{parts_after}
 use Rattle.bit_text.specs.Listings.{Standing, after_line, lines_read, next_line, reading_of}
+use Rattle.bit_text.specs.Stops.{IsAt}
+
+-- what a reader after these calls makes of the rest of its text
+abbrev pub outlook : Standing → Assembler → (rest : List ℕ) → Result Tree (TextReason × ℕ)
+outlook now a rest = lines_read a.limits a.number now (parts_after 10 a.line.items rest)
+
+-- A line was read; or it is refused; or an allocation failed.
+abbrev pub EndsLine : Assembler → Result Standing TextReason → Result (Unit {0}) AssembleFault
+    → Assembler → Type 0
+EndsLine old wanted (Ok _) new = (later : Standing) × (wanted ≡ Ok later)
+    × IsAt new.limits later new.writer × (new.limits ≡ old.limits)
+    × (new.number ≡ next_line old.number) × (new.line.items ≡ [])
+EndsLine old wanted (Err (Refused reason line)) new = (wanted ≡ Err reason)
+    × (line ≡ next_line old.number)
+EndsLine old wanted (Err (FaultOf fault)) new = fault ≡ Memory
+
+-- Bytes were read; or a line that they end is refused, whatever follows; or an allocation failed.
+abbrev pub TakesBytes : Standing → List ℕ → Assembler → Result (Unit {0}) AssembleFault
+    → Assembler → Type 0
+TakesBytes now bytes old (Ok _) new = (later : Standing) × IsAt new.limits later new.writer
+    × (new.limits ≡ old.limits)
+    × ((rest : List ℕ) → outlook now old (bytes ++ rest) ≡ outlook later new rest)
+TakesBytes now bytes old (Err (Refused reason line)) new = (rest : List ℕ)
+    → outlook now old (bytes ++ rest) ≡ Err (reason, line)
+TakesBytes now bytes old (Err (FaultOf fault)) new = fault ≡ Memory
 
 -- a text spells a tree that keeps to the limits, and its normal form was used in this way
 pub record Writes (wanted : Result Tree (TextReason × ℕ)) (limits : Limits) (old : Outgoing)
@@ -48,9 +75,23 @@ pub record TookAll (text : List ℕ) (old new : Incoming) : Type 0 where
   pub took : Took text old new
   pub end : IsAtEnd new.to_come
 
--- it failed, or its counter is exhausted
+-- it failed once, or its counter is exhausted
 abbrev pub HasFailed : Incoming → Incoming → Type 0
-HasFailed old new = (old.failures < new.failures) ⊎ IsWorn new
+HasFailed old new = (new.failures ≡ old.failures + 1) ⊎ IsWorn new
+
+-- All bytes of a source were read; or a line was refused, whatever follows; or the source or an allocation failed.
+abbrev pub TakesAll : Standing → Incoming → Assembler → Result (Unit {0}) AssembleFault → Incoming
+    → Assembler → Type 0
+TakesAll now i old (Ok _) later new = (text : List ℕ) × TookAll text i later
+    × TakesBytes now text old (Ok tt) new
+TakesAll now i old (Err (Refused reason line)) later new = (text : List ℕ) × Took text i later
+    × TakesBytes now text old (Err (Refused reason line)) new
+TakesAll now i old (Err (FaultOf Read)) later new = HasFailed i later
+TakesAll now i old (Err (FaultOf Memory)) later new = later.failures ≡ i.failures
+TakesAll now i old (Err (FaultOf Write)) later new = ⊥
+TakesAll now i old (Err (FaultOf OutputTooLong)) later new = ⊥
+TakesAll now i old (Err (FaultOf Failed)) later new = ⊥
+TakesAll now i old (Err (FaultOf (RefusedBits reason bit))) later new = ⊥
 
 -- ---- the whole
 
@@ -78,6 +119,7 @@ Assembles limits i old (Err (FaultOf Write)) later new = ReadsAndFinishes limits
 Assembles limits i old (Err (FaultOf OutputTooLong)) later new = ReadsAndFinishes limits i old
     (Err (FaultOf OutputTooLong)) later new
 Assembles limits i old (Err (FaultOf Read)) later new = HasFailed i later × (new ≡ old)
-Assembles limits i old (Err (FaultOf Memory)) later new = new ≡ old
+Assembles limits i old (Err (FaultOf Memory)) later new = (later.failures ≡ i.failures)
+    × (new ≡ old)
 Assembles limits i old (Err (FaultOf Failed)) later new = ⊥
 Assembles limits i old (Err (FaultOf (RefusedBits reason bit))) later new = ⊥

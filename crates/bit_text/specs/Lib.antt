@@ -3,3 +3,4 @@ pub mod Lines
 pub mod Listings
 pub mod Numbers
 pub mod Reasons
+pub mod Stops

@@ -1,5 +1,5 @@
 -- What the lines of a text spell together.
-use Rattle.std.specs.Prelude.{ℕ, ◌+◌, ◌-◌, ◌*◌, ◌/◌, ◌%◌, ◌^◌, ◌==◌, min, nat_lt, Bool, not, ◌&&◌, List, [], ◌∷◌, ◌++◌, length, replicate, Option, Some, None, Result, Ok, Err, if◌then◌else◌}
+use Rattle.std.specs.Prelude.{ℕ, ◌+◌, ◌-◌, ◌*◌, ◌/◌, ◌%◌, ◌^◌, ◌==◌, min, nat_lt, List, [], ◌∷◌, ◌++◌, length, replicate, Option, Some, None, Result, Ok, Err, if◌then◌else◌}
 use Rattle.bit_grammar.specs.Blocks.{Limits}
 use Rattle.bit_grammar.specs.Forest.{Tree, wrapper_magic}
 use Rattle.bit_fields.specs.Opening.{magic_number}
@@ -33,8 +33,9 @@ if_last_fits limits w closing call = if fits limits (where_after closing w) call
 
 -- the calls of an item after so many spaces: two for each block around it
 abbrev pub item_calls : Limits → Where → (spaces : ℕ) → Call → Result (List Call) TextReason
-item_calls limits w spaces call = if spaces % 2 == 0 && not (nat_lt w.depth (spaces / 2))
-    then if_last_fits limits w (ends_before w spaces) call else Err BadIndentation
+item_calls limits w spaces call = if nat_lt w.depth (spaces / 2) then Err BadIndentation
+    else (if spaces % 2 == 0 then if_last_fits limits w (ends_before w spaces) call
+    else Err BadIndentation)
 
 -- a listing begins with this magic
 abbrev pub begun : Option (List ℕ) → Result Standing TextReason

@@ -6,7 +6,7 @@ use thiserror::Error;
 #[derive(Clone, Copy, Debug, PartialEq, Eq, Error)]
 pub enum AssembleFault {
     /// This is the first line that no listing has there, counted from 1.
-    #[error("refused: {reason} at line {line}")]
+    #[error("refused: {} at line {line}", .reason.name())]
     Refused { reason: TextReason, line: u64 },
     /// The source or the sink failed, an allocation failed, or the normal form is too long.
     #[error("{0}")]

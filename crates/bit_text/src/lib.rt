@@ -1,10 +1,23 @@
 //! From a listing to the stream that it spells: `assemble`.
+//!
+//! A line is read by itself: `line` finds its item, whose numbers `numbers` reads into one vector that all lines share. `telling`
+//! ends the blocks that an item is not in and tells it to a `FormWriter`, which refuses what no tree has there. `Assembler` cuts a
+//! text into lines in whatever pieces it comes, and `assemble` pulls the pieces from a source. The definition of a listing is in
+//! `specs/Numbers`, `Lines` and `Listings`.
 #![tactic(auto)]
 
+mod assembler;
 mod assembling;
 mod fault;
+mod laws;
+mod line;
+mod numbers;
 mod reason;
+mod telling;
+#[cfg(test)]
+mod tests;
 
 pub use assembling::assemble;
 pub use fault::AssembleFault;
+pub use laws::listing_spells;
 pub use reason::TextReason;

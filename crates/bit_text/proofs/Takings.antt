@@ -1,0 +1,108 @@
+-- A text that comes in pieces.
+use Rattle.std.proofs.Common.{◌≡◌, refl, false, ℕ, ◌+◌, ◌<◌, ◌≤◌, nat_eq, List, [], ◌∷◌, ◌++◌, length, drop, get_or, Option, Some, None, Result, Ok, Err, if◌then◌else◌, sym, ◌∙◌, ap, subst, arith, append_assoc}
+use Rattle.std.proofs.lemmas.List.{at_drop_more, at_drop_all}
+use Rattle.std.specs.Io.KnownBytes.{Consumes}
+use Rattle.std.proofs.KnownBytes.{Consumes-trans}
+use Rattle.std.specs.Result.{is_err, is_ok}
+use Rattle.bit_grammar.specs.Blocks.{Limits}
+use Rattle.bit_grammar.specs.Forest.{Tree}
+use Rattle.bit_fields.specs.Devices.{Incoming, Gave}
+use Rattle.bit_fields.specs.declared.fault.Fault.{Fault}
+use Rattle.bit_text.specs.declared.reason.TextReason.{TextReason}
+use Rattle.bit_text.specs.declared.fault.AssembleFault.{AssembleFault}
+use Rattle.bit_text.specs.declared.fault.AssembleFault.TheVariants.{Refused, Fault as FaultOf}
+use Rattle.bit_text.specs.declared.assembler.Assembler.{Assembler}
+use Rattle.bit_text.specs.Numbers.{parts_after}
+use Rattle.bit_text.specs.Listings.{Standing, after_line, goes_on, lines_read, next_line}
+use Rattle.bit_text.specs.Stops.{IsAt}
+use Rattle.bit_text.specs.Assembling.{outlook, EndsLine, TakesBytes}
+use Rattle.bit_text.proofs.Spelling.{same_byte, other_byte}
+
+-- ---- one line
+
+pub line_read : (limits : Limits) (number : ℕ) (now later : Standing) (line : List ℕ) (others : List (List ℕ)) → after_line limits now line ≡ Ok later → lines_read limits number now (line ∷ others) ≡ lines_read limits (next_line number) later others
+line_read limits number now later line others h = ap (λ (r : Result Standing TextReason). goes_on (next_line number) r (λ l. lines_read limits (next_line number) l others)) h
+
+pub line_refused : (limits : Limits) (number : ℕ) (now : Standing) (reason : TextReason) (line : List ℕ) (others : List (List ℕ)) → after_line limits now line ≡ Err reason → lines_read limits number now (line ∷ others) ≡ Err (reason, next_line number)
+line_refused limits number now reason line others h = ap (λ (r : Result Standing TextReason). goes_on (next_line number) r (λ l. lines_read limits (next_line number) l others)) h
+
+-- ---- bytes
+
+-- an assembler has read this many bytes of a piece
+abbrev pub Far : Standing → (bytes : List ℕ) → (i : ℕ) → (first a : Assembler) → Type 0
+Far now bytes i first a = (later : Standing) × IsAt a.limits later a.writer × (a.limits ≡ first.limits)
+    × ((rest : List ℕ) → outlook now first (bytes ++ rest) ≡ outlook later a (drop i bytes ++ rest))
+
+pub far_none : (now : Standing) (bytes : List ℕ) (a : Assembler) → IsAt a.limits now a.writer → Far now bytes 0 a a
+far_none now bytes a here = (now, here, refl, λ rest. refl)
+
+-- at the end of a line its parts begin with it
+cut_line : (line bytes rest : List ℕ) (i : ℕ) → i < length bytes → get_or bytes i 0 ≡ 10 → parts_after 10 line (drop i bytes ++ rest) ≡ line ∷ parts_after 10 [] (drop (i + 1) bytes ++ rest)
+cut_line line bytes rest i k same =
+    at_drop_more (λ (d : List ℕ). parts_after 10 line (d ++ rest)) bytes i 0 k
+    ∙ ap (λ t. if t then line ∷ parts_after 10 [] (drop (i + 1) bytes ++ rest) else parts_after 10 (line ++ get_or bytes i 0 ∷ []) (drop (i + 1) bytes ++ rest)) (same_byte (get_or bytes i 0) 10 same)
+
+more_line : (line bytes rest : List ℕ) (i : ℕ) → i < length bytes → (get_or bytes i 0 ≡ 10 → ⊥) → parts_after 10 line (drop i bytes ++ rest) ≡ parts_after 10 (line ++ get_or bytes i 0 ∷ []) (drop (i + 1) bytes ++ rest)
+more_line line bytes rest i k other =
+    at_drop_more (λ (d : List ℕ). parts_after 10 line (d ++ rest)) bytes i 0 k
+    ∙ ap (λ t. if t then line ∷ parts_after 10 [] (drop (i + 1) bytes ++ rest) else parts_after 10 (line ++ get_or bytes i 0 ∷ []) (drop (i + 1) bytes ++ rest)) (other_byte (get_or bytes i 0) 10 other)
+
+-- the outlook of an assembler that ended a line
+outlook_ended : (a b : Assembler) (later : Standing) (rest : List ℕ) → b.limits ≡ a.limits → b.number ≡ next_line a.number → b.line.items ≡ [] → lines_read a.limits (next_line a.number) later (parts_after 10 [] rest) ≡ outlook later b rest
+outlook_ended a b later rest limits number line = rw (limits, number, line) refl
+
+pub far_line : (now : Standing) (bytes : List ℕ) (i : ℕ) (first a b : Assembler) → i < length bytes → get_or bytes i 0 ≡ 10
+    → ((n : Standing) → IsAt a.limits n a.writer → EndsLine a (after_line a.limits n a.line.items) (Ok tt) b) → Far now bytes i first a → Far now bytes (i + 1) first b
+far_line now bytes i first a b k same ends far =
+    let e = ends far.0 far.1 in (
+      e.0,
+      e.2,
+      e.3 ∙ far.2,
+      λ rest.
+          far.3 rest
+          ∙ ap (lines_read a.limits a.number far.0) (cut_line a.line.items bytes rest i k same)
+          ∙ line_read a.limits a.number far.0 e.0 a.line.items (parts_after 10 [] (drop (i + 1) bytes ++ rest)) e.1
+          ∙ outlook_ended a b e.0 (drop (i + 1) bytes ++ rest) e.3 e.4 e.5,
+    )
+
+pub far_byte : (now : Standing) (bytes : List ℕ) (i : ℕ) (first a b : Assembler) → i < length bytes → (get_or bytes i 0 ≡ 10 → ⊥) → b.limits ≡ a.limits → b.number ≡ a.number → b.writer ≡ a.writer
+    → b.line.items ≡ a.line.items ++ get_or bytes i 0 ∷ [] → Far now bytes i first a → Far now bytes (i + 1) first b
+far_byte now bytes i first a b k other limits number writer line far = (
+  far.0,
+  rw (limits, writer) far.1,
+  limits ∙ far.2,
+  λ rest. far.3 rest ∙ ap (lines_read a.limits a.number far.0) (more_line a.line.items bytes rest i k other) ∙ (let same : lines_read a.limits a.number far.0 (parts_after 10 (a.line.items ++ get_or bytes i 0 ∷ []) (drop (i + 1) bytes ++ rest)) ≡ outlook far.0 b (drop (i + 1) bytes ++ rest) = rw (limits, number, line) refl in same),
+)
+
+pub far_stopped : (now : Standing) (bytes : List ℕ) (i : ℕ) (first a b : Assembler) (fault : AssembleFault) → i < length bytes → get_or bytes i 0 ≡ 10
+    → ((n : Standing) → IsAt a.limits n a.writer → EndsLine a (after_line a.limits n a.line.items) (Err fault) b) → Far now bytes i first a → TakesBytes now bytes first (Err fault) b
+far_stopped now bytes i first a b (Refused reason line) k same ends far =
+    let e = ends far.0 far.1 in
+    λ rest.
+    far.3 rest
+    ∙ ap (lines_read a.limits a.number far.0) (cut_line a.line.items bytes rest i k same)
+    ∙ line_refused a.limits a.number far.0 reason a.line.items (parts_after 10 [] (drop (i + 1) bytes ++ rest)) e.0
+    ∙ ap (λ (n : ℕ). Err (reason, n)) (sym e.1)
+far_stopped now bytes i first a b (FaultOf fault) k same ends far = ends far.0 far.1
+
+pub far_all : (now : Standing) (bytes : List ℕ) (i : ℕ) (first a : Assembler) → length bytes ≤ i → Far now bytes i first a → TakesBytes now bytes first (Ok tt) a
+far_all now bytes i first a h far = (far.0, far.1, far.2, λ rest. far.3 rest ∙ at_drop_all (λ (d : List ℕ). outlook far.0 a (d ++ rest)) bytes i h)
+
+-- ---- pieces
+
+-- two pieces, one after the other
+pub takes_both : (now : Standing) (text more : List ℕ) (first a b : Assembler) (r : Result (Unit {0}) AssembleFault) → TakesBytes now text first (Ok tt) a → ((n : Standing) → IsAt a.limits n a.writer → TakesBytes n more a r b) → TakesBytes now (text ++ more) first r b
+takes_both now text more first a b (Ok x) front behind =
+    let e = behind front.0 front.1 in
+    (e.0, e.1, e.2 ∙ front.2, λ rest. ap (outlook now first) (append_assoc text more rest) ∙ front.3 (more ++ rest) ∙ e.3 rest)
+takes_both now text more first a b (Err (Refused reason line)) front behind =
+    let e = behind front.0 front.1 in
+    λ rest. ap (outlook now first) (append_assoc text more rest) ∙ front.3 (more ++ rest) ∙ e rest
+takes_both now text more first a b (Err (FaultOf fault)) front behind = behind front.0 front.1
+
+pub takes_none : (now : Standing) (a : Assembler) → IsAt a.limits now a.writer → TakesBytes now [] a (Ok tt) a
+takes_none now a here = (now, here, refl, λ rest. refl)
+
+pub pushed : {E : Type 0} (r : Result (Unit {0}) E) (old new : List ℕ) (b : ℕ) → is_err r ≡ false → new ≡ (if is_ok r then old ++ b ∷ [] else old) → new ≡ old ++ b ∷ []
+pushed (Ok x) old new b h items = items
+pushed (Err e) old new b h items = absurd cc

@@ -1,0 +1,5 @@
+use Rattle.bit_text.proofs.Spelling.{behind_is}
+use Rattle.bit_text.proofs.numbers.behind.Goals as goal
+
+pub returns : goal.returns
+returns c = behind_is c.args.front.now c.args.text.now c.strip_prefix.result c.strip_prefix.ensures.cases

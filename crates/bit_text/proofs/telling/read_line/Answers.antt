@@ -1,0 +1,40 @@
+use Rattle.std.proofs.Common.{◌-◌, length, take, drop, Ok, Some, None, Option, sym, ◌∙◌, ap, subst, List, ℕ}
+use Rattle.std.proofs.lemmas.Result.{err_from_is_err_and}
+use Rattle.bit_norm.specs.declared.form_writer.FormWriter.{FormWriter}
+use Rattle.bit_text.specs.Stops.{call_of, IsAt}
+use Rattle.bit_text.proofs.Tellings.{content_is, free_line, item_line, item_stopped, first_line, first_stopped}
+use Rattle.bit_text.proofs.telling.read_line.Goals as goal
+
+pub returns-then-is_free : goal.returns-then-is_free
+returns-then-is_free c = λ now here.
+    free_line c.args.limits now c.args.line.now (take (length c.args.line.now - c.spaces-count.result) (drop c.spaces-count.result c.args.line.now)) c.args.writer.now
+    (content_is c.args.line.now c.spaces-count.result c.spaces-count.ensures.spaces) (sym c.if-is_free.ensures) here
+
+pub returns-in_ok-item-in-Some : goal.returns-in_ok-item-in-Some
+returns-in_ok-item-in-Some c = λ now here.
+    item_line c.args.limits now c.args.line.now (take (length c.args.line.now - c.spaces-count.result) (drop c.spaces-count.result c.args.line.now)) c.spaces-count.result (call_of c.in_ok-item-in-Some.item c.deref.result.now) c.tell_item.result c.in-Some.writer c.tell_item.new.writer
+    c.spaces-count.ensures.spaces (content_is c.args.line.now c.spaces-count.result c.spaces-count.ensures.spaces) (sym c.if-is_free.ensures)
+    (c.in_ok-item-in-Some.ensures.0 ∙ ap (λ (ns : List ℕ). Ok (call_of c.in_ok-item-in-Some.item ns)) (sym c.deref.ensures.value))
+    c.tell_item.ensures
+    (subst (λ (w : Option FormWriter). IsAt c.args.limits now w) c.in-Some.is here)
+
+pub returns-in_err-item-in-Some : goal.returns-in_err-item-in-Some
+returns-in_err-item-in-Some c =
+    let failed = err_from_is_err_and c.from_residual.result c.from_residual.ensures.1 in
+    rw (failed.1, failed.2) (λ now here.
+    item_stopped c.args.limits now c.args.line.now (take (length c.args.line.now - c.spaces-count.result) (drop c.spaces-count.result c.args.line.now)) c.read_item.new.numbers.items c.in_err-item-in-Some.field-0.0 c.in-Some.writer
+    (content_is c.args.line.now c.spaces-count.result c.spaces-count.ensures.spaces) (sym c.if-is_free.ensures) c.in_err-item-in-Some.ensures
+    (subst (λ (w : Option FormWriter). IsAt c.args.limits now w) c.in-Some.is here))
+
+pub returns-in_ok-begin-in-None : goal.returns-in_ok-begin-in-None
+returns-in_ok-begin-in-None c = λ now here.
+    first_line c.args.limits now c.args.line.now (take (length c.args.line.now - c.spaces-count.result) (drop c.spaces-count.result c.args.line.now)) c.in_ok-begin-in-None.field-0
+    (content_is c.args.line.now c.spaces-count.result c.spaces-count.ensures.spaces) (sym c.if-is_free.ensures) c.in_ok-begin-in-None.ensures
+    (subst (λ (w : Option FormWriter). IsAt c.args.limits now w) c.in-None.is here)
+
+pub returns-in_err-begin-in-None : goal.returns-in_err-begin-in-None
+returns-in_err-begin-in-None c =
+    let failed = err_from_is_err_and c.from_residual-in_err-begin-in-None.result c.from_residual-in_err-begin-in-None.ensures.1 in
+    rw (failed.1, failed.2, c.in-None.is) (λ now here.
+    first_stopped c.args.limits now c.args.line.now (take (length c.args.line.now - c.spaces-count.result) (drop c.spaces-count.result c.args.line.now)) c.in_err-begin-in-None.field-0.0
+    (content_is c.args.line.now c.spaces-count.result c.spaces-count.ensures.spaces) (sym c.if-is_free.ensures) c.in_err-begin-in-None.ensures here)

@@ -1,0 +1,133 @@
+ghost use Rattle.std.specs.Prelude.{◌≡◌, [], ◌∷◌, ◌++◌, ℕ, List};
+ghost use Rattle.bit_text.specs.Assembling.{outlook, EndsLine, Finishes, TakesBytes};
+ghost use Rattle.bit_norm.specs.Telling.{Call};
+ghost use Rattle.bit_text.specs.Listings.{after_line, at_start, told_all, Standing};
+ghost use Rattle.bit_text.specs.Stops.{IsAt, IsTold};
+
+use crate::fault::AssembleFault;
+use crate::numbers::Stop;
+use crate::reason::TextReason;
+use crate::telling::{close, read_line};
+use bit_fields::{Fault, Limits, Sink};
+use bit_norm::FormWriter;
+use std::alloc::Global;
+
+/// Ends all open blocks, and gives a sink the normal form of what a writer was told.
+fn give<K: Sink>(mut writer: FormWriter, sink: K) -> (Result<u64, AssembleFault>, K)
+    ensures { (limits : Limits) (magic : List ℕ) (calls : List Call)
+        → IsTold limits magic calls writer
+        → Finishes (Ok (told_all magic calls)) limits (K.outgoing sink) result.0
+        (K.outgoing result.1) }
+{
+    if close(&mut writer, 0).is_err() {
+        return (Err(AssembleFault::Fault(Fault::Memory)), sink);
+    }
+    if !writer.is_complete() {
+        return (Err(AssembleFault::Fault(Fault::Failed)), sink);
+    }
+    let (written, sink) = writer.finish(sink);
+    match written {
+        Ok(count) => (Ok(count), sink),
+        Err(fault) => (Err(AssembleFault::Fault(fault)), sink),
+    }
+}
+
+/// Reads a text piece by piece. It holds the form of the lines so far, the beginning of the next line, and the numbers of a line.
+///
+/// After a fault it is of no use.
+#[derive(Drop)]
+pub(crate) struct Assembler {
+    alloc: Global,
+    limits: Limits,
+    /// After the line of the magic.
+    writer: Option<FormWriter>,
+    line: Vec<u8>,
+    numbers: Vec<u64>,
+    /// How many lines were read; the greatest number if more.
+    number: u64,
+}
+
+impl Assembler {
+    /// At the beginning of a text.
+    pub(crate) fn new(alloc: Global, limits: Limits) -> Assembler
+        ensures at { IsAt limits at_start result.writer }
+        ensures limits { result.limits ≡ limits }
+        ensures number { result.number ≡ 0 }
+        ensures line { result.line.items ≡ [] }
+    {
+        Assembler {
+            alloc,
+            limits,
+            writer: None,
+            line: Vec::new(alloc),
+            numbers: Vec::new(alloc),
+            number: 0,
+        }
+    }
+
+    /// Reads the line that ends here.
+    fn end_line(&mut self) -> Result<(), AssembleFault>
+        ensures { (now : Standing) → IsAt self.old.limits now self.old.writer
+            → EndsLine self.old (after_line self.old.limits now self.old.line.items) result self.new }
+    {
+        self.number = self.number.saturating_add(1);
+        let read = read_line(
+            self.alloc,
+            self.limits,
+            &self.line,
+            &mut self.writer,
+            &mut self.numbers,
+        );
+        self.line.clear();
+        match read {
+            Ok(()) => Ok(()),
+            Err(Stop::Refused(reason)) => Err(AssembleFault::Refused {
+                reason,
+                line: self.number,
+            }),
+            Err(Stop::Memory) => Err(AssembleFault::Fault(Fault::Memory)),
+        }
+    }
+
+    /// Reads the next bytes of the text.
+    pub(crate) fn take(&mut self, bytes: &[u8]) -> Result<(), AssembleFault>
+        ensures { (now : Standing) → IsAt self.old.limits now self.old.writer
+            → TakesBytes now bytes.now self.old result self.new }
+    {
+        for b in bytes {
+            if *b == b'\n' {
+                self.end_line()?;
+            } else if self.line.push(*b).is_err() {
+                return Err(AssembleFault::Fault(Fault::Memory));
+            }
+        }
+        Ok(())
+    }
+
+    /// Reads the line with which the text ends, ends the blocks that are open, and gives a sink the normal form.
+    pub(crate) fn finish<K: Sink>(mut self, sink: K) -> (Result<u64, AssembleFault>, K)
+        ensures { (now : Standing) → IsAt self.limits now self.writer
+            → Finishes (outlook now self []) self.limits (K.outgoing sink) result.0
+            (K.outgoing result.1) }
+    {
+        if let Err(fault) = self.end_line() {
+            return (Err(fault), sink);
+        }
+        let Assembler {
+            alloc: _,
+            limits: _,
+            writer,
+            line: _,
+            numbers: _,
+            number,
+        } = self;
+        match writer {
+            Some(writer) => give(writer, sink),
+            None => {
+                let reason = TextReason::NoMagic;
+                let line = number;
+                (Err(AssembleFault::Refused { reason, line }), sink)
+            }
+        }
+    }
+}

@@ -1,0 +1,93 @@
+ghost use Rattle.std.specs.Prelude.{◌≡◌, ◌<◌, ◌≤◌, ◌-◌, ◌^◌, [], ◌∷◌, ℕ, codes, length, drop, MatchOption, None, Some, Ok, Err};
+ghost use Rattle.std.specs.Char.{digit_value};
+ghost use Rattle.bit_text.specs.Numbers.{behind, digits, number, numbers_after, words};
+ghost use Rattle.bit_text.specs.Stops.{ReadsNumbers};
+
+use crate::reason::TextReason;
+
+/// Why a line was not read.
+#[derive(Clone, Copy, Debug, PartialEq, Eq)]
+pub(crate) enum Stop {
+    Refused(TextReason),
+    Memory,
+}
+
+/// What comes after this front, if a text begins with it.
+pub(crate) fn behind<'a>(text: &'a [u8], front: &[u8]) -> Option<&'a [u8]>
+    ensures { MatchOption result (behind front.now text.now ≡ None)
+        (λ rest. behind front.now text.now ≡ Some rest.now) }
+{
+    text.strip_prefix(front)
+}
+
+/// The value of a digit in bases up to 36, and 36 for other bytes.
+pub(crate) fn value_of_digit(b: u8) -> u64
+    ensures { result ≡ digit_value b }
+{
+    let value = match b {
+        b'0'..=b'9' => b - b'0',
+        b'A'..=b'Z' => b - b'A' + 10,
+        b'a'..=b'z' => b - b'a' + 10,
+        _ => 36,
+    };
+    u64::from(value)
+}
+
+/// The number that digits spell in a base, at least one.
+fn digits(base: u64, text: &[u8]) -> Result<u64, TextReason>
+    ensures { result ≡ digits base text.now }
+{
+    if text.is_empty() {
+        return Err(TextReason::BadLine);
+    }
+    let mut n: u64 = 0;
+    for b in text {
+        let digit = value_of_digit(*b);
+        if digit >= base {
+            return Err(TextReason::BadLine);
+        }
+        let Some(more) = n.checked_mul(base) else {
+            return Err(TextReason::NumberTooLarge);
+        };
+        let Some(more) = more.checked_add(digit) else {
+            return Err(TextReason::NumberTooLarge);
+        };
+        n = more;
+    }
+    Ok(n)
+}
+
+/// The number that a word spells.
+pub(crate) fn number(word: &[u8]) -> Result<u64, TextReason>
+    ensures { result ≡ number word.now }
+{
+    match behind(word, b"0x") {
+        Some(text) => digits(16, text),
+        None => digits(10, word),
+    }
+}
+
+/// Reads the numbers of a text, with one space between them.
+pub(crate) fn read_numbers(text: &[u8], numbers: &mut Vec<u64>) -> Result<(), Stop>
+    ensures { ReadsNumbers (numbers_after [] (words text.now)) result numbers.new.items }
+{
+    numbers.clear();
+    let mut from = 0;
+    for (i, b) in text.iter().enumerate() {
+        if *b == b' ' {
+            add_number(&text[from..i], numbers)?;
+            from = i + 1;
+        }
+    }
+    add_number(&text[from..], numbers)
+}
+
+/// Adds the number that a word spells.
+fn add_number(word: &[u8], numbers: &mut Vec<u64>) -> Result<(), Stop>
+    ensures { ReadsNumbers (numbers_after numbers.old.items (word.now ∷ [])) result numbers.new.items }
+{
+    match number(word) {
+        Ok(n) => numbers.push(n).map_err(|_| Stop::Memory),
+        Err(reason) => Err(Stop::Refused(reason)),
+    }
+}

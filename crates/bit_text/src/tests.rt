@@ -1,0 +1,196 @@
+use crate::{AssembleFault, TextReason, assemble};
+use bit_fields::{Fault, Limits, SliceSource, VecSink};
+use bit_norm::FormWriter;
+use std::alloc::Global;
+use std::process::Abort;
+
+/// Assembles a text under limits of 100 bytes, depth 2 and 3 values.
+fn assembled(
+    rt: &impl Abort,
+    alloc: Global,
+    text: &str,
+    bytes: u64,
+) -> (Result<u64, AssembleFault>, VecSink) {
+    let limits = Limits::new(bytes, 2, 3).expect(rt, "limits within their caps");
+    let source = SliceSource::new(text.as_bytes());
+    let (answer, _, sink) = assemble(alloc, source, VecSink::new(alloc), limits);
+    (answer, sink)
+}
+
+/// One block with one record of code 1 and the value 30.
+const FORM: [u8; 16] = [
+    0x42, 0x43, 0xC0, 0xDE, 0x21, 8, 0, 0, 1, 0, 0, 0, 7, 0x81, 7, 0,
+];
+
+/// Spellings of that block.
+static SPELLINGS: [&str; 4] = [
+    "magic 4243c0de\nblock 8\n  record 1 30\n",
+    "magic 4243c0de\nblock 8\n  record 1 30",
+    "\n  # none\n#\nmagic 4243c0de\n   \nblock 0x8\n# x\n  record 0x01 0x1E\n \n  # end",
+    "magic 4243c0de\nblock 0008\n  record 01 0x000000000000000000000000001e\n",
+];
+
+#[test]
+fn spellings(rt: HostRuntime) {
+    for text in SPELLINGS.iter() {
+        let (answer, sink) = assembled(&rt, rt.alloc(), text, 16);
+        assert!(rt; answer == Ok(16) && sink.bytes() == FORM.as_slice());
+    }
+}
+
+#[test]
+fn no_blocks(rt: HostRuntime) {
+    let (answer, sink) = assembled(&rt, rt.alloc(), "magic 01ab00ff", 4);
+    assert!(rt; answer == Ok(4) && sink.bytes() == [0x01, 0xAB, 0x00, 0xFF].as_slice());
+}
+
+/// Blocks in blocks, which end where an item is further out.
+const NESTED: &str = "magic 4243c0de
+block 1
+  block 0
+    record 1 7
+block 4294967295
+  record 0xffffffffffffffff
+  record 2 3 4
+";
+
+/// Texts that are refused, each with its line.
+static REFUSED: [(&str, TextReason, u64); 28] = [
+    ("", TextReason::NoMagic, 1),
+    ("\n\n", TextReason::NoMagic, 3),
+    ("# x", TextReason::NoMagic, 1),
+    ("\nblock 8\n", TextReason::NoMagic, 2),
+    (" magic 4243c0de\n", TextReason::NoMagic, 1),
+    ("magic 4243C0de\n", TextReason::NoMagic, 1),
+    ("magic 4243c0d\n", TextReason::NoMagic, 1),
+    ("magic 4243c0de \n", TextReason::NoMagic, 1),
+    ("#\nmagic dec0170b\n", TextReason::WrapperMagic, 2),
+    (
+        "magic 4243c0de\n#\nmagic 4243c0de\n",
+        TextReason::BadLine,
+        3,
+    ),
+    ("magic 4243c0de\nblock\n", TextReason::BadLine, 2),
+    ("magic 4243c0de\nblock 8 9\n", TextReason::BadLine, 2),
+    ("magic 4243c0de\nblock 8\r\n", TextReason::BadLine, 2),
+    (
+        "magic 4243c0de\nblock 8\n  record 1  2\n",
+        TextReason::BadLine,
+        3,
+    ),
+    (
+        "magic 4243c0de\nblock 8\n  record 1 0x\n",
+        TextReason::BadLine,
+        3,
+    ),
+    (
+        "magic 4243c0de\nblock 8\n  record 1 2 # x\n",
+        TextReason::BadLine,
+        3,
+    ),
+    (
+        "magic 4243c0de\nblock 4294967296\n",
+        TextReason::NumberTooLarge,
+        2,
+    ),
+    (
+        "magic 4243c0de\nblock 8\n  record 18446744073709551616\n",
+        TextReason::NumberTooLarge,
+        3,
+    ),
+    ("magic 4243c0de\n block 8\n", TextReason::BadIndentation, 2),
+    ("magic 4243c0de\n  block 8\n", TextReason::BadIndentation, 2),
+    (
+        "magic 4243c0de\nblock 8\n   record 1\n",
+        TextReason::BadIndentation,
+        3,
+    ),
+    ("magic 4243c0de\nrecord 1\n", TextReason::Misplaced, 2),
+    (
+        "magic 4243c0de\nblock 0\n  record 2 7\n",
+        TextReason::Misplaced,
+        3,
+    ),
+    (
+        "magic 4243c0de\nblock 0\n  record 1\n",
+        TextReason::Misplaced,
+        3,
+    ),
+    (
+        "magic 4243c0de\nblock 0\n  block 8\n",
+        TextReason::Misplaced,
+        3,
+    ),
+    (
+        "magic 4243c0de\nblock 1\n  block 1\n    block 1\n",
+        TextReason::TooDeep,
+        4,
+    ),
+    (
+        "magic 4243c0de\nblock 1\n  record 1 2 3\n  record 1 2 3\n",
+        TextReason::TooManyValues,
+        4,
+    ),
+    (
+        "magic 4243c0de\nblock 1\n  record 1 2 3 4 5",
+        TextReason::TooManyValues,
+        3,
+    ),
+];
+
+#[test]
+fn refused(rt: HostRuntime) {
+    for (text, reason, line) in REFUSED.iter() {
+        let (answer, sink) = assembled(&rt, rt.alloc(), text, 100);
+        let wanted = AssembleFault::Refused {
+            reason: *reason,
+            line: *line,
+        };
+        assert!(rt; answer == Err(wanted) && sink.bytes().is_empty());
+    }
+}
+
+/// The form of those blocks.
+fn nested_form(rt: &impl Abort, alloc: Global) -> VecSink {
+    let limits = Limits::new(100, 2, 3).expect(rt, "limits within their caps");
+    let magic = [0x42, 0x43, 0xC0, 0xDE];
+    let mut writer = FormWriter::new(alloc, magic, limits).expect(rt, "no wrapper");
+    let told = [
+        writer.enter(1),
+        writer.enter(0),
+        writer.record(1, &[7]),
+        writer.leave(),
+        writer.leave(),
+        writer.enter(u32::MAX),
+        writer.record(u64::MAX, &[]),
+        writer.record(2, &[3, 4]),
+        writer.leave(),
+    ];
+    let complete = writer.is_complete();
+    assert!(rt; told == [Ok(()); 9] && complete);
+    writer.finish(VecSink::new(alloc)).1
+}
+
+#[test]
+fn nested_blocks(rt: HostRuntime) {
+    let (answer, sink) = assembled(&rt, rt.alloc(), NESTED, 100);
+    let wanted = nested_form(&rt, rt.alloc());
+    assert!(rt; answer == Ok(sink.bytes().len() as u64) && sink.bytes() == wanted.bytes());
+}
+
+#[test]
+fn too_long(rt: HostRuntime) {
+    let (answer, sink) = assembled(&rt, rt.alloc(), SPELLINGS[0], 15);
+    let wanted = AssembleFault::Fault(Fault::OutputTooLong);
+    assert!(rt; answer == Err(wanted) && sink.bytes().is_empty());
+}
+
+#[test]
+fn shown(rt: HostRuntime) {
+    let (answer, _) = assembled(&rt, rt.alloc(), "magic 4243c0de\nblock\n", 100);
+    let text = match answer {
+        Ok(_) => String::new(rt.alloc()),
+        Err(fault) => format!(in rt.alloc(); "{fault}").expect(&rt, "memory"),
+    };
+    assert!(rt; text.as_str() == "refused: BadLine at line 2");
+}
