@@ -45,11 +45,9 @@ fn write_zeros<K: Sink>(printer: &mut Printer<K>, count: u64) -> Result<(), Faul
     Ok(())
 }
 
-/// Writes the values of a record.
-pub(crate) fn write_values<K: Sink>(
-    printer: &mut Printer<K>,
-    values: &PackedValues,
-) -> Result<(), Fault>
+/// Writes values in up to four parts.
+#[inline(never)]
+fn write_parts<K: Sink>(printer: &mut Printer<K>, values: &PackedValues) -> Result<(), Fault>
     ensures { Prints (values_text values.now) printer.old result printer.new }
 {
     let parts = values.parts();
@@ -57,6 +55,21 @@ pub(crate) fn write_values<K: Sink>(
     write_bytes(printer, parts.bytes)?;
     write_zeros(printer, parts.zeros)?;
     write_numbers(printer, parts.recent)
+}
+
+/// Writes the values of a record. Those of most records are one part.
+#[inline(always)]
+pub(crate) fn write_values<K: Sink>(
+    printer: &mut Printer<K>,
+    values: &PackedValues,
+) -> Result<(), Fault>
+    ensures { Prints (values_text values.now) printer.old result printer.new }
+{
+    let recent = values.parts().recent;
+    if recent.len() as u64 == values.len() {
+        return write_numbers(printer, recent);
+    }
+    write_parts(printer, values)
 }
 
 /// Writes the line of a record, piece by piece.
