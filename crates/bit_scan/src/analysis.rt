@@ -204,6 +204,7 @@ impl Analysis {
     /// Appends the report to a sink: a line for the stream, then one for each row and each of its codes.
     ///
     /// `Write` if the sink fails, and `Memory` if the buffer cannot grow, leave the sink a prefix of the report.
+    #[tactic(auto, using(crate::proofs::Prints::sink_back))]
     pub fn write_as<K: Sink>(&self, sink: K, format: Format) -> (Result<(), Fault>, K)
         ensures { WritesText (report_as format self.now) (K.outgoing sink) result.0
             (K.outgoing result.1) }

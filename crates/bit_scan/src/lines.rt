@@ -125,6 +125,7 @@ fn push_digit(text: &mut String, digit: u64) -> Result<(), AllocError>
 
 /// Appends a number of one or two digits.
 #[inline(always)]
+#[tactic(auto, using(crate::proofs::Appending::digit_behind))]
 fn push_tens(text: &mut String, number: u64) -> Result<(), AllocError>
     requires { number < 100 }
     ensures { OnOk result (string_bytes text.new ≡ string_bytes text.old ++ decimal number) }
@@ -138,6 +139,7 @@ fn push_tens(text: &mut String, number: u64) -> Result<(), AllocError>
 
 /// Appends a number of up to three digits.
 #[inline(always)]
+#[tactic(auto, using(crate::proofs::Appending::digit_behind))]
 fn push_hundreds(text: &mut String, number: u64) -> Result<(), AllocError>
     requires { number < 1000 }
     ensures { OnOk result (string_bytes text.new ≡ string_bytes text.old ++ decimal number) }

@@ -27,6 +27,7 @@ use std::marker::Model;
 const HELD: usize = 65536;
 
 /// Gives a sink all of these bytes, in as many puts as it takes.
+#[tactic(auto, using(crate::proofs::Puts::put_on))]
 fn put_all<K: Sink>(sink: &mut K, bytes: &[u8]) -> Result<(), SinkFailed>
     ensures ok { OnOk result (TookText bytes.now (K.outgoing sink.old) (K.outgoing sink.new)) }
     ensures err { OnErr result (TookFront bytes.now (K.outgoing sink.old) (K.outgoing sink.new)
@@ -62,6 +63,7 @@ impl<K: Sink> Model for Printer<K> {
     } };
 }
 
+#[tactic(auto, using(crate::proofs::Prints::settled))]
 impl<K: Sink> Printer<K> {
     /// With an empty buffer.
     pub(crate) fn new(alloc: Global, sink: K) -> Printer<K>
