@@ -192,6 +192,7 @@ impl Analysis {
     }
 
     /// Writes the report through a printer.
+    #[tactic(auto, using(crate::proofs::Reports::no_head, crate::proofs::Reports::no_rows, crate::proofs::Reports::report_ends))]
     fn write_report<K: Sink>(&self, printer: &mut Printer<K>, format: Format) -> Result<(), Fault>
         ensures prints { Prints (report_as format self.now) printer.old result printer.new }
         ensures all { OnOk result (printer.new.held ≡ []) }

@@ -73,6 +73,7 @@ pub(crate) fn write_values<K: Sink>(
 }
 
 /// Writes the line of a record, piece by piece.
+#[tactic(auto, using(crate::proofs::Parted::no_first, crate::proofs::Parted::no_second, crate::proofs::Parted::third, crate::proofs::Parted::record_parts))]
 fn write_record<K: Sink>(
     printer: &mut Printer<K>,
     around: u32,
@@ -167,6 +168,7 @@ fn write_seen<K: Sink>(
 
 /// Takes any next event and writes its line with `around` blocks around it, if it is kept and has one. Returns the number of blocks
 /// around the event that follows, or `None` if no event remains.
+#[tactic(auto, using(crate::proofs::Lists::line_stops))]
 fn write_found<K: Sink>(
     events: &mut SliceEvents<'_>,
     printer: &mut Printer<K>,
