@@ -93,6 +93,7 @@ impl<S: Source, G: Gatherer> Folding<S, G> {
     }
 
     /// Gathers the next event, and returns whether there was one.
+    #[tactic(auto, using(crate::proofs::Folds::one_event, crate::proofs::Folds::none_left))]
     fn gather_next(
         &mut self,
         alloc: Global,

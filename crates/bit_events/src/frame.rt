@@ -58,6 +58,7 @@ impl Frame {
     }
 
     /// Adds a definition: to the block's own, or in a BLOCKINFO block to those of the described block.
+    #[tactic(auto, using(crate::proofs::Framing::put_described))]
     fn put(&mut self, abbrev: Abbrev) -> Result<(), AllocError>
         requires { may_define (info_shown self.old.info) ≡ true }
         ensures defined { OnOk result ((handed : Handed)
@@ -140,6 +141,7 @@ fn describe_by<S: Source>(
 }
 
 /// Finds the described block after a record, if it is in a BLOCKINFO block.
+#[tactic(auto, using(crate::proofs::Framing::none_described))]
 fn describe<S: Source>(
     reader: &mut BitReader<S>,
     info: &mut Option<Describing>,

@@ -128,6 +128,7 @@ impl Machine {
     }
 
     /// Reads the beginning of a block in a block.
+    #[tactic(auto, using(crate::proofs::Stepping::nested_judged, crate::proofs::Stepping::nested_opens))]
     fn open_nested<S: Source>(
         &mut self,
         alloc: Global,
@@ -149,6 +150,7 @@ impl Machine {
     }
 
     /// Whether the innermost block is no BLOCKINFO block.
+    #[tactic(auto, using(crate::proofs::Stepping::plain_is))]
     fn is_plain(&self) -> bool
         requires { 0 < vec_len self.now.frames }
         ensures { InBlock self.now (λ f outer. result ≡ is_none f.info) }
@@ -365,6 +367,7 @@ impl Machine {
     /// block or a definition. It is kept out of the path of records, which are far more frequent.
     #[cold]
     #[inline(never)]
+    #[tactic(auto, using(crate::proofs::Stepping::after_end, crate::proofs::Stepping::after_nested, crate::proofs::Stepping::after_define))]
     pub(crate) fn step_apart<S: Source>(
         &mut self,
         alloc: Global,
@@ -449,6 +452,7 @@ impl Machine {
     }
 
     /// The head of the innermost block.
+    #[tactic(auto, using(crate::proofs::Stepping::head_held))]
     pub(crate) fn innermost(&self) -> Option<BlockHead>
         ensures head { option_map head_shown result
             ≡ innermost_head (frames_shown self.now.frames.items) }
@@ -511,6 +515,7 @@ impl Machine {
     }
 
     /// The last definition in the list to which the innermost block adds one.
+    #[tactic(auto, using(crate::proofs::Stepping::newest_is))]
     pub(crate) fn newest(&self) -> Option<&Abbrev>
         ensures { option_copied result ≡ newest (frames_shown self.now.frames.items) }
     {

@@ -92,6 +92,7 @@ impl<'a> Names<'a> {
     }
 
     /// Whether blocks with this id are kept, if the blocks around them are.
+    #[tactic(auto, using(crate::proofs::Named::in_order, crate::proofs::Named::ids_found))]
     pub(crate) fn keeps(&self, id: u32) -> bool
         ensures { result ≡ keeps self.now id }
     {
@@ -102,6 +103,7 @@ impl<'a> Names<'a> {
     }
 
     /// Whether records with this code are kept in blocks with this id, if these blocks are.
+    #[tactic(auto, using(bit_grammar::proofs::NormalForms::Under::info_kept, crate::proofs::Named::in_order, crate::proofs::Named::records_found))]
     pub(crate) fn keeps_record(&self, block: u32, code: u64) -> bool
         ensures { result ≡ keeps_record self.now block code }
     {
@@ -112,6 +114,7 @@ impl<'a> Names<'a> {
     }
 
     /// Whether no record in blocks with this id has a name, so that all of them are kept.
+    #[tactic(auto, using(crate::proofs::Named::in_order, crate::proofs::Named::holders_found))]
     pub(crate) fn keeps_records(&self, block: u32) -> bool
         ensures { result ≡ keeps_records self.now block }
     {

@@ -36,6 +36,7 @@ const fn top() -> Around
 }
 
 /// A block that begins, in another one or at the top.
+#[tactic(auto, using(bit_grammar::proofs::NormalForms::Under::unnamed_kept))]
 fn block_in(names: &Names<'_>, around: Around, id: u32) -> Around
     ensures id { result.id ≡ id }
     ensures left { result.is_left ≡ (keeps names.now id && around.is_left) }
@@ -88,6 +89,7 @@ impl<'a> OpenBlocks<'a> {
 
     /// Whether all open blocks are kept.
     #[inline]
+    #[tactic(auto, using(crate::proofs::Standings::left_is))]
     pub fn is_left(&self) -> bool
         ensures { result ≡ list_all (keeps self.now.setting) self.now.ids }
     {
@@ -96,6 +98,7 @@ impl<'a> OpenBlocks<'a> {
 
     /// Whether a record with this code is kept directly in the innermost block.
     #[inline(always)]
+    #[tactic(auto, using(crate::proofs::Standings::whole_left, crate::proofs::Standings::record_left, crate::proofs::Standings::none_left))]
     pub fn leaves_record(&self, code: u64) -> bool
         ensures { result ≡ (list_all (keeps self.now.setting) self.now.ids
             && keeps_record self.now.setting (innermost self.now.ids) code) }
@@ -107,6 +110,7 @@ impl<'a> OpenBlocks<'a> {
     }
 
     /// Takes the beginning of a block, and returns whether it is kept. If an allocation fails, nothing changes.
+    #[tactic(auto, using(crate::proofs::Standings::left_is, crate::proofs::Standings::judged_more))]
     pub fn enter(&mut self, id: u32) -> Result<bool, AllocError>
         ensures left { IfOk result (λ left. left
             ≡ list_all (keeps self.old.setting) (id ∷ self.old.ids)) }

@@ -53,6 +53,7 @@ pub(crate) fn faulty(which: Which, fault: Fault) -> SameFault
 /// difference. Only the bytes of the first, the open blocks of both and one record of each are held. A fault names its input, which
 /// breaks the rules, or whose source failed, or during whose reading an allocation failed. The sources are returned in their
 /// present state.
+#[tactic(auto, using(crate::proofs::Comparisons::finds))]
 pub fn first_difference<A: Source, B: Source>(
     alloc: Global,
     a: A,
@@ -102,6 +103,7 @@ fn is_none(answer: Result<Option<Difference>, SameFault>) -> Result<bool, SameFa
 }
 
 /// Whether the trees of two inputs under a setting are the same: `first_difference` finds none.
+#[tactic(auto, using(crate::proofs::Comparisons::compares))]
 pub fn same<A: Source, B: Source>(
     alloc: Global,
     a: A,
@@ -119,6 +121,7 @@ pub fn same<A: Source, B: Source>(
 }
 
 /// The same for bytes and an input: what `same` returns for a source of these bytes, which are not copied.
+#[tactic(auto, using(crate::proofs::Comparisons::compares))]
 pub fn same_as<B: Source>(
     alloc: Global,
     first: &[u8],

@@ -66,6 +66,7 @@ fn add_record_head(text: &mut BitText, code: u64, count: u64) -> Result<(), Allo
 
 /// Adds a record of few values.
 #[inline(always)]
+#[tactic(auto, using(crate::proofs::Building::record_joined, crate::proofs::ValueTexts::values_few))]
 fn add_short_record(text: &mut BitText, code: u64, values: &[u64]) -> Result<(), AllocError>
     requires few { length text.old < 2 ^ 38 }
     requires short { length values.now ≤ 64 }
@@ -132,6 +133,7 @@ impl<'a> FormBuilder<'a> {
     }
 
     /// The text, or `None` if the form is longer than the limit on bytes.
+    #[tactic(auto, using(crate::proofs::Building::whole_text, crate::proofs::Building::passes_whole))]
     pub(crate) fn finish(self) -> Option<BitText>
         ensures form { (first : FormBuilder) (events : List Event)
             → IsFormOf first events self.entry → left_open events ≡ 0

@@ -46,6 +46,7 @@ pub(crate) fn is_long(text: &BitText, limits: Limits) -> bool
 }
 
 /// Adds values to the text of earlier ones, if all of that is held.
+#[tactic(auto, using(crate::proofs::ValueTexts::holds_more, crate::proofs::ValueTexts::holds_all, crate::proofs::ValueTexts::holds_past, crate::proofs::ValueTexts::values_few))]
 fn add_values(
     text: &mut BitText,
     holding: &mut Holding,

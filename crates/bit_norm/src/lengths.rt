@@ -34,6 +34,7 @@ fn aligned(from: u64) -> u64
 
 /// How many chunks of six bits the shortest VBR has: one, and one more for each five bits below the highest.
 #[inline(always)]
+#[tactic(auto, using(crate::proofs::ChunkCounting::six_by_size))]
 fn chunks_of(value: u64) -> u64
     ensures chunks { shortest_length 6 value ≡ 6 * result }
     ensures few { result ≤ 13 }
@@ -108,6 +109,7 @@ fn end_of_blocks(blocks: &[Block], from: u64) -> u64
 }
 
 /// How many words a block's body has.
+#[tactic(auto, using(crate::proofs::Ends::words_counted))]
 pub(crate) fn body_words(items: &Items) -> u64
     ensures { body_length items.now < 2 ^ 63 → result ≡ body_length items.now / 32 }
 {

@@ -70,6 +70,7 @@ fn is_over(sign: Sign<'_>) -> bool
 }
 
 /// The first value that differs, if one does.
+#[tactic(auto, using(crate::proofs::InStep::nowhere_apart, crate::proofs::InStep::unlike_at, crate::proofs::InStep::has_both))]
 fn first_unlike(first: &PackedValues, second: &PackedValues) -> Option<ValueDifference>
     ensures { result ≡ first_unlike 0 first.now second.now }
 {

@@ -44,6 +44,7 @@ impl Walk {
     }
 
     /// Moves to the place after a sign.
+    #[tactic(auto, using(crate::proofs::InStep::closes))]
     pub(crate) fn pass(&mut self, sign: Sign<'_>) -> Result<(), AllocError>
         ensures { OnOk result ((before ended : ℕ)
             → stand_of self.new ended ≡ stand_behind (stand_of self.old before)

@@ -1,5 +1,5 @@
 -- Text on its way to a sink.
-use Rattle.std.specs.Prelude.{◌≡◌, ℕ, List, ◌++◌, Result, Ok, Err}
+use Rattle.std.specs.Prelude.{◌≡◌, ℕ, List, [], ◌++◌, Result, Ok, Err}
 use Rattle.std.specs.Io.KnownBytes.{Appends}
 use Rattle.bit_fields.specs.Devices.{Outgoing}
 use Rattle.bit_fields.specs.declared.fault.Fault.{Fault}
@@ -17,6 +17,10 @@ pub record Printed (text : List ℕ) (old new : Printing) : Type 0 where
   pub split : old.held ++ text ≡ part ++ new.held
   pub bytes : Appends old.outgoing.bytes new.outgoing.bytes part
   pub failures : new.outgoing.failures ≡ old.outgoing.failures
+
+-- text was printed, and none of it is buffered
+abbrev pub PrintedAll : List ℕ → Printing → Printing → Type 0
+PrintedAll text old new = Printed text old new × (new.held ≡ [])
 
 -- the sink took a prefix of the buffered text and of this text
 pub record PrintedFront (text : List ℕ) (old new : Printing) : Type 0 where

@@ -11,7 +11,7 @@ use Rattle.bit_fields.specs.declared.fault.Fault.TheVariants.{Refused, Read, Wri
 use Rattle.bit_fields.specs.Devices.{Incoming, Outgoing, Spends, Fails, known_bytes}
 use Rattle.bit_events.specs.Coming.{Coming, TellsComing, GivesEvent}
 use Rattle.bit_scan.specs.declared.format.EventStyle.{EventStyle}
-use Rattle.bit_scan.specs.Printing.{Printing, Printed, PrintedFront, Prints}
+use Rattle.bit_scan.specs.Printing.{Printing, Printed, PrintedAll, PrintedFront, Prints}
 use Rattle.bit_scan.specs.Styles.{head_as, styled_event, styled_outlook, styled_told}
 use Rattle.bit_scan.specs.Written.{TookText, TookFront, HasFailed}
 
@@ -64,10 +64,6 @@ TellsInput style limits i old answer now new =
     × WritesToEnd (styled_outlook style told) (outlook_end told) i old answer now new
 
 -- ---- by way of a printer
-
--- text was printed, and none of it is buffered
-abbrev pub PrintedAll : List ℕ → Printing → Printing → Type 0
-PrintedAll text old new = Printed text old new × (new.held ≡ [])
 
 -- A last text was printed, nothing is buffered, and the earlier fault is returned. Or not all of it was printed, and the fault of
 -- that printing is returned.

@@ -192,6 +192,7 @@ impl Analysis {
     }
 
     /// Writes the report through a printer.
+    #[tactic(auto, using(crate::proofs::Reports::no_head, crate::proofs::Reports::no_rows, crate::proofs::Reports::report_ends))]
     fn write_report<K: Sink>(&self, printer: &mut Printer<K>, format: Format) -> Result<(), Fault>
         ensures prints { Prints (report_as format self.now) printer.old result printer.new }
         ensures all { OnOk result (printer.new.held ≡ []) }
@@ -204,6 +205,7 @@ impl Analysis {
     /// Appends the report to a sink: a line for the stream, then one for each row and each of its codes.
     ///
     /// `Write` if the sink fails, and `Memory` if the buffer cannot grow, leave the sink a prefix of the report.
+    #[tactic(auto, using(crate::proofs::Prints::sink_back))]
     pub fn write_as<K: Sink>(&self, sink: K, format: Format) -> (Result<(), Fault>, K)
         ensures { WritesText (report_as format self.now) (K.outgoing sink) result.0
             (K.outgoing result.1) }

@@ -27,12 +27,22 @@ pub(crate) fn push_json_number(text: &mut String, number: u64) -> Result<(), All
     write!(text, "\"{number}\"")
 }
 
+/// Appends a key that follows a field, and the text between it and its value.
+fn push_key(text: &mut String, key: &str, between: &str) -> Result<(), AllocError>
+    ensures { OnOk result (string_bytes text.new
+        ≡ string_bytes text.old ++ (codes ",\"" ++ key.now ++ between.now)) }
+{
+    text.push_str(",\"")?;
+    text.push_str(key)?;
+    text.push_str(between)
+}
+
 /// Appends a field that follows another one.
 fn push_field(text: &mut String, key: &str, number: u64) -> Result<(), AllocError>
     ensures { OnOk result (string_bytes text.new
         ≡ string_bytes text.old ++ field_json (key.now, number)) }
 {
-    write!(text, ",\"{key}\":")?;
+    push_key(text, key, "\":")?;
     push_json_number(text, number)
 }
 
@@ -52,7 +62,9 @@ pub fn push_front(text: &mut String, kind: &str, fields: &[Field<'_>]) -> Result
     ensures { OnOk result (string_bytes text.new
         ≡ string_bytes text.old ++ object_front kind.now (fields_told fields.now)) }
 {
-    write!(text, "{{\"kind\":\"{kind}\"")?;
+    text.push_str("{\"kind\":\"")?;
+    text.push_str(kind)?;
+    text.push_str("\"")?;
     push_fields(text, fields)
 }
 
@@ -89,7 +101,7 @@ pub(crate) fn push_list_front(
         ≡ string_bytes text.old ++ list_front kind.now (fields_told fields.now) key.now) }
 {
     push_front(text, kind, fields)?;
-    write!(text, ",\"{key}\":[")
+    push_key(text, key, "\":[")
 }
 
 /// Appends a line that is an object with a text, up to the text.
@@ -103,7 +115,7 @@ fn push_text_front(
         ≡ string_bytes text.old ++ text_front kind.now (fields_told fields.now) key.now) }
 {
     push_front(text, kind, fields)?;
-    write!(text, ",\"{key}\":\"")
+    push_key(text, key, "\":\"")
 }
 
 /// Appends an object with numbers and the digits of a magic, up to its end.

@@ -6,7 +6,7 @@
 //! saturate, and `numbers_fit` proves that no accepted input reaches the greatest number.
 //!
 //! `write_show` keeps the bytes that `check_keeping` accepts, reads them again, and prints items as they are read, without a tree.
-//! `write_events` prints each event of `PackedEvents` as it comes, as text or as a JSON object (`json`), in pieces of about 8 KiB.
+//! `write_events` prints each event of `PackedEvents` as it comes, as text or as a JSON object (`json`), in pieces of about 64 KiB.
 #![tactic(auto)]
 
 mod analysing;

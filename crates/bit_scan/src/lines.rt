@@ -125,6 +125,7 @@ fn push_digit(text: &mut String, digit: u64) -> Result<(), AllocError>
 
 /// Appends a number of one or two digits.
 #[inline(always)]
+#[tactic(auto, using(crate::proofs::Appending::digit_behind))]
 fn push_tens(text: &mut String, number: u64) -> Result<(), AllocError>
     requires { number < 100 }
     ensures { OnOk result (string_bytes text.new ≡ string_bytes text.old ++ decimal number) }
@@ -138,6 +139,7 @@ fn push_tens(text: &mut String, number: u64) -> Result<(), AllocError>
 
 /// Appends a number of up to three digits.
 #[inline(always)]
+#[tactic(auto, using(crate::proofs::Appending::digit_behind))]
 fn push_hundreds(text: &mut String, number: u64) -> Result<(), AllocError>
     requires { number < 1000 }
     ensures { OnOk result (string_bytes text.new ≡ string_bytes text.old ++ decimal number) }
@@ -169,6 +171,16 @@ pub(crate) fn push_number(text: &mut String, number: u64) -> Result<(), AllocErr
     push_formatted(text, number)
 }
 
+/// Appends a word and a number.
+#[inline(always)]
+fn push_counted(text: &mut String, word: &str, number: u64) -> Result<(), AllocError>
+    ensures { OnOk result (string_bytes text.new
+        ≡ string_bytes text.old ++ (word.now ++ decimal number)) }
+{
+    text.push_str(word)?;
+    push_number(text, number)
+}
+
 /// Appends two spaces for each block around.
 fn push_indent(text: &mut String, around: u32) -> Result<(), AllocError>
     ensures { OnOk result (string_bytes text.new
@@ -194,8 +206,7 @@ pub(crate) fn push_record_head(text: &mut String, around: u32, code: u64) -> Res
         ≡ string_bytes text.old ++ record_line_front around code) }
 {
     push_indent(text, around)?;
-    text.push_str("record ")?;
-    push_number(text, code)
+    push_counted(text, "record ", code)
 }
 
 /// Appends a value of a record in a listing.
@@ -294,7 +305,9 @@ pub(crate) fn push_noted_head(
         ≡ string_bytes text.old ++ noted_head around first code abbreviation count) }
 {
     push_place(text, first, around)?;
-    write!(text, "record {code} by {abbreviation} count {count}")
+    push_counted(text, "record ", code)?;
+    push_counted(text, " by ", abbreviation as u64)?;
+    push_counted(text, " count ", count)
 }
 
 /// Appends the line of a block's end, with `around` blocks open before it.

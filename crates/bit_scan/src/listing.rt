@@ -45,11 +45,9 @@ fn write_zeros<K: Sink>(printer: &mut Printer<K>, count: u64) -> Result<(), Faul
     Ok(())
 }
 
-/// Writes the values of a record.
-pub(crate) fn write_values<K: Sink>(
-    printer: &mut Printer<K>,
-    values: &PackedValues,
-) -> Result<(), Fault>
+/// Writes values in up to four parts.
+#[inline(never)]
+fn write_parts<K: Sink>(printer: &mut Printer<K>, values: &PackedValues) -> Result<(), Fault>
     ensures { Prints (values_text values.now) printer.old result printer.new }
 {
     let parts = values.parts();
@@ -59,7 +57,23 @@ pub(crate) fn write_values<K: Sink>(
     write_numbers(printer, parts.recent)
 }
 
+/// Writes the values of a record. Those of most records are one part.
+#[inline(always)]
+pub(crate) fn write_values<K: Sink>(
+    printer: &mut Printer<K>,
+    values: &PackedValues,
+) -> Result<(), Fault>
+    ensures { Prints (values_text values.now) printer.old result printer.new }
+{
+    let recent = values.parts().recent;
+    if recent.len() as u64 == values.len() {
+        return write_numbers(printer, recent);
+    }
+    write_parts(printer, values)
+}
+
 /// Writes the line of a record, piece by piece.
+#[tactic(auto, using(crate::proofs::Parted::no_first, crate::proofs::Parted::no_second, crate::proofs::Parted::third, crate::proofs::Parted::record_parts))]
 fn write_record<K: Sink>(
     printer: &mut Printer<K>,
     around: u32,
@@ -154,6 +168,7 @@ fn write_seen<K: Sink>(
 
 /// Takes any next event and writes its line with `around` blocks around it, if it is kept and has one. Returns the number of blocks
 /// around the event that follows, or `None` if no event remains.
+#[tactic(auto, using(crate::proofs::Lists::line_stops))]
 fn write_found<K: Sink>(
     events: &mut SliceEvents<'_>,
     printer: &mut Printer<K>,

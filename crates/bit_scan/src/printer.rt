@@ -1,12 +1,12 @@
-ghost use Rattle.std.specs.Prelude.{◌≡◌, ◌-◌, ◌∷◌, ◌++◌, [], OnOk, codes, decimal, flat_map};
+ghost use Rattle.std.specs.Prelude.{◌≡◌, ◌-◌, ◌∷◌, ◌++◌, [], OnOk, OnErr, codes, decimal, flat_map};
 ghost use Rattle.bit_grammar.specs.EventTexts.{line_at, op_text, opened_text};
 ghost use Rattle.bit_grammar.specs.Reasons.{name_of};
 ghost use Rattle.bit_grammar.specs.Texts.{hex_text, magic_bytes, magic_text, block_line};
 ghost use Rattle.bit_fields.specs.Opening.{magic_number};
 ghost use Rattle.bit_scan.specs.Json.{comma, fields_told, list_front, number_json, object_line, op_json, text_line};
 ghost use Rattle.bit_scan.specs.Lines.{report_head, listing_head, block_row_text, code_row_text, record_line_front, definition_head, noted_head};
-ghost use Rattle.bit_scan.specs.Printing.{Prints};
-ghost use Rattle.bit_scan.specs.Written.{WritesText};
+ghost use Rattle.bit_scan.specs.Printing.{PrintedAll, PrintedFront, Prints};
+ghost use Rattle.bit_scan.specs.Written.{HasFailed, TookFront, TookText};
 
 use crate::json::{
     Field, push_list_front, push_magic_line, push_number_item, push_object_line, push_op_item,
@@ -23,19 +23,22 @@ use bit_grammar::Op;
 use std::alloc::{AllocError, Global};
 use std::marker::Model;
 
-/// The number of bytes that are buffered before they are put.
-const HELD: usize = 8192;
+/// The number of bytes that are buffered before they are put. A writer with a buffer of this size gets them without a copy.
+const HELD: usize = 65536;
 
 /// Gives a sink all of these bytes, in as many puts as it takes.
-fn put_all<K: Sink>(sink: &mut K, bytes: &[u8]) -> Result<(), Fault>
-    ensures { WritesText bytes.now (K.outgoing sink.old) result (K.outgoing sink.new) }
+#[tactic(auto, using(crate::proofs::Puts::put_on))]
+fn put_all<K: Sink>(sink: &mut K, bytes: &[u8]) -> Result<(), SinkFailed>
+    ensures ok { OnOk result (TookText bytes.now (K.outgoing sink.old) (K.outgoing sink.new)) }
+    ensures err { OnErr result (TookFront bytes.now (K.outgoing sink.old) (K.outgoing sink.new)
+        × HasFailed (K.outgoing sink.old) (K.outgoing sink.new)) }
 {
     let mut rest = bytes;
     while !rest.is_empty() {
         match sink.put(rest) {
-            Ok(0) => return Err(Fault::Write),
+            Ok(0) => return Err(SinkFailed),
             Ok(count) => rest = &rest[count..],
-            Err(SinkFailed) => return Err(Fault::Write),
+            Err(error) => return Err(error),
         }
     }
     Ok(())
@@ -60,6 +63,7 @@ impl<K: Sink> Model for Printer<K> {
     } };
 }
 
+#[tactic(auto, using(crate::proofs::Prints::settled))]
 impl<K: Sink> Printer<K> {
     /// With an empty buffer.
     pub(crate) fn new(alloc: Global, sink: K) -> Printer<K>
@@ -78,17 +82,33 @@ impl<K: Sink> Printer<K> {
         self.sink
     }
 
-    /// Gives the sink all buffered text.
-    pub(crate) fn finish(&mut self) -> Result<(), Fault>
-        ensures prints { Prints [] self.old result self.new }
-        ensures all { OnOk result (self.new.held ≡ []) }
+    /// Gives the sink all buffered text. Its small result costs callers nothing before they call it.
+    #[cold]
+    #[inline(never)]
+    fn put_held(&mut self) -> Result<(), SinkFailed>
+        ensures ok { OnOk result (PrintedAll [] self.old self.new) }
+        ensures err { OnErr result (PrintedFront [] self.old self.new
+            × HasFailed self.old.outgoing self.new.outgoing) }
     {
         put_all(&mut self.sink, self.held.as_bytes())?;
         self.held.clear();
         Ok(())
     }
 
+    /// Gives the sink all buffered text.
+    #[inline(always)]
+    pub(crate) fn finish(&mut self) -> Result<(), Fault>
+        ensures prints { Prints [] self.old result self.new }
+        ensures all { OnOk result (self.new.held ≡ []) }
+    {
+        match self.put_held() {
+            Ok(()) => Ok(()),
+            Err(SinkFailed) => Err(Fault::Write),
+        }
+    }
+
     /// Gives the sink the buffered text once there is enough of it.
+    #[inline(always)]
     fn settle(&mut self) -> Result<(), Fault>
         ensures { Prints [] self.old result self.new }
     {

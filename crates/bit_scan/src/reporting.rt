@@ -11,6 +11,7 @@ use std::alloc::Global;
 /// The sink gets nothing before the whole input is accepted. `Refused` names the one reason and bit at which it breaks
 /// the rules. `Write`, and `Memory` after acceptance, leave the sink a prefix of the report. The source and the sink are
 /// returned.
+#[tactic(auto, using(crate::proofs::Reported::not_reported, crate::proofs::Reported::reported))]
 pub fn write_report_as<S: Source, K: Sink>(
     alloc: Global,
     source: S,

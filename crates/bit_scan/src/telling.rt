@@ -46,6 +46,7 @@ fn write_operands<K: Sink>(printer: &mut Printer<K>, ops: &[Op]) -> Result<(), F
 }
 
 /// Writes the line of a definition.
+#[tactic(auto, using(crate::proofs::Parted::no_first, crate::proofs::Parted::no_second, crate::proofs::Parted::third, crate::proofs::Parted::definition_parts))]
 fn write_definition<K: Sink>(
     printer: &mut Printer<K>,
     around: u32,
@@ -83,6 +84,7 @@ struct Noted {
 }
 
 /// Writes the line of a record.
+#[tactic(auto, using(crate::proofs::Parted::no_first, crate::proofs::Parted::no_second, crate::proofs::Parted::third, crate::proofs::Parted::noted_parts))]
 fn write_noted<K: Sink>(
     printer: &mut Printer<K>,
     around: u32,

@@ -337,23 +337,23 @@ fn listings_of_what_is_left(rt: HostRuntime) -> Result<(), Fail> {
     lists_left(&rt, alloc, &ROUND, named, round)
 }
 
-/// A stream of one block up to the values of its record: 20000 values of 6 bits each.
+/// A stream of one block up to the values of its record: 40000 values of 6 bits each.
 static LONG: [u8; 16] = [
-    0x42, 0x43, 0xc0, 0xde, 0x21, 0x08, 0, 0, 0xa7, 0x0e, 0, 0, 0x1f, 0x60, 0x3c, 0x01,
+    0x42, 0x43, 0xc0, 0xde, 0x21, 0x08, 0, 0, 0x4e, 0x1d, 0, 0, 0x1f, 0xa0, 0x78, 0x06,
 ];
 
-/// The whole stream with values 0: a record whose line is far longer than the buffer.
+/// The whole stream with values 0: a record whose line is longer than the buffer.
 fn long_input(alloc: Global) -> Result<Vec<u8>, AllocError> {
     let mut input = Vec::new(alloc);
     input.extend_from_slice(&LONG)?;
-    input.resize(15_016, 0)?;
+    input.resize(30_020, 0)?;
     Ok(input)
 }
 
 /// Its listing: 33 bytes before the values, 2 for each, and the end of the line.
 fn long_text(alloc: Global) -> Result<String, AllocError> {
     let mut text = String::from_str(alloc, "magic 4243c0de\nblock 8\n  record 7")?;
-    for _ in 0..20_000 {
+    for _ in 0..40_000 {
         text.push_str(" 0")?;
     }
     text.push_str("\n")?;
@@ -370,9 +370,9 @@ fn long_told(alloc: Global, text: &str, most: usize, puts: u64) -> Result<Told, 
 fn long_lines(rt: HostRuntime) -> Result<(), Fail> {
     let text = long_text(rt.alloc())?;
     let told = long_told(rt.alloc(), &text, usize::MAX, u64::MAX);
-    tells(&rt, told, (Ok(()), 0, Some(40_034)))?;
-    let told = long_told(rt.alloc(), &text, 5000, 3);
-    tells(&rt, told, (Err(Fault::Write), 1, Some(13_193)))
+    tells(&rt, told, (Ok(()), 0, Some(80_034)))?;
+    let told = long_told(rt.alloc(), &text, 5000, 15);
+    tells(&rt, told, (Err(Fault::Write), 1, Some(70_537)))
 }
 
 /// The result of writing the report of the empty stream to a vector, and how much of it the vector has.

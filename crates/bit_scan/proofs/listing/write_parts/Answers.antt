@@ -3,7 +3,7 @@ use Rattle.std.proofs.Math.ListN.{replicate}
 use Rattle.std.proofs.lemmas.Result.{err_from_is_err_and}
 use Rattle.bit_grammar.specs.Texts.{values_text}
 use Rattle.bit_scan.proofs.Parted.{no_first, no_second, no_third, fourth, values_parts}
-use Rattle.bit_scan.proofs.listing.write_values.Goals as goal
+use Rattle.bit_scan.proofs.listing.write_parts.Goals as goal
 
 pub returns-in_err-write_numbers : goal.returns-in_err-write_numbers
 returns-in_err-write_numbers g c =

@@ -1,9 +1,0 @@
-use Rattle.std.proofs.Common.{string_bytes}
-use Rattle.bit_scan.specs.Lines.{noted_head}
-use Rattle.bit_scan.proofs.Prints.{settled}
-use Rattle.bit_scan.proofs.printer.Printer.noted_head.Goals as goal
-
-pub returns-in-Ok : goal.returns-in-Ok
-returns-in-Ok g c =
-    rw (← c.self.view_is)
-    (settled (noted_head c.args.around c.args.first c.args.code c.args.abbreviation c.args.count) (record { outgoing = g.K.Sink.outgoing c.self.inside.sink; held = string_bytes c.self.inside.held }) (string_bytes c.push_noted_head.new.text) c.settle.result c.settle.new.self c.in-Ok.ensures c.settle.ensures)
