@@ -108,19 +108,6 @@ single_at [] i so less = absurd (omega (arith, less))
 single_at (op ∷ ops) zero so less = (not_array op ops so, not_blob op ops so)
 single_at (op ∷ ops) (suc i) so less = single_at ops i (others_single op ops so) (omega (arith, less))
 
-pub all_single : (ops : List Op) → ((i : ℕ) → i < length ops → (op_at ops i ≡ Array → ⊥) × (op_at ops i ≡ Blob → ⊥)) → singles ops ≡ length ops
-all_single [] each = refl
-all_single (op ∷ ops) each =
-    let first = each 0 (omega arith) in
-    let one = one_more op ops first.0 first.1 in
-    omega (arith, one, all_single ops (λ i less. each (suc i) (omega (arith, less))))
-
-pub singles_and : (ops tail : List Op) → singles ops ≡ length ops → singles (ops ++ tail) ≡ length ops + singles tail
-singles_and [] tail so = omega arith
-singles_and (op ∷ ops) tail so =
-    let one = one_more op (ops ++ tail) (not_array op ops so) (not_blob op ops so) in
-    omega (arith, one, singles_and ops tail (others_single op ops so))
-
 -- what is read from one operand on completes the values of all, and how many there are
 pub record FarIn (room : ℕ) (ops tail : List Op) (a : Reader) (i : ℕ) (b : Reader) (before now : List ℕ) : Type 0 where
   pub all : Completes (values_of room (ops ++ tail)) a before (values_of room (drop i ops ++ tail)) b now

@@ -1,13 +1,11 @@
 -- Numbers in few chunks, taken at once: the word shows what the rule reads.
-use Rattle.std.proofs.Common.{◌≡◌, ℕ, zero, suc, ◌+◌, ◌*◌, ◌-◌, ◌/◌, ◌%◌, ◌^◌, ◌<◌, ◌≤◌, Bool, true, false, ltb, leb, List, ◌++◌, length, get_or, take, drop, Ok, Err, refl, sym, ap, ◌∙◌, subst, arith, bit_and, bit_or, ◌⊎◌, ◌≢◌, inl, inr, min, max}
+use Rattle.std.proofs.Common.{◌≡◌, ℕ, zero, suc, ◌+◌, ◌*◌, ◌-◌, ◌/◌, ◌%◌, ◌^◌, ◌<◌, ◌≤◌, Bool, true, false, ltb, leb, List, ◌++◌, length, get_or, take, drop, Ok, refl, sym, ap, ◌∙◌, subst, arith, bit_and, bit_or, ◌⊎◌, ◌≢◌, inl, inr, min, max}
 use Rattle.std.specs.Int.{w64, bit_at, bit_not, trailing_zeros}
 use Rattle.std.proofs.lemmas.Nat.Bits.{bit_at_and, bit_at_or, bit_at_not, bit_at-lt, bit_at-pow_same, bit_at-pow_other, bit_at-trailing_zeros}
 use Rattle.std.proofs.lemmas.Bool.{cases_lt, lt-ltb, le-leb, lt-leb}
 use Rattle.std.proofs.lemmas.Nat.{shr-shr, mod-pow-add, pow_pos, mod_below, div-mul-add, and_mask, one_shl, and_le_l, or_lt}
-use Rattle.std.proofs.lemmas.List.{length-append}
 use Rattle.std.proofs.Math.Nat.{mod-eq_of_lt, div-eq_of_lt}
 use Rattle.std.proofs.Math.Pow.{pow_mono, mod-mod-pow}
-use Rattle.bit_grammar.specs.declared.reason.Reason.TheVariants.{Truncated}
 use Rattle.bit_grammar.specs.Bits.{bits_of, number}
 use Rattle.bit_grammar.specs.Grammar.{at, reading}
 use Rattle.bit_grammar.specs.Fields.{chunks, vbr}
@@ -15,8 +13,8 @@ use Rattle.bit_grammar.specs.Terms.{chunk_limit}
 use Rattle.bit_grammar.proofs.Bits.Numbers.{length-bits_of}
 use Rattle.bit_fields.specs.Short.{EndsChunks, EndsAt, payload_number}
 use Rattle.bit_fields.specs.declared.window.TheConstants.{FOUR_TOPS}
-use Rattle.bit_fields.proofs.BitLaws.{number-bits_mod, take-bits_of, window_rest, rest_below, drop_more, bits_of-number}
-use Rattle.bit_fields.proofs.Parts.{part_at, part_short}
+use Rattle.bit_fields.proofs.BitLaws.{number-bits_mod, take-bits_of, window_rest, drop_more, bits_of-number}
+use Rattle.bit_fields.proofs.Parts.{part_at}
 use Rattle.bit_fields.proofs.Chunks.{chunk_step, after_number, limit_times}
 
 -- ---- how many chunks
@@ -258,35 +256,6 @@ four_is n word third second value two narrow third_is second_is value_is =
     let three = more_gathered n 1 (2 * n) (3 * n) word (bit_and (word / 2 ^ (3 * n)) (1 * 2 ^ (n - 1) % 2 ^ 64 - 1)) third two narrow (omega arith) fourth third_is in
     let two_up = more_gathered n 2 n (2 * n) word third second two narrow (omega arith) three second_is in
     all_gathered n 3 word second value two narrow two_up value_is
-
--- ---- missing bits
-
--- a word with a bit at a place has bits beyond it
-held_beyond : (payload held word : ℕ) → word < 2 ^ held → word / 2 ^ payload % 2 ≡ 1 → suc payload ≤ held
-held_beyond payload held word below on = elim (cases_lt held (suc payload)) [
-  | inl lt ↦
-      let wide : 2 ^ held ≤ 2 ^ payload = pow_mono {i = held} {j = payload} (omega (arith, lt)) in
-      let none : word / 2 ^ payload ≡ 0 = div-eq_of_lt (omega (arith, below, wide)) in
-      let off : word / 2 ^ payload % 2 ≡ 0 = ap (λ (x : ℕ). x % 2) none in
-      absurd (omega (arith, on, off))
-  | inr le ↦ le
-]
-
-short_truncated : (count payload first permitted places held word p : ℕ) (more : List Bool) → word < 2 ^ held → EndsChunks payload count word → count ≤ permitted → count * payload ≤ places → length (bits_of held word ++ more) < count * suc payload
-    → reading (chunks payload first permitted places) p (bits_of held word ++ more) ≡ Err (at Truncated first)
-short_truncated zero payload first permitted places held word p more below ends few fits short = absurd ends
-short_truncated (suc zero) payload first zero places held word p more below ends few fits short = absurd (omega (arith, few))
-short_truncated (suc zero) payload first (suc permitted) places held word p more below ends few fits short =
-    sym (chunk_step payload first permitted places p (bits_of held word ++ more))
-    ∙ rw (part_short (suc payload) first p (bits_of held word ++ more) (omega (arith, short))) refl
-short_truncated (suc (suc count)) payload first zero places held word p more below ends few fits short = absurd (omega (arith, few))
-short_truncated (suc (suc count)) payload first (suc permitted) places held word p more below ends few fits short =
-    let there : suc payload ≤ held = held_beyond payload held word below ends.0 in
-    let long : length (bits_of held word ++ more) ≡ held + length more = length-append (bits_of held word) more ∙ ap (λ (k : ℕ). k + length more) (length-bits_of held word) in
-    let long_behind : length (bits_of (held - suc payload) (word / 2 ^ suc payload) ++ more) ≡ held - suc payload + length more = length-append (bits_of (held - suc payload) (word / 2 ^ suc payload)) more ∙ ap (λ (k : ℕ). k + length more) (length-bits_of (held - suc payload) (word / 2 ^ suc payload)) in
-    let later = short_truncated (suc count) payload first permitted (places - payload) (held - suc payload) (word / 2 ^ suc payload) (p + suc payload) more (rest_below held word (suc payload) there below) ends.1 (omega (arith, few)) (omega (arith, fits)) (omega (arith, short, long, long_behind, there)) in
-    first_reads payload first permitted places held word p more there
-    ∙ rw (payload_is payload word, goes_there payload word ends.0, fits_places payload places word (omega (arith, fits)), later) refl
 
 -- ---- the code's masks
 
