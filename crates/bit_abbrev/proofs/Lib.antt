@@ -1,4 +1,5 @@
 pub mod Breaks
+mod Heads
 pub mod Table
 pub mod Adding
 pub mod Taking

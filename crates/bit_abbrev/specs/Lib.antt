@@ -1,5 +1,7 @@
 pub mod Bits
 pub mod Breaks
+pub mod Heads
+pub mod Held
 pub mod Operands
 pub mod Table
 pub mod Values

@@ -1,9 +1,13 @@
 -- The operands of a definition after the first one. Source: "LLVM Bitcode File Format", "Abbreviation IDs", "DEFINE_ABBREV
 -- Encoding".
-use Rattle.std.specs.Prelude.{◌≡◌, ℕ, ◌+◌, ◌-◌, List, length, take, drop}
+use Rattle.std.specs.Prelude.{◌≡◌, ℕ, ◌+◌, ◌-◌, ◌<◌, Bool, true, List, length, take, drop}
+use Rattle.std.specs.List.{AllByRecursion, AllByRecursion-prop}
+use Rattle.std.specs.Coded.{×_prop, Π_prop, Unit-prop, le_prop, Coded-set, coded_bool, coded_ℕ}
+use mathlib.Core.HLevel.{⊥_prop}
 use Rattle.bit_grammar.specs.declared.op.Op.{Op}
-use Rattle.bit_grammar.specs.declared.op.Op.TheVariants.{Array, Blob}
-use Rattle.bit_grammar.specs.FormatDefinition.{op_at, IsElement}
+use Rattle.bit_grammar.specs.declared.op.Op.TheVariants.{Literal, Fixed, Vbr, Array, Char6, Blob}
+use Rattle.bit_grammar.specs.Definition.{has_shape}
+use Rattle.bit_grammar.specs.FormatDefinition.{op_at, IsElement, HasLawfulValue}
 use Rattle.bit_grammar.specs.Record.{singles}
 use Rattle.bit_abbrev.specs.declared.tail.Tail.{Tail}
 use Rattle.bit_abbrev.specs.declared.tail.Tail.TheVariants as tail
@@ -27,3 +31,23 @@ tail_length tail.Array = 2
 -- what follows those operands
 abbrev pub HasTail : List Op → Tail → Type 0
 HasTail ops tail = length ops ≡ 1 + (singles (others_of ops) + tail_length tail)
+
+-- what is known of the operands of a definition: there is one, each has a lawful value, whether a record may use them, and then
+-- what follows those that stand for one value each
+abbrev pub Known : List Op → (usable : Bool) → Tail → Type 0
+Known ops usable tail = ((0 < length ops) × AllByRecursion HasLawfulValue ops)
+    × ((usable ≡ has_shape ops) × (usable ≡ true → HasTail ops tail))
+
+HasLawfulValue-prop : (op : Op) → IsProp (HasLawfulValue op)
+HasLawfulValue-prop (Literal v) = le_prop
+HasLawfulValue-prop (Fixed width) = le_prop
+HasLawfulValue-prop (Vbr width) = ×_prop le_prop (Π_prop λ _. ⊥_prop)
+HasLawfulValue-prop Array = Unit-prop
+HasLawfulValue-prop Char6 = Unit-prop
+HasLawfulValue-prop Blob = Unit-prop
+
+pub Known-prop : (ops : List Op) (usable : Bool) (tail : Tail) → IsProp (Known ops usable tail)
+Known-prop ops usable tail = ×_prop
+    (×_prop (le_prop {n = 1} {m = length ops}) (AllByRecursion-prop HasLawfulValue HasLawfulValue-prop ops))
+    (×_prop (Coded-set coded_bool usable (has_shape ops)) (Π_prop {A = usable ≡ true} λ _.
+    Coded-set coded_ℕ (length ops) (1 + (singles (others_of ops) + tail_length tail))))

@@ -3,7 +3,7 @@
 ghost use Rattle.std.specs.Prelude.{◌≡◌, ◌≤◌, ◌↔◌, true, length, IsOk, IfOk, IfErr, IfSome, IfNone};
 ghost use Rattle.bit_grammar.specs.Definition.{fits, place_after, kind_of, has_shape};
 ghost use Rattle.bit_grammar.specs.FormatDefinition.{Definable, Lawful};
-ghost use Rattle.bit_abbrev.specs.Operands.{HasTail};
+ghost use Rattle.bit_abbrev.specs.Operands.{HasTail, Known, Known-prop};
 ghost use Rattle.bit_abbrev.specs.Breaks.{IsFirstBreak, LiteralFits, break_of};
 
 use crate::tail::{Tail, tail_of};
@@ -36,19 +36,24 @@ pub struct Abbrev {
 }
 
 impl Model for Abbrev {
-    ghost use Rattle.std.specs.Prelude.{◌≡◌, List, true};
+    ghost use Rattle.std.specs.Prelude.{List};
     ghost use Rattle.bit_grammar.specs.declared.op.Op.{Op};
-    ghost use Rattle.bit_grammar.specs.Definition.{has_shape};
-    ghost use Rattle.bit_grammar.specs.FormatDefinition.{Definable};
-    ghost use Rattle.bit_abbrev.specs.Operands.{HasTail};
+    ghost use Rattle.bit_abbrev.specs.Operands.{Known};
 
     ghost Value = { List Op };
 
     ghost view = { λ definition. definition.ops.items };
 
-    ghost invariant = { λ definition. Definable definition.ops.items
-        × (definition.usable ≡ has_shape definition.ops.items)
-        × (definition.usable ≡ true → HasTail definition.ops.items definition.tail) };
+    ghost invariant = { λ definition. Known definition.ops.items definition.usable definition.tail };
+}
+
+/// A definition that is lent.
+#[derive(Clone, Copy, Debug)]
+pub struct Definition<'a> {
+    pub(crate) ops: &'a [Op],
+    pub(crate) usable: bool,
+    pub(crate) tail: Tail,
+    pub ghost known: { Known ops.now usable tail } by { Known-prop ops.now usable tail },
 }
 
 /// Whether an operand of this kind may be at a place, with `after` operands after it.
@@ -180,22 +185,15 @@ impl Abbrev {
         self.usable
     }
 
-    /// The operands, in a lawful order.
-    pub fn lawful_ops(&self) -> &[Op]
-        requires { has_shape self.now ≡ true }
-        ensures items { result.now ≡ self.now }
-        ensures lawful { Lawful self.now }
+    /// Lends it.
+    pub fn lend(&self) -> Definition<'_>
+        ensures { result.ops.now ≡ self.now }
     {
-        self.ops.as_slice()
-    }
-
-    /// What follows the operands that stand for one value each.
-    #[inline(always)]
-    pub(crate) fn tail(&self) -> Tail
-        requires { has_shape self.now ≡ true }
-        ensures { HasTail self.now result }
-    {
-        self.tail
+        Definition {
+            ops: self.ops.as_slice(),
+            usable: self.usable,
+            tail: self.tail,
+        }
     }
 
     /// A copy, with the same operands.
@@ -203,7 +201,50 @@ impl Abbrev {
         ensures ok { IfOk result (λ copy. copy ≡ self.now) }
         ensures short { length self.now ≤ 8 → IsOk result }
     {
-        let ops = SmallVec::from_slice(alloc, self.ops.as_slice())?;
+        self.lend().copy(alloc)
+    }
+}
+
+impl<'a> Definition<'a> {
+    /// The operands.
+    pub fn ops(&self) -> &'a [Op]
+        ensures items { result.now ≡ self.now.ops.now }
+        ensures definable { Definable self.now.ops.now }
+    {
+        self.ops
+    }
+
+    /// Whether a record may use it: its operands are in a lawful order.
+    pub fn is_usable(&self) -> bool
+        ensures { result ≡ has_shape self.now.ops.now }
+    {
+        self.usable
+    }
+
+    /// The operands, in a lawful order.
+    pub fn lawful_ops(&self) -> &'a [Op]
+        requires { has_shape self.now.ops.now ≡ true }
+        ensures items { result.now ≡ self.now.ops.now }
+        ensures lawful { Lawful self.now.ops.now }
+    {
+        self.ops
+    }
+
+    /// What follows the operands that stand for one value each.
+    #[inline(always)]
+    pub(crate) fn tail(&self) -> Tail
+        requires { has_shape self.now.ops.now ≡ true }
+        ensures { HasTail self.now.ops.now result }
+    {
+        self.tail
+    }
+
+    /// A copy, with the same operands.
+    pub fn copy(&self, alloc: Global) -> Result<Abbrev, AllocError>
+        ensures ok { IfOk result (λ copy. copy ≡ self.now.ops.now) }
+        ensures short { length self.now.ops.now ≤ 8 → IsOk result }
+    {
+        let ops = SmallVec::from_slice(alloc, self.ops)?;
         Ok(Abbrev {
             ops,
             usable: self.usable,

@@ -2,9 +2,12 @@
 
 ghost use Rattle.std.specs.Prelude.{◌≡◌, ℕ, OnOk, OnErr};
 ghost use Rattle.bit_grammar.specs.Terms.{defined_at, no_definitions};
-ghost use Rattle.bit_abbrev.specs.Table.{definitions_at};
+ghost use Rattle.bit_abbrev.specs.Table.{definitions_at, heads_at, and_at, lists_of};
 
 use crate::Abbrev;
+use crate::head::Head;
+use crate::held::{Listed, add};
+use bit_grammar::Op;
 use std::alloc::{AllocError, Global};
 use std::collections::BTreeMap;
 use std::marker::Model;
@@ -14,7 +17,9 @@ use std::marker::Model;
 #[derive(Drop)]
 pub struct InfoTable {
     alloc: Global,
-    lists: BTreeMap<u32, Vec<Abbrev>>,
+    /// The operands of all definitions.
+    ops: Vec<Op>,
+    lists: BTreeMap<u32, Vec<Head>>,
 }
 
 impl Model for InfoTable {
@@ -23,9 +28,11 @@ impl Model for InfoTable {
 
     ghost Value = { List (ℕ × List (List Op)) };
 
-    ghost use Rattle.bit_abbrev.specs.Table.{table_shown};
+    ghost use Rattle.bit_abbrev.specs.Table.{lists_of, table_shown, HoldsTable};
 
-    ghost view = { λ table. table_shown table.lists.entries };
+    ghost view = { λ table. table_shown table.ops.items (lists_of table.lists.entries) };
+
+    ghost invariant = { λ table. HoldsTable table.ops.items (lists_of table.lists.entries) };
 }
 
 impl InfoTable {
@@ -35,17 +42,24 @@ impl InfoTable {
     {
         InfoTable {
             alloc,
+            ops: Vec::new(alloc),
             lists: BTreeMap::new(alloc),
         }
     }
 
     /// The definitions for a block id, possibly none.
-    pub fn for_block(&self, id: u32) -> &[Abbrev]
-        ensures { result.now ≡ definitions_at self.now id }
+    pub fn for_block(&self, id: u32) -> Listed<'_>
+        ensures { result ≡ definitions_at self.now id }
     {
-        match self.lists.get(&id) {
-            Some(list) => list.as_slice(),
-            None => &[],
+        let Some(list) = self.lists.get(&id) else {
+            return Listed {
+                heads: &[],
+                ops: &[],
+            };
+        };
+        Listed {
+            heads: list.as_slice(),
+            ops: self.ops.as_slice(),
         }
     }
 
@@ -56,13 +70,35 @@ impl InfoTable {
             other) }
         ensures err { OnErr result (self.new ≡ self.old) }
     {
-        if let Some(list) = self.lists.get_mut(&id) {
-            list.push(abbrev)?;
-            return Ok(());
+        let before = self.ops.len();
+        let head = add(&mut self.ops, &abbrev)?;
+        match put(&mut self.lists, self.alloc, id, head) {
+            Ok(()) => Ok(()),
+            Err(refused) => {
+                self.ops.truncate(before);
+                Err(refused)
+            }
         }
-        let mut list = Vec::new(self.alloc);
-        list.push(abbrev)?;
-        self.lists.insert(id, list)?;
-        Ok(())
     }
+}
+
+/// Adds where a definition is to those for a block id.
+fn put(
+    lists: &mut BTreeMap<u32, Vec<Head>>,
+    alloc: Global,
+    id: u32,
+    head: Head,
+) -> Result<(), AllocError>
+    ensures ok { OnOk result ((other : ℕ) → heads_at (lists_of lists.new.entries) other
+        ≡ and_at id head (heads_at (lists_of lists.old.entries)) other) }
+    ensures err { OnErr result (lists_of lists.new.entries ≡ lists_of lists.old.entries) }
+{
+    if let Some(list) = lists.get_mut(&id) {
+        list.push(head)?;
+        return Ok(());
+    }
+    let mut list = Vec::with_capacity(alloc, 1)?;
+    list.push(head)?;
+    lists.insert(id, list)?;
+    Ok(())
 }

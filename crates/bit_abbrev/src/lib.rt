@@ -18,6 +18,8 @@ mod buffered_tests;
 #[cfg(test)]
 mod counting_tests;
 mod definition;
+mod head;
+mod held;
 mod in_force;
 mod info;
 mod laws;
@@ -30,10 +32,11 @@ mod tail;
 mod tests;
 mod widths;
 
-pub use abbrev::{Abbrev, BadAbbrev, Ops};
+pub use abbrev::{Abbrev, BadAbbrev, Definition, Ops};
 pub use bit_grammar::Op;
 pub use bits::{Bits, NotBuffered};
 pub use definition::read_define;
+pub use held::Listed;
 pub use in_force::{Definitions, InForce, Lookup, SharedInfo};
 pub use info::InfoTable;
 pub use laws::lawful_unbroken;

@@ -15,7 +15,7 @@ ghost use Rattle.bit_abbrev.specs.Bits.{Answers};
 ghost use Rattle.bit_abbrev.specs.Operands.{OthersInOrder, others_of};
 ghost use Rattle.bit_abbrev.specs.Values.{AddsAll, AddsFew, AddsFirst, AddsWithin, Gains, Keeps, PassesFirst, Recorded};
 
-use crate::abbrev::Abbrev;
+use crate::abbrev::{Abbrev, Definition};
 use crate::bits::Bits;
 use crate::runs::Runs;
 use bit_fields::{BitReader, ChunkWidth, Fault, FieldWidth, Source, ValueTaker};
@@ -304,15 +304,15 @@ fn read_by_ops<U, B: Runs, V: ValueTaker>(
 #[inline(always)]
 pub fn read_record<U, B: Runs, V: ValueTaker>(
     bits: &mut B,
-    abbrev: &Abbrev,
+    abbrev: Definition<'_>,
     first: u64,
     room: u64,
     values: &mut V,
 ) -> Result<u64, B::Miss>
-    requires shape { has_shape «abbrev».now ≡ true }
+    requires shape { has_shape «abbrev».ops.now ≡ true }
     requires live { (B.as_reader bits.old).live ≡ true }
     ensures adds { Answers B.faults (λ r. Gains V.took values.old values.new
-        (AddsWithin (abbreviated first room «abbrev».now) room (B.as_reader bits.old) r
+        (AddsWithin (abbreviated first room «abbrev».entry.ops.now) room (B.as_reader bits.old) r
         (B.as_reader bits.new))) result }
     ensures keeps { Keeps V.took values.old values.new }
 {
@@ -370,7 +370,7 @@ pub fn read_abbreviated<S: Source, V: ValueTaker>(
     }
     let start = reader.position();
     let before = values.count();
-    match read_record::<V, BitReader<S>, V>(reader, abbrev, first, room, values) {
+    match read_record::<V, BitReader<S>, V>(reader, abbrev.lend(), first, room, values) {
         Ok(code) => Ok(code),
         Err(fault) => {
             values.truncate(before);

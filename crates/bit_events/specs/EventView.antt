@@ -11,7 +11,7 @@ abbrev pub shown_by : {L : Type 0} → (told : L → List ℕ) → Event L → m
 shown_by told (event.Enter id width first body) = enters
     (record { id = id; width = width; first = first; body = body })
 shown_by told (event.Define ops first after) = defines
-    (record { ops = ops.now; first = first; after = after })
+    (record { ops = ops.ops.now; first = first; after = after })
 shown_by told (event.Record abbreviation code values first after) = notes
     (record {
       abbreviation = abbreviation;

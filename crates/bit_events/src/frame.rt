@@ -1,9 +1,9 @@
 ghost use Rattle.std.specs.Prelude.{◌≡◌, ◌-◌, ◌+◌, ◌≤◌, true, [], ℕ, List, Some, OnOk, IsSome, length, unwrap_or, slice_get};
-ghost use Rattle.std.specs.Option.{option_copied};
 ghost use Rattle.bit_grammar.specs.Blocks as blocks;
 ghost use Rattle.bit_grammar.specs.Blocks.{Handed, defined, define, describe, record_after, may_define};
 ghost use Rattle.bit_grammar.specs.Machine.{scope_of};
 ghost use Rattle.bit_fields.specs.Reader.{Takes, told_by};
+ghost use Rattle.bit_abbrev.specs.Held.{lent_ops};
 ghost use Rattle.bit_abbrev.specs.Values.{Has};
 ghost use Rattle.bit_events.specs.Firsts.{TookWithFirst};
 ghost use Rattle.bit_events.specs.FrameView.{describing_shown, info_shown, described_value, frame_shown, newest_in};
@@ -12,7 +12,7 @@ use crate::entry::read_entry;
 use crate::head::BlockHead;
 use crate::heads::or_memory_fault;
 use crate::with_first::WithFirst;
-use bit_abbrev::{Abbrev, InForce, InfoTable, read_define};
+use bit_abbrev::{Abbrev, Definition, InForce, InfoTable, read_define};
 use bit_fields::{BitReader, Fault, Reason, Shapes, Source, ValueTaker};
 use bit_grammar::SET_BID;
 use std::alloc::{AllocError, Global};
@@ -45,8 +45,8 @@ impl Frame {
 
     /// The last definition in the list to which a new one is added: the definitions in force, or in a BLOCKINFO block those made
     /// for the described block.
-    pub(crate) fn newest(&self) -> Option<&Abbrev>
-        ensures { option_copied result ≡ newest_in (frame_shown self.now) }
+    pub(crate) fn newest(&self) -> Option<Definition<'_>>
+        ensures { lent_ops result ≡ newest_in (frame_shown self.now) }
     {
         match &self.info {
             None => self.definitions.last(),

@@ -44,7 +44,7 @@ fn give(
             first,
             body,
         } => builder.enter(id, width, first, body),
-        Row::Define { first, after } => builder.define(define, first, after),
+        Row::Define { first, after } => builder.define(define.lend(), first, after),
         Row::Record {
             abbrev,
             code,

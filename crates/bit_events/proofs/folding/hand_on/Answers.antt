@@ -15,7 +15,7 @@ returns-in-Enter-clause-gathers g c = rw c.in-Enter.is (for_each _ (λ (list : L
 
 pub returns-in-Some-clause-gathers : goal.returns-in-Some-clause-gathers
 returns-in-Some-clause-gathers g c =
-    let held : newest (frames_shown c.args.machine.now.frames.items) ≡ Some c.in-Some.abbrev.now = sym c.in-Some.ensures in
+    let held : newest (frames_shown c.args.machine.now.frames.items) ≡ Some c.in-Some.abbrev.ops.now = sym c.in-Some.ensures in
     rw (c.in-Define.is, held) (for_each _ (λ (list : List ℕ). g.G.Values.ValueTaker.took c.args.values.now list) c.define.result c.define.ensures)
 
 pub returns-in-Record-clause-gathers : goal.returns-in-Record-clause-gathers

@@ -6,4 +6,4 @@ pub invariant_of-result : goal.invariant_of-result
 invariant_of-result c =
     let usable = rw c.as_slice.ensures at c.has_shape-usable.ensures in
     let tail = rw c.as_slice-2.ensures at c.tail_of-tail.ensures in
-    (c.requires, usable, λ yes. tail (lawful_of c.args.ops.items c.requires (sym usable ∙ yes)))
+    ((c.requires.some, c.requires.values), (usable, λ yes. tail (lawful_of c.args.ops.items c.requires (sym usable ∙ yes))))

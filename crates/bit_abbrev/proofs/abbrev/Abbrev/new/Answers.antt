@@ -11,4 +11,4 @@ invariant_of-result c =
     let lawful = rw c.as_slice.ensures at c.in-None.ensures.none in
     let h = of_lawful c.args.ops.items lawful in
     let tail = rw c.as_slice-in-None.ensures at c.tail_of-tail.ensures in
-    (h.0, h.1, λ yes. tail lawful)
+    ((h.0.some, h.0.values), (h.1, λ yes. tail lawful))
