@@ -1,14 +1,16 @@
 -- Definitions whose operands stand in one list, which grows.
-use Rattle.std.proofs.Common.{◌≡◌, ℕ, ◌-◌, ◌≤◌, List, [], ◌∷◌, ◌++◌, length, Option, Some, None, refl, sym, ap, ◌∙◌, subst, arith, take, drop, map, slice_get}
-use Rattle.std.proofs.lemmas.List.{append-nil, length-append, length-drop, take-append-le, drop-append-le, map-append}
-use Rattle.std.proofs.lemmas.Option.{slice_get-map}
-use Rattle.std.proofs.Math.Seq.{drop-append_seam, take-length}
-use Rattle.std.specs.List.{AllByRecursion}
-use Rattle.std.specs.Option.{option_map}
+use Rattle.std.proofs.Common.{◌≡◌, ℕ, ◌-◌, ◌≤◌, List, [], ◌∷◌, ◌++◌, length, refl, sym, ◌∙◌, subst, arith, take, drop}
+use Rattle.std.proofs.lemmas.List.{length-append, length-drop, take-append-le, drop-append-le, map-append}
+use Rattle.std.proofs.Math.Seq.{take-length}
+use Rattle.std.specs.List.{AllByRecursion, slice_range}
 use Rattle.bit_grammar.specs.declared.op.Op.{Op}
 use Rattle.bit_abbrev.specs.declared.head.Head.{Head}
 use Rattle.bit_abbrev.specs.Heads.{ops_of, IsHeld, AreHeld, held}
-use Rattle.bit_abbrev.specs.Operands.{Known}
+use Rattle.bit_grammar.specs.Definition.{has_shape}
+use Rattle.bit_grammar.specs.FormatDefinition.{Definable, Lawful}
+use Rattle.bit_abbrev.specs.Lists.{Grows, added}
+use Rattle.bit_abbrev.specs.Operands.{HasTail, Known}
+use Rattle.bit_abbrev.proofs.Shapes.{lawful_of}
 
 -- operands are the same in a longer list
 pub same_in_more : (all more : List Op) (head : Head) → IsHeld all head → ops_of (all ++ more) head ≡ ops_of all head
@@ -37,8 +39,24 @@ and_one P (y ∷ xs) x all here = (all.0, and_one P xs x all.1 here)
 pub held_and_one : (all : List Op) (heads : List Head) (head : Head) → held all (heads ++ head ∷ []) ≡ held all heads ++ ops_of all head ∷ []
 held_and_one all heads head = map-append (ops_of all) heads (head ∷ [])
 
--- the operands that were added
-pub added_at_end : (all more : List Op) (from to : ℕ) → from ≡ length all → to ≡ length (all ++ more) → take (to - from) (drop from (all ++ more)) ≡ more
-added_at_end all more from to begins ends =
-    let many : to - from ≡ length more = omega (arith, begins, ends, length-append all more) in
-    rw (begins, drop-append_seam all more) (subst (λ (n : ℕ). take n more ≡ more) (sym (subst (λ (n : ℕ). to - n ≡ length more) begins many)) (take-length more))
+-- the operands at the end of the list
+pub held_last : (all : List Op) (head : Head) → head.start ≤ head.end → head.end ≡ length all → Definable (drop head.start all) → head.usable ≡ has_shape (slice_range all head.start (length all))
+    → (Lawful (slice_range all head.start (length all)) → HasTail (slice_range all head.start (length all)) head.tail) → IsHeld all head
+held_last all head less ends definable shape follows =
+    let last = drop head.start all in
+    let many : length all - head.start ≡ length last = omega (arith, length-drop head.start all) in
+    let whole : slice_range all head.start (length all) ≡ last = subst (λ (n : ℕ). take n last ≡ last) (sym many) (take-length last) in
+    let here : ops_of all head ≡ last = subst (λ (n : ℕ). slice_range all head.start n ≡ last) (sym ends) whole in
+    let shaped : head.usable ≡ has_shape last = subst (λ (ops : List Op). head.usable ≡ has_shape ops) whole shape in
+    let tailed : Lawful last → HasTail last head.tail = subst (λ (ops : List Op). Lawful ops → HasTail ops head.tail) whole follows in
+    (less, omega (arith, ends), subst (λ (ops : List Op). Known ops head.usable head.tail) (sym here) ((definable.some, definable.values), (shaped, λ yes. tailed (lawful_of last definable (sym shaped ∙ yes)))))
+
+pub longer : (before after : List Op) → Grows before after → length before ≤ length after
+longer before after grows = rw grows.1 (omega (arith, length-append before grows.0))
+
+-- the operands that were added last
+pub range_at_end : (before all : List Op) (from to : ℕ) → from ≡ length before → to ≡ length all → slice_range all from to ≡ added before all
+range_at_end before all from to begins ends =
+    let last = drop from all in
+    let many : to - from ≡ length last = omega (arith, ends, length-drop from all) in
+    rw (← begins) (subst (λ (n : ℕ). take n last ≡ last) (sym many) (take-length last))

@@ -1,5 +1,5 @@
 -- Definitions whose operands stand in one list.
-use Rattle.std.specs.Prelude.{ℕ, ◌≤◌, List, length, map, slice_range}
+use Rattle.std.specs.Prelude.{◌≤◌, List, length, map, slice_range}
 use Rattle.std.specs.List.{AllByRecursion}
 use Rattle.bit_grammar.specs.declared.op.Op.{Op}
 use Rattle.bit_abbrev.specs.declared.head.Head.{Head}

@@ -2,6 +2,8 @@ pub mod Bits
 pub mod Breaks
 pub mod Heads
 pub mod Held
+pub mod Lists
 pub mod Operands
+pub mod Putting
 pub mod Table
 pub mod Values

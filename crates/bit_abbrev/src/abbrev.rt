@@ -93,7 +93,7 @@ fn kind_of(op: Op) -> Kind
 }
 
 /// Whether operands are in a lawful order.
-fn has_shape(ops: &[Op]) -> bool
+pub(crate) fn has_shape(ops: &[Op]) -> bool
     ensures { result ≡ has_shape ops.now }
 {
     let mut place = Place::First;
@@ -182,7 +182,7 @@ impl Abbrev {
     pub fn is_usable(&self) -> bool
         ensures { result ≡ has_shape self.now }
     {
-        self.usable
+        self.lend().is_usable()
     }
 
     /// Lends it.

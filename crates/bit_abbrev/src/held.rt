@@ -1,12 +1,19 @@
 //! Definitions in a list, whose operands stand in one list.
 
 ghost use Rattle.std.specs.Prelude.{◌≡◌, ◌-◌, IfOk, IfSome, OnErr, length, slice_get};
-ghost use Rattle.bit_abbrev.specs.Held.{Grows, IsHeld, lent_ops, ops_of};
+ghost use Rattle.bit_grammar.specs.Definition.{definition};
+ghost use Rattle.bit_fields.specs.Reader.{Takes, told_by};
+ghost use Rattle.bit_abbrev.specs.Heads.{IsHeld, ops_of};
+ghost use Rattle.bit_abbrev.specs.Held.{lent_ops};
+ghost use Rattle.bit_abbrev.specs.Lists.{Grows};
 
 use crate::Abbrev;
-use crate::abbrev::Definition;
+use crate::abbrev::{Definition, has_shape};
+use crate::definition::read_definition;
 use crate::head::Head;
-use bit_grammar::Op;
+use crate::tail::tail_of;
+use bit_fields::{BitReader, Fault, Source};
+use bit_grammar::{Op, Shapes};
 use std::alloc::AllocError;
 use std::marker::Model;
 
@@ -83,5 +90,35 @@ pub(crate) fn add(ops: &mut Vec<Op>, abbrev: &Abbrev) -> Result<Head, AllocError
         end: ops.len() as u32,
         usable: added.usable,
         tail: added.tail,
+    })
+}
+
+/// Reads a definition after its abbreviation id, adds its operands to those of others, and returns where they are. If it fails, some
+/// may be added, and the reader has failed, at the position where the call began.
+pub(crate) fn read_held<S: Source>(
+    reader: &mut BitReader<S>,
+    shapes: Shapes,
+    ops: &mut Vec<Op>,
+) -> Result<Head, Fault>
+    ensures takes { Takes (definition shapes) reader.old
+        (told_by (ops_of ops.new.items) result) reader.new }
+    ensures grows { Grows ops.old.items ops.new.items }
+    ensures held { IfOk result (IsHeld ops.new.items) }
+{
+    let first = reader.position();
+    let start = ops.len();
+    if let Err(fault) = read_definition(reader, shapes, ops) {
+        return Err(reader.fail_at(fault, first));
+    }
+    let end = ops.len();
+    if end > u32::MAX as usize {
+        return Err(reader.fail(Fault::Memory));
+    }
+    let added = &ops[start..];
+    Ok(Head {
+        start: start as u32,
+        end: end as u32,
+        usable: has_shape(added),
+        tail: tail_of(added),
     })
 }

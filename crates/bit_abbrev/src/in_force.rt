@@ -1,13 +1,16 @@
 //! The table that blocks share, and the definitions in force in a block.
 
 ghost use Rattle.std.specs.Prelude.{◌≡◌, ◌-◌, ◌++◌, [], ◌∷◌, IfOk, OnOk, OnErr, length, slice_get};
+ghost use Rattle.bit_grammar.specs.Definition.{definition};
 ghost use Rattle.bit_abbrev.specs.Held.{lent_ops};
+ghost use Rattle.bit_abbrev.specs.Putting.{Puts};
 ghost use Rattle.bit_abbrev.specs.Table.{definitions_at};
 
 use crate::head::Head;
-use crate::held::{Listed, add};
+use crate::held::{Listed, add, read_held};
 use crate::{Abbrev, Definition, InfoTable};
-use bit_grammar::Op;
+use bit_fields::{BitReader, Fault, Source};
+use bit_grammar::{Op, Shapes};
 use std::alloc::{AllocError, Global};
 use std::marker::Model;
 use std::rc::Rc;
@@ -182,6 +185,23 @@ impl InForce {
     {
         let head = add(&mut self.ops, &abbrev)?;
         self.heads.push(head)?;
+        Ok(())
+    }
+
+    /// Reads a definition of the block after its abbreviation id, and adds it.
+    pub fn read_define<S: Source>(
+        &mut self,
+        reader: &mut BitReader<S>,
+        shapes: Shapes,
+    ) -> Result<(), Fault>
+        ensures puts { Puts (definition shapes) reader.old result reader.new
+            (λ ops. self.new ≡ self.old ++ ops ∷ []) }
+    {
+        let head = read_held(reader, shapes, &mut self.ops)?;
+        match self.heads.push(head) {
+            Ok(()) => {}
+            Err(_) => return Err(reader.fail(Fault::Memory)),
+        }
         Ok(())
     }
 

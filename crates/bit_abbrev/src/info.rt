@@ -2,12 +2,15 @@
 
 ghost use Rattle.std.specs.Prelude.{◌≡◌, ℕ, OnOk, OnErr};
 ghost use Rattle.bit_grammar.specs.Terms.{defined_at, no_definitions};
+ghost use Rattle.bit_grammar.specs.Definition.{definition};
+ghost use Rattle.bit_abbrev.specs.Putting.{Puts};
 ghost use Rattle.bit_abbrev.specs.Table.{definitions_at, heads_at, and_at, lists_of};
 
 use crate::Abbrev;
 use crate::head::Head;
-use crate::held::{Listed, add};
-use bit_grammar::Op;
+use crate::held::{Listed, add, read_held};
+use bit_fields::{BitReader, Fault, Source};
+use bit_grammar::{Op, Shapes};
 use std::alloc::{AllocError, Global};
 use std::collections::BTreeMap;
 use std::marker::Model;
@@ -79,6 +82,24 @@ impl InfoTable {
                 Err(refused)
             }
         }
+    }
+
+    /// Reads a definition for a block id after its abbreviation id, and adds it to those for that id.
+    pub fn read_define<S: Source>(
+        &mut self,
+        id: u32,
+        reader: &mut BitReader<S>,
+        shapes: Shapes,
+    ) -> Result<(), Fault>
+        ensures puts { Puts (definition shapes) reader.old result reader.new (λ ops. (other : ℕ)
+            → definitions_at self.new other ≡ defined_at id ops (definitions_at self.old) other) }
+    {
+        let head = read_held(reader, shapes, &mut self.ops)?;
+        match put(&mut self.lists, self.alloc, id, head) {
+            Ok(()) => {}
+            Err(_) => return Err(reader.fail(Fault::Memory)),
+        }
+        Ok(())
     }
 }
 

@@ -204,7 +204,6 @@ impl Machine {
     /// Reads a definition in the innermost block, after its id, which began at `first`.
     fn define<S: Source>(
         &mut self,
-        alloc: Global,
         reader: &mut BitReader<S>,
         limits: &Limits,
         first: u64,
@@ -221,7 +220,7 @@ impl Machine {
         let Some(frame) = self.frames.last_mut() else {
             unreachable!();
         };
-        let after = define(alloc, reader, limits.shapes(), frame, first)?;
+        let after = define(reader, limits.shapes(), frame, first)?;
         Ok(Step::Define { first, after })
     }
 
@@ -389,7 +388,7 @@ impl Machine {
         if id == 1 {
             return self.open_nested(alloc, reader, limits, first);
         }
-        self.define(alloc, reader, limits, first)
+        self.define(reader, limits, first)
     }
 
     /// Reads one item of the innermost block, or its end.

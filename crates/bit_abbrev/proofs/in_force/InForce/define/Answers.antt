@@ -1,4 +1,4 @@
-use Rattle.std.proofs.Common.{◌≡◌, [], ◌∷◌, ◌++◌, append_assoc, refl}
+use Rattle.std.proofs.Common.{◌≡◌, append_assoc, refl}
 use Rattle.std.proofs.lemmas.Result.{err_from_is_err_and}
 use Rattle.bit_abbrev.specs.Heads.{held, AreHeld, IsHeld}
 use Rattle.bit_abbrev.proofs.Heads.{all_in_more, same_all, and_one, held_and_one}

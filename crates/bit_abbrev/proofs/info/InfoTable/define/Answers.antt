@@ -1,4 +1,3 @@
-use Rattle.std.proofs.Common.{sym}
 use Rattle.bit_abbrev.specs.Table.{lists_of}
 use Rattle.bit_abbrev.proofs.Table.{defined, holds_more}
 use Rattle.bit_abbrev.proofs.info.InfoTable.define.Goals as goal

@@ -1,5 +1,5 @@
 use Rattle.std.proofs.Common.{◌∙◌, sym, ap}
-use Rattle.bit_abbrev.specs.Heads.{AreHeld, held}
+use Rattle.bit_abbrev.specs.Heads.{held}
 use Rattle.bit_abbrev.specs.Table.{lists_of}
 use Rattle.bit_abbrev.proofs.Table.{found_at, none_at, shown_at}
 use Rattle.bit_abbrev.proofs.info.InfoTable.for_block.Goals as goal

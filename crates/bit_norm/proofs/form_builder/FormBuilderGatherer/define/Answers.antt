@@ -2,4 +2,4 @@ use Rattle.bit_norm.proofs.Building.{defines_more}
 use Rattle.bit_norm.proofs.form_builder.FormBuilderGatherer.define.Goals as goal
 
 pub returns : goal.returns
-returns c = λ first done deepest was stands. defines_more first c.args.self.now done (record { ops = c.args._abbrev.now; first = c.args._first; after = c.args._after }) was
+returns c = λ first done deepest was stands. defines_more first c.args.self.now done (record { ops = c.args._abbrev.ops.now; first = c.args._first; after = c.args._after }) was
