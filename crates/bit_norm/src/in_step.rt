@@ -203,7 +203,10 @@ fn weigh_next(
     }
     match events.next()? {
         None => Ok(Weighed::Stands(held_beside(Sign::Over, ended, ended, sign, apart))),
-        Some(event) => weigh(event, sign, blocks, ended, apart).map_err(|_| Fault::Memory),
+        Some(event) => match weigh(event, sign, blocks, ended, apart) {
+            Ok(weighed) => Ok(weighed),
+            Err(AllocError) => Err(Fault::Memory),
+        },
     }
 }
 
