@@ -35,7 +35,7 @@ fn buffered_record<V: ValueTaker>(
     let first = buffered.position();
     let code = read_record::<(), Buffered<'_>, V>(
         &mut buffered,
-        &definition,
+        definition.lend(),
         first,
         room,
         values,

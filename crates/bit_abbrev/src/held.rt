@@ -94,7 +94,7 @@ pub(crate) fn add(ops: &mut Vec<Op>, abbrev: &Abbrev) -> Result<Head, AllocError
 }
 
 /// Reads a definition after its abbreviation id, adds its operands to those of others, and returns where they are. If it fails, some
-/// may be added, and the reader has failed, at the position where the call began.
+/// may be added. More than 2^32 operands in all count as out of memory.
 pub(crate) fn read_held<S: Source>(
     reader: &mut BitReader<S>,
     shapes: Shapes,

@@ -54,12 +54,11 @@ impl SharedInfo {
     pub fn enter(&self, alloc: Global, id: u32) -> Result<InForce, AllocError>
         ensures ok { IfOk result (λ definitions. definitions ≡ definitions_at self.now id) }
     {
-        let none = InForce::new(alloc);
         let Some(table) = &self.table else {
-            return Ok(none);
+            return Ok(InForce::new(alloc));
         };
         if table.for_block(id).len() == 0 {
-            return Ok(none);
+            return Ok(InForce::new(alloc));
         }
         Ok(InForce {
             shared: Some((table.clone()?, id)),

@@ -118,7 +118,7 @@ fn put(
         list.push(head)?;
         return Ok(());
     }
-    let mut list = Vec::with_capacity(alloc, 1)?;
+    let mut list = Vec::with_capacity(alloc, 2)?;
     list.push(head)?;
     lists.insert(id, list)?;
     Ok(())

@@ -8,7 +8,10 @@
 //! reader, and restores the values if it fails.
 //!
 //! `SharedInfo` and `InForce` give a block the definitions in force without a copy: a finished table is shared by one `Rc`, and a
-//! block adds its own in a vector. An `Abbrev` knows whether its shape is lawful (`is_usable`); no record may use one that is not.
+//! block adds its own. A table and a block each hold the operands of all their definitions in one vector, into which they are read,
+//! and for each definition a `Head` of 12 bytes: where its operands are, whether its shape is lawful, and what follows the operands
+//! that stand for one value each. `Listed` looks definitions up, and lends one as a `Definition`. No record may use one whose shape
+//! is not lawful (`is_usable`). An `Abbrev` owns its operands.
 #![tactic(auto)]
 
 mod abbrev;

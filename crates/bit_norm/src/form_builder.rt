@@ -260,7 +260,12 @@ impl<'a> Gatherer for FormBuilder<'a> {
         Ok(())
     }
 
-    fn define(&mut self, _abbrev: Definition<'_>, _first: u64, _after: u64) -> Result<(), AllocError> {
+    fn define(
+        &mut self,
+        _abbrev: Definition<'_>,
+        _first: u64,
+        _after: u64,
+    ) -> Result<(), AllocError> {
         Ok(())
     }
 

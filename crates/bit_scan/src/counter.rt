@@ -137,7 +137,12 @@ impl Gatherer for Counter {
         self.open_block(id, first)
     }
 
-    fn define(&mut self, _abbrev: Definition<'_>, _first: u64, _after: u64) -> Result<(), AllocError> {
+    fn define(
+        &mut self,
+        _abbrev: Definition<'_>,
+        _first: u64,
+        _after: u64,
+    ) -> Result<(), AllocError> {
         self.count_here(Addition::Definition)
     }
 
