@@ -229,7 +229,7 @@ pub(crate) static AT_USE: [(&str, &str); 2] = [
     (
         "M 21 0C 00 00 03 00 00 00 22 03 4C 8E 1C 89 01 72 4A 06 00 00",
         "32 Enter { id: 8, width: 3, first: 32, body: 96 } \
-        Define { abbrev: Definition { ops: [Literal(1), Array, Fixed(7), Fixed(7)], usable: false }, first: 96, after: 135 } \
+        Define { abbrev: Definition { ops: [Literal(1), Array, Fixed(7), Fixed(7)], usable: false, tail: Nothing }, first: 96, after: 135 } \
         Define { abbrev: Definition { ops: [Literal(1), Fixed(7)], usable: true, tail: Nothing }, first: 135, after: 161 } \
         Record { abbrev: 5, code: 1, values: [100], first: 161, after: 171 } Leave { after: 192 } None None ",
     ),
@@ -237,7 +237,7 @@ pub(crate) static AT_USE: [(&str, &str); 2] = [
     (
         "M 21 0C 00 00 03 00 00 00 22 03 4C 8E 1C 02 00 00 00 00 00 00",
         "32 Enter { id: 8, width: 3, first: 32, body: 96 } \
-        Define { abbrev: Definition { ops: [Literal(1), Array, Fixed(7), Fixed(7)], usable: false }, first: 96, after: 135 } \
+        Define { abbrev: Definition { ops: [Literal(1), Array, Fixed(7), Fixed(7)], usable: false, tail: Nothing }, first: 96, after: 135 } \
         refused: AbbrevShape at bit 135 used after a fault ",
     ),
 ];
