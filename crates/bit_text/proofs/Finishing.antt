@@ -1,5 +1,5 @@
 -- The end of a text.
-use Rattle.std.proofs.Common.{◌≡◌, refl, ℕ, false, IfOk, List, [], ◌∷◌, ◌++◌, replicate, Option, Some, None, Result, Ok, Err, sym, ◌∙◌, ap, subst, append-nil}
+use Rattle.std.proofs.Common.{◌≡◌, refl, ℕ, false, IfOk, List, [], ◌++◌, replicate, Option, Some, None, Result, Ok, Err, sym, ◌∙◌, ap, subst, append-nil}
 use Rattle.std.specs.Result.{is_err}
 use Rattle.bit_grammar.specs.Blocks.{Limits}
 use Rattle.bit_grammar.specs.Forest.{Tree}
@@ -15,7 +15,7 @@ use Rattle.bit_text.specs.declared.fault.AssembleFault.{AssembleFault}
 use Rattle.bit_text.specs.declared.fault.AssembleFault.TheVariants.{Refused, Fault as FaultOf}
 use Rattle.bit_text.specs.declared.numbers.Stop.{Stop}
 use Rattle.bit_text.specs.declared.assembler.Assembler.{Assembler}
-use Rattle.bit_text.specs.Listings.{Standing, at_start, behind_magic, after_line, at_end, told_all, lines_read, next_line}
+use Rattle.bit_text.specs.Listings.{Standing, at_start, behind_magic, after_line, at_end, told_all, next_line}
 use Rattle.bit_text.specs.Stops.{IsAt, IsTold}
 use Rattle.bit_text.specs.Assembling.{outlook, EndsLine, Writes, Finishes}
 use Rattle.bit_text.proofs.Takings.{line_read, line_refused}

@@ -1,5 +1,5 @@
 -- What is read is fit.
-use Rattle.std.proofs.Common.{◌≡◌, ◌≢◌, refl, ℕ, zero, suc, ◌+◌, ◌-◌, ◌*◌, ◌/◌, ◌%◌, ◌^◌, ◌<◌, ◌≤◌, Bool, true, false, nat_eq, nat_lt, List, [], ◌∷◌, ◌++◌, length, replicate, Option, Some, None, Result, Ok, Err, if◌then◌else◌, sym, ◌∙◌, ap, subst, arith, append-nil}
+use Rattle.std.proofs.Common.{◌≡◌, ◌≢◌, refl, ℕ, zero, suc, ◌+◌, ◌-◌, ◌*◌, ◌/◌, ◌%◌, ◌^◌, ◌<◌, ◌≤◌, Bool, true, false, nat_eq, nat_lt, List, [], ◌∷◌, ◌++◌, length, replicate, Option, Some, None, Result, Ok, Err, if◌then◌else◌, subst, arith, append-nil}
 use Rattle.std.specs.List.{AllByRecursion}
 use Rattle.std.specs.Char.{digit_value}
 use Rattle.std.specs.Prelude.{codes, slice_index}
@@ -10,7 +10,7 @@ use Rattle.bit_grammar.specs.Blocks.{Limits}
 use Rattle.bit_grammar.specs.Forest.{Tree, wrapper_magic}
 use Rattle.bit_grammar.specs.Normal.{Capped}
 use Rattle.bit_fields.specs.Opening.{magic_number}
-use Rattle.bit_norm.specs.Telling.{Call, begins, holds, ends, Where, at_top, fits, after_call, where_after, InRange, AreFit, IsFit, tree_told}
+use Rattle.bit_norm.specs.Telling.{Call, begins, holds, ends, Where, at_top, fits, after_call, where_after, InRange, AreFit, IsFit}
 use Rattle.bit_norm.proofs.Telling.{tree_fit}
 use Rattle.bit_text.specs.declared.reason.TextReason.{TextReason}
 use Rattle.bit_text.specs.declared.reason.TextReason.TheVariants.{WrapperMagic, BadLine, NumberTooLarge, BadIndentation}

@@ -1,4 +1,4 @@
-use Rattle.std.proofs.Common.{refl, ◌+◌, arith}
+use Rattle.std.proofs.Common.{refl, arith}
 use Rattle.std.proofs.lemmas.Result.{err_from_is_err_and}
 use Rattle.bit_text.proofs.Takings.{far_none, far_line, far_byte, far_stopped, far_all}
 use Rattle.bit_text.proofs.assembler.Assembler.take.Goals as goal
