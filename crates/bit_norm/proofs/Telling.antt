@@ -148,7 +148,7 @@ few_told limits w (holds code values ∷ calls) h few = few_told limits (after_c
 few_told limits w (ends ∷ calls) h few = few_told limits (after_call ends w) calls h.2 few
 
 -- calls that fit describe a fit tree
-tree_fit : (limits : Limits) (magic : List ℕ) (calls : List Call) → Capped limits → magic_number magic < 2 ^ 32 → magic_number magic ≢ wrapper_magic → AreFit limits at_top calls → IsFit limits (tree_told magic calls)
+pub tree_fit : (limits : Limits) (magic : List ℕ) (calls : List Call) → Capped limits → magic_number magic < 2 ^ 32 → magic_number magic ≢ wrapper_magic → AreFit limits at_top calls → IsFit limits (tree_told magic calls)
 unfolding total
 tree_fit limits magic calls capped small bare h =
     let deep = depth_told limits at_top calls (omega arith) h 0 in

@@ -1,5 +1,5 @@
 -- The end of a text.
-use Rattle.std.proofs.Common.{◌≡◌, refl, ℕ, false, IfOk, List, [], ◌∷◌, ◌++◌, replicate, Option, Some, None, Result, Ok, Err, sym, ◌∙◌, ap, subst}
+use Rattle.std.proofs.Common.{◌≡◌, refl, ℕ, false, IfOk, List, [], ◌++◌, replicate, Option, Some, None, Result, Ok, Err, sym, ◌∙◌, ap, subst, append-nil}
 use Rattle.std.specs.Result.{is_err}
 use Rattle.bit_grammar.specs.Blocks.{Limits}
 use Rattle.bit_grammar.specs.Forest.{Tree}
@@ -15,7 +15,7 @@ use Rattle.bit_text.specs.declared.fault.AssembleFault.{AssembleFault}
 use Rattle.bit_text.specs.declared.fault.AssembleFault.TheVariants.{Refused, Fault as FaultOf}
 use Rattle.bit_text.specs.declared.numbers.Stop.{Stop}
 use Rattle.bit_text.specs.declared.assembler.Assembler.{Assembler}
-use Rattle.bit_text.specs.Listings.{Standing, at_start, behind_magic, after_line, at_end, told_all, lines_read, next_line}
+use Rattle.bit_text.specs.Listings.{Standing, at_start, behind_magic, after_line, at_end, told_all, next_line}
 use Rattle.bit_text.specs.Stops.{IsAt, IsTold}
 use Rattle.bit_text.specs.Assembling.{outlook, EndsLine, Writes, Finishes}
 use Rattle.bit_text.proofs.Takings.{line_read, line_refused}
@@ -39,6 +39,10 @@ fault_used wanted limits old new Memory h = absurd h.writes
 fault_used wanted limits old new Read h = h.writes
 fault_used wanted limits old new Failed h = h.writes
 fault_used wanted limits old new (RefusedBits reason bit) h = h.writes
+
+-- nothing more comes in the last line
+pub ended : (now : Standing) (a b : Assembler) (r : Result (Unit {0}) AssembleFault) → EndsLine a (after_line a.limits now (a.line.items ++ [])) r b → EndsLine a (after_line a.limits now a.line.items) r b
+ended now a b r h = subst (λ (l : List ℕ). EndsLine a (after_line a.limits now l) r b) (append-nil a.line.items) h
 
 -- the last line was refused, or an allocation failed
 pub last_stopped : (now : Standing) (a b : Assembler) (fault : AssembleFault) (o : Outgoing) → EndsLine a (after_line a.limits now a.line.items) (Err fault) b → Finishes (outlook now a []) a.limits o (Err fault) o

@@ -1,5 +1,6 @@
 pub mod Decimals
 pub mod Finishing
+pub mod Fitting
 pub mod Rows
 pub mod Sources
 pub mod Spelled

@@ -1,5 +1,5 @@
 -- A text from a source.
-use Rattle.std.proofs.Common.{◌≡◌, refl, ℕ, ◌+◌, ◌-◌, ◌^◌, ◌<◌, ◌≤◌, List, [], ◌∷◌, ◌++◌, take, Result, Ok, Err, sym, ◌∙◌, ap, subst, inl, inr, arith, append-nil}
+use Rattle.std.proofs.Common.{◌≡◌, refl, ℕ, ◌+◌, ◌-◌, ◌^◌, List, [], ◌++◌, take, Result, Ok, Err, sym, ◌∙◌, ap, subst, inl, inr, append-nil}
 use Rattle.std.specs.Prelude.{max}
 use Rattle.std.proofs.lemmas.Bool.{cases_lt}
 use Rattle.std.proofs.KnownBytes.{Consumes-trans, Consumes-nil}
@@ -12,11 +12,9 @@ use Rattle.bit_text.specs.declared.reason.TextReason.{TextReason}
 use Rattle.bit_text.specs.declared.fault.AssembleFault.{AssembleFault}
 use Rattle.bit_text.specs.declared.fault.AssembleFault.TheVariants.{Refused, Fault as FaultOf}
 use Rattle.bit_text.specs.declared.assembler.Assembler.{Assembler}
-use Rattle.bit_text.specs.Numbers.{parts_after}
-use Rattle.bit_text.specs.Listings.{Standing, at_start, lines_read, reading_of}
+use Rattle.bit_text.specs.Listings.{Standing, at_start, reading_of}
 use Rattle.bit_text.specs.Stops.{IsAt}
 use Rattle.bit_text.specs.Assembling.{outlook, TakesBytes, TakesAll, Took, TookAll, HasFailed, Finishes, Assembles}
-use Rattle.bit_text.proofs.Takings.{takes_both, takes_none}
 
 -- ---- pulls
 

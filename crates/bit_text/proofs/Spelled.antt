@@ -1,22 +1,22 @@
 -- The listing of a fit tree spells it.
-use Rattle.std.proofs.Common.{◌≡◌, ◌≢◌, refl, ℕ, zero, suc, ◌+◌, ◌-◌, ◌*◌, ◌/◌, ◌%◌, ◌^◌, ◌<◌, ◌≤◌, false, true, nat_eq, List, [], ◌∷◌, ◌++◌, length, get_or, replicate, Option, Some, None, Result, Ok, Err, if◌then◌else◌, sym, ◌∙◌, ap, subst, arith, append_assoc, append-nil}
-use Rattle.std.specs.Prelude.{codes, decimal}
+use Rattle.std.proofs.Common.{◌≡◌, ◌≢◌, refl, ℕ, zero, suc, ◌+◌, ◌-◌, ◌*◌, ◌/◌, ◌%◌, ◌^◌, ◌<◌, ◌≤◌, false, true, nat_eq, List, [], ◌∷◌, ◌++◌, get_or, replicate, Result, Ok, Err, if◌then◌else◌, sym, ◌∙◌, ap, subst, arith, append_assoc, append-nil}
+use Rattle.std.specs.Prelude.{decimal}
 use Rattle.std.specs.Int.{w32, from_le_bytes}
 use Rattle.std.proofs.lemmas.List.{replicate_more}
 use Rattle.bit_grammar.specs.Blocks.{Limits}
 use Rattle.bit_grammar.specs.Forest.{Forest, empty, a_block, a_record, Tree, Fit, forest_values, wrapper_magic}
-use Rattle.bit_grammar.specs.Texts.{line, magic_bytes, magic_text, values_text, block_line, record_line, lines_of, listing_of}
+use Rattle.bit_grammar.specs.Texts.{line, magic_bytes, magic_text, values_text, lines_of, listing_of}
 use Rattle.bit_grammar.specs.declared.shapes.Shapes.TheVariants.{AtDefinition}
 use Rattle.bit_fields.specs.Opening.{magic_number}
 use Rattle.bit_tree.proofs.Magics.{magic_is}
 use Rattle.bit_norm.specs.Calls.{calls_of}
-use Rattle.bit_norm.specs.Telling.{Call, begins, holds, ends, Where, at_top, fits, after_call, where_after, told, tree_told, AreFit, IsFit}
+use Rattle.bit_norm.specs.Telling.{Call, begins, holds, ends, Where, at_top, fits, after_call, where_after, tree_told, AreFit, IsFit}
 use Rattle.bit_norm.proofs.Calls.{tell_tree, fit_tree}
 use Rattle.bit_text.specs.declared.reason.TextReason.{TextReason}
 use Rattle.bit_text.specs.declared.reason.TextReason.TheVariants.{WrapperMagic}
 use Rattle.bit_text.specs.Numbers.{and_then, parts_after}
-use Rattle.bit_text.specs.Lines.{spaces, content, is_free, item_of}
-use Rattle.bit_text.specs.Listings.{Standing, at_start, behind_magic, begun, misfit, item_calls, after_line, told_all, lines_read, next_line, reading_of}
+use Rattle.bit_text.specs.Lines.{spaces, item_of}
+use Rattle.bit_text.specs.Listings.{Standing, at_start, behind_magic, begun, misfit, item_calls, after_line, lines_read, next_line, reading_of}
 use Rattle.bit_text.proofs.Decimals.{Lacks}
 use Rattle.bit_text.proofs.Spelling.{other_byte}
 use Rattle.bit_text.proofs.Takings.{line_read}

@@ -1,11 +1,10 @@
 -- Parts of texts, and numbers.
-use Rattle.std.proofs.Common.{◌≡◌, refl, ℕ, ◌+◌, ◌-◌, ◌*◌, ◌^◌, ◌<◌, ◌≤◌, Bool, true, false, nat_eq, nat_lt, ◌&&◌, List, [], ◌∷◌, ◌++◌, length, take, drop, get_or, Option, Some, None, Result, Ok, Err, MatchOption, Bor, if◌then◌else◌, sym, ◌∙◌, ap, arith}
+use Rattle.std.proofs.Common.{◌≡◌, refl, ℕ, ◌+◌, ◌-◌, ◌<◌, ◌≤◌, Bool, true, false, nat_eq, ◌&&◌, List, [], ◌∷◌, ◌++◌, length, take, drop, get_or, Option, Some, None, Result, Ok, Err, MatchOption, Bor, if◌then◌else◌, sym, ◌∙◌, ap, arith}
 use Rattle.std.specs.Cmp.Lexicographic.{pointwise}
-use Rattle.std.specs.Char.{digit_value}
-use Rattle.std.proofs.lemmas.List.{length-drop, take_more, get_or-drop, at_drop_more, at_drop_all}
+use Rattle.std.proofs.lemmas.List.{length-drop, take_more, get_or-drop, at_drop_more}
 use Rattle.std.proofs.lemmas.Bool.Decides.{nat_tests}
 use Rattle.bit_text.specs.declared.reason.TextReason.{TextReason}
-use Rattle.bit_text.specs.Numbers.{behind, digits, digits_after, parts_after, words, and_then, number, numbers_after}
+use Rattle.bit_text.specs.Numbers.{behind, digits, parts_after, words, and_then, number, hexadecimal_or_decimal, numbers_after}
 use Rattle.bit_text.specs.Stops.{ReadsNumbers}
 use Rattle.bit_text.specs.declared.numbers.Stop.{Stop}
 use Rattle.bit_text.specs.declared.numbers.Stop.TheVariants.{Refused, Memory}
@@ -100,3 +99,18 @@ word_refused text before reason from i k same word far =
 pub word_stopped : (text before read : List ℕ) (stop : Stop) (from i : ℕ) → i < length text → get_or text i 0 ≡ 32 → ReadsNumbers (numbers_after before (take (i - from) (drop from text) ∷ [])) (Err stop) read → NumbersFrom text before from i → ReadsNumbers (numbers_after [] (words text)) (Err stop) read
 word_stopped text before read (Refused reason) from i k same word far = word_refused text before reason from i k same word far
 word_stopped text before read Memory from i k same word far = tt
+
+-- ---- no hexadecimal number
+
+pub too_short : (word : List ℕ) → length word < 2 → number word ≡ digits 10 word
+too_short [] h = refl
+too_short (b ∷ []) h = by (nat_eq b 48)
+  where
+    by : (t : Bool) → hexadecimal_or_decimal (if t then None else None) (b ∷ []) ≡ digits 10 (b ∷ [])
+    by true = refl
+    by false = refl
+too_short (b ∷ c ∷ word) h = absurd (omega (arith, h))
+
+pub not_zero_first : (word : List ℕ) → (get_or word 0 0 ≡ 48 → ⊥) → number word ≡ digits 10 word
+not_zero_first [] h = refl
+not_zero_first (b ∷ word) h = rw (other_byte b 48 h) refl

@@ -1,13 +1,7 @@
 -- A text that comes in pieces.
-use Rattle.std.proofs.Common.{◌≡◌, refl, false, ℕ, ◌+◌, ◌<◌, ◌≤◌, nat_eq, List, [], ◌∷◌, ◌++◌, length, drop, get_or, Option, Some, None, Result, Ok, Err, if◌then◌else◌, sym, ◌∙◌, ap, subst, arith, append_assoc}
+use Rattle.std.proofs.Common.{◌≡◌, refl, ℕ, ◌+◌, ◌-◌, ◌<◌, ◌≤◌, List, [], ◌∷◌, ◌++◌, length, take, drop, get_or, Result, Ok, Err, if◌then◌else◌, sym, ◌∙◌, ap, arith, append_assoc, append-nil}
 use Rattle.std.proofs.lemmas.List.{at_drop_more, at_drop_all}
-use Rattle.std.specs.Io.KnownBytes.{Consumes}
-use Rattle.std.proofs.KnownBytes.{Consumes-trans}
-use Rattle.std.specs.Result.{is_err, is_ok}
 use Rattle.bit_grammar.specs.Blocks.{Limits}
-use Rattle.bit_grammar.specs.Forest.{Tree}
-use Rattle.bit_fields.specs.Devices.{Incoming, Gave}
-use Rattle.bit_fields.specs.declared.fault.Fault.{Fault}
 use Rattle.bit_text.specs.declared.reason.TextReason.{TextReason}
 use Rattle.bit_text.specs.declared.fault.AssembleFault.{AssembleFault}
 use Rattle.bit_text.specs.declared.fault.AssembleFault.TheVariants.{Refused, Fault as FaultOf}
@@ -16,7 +10,7 @@ use Rattle.bit_text.specs.Numbers.{parts_after}
 use Rattle.bit_text.specs.Listings.{Standing, after_line, goes_on, lines_read, next_line}
 use Rattle.bit_text.specs.Stops.{IsAt}
 use Rattle.bit_text.specs.Assembling.{outlook, EndsLine, TakesBytes}
-use Rattle.bit_text.proofs.Spelling.{same_byte, other_byte}
+use Rattle.bit_text.proofs.Spelling.{same_byte, other_byte, part_more}
 
 -- ---- one line
 
@@ -28,13 +22,13 @@ line_refused limits number now reason line others h = ap (λ (r : Result Standin
 
 -- ---- bytes
 
--- an assembler has read this many bytes of a piece
-abbrev pub Far : Standing → (bytes : List ℕ) → (i : ℕ) → (first a : Assembler) → Type 0
-Far now bytes i first a = (later : Standing) × IsAt a.limits later a.writer × (a.limits ≡ first.limits)
-    × ((rest : List ℕ) → outlook now first (bytes ++ rest) ≡ outlook later a (drop i bytes ++ rest))
+-- an assembler has read this many bytes of a piece, of which the next line begins here
+abbrev pub Far : Standing → (bytes : List ℕ) → (from i : ℕ) → (first a : Assembler) → Type 0
+Far now bytes from i first a = (later : Standing) × IsAt a.limits later a.writer × (a.limits ≡ first.limits)
+    × ((rest : List ℕ) → outlook now first (bytes ++ rest) ≡ lines_read a.limits a.number later (parts_after 10 (a.line.items ++ take (i - from) (drop from bytes)) (drop i bytes ++ rest)))
 
-pub far_none : (now : Standing) (bytes : List ℕ) (a : Assembler) → IsAt a.limits now a.writer → Far now bytes 0 a a
-far_none now bytes a here = (now, here, refl, λ rest. refl)
+pub far_none : (now : Standing) (bytes : List ℕ) (a : Assembler) → IsAt a.limits now a.writer → Far now bytes 0 0 a a
+far_none now bytes a here = (now, here, refl, λ rest. ap (λ (l : List ℕ). lines_read a.limits a.number now (parts_after 10 l (bytes ++ rest))) (sym (append-nil a.line.items)))
 
 -- at the end of a line its parts begin with it
 cut_line : (line bytes rest : List ℕ) (i : ℕ) → i < length bytes → get_or bytes i 0 ≡ 10 → parts_after 10 line (drop i bytes ++ rest) ≡ line ∷ parts_after 10 [] (drop (i + 1) bytes ++ rest)
@@ -42,51 +36,65 @@ cut_line line bytes rest i k same =
     at_drop_more (λ (d : List ℕ). parts_after 10 line (d ++ rest)) bytes i 0 k
     ∙ ap (λ t. if t then line ∷ parts_after 10 [] (drop (i + 1) bytes ++ rest) else parts_after 10 (line ++ get_or bytes i 0 ∷ []) (drop (i + 1) bytes ++ rest)) (same_byte (get_or bytes i 0) 10 same)
 
-more_line : (line bytes rest : List ℕ) (i : ℕ) → i < length bytes → (get_or bytes i 0 ≡ 10 → ⊥) → parts_after 10 line (drop i bytes ++ rest) ≡ parts_after 10 (line ++ get_or bytes i 0 ∷ []) (drop (i + 1) bytes ++ rest)
-more_line line bytes rest i k other =
-    at_drop_more (λ (d : List ℕ). parts_after 10 line (d ++ rest)) bytes i 0 k
-    ∙ ap (λ t. if t then line ∷ parts_after 10 [] (drop (i + 1) bytes ++ rest) else parts_after 10 (line ++ get_or bytes i 0 ∷ []) (drop (i + 1) bytes ++ rest)) (other_byte (get_or bytes i 0) 10 other)
+more_line : (line bytes rest : List ℕ) (from i : ℕ) → from ≤ i → i < length bytes → (get_or bytes i 0 ≡ 10 → ⊥)
+    → parts_after 10 (line ++ take (i - from) (drop from bytes)) (drop i bytes ++ rest) ≡ parts_after 10 (line ++ take (i + 1 - from) (drop from bytes)) (drop (i + 1) bytes ++ rest)
+more_line line bytes rest from i h k other =
+    let front = line ++ take (i - from) (drop from bytes) in
+    let behind = drop (i + 1) bytes ++ rest in
+    at_drop_more (λ (d : List ℕ). parts_after 10 front (d ++ rest)) bytes i 0 k
+    ∙ ap (λ t. if t then front ∷ parts_after 10 [] behind else parts_after 10 (front ++ get_or bytes i 0 ∷ []) behind) (other_byte (get_or bytes i 0) 10 other)
+    ∙ ap (λ (l : List ℕ). parts_after 10 l behind) (append_assoc line (take (i - from) (drop from bytes)) (get_or bytes i 0 ∷ []) ∙ ap (λ (l : List ℕ). line ++ l) (sym (part_more bytes from i h k)))
 
 -- the outlook of an assembler that ended a line
-outlook_ended : (a b : Assembler) (later : Standing) (rest : List ℕ) → b.limits ≡ a.limits → b.number ≡ next_line a.number → b.line.items ≡ [] → lines_read a.limits (next_line a.number) later (parts_after 10 [] rest) ≡ outlook later b rest
-outlook_ended a b later rest limits number line = rw (limits, number, line) refl
+outlook_ended : (a b : Assembler) (later : Standing) (bytes rest : List ℕ) (i : ℕ) → b.limits ≡ a.limits → b.number ≡ next_line a.number → b.line.items ≡ []
+    → lines_read a.limits (next_line a.number) later (parts_after 10 [] rest) ≡ lines_read b.limits b.number later (parts_after 10 (b.line.items ++ take (i - i) (drop i bytes)) rest)
+outlook_ended a b later bytes rest i limits number line =
+    let none : i - i ≡ 0 = omega arith in
+    rw (limits, number, line, none) refl
 
-pub far_line : (now : Standing) (bytes : List ℕ) (i : ℕ) (first a b : Assembler) → i < length bytes → get_or bytes i 0 ≡ 10
-    → ((n : Standing) → IsAt a.limits n a.writer → EndsLine a (after_line a.limits n a.line.items) (Ok tt) b) → Far now bytes i first a → Far now bytes (i + 1) first b
-far_line now bytes i first a b k same ends far =
-    let e = ends far.0 far.1 in (
+pub far_line : (now : Standing) (bytes : List ℕ) (from i : ℕ) (first a b : Assembler) → i < length bytes → get_or bytes i 0 ≡ 10
+    → ((n : Standing) → IsAt a.limits n a.writer → EndsLine a (after_line a.limits n (a.line.items ++ take (i - from) (drop from bytes))) (Ok tt) b) → Far now bytes from i first a → Far now bytes (i + 1) (i + 1) first b
+far_line now bytes from i first a b k same ends far =
+    let e = ends far.0 far.1 in
+    let line = a.line.items ++ take (i - from) (drop from bytes) in (
       e.0,
       e.2,
       e.3 ∙ far.2,
       λ rest.
           far.3 rest
-          ∙ ap (lines_read a.limits a.number far.0) (cut_line a.line.items bytes rest i k same)
-          ∙ line_read a.limits a.number far.0 e.0 a.line.items (parts_after 10 [] (drop (i + 1) bytes ++ rest)) e.1
-          ∙ outlook_ended a b e.0 (drop (i + 1) bytes ++ rest) e.3 e.4 e.5,
+          ∙ ap (lines_read a.limits a.number far.0) (cut_line line bytes rest i k same)
+          ∙ line_read a.limits a.number far.0 e.0 line (parts_after 10 [] (drop (i + 1) bytes ++ rest)) e.1
+          ∙ outlook_ended a b e.0 bytes (drop (i + 1) bytes ++ rest) (i + 1) e.3 e.4 e.5,
     )
 
-pub far_byte : (now : Standing) (bytes : List ℕ) (i : ℕ) (first a b : Assembler) → i < length bytes → (get_or bytes i 0 ≡ 10 → ⊥) → b.limits ≡ a.limits → b.number ≡ a.number → b.writer ≡ a.writer
-    → b.line.items ≡ a.line.items ++ get_or bytes i 0 ∷ [] → Far now bytes i first a → Far now bytes (i + 1) first b
-far_byte now bytes i first a b k other limits number writer line far = (
-  far.0,
-  rw (limits, writer) far.1,
-  limits ∙ far.2,
-  λ rest. far.3 rest ∙ ap (lines_read a.limits a.number far.0) (more_line a.line.items bytes rest i k other) ∙ (let same : lines_read a.limits a.number far.0 (parts_after 10 (a.line.items ++ get_or bytes i 0 ∷ []) (drop (i + 1) bytes ++ rest)) ≡ outlook far.0 b (drop (i + 1) bytes ++ rest) = rw (limits, number, line) refl in same),
-)
+pub far_byte : (now : Standing) (bytes : List ℕ) (from i : ℕ) (first a : Assembler) → from ≤ i → i < length bytes → (get_or bytes i 0 ≡ 10 → ⊥) → Far now bytes from i first a → Far now bytes from (i + 1) first a
+far_byte now bytes from i first a h k other far = (far.0, far.1, far.2, λ rest. far.3 rest ∙ ap (lines_read a.limits a.number far.0) (more_line a.line.items bytes rest from i h k other))
 
-pub far_stopped : (now : Standing) (bytes : List ℕ) (i : ℕ) (first a b : Assembler) (fault : AssembleFault) → i < length bytes → get_or bytes i 0 ≡ 10
-    → ((n : Standing) → IsAt a.limits n a.writer → EndsLine a (after_line a.limits n a.line.items) (Err fault) b) → Far now bytes i first a → TakesBytes now bytes first (Err fault) b
-far_stopped now bytes i first a b (Refused reason line) k same ends far =
+pub far_stopped : (now : Standing) (bytes : List ℕ) (from i : ℕ) (first a b : Assembler) (fault : AssembleFault) → i < length bytes → get_or bytes i 0 ≡ 10
+    → ((n : Standing) → IsAt a.limits n a.writer → EndsLine a (after_line a.limits n (a.line.items ++ take (i - from) (drop from bytes))) (Err fault) b) → Far now bytes from i first a → TakesBytes now bytes first (Err fault) b
+far_stopped now bytes from i first a b (Refused reason line) k same ends far =
     let e = ends far.0 far.1 in
+    let text = a.line.items ++ take (i - from) (drop from bytes) in
     λ rest.
     far.3 rest
-    ∙ ap (lines_read a.limits a.number far.0) (cut_line a.line.items bytes rest i k same)
-    ∙ line_refused a.limits a.number far.0 reason a.line.items (parts_after 10 [] (drop (i + 1) bytes ++ rest)) e.0
+    ∙ ap (lines_read a.limits a.number far.0) (cut_line text bytes rest i k same)
+    ∙ line_refused a.limits a.number far.0 reason text (parts_after 10 [] (drop (i + 1) bytes ++ rest)) e.0
     ∙ ap (λ (n : ℕ). Err (reason, n)) (sym e.1)
-far_stopped now bytes i first a b (FaultOf fault) k same ends far = ends far.0 far.1
+far_stopped now bytes from i first a b (FaultOf fault) k same ends far = ends far.0 far.1
 
-pub far_all : (now : Standing) (bytes : List ℕ) (i : ℕ) (first a : Assembler) → length bytes ≤ i → Far now bytes i first a → TakesBytes now bytes first (Ok tt) a
-far_all now bytes i first a h far = (far.0, far.1, far.2, λ rest. far.3 rest ∙ at_drop_all (λ (d : List ℕ). outlook far.0 a (d ++ rest)) bytes i h)
+pub far_all : (now : Standing) (bytes : List ℕ) (from i : ℕ) (first a b : Assembler) → length bytes ≤ i → i ≤ length bytes → b.limits ≡ a.limits → b.number ≡ a.number → b.writer ≡ a.writer → b.line.items ≡ a.line.items ++ take (length bytes - from) (drop from bytes)
+    → Far now bytes from i first a → TakesBytes now bytes first (Ok tt) b
+far_all now bytes from i first a b h k limits number writer line far =
+    let end : i ≡ length bytes = omega (arith, h, k) in
+    let same : b.line.items ≡ a.line.items ++ take (i - from) (drop from bytes) = line ∙ ap (λ (n : ℕ). a.line.items ++ take (n - from) (drop from bytes)) (sym end) in (
+      far.0,
+      rw (limits, writer) far.1,
+      limits ∙ far.2,
+      λ rest.
+          far.3 rest
+          ∙ at_drop_all (λ (d : List ℕ). lines_read a.limits a.number far.0 (parts_after 10 (a.line.items ++ take (i - from) (drop from bytes)) (d ++ rest))) bytes i h
+          ∙ (let read : lines_read a.limits a.number far.0 (parts_after 10 (a.line.items ++ take (i - from) (drop from bytes)) rest) ≡ outlook far.0 b rest = rw (limits, number, same) refl in read),
+    )
 
 -- ---- pieces
 
@@ -102,7 +110,3 @@ takes_both now text more first a b (Err (FaultOf fault)) front behind = behind f
 
 pub takes_none : (now : Standing) (a : Assembler) → IsAt a.limits now a.writer → TakesBytes now [] a (Ok tt) a
 takes_none now a here = (now, here, refl, λ rest. refl)
-
-pub pushed : {E : Type 0} (r : Result (Unit {0}) E) (old new : List ℕ) (b : ℕ) → is_err r ≡ false → new ≡ (if is_ok r then old ++ b ∷ [] else old) → new ≡ old ++ b ∷ []
-pushed (Ok x) old new b h items = items
-pushed (Err e) old new b h items = absurd cc

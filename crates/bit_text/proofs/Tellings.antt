@@ -1,12 +1,12 @@
 -- What a writer is told of a listing.
-use Rattle.std.proofs.Common.{◌≡◌, refl, ℕ, zero, suc, ◌+◌, ◌-◌, ◌/◌, ◌%◌, ◌<◌, ◌≤◌, Bool, true, false, nat_eq, nat_lt, List, [], ◌∷◌, ◌++◌, length, take, drop, replicate, Option, Some, None, Result, Ok, Err, if◌then◌else◌, sym, ◌∙◌, ap, subst, inl, inr, arith, append_assoc, append-nil}
+use Rattle.std.proofs.Common.{◌≡◌, refl, ℕ, zero, suc, ◌+◌, ◌-◌, ◌/◌, ◌%◌, ◌<◌, ◌≤◌, Bool, true, false, nat_lt, List, [], ◌∷◌, ◌++◌, length, take, drop, replicate, Option, Some, None, Result, Ok, Err, if◌then◌else◌, sym, ◌∙◌, ap, subst, inl, inr, arith, append_assoc, append-nil}
 use Rattle.std.proofs.lemmas.List.{replicate_more, take_rest}
 use Rattle.std.proofs.lemmas.Bool.{cases_lt}
 use Rattle.std.proofs.lemmas.Bool.Decides.{nat_tests}
 use Rattle.bit_grammar.specs.Blocks.{Limits}
 use Rattle.bit_grammar.specs.Forest.{wrapper_magic}
 use Rattle.bit_fields.specs.Opening.{magic_number}
-use Rattle.bit_norm.specs.Telling.{Call, ends, Where, at_top, fits, where_after, after_call, place_of, HasTold, ToldMore, Begins as BeginsForm}
+use Rattle.bit_norm.specs.Telling.{Call, ends, Where, at_top, fits, where_after, after_call, place_of, ToldMore, Begins as BeginsForm}
 use Rattle.bit_norm.specs.declared.form_writer.FormWriter.{FormWriter}
 use Rattle.bit_text.specs.declared.reason.TextReason.{TextReason}
 use Rattle.bit_text.specs.declared.reason.TextReason.TheVariants.{BadIndentation}

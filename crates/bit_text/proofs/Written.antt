@@ -1,16 +1,15 @@
 -- The lines of a listing are read back.
-use Rattle.std.proofs.Common.{◌≡◌, refl, ℕ, zero, suc, ◌+◌, ◌-◌, ◌*◌, ◌/◌, ◌%◌, ◌^◌, ◌<◌, ◌≤◌, Bool, true, false, nat_eq, nat_lt, List, [], ◌∷◌, ◌++◌, length, drop, replicate, Option, Some, None, Result, Ok, Err, if◌then◌else◌, sym, ◌∙◌, ap, arith, append-nil, append_assoc, not, ◌&&◌}
+use Rattle.std.proofs.Common.{◌≡◌, refl, ℕ, zero, suc, ◌+◌, ◌*◌, ◌/◌, ◌%◌, ◌^◌, ◌<◌, Bool, true, false, nat_eq, List, [], ◌∷◌, ◌++◌, drop, replicate, Some, Ok, sym, ◌∙◌, ap, arith, append-nil, append_assoc, not, ◌&&◌}
 use Rattle.std.specs.Prelude.{codes, decimal, flat_map}
 use Rattle.std.specs.Fmt.{digit_glyph}
 use Rattle.std.specs.Char.{digit_value}
 use Rattle.std.specs.List.{AllByRecursion, list_all}
 use Rattle.std.proofs.lemmas.Bool.Decides.{nat_tests}
 use Rattle.bit_grammar.specs.Texts.{line, hex_text, magic_bytes, magic_text, values_text}
-use Rattle.bit_norm.specs.Telling.{Call, begins, holds}
+use Rattle.bit_norm.specs.Telling.{begins, holds}
 use Rattle.bit_text.specs.Numbers.{and_then, numbers_after, parts_after}
-use Rattle.bit_text.specs.Lines.{spaces, content, is_free, is_low_digit, byte_of, magic_of, item_of, record_of, block_of}
-use Rattle.bit_text.specs.declared.reason.TextReason.{TextReason}
-use Rattle.bit_text.proofs.Decimals.{Lacks, lacks_append, decimal_lacks, decimal_read, numbers_read, parts_over, is_below}
+use Rattle.bit_text.specs.Lines.{spaces, content, is_low_digit, byte_of, magic_of, item_of, record_of, block_of}
+use Rattle.bit_text.proofs.Decimals.{Lacks, lacks_append, decimal_lacks, numbers_read, parts_over, is_below}
 use Rattle.bit_text.proofs.Spelling.{same_byte}
 
 -- ---- the magic

@@ -1,5 +1,5 @@
 -- The effect of assembling a text.
-use Rattle.std.specs.Prelude.{◌≡◌, ℕ, ◌+◌, ◌⊎◌, List, [], ◌∷◌, ◌++◌, Result, Ok, Err}
+use Rattle.std.specs.Prelude.{◌≡◌, ℕ, ◌+◌, ◌⊎◌, List, [], ◌++◌, Result, Ok, Err}
 use Rattle.std.specs.Io.KnownBytes.{Consumes, IsAtEnd}
 use Rattle.bit_grammar.specs.Blocks.{Limits}
 use Rattle.bit_grammar.specs.Forest.{Tree}
@@ -13,7 +13,7 @@ use Rattle.bit_text.specs.declared.fault.AssembleFault.{AssembleFault}
 use Rattle.bit_text.specs.declared.fault.AssembleFault.TheVariants.{Refused, Fault as FaultOf}
 use Rattle.bit_text.specs.declared.assembler.Assembler.{Assembler}
 use Rattle.bit_text.specs.Numbers.{parts_after}
-use Rattle.bit_text.specs.Listings.{Standing, after_line, lines_read, next_line, reading_of}
+use Rattle.bit_text.specs.Listings.{Standing, lines_read, next_line, reading_of}
 use Rattle.bit_text.specs.Stops.{IsAt}
 
 -- what a reader after these calls makes of the rest of its text

@@ -65,11 +65,15 @@ impl Assembler {
         }
     }
 
-    /// Reads the line that ends here.
-    fn end_line(&mut self) -> Result<(), AssembleFault>
+    /// Reads the line that ends with these bytes.
+    fn end_line(&mut self, rest: &[u8]) -> Result<(), AssembleFault>
         ensures { (now : Standing) → IsAt self.old.limits now self.old.writer
-            → EndsLine self.old (after_line self.old.limits now self.old.line.items) result self.new }
+            → EndsLine self.old
+            (after_line self.old.limits now (self.old.line.items ++ rest.now)) result self.new }
     {
+        if self.line.extend_from_slice(rest).is_err() {
+            return Err(AssembleFault::Fault(Fault::Memory));
+        }
         self.number = self.number.saturating_add(1);
         let read = read_line(
             self.alloc,
@@ -94,14 +98,17 @@ impl Assembler {
         ensures { (now : Standing) → IsAt self.old.limits now self.old.writer
             → TakesBytes now bytes.now self.old result self.new }
     {
-        for b in bytes {
+        let mut from = 0;
+        for (i, b) in bytes.iter().enumerate() {
             if *b == b'\n' {
-                self.end_line()?;
-            } else if self.line.push(*b).is_err() {
-                return Err(AssembleFault::Fault(Fault::Memory));
+                self.end_line(&bytes[from..i])?;
+                from = i + 1;
             }
         }
-        Ok(())
+        match self.line.extend_from_slice(&bytes[from..]) {
+            Ok(()) => Ok(()),
+            Err(_) => Err(AssembleFault::Fault(Fault::Memory)),
+        }
     }
 
     /// Reads the line with which the text ends, ends the blocks that are open, and gives a sink the normal form.
@@ -110,7 +117,7 @@ impl Assembler {
             → Finishes (outlook now self []) self.limits (K.outgoing sink) result.0
             (K.outgoing result.1) }
     {
-        if let Err(fault) = self.end_line() {
+        if let Err(fault) = self.end_line(&[]) {
             return (Err(fault), sink);
         }
         let Assembler {

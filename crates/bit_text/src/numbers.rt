@@ -21,6 +21,7 @@ pub(crate) fn behind<'a>(text: &'a [u8], front: &[u8]) -> Option<&'a [u8]>
 }
 
 /// The value of a digit in bases up to 36, and 36 for other bytes.
+#[inline(always)]
 pub(crate) fn value_of_digit(b: u8) -> u64
     ensures { result ≡ digit_value b }
 {
@@ -34,6 +35,7 @@ pub(crate) fn value_of_digit(b: u8) -> u64
 }
 
 /// The number that digits spell in a base, at least one.
+#[inline(always)]
 fn digits(base: u64, text: &[u8]) -> Result<u64, TextReason>
     ensures { result ≡ digits base text.now }
 {
@@ -61,6 +63,13 @@ fn digits(base: u64, text: &[u8]) -> Result<u64, TextReason>
 pub(crate) fn number(word: &[u8]) -> Result<u64, TextReason>
     ensures { result ≡ number word.now }
 {
+    // Few numbers are hexadecimal.
+    if word.len() < 2 {
+        return digits(10, word);
+    }
+    if word[0] != b'0' {
+        return digits(10, word);
+    }
     match behind(word, b"0x") {
         Some(text) => digits(16, text),
         None => digits(10, word),

@@ -1,9 +1,7 @@
-use Rattle.std.proofs.Common.{◌≡◌, ℕ, List, ◌++◌, ◌-◌, replicate, Result, Ok, Err, sym, subst}
+use Rattle.std.proofs.Common.{ℕ, Result, Ok, sym, subst}
 use Rattle.bit_fields.specs.declared.fault.Fault.{Fault}
-use Rattle.bit_norm.specs.Telling.{at_top, ends, where_after}
 use Rattle.bit_text.specs.Assembling.{Writes}
 use Rattle.bit_text.specs.Listings.{told_all}
-use Rattle.bit_text.specs.Stops.{IsTold}
 use Rattle.bit_text.proofs.Finishing.{form_used, fault_used, if_ok}
 use Rattle.bit_text.proofs.Spelling.{same_byte}
 use Rattle.bit_text.proofs.Tellings.{told_closed, none_open}

@@ -1,9 +1,6 @@
-use Rattle.std.proofs.Common.{◌≡◌, ℕ, ◌-◌, ◌^◌, ◌≤◌, [], ◌++◌, Ok, Err, take, subst, inr, arith}
+use Rattle.std.proofs.Common.{◌-◌, ◌^◌, ◌≤◌, [], ◌++◌, Ok, Err, take, inr, arith}
 use Rattle.std.specs.Prelude.{max}
 use Rattle.std.proofs.lemmas.Result.{err_from_is_err_and}
-use Rattle.bit_text.specs.Assembling.{TakesBytes}
-use Rattle.bit_text.specs.Listings.{Standing}
-use Rattle.bit_text.specs.Stops.{IsAt}
 use Rattle.bit_text.proofs.Sources.{took_none, took_more, taken_fault}
 use Rattle.bit_text.proofs.Takings.{takes_both, takes_none}
 use Rattle.bit_text.proofs.assembling.take_all.Goals as goal

@@ -1,6 +1,6 @@
-use Rattle.std.proofs.Common.{◌+◌, arith}
+use Rattle.std.proofs.Common.{arith}
 use Rattle.std.proofs.lemmas.Result.{err_from_is_err_and}
-use Rattle.bit_text.proofs.Spelling.{NumbersFrom, word_goes_on, word_read, word_stopped}
+use Rattle.bit_text.proofs.Spelling.{word_goes_on, word_read, word_stopped}
 use Rattle.bit_text.proofs.numbers.read_numbers.Goals as goal
 use Rattle.bit_text.proofs.numbers.read_numbers.Goals.{then-b-eq32+in_ok-add_number, else-b-eq32}
 

@@ -1,4 +1,4 @@
-use Rattle.std.proofs.Common.{◌-◌, length, take, drop, Ok, Some, None, Option, sym, ◌∙◌, ap, subst, List, ℕ}
+use Rattle.std.proofs.Common.{◌-◌, length, take, drop, Ok, Option, sym, ◌∙◌, ap, subst, List, ℕ}
 use Rattle.std.proofs.lemmas.Result.{err_from_is_err_and}
 use Rattle.bit_norm.specs.declared.form_writer.FormWriter.{FormWriter}
 use Rattle.bit_text.specs.Stops.{call_of, IsAt}
