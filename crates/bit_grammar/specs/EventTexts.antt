@@ -2,8 +2,8 @@
 use Rattle.std.specs.Prelude.{ℕ, ◌-◌, List, [], ◌∷◌, ◌++◌, length, flat_map, codes, decimal, Ok, Err}
 use Rattle.bit_grammar.specs.declared.op.Op.{Op}
 use Rattle.bit_grammar.specs.declared.op.Op.TheVariants.{Literal, Fixed, Vbr, Array, Char6, Blob}
-use Rattle.bit_grammar.specs.declared.values.Values.{Values}
-use Rattle.bit_grammar.specs.declared.values.Values.TheVariants.{Shown, LeftOut}
+use Rattle.bit_grammar.specs.declared.value_display.ValueDisplay.{ValueDisplay}
+use Rattle.bit_grammar.specs.declared.value_display.ValueDisplay.TheVariants.{Shown, LeftOut}
 use Rattle.bit_grammar.specs.Terms.{Head}
 use Rattle.bit_grammar.specs.Machine.{Event, enters, defines, notes, leaves, Ending, broke}
 use Rattle.bit_grammar.specs.Outlook.{Outlook}
@@ -30,7 +30,7 @@ ops_text [] = []
 ops_text (op ∷ ops) = op_text op ++ flat_map (λ other. codes ", " ++ op_text other) ops
 
 -- the values of a record, a space before each, unless they are left out
-abbrev pub shown_values : Values → List ℕ → List ℕ
+abbrev pub shown_values : ValueDisplay → List ℕ → List ℕ
 shown_values Shown values = values_text values
 shown_values LeftOut values = []
 
@@ -40,14 +40,14 @@ opened_text id width body = codes "block " ++ decimal id ++ codes " width " ++ d
     ++ codes " body " ++ decimal body
 
 -- a record: its code, its abbreviation id, the number of its values, and these
-abbrev pub noted_text : Values → (code abbreviation : ℕ) → List ℕ → List ℕ
+abbrev pub noted_text : ValueDisplay → (code abbreviation : ℕ) → List ℕ → List ℕ
 noted_text values code abbreviation listed = codes "record " ++ decimal code ++ codes " by "
     ++ decimal abbreviation ++ codes " count " ++ decimal (length listed)
     ++ shown_values values listed
 
 -- The line of an event, with `around` blocks open before it. It begins with the first bit of the item, and at a block's end with
 -- the bit after the block. The line of an end is indented as that of its own block.
-abbrev pub event_line : Values → (around : ℕ) → Event → List ℕ
+abbrev pub event_line : ValueDisplay → (around : ℕ) → Event → List ℕ
 event_line values around (enters o) = line_at o.first around (opened_text o.id o.width o.body)
 event_line values around (defines mark) = line_at mark.first around
     (codes "define " ++ ops_text mark.ops)
@@ -56,7 +56,7 @@ event_line values around (notes mark) = line_at mark.first around
 event_line values around (leaves after) = line_at after (around - 1) (codes "end")
 
 -- the lines of events in order, with `around` blocks open before the first
-abbrev pub event_lines : Values → (around : ℕ) → List Event → List ℕ
+abbrev pub event_lines : ValueDisplay → (around : ℕ) → List Event → List ℕ
 event_lines values around [] = []
 event_lines values around (event ∷ events) = event_line values around event
     ++ event_lines values (open_after event around) events
@@ -66,7 +66,7 @@ abbrev pub head_line : Head → List ℕ
 head_line head = line_at (stream_begin head.wrapper) 0 (magic_text head.magic)
 
 -- the text of an outlook: the line of the magic and those of the events, or nothing if no head is complete
-abbrev pub outlook_text : Values → Outlook → List ℕ
+abbrev pub outlook_text : ValueDisplay → Outlook → List ℕ
 outlook_text values (Ok x) = head_line x.0 ++ event_lines values 0 x.1.0
 outlook_text values (Err fault) = []
 

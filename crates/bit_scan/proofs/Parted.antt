@@ -4,7 +4,7 @@ use Rattle.std.specs.Prelude.{codes, decimal, flat_map}
 use Rattle.std.proofs.lemmas.Grind.{flat_map-append}
 use Rattle.std.proofs.lemmas.List.{drop_all}
 use Rattle.bit_grammar.specs.declared.op.Op.{Op}
-use Rattle.bit_grammar.specs.declared.values.Values.{Values}
+use Rattle.bit_grammar.specs.declared.value_display.ValueDisplay.{ValueDisplay}
 use Rattle.bit_grammar.specs.EventTexts.{line_at, op_text, ops_text, noted_text, shown_values}
 use Rattle.bit_grammar.specs.Texts.{record_line, values_text}
 use Rattle.bit_fields.specs.declared.fault.Fault.{Fault}
@@ -88,7 +88,7 @@ record_parts around code vs = record { are = regrouped (replicate (2 * around) 3
     regrouped a b c d e = simp append_assoc
 
 -- the line of a record among events
-pub noted_parts : (values : Values) (around first code abbreviation : ℕ) (vs : List ℕ) → Parts (line_at first around (noted_text values code abbreviation vs)) (noted_head around first code abbreviation (length vs)) (shown_values values vs) (10 ∷ [])
+pub noted_parts : (values : ValueDisplay) (around first code abbreviation : ℕ) (vs : List ℕ) → Parts (line_at first around (noted_text values code abbreviation vs)) (noted_head around first code abbreviation (length vs)) (shown_values values vs) (10 ∷ [])
 noted_parts values around first code abbreviation vs = record { are = regrouped (decimal first) (replicate (2 * around) 32) (codes "record ") (decimal code) (codes " by ") (decimal abbreviation) (codes " count ") (decimal (length vs)) (shown_values values vs) (10 ∷ []) }
   where
     regrouped : (a b c d e f g h i j : List ℕ) → a ++ (32 ∷ (b ++ ((c ++ d ++ e ++ f ++ g ++ h ++ i) ++ j))) ≡ ((a ++ (32 ∷ b)) ++ (c ++ d ++ e ++ f ++ g ++ h)) ++ (i ++ j)

@@ -4,8 +4,8 @@ use Rattle.std.specs.Borrow.{Bor}
 use Rattle.bit_grammar.specs.declared.op.Op.{Op}
 use Rattle.bit_grammar.specs.declared.op.Op.TheVariants.{Literal, Fixed, Vbr, Array, Char6, Blob}
 use Rattle.bit_grammar.specs.declared.reason.Reason.{Reason}
-use Rattle.bit_grammar.specs.declared.values.Values.{Values}
-use Rattle.bit_grammar.specs.declared.values.Values.TheVariants.{Shown, LeftOut}
+use Rattle.bit_grammar.specs.declared.value_display.ValueDisplay.{ValueDisplay}
+use Rattle.bit_grammar.specs.declared.value_display.ValueDisplay.TheVariants.{Shown, LeftOut}
 use Rattle.bit_grammar.specs.Reasons.{name_of}
 use Rattle.bit_grammar.specs.Terms.{Head}
 use Rattle.bit_grammar.specs.Machine.{Event, enters, defines, notes, leaves, Ending, accepted, broke}
@@ -86,13 +86,13 @@ op_json Char6 = object (codes "char6") []
 op_json Blob = object (codes "blob") []
 
 -- a record with these numbers, and its values unless they are left out
-abbrev pub noted_json : Values → List Field → List ℕ → List ℕ
+abbrev pub noted_json : ValueDisplay → List Field → List ℕ → List ℕ
 noted_json Shown fields values = list_line (codes "record") fields (codes "values")
     (joined number_json values)
 noted_json LeftOut fields values = object_line (codes "record") fields
 
 -- The line of an event, with `around` blocks open before it. It has the content of the line of text, and the number of open blocks.
-abbrev pub event_json : Values → (around : ℕ) → Event → List ℕ
+abbrev pub event_json : ValueDisplay → (around : ℕ) → Event → List ℕ
 event_json values around (enters o) = object_line (codes "block")
     ((codes "bit", o.first) ∷ (codes "depth", around) ∷ (codes "id", o.id)
     ∷ (codes "width", o.width) ∷ (codes "body", o.body) ∷ [])
@@ -122,13 +122,13 @@ ending_json (accepted bit) = []
 ending_json (broke fault) = refusal_json fault.reason fault.bit
 
 -- the lines of events in order, with `around` blocks open before the first, and of their end
-abbrev pub events_json : Values → (around : ℕ) → List Event → Ending → List ℕ
+abbrev pub events_json : ValueDisplay → (around : ℕ) → List Event → Ending → List ℕ
 events_json values around [] end = ending_json end
 events_json values around (event ∷ events) end = event_json values around event
     ++ events_json values (open_after event around) events end
 
 -- the lines of an outlook: of its magic and its events, and of a refusal at the end
-abbrev pub outlook_json : Values → Outlook → List ℕ
+abbrev pub outlook_json : ValueDisplay → Outlook → List ℕ
 outlook_json values (Ok x) = head_json x.0 ++ events_json values 0 x.1.0 x.1.1
 outlook_json values (Err fault) = refusal_json fault.reason fault.bit
 

@@ -1,7 +1,7 @@
 -- The lines of events and of a report in each format.
 use Rattle.std.specs.Prelude.{ℕ, List, []}
 use Rattle.bit_grammar.specs.declared.reason.Reason.{Reason}
-use Rattle.bit_grammar.specs.declared.values.Values.{Values}
+use Rattle.bit_grammar.specs.declared.value_display.ValueDisplay.{ValueDisplay}
 use Rattle.bit_grammar.specs.EventTexts.{event_line, event_lines, head_line, outlook_text}
 use Rattle.bit_grammar.specs.Terms.{Head}
 use Rattle.bit_grammar.specs.Machine.{Event, Told}
@@ -24,12 +24,12 @@ head_as Text head = head_line head
 head_as JsonLines head = head_json head
 
 -- the line of an event, with `around` blocks open before it
-abbrev pub event_as : Format → Values → (around : ℕ) → Event → List ℕ
+abbrev pub event_as : Format → ValueDisplay → (around : ℕ) → Event → List ℕ
 event_as Text values around event = event_line values around event
 event_as JsonLines values around event = event_json values around event
 
 -- the lines of events, with `around` blocks open before the first, and of their end if it has one
-abbrev pub told_as : Format → Values → (around : ℕ) → Told → List ℕ
+abbrev pub told_as : Format → ValueDisplay → (around : ℕ) → Told → List ℕ
 told_as Text values around told = event_lines values around told.0
 told_as JsonLines values around told = events_json values around told.0 told.1
 
@@ -43,7 +43,7 @@ fault_as format (Refused reason bit) = refusal_as format reason bit
 fault_as format fault = []
 
 -- the lines of an outlook
-abbrev pub outlook_as : Format → Values → Outlook → List ℕ
+abbrev pub outlook_as : Format → ValueDisplay → Outlook → List ℕ
 outlook_as Text values told = outlook_text values told
 outlook_as JsonLines values told = outlook_json values told
 

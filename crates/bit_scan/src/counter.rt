@@ -14,7 +14,7 @@ use std::marker::Model;
 
 /// An open block: its id, the place of its row, its first bit, and the bits of the ended blocks in it.
 #[derive(Clone, Copy, Debug)]
-struct OpenBlock {
+struct CountedBlock {
     id: u32,
     place: usize,
     first: u64,
@@ -26,12 +26,12 @@ struct OpenBlock {
 #[derive(Drop)]
 pub(crate) struct Counter {
     rows: BlockRows,
-    open: Vec<OpenBlock>,
+    open: Vec<CountedBlock>,
 }
 
 /// Removes the innermost open block, which ends before a bit. All its bits go to the block around it.
 /// Returns the block and the bits that are its own.
-fn close_block(blocks: &mut Vec<OpenBlock>, after: u64) -> Option<(OpenBlock, u64)>
+fn close_block(blocks: &mut Vec<CountedBlock>, after: u64) -> Option<(CountedBlock, u64)>
     ensures { (around : List OpenCount) → open_counts blocks.old.items ≡ map cut_open around
         → ClosesCount around after result (open_counts blocks.new.items) }
 {
@@ -75,7 +75,7 @@ impl Counter {
             → OnOk result (self.new ≡ capped_counts (count_event (enters opened) counts)) }
     {
         let place = self.rows.add_by_id(id, Addition::Block)?;
-        self.open.push(OpenBlock {
+        self.open.push(CountedBlock {
             id,
             place,
             first,

@@ -1,6 +1,6 @@
 //! Formats of lines.
 
-use bit_grammar::Values;
+use bit_grammar::ValueDisplay;
 
 /// The format of lines.
 #[derive(Clone, Copy, Debug, PartialEq, Eq)]
@@ -15,5 +15,5 @@ pub enum Format {
 #[derive(Clone, Copy, Debug, PartialEq, Eq)]
 pub struct EventStyle {
     pub format: Format,
-    pub values: Values,
+    pub values: ValueDisplay,
 }

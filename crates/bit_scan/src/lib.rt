@@ -30,7 +30,7 @@ mod tests;
 
 pub use analysing::analyse;
 pub use analysis::Analysis;
-pub use bit_grammar::Values;
+pub use bit_grammar::ValueDisplay;
 pub use format::{EventStyle, Format};
 pub use json::{Field, push_fields, push_front, push_magic_part, push_object};
 pub use laws::numbers_fit;

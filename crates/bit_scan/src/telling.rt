@@ -18,7 +18,7 @@ use crate::listing::{around_after, write_values};
 use crate::printer::Printer;
 use bit_events::{Event, PackedEvent, PackedEvents};
 use bit_fields::{Fault, Head, Limits, PackedValues, Reason, Sink, Source};
-use bit_grammar::{Op, Values};
+use bit_grammar::{Op, ValueDisplay};
 use std::alloc::Global;
 
 /// Writes operands, a comma before each.
@@ -64,14 +64,14 @@ fn write_definition<K: Sink>(
 /// Writes the values of a record, unless they are left out.
 fn write_shown<K: Sink>(
     printer: &mut Printer<K>,
-    values: Values,
+    values: ValueDisplay,
     listed: &PackedValues,
 ) -> Result<(), Fault>
     ensures { Prints (shown_values values listed.now) printer.old result printer.new }
 {
     match values {
-        Values::Shown => write_values(printer, listed),
-        Values::LeftOut => Ok(()),
+        ValueDisplay::Shown => write_values(printer, listed),
+        ValueDisplay::LeftOut => Ok(()),
     }
 }
 
@@ -89,7 +89,7 @@ fn write_noted<K: Sink>(
     printer: &mut Printer<K>,
     around: u32,
     noted: Noted,
-    values: Values,
+    values: ValueDisplay,
     listed: &PackedValues,
 ) -> Result<(), Fault>
     ensures { Prints (line_at noted.first around
@@ -112,7 +112,7 @@ fn write_line<K: Sink>(
     printer: &mut Printer<K>,
     around: u32,
     event: &PackedEvent<'_>,
-    values: Values,
+    values: ValueDisplay,
 ) -> Result<(), Fault>
     ensures { Prints (event_line values around (event_shown event.now)) printer.old result
         printer.new }
@@ -197,15 +197,15 @@ fn write_json_values<K: Sink>(
 fn write_json_record<K: Sink>(
     printer: &mut Printer<K>,
     fields: &[Field<'_>],
-    values: Values,
+    values: ValueDisplay,
     listed: &PackedValues,
 ) -> Result<(), Fault>
     ensures { Prints (noted_json values (fields_told fields.now) listed.now) printer.old result
         printer.new }
 {
     match values {
-        Values::Shown => write_json_values(printer, fields, listed),
-        Values::LeftOut => printer.object_line("record", fields),
+        ValueDisplay::Shown => write_json_values(printer, fields, listed),
+        ValueDisplay::LeftOut => printer.object_line("record", fields),
     }
 }
 
@@ -214,7 +214,7 @@ fn write_json_line<K: Sink>(
     printer: &mut Printer<K>,
     around: u32,
     event: &PackedEvent<'_>,
-    values: Values,
+    values: ValueDisplay,
 ) -> Result<(), Fault>
     ensures { Prints (event_json values around (event_shown event.now)) printer.old result
         printer.new }

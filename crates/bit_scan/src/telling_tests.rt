@@ -1,7 +1,7 @@
 //! The events of inputs as lines.
 
 use crate::tests::{DESCRIBED, EMPTY, Pieces, SINKS, TAIL, Told, answer_of, tells, wanted_answer};
-use crate::{EventStyle, Format, Values, write_events};
+use crate::{EventStyle, Format, ValueDisplay, write_events};
 use bit_fields::{Fault, Limits, ReadSource, Reason, SliceSource, Source};
 use std::alloc::{AllocError, Global};
 use std::io;
@@ -78,22 +78,22 @@ static TAIL_JSON: &str = "{\"kind\":\"magic\",\"bit\":0,\"magic\":\"4243c0de\"}\
 
 const TEXT: EventStyle = EventStyle {
     format: Format::Text,
-    values: Values::Shown,
+    values: ValueDisplay::Shown,
 };
 
 const COUNTED: EventStyle = EventStyle {
     format: Format::Text,
-    values: Values::LeftOut,
+    values: ValueDisplay::LeftOut,
 };
 
 const JSON: EventStyle = EventStyle {
     format: Format::JsonLines,
-    values: Values::Shown,
+    values: ValueDisplay::Shown,
 };
 
 const JSON_COUNTED: EventStyle = EventStyle {
     format: Format::JsonLines,
-    values: Values::LeftOut,
+    values: ValueDisplay::LeftOut,
 };
 
 /// What `write_events` returns and writes with such a sink.

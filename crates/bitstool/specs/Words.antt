@@ -12,8 +12,8 @@ use Rattle.clap.specs.declared.error.kind.ErrorKind.TheVariants.{DisplayHelp, Di
 use Rattle.bit_grammar.specs.declared.info.RecordName.{RecordName}
 use Rattle.bit_grammar.specs.declared.shapes.Shapes.{Shapes}
 use Rattle.bit_grammar.specs.declared.shapes.Shapes.TheVariants.{AtDefinition, AtUse}
-use Rattle.bit_grammar.specs.declared.values.Values.{Values}
-use Rattle.bit_grammar.specs.declared.values.Values.TheVariants as values
+use Rattle.bit_grammar.specs.declared.value_display.ValueDisplay.{ValueDisplay}
+use Rattle.bit_grammar.specs.declared.value_display.ValueDisplay.TheVariants as values
 use Rattle.bit_grammar.specs.Blocks.{Limits}
 use Rattle.bit_grammar.specs.Normal.{most_bytes, most_depth, most_values}
 use Rattle.bit_scan.specs.declared.format.EventStyle.{EventStyle}
@@ -154,7 +154,7 @@ abbrev pub HasLeftOut : List Row → LeftOut → Type 0
 HasLeftOut rows left = HasBlocks rows left.blocks.items × NamesRecords rows left.records.items
 
 -- values are left out exactly if the flag was given
-abbrev pub HasValues : List Row → Values → Type 0
+abbrev pub HasValues : List Row → ValueDisplay → Type 0
 HasValues rows values.Shown = ¬ (IsGiven (codes "no-values") rows)
 HasValues rows values.LeftOut = IsGiven (codes "no-values") rows
 

@@ -9,7 +9,7 @@ ghost use Rattle.bitstool.specs.Words.{for_all_commands, bitstool, flag_rule, le
 use crate::names::{Unnamed, blocks_named, records_named};
 use crate::task::{Explain, LeftOut, Parsed, Task};
 use bit_fields::{Limits, MOST_BYTES, MOST_DEPTH, MOST_VALUES, Shapes};
-use bit_scan::{EventStyle, Format, Values};
+use bit_scan::{EventStyle, Format, ValueDisplay};
 use bit_tree::RecordName;
 use clap::builder::ValueParser;
 use clap::error::ErrorKind;
@@ -338,13 +338,13 @@ fn left_out<'a>(alloc: Global, matches: &ArgMatches<'a>) -> Result<LeftOut, Unna
 }
 
 /// Whether a command leaves values out.
-fn values_of(matches: &ArgMatches<'_>) -> Values
+fn values_of(matches: &ArgMatches<'_>) -> ValueDisplay
     ensures { HasValues (rows_of (found_of matches.now)) result }
 {
     if is_given(matches, "no-values") {
-        Values::LeftOut
+        ValueDisplay::LeftOut
     } else {
-        Values::Shown
+        ValueDisplay::Shown
     }
 }
 

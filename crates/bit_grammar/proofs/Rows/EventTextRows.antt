@@ -3,8 +3,8 @@ use Rattle.std.proofs.Common.{◌≡◌, ℕ, List, [], ◌∷◌, ◌++◌, tak
 use Rattle.std.specs.Prelude.{codes}
 use Rattle.std.specs.Fmt.{digits}
 use Rattle.bit_grammar.specs.declared.reason.Reason.TheVariants.{BlockLength, Truncated}
-use Rattle.bit_grammar.specs.declared.values.Values.{Values}
-use Rattle.bit_grammar.specs.declared.values.Values.TheVariants.{Shown, LeftOut}
+use Rattle.bit_grammar.specs.declared.value_display.ValueDisplay.{ValueDisplay}
+use Rattle.bit_grammar.specs.declared.value_display.ValueDisplay.TheVariants.{Shown, LeftOut}
 use Rattle.bit_grammar.specs.Grammar.{at}
 use Rattle.bit_grammar.specs.Fields.{fixed, vbr, char6, align32, byte}
 use Rattle.bit_grammar.specs.Definition.{kind, valued, operand, operands, definition}
@@ -18,7 +18,7 @@ use Rattle.bit_grammar.proofs.Rows.Hex.{hex}
 use Rattle.bit_grammar.proofs.Rows.Worked.{usual}
 
 -- the text of the outlook of bytes, and its end
-abbrev text_of : Values → List ℕ → List ℕ × Ending
+abbrev text_of : ValueDisplay → List ℕ → List ℕ × Ending
 text_of values bytes = (outlook_text values (outlook usual bytes), outlook_end (outlook usual bytes))
 
 -- a BLOCKINFO block that gives block 8 the definition [Literal 1, Fixed 7], and a block 8 that uses it
