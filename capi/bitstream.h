@@ -1,4 +1,4 @@
-/* Calls on streams in the LLVM bitstream container: check, normal form, comparison, analysis, listing and events.
+/* Calls on streams in the LLVM bitstream container: check, normal form, comparison, analysis, listing, assembly and events.
 
    Each call is a function of Rattle whose contract is proved: docs/PROMISES.md lists them. Before it, a few lines of C replace null
    pointers that have the length 0. The caller's obligations are not checked. If one is not kept, the behaviour of a call is
@@ -39,7 +39,7 @@ enum {
     BS_DONE = 0,
     /* Two inputs differ. */
     BS_DIFFERENT = 1,
-    /* An input breaks a rule. The fault has the reason and the bit. */
+    /* An input breaks a rule, or a text is no listing. The fault has the reason and the bit, or the line. */
     BS_REFUSED = 2,
     /* An allocation failed. */
     BS_MEMORY = 3,
@@ -91,11 +91,11 @@ struct bs_left_out {
 
 /* The reason why an input was refused. All zeros if none was refused. */
 struct bs_fault {
-    /* The number of the reason, from 1 to 22. */
+    /* The number of the reason: from 1 to 22 of an input, from 101 to 108 of a listing. */
     uint32_t reason;
     /* 0 for the only or the first input, 1 for the second. */
     uint32_t input;
-    /* The bit, counted from the first bit of that input. */
+    /* The bit, counted from the first bit of that input; of a listing the number of the line, counted from 1. */
     uint64_t bit;
 };
 
@@ -144,6 +144,17 @@ uint32_t bs_report(const uint8_t *bytes, size_t bytes_len, const struct bs_limit
    is counted and not held. The listing of a record has 2 to 21 bytes per value. */
 uint32_t bs_show(const uint8_t *bytes, size_t bytes_len, const struct bs_limits *limits, const struct bs_left_out *left_out,
                  uint8_t *room, size_t room_len, size_t *needed, struct bs_fault *fault);
+
+/* Puts the normal form of the tree that a listing spells at the start of the room, as `bitstool assemble` prints it, and sets
+   `needed` to its length in bytes. The text is one as bs_show writes it, or in the other forms of docs/FORMAT.md. The results are
+   those of bs_normal, without BS_NAMES; the form is accepted under the limits. Or BS_REFUSED with the first line that no listing
+   has there. The limits are those on the form's bytes, on the depth of blocks and on the values of all records.
+
+   Reads the text once for any room. Holds the form so far, with up to 1 MiB unused, the longest line
+   and 8 bytes for each of its numbers, each in a buffer of up to twice that; and the form once more if it fits the room. A form
+   has at most twice the bytes of its listing. */
+uint32_t bs_assemble(const uint8_t *text, size_t text_len, const struct bs_limits *limits, uint8_t *room, size_t room_len,
+                     size_t *needed, struct bs_fault *fault);
 
 /* Whether two inputs have the same magic and the same blocks and records, whole or without what is left out: BS_DONE if they
    have, BS_DIFFERENT, or BS_REFUSED, BS_MEMORY, BS_LIMITS, BS_NAMES. The second is refused only if the first is accepted.

@@ -4,7 +4,7 @@ import os
 from ctypes import POINTER, Structure, byref, c_bool, c_size_t, c_uint8, c_uint32, c_uint64, c_void_p
 from typing import NamedTuple
 
-from program import DIFFERENT, REASONS, SAME, TOP, Answer, done
+from program import DIFFERENT, REASONS, SAME, TEXT_REASONS, TOP, Answer, done
 
 LIBRARY = f"{TOP}/capi/out/libbitstream.so"
 DONE, DIFFERS, REFUSED, MEMORY, TOO_LONG, LIMITS, ROOM, CLOSED, NAMES, UNFIT = range(10)
@@ -181,6 +181,8 @@ class Library:
         """The run of the program with the same result."""
         if told.status == DONE:
             return done(output)
+        if told.status == REFUSED and told.reason > 100:
+            return Answer(1, b"", f"refused: {TEXT_REASONS[told.reason - 101]} at line {told.bit}\n")
         if told.status == REFUSED:
             return Answer(1, b"", f"refused: {which}{REASONS[told.reason - 1]} at bit {told.bit}\n")
         if told.status == TOO_LONG:

@@ -157,6 +157,23 @@ static uint64_t ask_texts(const struct file *file, const struct bs_limits *limit
     return sum;
 }
 
+/* The listing of a file, assembled in the same room, which is more than these forms need. */
+static uint64_t ask_assembled(const struct file *file, const struct bs_limits *limits, uint64_t sum) {
+    struct bs_left_out left_out = BS_WHOLE;
+    struct bs_fault fault;
+    size_t len = 32 * file->len + 65536, listed = 0, needed = 0;
+    uint8_t *listing = room_for(len), *room = room_for(len);
+    count_memory(1);
+    uint32_t status = noted(bs_show(file->at, file->len, limits, &left_out, listing, len, &listed, &fault));
+    if (status == BS_DONE) status = noted(bs_assemble(listing, listed, limits, room, len, &needed, &fault));
+    count_memory(0);
+    sum = mixed(mixed(sum, status), needed);
+    if (status == BS_DONE) sum = mixed_text(sum, room, needed);
+    free(listing);
+    free(room);
+    return sum;
+}
+
 /* The text that is held, in pieces. */
 static uint64_t mixed_pieces(uint64_t sum, struct bs_handle *handle) {
     struct bs_fault fault;
@@ -295,7 +312,8 @@ static uint64_t ask(const struct file *file) {
     uint64_t sum = mixed(14695981039346656037u, noted(bs_check(file->at, file->len, &limits, &fault)));
     sum = mixed(sum, noted(bs_same(file->at, file->len, file->at, file->len, &limits, &left_out, &fault)));
     count_memory(0);
-    sum = ask_fed(file, &limits, ask_writer(file, &limits, ask_differences(file, &limits, sum)));
+    sum = ask_assembled(file, &limits, ask_differences(file, &limits, sum));
+    sum = ask_fed(file, &limits, ask_writer(file, &limits, sum));
     return ask_held(file, &limits, ask_rows(file, &limits, ask_texts(file, &limits, ask_fed_events(file, &limits, sum))));
 }
 

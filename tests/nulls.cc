@@ -59,6 +59,7 @@ int main() {
     is("bs_normal", bs_normal(none.data(), 0, &limits, &whole, room.data(), 0, &needed, &fault), BS_REFUSED);
     is("bs_report", bs_report(at, len, &limits, room.data(), 0, &needed, &fault), BS_ROOM);
     is("bs_show", bs_show(at, len, &limits, &whole, room.data(), 0, &needed, &fault), BS_ROOM);
+    is("bs_assemble", bs_assemble(none.data(), 0, &limits, room.data(), 0, &needed, &fault), BS_REFUSED);
     is("bs_same", bs_same(at, len, none.data(), 0, &limits, &whole, &fault), BS_REFUSED);
     is("bs_same", bs_same(none.data(), 0, at, len, &limits, &whole, &fault), BS_REFUSED);
     is("bs_same", bs_same(at, len, at, len, &limits, &whole, &fault), BS_DONE);

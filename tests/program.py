@@ -18,6 +18,7 @@ LONGEST = 60
 REASONS = """Truncated ValueTooWide TopLevel TooDeep BlockId AbbrevWidth DirtyPadding BlockLength UndefinedAbbrev AbbrevEmpty
 AbbrevEncoding FieldWidth AbbrevShape NoBlockSet BadSetBid NestedInBlockInfo TooManyValues TooLong WrapperVersion WrapperOffset
 WrapperSize WrapperNested""".split()
+TEXT_REASONS = "NoMagic WrapperMagic BadLine NumberTooLarge BadIndentation TooDeep TooManyValues Misplaced".split()
 
 NO_MEMORY = "fault: no memory\n"
 READ_FAILED = "fault: read failed\n"

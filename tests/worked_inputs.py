@@ -419,3 +419,41 @@ def counts_that_lie():
 def all_rows():
     return [*plain_blocks(), *cuts_of_one_record(), *widths_and_nesting(), *limits(), *definitions(), *shapes(),
             *zero_widths(), *definitions_for_other_blocks(), *blobs(), *wrappers(), *counts_that_lie()]
+
+# ---- listings
+
+BEGUN = "magic 4243c0de\n"
+INFO = BEGUN + "block 0\n  record 1 8\n"
+# Listings that are refused: options, the text, and why.
+REFUSED_LISTINGS = [
+    ("", "", "NoMagic at line 1"),
+    ("", "# one\n\n# three", "NoMagic at line 3"),
+    ("", "block 8\n", "NoMagic at line 1"),
+    ("", " " + BEGUN, "NoMagic at line 1"),
+    ("", "magic 4243C0DE\n", "NoMagic at line 1"),
+    ("", "magic 4243c0d\n", "NoMagic at line 1"),
+    ("", "magic dec0170b\n", "WrapperMagic at line 1"),
+    ("", BEGUN + BEGUN, "BadLine at line 2"),
+    ("", BEGUN + "blocks 8\n", "BadLine at line 2"),
+    ("", BEGUN + "block\n", "BadLine at line 2"),
+    ("", BEGUN + "block 8 9\n", "BadLine at line 2"),
+    ("", BEGUN + "block 8 \n", "BadLine at line 2"),
+    ("", BEGUN + "block 8\r\n", "BadLine at line 2"),
+    ("", BEGUN + "block 8\n  record 1  2\n", "BadLine at line 3"),
+    ("", BEGUN + "block 8\n  record 1 +2\n", "BadLine at line 3"),
+    ("", BEGUN + "block 0x\n", "BadLine at line 2"),
+    ("", BEGUN + "block 8\n\trecord 1\n", "BadLine at line 3"),
+    ("", BEGUN + "block 4294967296\n", "NumberTooLarge at line 2"),
+    ("", BEGUN + "block 8\n\n  record 1 18446744073709551616\n", "NumberTooLarge at line 4"),
+    ("", BEGUN + "block 8\n record 1\n", "BadIndentation at line 3"),
+    ("", BEGUN + "block 8\n    record 1\n", "BadIndentation at line 3"),
+    ("", BEGUN + "record 1 2\n", "Misplaced at line 2"),
+    ("", BEGUN + "block 0\n  record 2 8\n", "Misplaced at line 3"),
+    ("", BEGUN + "block 0\n  record 1\n", "Misplaced at line 3"),
+    ("", f"{INFO}  record 1 4294967296\n", "Misplaced at line 4"),
+    ("", f"{INFO}  block 9\n", "Misplaced at line 4"),
+    ("--depth 1", BEGUN + "block 8\n  block 9\n", "TooDeep at line 3"),
+    ("--depth 0", BEGUN + "block 8\n", "TooDeep at line 2"),
+    ("--values 2", BEGUN + "block 8\n  record 1 2\n  record 1 2 3\n", "TooManyValues at line 4"),
+    ("--bytes 15", BEGUN + "block 8\n  record 1 30\n", "normal form longer than 15 bytes"),
+]

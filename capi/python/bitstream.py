@@ -1,8 +1,8 @@
 """Streams in the LLVM bitstream container, by the C library libbitstream.so.
 
 `check`, `normal`, `show`, `report`, `pieces`, `same`, `first_difference`, `magic` and `events` take bytes, or anything that `bytes`
-takes. A refused input raises `Refused`, which has the reason and the bit. `Input` is an input that comes in pieces, and `Writer`
-makes the normal form of a tree item by item. The library is the file that the variable BITSTREAM_LIBRARY names, else the one below
+takes. A refused input raises `Refused`, which has the reason and the bit. `assemble` takes a listing. `Input` is an input that comes
+in pieces, and `Writer` makes the normal form of a tree item by item. The library is the file that the variable BITSTREAM_LIBRARY names, else the one below
 the prefix that this module is installed in, else the one that the system's loader finds."""
 import ctypes
 import os
@@ -91,6 +91,14 @@ class Refused(Error):
         self.reason, self.bit, self.input = reason, bit, input
 
 
+class RefusedLine(Error):
+    """A refused listing: the name of the reason, and the number of the line, counted from 1."""
+
+    def __init__(self, reason, line):
+        super().__init__("%s at line %d" % (reason, line))
+        self.reason, self.line = reason, line
+
+
 class Unfit(Error):
     """A call of a writer does not fit: no tree within the limits has that item there."""
 
@@ -157,7 +165,8 @@ def _ask(name, *arguments):
     if status == _REFUSED:
         reason = _Bytes()
         _calls.bs_reason_name(c_uint32(fault.reason), byref(reason))
-        raise Refused(ctypes.string_at(reason.at, reason.len).decode(), fault.bit, fault.input)
+        name = ctypes.string_at(reason.at, reason.len).decode()
+        raise RefusedLine(name, fault.bit) if fault.reason > 100 else Refused(name, fault.bit, fault.input)
     if status == _MEMORY:
         raise MemoryError
     if status == _UNFIT:
@@ -227,6 +236,15 @@ def show(data, left_out=LeftOut(), limits=None):
 def report(data, limits=None):
     """The report of an input, as `bitstool analyse` prints it."""
     return _text("bs_hold_report", data, limits).decode()
+
+
+def assemble(text, limits=None):
+    """The normal form of the tree that a listing spells, as bytes. A refused listing raises RefusedLine."""
+    text, limits = _input(text.encode()), limits or Limits()
+    room, needed = (c_uint8 * (2 * text[1].value))(), c_size_t()
+    while _ask("bs_assemble", *text, byref(limits), room, c_size_t(len(room)), byref(needed)) == _ROOM:
+        room = (c_uint8 * needed.value)()
+    return bytes(memoryview(room)[: needed.value])
 
 
 def same(first, second, left_out=LeftOut(), limits=None):

@@ -107,6 +107,8 @@ extern "C" {
     pub fn bs_first_difference(first: *const u8, first_len: usize, second: *const u8, second_len: usize, limits: &Limits,
                                left_out: &LeftOut, difference: &mut Difference, room: *mut OpenBlock, room_len: usize,
                                fault: &mut Fault) -> u32;
+    pub fn bs_assemble(text: *const u8, text_len: usize, limits: &Limits, room: *mut u8, room_len: usize, needed: &mut usize,
+                       fault: &mut Fault) -> u32;
     pub fn bs_hold_normal(bytes: *const u8, len: usize, limits: &Limits, left_out: &LeftOut, handle: &mut Handle, fault: &mut Fault) -> u32;
     pub fn bs_hold_show(bytes: *const u8, len: usize, limits: &Limits, left_out: &LeftOut, handle: &mut Handle, fault: &mut Fault) -> u32;
     pub fn bs_hold_report(bytes: *const u8, len: usize, limits: &Limits, handle: &mut Handle, fault: &mut Fault) -> u32;

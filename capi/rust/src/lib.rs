@@ -65,6 +65,8 @@ impl LeftOut<'_> {
 pub enum Error {
     /// An input breaks a rule: its name, the bit, and 0 for the only or the first input, 1 for the second.
     Refused { reason: &'static str, bit: u64, input: u32 },
+    /// A listing is refused: the name of the reason, and the number of the line, counted from 1.
+    RefusedLine { reason: &'static str, line: u64 },
     Memory,
     /// The normal form is longer than the limit on bytes.
     TooLong,
@@ -82,6 +84,7 @@ impl fmt::Display for Error {
     fn fmt(&self, to: &mut fmt::Formatter<'_>) -> fmt::Result {
         match self {
             Error::Refused { reason, bit, .. } => write!(to, "{reason} at bit {bit}"),
+            Error::RefusedLine { reason, line } => write!(to, "{reason} at line {line}"),
             Error::Memory => to.write_str("out of memory"),
             Error::TooLong => to.write_str("normal form longer than the limit"),
             Error::Limits => to.write_str("a limit is past its cap"),
@@ -107,6 +110,7 @@ fn reason_name(number: u32) -> &'static str {
 /// Whether the status of a call is BS_DONE, if it is no error.
 fn ended(status: u32, fault: &Fault) -> Result<bool, Error> {
     match status {
+        2 if fault.reason > 100 => Err(Error::RefusedLine { reason: reason_name(fault.reason), line: fault.bit }),
         2 => Err(Error::Refused { reason: reason_name(fault.reason), bit: fault.bit, input: fault.input }),
         3 => Err(Error::Memory),
         4 => Err(Error::TooLong),
@@ -208,6 +212,21 @@ pub fn show(bytes: &[u8], limits: &Limits, left_out: &LeftOut<'_>) -> Result<Vec
 /// The report of an input, as `bitstool analyse` prints it.
 pub fn report(bytes: &[u8], limits: &Limits) -> Result<Vec<u8>, Error> {
     Text::report(bytes, limits)?.0.text()
+}
+
+/// The normal form of the tree that a listing spells.
+pub fn assemble(text: &[u8], limits: &Limits) -> Result<Vec<u8>, Error> {
+    let (mut form, mut needed, mut fault) = (vec![0; 2 * text.len()], 0, Fault::default());
+    loop {
+        let room = form.as_mut_ptr();
+        // SAFETY: the room is initialised, and borrowed alone.
+        let status = unsafe { calls::bs_assemble(text.as_ptr(), text.len(), limits, room, form.len(), &mut needed, &mut fault) };
+        let done = ended(status, &fault)?;
+        form.resize(needed, 0);
+        if done {
+            return Ok(form);
+        }
+    }
 }
 
 /// Whether two inputs have the same magic, blocks and records.

@@ -1,5 +1,5 @@
 //! Each call, on a stream of one record that is abbreviated in no way, and on a broken one.
-use bitstream::{check, first_difference, normal, report, same, show, Error, Event, Events, Input, LeftOut, Limits, Operand, RecordName, Standing, Text, Writer};
+use bitstream::{assemble, check, first_difference, normal, report, same, show, Error, Event, Events, Input, LeftOut, Limits, Operand, RecordName, Standing, Text, Writer};
 use std::io::{BufReader, Read, Write};
 
 /// A block with id 8 whose ids are 3 bits wide, and in it record 1 with the value `value`.
@@ -25,6 +25,17 @@ fn texts_and_comparison() {
         text.read_to_end(&mut read).unwrap();
         assert_eq!(read, form);
     }
+}
+
+#[test]
+fn listings() {
+    let (limits, whole, given) = (Limits::default(), LeftOut::default(), stream(30));
+    let listing = show(&given, &limits, &whole).unwrap();
+    assert_eq!(assemble(&listing, &limits), normal(&given, &limits, &whole));
+    let refused = Error::RefusedLine { reason: "BadLine", line: 2 };
+    assert_eq!(assemble(b"magic 44494147\nblock\n", &limits), Err(refused));
+    assert_eq!(refused.to_string(), "BadLine at line 2");
+    assert_eq!(assemble(&listing, &Limits { bytes: 15, ..limits }), Err(Error::TooLong));
 }
 
 #[test]

@@ -21,7 +21,7 @@ use Rattle.bit_norm.specs.Whole.{ComparesBytes, Compares, FindsDifference, Finds
 use Rattle.bit_c.specs.declared.difference.BsDifference.{BsDifference}
 use Rattle.bit_c.specs.declared.difference.BsOpenBlock.{BsOpenBlock}
 use Rattle.bit_c.specs.declared.outcome.Outcome.{Outcome}
-use Rattle.bit_c.specs.declared.outcome.Outcome.TheVariants.{Done, Different, Refused, Memory, TooLong, Limits, Room, Closed, Names, Unfit}
+use Rattle.bit_c.specs.declared.outcome.Outcome.TheVariants.{Done, Different, Refused, RefusedLine, Memory, TooLong, Limits, Room, Closed, Names, Unfit}
 use Rattle.bit_c.specs.Comparing.{Unread, input_of}
 use Rattle.bit_c.specs.Differing.{Differences, GivesDifference}
 use Rattle.bit_c.specs.Ending.{ended_by}
@@ -92,6 +92,7 @@ given setting limits first second j now later d told old new Room is f h =
 given setting limits first second j now later d told old new Memory is f h = (tt, h.0, h.1)
 given setting limits first second j now later d told old new Done is f h = absurd h
 given setting limits first second j now later d told old new (Refused input reason bit) is f h = absurd h
+given setting limits first second j now later d told old new (RefusedLine reason line) is f h = absurd h
 given setting limits first second j now later d told old new TooLong is f h = absurd h
 given setting limits first second j now later d told old new Limits is f h = absurd h
 given setting limits first second j now later d told old new Closed is f h = absurd h

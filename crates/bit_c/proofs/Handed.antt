@@ -2,7 +2,7 @@
 use Rattle.std.proofs.Common.{ℕ, List, sym, subst}
 use Rattle.std.specs.Prelude.{Option, Some, None}
 use Rattle.bit_c.specs.declared.outcome.Outcome.{Outcome}
-use Rattle.bit_c.specs.declared.outcome.Outcome.TheVariants.{Done, Different, Refused, Memory, TooLong, Limits, Room, Closed, Names, Unfit}
+use Rattle.bit_c.specs.declared.outcome.Outcome.TheVariants.{Done, Different, Refused, RefusedLine, Memory, TooLong, Limits, Room, Closed, Names, Unfit}
 use Rattle.bit_c.specs.Handing.{Hands, HandsKept, Makes, HandsText}
 
 -- a text was made and handed out
@@ -11,6 +11,7 @@ given IsText Stops text old new needed Done lacks is h = (text, is, h)
 given IsText Stops text old new needed Room lacks is h = (text, is, h)
 given IsText Stops text old new needed Different lacks is h = absurd h
 given IsText Stops text old new needed (Refused input reason bit) lacks is h = absurd h
+given IsText Stops text old new needed (RefusedLine reason line) lacks is h = absurd h
 given IsText Stops text old new needed Memory lacks is h = (lacks, h)
 given IsText Stops text old new needed TooLong lacks is h = absurd h
 given IsText Stops text old new needed Limits lacks is h = absurd h
@@ -26,6 +27,7 @@ handed IsText Stops Done None old new needed outcome lacks is h = absurd is
 handed IsText Stops Room text old new needed outcome lacks is h = absurd is
 handed IsText Stops Different text old new needed outcome lacks is h = subst (HandsText IsText Stops old needed new) (sym h.1) (is, h.0)
 handed IsText Stops (Refused input reason bit) text old new needed outcome lacks is h = subst (HandsText IsText Stops old needed new) (sym h.1) (is, h.0)
+handed IsText Stops (RefusedLine reason line) text old new needed outcome lacks is h = subst (HandsText IsText Stops old needed new) (sym h.1) (is, h.0)
 handed IsText Stops Memory text old new needed outcome lacks is h = subst (HandsText IsText Stops old needed new) (sym h.1) (is, h.0)
 handed IsText Stops TooLong text old new needed outcome lacks is h = subst (HandsText IsText Stops old needed new) (sym h.1) (is, h.0)
 handed IsText Stops Limits text old new needed outcome lacks is h = subst (HandsText IsText Stops old needed new) (sym h.1) (is, h.0)

@@ -1,4 +1,5 @@
 pub mod AsBox
+pub mod Assembled
 pub mod Compared
 pub mod Handed
 pub mod Inputs

@@ -1,3 +1,4 @@
+pub mod Assembling
 pub mod Bytes
 pub mod Calls
 pub mod Comparing

@@ -13,6 +13,7 @@
 
 mod analysing;
 mod asking;
+mod assembling;
 mod checking;
 mod comparing;
 mod difference;
@@ -41,6 +42,7 @@ mod took;
 
 pub use analysing::{BsBlockRow, BsCodeRow, BsTally, bs_analyse};
 pub use asking::{BsMagicBytes, bs_magic, bs_operands, bs_values};
+pub use assembling::bs_assemble;
 pub use checking::bs_check;
 pub use comparing::{bs_first_difference, bs_same};
 pub use difference::{BsDifference, BsOpenBlock, BsStanding, BsValueDifference};

@@ -1,9 +1,10 @@
 //! The version of the calls, and the names of the reasons.
 
 ghost use Rattle.std.specs.Prelude.{◌≡◌};
-ghost use Rattle.bit_c.specs.Naming.{IsReason, Names};
+ghost use Rattle.bit_c.specs.Naming.{IsReason, IsTextReason, Names};
 
 use bit_fields::Reason;
+use bit_text::TextReason;
 
 /// The version of these calls, structures and numbers: `BS_VERSION` of `capi/bitstream.h`.
 #[unsafe(no_mangle)]
@@ -44,13 +45,31 @@ fn reason_of(number: u32) -> Option<Reason>
     })
 }
 
+/// The reason of a listing with this number.
+fn text_reason_of(number: u32) -> Option<TextReason>
+    ensures { IsTextReason number result }
+{
+    Some(match number {
+        101 => TextReason::NoMagic,
+        102 => TextReason::WrapperMagic,
+        103 => TextReason::BadLine,
+        104 => TextReason::NumberTooLarge,
+        105 => TextReason::BadIndentation,
+        106 => TextReason::TooDeep,
+        107 => TextReason::TooManyValues,
+        108 => TextReason::Misplaced,
+        _ => return None,
+    })
+}
+
 /// Sets a name to that of a reason, or to no bytes if no reason has the number.
 #[unsafe(no_mangle)]
 pub extern "C" fn bs_reason_name(number: u32, name: &mut &'static [u8])
     ensures { Names number name.new.now }
 {
-    *name = match reason_of(number) {
-        Some(reason) => reason.name().as_bytes(),
-        None => &[],
+    *name = match (reason_of(number), text_reason_of(number)) {
+        (Some(reason), _) => reason.name().as_bytes(),
+        (None, Some(reason)) => reason.name().as_bytes(),
+        (None, None) => &[],
     };
 }

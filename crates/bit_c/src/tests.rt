@@ -5,11 +5,12 @@ use crate::event::NONE;
 use crate::handle::closed_handle;
 use crate::{
     BsBlockRow, BsCodeRow, BsEvent, BsFault, BsHandle, BsLeftOut, BsLimits, BsMagicBytes,
-    BsOpenBlock, BsOperand, BsRecordName, BsTally, bs_analyse, bs_check, bs_close, bs_fed_analyse,
-    bs_fed_check, bs_fed_events, bs_fed_normal, bs_fed_show, bs_feed, bs_first_difference,
-    bs_hold_normal, bs_hold_report, bs_hold_show, bs_magic, bs_next, bs_normal, bs_open,
-    bs_operands, bs_report, bs_same, bs_show, bs_take, bs_text, bs_usual_limits, bs_values,
-    bs_write_enter, bs_write_finish, bs_write_leave, bs_write_open, bs_write_record,
+    BsOpenBlock, BsOperand, BsRecordName, BsTally, bs_analyse, bs_assemble, bs_check, bs_close,
+    bs_fed_analyse, bs_fed_check, bs_fed_events, bs_fed_normal, bs_fed_show, bs_feed,
+    bs_first_difference, bs_hold_normal, bs_hold_report, bs_hold_show, bs_magic, bs_next,
+    bs_normal, bs_open, bs_operands, bs_report, bs_same, bs_show, bs_take, bs_text,
+    bs_usual_limits, bs_values, bs_write_enter, bs_write_finish, bs_write_leave, bs_write_open,
+    bs_write_record,
 };
 use std::alloc::Global;
 
@@ -102,6 +103,23 @@ fn given_texts(alloc: Global) -> ([u32; 3], usize) {
 fn what_is_accepted(rt: HostRuntime) {
     assert!(rt; judgements(rt.alloc()) == [0, 0]);
     assert!(rt; given_texts(rt.alloc()) == ([0; 3], 16));
+}
+
+/// The end of assembling a listing, the length of the form, and the number that the fault has for the line.
+fn assembled(alloc: Global, text: &str, room: &mut [u8]) -> (u32, usize, u64) {
+    let (mut needed, mut fault) = (7, NO_FAULT);
+    let listing = text.as_bytes();
+    let status = bs_assemble(alloc, listing, &usual(), room, &mut needed, &mut fault);
+    (status, needed, fault.bit)
+}
+
+#[test]
+fn what_is_assembled(rt: HostRuntime) {
+    let text = "magic 4243c0de\nblock 8\n  record 1 30\n";
+    let mut room = [0; 16];
+    assert!(rt; assembled(rt.alloc(), text, &mut room[..15]) == (6, 16, 0) && room == [0; 16]);
+    assert!(rt; assembled(rt.alloc(), text, &mut room) == (0, 16, 0) && room == THIRTY);
+    assert!(rt; assembled(rt.alloc(), "magic 4243c0de\nblock\n", &mut room) == (2, 0, 2));
 }
 
 fn held_texts(alloc: Global, handle: &mut BsHandle) -> [u32; 4] {
