@@ -46,7 +46,7 @@ use Rattle.bitstool.specs.declared.task.Task.TheVariants.{Check, Normal, Same, A
 use Rattle.bitstool.specs.Performing.{ComparesParts, FindsForTask, Found, Judges, Settles, TellsDifference, TellsFound, TellsLine, outcome_of_assembling, outcome_of_writing, outcome_found, outcome_of}
 use Rattle.bitstool.specs.Differences.{different_text, same_text}
 use Rattle.bitstool.specs.LeftOut.{setting_for}
-use Rattle.bitstool.specs.Runs.{IsDrained, ToldBytes, Answers, Refuses, StopsShort, LacksMemory, LeavesRefused, LeavesUnread, StaysOutput, TakesInput, LeavesOutput, Does, most_taken, Pays, PaysForRun}
+use Rattle.bitstool.specs.Runs.{IsDrained, ToldBytes, Answers, Refuses, StopsShort, LacksMemory, LeavesRefused, LeavesUnread, StaysOutput, TakesInput, LeavesOutput, Does, most_taken, Pays, PaysForRun, TakesListing}
 use Rattle.bitstool.proofs.Known.{gained, gained_front, gains_front, gains_text, gains_part, gains_kept, front_kept, if_told}
 use Rattle.bitstool.proofs.Comparing.{apart_answers, same_answers, unread_finds}
 use Rattle.bitstool.proofs.Taking.{drained, fails_more, spends_more, takes_done, takes_fault, takes_long, takes_memory, takes_write}
@@ -237,7 +237,7 @@ assembled limits i now old new (Err (text.Refused reason line)) h =
 assembled limits i now old new (Err (text.Fault fault.Write)) h =
     let w = h.2 in
     let gain = w.writes.1 in (
-      (tt, tt),
+      (inl h.1.took.failures, tt),
       (
         inr (
           normal_form w.tree,
@@ -257,7 +257,7 @@ assembled limits i now old new (Err (text.Fault fault.OutputTooLong)) h =
       ),
     )
 assembled limits i now old new (Err (text.Fault fault.Read)) h = ((h.0, tt), stays_same old new h.1)
-assembled limits i now old new (Err (text.Fault fault.Memory)) h = let same = stays_same old new h in ((tt, tt), (same.0, same.1))
+assembled limits i now old new (Err (text.Fault fault.Memory)) h = let same = stays_same old new h.1 in ((h.0, tt), (same.0, same.1))
 assembled limits i now old new (Err (text.Fault fault.Failed)) h = absurd h
 assembled limits i now old new (Err (text.Fault (fault.Refused reason bit))) h = absurd h
 
@@ -390,6 +390,18 @@ paid_more i now a b Read le p = inr (fails_more i now a b le p)
 paid_more i now a b Write le p = elim p [ inl spends ↦ inl (spends_more i now a b le spends) | inr fails ↦ inr (fails_more i now a b le fails) ]
 paid_more i now a b Memory le p = elim p [ inl spends ↦ inl (spends_more i now a b le spends) | inr fails ↦ inr (fails_more i now a b le fails) ]
 
+listing_write : (i now : Incoming) (o : Outcome) → TakesListing o i now → TakesListing Write i now
+listing_write i now Done p = inl p
+listing_write i now Different p = inl p
+listing_write i now (Refused reason bit) p = inl p
+listing_write i now (RefusedOf which reason bit) p = inl p
+listing_write i now (RefusedLine reason line) p = inl p
+listing_write i now (TooLong limit) p = inl p
+listing_write i now Usage p = inl p
+listing_write i now Read p = inr p
+listing_write i now Write p = p
+listing_write i now Memory p = inl p
+
 -- what was taken is what is taken if the output then fails
 pays_write : (task : Task) (i now : Incoming) (o : Outcome) → Pays task o i now → Pays task Write i now
 pays_write (Check limits) i now o p = paid_more i now (limits.bytes + 1) (limits.bytes + 1) o (omega arith) p
@@ -399,7 +411,7 @@ pays_write (Same first explain limits out) i now o p =
 pays_write (Analyse limits format) i now o p = paid_more i now (limits.bytes + 1) (limits.bytes + 1) o (omega arith) p
 pays_write (Show limits out) i now o p = paid_more i now (limits.bytes + 1) (limits.bytes + 1) o (omega arith) p
 pays_write (Events limits style) i now o p = paid_more i now (limits.bytes + 1) (limits.bytes + 1) o (omega arith) p
-pays_write (Assemble limits) i now o p = tt
+pays_write (Assemble limits) i now o p = listing_write i now o p
 
 -- ---- lines
 

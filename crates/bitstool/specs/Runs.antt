@@ -156,12 +156,12 @@ EndsAs Different i now = IsDrained i now
 EndsAs (TooLong limit) i now = IsDrained i now
 EndsAs outcome i now = ⊤
 
--- A listing may have any length. The source failed once if it could not be read. If the output or an allocation failed, the source may
--- have failed before.
+-- A listing may have any length. The source failed once if it could not be read. If the output failed, the source may have failed
+-- before.
 abbrev pub TakesListing : Outcome → Incoming → Incoming → Type 0
 TakesListing Read i now = (now.failures ≡ i.failures + 1) ⊎ IsWorn now
-TakesListing Write i now = ⊤
-TakesListing Memory i now = ⊤
+TakesListing Write i now = (now.failures ≡ i.failures)
+    ⊎ ((now.failures ≡ i.failures + 1) ⊎ IsWorn now)
 TakesListing outcome i now = now.failures ≡ i.failures
 
 abbrev pub Pays : Task → Outcome → Incoming → Incoming → Type 0
