@@ -66,8 +66,8 @@ const EVENTS: &str =
 or end of a block there. If the input is refused, these are the lines before the error";
 
 const ASSEMBLE: &str =
-    "Writes the normal form of the tree that a listing spells, a text as `show` prints it. Empty
-lines and comments after # are skipped, and numbers may be hexadecimal, such as 0x1f";
+    "Writes the normal form of the tree that a listing spells, a text as `show` prints it;
+empty lines and comments after # are skipped, and 0x begins a hexadecimal number";
 
 const SHAPES: &str = "Judge the order of a definition's operands when a record uses it,
 as LLVM's reader does, and not at the definition; precompiled headers
