@@ -524,7 +524,7 @@ const EVENTS: &[u8] = b"0 magic 4243c0de
 256 end
 ";
 
-static SHORT_TEXTS: [Row; 14] = [
+static SHORT_TEXTS: [Row; 13] = [
     (
         "analyse",
         (&MAGIC, &[]),
@@ -571,11 +571,6 @@ static SHORT_TEXTS: [Row; 14] = [
         "assemble",
         (b"magic 4243c0de\n\nrecord 1\n", &[]),
         (1, b"", "refused: Misplaced at line 3\n"),
-    ),
-    (
-        "assemble --bytes 15",
-        (b"magic 4243c0de\nblock 8\n  record 1 30\n", &[]),
-        (1, b"", "refused: normal form longer than 15 bytes\n"),
     ),
     (
         "analyse --values 2",
