@@ -138,22 +138,22 @@ fn what_is_held(rt: HostRuntime) {
     bs_close(rt.alloc(), &mut handle);
 }
 
-/// The statuses of three calls that take the normal form in pieces of up to 10 bytes, and the lengths of these.
-fn taken_pieces(alloc: Global, handle: &mut BsHandle) -> ([u32; 3], [usize; 3], [u8; 10]) {
+/// The statuses of holding a normal form and of three calls that take it in pieces of up to 10 bytes, and the lengths of these.
+fn taken_pieces(alloc: Global, handle: &mut BsHandle) -> ([u32; 4], [usize; 3], [u8; 10]) {
     let (limits, mut fault, mut room) = (usual(), NO_FAULT, [0; 10]);
     let (mut first, mut second, mut third) = (0, 0, 0);
     let held = bs_hold_normal(alloc, &THIRTY, &limits, &WHOLE, handle, &mut fault);
     let one = bs_take(alloc, handle, &mut room, &mut first, &mut fault);
     let two = bs_take(alloc, handle, &mut room, &mut second, &mut fault);
     let three = bs_take(alloc, handle, &mut room, &mut third, &mut fault);
-    ([held + one, two, three], [first, second, third], room)
+    ([held, one, two, three], [first, second, third], room)
 }
 
 #[test]
 fn what_is_taken(rt: HostRuntime) {
     let (mut handle, _) = closed_handle(rt.alloc());
     let (statuses, lengths, room) = taken_pieces(rt.alloc(), &mut handle);
-    assert!(rt; statuses == [0; 3] && lengths == [10, 6, 0]);
+    assert!(rt; statuses == [0; 4] && lengths == [10, 6, 0]);
     assert!(rt; room[..6] == THIRTY[10..] && room[6..] == THIRTY[6..10]);
     bs_close(rt.alloc(), &mut handle);
 }
