@@ -1,4 +1,4 @@
-ghost use Rattle.std.specs.Prelude.{◌≡◌, ◌==◌, ◌+◌, ◌<◌, ◌^◌, true, List, length, IfOk, MatchOption};
+ghost use Rattle.std.specs.Prelude.{◌≡◌, ◌==◌, ◌+◌, ◌<◌, ◌^◌, true, List, [], length, MatchOption, OnOk};
 ghost use Rattle.std.specs.List.{AllByRecursion};
 ghost use Rattle.bit_fields.specs.Opening.{magic_number};
 ghost use Rattle.bit_grammar.specs.Forest.{names_block, wrapper_magic};
@@ -52,6 +52,20 @@ fn names_block(values: &[u64]) -> bool
 fn known_values(values: &[u64])
     ensures { AllByRecursion (λ v. v < 2 ^ 64) values.now }
 {}
+
+/// Takes values for the form.
+#[inline(always)]
+fn take(values: &[u64], taken: &mut FormValues) -> Result<(), AllocError>
+    requires { HasTaken taken.old [] }
+    ensures { OnOk result (HasTaken taken.new values.now) }
+{
+    for value in values {
+        if taken.take(*value).is_err() {
+            return Err(AllocError);
+        }
+    }
+    Ok(())
+}
 
 impl Inside {
     /// What may come in a block with this id.
@@ -148,19 +162,6 @@ impl FormWriter {
         self.depth > 0 && self.inside.takes_record(code, values) && count <= self.limits.values()
     }
 
-    /// Takes values for the form.
-    fn take(&self, values: &[u64]) -> Result<FormValues, AllocError>
-        ensures { IfOk result (λ taken. HasTaken taken values.now) }
-    {
-        let mut taken = self.builder.values();
-        for value in values {
-            if taken.take(*value).is_err() {
-                return Err(AllocError);
-            }
-        }
-        Ok(taken)
-    }
-
     /// Begins a block.
     pub fn enter(&mut self, id: u32) -> Result<(), Untold>
         ensures { Tells (begins id) self.old result self.new }
@@ -186,7 +187,8 @@ impl FormWriter {
             return Err(Untold::Misplaced);
         }
         known_values(values);
-        let Ok(mut taken) = self.take(values) else {
+        let mut taken = self.builder.values();
+        let Ok(()) = take(values, &mut taken) else {
             return Err(Untold::Memory);
         };
         match self.builder.record(3, code, &mut taken, 0, 0) {

@@ -31,7 +31,7 @@ digits_read n (c ∷ ds) all small =
     let fits : nat_lt (n * 10 + digit_value c) (2 ^ 64) ≡ true = is_below (n * 10 + digit_value c) (2 ^ 64) (omega (arith, more, small)) in
     rw (digit, fits) (digits_read (n * 10 + digit_value c) ds all.1 small)
 
-same_none : (t : Bool) → let none : Option (List ℕ) = None in (if t then none else none) ≡ none
+pub same_none : (t : Bool) → let none : Option (List ℕ) = None in (if t then none else none) ≡ none
 same_none true = refl
 same_none false = refl
 

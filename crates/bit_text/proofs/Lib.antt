@@ -1,4 +1,5 @@
 pub mod Decimals
+pub mod Digits
 pub mod Finishing
 pub mod Fitting
 pub mod Rows

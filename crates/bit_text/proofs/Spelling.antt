@@ -76,29 +76,29 @@ last_refused : (word : Result ℕ TextReason) (before : List ℕ) (reason : Text
 last_refused (Ok n) before reason others h = absurd cc
 last_refused (Err r) before reason others h = let e : r ≡ reason = cc in ap Err e
 
--- the numbers of a text, of whose words these are read and the next begins here
-abbrev pub NumbersFrom : (text read : List ℕ) (from i : ℕ) → Type 0
-NumbersFrom text read from i = numbers_after [] (words text) ≡ numbers_after read (parts_after 32 (take (i - from) (drop from text)) (drop i text))
+-- the numbers of a text behind those before it, of whose words these are read and the next begins here
+abbrev pub NumbersFrom : (before text read : List ℕ) (from i : ℕ) → Type 0
+NumbersFrom before text read from i = numbers_after before (words text) ≡ numbers_after read (parts_after 32 (take (i - from) (drop from text)) (drop i text))
 
-pub word_goes_on : (text read : List ℕ) (from i : ℕ) → from ≤ i → i < length text → (get_or text i 0 ≡ 32 → ⊥) → NumbersFrom text read from i → NumbersFrom text read from (i + 1)
-word_goes_on text read from i h k other far = far ∙ ap (numbers_after read) (part_goes_on 32 text from i h k other)
+pub word_goes_on : (before text read : List ℕ) (from i : ℕ) → from ≤ i → i < length text → (get_or text i 0 ≡ 32 → ⊥) → NumbersFrom before text read from i → NumbersFrom before text read from (i + 1)
+word_goes_on before text read from i h k other far = far ∙ ap (numbers_after read) (part_goes_on 32 text from i h k other)
 
-pub word_read : (text before read : List ℕ) (from i : ℕ) → i < length text → get_or text i 0 ≡ 32 → numbers_after before (take (i - from) (drop from text) ∷ []) ≡ Ok read → NumbersFrom text before from i → NumbersFrom text read (i + 1) (i + 1)
-word_read text before read from i k same word far =
+pub word_read : (before text read more : List ℕ) (from i : ℕ) → i < length text → get_or text i 0 ≡ 32 → numbers_after read (take (i - from) (drop from text) ∷ []) ≡ Ok more → NumbersFrom before text read from i → NumbersFrom before text more (i + 1) (i + 1)
+word_read before text read more from i k same word far =
     let front = take (i - from) (drop from text) in
     let others = parts_after 32 [] (drop (i + 1) text) in
     let none : i + 1 - (i + 1) ≡ 0 = omega arith in
-    rw none (far ∙ ap (numbers_after before) (part_ends 32 text front i k same) ∙ last_read (number front) before read others word)
+    rw none (far ∙ ap (numbers_after read) (part_ends 32 text front i k same) ∙ last_read (number front) read more others word)
 
-pub word_refused : (text before : List ℕ) (reason : TextReason) (from i : ℕ) → i < length text → get_or text i 0 ≡ 32 → numbers_after before (take (i - from) (drop from text) ∷ []) ≡ Err reason → NumbersFrom text before from i → numbers_after [] (words text) ≡ Err reason
-word_refused text before reason from i k same word far =
+pub word_refused : (before text read : List ℕ) (reason : TextReason) (from i : ℕ) → i < length text → get_or text i 0 ≡ 32 → numbers_after read (take (i - from) (drop from text) ∷ []) ≡ Err reason → NumbersFrom before text read from i → numbers_after before (words text) ≡ Err reason
+word_refused before text read reason from i k same word far =
     let front = take (i - from) (drop from text) in
     let others = parts_after 32 [] (drop (i + 1) text) in
-    far ∙ ap (numbers_after before) (part_ends 32 text front i k same) ∙ last_refused (number front) before reason others word
+    far ∙ ap (numbers_after read) (part_ends 32 text front i k same) ∙ last_refused (number front) read reason others word
 
-pub word_stopped : (text before read : List ℕ) (stop : Stop) (from i : ℕ) → i < length text → get_or text i 0 ≡ 32 → ReadsNumbers (numbers_after before (take (i - from) (drop from text) ∷ [])) (Err stop) read → NumbersFrom text before from i → ReadsNumbers (numbers_after [] (words text)) (Err stop) read
-word_stopped text before read (Refused reason) from i k same word far = word_refused text before reason from i k same word far
-word_stopped text before read Memory from i k same word far = tt
+pub word_stopped : (before text read more : List ℕ) (stop : Stop) (from i : ℕ) → i < length text → get_or text i 0 ≡ 32 → ReadsNumbers (numbers_after read (take (i - from) (drop from text) ∷ [])) (Err stop) more → NumbersFrom before text read from i → ReadsNumbers (numbers_after before (words text)) (Err stop) more
+word_stopped before text read more (Refused reason) from i k same word far = word_refused before text read reason from i k same word far
+word_stopped before text read more Memory from i k same word far = tt
 
 -- ---- no hexadecimal number
 

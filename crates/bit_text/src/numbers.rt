@@ -1,9 +1,12 @@
-ghost use Rattle.std.specs.Prelude.{◌≡◌, ◌<◌, ◌≤◌, ◌-◌, ◌^◌, [], ◌∷◌, ℕ, codes, length, drop, MatchOption, None, Some, Ok, Err};
+ghost use Rattle.std.specs.Prelude.{◌≡◌, ◌<◌, ◌≤◌, ◌-◌, ◌^◌, [], ◌∷◌, ℕ, codes, length, drop, IfSome, MatchOption, None, Some, Ok, Err};
 ghost use Rattle.std.specs.Char.{digit_value};
-ghost use Rattle.bit_text.specs.Numbers.{behind, digits, number, numbers_after, words};
+ghost use Rattle.bit_text.specs.Numbers.{behind, digits, digits_after, number, numbers_after, words};
 ghost use Rattle.bit_text.specs.Stops.{ReadsNumbers};
 
 use crate::reason::TextReason;
+
+/// A number up to this has room for one digit more.
+const TENTH: u64 = u64::MAX / 10 - 1;
 
 /// Why a line was not read.
 #[derive(Clone, Copy, Debug, PartialEq, Eq)]
@@ -76,11 +79,53 @@ pub(crate) fn number(word: &[u8]) -> Result<u64, TextReason>
     }
 }
 
+/// A number with one digit more. `None` if the byte is no decimal digit, or the number is too large to be sure that it fits.
+#[inline(always)]
+fn with_digit(n: u64, b: u8) -> Option<u64>
+    ensures { IfSome result (λ more. digits_after 10 n (b ∷ []) ≡ Ok more) }
+{
+    match b {
+        b'0'..=b'9' if n <= TENTH => Some(n * 10 + u64::from(b - b'0')),
+        _ => None,
+    }
+}
+
 /// Reads the numbers of a text, with one space between them.
 pub(crate) fn read_numbers(text: &[u8], numbers: &mut Vec<u64>) -> Result<(), Stop>
     ensures { ReadsNumbers (numbers_after [] (words text.now)) result numbers.new.items }
 {
     numbers.clear();
+    let mut from = 0;
+    let mut n = 0;
+    for (i, b) in text.iter().enumerate() {
+        match with_digit(n, *b) {
+            Some(more) => n = more,
+            None => {
+                if *b != b' ' || from == i {
+                    return read_words(&text[from..], numbers);
+                }
+                let Ok(()) = numbers.push(n) else {
+                    return Err(Stop::Memory);
+                };
+                n = 0;
+                from = i + 1;
+            }
+        }
+    }
+    if from == text.len() {
+        return read_words(&text[from..], numbers);
+    }
+    match numbers.push(n) {
+        Ok(()) => Ok(()),
+        Err(_) => Err(Stop::Memory),
+    }
+}
+
+/// Reads the numbers of a text, which may be of any form, behind those before them.
+#[inline(never)]
+fn read_words(text: &[u8], numbers: &mut Vec<u64>) -> Result<(), Stop>
+    ensures { ReadsNumbers (numbers_after numbers.old.items (words text.now)) result numbers.new.items }
+{
     let mut from = 0;
     for (i, b) in text.iter().enumerate() {
         if *b == b' ' {

@@ -90,6 +90,8 @@ fn tell_item(
 }
 
 /// A writer for a listing that begins with this line.
+#[cold]
+#[inline(never)]
 fn begin(alloc: Global, limits: Limits, line: &[u8]) -> Result<FormWriter, Stop>
     ensures { Begins limits (begun (magic_of line.now)) result }
 {
