@@ -15,7 +15,7 @@ use Rattle.bit_text.specs.Numbers.{and_then}
 use Rattle.bit_text.specs.Lines.{spaces, content, is_free, magic_of, item_of}
 use Rattle.bit_text.specs.declared.numbers.Stop.{Stop}
 use Rattle.bit_text.specs.declared.numbers.Stop.TheVariants.{Refused, Memory}
-use Rattle.bit_text.specs.Stops.{IsTold, TellsItem, IsAt, ReadsItem, ReadsLine, Begins}
+use Rattle.bit_text.specs.Stops.{IsTold, TellsItem, IsAt, ReadsItem, ReadsLine}
 use Rattle.bit_text.proofs.Spelling.{other_byte, same_byte}
 use Rattle.bit_text.proofs.Decimals.{is_below}
 
@@ -174,11 +174,6 @@ item_stopped limits (behind_magic magic calls) line text numbers (Refused reason
     ∙ ap (λ (i : Result Call TextReason). and_then i (λ c. and_then (item_calls limits (where_after calls at_top) (spaces line) c) (λ more. Ok (behind_magic magic (calls ++ more))))) (ap item_of (sym is) ∙ item)
 item_stopped limits (behind_magic magic calls) line text numbers Memory w is other item here = tt
 
-pub first_line : (limits : Limits) (now : Standing) (line text : List ℕ) (w : FormWriter) → text ≡ content line → is_free text ≡ false → Begins limits (begun (magic_of line)) (Ok w) → IsAt limits now None → ReadsLine limits (after_line limits now line) (Ok tt) (Some w)
-first_line limits at_start line text w is other begins here = (behind_magic begins.0 [], says limits at_start line text is other ∙ begins.1, begins.2)
-first_line limits (behind_magic magic calls) line text w is other begins here = absurd here
-
-pub first_stopped : (limits : Limits) (now : Standing) (line text : List ℕ) (stop : Stop) → text ≡ content line → is_free text ≡ false → Begins limits (begun (magic_of line)) (Err stop) → IsAt limits now None → ReadsLine limits (after_line limits now line) (Err stop) None
-first_stopped limits at_start line text (Refused reason) is other begins here = says limits at_start line text is other ∙ begins
-first_stopped limits at_start line text Memory is other begins here = tt
-first_stopped limits (behind_magic magic calls) line text stop is other begins here = absurd here
+pub first_line : (limits : Limits) (now : Standing) (line text : List ℕ) (r : Result (Unit {0}) Stop) (w : Option FormWriter) → text ≡ content line → is_free text ≡ false → ReadsLine limits (begun (magic_of line)) r w → IsAt limits now None → ReadsLine limits (after_line limits now line) r w
+first_line limits at_start line text r w is other begins here = subst (λ (wanted : Result Standing TextReason). ReadsLine limits wanted r w) (sym (says limits at_start line text is other)) begins
+first_line limits (behind_magic magic calls) line text r w is other begins here = absurd here

@@ -1,5 +1,5 @@
 -- The effect of reading lines.
-use Rattle.std.specs.Prelude.{◌≡◌, ℕ, ◌<◌, List, [], ◌++◌, length, drop, slice_index, Option, Some, None, Result, Ok, Err}
+use Rattle.std.specs.Prelude.{◌≡◌, ℕ, ◌<◌, List, ◌++◌, length, drop, slice_index, Option, Some, None, Result, Ok, Err}
 use Rattle.bit_grammar.specs.Blocks.{Limits}
 use Rattle.bit_norm.specs.Telling.{Call, begins, holds, HasTold}
 use Rattle.bit_norm.specs.declared.form_writer.FormWriter.{FormWriter}
@@ -55,10 +55,3 @@ ReadsLine limits wanted (Ok _) new = (later : Standing) × (wanted ≡ Ok later)
     × IsAt limits later new
 ReadsLine limits wanted (Err (Refused reason)) new = wanted ≡ Err reason
 ReadsLine limits wanted (Err Memory) new = Unit {0}
-
--- A listing was begun; or its first line has no magic, or that of a wrapper; or an allocation failed.
-abbrev pub Begins : Limits → Result Standing TextReason → Result FormWriter Stop → Type 0
-Begins limits wanted (Ok w) = (magic : List ℕ) × (wanted ≡ Ok (behind_magic magic []))
-    × IsTold limits magic [] w
-Begins limits wanted (Err (Refused reason)) = wanted ≡ Err reason
-Begins limits wanted (Err Memory) = Unit {0}

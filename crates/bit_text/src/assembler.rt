@@ -11,6 +11,7 @@ use crate::telling::{close, read_line};
 use bit_fields::{Fault, Limits, Sink};
 use bit_norm::FormWriter;
 use std::alloc::Global;
+use std::mem;
 
 /// Ends all open blocks, and gives a sink the normal form of what a writer was told.
 fn give<K: Sink>(mut writer: FormWriter, sink: K) -> (Result<u64, AssembleFault>, K)
@@ -65,31 +66,42 @@ impl Assembler {
         }
     }
 
-    /// Reads the line that ends with these bytes.
-    fn end_line(&mut self, rest: &[u8]) -> Result<(), AssembleFault>
+    /// Reads a line.
+    fn read(&mut self, line: &[u8]) -> Result<(), AssembleFault>
+        requires { self.old.line.items ≡ [] }
         ensures { (now : Standing) → IsAt self.old.limits now self.old.writer
-            → EndsLine self.old
-            (after_line self.old.limits now (self.old.line.items ++ rest.now)) result self.new }
+            → EndsLine self.old (after_line self.old.limits now line.now) result self.new }
     {
-        if self.line.extend_from_slice(rest).is_err() {
-            return Err(AssembleFault::Fault(Fault::Memory));
-        }
         self.number = self.number.saturating_add(1);
-        let read = read_line(
+        match read_line(
             self.alloc,
             self.limits,
-            &self.line,
+            line,
             &mut self.writer,
             &mut self.numbers,
-        );
-        self.line.clear();
-        match read {
+        ) {
             Ok(()) => Ok(()),
             Err(Stop::Refused(reason)) => Err(AssembleFault::Refused {
                 reason,
                 line: self.number,
             }),
             Err(Stop::Memory) => Err(AssembleFault::Fault(Fault::Memory)),
+        }
+    }
+
+    /// Reads the line that ends with these bytes. A line that begins in an earlier piece is put together.
+    fn end_line(&mut self, rest: &[u8]) -> Result<(), AssembleFault>
+        ensures { (now : Standing) → IsAt self.old.limits now self.old.writer
+            → EndsLine self.old
+            (after_line self.old.limits now (self.old.line.items ++ rest.now)) result self.new }
+    {
+        if self.line.is_empty() {
+            return self.read(rest);
+        }
+        let mut line = mem::replace(&mut self.line, Vec::new(self.alloc));
+        match line.extend_from_slice(rest) {
+            Ok(()) => self.read(&line),
+            Err(_) => Err(AssembleFault::Fault(Fault::Memory)),
         }
     }
 

@@ -79,13 +79,14 @@ pub(crate) fn number(word: &[u8]) -> Result<u64, TextReason>
     }
 }
 
-/// A number with one digit more. `None` if the byte is no decimal digit, or the number is too large to be sure that it fits.
+/// A number with one digit more, if the byte is a decimal digit.
 #[inline(always)]
 fn with_digit(n: u64, b: u8) -> Option<u64>
+    requires { n ≤ TENTH }
     ensures { IfSome result (λ more. digits_after 10 n (b ∷ []) ≡ Ok more) }
 {
     match b {
-        b'0'..=b'9' if n <= TENTH => Some(n * 10 + u64::from(b - b'0')),
+        b'0'..=b'9' => Some(n * 10 + u64::from(b - b'0')),
         _ => None,
     }
 }
@@ -98,6 +99,9 @@ pub(crate) fn read_numbers(text: &[u8], numbers: &mut Vec<u64>) -> Result<(), St
     let mut from = 0;
     let mut n = 0;
     for (i, b) in text.iter().enumerate() {
+        if n > TENTH {
+            return read_words(&text[from..], numbers);
+        }
         match with_digit(n, *b) {
             Some(more) => n = more,
             None => {

@@ -2,7 +2,7 @@ ghost use Rattle.std.specs.Prelude.{◌≡◌, ◌<◌, ◌-◌, ◌++◌, ℕ, 
 ghost use Rattle.bit_norm.specs.Telling.{Call, at_top, ends, place_of, where_after, Tells};
 ghost use Rattle.bit_text.specs.Listings.{after_line, begun, item_calls, misfit, Standing};
 ghost use Rattle.bit_text.specs.Lines.{magic_of};
-ghost use Rattle.bit_text.specs.Stops.{call_of, Begins, IsAt, IsTold, ReadsLine, TellsItem};
+ghost use Rattle.bit_text.specs.Stops.{call_of, IsAt, IsTold, ReadsLine, TellsItem};
 
 use crate::line::{Item, is_free, magic_of, read_item, spaces};
 use crate::numbers::Stop;
@@ -89,17 +89,25 @@ fn tell_item(
     }
 }
 
-/// A writer for a listing that begins with this line.
+/// Begins a listing with the line of its magic.
 #[cold]
 #[inline(never)]
-fn begin(alloc: Global, limits: Limits, line: &[u8]) -> Result<FormWriter, Stop>
-    ensures { Begins limits (begun (magic_of line.now)) result }
+fn begin(
+    alloc: Global,
+    limits: Limits,
+    line: &[u8],
+    writer: &mut Option<FormWriter>,
+) -> Result<(), Stop>
+    ensures { ReadsLine limits (begun (magic_of line.now)) result writer.new }
 {
     let Some(magic) = magic_of(line) else {
         return Err(Stop::Refused(TextReason::NoMagic));
     };
     match FormWriter::new(alloc, magic, limits) {
-        Some(writer) => Ok(writer),
+        Some(begun) => {
+            *writer = Some(begun);
+            Ok(())
+        }
         None => Err(Stop::Refused(TextReason::WrapperMagic)),
     }
 }
@@ -125,9 +133,6 @@ pub(crate) fn read_line(
             let item = read_item(content, numbers)?;
             tell_item(writer, limits, count, item, numbers)
         }
-        None => {
-            *writer = Some(begin(alloc, limits, line)?);
-            Ok(())
-        }
+        None => begin(alloc, limits, line, writer),
     }
 }

@@ -2,7 +2,7 @@ use Rattle.std.proofs.Common.{◌-◌, length, take, drop, Ok, Option, sym, ◌�
 use Rattle.std.proofs.lemmas.Result.{err_from_is_err_and}
 use Rattle.bit_norm.specs.declared.form_writer.FormWriter.{FormWriter}
 use Rattle.bit_text.specs.Stops.{call_of, IsAt}
-use Rattle.bit_text.proofs.Tellings.{content_is, free_line, item_line, item_stopped, first_line, first_stopped}
+use Rattle.bit_text.proofs.Tellings.{content_is, free_line, item_line, item_stopped, first_line}
 use Rattle.bit_text.proofs.telling.read_line.Goals as goal
 
 pub returns-then-is_free : goal.returns-then-is_free
@@ -26,15 +26,8 @@ returns-in_err-item-in-Some c =
     (content_is c.args.line.now c.spaces-count.result c.spaces-count.ensures.spaces) (sym c.if-is_free.ensures) c.in_err-item-in-Some.ensures
     (subst (λ (w : Option FormWriter). IsAt c.args.limits now w) c.in-Some.is here))
 
-pub returns-in_ok-begin-in-None : goal.returns-in_ok-begin-in-None
-returns-in_ok-begin-in-None c = λ now here.
-    first_line c.args.limits now c.args.line.now (take (length c.args.line.now - c.spaces-count.result) (drop c.spaces-count.result c.args.line.now)) c.in_ok-begin-in-None.field-0
-    (content_is c.args.line.now c.spaces-count.result c.spaces-count.ensures.spaces) (sym c.if-is_free.ensures) c.in_ok-begin-in-None.ensures
+pub returns-in-None : goal.returns-in-None
+returns-in-None c = λ now here.
+    first_line c.args.limits now c.args.line.now (take (length c.args.line.now - c.spaces-count.result) (drop c.spaces-count.result c.args.line.now)) c.begin.result c.begin.new.writer
+    (content_is c.args.line.now c.spaces-count.result c.spaces-count.ensures.spaces) (sym c.if-is_free.ensures) c.begin.ensures
     (subst (λ (w : Option FormWriter). IsAt c.args.limits now w) c.in-None.is here)
-
-pub returns-in_err-begin-in-None : goal.returns-in_err-begin-in-None
-returns-in_err-begin-in-None c =
-    let failed = err_from_is_err_and c.from_residual-in_err-begin-in-None.result c.from_residual-in_err-begin-in-None.ensures.1 in
-    rw (failed.1, failed.2, c.in-None.is) (λ now here.
-    first_stopped c.args.limits now c.args.line.now (take (length c.args.line.now - c.spaces-count.result) (drop c.spaces-count.result c.args.line.now)) c.in_err-begin-in-None.field-0.0
-    (content_is c.args.line.now c.spaces-count.result c.spaces-count.ensures.spaces) (sym c.if-is_free.ensures) c.in_err-begin-in-None.ensures here)
