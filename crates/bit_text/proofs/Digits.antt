@@ -70,10 +70,10 @@ long_word text from i h k =
     let few : i - from ≤ length (drop from text) = simp length-drop (omega arith) in
     rw (length-take-le (i - from) (drop from text) few) (omega arith)
 
-added : (text read : List ℕ) (n from i : ℕ) → (from ≡ i → ⊥) → i ≤ length text → Reading text read n from i → numbers_after read (take (i - from) (drop from text) ∷ []) ≡ Ok (read ++ n ∷ [])
-added text read n from i some k r = ap (λ w. and_then w (λ m. Ok (read ++ m ∷ []))) (plain (take (i - from) (drop from text)) n (long_word text from i (omega (arith, some, r.within)) k) r.word)
+added : (text read : List ℕ) (n from i : ℕ) → from < i → i ≤ length text → Reading text read n from i → numbers_after read (take (i - from) (drop from text) ∷ []) ≡ Ok (read ++ n ∷ [])
+added text read n from i some k r = ap (λ w. and_then w (λ m. Ok (read ++ m ∷ []))) (plain (take (i - from) (drop from text)) n (long_word text from i some k) r.word)
 
-pub word_done : (text read : List ℕ) (n from i : ℕ) → i < length text → get_or text i 0 ≡ 32 → (from ≡ i → ⊥) → Reading text read n from i → Reading text (read ++ n ∷ []) 0 (i + 1) (i + 1)
+pub word_done : (text read : List ℕ) (n from i : ℕ) → i < length text → get_or text i 0 ≡ 32 → from < i → Reading text read n from i → Reading text (read ++ n ∷ []) 0 (i + 1) (i + 1)
 word_done text read n from i k same some r =
     let none : i + 1 - (i + 1) ≡ 0 = omega arith in
     let far = word_read [] text read (read ++ n ∷ []) from i k same (added text read n from i some (omega (arith, k)) r) r.far in

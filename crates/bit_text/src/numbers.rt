@@ -1,4 +1,4 @@
-ghost use Rattle.std.specs.Prelude.{◌≡◌, ◌<◌, ◌≤◌, ◌-◌, ◌^◌, [], ◌∷◌, ℕ, codes, length, drop, IfSome, MatchOption, None, Some, Ok, Err};
+ghost use Rattle.std.specs.Prelude.{◌≡◌, ◌<◌, ◌≤◌, ◌-◌, ◌^◌, [], ◌∷◌, ℕ, codes, length, drop, MatchOption, None, Some, Ok, Err};
 ghost use Rattle.std.specs.Char.{digit_value};
 ghost use Rattle.bit_text.specs.Numbers.{behind, digits, digits_after, number, numbers_after, words};
 ghost use Rattle.bit_text.specs.Stops.{ReadsNumbers};
@@ -79,16 +79,15 @@ pub(crate) fn number(word: &[u8]) -> Result<u64, TextReason>
     }
 }
 
-/// A number with one digit more, if the byte is a decimal digit.
+/// A number with one decimal digit more.
 #[inline(always)]
-fn with_digit(n: u64, b: u8) -> Option<u64>
-    requires { n ≤ TENTH }
-    ensures { IfSome result (λ more. digits_after 10 n (b ∷ []) ≡ Ok more) }
+fn with_digit(n: u64, b: u8) -> u64
+    requires few { n ≤ TENTH }
+    requires digit { 48 ≤ b }
+    requires decimal { b ≤ 57 }
+    ensures { digits_after 10 n (b ∷ []) ≡ Ok result }
 {
-    match b {
-        b'0'..=b'9' => Some(n * 10 + u64::from(b - b'0')),
-        _ => None,
-    }
+    n * 10 + u64::from(b - b'0')
 }
 
 /// Reads the numbers of a text, with one space between them.
@@ -99,21 +98,21 @@ pub(crate) fn read_numbers(text: &[u8], numbers: &mut Vec<u64>) -> Result<(), St
     let mut from = 0;
     let mut n = 0;
     for (i, b) in text.iter().enumerate() {
-        if n > TENTH {
-            return read_words(&text[from..], numbers);
-        }
-        match with_digit(n, *b) {
-            Some(more) => n = more,
-            None => {
-                if *b != b' ' || from == i {
+        match *b {
+            b'0'..=b'9' => {
+                if n > TENTH {
                     return read_words(&text[from..], numbers);
                 }
+                n = with_digit(n, *b);
+            }
+            b' ' if from < i => {
                 let Ok(()) = numbers.push(n) else {
                     return Err(Stop::Memory);
                 };
                 n = 0;
                 from = i + 1;
             }
+            _ => return read_words(&text[from..], numbers),
         }
     }
     if from == text.len() {
