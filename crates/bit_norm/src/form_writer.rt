@@ -117,6 +117,8 @@ impl Inside {
 #[derive(Drop)]
 pub struct FormWriter {
     builder: FormBuilder<'static>,
+    /// The values of the last record, in memory that all records share.
+    taken: FormValues,
     limits: Limits,
     magic: [u8; 4],
     depth: u32,
@@ -135,8 +137,11 @@ impl FormWriter {
         }
         // The limits are within their caps.
         let _bytes = limits.bytes();
+        let builder = FormBuilder::new(alloc, Info::Keep, limits);
+        let taken = builder.values();
         Some(FormWriter {
-            builder: FormBuilder::new(alloc, Info::Keep, limits),
+            builder,
+            taken,
             limits,
             magic,
             depth: 0,
@@ -187,11 +192,11 @@ impl FormWriter {
             return Err(Untold::Misplaced);
         }
         known_values(values);
-        let mut taken = self.builder.values();
-        let Ok(()) = take(values, &mut taken) else {
+        self.taken.reset();
+        let Ok(()) = take(values, &mut self.taken) else {
             return Err(Untold::Memory);
         };
-        match self.builder.record(3, code, &mut taken, 0, 0) {
+        match self.builder.record(3, code, &mut self.taken, 0, 0) {
             Ok(()) => {
                 self.inside = self.inside.behind_record();
                 self.values += values.len() as u64;
@@ -252,6 +257,7 @@ impl FormWriter {
     {
         let FormWriter {
             builder,
+            taken: _,
             magic,
             limits: _,
             depth: _,

@@ -5,10 +5,10 @@ use Rattle.bit_norm.proofs.form_writer.FormWriter.new.Goals as goal
 pub returns : goal.returns
 returns c = record {
   nothing = record {
-    first = c.new.result;
-    keeps = c.new.ensures.setting;
-    limits = c.new.ensures.limits;
-    form = c.new.ensures.form;
+    first = c.new-builder.result;
+    keeps = c.new-builder.ensures.setting;
+    limits = c.new-builder.ensures.limits;
+    form = c.new-builder.ensures.form;
     place = refl;
     fit = tt;
     small = subst (λ (n : ℕ). n < 2 ^ 32) c.number_of_magic.ensures.magic c.number_of_magic.ensures.fits;
