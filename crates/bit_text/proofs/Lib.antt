@@ -4,6 +4,7 @@ pub mod Finishing
 pub mod Fitting
 pub mod Rows
 pub mod Sources
+pub mod InWords
 pub mod Spelled
 pub mod Spelling
 pub mod Takings
