@@ -26,4 +26,5 @@ pub mod Tally
 pub mod Texts
 pub mod EventTexts
 pub mod Happening
+pub mod FormatListing
 pub mod Counting

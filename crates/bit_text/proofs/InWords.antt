@@ -10,7 +10,7 @@ use Rattle.bit_grammar.specs.Blocks.{Limits}
 use Rattle.bit_grammar.specs.Forest.{Tree, wrapper_magic}
 use Rattle.bit_grammar.specs.Texts.{hex_text}
 use Rattle.bit_fields.specs.Opening.{magic_number}
-use Rattle.bit_text.specs.FormatListing.{AreParts, AreDigits, IsNumber, SpellEach, SpellsNumbers, Item, of_block, of_record, IsItem, Entry, IsEntry, IsFree, IsFreeLine, HaveEntries, IsMagicLine, AreListing}
+use Rattle.bit_grammar.specs.FormatListing.{AreParts, AreDigits, IsNumber, SpellEach, SpellsNumbers, Item, of_block, of_record, IsItem, Entry, IsEntry, IsFree, IsFreeLine, HaveEntries, IsMagicLine, AreListing}
 use Rattle.bit_norm.specs.Telling.{Call, begins, holds, at_top, fits, where_after}
 use Rattle.bit_text.specs.declared.reason.TextReason.{TextReason}
 use Rattle.bit_text.specs.declared.reason.TextReason.TheVariants.{WrapperMagic, BadLine, NumberTooLarge, BadIndentation}

@@ -2,7 +2,7 @@
 use Rattle.std.specs.Prelude.{◌≡◌, ℕ, ◌-◌, List, [], ◌∷◌, ◌++◌, replicate}
 use Rattle.bit_grammar.specs.Forest.{Tree}
 use Rattle.bit_norm.specs.Telling.{Call, begins, holds, ends, at_top, where_after}
-use Rattle.bit_text.specs.FormatListing.{Item, of_block, of_record, Entry, IsListing}
+use Rattle.bit_grammar.specs.FormatListing.{Item, of_block, of_record, Entry, IsListing}
 use Rattle.bit_text.specs.Listings.{told_all}
 
 -- the call of an item

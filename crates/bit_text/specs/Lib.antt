@@ -1,6 +1,5 @@
 pub mod Assembling
 pub mod Entries
-pub mod FormatListing
 pub mod Lines
 pub mod Listings
 pub mod Numbers
