@@ -62,7 +62,12 @@ a_block_and_a_record = (
   record { joined = refl; apart = (none_of 10 magic_line refl, (none_of 10 block_line refl, (none_of 10 record_line refl, tt))) },
   inr (
     record { four = refl; bytes = (omega arith, (omega arith, (omega arith, (omega arith, tt)))); text = refl },
-    inr (the_block, the_record ∷ [], refl, (codes "block 8", refl, (codes "8", refl, just_eight, omega arith)),
-    inr (the_record, [], refl, (codes "record 8 300", refl, (codes "8 300", refl, two_numbers)), refl)),
+    inr (
+      the_block,
+      the_record ∷ [],
+      refl,
+      (codes "block 8", refl, (codes "8", refl, just_eight, omega arith)),
+      inr (the_record, [], refl, (codes "record 8 300", refl, (codes "8 300", refl, two_numbers)), refl),
+    ),
   ),
 )
