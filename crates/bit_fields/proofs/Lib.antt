@@ -18,6 +18,7 @@ pub mod Cutting
 pub mod Short
 pub mod BufferedReads
 pub mod LentParts
+pub mod Loading
 pub mod Texts
 pub mod Looking
 pub mod Unlike

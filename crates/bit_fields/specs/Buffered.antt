@@ -1,5 +1,6 @@
 -- The buffered bits of a stream before they are taken, and what is read from them.
-use Rattle.std.specs.Prelude.{◌≡◌, ℕ, ◌+◌, Bool, true, List, [], ◌++◌, drop, Some, Ok}
+use Rattle.std.specs.Prelude.{◌≡◌, ℕ, ◌+◌, ◌-◌, ◌*◌, ◌^◌, ◌<◌, ◌≤◌, Bool, true, List, [], ◌++◌, length, drop, Some, Ok}
+use Rattle.bit_grammar.specs.Bits.{bits_of, bits_of_bytes}
 use Rattle.bit_grammar.specs.Grammar.{Grammar, reading}
 use Rattle.bit_fields.specs.Reader.{Reader, TellsBytes}
 
@@ -39,3 +40,24 @@ reader_at buffered_parts = record {
   incoming = record { to_come = Some []; pulls = 0; failures = 0; accounts = [] };
   budget = 0;
 }
+
+-- the bits of a window and those of bytes from bit `at` on; the bytes begin at the position `start`
+abbrev pub buffered_at : (start at : ℕ) → List Bool → List ℕ → BufferedBits
+buffered_at start at window bytes = record {
+  position = start + at - length window;
+  bits = window ++ drop at (bits_of_bytes bytes);
+}
+
+-- what is true of them, and of the bits from which eight bytes can be loaded: those below `loads`
+pub record IsBuffered (start at loads : ℕ) (window : List Bool) (bytes : List ℕ) : Type 0 where
+  pub there : at ≤ 8 * length bytes
+  pub before : length window ≤ start + at
+  pub fits : start + 8 * length bytes < 2 ^ 64
+  pub loaded : loads ≤ 8 * (length bytes - 7)
+  pub plain : at < loads → length window ≡ 0
+
+-- at the low end of a word a rule reads this value, in this many bits
+pub record ReadsWord {A : Type 0} (rule : Grammar A) (word : ℕ) (value : A) (bits : ℕ) : Type 0 where
+  pub few : bits ≤ 57
+  pub reads : (p : ℕ) (rest : List Bool) → reading rule p (bits_of 64 word ++ rest)
+      ≡ Ok (value, p + bits, drop bits (bits_of 64 word) ++ rest)

@@ -1,15 +1,16 @@
-ghost use Rattle.std.specs.Prelude.{ℕ, ◌≡◌, ◌+◌, ◌*◌, ◌-◌, ◌%◌, ◌<◌, ◌≤◌, ◌^◌, ◌++◌, length, drop, get_or, IfSome, OnSome, MatchOption, IfNone};
-ghost use Rattle.bit_grammar.specs.Bits.{bits_of_bytes};
+ghost use Rattle.std.specs.Prelude.{ℕ, ◌≡◌, ◌+◌, ◌*◌, ◌-◌, ◌%◌, ◌<◌, ◌≤◌, ◌^◌, ◌++◌, length, take, drop, get_or, IfSome, OnSome, MatchOption, IfNone};
+ghost use Rattle.bit_grammar.specs.Bits.{number, bits_of_bytes};
 ghost use Rattle.bit_grammar.specs.Grammar.{repeat};
 ghost use Rattle.bit_grammar.specs.Fields.{fixed, vbr, char6, align32};
 ghost use Rattle.bit_fields.specs.Inside.{part_of, numbers};
 ghost use Rattle.bit_fields.specs.Buffered.{Reads, beyond};
 ghost use Rattle.bit_fields.specs.BufferedParts.{bits_of_parts, AreParts};
 
-use crate::numbers::{MOST_SHORT, character, payload_of, worth_at};
+use crate::numbers::{character, payload_of, worth_at};
 use crate::width::{ChunkWidth, FieldWidth};
 use crate::window::Window;
-use crate::word::four_of;
+use crate::word::word_at;
+use crate::word_numbers::{few_chunks, one_chunk};
 use std::marker::Model;
 
 /// Buffered bits of a stream, as a reader lends them: the low bits of a word, how many they are, the bytes after them, and the
@@ -25,30 +26,42 @@ pub struct BufferedParts<'a> {
 /// Buffered bits of a stream, from the reader's position on. The reader has not taken them yet. A field is read from here in a few
 /// instructions; `BitReader::catch_up` then takes the bits that were read.
 ///
+/// Reading a field moves one position and changes nothing else, so it stays in registers. Bits that the reader held already are in
+/// a window before the bytes. They, and the last bytes, are read by calls of their own.
+///
 /// `None` is no refusal: the field is not complete here, or it is long or odd, and the reader itself must read it. The buffer must
 /// not be used after a `None`.
 #[derive(Drop)]
 pub struct Buffered<'a> {
+    /// Bits before the bytes, possibly none.
     window: Window,
-    /// The bytes after the window.
     bytes: &'a [u8],
-    /// The position after these bytes.
-    end: u64,
+    /// The next bit of the bytes.
+    at: u64,
+    /// From each bit below this one, eight bytes can be loaded. It is 0 while the window has bits.
+    safe: u64,
+    /// The position of the first bit of the bytes.
+    start: u64,
 }
 
 impl<'a> Model for Buffered<'a> {
-    ghost use Rattle.std.specs.Prelude.{◌+◌, ◌*◌, ◌-◌, ◌≤◌, ◌++◌, length};
-    ghost use Rattle.bit_grammar.specs.Bits.{bits_of_bytes};
-    ghost use Rattle.bit_fields.specs.Buffered.{BufferedBits};
+    ghost use Rattle.std.specs.Prelude.{◌+◌, ◌*◌, ◌-◌, ◌<◌, ◌≤◌, ◌≡◌, ◌^◌, ◌++◌, length, drop};
+    ghost use Rattle.bit_fields.specs.Buffered.{BufferedBits, buffered_at, IsBuffered};
 
     ghost Value = { BufferedBits };
 
-    ghost view = { λ a. record {
-      position = a.end - (length a.window + 8 * length a.bytes.now);
-      bits = a.window ++ bits_of_bytes a.bytes.now;
-    } };
+    ghost view = { λ a. buffered_at a.start a.at a.window a.bytes.now };
 
-    ghost invariant = { λ a. length a.window + 8 * length a.bytes.now ≤ a.end };
+    ghost invariant = { λ a. IsBuffered a.start a.at a.safe a.window a.bytes.now };
+}
+
+/// The first bit from which eight bytes can no longer be loaded.
+#[inline(always)]
+fn safe_end(bytes: &[u8]) -> u64
+    requires { 8 * length bytes.now < 2 ^ 64 }
+    ensures { result ≡ 8 * (length bytes.now - 7) }
+{
+    8 * (bytes.len().saturating_sub(7) as u64)
 }
 
 impl<'a> Buffered<'a> {
@@ -58,12 +71,18 @@ impl<'a> Buffered<'a> {
         requires { AreParts buffered_parts }
         ensures { result ≡ bits_of_parts buffered_parts.entry }
     {
-        let end = buffered_parts.position
-            + (u64::from(buffered_parts.held) + 8 * buffered_parts.bytes.len() as u64);
+        let BufferedParts {
+            word,
+            held,
+            bytes,
+            position,
+        } = buffered_parts;
         Buffered {
-            window: Window::of(buffered_parts.word, buffered_parts.held),
-            bytes: buffered_parts.bytes,
-            end,
+            window: Window::of(word, held),
+            bytes,
+            at: 0,
+            safe: if held == 0 { safe_end(bytes) } else { 0 },
+            start: position + u64::from(held),
         }
     }
 
@@ -72,19 +91,7 @@ impl<'a> Buffered<'a> {
     pub fn position(&self) -> u64
         ensures { result ≡ self.now.position }
     {
-        self.end - (u64::from(self.window.len()) + 8 * self.bytes.len() as u64)
-    }
-
-    /// Moves four bytes into the window, if it has fewer than 32 bits and the bytes are there.
-    #[inline(always)]
-    fn fill(&mut self)
-        ensures { self.new ≡ self.old }
-    {
-        if self.window.len() < 32 {
-            if let Some(rest) = load(&mut self.window, self.bytes) {
-                self.bytes = rest;
-            }
-        }
+        self.start + self.at - u64::from(self.window.len())
     }
 
     /// Takes n bits, a part of a field.
@@ -97,24 +104,29 @@ impl<'a> Buffered<'a> {
         ensures moves { OnSome result (self.new.position ≡ self.old.position + n) }
         ensures stays { IfNone result (self.new ≡ self.old) }
     {
-        self.fill();
-        self.held_part(n)
+        if self.at < self.safe {
+            let value = word_at(self.bytes, self.at) & ((1 << n) - 1);
+            self.at += u64::from(n);
+            return Some(value);
+        }
+        let value = self.copy().far_part(n)?;
+        self.skip(u64::from(n));
+        Some(value)
     }
 
-    /// Takes n bits, if they are in the window.
-    #[inline(always)]
-    fn held_part(&mut self, n: u32) -> Option<u64>
+    /// The number of the next n bits, of the window or near the end of the bytes. It takes the buffer by value, so that its callers
+    /// keep theirs in registers.
+    #[cold]
+    #[inline(never)]
+    fn far_part(self, n: u32) -> Option<u64>
         requires { n ≤ 32 }
-        ensures reads { IfSome result (λ value. (first : ℕ)
-            → Reads (part_of first n) self.old value self.new) }
-        ensures below { IfSome result (λ value. value < 2 ^ n) }
-        ensures moves { OnSome result (self.new.position ≡ self.old.position + n) }
-        ensures stays { IfNone result (self.new ≡ self.old) }
+        ensures { IfSome result (λ value. (n ≤ length self.entry.bits)
+            × (value ≡ number (take n self.entry.bits))) }
     {
-        if self.window.len() < n {
+        if self.len() < u64::from(n) {
             return None;
         }
-        Some(self.window.take(n))
+        Some(first_bits(self.window.copy(), self.bytes, self.at, n))
     }
 
     /// Reads a number of n bits, n from 1 to 32, the lowest bit first. Source: "Fixed Width Integers".
@@ -147,7 +159,6 @@ impl<'a> Buffered<'a> {
         ensures moves { OnSome result (self.old.position + n.bits ≤ self.new.position) }
         ensures stays { IfNone result (self.new ≡ self.old) }
     {
-        self.fill();
         match self.one_chunk(n) {
             Some(value) => Some(value),
             None => self.longer_vbr(n),
@@ -162,7 +173,6 @@ impl<'a> Buffered<'a> {
         ensures moves { OnSome result (self.old.position + n.bits ≤ self.new.position) }
         ensures stays { IfNone result (self.new ≡ self.old) }
     {
-        self.fill();
         self.longer_vbr(n)
     }
 
@@ -184,34 +194,34 @@ impl<'a> Buffered<'a> {
         Some(value)
     }
 
-    /// Takes a number of one chunk of n bits, if it is in the window. Most numbers are such.
+    /// Takes a number of one chunk of n bits, if eight bytes can be loaded. Most numbers are such.
     #[inline(always)]
     fn one_chunk(&mut self, n: ChunkWidth) -> Option<u64>
         ensures reads { MatchOption result (self.new ≡ self.old)
             (λ value. Reads (vbr n.bits) self.old value self.new) }
         ensures moves { OnSome result (self.new.position ≡ self.old.position + n.bits) }
     {
-        if self.window.len() < n.bits || self.window.peek(n.bits) >= 1 << (n.bits - 1) {
+        if self.at >= self.safe {
             return None;
         }
-        Some(self.window.take(n.bits))
+        let value = one_chunk(word_at(self.bytes, self.at), n)?;
+        self.at += u64::from(n.bits);
+        Some(value)
     }
 
-    /// Takes a number in chunks of n bits, if it has at most four chunks and all are in the window.
+    /// Takes a number in chunks of n bits, if it has at most four chunks and eight bytes can be loaded.
     #[inline(always)]
     fn few_chunks(&mut self, n: ChunkWidth) -> Option<u64>
         ensures reads { MatchOption result (self.new ≡ self.old)
             (λ value. Reads (vbr n.bits) self.old value self.new) }
         ensures moves { OnSome result (self.old.position + n.bits ≤ self.new.position) }
     {
-        if n.bits > MOST_SHORT {
+        if self.at >= self.safe {
             return None;
         }
-        let bits = self.window.number_bits(n.bits);
-        if bits > self.window.len() {
-            return None;
-        }
-        Some(self.window.take_number(n.bits, bits))
+        let (value, bits) = few_chunks(word_at(self.bytes, self.at), n)?;
+        self.at += u64::from(bits);
+        Some(value)
     }
 
     /// Reads a number in chunks of n bits that is not complete in the window or has more than four chunks. Returns the number and
@@ -254,8 +264,7 @@ impl<'a> Buffered<'a> {
         None
     }
 
-    /// Reads zeros up to the next position that is a multiple of 32, possibly none. Source: "Abbreviation IDs", align32. If all of
-    /// them are in the window, it is not refilled: it is then often empty after them, as `bytes` needs it.
+    /// Reads zeros up to the next position that is a multiple of 32, possibly none. Source: "Abbreviation IDs", align32.
     #[inline(always)]
     pub fn pad(&mut self) -> Option<()>
         ensures reads { OnSome result (Reads align32 self.old tt self.new) }
@@ -263,28 +272,30 @@ impl<'a> Buffered<'a> {
         ensures moves { OnSome result (self.old.position ≤ self.new.position) }
     {
         let count = ((32 - self.position() % 32) % 32) as u32;
-        if self.window.len() < count {
-            self.fill();
-        }
-        let zeros = self.held_part(count)?;
+        let zeros = self.part(count)?;
         if zeros != 0 {
             return None;
         }
         Some(())
     }
 
-    /// Reads a number of 8 bits, if they are in the window. The window is not refilled.
+    /// Reads a number of 8 bits, if they are in the window.
     #[inline(always)]
     pub fn held_byte(&mut self) -> Option<u64>
         ensures reads { IfSome result (λ value. Reads (fixed 8) self.old value self.new) }
         ensures moves { OnSome result (self.new.position ≡ self.old.position + 8) }
         ensures stays { IfNone result (self.new ≡ self.old) }
     {
-        let value = self.held_part(8)?;
+        if self.window.len() < 8 {
+            return None;
+        }
+        let value = self.window.peek(8);
+        self.skip(8);
         Some(value)
     }
 
-    /// Reads at most `most` numbers of 8 bits, as the bytes after the window; none if the window has bits.
+    /// Reads at most `most` numbers of 8 bits, as the bytes that they are in the buffer; none if they are in the window, or in parts
+    /// of two bytes each.
     #[inline(always)]
     pub fn bytes(&mut self, most: u64) -> &'a [u8]
         ensures reads { Reads (repeat (length result.now) (fixed 8)) self.old result.now
@@ -292,13 +303,13 @@ impl<'a> Buffered<'a> {
         ensures most { length result.now ≤ most }
         ensures moves { self.new.position ≡ self.old.position + 8 * length result.now }
     {
-        if self.window.len() > 0 {
+        if self.window.len() > 0 || self.at % 8 != 0 {
             return &[];
         }
         are_bytes(self.bytes);
-        let count = self.bytes.len().min(most as usize);
-        let bytes = &self.bytes[..count];
-        self.bytes = &self.bytes[count..];
+        let rest = &self.bytes[(self.at / 8) as usize..];
+        let bytes = &rest[..rest.len().min(most as usize)];
+        self.at += 8 * bytes.len() as u64;
         bytes
     }
 
@@ -307,7 +318,7 @@ impl<'a> Buffered<'a> {
     fn len(&self) -> u64
         ensures { result ≡ length self.now.bits }
     {
-        self.end - self.position()
+        8 * self.bytes.len() as u64 - self.at + u64::from(self.window.len())
     }
 
     /// Skips fields of n bits, n from 1 to 32, whatever they are: all that are complete here, at most `most`. Returns how many.
@@ -342,13 +353,9 @@ impl<'a> Buffered<'a> {
             self.window.split(bits as u32);
             return;
         }
-        let behind = bits - held;
-        let (window, bytes) = rest_of_byte(
-            &self.bytes[(behind / 8) as usize..],
-            (behind % 8) as u32,
-        );
-        self.window = window;
-        self.bytes = bytes;
+        self.window = Window::new();
+        self.at += bits - held;
+        self.safe = safe_end(self.bytes);
     }
 
     /// A copy.
@@ -359,7 +366,9 @@ impl<'a> Buffered<'a> {
         Buffered {
             window: self.window.copy(),
             bytes: self.bytes,
-            end: self.end,
+            at: self.at,
+            safe: self.safe,
+            start: self.start,
         }
     }
 }
@@ -370,35 +379,35 @@ fn are_bytes(bytes: &[u8])
     ensures { (place : ℕ) → get_or bytes.now place 0 < 256 }
 {}
 
-/// The bits of the first byte after its low n, n below 8, and the bytes after it; all bytes if n is 0.
-#[inline(always)]
-fn rest_of_byte(bytes: &[u8], n: u32) -> (Window, &[u8])
-    requires few { n < 8 }
-    requires there { n ≤ 8 * length bytes.now }
-    ensures bits { result.0 ++ bits_of_bytes result.1.now ≡ drop n (bits_of_bytes bytes.now) }
-    ensures fewer { length result.0 + 8 * length result.1.now + n ≡ 8 * length bytes.now }
+/// The bits of a byte from bit `at` of the bytes on.
+fn rest_of_byte(bytes: &[u8], at: u64) -> Window
+    requires { at < 8 * length bytes.now }
+    ensures bits { result ++ drop (at + length result) (bits_of_bytes bytes.now)
+        ≡ drop at (bits_of_bytes bytes.now) }
+    ensures some { 0 < length result }
+    ensures few { length result ≤ 8 }
+    ensures there { at + length result ≤ 8 * length bytes.now }
 {
-    if n == 0 {
-        return (Window::new(), bytes);
-    }
-    let mut window = Window::of(u64::from(bytes[0]), 8);
-    window.split(n);
-    (window, &bytes[1..])
+    let rest = &bytes[(at / 8) as usize..];
+    let mut window = Window::of(u64::from(rest[0]), 8);
+    window.split((at % 8) as u32);
+    window
 }
 
-/// Moves the next four bytes into a window, and returns the bytes after them.
-#[inline(always)]
-fn load<'a>(window: &mut Window, bytes: &'a [u8]) -> Option<&'a [u8]>
-    requires { length window.old ≤ 32 }
-    ensures same { IfSome result (λ rest. window.new ++ bits_of_bytes rest.now
-        ≡ window.old ++ bits_of_bytes bytes.now) }
-    ensures longer { OnSome result (length window.new ≡ length window.old + 32) }
-    ensures fewer { IfSome result (λ rest. length bytes.now ≡ 4 + length rest.now) }
-    ensures none { IfNone result (window.new ≡ window.old) }
+/// The number of the first n bits of a window and of the bits of bytes from bit `at` on.
+fn first_bits(window: Window, bytes: &[u8], at: u64, n: u32) -> u64
+    requires few { n ≤ 32 }
+    requires inside { at ≤ 8 * length bytes.now }
+    requires there { n ≤ length window + (8 * length bytes.now - at) }
+    requires fits { 8 * length bytes.now < 2 ^ 64 }
+    ensures { result ≡ number (take n (window ++ drop at (bits_of_bytes bytes.now))) }
 {
-    if bytes.len() < 4 {
-        return None;
+    let mut front = window;
+    let mut place = at;
+    while front.len() < n {
+        let rest = rest_of_byte(bytes, place);
+        place += u64::from(rest.len());
+        front.append(rest);
     }
-    window.push(four_of(bytes), 32);
-    Some(&bytes[4..])
+    front.peek(n)
 }

@@ -45,6 +45,7 @@ mod width;
 mod window;
 mod word;
 mod word_list;
+mod word_numbers;
 #[cfg(test)]
 mod word_tests;
 mod writer;

@@ -1,4 +1,4 @@
-ghost use Rattle.std.specs.Prelude.{◌≡◌, ◌*◌, ◌<◌, ◌≤◌, ◌^◌, length, take};
+ghost use Rattle.std.specs.Prelude.{◌≡◌, ◌+◌, ◌*◌, ◌/◌, ◌<◌, ◌≤◌, ◌^◌, length, take, drop};
 ghost use Rattle.bit_grammar.specs.Bits.{bits_of, bits_of_bytes};
 
 /// The first `count` of eight bytes as a word, the first one lowest.
@@ -16,13 +16,23 @@ pub fn word_of(bytes: [u8; 8], count: usize) -> u64
     word & mask
 }
 
-/// The first four bytes of a slice, which has them, as a word, the first one lowest. This is one load.
+/// The first eight bytes of a slice, which has them, as a word, the first one lowest. This is one load.
 #[inline(always)]
-pub fn four_of(bytes: &[u8]) -> u64
-    requires { 4 ≤ length bytes.now }
-    ensures below { result < 2 ^ 32 }
-    ensures bits { bits_of 32 result ≡ bits_of_bytes (take 4 bytes.now) }
+fn eight_of(bytes: &[u8]) -> u64
+    requires { 8 ≤ length bytes.now }
+    ensures { bits_of 64 result ≡ bits_of_bytes (take 8 bytes.now) }
 {
-    let four = [bytes[0], bytes[1], bytes[2], bytes[3]];
-    u64::from(u32::from_le_bytes(four))
+    let eight = [
+        bytes[0], bytes[1], bytes[2], bytes[3], bytes[4], bytes[5], bytes[6], bytes[7],
+    ];
+    word_of(eight, 8)
+}
+
+/// The bits from bit `at` of some bytes on, as the low bits of a word: at least 57 of them, and then zeros.
+#[inline(always)]
+pub fn word_at(bytes: &[u8], at: u64) -> u64
+    requires { at / 8 + 8 ≤ length bytes.now }
+    ensures { bits_of 57 result ≡ take 57 (drop at (bits_of_bytes bytes.now)) }
+{
+    eight_of(&bytes[(at / 8) as usize..]) >> (at % 8)
 }

@@ -1,13 +1,9 @@
-use Rattle.std.proofs.Common.{◌≡◌, ◌-◌, drop, length, arith, get_or}
-use Rattle.std.proofs.lemmas.List.{take_all, length-drop}
+use Rattle.std.proofs.Common.{◌∙◌, sym, ◌%◌, ◌/◌, ap, drop, get_or, refl, List, ℕ}
 use Rattle.bit_grammar.specs.Bits.{bits_of}
-use Rattle.bit_fields.proofs.LentParts.{byte_passed}
+use Rattle.bit_fields.proofs.BitLaws.{left_after}
+use Rattle.bit_fields.proofs.Loading.{rest_first}
 use Rattle.bit_fields.proofs.buffered.rest_of_byte.Goals as goal
 
 pub returns-clause-bits : goal.returns-clause-bits
-returns-clause-bits c =
-    let bytes = c.args.bytes.now in
-    let rest = take_all (length bytes - 1) (drop 1 bytes) (omega (arith, length-drop 1 bytes)) in
-    let one : c.from.result ≡ get_or bytes 0 0 = c.from.ensures in
-    let first : c.of-window.result ≡ bits_of 8 (get_or bytes 0 0) = rw (← one) c.of-window.ensures in
-    rw (rest, c.split.ensures.rest, first) (byte_passed bytes c.args.n (omega (arith, c.requires, c.if-n-eq0.false)) (omega (arith, c.requires)))
+returns-clause-bits c = rest_first c.args.at c.args.bytes.now (drop (c.args.at / 8) c.args.bytes.now) c.split.new.self refl c.requires
+    (c.split.ensures.rest ∙ ap (drop (c.args.at % 8)) (c.of-window.ensures ∙ ap (bits_of 8) (c.from.ensures ∙ ap (λ (s : List ℕ). get_or s 0 0) (sym (left_after (c.args.at / 8) c.args.bytes.now)))))
