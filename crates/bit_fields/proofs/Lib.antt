@@ -23,3 +23,5 @@ pub mod Looking
 pub mod Unlike
 pub mod Standing
 pub mod Expecting
+pub mod SixBits
+pub mod SixBitSums
