@@ -24,3 +24,5 @@ pub mod Looking
 pub mod Unlike
 pub mod Standing
 pub mod Expecting
+pub mod SixBits
+pub mod SixBitSums

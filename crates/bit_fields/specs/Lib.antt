@@ -12,3 +12,4 @@ pub mod Buffered
 pub mod BufferedParts
 pub mod Packed
 pub mod Expected
+pub mod SixBits

@@ -36,6 +36,9 @@ mod packed_tests;
 mod reader;
 mod settled;
 mod sink;
+mod six_bits;
+#[cfg(test)]
+mod six_bits_tests;
 mod source;
 #[cfg(test)]
 mod tests;
