@@ -1,7 +1,9 @@
 //! Value sinks: they take the values of a record while they are read.
 
-ghost use Rattle.std.specs.Prelude.{◌≡◌, ℕ, ◌-◌, ◌^◌, List, [], ◌∷◌, ◌++◌, length, min, true, false, OnOk, OnErr};
+ghost use Rattle.std.specs.Prelude.{◌≡◌, ℕ, ◌-◌, ◌^◌, ◌<◌, ◌≤◌, List, [], ◌∷◌, ◌++◌, length, min, true, false, OnOk, OnErr};
 ghost use Rattle.std.proofs.Math.ListN.{replicate};
+ghost use Rattle.bit_grammar.specs.Bits.{bits_of};
+ghost use Rattle.bit_grammar.specs.Normal.{values_bits};
 
 use std::alloc::AllocError;
 
@@ -63,6 +65,20 @@ pub trait ValueTaker {
             → took self.new values }
     {
         self.pass(count)
+    }
+
+    /// Takes `count` numbers at once and returns true, if it can. They are the low `len` bits of `bits`, at most 54: each number
+    /// in as few chunks of six bits as possible. If false, it is as it was.
+    fn take_run(&mut self, bits: u64, len: u32, count: u64) -> bool
+        requires few { len ≤ 54 }
+        requires fits { bits < 2 ^ len }
+        ensures yes { result ≡ true → (values list : List ℕ) → took self.old values
+            → length list ≡ count → values_bits list ≡ bits_of len bits
+            → took self.new (values ++ list) }
+        ensures no { result ≡ false → (values : List ℕ) → took self.old values
+            → took self.new values }
+    {
+        false
     }
 
     /// Keeps the first values. `count` is what `count` returned after them.
