@@ -3,18 +3,19 @@ use Rattle.std.proofs.Common.{◌≡◌, ℕ, zero, suc, ◌+◌, ◌*◌, ◌-�
 use Rattle.std.proofs.lemmas.List.{append-nil, length-append, length-drop, drop-append-le, take_at, nil_from_length, take-append-drop}
 use Rattle.std.proofs.Math.Seq.{drop-append-add}
 use Rattle.bit_grammar.specs.Bits.{number, bits_of, bits_of_bytes}
-use Rattle.bit_grammar.specs.Grammar.{Grammar, reading}
+use Rattle.bit_grammar.specs.Grammar.{Grammar, repeat, reading}
 use Rattle.bit_grammar.proofs.Bits.Numbers.{length-bits_of}
 use Rattle.bit_grammar.proofs.Readings.Deciding.{reads, is_spelled}
 use Rattle.bit_grammar.specs.Fields.{vbr}
 use Rattle.bit_fields.specs.Inside.{part_of}
+use Rattle.bit_fields.specs.SixBits.{Begins, TakesRun, TakesShort}
 use Rattle.bit_fields.specs.Short.{EndsAt, payload_number}
 use Rattle.bit_fields.specs.Buffered.{BufferedBits, Reads, ReadsWord, IsBuffered, buffered_at, beyond, reader_at}
 use Rattle.bit_fields.proofs.Parts.{part_at}
 use Rattle.bit_fields.proofs.Short.{vbr_reads}
 use Rattle.bit_fields.proofs.Chunks.{one_chunk}
 use Rattle.bit_fields.proofs.BufferedReads.{reads_took, took_reads}
-use Rattle.bit_fields.proofs.BitLaws.{window_value, bits_of_bytes-take, bytes_dropped, drop_more, take-bits_of, drop-bits_of, length-bits_of_bytes}
+use Rattle.bit_fields.proofs.BitLaws.{window_value, bits_of_bytes-take, bytes_dropped, drop_more, take-bits_of, drop-bits_of, length-bits_of_bytes, take_whole}
 
 -- ---- the load
 
@@ -56,15 +57,32 @@ loaded at place word bytes place_is there word_is =
 
 -- ---- reading from a word
 
--- what a rule reads at the low end of a word it reads from bits that begin as the word does
-pub word_reads : {A : Type 0} (rule : Grammar A) (p word : ℕ) (value : A) (b : ℕ) (s : List Bool) → ReadsWord rule word value b → bits_of 57 word ≡ take 57 s → reading rule p s ≡ Ok (value, p + b, drop b s)
-word_reads rule p word value b s told front =
-    let all = told.reads p [] in
-    let passed = is_spelled rule p (bits_of 64 word ++ []) value (p + b) (drop b (bits_of 64 word) ++ []) all in
+-- what a rule reads from bits it reads from others that begin as they do, as far as it reads
+pub front_reads : {A : Type 0} (rule : Grammar A) (p : ℕ) (value : A) (b v : ℕ) (s t : List Bool) → reading rule p (s ++ []) ≡ Ok (value, p + b, drop b s ++ []) → b ≤ v → take v s ≡ take v t → reading rule p t ≡ Ok (value, p + b, drop b t)
+front_reads rule p value b v s t seen within front =
+    let passed = is_spelled rule p (s ++ []) value (p + b) (drop b s ++ []) seen in
     let long : length passed.0 ≡ b = omega (arith, passed.2) in
-    let gone : passed.0 ≡ take b s = sym (take_at passed.0 (drop b (bits_of 64 word) ++ []) b long) ∙ ap (take b) (sym passed.1 ∙ append-nil (bits_of 64 word)) ∙ take-bits_of b 64 word (omega (arith, told.few)) ∙ sym (take-bits_of b 57 word told.few) ∙ ap (take b) front ∙ front_after b 0 57 s (omega (arith, told.few)) in
-    let parts : s ≡ passed.0 ++ drop b s = sym (take-append-drop b s) ∙ ap (λ (t : List Bool). t ++ drop b s) (sym gone) in
-    ap (reading rule p) parts ∙ reads rule p passed.0 value (drop b s) passed.3 ∙ ap (λ (q : ℕ). Ok (value, p + q, drop b s)) long
+    let gone : passed.0 ≡ take b t = sym (take_at passed.0 (drop b s ++ []) b long) ∙ ap (take b) (sym passed.1 ∙ append-nil s) ∙ sym (front_after b 0 v s (omega (arith, within))) ∙ ap (take b) front ∙ front_after b 0 v t (omega (arith, within)) in
+    let parts : t ≡ passed.0 ++ drop b t = sym (take-append-drop b t) ∙ ap (λ (r : List Bool). r ++ drop b t) (sym gone) in
+    ap (reading rule p) parts ∙ reads rule p passed.0 value (drop b t) passed.3 ∙ ap (λ (q : ℕ). Ok (value, p + q, drop b t)) long
+
+-- what a rule reads at the low end of a word it reads from bits that begin as the word does
+pub word_reads : {A : Type 0} (rule : Grammar A) (p word : ℕ) (value : A) (b v : ℕ) (s : List Bool) → ReadsWord rule word value b → b ≤ v → v ≤ 64 → bits_of v word ≡ take v s → reading rule p s ≡ Ok (value, p + b, drop b s)
+word_reads rule p word value b v s told within few front = front_reads rule p value b v (bits_of 64 word) s (told.reads p []) within (take-bits_of v 64 word few ∙ front)
+
+-- fewer bits of a word
+pub narrowed : (v u word : ℕ) (s : List Bool) → v ≤ u → bits_of u word ≡ take u s → bits_of v word ≡ take v s
+narrowed v u word s few front = sym (take-bits_of v u word few) ∙ ap (take v) front ∙ front_after v 0 u s (omega (arith, few))
+
+-- the bits of a word after the first k
+pub shifted : (k v word : ℕ) (s : List Bool) → k ≤ v → bits_of v word ≡ take v s → bits_of (v - k) (word / 2 ^ k) ≡ take (v - k) (drop k s)
+shifted k v word s few front =
+    let sum : k + (v - k) ≡ v = omega (arith, few) in
+    let sum2 : k + (v - k) ≤ v = omega (arith, few) in
+    let whole : drop k (bits_of (k + (v - k)) word) ≡ bits_of (v - k) (word / 2 ^ k) = drop-bits_of k (v - k) word in
+    let cut : drop k (bits_of v word) ≡ bits_of (v - k) (word / 2 ^ k) = ap (λ (n : ℕ). drop k (bits_of n word)) (sym sum) ∙ whole in
+    let long : length (bits_of (v - k) (word / 2 ^ k)) ≡ v - k = length-bits_of (v - k) (word / 2 ^ k) in
+    sym (take_whole (v - k) (bits_of (v - k) (word / 2 ^ k)) (omega (arith, long))) ∙ ap (take (v - k)) (sym cut ∙ ap (drop k) front) ∙ front_after (v - k) k v s sum2
 
 -- a number of one chunk
 pub one_in_word : (n chunk word : ℕ) (w : List Bool) → w ≡ bits_of 64 word → 2 ≤ n → n ≤ 32 → chunk ≡ number (take n w) → chunk < 2 ^ (n - 1) → ReadsWord (vbr n) word chunk n
@@ -108,13 +126,54 @@ moved_on start at loads b w bytes is some few = record {
   plain = λ more. is.plain some;
 }
 
-pub reads_at : {A : Type 0} (rule : Grammar A) (value : A) (b word start at loads : ℕ) (w : List Bool) (bytes : List ℕ) (a : BufferedBits) → buffered_at start at w bytes ≡ a → IsBuffered start at loads w bytes → at < loads → bits_of 57 word ≡ take 57 (drop at (bits_of_bytes bytes)) → ReadsWord rule word value b
+pub reads_in : {A : Type 0} (rule : Grammar A) (value : A) (b v word start at : ℕ) (w : List Bool) (bytes : List ℕ) (a : BufferedBits) → buffered_at start at w bytes ≡ a → length w ≡ 0 → b ≤ v → v ≤ 64 → bits_of v word ≡ take v (drop at (bits_of_bytes bytes)) → ReadsWord rule word value b
     → Reads rule a value (buffered_at start (at + b) w bytes)
-reads_at rule value b word start at loads w bytes a is kept some front told =
-    let none = (plain_at start at loads w bytes kept some).0 in
-    let seen = word_reads rule (start + at - 0) word value b (drop at (bits_of_bytes bytes)) told front in
+reads_in rule value b v word start at w bytes a is empty within few front told =
+    let none : w ≡ [] = nil_from_length w empty in
+    let seen = word_reads rule (start + at - 0) word value b v (drop at (bits_of_bytes bytes)) told within few front in
     let place : start + at - 0 + b ≡ start + (at + b) - 0 = omega arith in
     rw (← is, none) (seen ∙ rw (place, drop_more at b (bits_of_bytes bytes)) refl)
+
+pub reads_at : {A : Type 0} (rule : Grammar A) (value : A) (b word start at loads : ℕ) (w : List Bool) (bytes : List ℕ) (a : BufferedBits) → buffered_at start at w bytes ≡ a → IsBuffered start at loads w bytes → at < loads → bits_of 57 word ≡ take 57 (drop at (bits_of_bytes bytes)) → ReadsWord rule word value b
+    → Reads rule a value (buffered_at start (at + b) w bytes)
+reads_at rule value b word start at loads w bytes a is kept some front told = reads_in rule value b 57 word start at w bytes a is (kept.plain some) told.few (omega arith) front told
+
+-- numbers of chunks of six bits
+pub run_in : (count b v word start at : ℕ) (w : List Bool) (bytes : List ℕ) (a : BufferedBits) → buffered_at start at w bytes ≡ a → length w ≡ 0 → b ≤ v → v ≤ 54 → bits_of v word ≡ take v (drop at (bits_of_bytes bytes)) → Begins word count b
+    → TakesRun a count b word (buffered_at start (at + b) w bytes)
+unfolding Begins
+run_in count b v word start at w bytes a is empty within few front begins =
+    let none : w ≡ [] = nil_from_length w empty in
+    let r = begins (start + at - 0) [] in
+    let s = drop at (bits_of_bytes bytes) in
+    let cut : take v (bits_of 54 word) ≡ take v s = take-bits_of v 54 word few ∙ front in
+    let seen = front_reads (repeat count (vbr 6)) (start + at - 0) r.0 b v (bits_of 54 word) s r.2 within cut in
+    let place : start + at - 0 + b ≡ start + (at + b) - 0 = omega arith in
+    record {
+      values = r.0;
+      count = r.1;
+      reads = rw (← is, none) (seen ∙ rw (place, drop_more at b (bits_of_bytes bytes)) refl);
+      bits = rw (← is, none) (sym (front_after b 0 v s (omega (arith, within))) ∙ ap (take b) (sym cut) ∙ front_after b 0 v (bits_of 54 word) (omega (arith, within)));
+    }
+
+-- a code, a number of values and the values
+pub short_in : (code many b word start at loads : ℕ) (w : List Bool) (bytes : List ℕ) (a : BufferedBits) → buffered_at start at w bytes ≡ a → IsBuffered start at loads w bytes → at < loads → bits_of 57 word ≡ take 57 (drop at (bits_of_bytes bytes))
+    → ReadsWord (vbr 6) word code 6 → ReadsWord (vbr 6) (word / 2 ^ 6) many 6 → Begins (word / 2 ^ 12) many b → b ≤ 45 → TakesShort a code many b (word / 2 ^ 12) (buffered_at start (at + (12 + b)) w bytes)
+short_in code many b word start at loads w bytes a is kept some front code_told many_told begins few =
+    let empty = kept.plain some in
+    let all = bits_of_bytes bytes in
+    let place : at + 6 + 6 ≡ at + 12 = omega arith in
+    let end : at + 6 + 6 + b ≡ at + (12 + b) = omega arith in
+    let second : bits_of 51 (word / 2 ^ 6) ≡ take 51 (drop (at + 6) all) = shifted 6 57 word (drop at all) (omega arith) front ∙ ap (take 51) (drop_more at 6 all) in
+    let third : bits_of 45 (word / 2 ^ 12) ≡ take 45 (drop (at + 6 + 6) all) = shifted 12 57 word (drop at all) (omega arith) front ∙ ap (take 45) (drop_more at 12 all ∙ ap (λ (n : ℕ). drop n all) (sym place)) in
+    record {
+      after_code = buffered_at start (at + 6) w bytes;
+      after_count = buffered_at start (at + 6 + 6) w bytes;
+      code_read = reads_at (vbr 6) code 6 word start at loads w bytes a is kept some front code_told;
+      count_read = reads_in (vbr 6) many 6 51 (word / 2 ^ 6) start (at + 6) w bytes (buffered_at start (at + 6) w bytes) refl empty (omega arith) (omega arith) second many_told;
+      run = subst (λ (n : ℕ). TakesRun (buffered_at start (at + 6 + 6) w bytes) many b (word / 2 ^ 12) (buffered_at start n w bytes)) end
+          (run_in many b 45 (word / 2 ^ 12) start (at + 6 + 6) w bytes (buffered_at start (at + 6 + 6) w bytes) refl empty few (omega arith) third begins);
+    }
 
 -- n bits at the front of the bytes
 pub part_loaded : (n first value word start at loads : ℕ) (w : List Bool) (bytes : List ℕ) (a : BufferedBits) → buffered_at start at w bytes ≡ a → IsBuffered start at loads w bytes → at < loads → bits_of 57 word ≡ take 57 (drop at (bits_of_bytes bytes)) → n ≤ 32 → value ≡ bit_and word (1 * 2 ^ n % 2 ^ 64 - 1)

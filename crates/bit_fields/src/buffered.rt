@@ -4,9 +4,12 @@ ghost use Rattle.bit_grammar.specs.Grammar.{repeat};
 ghost use Rattle.bit_grammar.specs.Fields.{fixed, vbr, char6, align32};
 ghost use Rattle.bit_fields.specs.Inside.{part_of, numbers};
 ghost use Rattle.bit_fields.specs.Buffered.{Reads, beyond};
+ghost use Rattle.bit_fields.specs.SixBits.{TakesRun, TakesShort};
 ghost use Rattle.bit_fields.specs.BufferedParts.{bits_of_parts, AreParts};
 
 use crate::numbers::{character, payload_of, worth_at};
+use crate::run::Run;
+use crate::six_bits::numbers_in;
 use crate::width::{ChunkWidth, FieldWidth};
 use crate::window::Window;
 use crate::word::word_at;
@@ -22,6 +25,9 @@ pub struct BufferedParts<'a> {
     pub(crate) bytes: &'a [u8],
     pub(crate) position: u64,
 }
+
+/// The chunks of the numbers in a record that is not abbreviated.
+const SIX: ChunkWidth = ChunkWidth { bits: 6 };
 
 /// Buffered bits of a stream, from the reader's position on. The reader has not taken them yet. A field is read from here in a few
 /// instructions; `BitReader::catch_up` then takes the bits that were read.
@@ -262,6 +268,57 @@ impl<'a> Buffered<'a> {
             place += n.bits - 1;
         }
         None
+    }
+
+    /// Takes numbers in chunks of six bits, at most `most`: those that are complete in the next nine chunks. It takes none if the first
+    /// one is longer, or near the end of the buffer.
+    #[inline(always)]
+    pub fn numbers(&mut self, most: u64) -> Run
+        ensures takes { TakesRun self.old result.count result.len result.word self.new }
+        ensures most { result.count ≤ most }
+        ensures moves { self.new.position ≡ self.old.position + result.len }
+    {
+        if self.at >= self.safe {
+            return Run {
+                word: 0,
+                len: 0,
+                count: 0,
+            };
+        }
+        let word = word_at(self.bytes, self.at);
+        let (count, len) = numbers_in(word, most);
+        self.at += u64::from(len);
+        Run { word, len, count }
+    }
+
+    /// Takes a code and a number of values of one chunk of six bits each, and that many numbers, at most `most`, if all are complete
+    /// in one word. Most records that are not abbreviated are such.
+    #[inline(always)]
+    pub fn short_record(&mut self, most: u64) -> Option<(u64, Run)>
+        ensures takes { IfSome result (λ read. TakesShort self.old read.0 read.1.count read.1.len read.1.word self.new) }
+        ensures most { IfSome result (λ read. read.1.count ≤ most) }
+        ensures moves { OnSome result (self.old.position + 12 ≤ self.new.position) }
+        ensures stays { IfNone result (self.new ≡ self.old) }
+    {
+        if self.at >= self.safe {
+            return None;
+        }
+        let word = word_at(self.bytes, self.at);
+        let code = one_chunk(word, SIX)?;
+        let count = one_chunk(word >> 6, SIX)?;
+        let (found, len) = numbers_in(word >> 12, count);
+        if found < count || count > most || len > 45 {
+            return None;
+        }
+        self.at += 12 + u64::from(len);
+        Some((
+            code,
+            Run {
+                word: word >> 12,
+                len,
+                count,
+            },
+        ))
     }
 
     /// Reads zeros up to the next position that is a multiple of 32, possibly none. Source: "Abbreviation IDs", align32.

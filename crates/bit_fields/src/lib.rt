@@ -34,6 +34,7 @@ mod packed;
 #[cfg(test)]
 mod packed_tests;
 mod reader;
+mod run;
 mod settled;
 mod sink;
 mod six_bits;
@@ -66,6 +67,7 @@ pub use kept::KeptSource;
 pub use limits::Limits;
 pub use packed::{PackedValues, ValueParts};
 pub use reader::BitReader;
+pub use run::Run;
 pub use sink::{Sink, SinkFailed, VecSink, WriteSink};
 pub use source::{BufSource, ReadSource, SliceSource, Source, SourceFailed};
 pub use text::BitText;
