@@ -26,3 +26,4 @@ pub mod Standing
 pub mod Expecting
 pub mod SixBits
 pub mod SixBitSums
+pub mod SixBitForms

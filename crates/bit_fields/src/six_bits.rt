@@ -3,14 +3,17 @@
 //! The top bit of a chunk says that another one follows. A constant has the same six bits for each of the nine chunks, two octal
 //! digits a chunk. Sums and products are of all chunks at once: no chunk's sum reaches 64, so none carries into the next one.
 
-ghost use Rattle.std.specs.Prelude.{◌≡◌, ◌*◌, ◌<◌, ◌≤◌};
-ghost use Rattle.bit_fields.specs.SixBits.{Begins};
+ghost use Rattle.std.specs.Prelude.{◌≡◌, ◌*◌, ◌<◌, ◌≤◌, true};
+ghost use Rattle.bit_fields.specs.SixBits.{Begins, Shortest};
 
 /// The lowest bit of each chunk.
 const ONES: u64 = 0o01_01_01_01_01_01_01_01_01;
 
 /// The top bit of each chunk.
 const TOPS: u64 = 0o40_40_40_40_40_40_40_40_40;
+
+/// The other bits of each chunk, its payload.
+const PAYLOADS: u64 = 0o37_37_37_37_37_37_37_37_37;
 
 /// All bits of the nine chunks.
 const ALL: u64 = 0o77_77_77_77_77_77_77_77_77;
@@ -39,4 +42,19 @@ pub(crate) fn numbers_in(word: u64, most: u64) -> (u64, u32)
         let reached = (sums + (32 - most) * ONES) & TOPS;
         (most, reached.trailing_zeros() + 1)
     }
+}
+
+/// Whether each number that the first `bits` bits spell is in its shortest spelling: no number has a last chunk of zeros after
+/// other chunks.
+#[inline(always)]
+pub(crate) fn is_shortest(word: u64, bits: u32) -> bool
+    requires { bits ≤ 54 }
+    ensures { result ≡ true → Shortest word bits }
+{
+    // the top bit of each chunk after one that goes on
+    let later = (word & TOPS) << 6;
+    // the top bit of each chunk with a payload that is not 0
+    let worth = (word & PAYLOADS) + PAYLOADS;
+    let idle = later & !(word | worth) & ((1 << bits) - 1);
+    idle == 0
 }

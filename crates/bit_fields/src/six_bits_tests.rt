@@ -1,6 +1,6 @@
 //! Numbers in chunks of six bits, in a word.
 
-use crate::six_bits::numbers_in;
+use crate::six_bits::{is_shortest, numbers_in};
 
 #[test]
 fn counted(rt: HostRuntime) {
@@ -25,5 +25,26 @@ fn counted(rt: HostRuntime) {
         ),
     ] {
         assert!(rt; numbers_in(word, most) == (count, bits));
+    }
+}
+
+#[test]
+fn shortest(rt: HostRuntime) {
+    for (word, bits, answer) in [
+        (0o77_77_77_77_77_77_77_77_77, 0, true),
+        (0o77_77_77_77_77_77_77_77_05, 6, true),
+        (0o77_77_77_77_77_77_77_77_00, 6, true),
+        (0o77_77_77_77_77_77_77_01_45, 12, true),
+        (0o77_77_77_77_77_77_77_00_45, 12, false),
+        (0o77_77_77_77_77_77_77_00_05, 12, true),
+        (0o77_77_77_77_77_77_01_40_40, 18, true),
+        (0o77_77_77_77_77_77_00_40_45, 18, false),
+        (0o77_77_77_77_77_77_00_45_03, 6, true),
+        (0o77_77_77_77_77_77_00_45_03, 18, false),
+        (0o20_40_40_40_40_40_40_40_41, 54, true),
+        (0o00_40_40_40_40_40_40_40_41, 54, false),
+        (0o00_00_77_37_77_37_77_00_41, 48, false),
+    ] {
+        assert!(rt; is_shortest(word, bits) == answer);
     }
 }
