@@ -66,7 +66,7 @@ values_then rule count more a values b (Err fault) now new c t h = (
 -- ---- loops
 
 -- several more
-all_go_by : (rule : Grammar ℕ) (count : ℕ) (a : Reader) (before : List ℕ) (done : ℕ) (b : Reader) (now : List ℕ) (some : ℕ) (values : List ℕ) (c : Reader) → some ≤ count - done → CompletesAll rule count a before done b now → Took (repeat some rule) b values c → CompletesAll rule count a before (done + some) c (now ++ values)
+pub all_go_by : (rule : Grammar ℕ) (count : ℕ) (a : Reader) (before : List ℕ) (done : ℕ) (b : Reader) (now : List ℕ) (some : ℕ) (values : List ℕ) (c : Reader) → some ≤ count - done → CompletesAll rule count a before done b now → Took (repeat some rule) b values c → CompletesAll rule count a before (done + some) c (now ++ values)
 all_go_by rule count a before done b now some values c few h t =
     let left : count - done ≡ some + (count - (done + some)) = omega (arith, few) in
     let so = subst (λ (n : ℕ). (result : Result (Unit {0}) Fault) (after : List ℕ) (c : Reader) → Adds (repeat n rule) b result now after c → Adds (repeat count rule) a result before after c) left h.so in

@@ -25,6 +25,10 @@ Lengthens before after = (values : List ℕ) × (after ≡ before ++ values)
 abbrev pub Keeps : {V : Type 0} → (took : V → List ℕ → Type 0) → (old new : V) → Type 0
 Keeps took old new = (before : List ℕ) → took old before → (after : List ℕ) × took new after
 
+-- it has the values that it had before a call
+abbrev pub Stays : {V : Type 0} → (took : V → List ℕ → Type 0) → (old new : V) → Type 0
+Stays took old new = (before : List ℕ) → took old before → took new before
+
 -- skips `count` values of a rule
 abbrev pub PassesValues : Grammar ℕ → (count : ℕ) → Reader → Reader → Type 0
 PassesValues rule count old new = (values : List ℕ) × (length values ≡ count)

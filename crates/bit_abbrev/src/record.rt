@@ -321,6 +321,24 @@ pub fn read_record<U, B: Runs, V: ValueTaker>(
     read_by_ops::<U, B, V>(bits, ops, count, first, room, values)
 }
 
+/// Reads a record that is not abbreviated, field by field.
+#[inline(always)]
+fn read_long_plain<U, B: Runs, V: ValueTaker>(
+    bits: &mut B,
+    room: u64,
+    values: &mut V,
+) -> Result<u64, B::Miss>
+    ensures adds { Answers B.faults (λ r. Gains V.took values.old values.new
+        (AddsWithin (unabbreviated room) room (B.as_reader bits.old) r (B.as_reader bits.new)))
+        result }
+    ensures keeps { Keeps V.took values.old values.new }
+{
+    let code = bits.vbr(ChunkWidth { bits: 6 })?;
+    let count = read_count(bits, room)?;
+    read_runs::<U, B, V>(bits, count, Op::Vbr(6), values)?;
+    Ok(code)
+}
+
 /// Reads a record that is not abbreviated, after its abbreviation id: gives its values to the value sink and returns its code. If
 /// it fails, some of its values may have been added. More than `room` values are `TooManyValues` at the first bit of their number.
 /// For `U` see `read_record`. Source: "UNABBREV_RECORD Encoding".
@@ -335,10 +353,10 @@ pub fn read_plain<U, B: Runs, V: ValueTaker>(
         result }
     ensures keeps { Keeps V.took values.old values.new }
 {
-    let code = bits.vbr(ChunkWidth { bits: 6 })?;
-    let count = read_count(bits, room)?;
-    read_runs::<U, B, V>(bits, count, Op::Vbr(6), values)?;
-    Ok(code)
+    if let Some(code) = bits.short_record(room, values) {
+        return Ok(code);
+    }
+    read_long_plain::<U, B, V>(bits, room, values)
 }
 
 /// Reads a record by its definition, after its abbreviation id, which began at `first`: gives its values to the value sink and

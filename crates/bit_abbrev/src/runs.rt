@@ -1,6 +1,6 @@
 //! Runs: fields of one operand, one after another, as far as they are buffered.
 
-ghost use Rattle.std.specs.Prelude.{◌≡◌, ◌<◌, ◌≤◌, ◌^◌, List, ℕ, ◌++◌, Ok, IfOk, OnOk, OnErr, length, true, false};
+ghost use Rattle.std.specs.Prelude.{◌≡◌, ◌<◌, ◌≤◌, ◌^◌, List, ℕ, ◌++◌, Ok, IfOk, IfSome, IfNone, OnOk, OnErr, length, true, false};
 ghost use Rattle.bit_grammar.specs.Grammar.{gives};
 ghost use Rattle.bit_grammar.specs.Fields.{fixed, vbr};
 ghost use Rattle.bit_grammar.specs.Record.{scalar};
@@ -8,12 +8,15 @@ ghost use Rattle.bit_grammar.specs.FormatDefinition.{IsElement, HasLawfulValue};
 ghost use Rattle.bit_fields.specs.Buffered.{reader_at};
 ghost use Rattle.bit_fields.specs.Reader.{Takes};
 ghost use Rattle.bit_abbrev.specs.Bits.{Answers};
-ghost use Rattle.bit_abbrev.specs.Values.{AddsAll, AddsSome, Gains, Keeps, Lengthens, PassesValues};
+ghost use Rattle.bit_fields.specs.Buffered.{BufferedBits};
+ghost use Rattle.bit_fields.specs.SixBits.{TakesRun};
+ghost use Rattle.bit_grammar.specs.Record.{unabbreviated};
+ghost use Rattle.bit_abbrev.specs.Values.{AddsAll, AddsSome, AddsWithin, Gains, Keeps, Lengthens, PassesValues, Stays};
 
 use crate::bits::{Bits, NotBuffered};
 use crate::record::{read_scalar, read_zeros};
 use bit_fields::{
-    BitReader, Buffered, ChunkWidth, Fault, FieldWidth, NotTaken, Source, ValueTaker,
+    BitReader, Buffered, ChunkWidth, Fault, FieldWidth, NotTaken, Run, Source, ValueTaker,
 };
 use bit_grammar::Op;
 
@@ -38,6 +41,18 @@ pub trait Runs: Bits {
         ensures live { OnOk result ((Self.as_reader self.new).live ≡ true) }
         ensures keeps { Keeps V.took values.old values.new };
 
+    /// Reads a short record that is not abbreviated: its code and its values, at most `room`. `None` if it is not short; buffered bits
+    /// alone have short records.
+    #[inline(always)]
+    fn short_record<V: ValueTaker>(&mut self, room: u64, values: &mut V) -> Option<u64>
+        ensures adds { IfSome result (λ code. Gains V.took values.old values.new (AddsWithin
+            (unabbreviated room) room (Self.as_reader self.old) (Ok code) (Self.as_reader self.new))) }
+        ensures none { IfNone result (Self.as_reader self.new ≡ Self.as_reader self.old) }
+        ensures keeps { IfNone result (Stays V.took values.old values.new) }
+    {
+        None
+    }
+
     /// Adds `count` zeros, which take no bits. Buffered bits leave this to the reader.
     fn zeros<V: ValueTaker>(&mut self, count: u64, values: &mut V) -> Result<(), Self::Miss>
         requires live { (Self.as_reader self.old).live ≡ true }
@@ -54,6 +69,18 @@ pub trait Runs: Bits {
 }
 
 impl<'a> Runs for Buffered<'a> {
+    #[inline(always)]
+    fn short_record<V: ValueTaker>(&mut self, room: u64, values: &mut V) -> Option<u64> {
+        let start = self.copy();
+        if let Some((code, run)) = Buffered::short_record(self, room) {
+            if give_run(run, values) {
+                return Some(code);
+            }
+            *self = start;
+        }
+        None
+    }
+
     #[inline(always)]
     fn some<V: ValueTaker>(
         &mut self,
@@ -102,6 +129,21 @@ impl<S: Source> Runs for BitReader<S> {
     fn one(&mut self, element: Op) -> Result<u64, Fault> {
         read_scalar(self, element)
     }
+}
+
+/// Gives a run to a value sink, and returns whether the sink took it.
+#[inline(always)]
+#[tactic(auto, using(crate::proofs::Buffered::run_passed, crate::proofs::Buffered::run_taken))]
+fn give_run<V: ValueTaker>(run: Run, values: &mut V) -> bool
+    ensures yes { result ≡ true → (a b : BufferedBits) → TakesRun a run.count run.len run.word b
+        → Gains V.took values.old values.new (AddsAll (vbr 6) run.count (reader_at a) (Ok tt)
+        (reader_at b)) }
+    ensures no { result ≡ false → Stays V.took values.old values.new }
+{
+    if values.pass(run.count) {
+        return true;
+    }
+    run.is_shortest() && values.take_run(run.bits(), run.len, run.count)
 }
 
 /// Reads at most `most` fields of an operand, up to the first one that is not completely buffered. Returns how many. VBR 6, the
@@ -244,11 +286,49 @@ fn skip_fields(buffered: &mut Buffered<'_>, most: u64, element: Op) -> u64
     match element {
         Op::Fixed(0) => most,
         Op::Vbr(0) => most,
+        Op::Vbr(6) => skip_sixes(buffered, most),
         Op::Fixed(width) => buffered.skip_fields(few, FieldWidth::of(width)),
         Op::Vbr(width) => skip_numbers(buffered, most, ChunkWidth::of(width)),
         Op::Char6 => buffered.skip_fields(few, FieldWidth { bits: 6 }),
         Op::Literal(_) | Op::Array | Op::Blob => unreachable!(),
     }
+}
+
+/// Skips numbers in chunks of six bits, at least one and at most `most`. Returns how many, or 0 if the first one is not complete.
+#[inline(always)]
+#[tactic(auto, using(crate::proofs::Buffered::run_past, crate::proofs::Buffered::one_past, crate::proofs::Buffered::none_past))]
+fn skip_some(buffered: &mut Buffered<'_>, most: u64) -> u64
+    requires { 0 < most }
+    ensures skips { PassesValues (vbr 6) result (reader_at buffered.old) (reader_at buffered.new) }
+    ensures most { result ≤ most }
+    ensures moves { buffered.old.position ≤ buffered.new.position }
+{
+    let run = buffered.numbers(most);
+    if run.count > 0 {
+        return run.count;
+    }
+    match buffered.pass_vbr(ChunkWidth { bits: 6 }) {
+        Some(_) => 1,
+        None => 0,
+    }
+}
+
+/// Skips numbers in chunks of six bits. Returns how many.
+#[inline(always)]
+fn skip_sixes(buffered: &mut Buffered<'_>, most: u64) -> u64
+    ensures skips { PassesValues (vbr 6) result (reader_at buffered.old) (reader_at buffered.new) }
+    ensures most { result ≤ most }
+    ensures moves { buffered.old.position ≤ buffered.new.position }
+{
+    let mut left = most;
+    while left > 0 {
+        let some = skip_some(buffered, left);
+        if some == 0 {
+            return most - left;
+        }
+        left -= some;
+    }
+    most
 }
 
 /// Skips numbers in chunks of n bits. Returns how many.

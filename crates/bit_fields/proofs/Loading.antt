@@ -7,8 +7,9 @@ use Rattle.bit_grammar.specs.Grammar.{Grammar, repeat, reading}
 use Rattle.bit_grammar.proofs.Bits.Numbers.{length-bits_of}
 use Rattle.bit_grammar.proofs.Readings.Deciding.{reads, is_spelled}
 use Rattle.bit_grammar.specs.Fields.{vbr}
+use Rattle.bit_grammar.specs.Normal.{values_bits}
 use Rattle.bit_fields.specs.Inside.{part_of}
-use Rattle.bit_fields.specs.SixBits.{Begins, TakesRun, TakesShort}
+use Rattle.bit_fields.specs.SixBits.{Begins, Shortest, TakesRun, TakesShort}
 use Rattle.bit_fields.specs.Short.{EndsAt, payload_number}
 use Rattle.bit_fields.specs.Buffered.{BufferedBits, Reads, ReadsWord, IsBuffered, buffered_at, beyond, reader_at}
 use Rattle.bit_fields.proofs.Parts.{part_at}
@@ -154,6 +155,7 @@ run_in count b v word start at w bytes a is empty within few front begins =
       count = r.1;
       reads = rw (← is, none) (seen ∙ rw (place, drop_more at b (bits_of_bytes bytes)) refl);
       bits = rw (← is, none) (sym (front_after b 0 v s (omega (arith, within))) ∙ ap (take b) (sym cut) ∙ front_after b 0 v (bits_of 54 word) (omega (arith, within)));
+      place = rw (← is, none) (sym place);
     }
 
 -- a code, a number of values and the values
@@ -252,3 +254,14 @@ skipped_in start at loads bits w after bytes a is kept few after_is =
       rw (← is, place, gone) refl,
       record { there = kept.there; before = omega (arith, long, kept.before); fits = kept.fits; loaded = kept.loaded; plain = λ some. absurd (omega (arith, kept.plain some, few)) },
     )
+
+-- the numbers of a run, in their shortest spelling, have its bits
+pub run_spelled : (a : BufferedBits) (many len word bits : ℕ) (b : BufferedBits) (r : TakesRun a many len word b) → len ≤ 54 → Shortest word len → bits_of len bits ≡ take len (bits_of 54 word) → values_bits r.values ≡ bits_of len bits
+unfolding Shortest
+run_spelled a many len word bits b r few shortest bits_is =
+    let passed = is_spelled (repeat many (vbr 6)) a.position a.bits r.values b.position b.bits r.reads in
+    let long : length passed.0 ≡ len = omega (arith, passed.2, r.place) in
+    let front : passed.0 ≡ take len (bits_of 54 word) = sym (take_at passed.0 b.bits len long) ∙ ap (take len) (sym passed.1) ∙ r.bits in
+    let whole : reading (repeat many (vbr 6)) a.position (take len (bits_of 54 word)) ≡ Ok (r.values, a.position + len, []) =
+    ap (reading (repeat many (vbr 6)) a.position) (sym front ∙ sym (append-nil passed.0)) ∙ reads (repeat many (vbr 6)) a.position passed.0 r.values [] passed.3 ∙ ap (λ (n : ℕ). Ok (r.values, a.position + n, [])) long in
+    shortest many a.position r.values whole ∙ sym bits_is

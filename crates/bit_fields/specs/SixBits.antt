@@ -24,6 +24,7 @@ pub record TakesRun (old : BufferedBits) (many len word : ℕ) (new : BufferedBi
   pub count : length values ≡ many
   pub reads : Reads (repeat many (vbr 6)) old values new
   pub bits : take len old.bits ≡ take len (bits_of 54 word)
+  pub place : new.position ≡ old.position + len
 
 -- a code, a number of values and the values of a record that is not abbreviated were taken, the values as a run
 pub record TakesShort (old : BufferedBits) (code many len word : ℕ) (new : BufferedBits) : Type 0 where

@@ -276,6 +276,7 @@ impl<'a> Buffered<'a> {
     pub fn numbers(&mut self, most: u64) -> Run
         ensures takes { TakesRun self.old result.count result.len result.word self.new }
         ensures most { result.count ≤ most }
+        ensures none { result.count ≡ 0 → self.new ≡ self.old }
         ensures moves { self.new.position ≡ self.old.position + result.len }
     {
         if self.at >= self.safe {

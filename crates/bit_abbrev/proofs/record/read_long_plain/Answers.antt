@@ -1,7 +1,7 @@
 use Rattle.std.proofs.lemmas.Result.{err_from_is_err_and}
 use Rattle.bit_grammar.specs.Record.{scalar}
 use Rattle.bit_abbrev.proofs.Taking.{plain_coded, plain_counted, plain_fails, plain_read}
-use Rattle.bit_abbrev.proofs.record.read_plain.Goals as goal
+use Rattle.bit_abbrev.proofs.record.read_long_plain.Goals as goal
 
 pub returns-in_err-code-clause-adds : goal.returns-in_err-code-clause-adds
 returns-in_err-code-clause-adds g c =
