@@ -5,6 +5,7 @@ ghost use Rattle.bit_grammar.specs.Grammar.{gives};
 ghost use Rattle.bit_grammar.specs.Fields.{fixed, vbr};
 ghost use Rattle.bit_grammar.specs.Record.{scalar};
 ghost use Rattle.bit_grammar.specs.FormatDefinition.{IsElement, HasLawfulValue};
+ghost use Rattle.bit_grammar.specs.declared.op.Op.TheVariants.{Vbr};
 ghost use Rattle.bit_fields.specs.Buffered.{reader_at};
 ghost use Rattle.bit_fields.specs.Reader.{Takes};
 ghost use Rattle.bit_abbrev.specs.Bits.{Answers};
@@ -166,7 +167,7 @@ fn read_run<V: ValueTaker>(
     ensures refused { OnErr result (Gains V.took values.old values.new Lengthens) }
 {
     if let Op::Vbr(6) = element {
-        return read_fields(buffered, most, Op::Vbr(6), values);
+        return read_numbers(buffered, most, values);
     }
     let (count, after) = read_run_apart(buffered.copy(), most, element, values)?;
     *buffered = after;
@@ -198,6 +199,45 @@ fn read_run_apart<'a, V: ValueTaker>(
         Op::Literal(_) | Op::Array | Op::Blob => unreachable!(),
     };
     Ok((count, buffered))
+}
+
+/// Reads numbers in chunks of six bits, or counts them if the value sink does not use their values.
+#[inline(always)]
+#[tactic(auto, unfolding(bit_grammar::specs::Record::scalar))]
+fn read_numbers<V: ValueTaker>(
+    buffered: &mut Buffered<'_>,
+    most: u64,
+    values: &mut V,
+) -> Result<u64, NotTaken>
+    ensures adds { IfOk result (λ count. Gains V.took values.old values.new
+        (AddsAll (scalar (Vbr 6)) count (reader_at buffered.old) (Ok tt) (reader_at buffered.new))) }
+    ensures most { IfOk result (λ count. count ≤ most) }
+    ensures moves { OnOk result (buffered.old.position ≤ buffered.new.position) }
+    ensures refused { OnErr result (Gains V.took values.old values.new Lengthens) }
+{
+    if values.pass(0) {
+        Ok(count_numbers(buffered, most, values))
+    } else {
+        read_each(buffered, most, Op::Vbr(6), values)
+    }
+}
+
+/// Skips numbers in chunks of six bits and counts them in the value sink. Returns how many.
+#[inline(always)]
+#[tactic(auto, using(crate::proofs::Buffered::past_gained))]
+fn count_numbers<V: ValueTaker>(buffered: &mut Buffered<'_>, most: u64, values: &mut V) -> u64
+    ensures adds { Gains V.took values.old values.new
+        (AddsAll (vbr 6) result (reader_at buffered.old) (Ok tt) (reader_at buffered.new)) }
+    ensures most { result ≤ most }
+    ensures moves { buffered.old.position ≤ buffered.new.position }
+{
+    let start = buffered.copy();
+    let count = skip_sixes(buffered, most);
+    if values.pass(count) {
+        return count;
+    }
+    *buffered = start;
+    0
 }
 
 /// Reads such fields in one loop, or counts them if the value sink does not use their values.
@@ -286,7 +326,6 @@ fn skip_fields(buffered: &mut Buffered<'_>, most: u64, element: Op) -> u64
     match element {
         Op::Fixed(0) => most,
         Op::Vbr(0) => most,
-        Op::Vbr(6) => skip_sixes(buffered, most),
         Op::Fixed(width) => buffered.skip_fields(few, FieldWidth::of(width)),
         Op::Vbr(width) => skip_numbers(buffered, most, ChunkWidth::of(width)),
         Op::Char6 => buffered.skip_fields(few, FieldWidth { bits: 6 }),

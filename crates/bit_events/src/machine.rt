@@ -20,7 +20,7 @@ use crate::heads::{block_head, end_of_block, or_memory_fault, shuts};
 use crate::running::{buffered_item, buffered_record};
 use crate::with_first::WithFirst;
 use bit_abbrev::{Abbrev, InForce, InfoTable, SharedInfo};
-use bit_fields::{BitReader, Buffered, Fault, Limits, Reason, Source, ValueTaker};
+use bit_fields::{BitReader, Buffered, Fault, FieldWidth, Limits, Reason, Source, ValueTaker};
 use std::alloc::{AllocError, Global};
 
 /// How many values may come before those of a buffered record, so that all can be counted.
@@ -346,8 +346,10 @@ impl Machine {
         let room = self.room(limits);
         let first = buffered.position();
         let definitions = &frame.definitions;
+        let width = FieldWidth::of(frame.head.width);
         let (abbrev, code) = buffered_item::<V, InForce, V>(
             buffered,
+            width,
             frame,
             definitions,
             room,

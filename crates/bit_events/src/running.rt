@@ -55,11 +55,13 @@ pub(crate) fn buffered_record<V: ValueTaker>(
 #[inline(always)]
 pub(crate) fn buffered_item<U, D: Lookup, V: ValueTaker>(
     buffered: &mut Buffered<'_>,
+    width: FieldWidth,
     frame: &Frame,
     definitions: &D,
     room: u64,
     values: &mut V,
 ) -> Option<(u32, u64)>
+    requires width { width.bits ≡ frame.now.head.width }
     requires took { TookSome V.took values.old }
     requires plain { frame.now.info ≡ None }
     requires same { D.listed definitions.now ≡ frame.now.definitions }
@@ -70,7 +72,7 @@ pub(crate) fn buffered_item<U, D: Lookup, V: ValueTaker>(
     ensures moves { OnSome result (buffered.old.position < buffered.new.position) }
 {
     let first = buffered.position();
-    let id = buffered.fixed(FieldWidth::of(frame.head.width))?;
+    let id = buffered.fixed(width)?;
     if id < 3 {
         return None;
     }
@@ -103,10 +105,12 @@ pub(crate) fn gather_records<G: Gatherer>(
     let mut spent = *used;
     let mut room = limits.values().saturating_sub(spent);
     let definitions = frame.definitions.all();
+    let width = FieldWidth::of(frame.head.width);
     loop {
         values.truncate(0);
         let Some((id, code)) = buffered_item::<G, Definitions<'_>, G::Values>(
             &mut buffered,
+            width,
             frame,
             &definitions,
             room,

@@ -1,6 +1,7 @@
 -- Loading the next bits of bytes as a word, and reading from it.
 use Rattle.std.proofs.Common.{◌≡◌, ℕ, zero, suc, ◌+◌, ◌*◌, ◌-◌, ◌/◌, ◌%◌, ◌^◌, ◌<◌, ◌≤◌, Bool, List, [], ◌∷◌, ◌++◌, length, take, drop, Ok, refl, sym, ap, ◌∙◌, subst, arith, get_or, bit_and}
 use Rattle.std.proofs.lemmas.List.{append-nil, length-append, length-drop, drop-append-le, take_at, nil_from_length, take-append-drop}
+use Rattle.std.proofs.lemmas.Nat.{and_mask, mod_below, pow_pos}
 use Rattle.std.proofs.Math.Seq.{drop-append-add}
 use Rattle.bit_grammar.specs.Bits.{number, bits_of, bits_of_bytes}
 use Rattle.bit_grammar.specs.Grammar.{Grammar, repeat, reading}
@@ -16,7 +17,7 @@ use Rattle.bit_fields.proofs.Parts.{part_at}
 use Rattle.bit_fields.proofs.Short.{vbr_reads}
 use Rattle.bit_fields.proofs.Chunks.{one_chunk}
 use Rattle.bit_fields.proofs.BufferedReads.{reads_took, took_reads}
-use Rattle.bit_fields.proofs.BitLaws.{window_value, bits_of_bytes-take, bytes_dropped, drop_more, take-bits_of, drop-bits_of, length-bits_of_bytes, take_whole}
+use Rattle.bit_fields.proofs.BitLaws.{window_value, bits_of_bytes-take, bytes_dropped, drop_more, take-bits_of, drop-bits_of, low_mask, bits_of-mod, length-bits_of_bytes, take_whole}
 
 -- ---- the load
 
@@ -265,3 +266,32 @@ run_spelled a many len word bits b r few shortest bits_is =
     let whole : reading (repeat many (vbr 6)) a.position (take len (bits_of 54 word)) ≡ Ok (r.values, a.position + len, []) =
     ap (reading (repeat many (vbr 6)) a.position) (sym front ∙ sym (append-nil passed.0)) ∙ reads (repeat many (vbr 6)) a.position passed.0 r.values [] passed.3 ∙ ap (λ (n : ℕ). Ok (r.values, a.position + n, [])) long in
     shortest many a.position r.values whole ∙ sym bits_is
+
+-- ---- a window and a word after it
+
+take_both : (n : ℕ) (w a b : List Bool) → take (n - length w) a ≡ take (n - length w) b → take n (w ++ a) ≡ take n (w ++ b)
+take_both n [] a b same =
+    let none : n - length {A = Bool} [] ≡ n = omega arith in
+    subst (λ (k : ℕ). take k a ≡ take k b) none same
+take_both zero (x ∷ w) a b same = refl
+take_both (suc n) (x ∷ w) a b same =
+    let less : suc n - length (x ∷ w) ≡ n - length w = omega arith in
+    ap (λ (r : List Bool). x ∷ r) (take_both n w a b (subst (λ (k : ℕ). take k a ≡ take k b) less same))
+
+high_mask : (held : ℕ) → held ≤ 63 → (2 ^ 64 - 1) / 2 ^ held ≡ 2 ^ (64 - held) - 1
+high_mask held few = let back : 64 - (64 - held) ≡ held = omega (arith, few) in ap (λ (n : ℕ). (2 ^ 64 - 1) / 2 ^ n) (sym back) ∙ low_mask (64 - held) (omega (arith, few)) (omega arith)
+
+pub high_below : (held word : ℕ) → held ≤ 63 → bit_and word ((2 ^ 64 - 1) / 2 ^ held) < 2 ^ (64 - held)
+high_below held word few = rw (high_mask held few, and_mask word (64 - held)) (mod_below word (2 ^ (64 - held)) (pow_pos (64 - held)))
+
+pub far_front : (held x word : ℕ) (w front s : List Bool) → length w ≡ held → held ≤ 63 → front ≡ w ++ bits_of (64 - held) (bit_and x ((2 ^ 64 - 1) / 2 ^ held)) → bits_of 57 x ≡ take 57 s → bits_of 64 word ≡ front → bits_of 57 word ≡ take 57 (w ++ s)
+far_front held x word w front s long few front_is seen word_is =
+    let n = 64 - held in
+    let masked : bits_of n (bit_and x ((2 ^ 64 - 1) / 2 ^ held)) ≡ bits_of n x = ap (bits_of n) (ap (bit_and x) (high_mask held few) ∙ and_mask x n) ∙ bits_of-mod n x in
+    let cut : take (57 - length w) (bits_of n x) ≡ take (57 - length w) s =
+    take-bits_of (57 - length w) n x (omega (arith, long)) ∙ sym (take-bits_of (57 - length w) 57 x (omega arith)) ∙ ap (take (57 - length w)) seen ∙ front_after (57 - length w) 0 57 s (omega arith) in
+    sym (take-bits_of 57 64 word (omega arith)) ∙ ap (take 57) (word_is ∙ front_is ∙ ap (λ (r : List Bool). w ++ r) masked) ∙ take_both 57 w (bits_of n x) s cut
+
+-- a rule read from that word
+pub far_reads : {A : Type 0} (rule : Grammar A) (value : A) (b word : ℕ) (a : BufferedBits) → 57 ≤ length a.bits → bits_of 57 word ≡ take 57 a.bits → ReadsWord rule word value b → Reads rule a value (beyond a b)
+far_reads rule value b word a there front told = word_reads rule a.position word value b 57 a.bits told told.few (omega arith) front

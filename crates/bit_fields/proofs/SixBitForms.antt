@@ -1,5 +1,5 @@
 -- Numbers in chunks of six bits of a word, each in its shortest spelling.
-use Rattle.std.proofs.Common.{◌≡◌, ℕ, zero, suc, ◌+◌, ◌*◌, ◌-◌, ◌/◌, ◌%◌, ◌^◌, ◌<◌, ◌≤◌, min, max, Bool, true, false, eqb, ltb, List, [], ◌∷◌, ◌++◌, length, take, drop, refl, sym, ap, ◌∙◌, subst, arith, append_assoc, bit_and, bit_or}
+use Rattle.std.proofs.Common.{◌≡◌, ℕ, zero, suc, ◌+◌, ◌*◌, ◌-◌, ◌/◌, ◌%◌, ◌^◌, ◌<◌, ◌≤◌, min, max, Bool, true, false, eqb, ltb, List, [], ◌∷◌, ◌++◌, length, take, drop, Ok, refl, sym, ap, ◌∙◌, subst, arith, append_assoc, bit_and, bit_or}
 use Rattle.std.specs.List.{AllByRecursion}
 use Rattle.std.specs.Int.{w64, bit_at}
 use Rattle.std.proofs.lemmas.Bool.{lt-ltb, le-ltb}
@@ -7,7 +7,7 @@ use Rattle.std.proofs.lemmas.List.{take_at, drop_at, append-nil, length-append}
 use Rattle.std.proofs.lemmas.Nat.{shr-shr, and_block, and_mask, and_le_r, or_lt, one_shl, shl_whole}
 use Rattle.std.proofs.lemmas.Nat.Bits.{bit_at_and, bit_at_or, bit_at_not, bit_at_ones, bit_at_cat_low, bit_at_cat_high, bit_at-zero}
 use Rattle.bit_grammar.specs.Bits.{bit, number, bits_of}
-use Rattle.bit_grammar.specs.Grammar.{repeat, Spells}
+use Rattle.bit_grammar.specs.Grammar.{repeat, Spells, reading}
 use Rattle.bit_grammar.specs.Fields.{chunks, vbr}
 use Rattle.bit_grammar.specs.FormatFields.{chunk_spelling, shortest_payloads, shortest}
 use Rattle.bit_grammar.specs.Normal.{values_bits}
@@ -17,6 +17,7 @@ use Rattle.bit_grammar.proofs.Readings.Sequences.{made}
 use Rattle.bit_grammar.proofs.Words.Fields.{AreChunks, chunks_are, joined, length-chunked}
 use Rattle.bit_fields.specs.SixBits.{Shortest}
 use Rattle.bit_fields.proofs.BitLaws.{number-bits_mod, take-bits_of, bits_of-split, bits_of-number, bits_of-mod}
+use Rattle.bit_fields.proofs.SixBits.{any_after, word_apart, length-front}
 use Rattle.bit_fields.proofs.SixBitSums.{tops}
 
 -- ---- payloads
@@ -157,6 +158,17 @@ full_shortest word bits most full = λ count first values e.
     let found = is_spelled (repeat count (vbr 6)) first s values (first + bits) [] e in
     let whole : found.0 ≡ s = sym (found.1 ∙ append-nil found.0) in
     values_are count first bits word s values (subst (λ (t : List Bool). Spells (repeat count (vbr 6)) first t values) whole found.3) (sym (take-bits_of bits 54 word most)) full
+
+-- numbers in their shortest spelling, whatever follows them
+pub front_bits : (word count bits first : ℕ) (rest : List Bool) (values : List ℕ) → bits ≤ 54 → reading (repeat count (vbr 6)) first (take bits (bits_of 54 word) ++ rest) ≡ Ok (values, first + bits, rest) → Shortest word bits → values_bits values ≡ take bits (bits_of 54 word)
+unfolding Shortest
+front_bits word count bits first rest values most e forms =
+    let front : List Bool = take bits (bits_of 54 word) in
+    forms count first values (ap (reading (repeat count (vbr 6)) first) (sym (append-nil front)) ∙ any_after (repeat count (vbr 6)) first bits front rest values (length-front word bits most) e [])
+
+-- numbers in their shortest spelling, at the front of the bits of the word
+pub begun_bits : (word count bits first : ℕ) (rest : List Bool) (values : List ℕ) → bits ≤ 54 → reading (repeat count (vbr 6)) first (bits_of 54 word ++ rest) ≡ Ok (values, first + bits, drop bits (bits_of 54 word) ++ rest) → Shortest word bits → values_bits values ≡ take bits (bits_of 54 word)
+begun_bits word count bits first rest values most e forms = front_bits word count bits first (drop bits (bits_of 54 word) ++ rest) values most (ap (reading (repeat count (vbr 6)) first) (sym (word_apart word bits rest)) ∙ e) forms
 
 -- ---- as the code finds it
 

@@ -7,7 +7,8 @@ use Rattle.std.specs.Int.Count.{count_leading_zeros}
 use Rattle.std.proofs.lemmas.Nat.Bits.{and_pow, bit_at-trailing_zeros}
 use Rattle.std.proofs.Math.Pow.{pow_mono, mod-mod-pow}
 use Rattle.bit_grammar.specs.Bits.{bit}
-use Rattle.bit_fields.specs.SixBits.{Begins}
+use Rattle.bit_fields.specs.Short.{EndsChunks}
+use Rattle.bit_fields.specs.SixBits.{Begins, NoneFollows}
 use Rattle.bit_fields.proofs.SixBits.{lasts, Runs, length-lasts, runs_within, runs_many, runs_none, begins}
 
 -- the top bit of each of k chunks
@@ -167,6 +168,42 @@ last_of : (ends : List Bool) → Last ends
 last_of [] = record { chunks = 0; runs = refl; below = omega arith; some = λ some. absurd (omega (arith, some)) }
 last_of (last ∷ ends) = let r = last_of ends in last_one last ends r r.chunks refl
 
+-- chunks of a number end one
+ended_some : (k chunks word : ℕ) → chunks ≤ k → EndsChunks 5 chunks word → 1 ≤ ended (lasts k word)
+ended_some k zero word few ends = absurd ends
+ended_some zero (suc chunks) word few ends = absurd (omega (arith, few))
+ended_some (suc k) (suc zero) word few ends = omega (arith, bit-eqb_none (word / 32 % 2) (omega arith), ends)
+ended_some (suc k) (suc (suc chunks)) word few ends = omega (arith, ended_some k (suc chunks) (word / 64) (omega (arith, few)) ends.1)
+
+ended_next : (last : Bool) (marks : List Bool) (count chunks after : ℕ) → ((others : ℕ) → Runs marks others chunks → ended marks ≡ others + after) → Runs (last ∷ marks) count (suc chunks) → ended (last ∷ marks) ≡ count + after
+ended_next true marks count chunks after later h = omega (arith, later h.0 h.2, h.1)
+ended_next false marks count chunks after later h = omega (arith, later count h.1)
+
+-- how many end after some numbers
+ended_after : (k count chunks more word : ℕ) → k ≡ chunks + more → Runs (lasts k word) count chunks → ended (lasts k word) ≡ count + ended (lasts more (word / 2 ^ (6 * chunks)))
+ended_after k count zero more word k_is h =
+    let same : k ≡ more = omega (arith, k_is) in
+    let here : word ≡ word / 2 ^ (6 * 0) = omega arith in
+    let all : ended (lasts k word) ≡ ended (lasts more (word / 2 ^ (6 * 0))) = ap (λ (n : ℕ). ended (lasts n word)) same ∙ ap (λ (w : ℕ). ended (lasts more w)) here in
+    omega (arith, all, h)
+ended_after zero count (suc chunks) more word k_is h = absurd h
+ended_after (suc k) count (suc chunks) more word k_is h =
+    let place : 6 + 6 * chunks ≡ 6 * suc chunks = omega arith in
+    let behind : word / 64 / 2 ^ (6 * chunks) ≡ word / 2 ^ (6 * suc chunks) = shr-shr word 6 (6 * chunks) ∙ ap (λ (i : ℕ). word / 2 ^ i) place in
+    ended_next (eqb (word / 32 % 2) 0) (lasts k (word / 64)) count chunks (ended (lasts more (word / 2 ^ (6 * suc chunks))))
+    (λ others runs. ended_after k others chunks more (word / 64) (omega (arith, k_is)) runs ∙ ap (λ (w : ℕ). others + ended (lasts more w)) behind) h
+
+none_follows : (word chunks bits : ℕ) → Runs (lasts 9 word) (ended (lasts 9 word)) chunks → bits ≡ 6 * chunks → NoneFollows word bits
+unfolding NoneFollows
+none_follows word chunks bits runs is = λ more within ends.
+    let nine : chunks ≤ 9 = runs_within (lasts 9 word) (ended (lasts 9 word)) chunks runs in
+    let after = ended_after 9 (ended (lasts 9 word)) chunks (9 - chunks) word (omega (arith, nine)) runs in
+    let moved : EndsChunks 5 more (word / 2 ^ (6 * chunks)) = subst (λ (n : ℕ). EndsChunks 5 more (word / 2 ^ n)) is ends in
+    contradicts (ended (lasts 9 word)) (ended (lasts (9 - chunks) (word / 2 ^ (6 * chunks)))) after (ended_some (9 - chunks) more (word / 2 ^ (6 * chunks)) (omega (arith, within, is)) moved)
+  where
+    contradicts : (count after : ℕ) → count ≡ count + after → 1 ≤ after → ⊥
+    contradicts count after same some = omega (arith, same, some)
+
 -- a number's length in bits lies between powers of two
 length_between : (m n x : ℕ) → x < 2 ^ m → 2 ^ m ≤ 2 * x + 1 → x < 2 ^ n → (0 < n → 2 ^ n ≤ 2 * x) → m ≡ n
 length_between m n x below some low high = elim (cases_lt m n) [
@@ -310,7 +347,7 @@ ended_most (last ∷ ends) = omega (arith, bit_most last, ended_most ends)
 pub nine_at_most : {word ends sum total : ℕ} → Summed word ends sum total → total ≤ 9
 nine_at_most {word} s = omega (arith, total_of s, ended_most (lasts 9 word), length-lasts 9 word)
 
-pub all_ran : {word ends sum total : ℕ} → Summed word ends sum total → Ran word total (64 - count_leading_zeros 64 ends)
+pub all_ran : {word ends sum total : ℕ} → Summed word ends sum total → Ran word total (64 - count_leading_zeros 64 ends) × NoneFollows word (64 - count_leading_zeros 64 ends)
 all_ran {word} {ends} {sum} {total} s =
     let last = last_of (lasts 9 word) in
     let nine : last.chunks ≤ 9 = runs_within (lasts 9 word) (ended (lasts 9 word)) last.chunks last.runs in
@@ -319,8 +356,10 @@ all_ran {word} {ends} {sum} {total} s =
     let wide : 2 ^ (6 * last.chunks) ≤ 2 ^ 64 = pow_mono {i = 6 * last.chunks} {j = 64} (omega (arith, nine)) in
     let long = leading_length 64 ends (omega (arith, below, wide)) in
     let same : long.0 ≡ 6 * last.chunks = length_between long.0 (6 * last.chunks) ends long.2 long.3 below (λ some. omega (arith, is, last.some (omega (arith, some)))) in
-    let bits : 64 - count_leading_zeros 64 ends ≡ 6 * last.chunks = omega (arith, long.1, same) in
-    subst (λ (n : ℕ). Ran word n (64 - count_leading_zeros 64 ends)) (sym (total_of s)) (ran word (ended (lasts 9 word)) (64 - count_leading_zeros 64 ends) last.chunks last.runs bits)
+    let bits : 64 - count_leading_zeros 64 ends ≡ 6 * last.chunks = omega (arith, long.1, same) in (
+      subst (λ (n : ℕ). Ran word n (64 - count_leading_zeros 64 ends)) (sym (total_of s)) (ran word (ended (lasts 9 word)) (64 - count_leading_zeros 64 ends) last.chunks last.runs bits),
+      none_follows word last.chunks (64 - count_leading_zeros 64 ends) last.runs bits,
+    )
 
 pub some_ran : {word ends sum total : ℕ} (most : ℕ) → Summed word ends sum total → 0 < most → most < total → Ran word most (trailing_zeros w64 (bit_and (sum + (32 - most) * ones 9) (tops 9)) + 1)
 some_ran {word} {ends} {sum} {total} most s some fewer =

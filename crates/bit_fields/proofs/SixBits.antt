@@ -1,12 +1,13 @@
 -- Numbers in chunks of six bits, read from a word that shows which chunks end them.
-use Rattle.std.proofs.Common.{◌≡◌, ℕ, zero, suc, ◌+◌, ◌*◌, ◌-◌, ◌/◌, ◌%◌, ◌^◌, ◌<◌, ◌≤◌, Bool, true, false, eqb, List, [], ◌∷◌, ◌++◌, length, drop, Ok, refl, sym, ap, ◌∙◌, subst, arith, append_assoc}
+use Rattle.std.proofs.Common.{◌≡◌, ℕ, zero, suc, ◌+◌, ◌*◌, ◌-◌, ◌/◌, ◌%◌, ◌^◌, ◌<◌, ◌≤◌, Bool, true, false, eqb, List, [], ◌∷◌, ◌++◌, length, take, drop, Ok, refl, sym, ap, ◌∙◌, subst, arith, append_assoc}
 use Rattle.std.proofs.lemmas.Bool.{eqb-true, eqb-false}
-use Rattle.std.proofs.lemmas.List.{drop_at}
+use Rattle.std.proofs.lemmas.List.{drop_at, take_at, take-append-drop, length-take-le}
 use Rattle.std.proofs.lemmas.Nat.{shr-shr}
 use Rattle.bit_grammar.specs.Bits.{bits_of}
-use Rattle.bit_grammar.specs.Grammar.{repeat, reading}
+use Rattle.bit_grammar.specs.Grammar.{Grammar, repeat, reading}
 use Rattle.bit_grammar.specs.Fields.{vbr}
 use Rattle.bit_grammar.proofs.Bits.Numbers.{length-bits_of}
+use Rattle.bit_grammar.proofs.Readings.Deciding.{reads, is_spelled}
 use Rattle.bit_fields.specs.Short.{EndsChunks, payload_number}
 use Rattle.bit_fields.specs.SixBits.{Begins}
 use Rattle.bit_fields.proofs.BitLaws.{window_rest, bits_of-split}
@@ -154,3 +155,28 @@ begins word count chunks h = λ first rest.
     let behind : drop (6 * chunks) (bits_of 54 word) ≡ left = ap (drop (6 * chunks)) split ∙ drop_at (bits_of (6 * chunks) word) left (6 * chunks) (length-bits_of (6 * chunks) word) in
     let all : bits_of 54 word ++ rest ≡ bits_of (6 * chunks) word ++ (left ++ rest) = ap (λ (s : List Bool). s ++ rest) split ∙ append_assoc (bits_of (6 * chunks) word) left rest in
     (run.0, run.1, ap (reading (repeat count (vbr 6)) first) all ∙ run.2 ∙ ap (λ (s : List Bool). Ok (run.0, first + 6 * chunks, s ++ rest)) (sym behind))
+
+-- ---- for callers
+
+-- a rule that took exactly some bits takes them whatever follows
+pub any_after : {A : Type 0} (rule : Grammar A) (first bits : ℕ) (front rest : List Bool) (value : A) → length front ≡ bits → reading rule first (front ++ rest) ≡ Ok (value, first + bits, rest) → (other : List Bool) → reading rule first (front ++ other) ≡ Ok (value, first + bits, other)
+any_after rule first bits front rest value long e other =
+    let found = is_spelled rule first (front ++ rest) value (first + bits) rest e in
+    let many : length found.0 ≡ bits = omega (arith, found.2) in
+    let same : found.0 ≡ front = sym (take_at found.0 rest bits many) ∙ ap (take bits) (sym found.1) ∙ take_at front rest bits long in
+    ap (λ (s : List Bool). reading rule first (s ++ other)) (sym same) ∙ reads rule first found.0 value other found.3 ∙ ap (λ (n : ℕ). Ok (value, first + n, other)) many
+
+-- the bits of a word in two parts
+pub word_apart : (word bits : ℕ) (rest : List Bool) → bits_of 54 word ++ rest ≡ take bits (bits_of 54 word) ++ (drop bits (bits_of 54 word) ++ rest)
+word_apart word bits rest = ap (λ (s : List Bool). s ++ rest) (sym (take-append-drop bits (bits_of 54 word))) ∙ append_assoc (take bits (bits_of 54 word)) (drop bits (bits_of 54 word)) rest
+
+pub length-front : (word bits : ℕ) → bits ≤ 54 → length (take bits (bits_of 54 word)) ≡ bits
+length-front word bits most = length-take-le bits (bits_of 54 word) (omega (arith, most, length-bits_of 54 word))
+
+-- the numbers alone, whatever follows them
+pub begun_front : (word count bits first : ℕ) (rest : List Bool) → bits ≤ 54 → Begins word count bits → (values : List ℕ) × (length values ≡ count) × (reading (repeat count (vbr 6)) first (take bits (bits_of 54 word) ++ rest) ≡ Ok (values, first + bits, rest))
+unfolding Begins
+begun_front word count bits first rest most begun =
+    let read = begun first [] in
+    let apart = ap (reading (repeat count (vbr 6)) first) (sym (word_apart word bits [])) ∙ read.2 in
+    (read.0, read.1, any_after (repeat count (vbr 6)) first bits (take bits (bits_of 54 word)) (drop bits (bits_of 54 word) ++ []) read.0 (length-front word bits most) apart rest)

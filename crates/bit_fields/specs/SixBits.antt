@@ -1,16 +1,21 @@
 -- Numbers in chunks of six bits, in the low 54 bits of a word: nine whole chunks.
-use Rattle.std.specs.Prelude.{◌≡◌, ℕ, ◌+◌, Bool, List, [], ◌++◌, length, take, drop, Ok}
+use Rattle.std.specs.Prelude.{◌≡◌, ℕ, ◌+◌, ◌*◌, ◌/◌, ◌^◌, ◌≤◌, Bool, List, [], ◌++◌, length, take, drop, Ok}
 use Rattle.bit_grammar.specs.Bits.{bits_of}
 use Rattle.bit_grammar.specs.Grammar.{repeat, reading}
 use Rattle.bit_grammar.specs.Fields.{vbr}
 use Rattle.bit_grammar.specs.Normal.{values_bits}
 use Rattle.bit_fields.specs.Buffered.{BufferedBits, Reads}
+use Rattle.bit_fields.specs.Short.{EndsChunks}
 
 -- the chunks of a word begin with this many numbers, which take this many bits, whatever follows the chunks
 unfoldable pub Begins : (word count bits : ℕ) → Type 0
 Begins word count bits = (first : ℕ) (rest : List Bool) → (values : List ℕ) × (length values ≡ count)
     × (reading (repeat count (vbr 6)) first (bits_of 54 word ++ rest)
     ≡ Ok (values, first + bits, drop bits (bits_of 54 word) ++ rest))
+
+-- no whole number follows these bits in the chunks
+unfoldable pub NoneFollows : (word bits : ℕ) → Type 0
+NoneFollows word bits = (chunks : ℕ) → bits + 6 * chunks ≤ 54 → EndsChunks 5 chunks (word / 2 ^ bits) → ⊥
 
 -- numbers that these bits of a word spell are each in their shortest spelling
 unfoldable pub Shortest : (word bits : ℕ) → Type 0

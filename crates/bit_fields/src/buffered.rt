@@ -1,5 +1,5 @@
 ghost use Rattle.std.specs.Prelude.{ℕ, ◌≡◌, ◌+◌, ◌*◌, ◌-◌, ◌%◌, ◌<◌, ◌≤◌, ◌^◌, ◌++◌, length, take, drop, get_or, IfSome, OnSome, MatchOption, IfNone};
-ghost use Rattle.bit_grammar.specs.Bits.{number, bits_of_bytes};
+ghost use Rattle.bit_grammar.specs.Bits.{number, bits_of, bits_of_bytes};
 ghost use Rattle.bit_grammar.specs.Grammar.{repeat};
 ghost use Rattle.bit_grammar.specs.Fields.{fixed, vbr, char6, align32};
 ghost use Rattle.bit_fields.specs.Inside.{part_of, numbers};
@@ -200,6 +200,21 @@ impl<'a> Buffered<'a> {
         Some(value)
     }
 
+    /// The next 57 bits, as the low bits of a word, if the window has some of them and eight bytes after it can be loaded.
+    fn far_word(&self) -> Option<u64>
+        ensures { IfSome result (λ word. (57 ≤ length self.now.bits)
+            × (bits_of 57 word ≡ take 57 self.now.bits)) }
+    {
+        let held = self.window.len();
+        if held == 0 || held > 63 || self.at >= safe_end(self.bytes) {
+            return None;
+        }
+        let after = word_at(self.bytes, self.at) & (u64::MAX >> held);
+        let mut front = self.window.copy();
+        front.push(after, 64 - held);
+        Some(front.parts().0)
+    }
+
     /// Takes a number of one chunk of n bits, if eight bytes can be loaded. Most numbers are such.
     #[inline(always)]
     fn one_chunk(&mut self, n: ChunkWidth) -> Option<u64>
@@ -240,6 +255,11 @@ impl<'a> Buffered<'a> {
             (beyond self.entry result.1) }
         ensures moves { 0 < result.1 → n.bits ≤ result.1 }
     {
+        if let Some(word) = self.far_word() {
+            if let Some((value, bits)) = few_chunks(word, n) {
+                return (value, u64::from(bits));
+            }
+        }
         let mut buffered = self;
         let first = buffered.position();
         match buffered.chunk_by_chunk(n) {

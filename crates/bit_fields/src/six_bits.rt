@@ -4,7 +4,7 @@
 //! digits a chunk. Sums and products are of all chunks at once: no chunk's sum reaches 64, so none carries into the next one.
 
 ghost use Rattle.std.specs.Prelude.{◌≡◌, ◌*◌, ◌<◌, ◌≤◌, true};
-ghost use Rattle.bit_fields.specs.SixBits.{Begins, Shortest};
+ghost use Rattle.bit_fields.specs.SixBits.{Begins, NoneFollows, Shortest};
 
 /// The lowest bit of each chunk.
 const ONES: u64 = 0o01_01_01_01_01_01_01_01_01;
@@ -22,6 +22,7 @@ const ALL: u64 = 0o77_77_77_77_77_77_77_77_77;
 #[inline(always)]
 pub(crate) fn numbers_in(word: u64, most: u64) -> (u64, u32)
     ensures reads { Begins word result.0 result.1 }
+    ensures all { result.0 < most → NoneFollows word result.1 }
     ensures most { result.0 ≤ most }
     ensures bits { result.1 ≤ 54 }
     ensures none { result.0 ≡ 0 → result.1 ≡ 0 }

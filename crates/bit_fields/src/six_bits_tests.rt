@@ -45,6 +45,6 @@ fn shortest(rt: HostRuntime) {
         (0o00_40_40_40_40_40_40_40_41, 54, false),
         (0o00_00_77_37_77_37_77_00_41, 48, false),
     ] {
-        assert!(rt; is_shortest(word, bits) == answer);
+        assert!(rt; is_shortest(word, bits.min(54)) == answer);
     }
 }

@@ -13,7 +13,7 @@ returns-in-Ok-clause-sees g c = λ before was.
     let b = c.read_entry.new.bits in
     let added = rw (c.requires.same, c.position-first.ensures) at (c.in-Ok.ensures.adds before was) in
     let read = added_behind (entry c.args.room a.position c.in_ok-id.id f.definitions) c.args.room (reader_at c.fixed.new.self) c.in-Ok.code (reader_at b) before added.0 added.2 in
-    let seen = subst (λ (n : ℕ). Reads (fixed n) a c.in_ok-id.id c.fixed.new.self) c.of.ensures c.in_ok-id.ensures.reads in (
+    let seen = subst (λ (n : ℕ). Reads (fixed n) a c.in_ok-id.id c.fixed.new.self) c.requires.width c.in_ok-id.ensures.reads in (
       added.0,
       added.1,
       (
