@@ -66,6 +66,11 @@ impl<V: ValueTaker> ValueTaker for WithFirst<V> {
         self.first.is_some() && self.taker.pass_zeros(count)
     }
 
+    #[inline(always)]
+    fn take_run(&mut self, bits: u64, len: u32, count: u64) -> bool {
+        self.first.is_some() && self.taker.take_run(bits, len, count)
+    }
+
     fn truncate(&mut self, count: u64) {
         if count == 0 {
             self.first = None;

@@ -1,19 +1,18 @@
 -- Bits that are held in memory, in words.
-use Rattle.std.proofs.Common.{◌≡◌, ℕ, zero, suc, ◌+◌, ◌*◌, ◌-◌, ◌%◌, ◌^◌, ◌<◌, ◌≤◌, ◌==◌, Bool, true, false, inl, inr, List, [], ◌∷◌, ◌++◌, length, take, drop, get_or, Result, Ok, Err, refl, sym, ap, subst, ◌∙◌, arith, append_assoc, drop-cons, length-append, add-one}
+use Rattle.std.proofs.Common.{◌≡◌, ℕ, zero, suc, ◌+◌, ◌*◌, ◌-◌, ◌/◌, ◌%◌, ◌^◌, ◌<◌, ◌≤◌, ◌==◌, Bool, true, false, inl, inr, List, [], ◌∷◌, ◌++◌, length, take, drop, get_or, Result, Ok, Err, refl, sym, ap, subst, ◌∙◌, arith, append_assoc, drop-cons, length-append, add-one}
 use Rattle.std.proofs.Math.ListN.{set}
 use Rattle.std.proofs.Math.Seq.{drop-append_seam, take-append_seam, get_or-append_seam, drop-append-add, take-length}
-use Rattle.std.proofs.lemmas.List.{append-nil, take_more, drop_all, take-append-drop, set_split, set_at, set-append_left, set-append_right, length-take-le}
+use Rattle.std.proofs.lemmas.List.{append-nil, take_more, drop_all, take-append-drop, set_split, set_at, set-append_left, set-append_right, length-take-le, get_or_append_left, get_or-append_right}
 use Rattle.std.proofs.lemmas.Bool.{cases_lt}
 use Rattle.std.proofs.lemmas.Grind.{flat_map-append}
 use Rattle.std.specs.Global.{Vec}
 use Rattle.bit_grammar.specs.Bits.{bits_of, number}
-use Rattle.bit_grammar.specs.FormatFields.{shortest}
-use Rattle.bit_grammar.specs.Normal.{values_bits}
 use Rattle.bit_grammar.proofs.Bits.Numbers.{length-bits_of, number_below}
 use Rattle.bit_fields.specs.Texts.{words_of_chunks, AreFull, bits_of_words, with_word}
 use Rattle.bit_fields.specs.Writer.{Writer, Wrote, Writes}
 use Rattle.bit_fields.specs.declared.fault.Fault.{Fault}
-use Rattle.bit_fields.proofs.BitLaws.{bits_of-number}
+use Rattle.std.proofs.Math.Nat.{add-mod-mod}
+use Rattle.bit_fields.proofs.BitLaws.{bits_of-number, bits_of-split, bits_of-mod, bits_of-above}
 use Rattle.bit_fields.proofs.WriterLaws.{wrote_nothing, wrote_then, not_written}
 
 -- ---- chunks
@@ -22,35 +21,45 @@ pub joined-push : (chunks : List (Vec ℕ)) (chunk : Vec ℕ) → words_of_chunk
 joined-push [] chunk = append-nil chunk.items
 joined-push (first ∷ chunks) chunk = ap (λ (ws : List ℕ). first.items ++ ws) (joined-push chunks chunk) ∙ sym (append_assoc first.items (words_of_chunks chunks) chunk.items)
 
-pub full-push : (chunks : List (Vec ℕ)) (chunk : Vec ℕ) → AreFull chunks → length chunk.items ≡ 262144 → AreFull (chunks ++ chunk ∷ [])
+pub full-push : (chunks : List (Vec ℕ)) (chunk : Vec ℕ) → AreFull chunks → length chunk.items ≡ 131072 → AreFull (chunks ++ chunk ∷ [])
 full-push [] chunk full is = (is, tt)
 full-push (first ∷ chunks) chunk full is = (full.0, full-push chunks chunk full.1 is)
 
-pub full-at : (chunks : List (Vec ℕ)) (i : ℕ) (chunk : Vec ℕ) → AreFull chunks → i < length chunks → chunk ≡ get_or chunks i chunk → length chunk.items ≡ 262144
+pub full-at : (chunks : List (Vec ℕ)) (i : ℕ) (chunk : Vec ℕ) → AreFull chunks → i < length chunks → chunk ≡ get_or chunks i chunk → length chunk.items ≡ 131072
 full-at [] i chunk full lt is = absurd (omega (arith, lt))
 full-at (first ∷ chunks) zero chunk full lt is = ap (λ (v : Vec ℕ). length v.items) is ∙ full.0
 full-at (first ∷ chunks) (suc i) chunk full lt is = full-at chunks i chunk full.1 (omega (arith, lt)) is
 
-pub full-set : (chunks : List (Vec ℕ)) (i : ℕ) (chunk : Vec ℕ) → AreFull chunks → length chunk.items ≡ 262144 → AreFull (set chunks i chunk)
+pub full-set : (chunks : List (Vec ℕ)) (i : ℕ) (chunk : Vec ℕ) → AreFull chunks → length chunk.items ≡ 131072 → AreFull (set chunks i chunk)
 full-set [] i chunk full is = tt
 full-set (first ∷ chunks) zero chunk full is = (is, full.1)
 full-set (first ∷ chunks) (suc i) chunk full is = (full.0, full-set chunks i chunk full.1 is)
 
-pub joined-length : (chunks : List (Vec ℕ)) → AreFull chunks → length (words_of_chunks chunks) ≡ 262144 * length chunks
+pub joined-length : (chunks : List (Vec ℕ)) → AreFull chunks → length (words_of_chunks chunks) ≡ 131072 * length chunks
 joined-length [] full = refl
 joined-length (first ∷ chunks) full = omega (arith, length-append first.items (words_of_chunks chunks), full.0, joined-length chunks full.1)
 
 -- a word of a chunk is set
-pub joined-set : (chunks : List (Vec ℕ)) (i j word : ℕ) (chunk new : Vec ℕ) → AreFull chunks → i < length chunks → chunk ≡ get_or chunks i chunk → j < 262144 → new.items ≡ set chunk.items j word → words_of_chunks (set chunks i new) ≡ set (words_of_chunks chunks) (262144 * i + j) word
+pub joined-set : (chunks : List (Vec ℕ)) (i j word : ℕ) (chunk new : Vec ℕ) → AreFull chunks → i < length chunks → chunk ≡ get_or chunks i chunk → j < 131072 → new.items ≡ set chunk.items j word → words_of_chunks (set chunks i new) ≡ set (words_of_chunks chunks) (131072 * i + j) word
 joined-set [] i j word chunk new full lt is few set_is = absurd (omega (arith, lt))
 joined-set (first ∷ chunks) zero j word chunk new full lt is few set_is =
     let same : new.items ≡ set first.items j word = set_is ∙ ap (λ (v : Vec ℕ). set v.items j word) is in
-    let place : 262144 * 0 + j ≡ j = omega arith in
+    let place : 131072 * 0 + j ≡ j = omega arith in
     ap (λ (ws : List ℕ). ws ++ words_of_chunks chunks) same ∙ sym (set-append_left first.items (words_of_chunks chunks) j word (omega (arith, full.0, few))) ∙ ap (λ (k : ℕ). set (first.items ++ words_of_chunks chunks) k word) (sym place)
 joined-set (first ∷ chunks) (suc i) j word chunk new full lt is few set_is =
-    let place : 262144 * suc i + j - 262144 ≡ 262144 * i + j = omega arith in
+    let place : 131072 * suc i + j - 131072 ≡ 131072 * i + j = omega arith in
     ap (λ (ws : List ℕ). first.items ++ ws) (joined-set chunks i j word chunk new full.1 (omega (arith, lt)) is few set_is ∙ ap (λ (k : ℕ). set (words_of_chunks chunks) k word) (sym place))
-    ∙ sym (set-append_right first.items (words_of_chunks chunks) 262144 (262144 * suc i + j) word full.0 (omega arith))
+    ∙ sym (set-append_right first.items (words_of_chunks chunks) 131072 (131072 * suc i + j) word full.0 (omega arith))
+
+-- a word of a chunk
+pub joined-get : (chunks : List (Vec ℕ)) (i j : ℕ) (chunk : Vec ℕ) → AreFull chunks → i < length chunks → chunk ≡ get_or chunks i chunk → j < 131072 → get_or (words_of_chunks chunks) (131072 * i + j) 0 ≡ get_or chunk.items j 0
+joined-get [] i j chunk full lt is few = absurd (omega (arith, lt))
+joined-get (first ∷ chunks) zero j chunk full lt is few =
+    let place : 131072 * 0 + j ≡ j = omega arith in
+    ap (λ (k : ℕ). get_or (first.items ++ words_of_chunks chunks) k 0) place ∙ get_or_append_left first.items (words_of_chunks chunks) 0 j (omega (arith, full.0, few)) ∙ ap (λ (v : Vec ℕ). get_or v.items j 0) (sym is)
+joined-get (first ∷ chunks) (suc i) j chunk full lt is few =
+    let place : 131072 * suc i + j - 131072 ≡ 131072 * i + j = omega arith in
+    get_or-append_right first.items (words_of_chunks chunks) 131072 (131072 * suc i + j) 0 full.0 (omega arith) ∙ ap (λ (k : ℕ). get_or (words_of_chunks chunks) k 0) place ∙ joined-get chunks i j chunk full.1 (omega (arith, lt)) is few
 
 -- an empty chunk is appended, and replaced by a full one
 swapped : (old new : List (Vec ℕ)) (chunk last x : Vec ℕ) (k : ℕ) → new ≡ old ++ chunk ∷ [] → k ≡ length old → x ≡ last → set new k x ≡ old ++ last ∷ []
@@ -60,7 +69,7 @@ swapped old new chunk last x k is place x_is =
 pub swapped_out : (old new : List (Vec ℕ)) (chunk slot : Vec ℕ) (k : ℕ) → new ≡ old ++ chunk ∷ [] → k ≡ length old → slot ≡ get_or new k slot → slot ≡ chunk
 swapped_out old new chunk slot k is place there = there ∙ ap (λ (vs : List (Vec ℕ)). get_or vs k slot) is ∙ ap (λ (n : ℕ). get_or (old ++ chunk ∷ []) n slot) place ∙ get_or-append_seam old chunk [] slot
 
-pub full-swap : (old new : List (Vec ℕ)) (chunk last x : Vec ℕ) (k : ℕ) → new ≡ old ++ chunk ∷ [] → k ≡ length old → x ≡ last → length last.items ≡ 262144 → AreFull old → AreFull (set new k x)
+pub full-swap : (old new : List (Vec ℕ)) (chunk last x : Vec ℕ) (k : ℕ) → new ≡ old ++ chunk ∷ [] → k ≡ length old → x ≡ last → length last.items ≡ 131072 → AreFull old → AreFull (set new k x)
 full-swap old new chunk last x k is place x_is len full = subst AreFull (sym (swapped old new chunk last x k is place x_is)) (full-push old last full len)
 
 pub joined-swap : (old new : List (Vec ℕ)) (chunk last x y : Vec ℕ) (k : ℕ) → new ≡ old ++ chunk ∷ [] → k ≡ length old → x ≡ last → y.items ≡ [] → words_of_chunks (set new k x) ++ y.items ≡ words_of_chunks old ++ last.items
@@ -74,31 +83,35 @@ beyond i count none = elim (cases_lt i count) [ inl lt ↦ absurd (no (none lt))
     no : false ≡ true → ⊥
     no e = absurd cc
 
+-- then it lies in the last one
+pub behind : (count all few place last : ℕ) → count ≡ few → count ≤ place / 131072 → all ≡ 131072 * few + last → place < all → place - count * 131072 < last
+behind count all few place last is le whole lt = omega arith
+
 -- ---- words and bits
 
 pub words-append : (a b : List ℕ) → bits_of_words (a ++ b) ≡ bits_of_words a ++ bits_of_words b
-words-append a b = flat_map-append (bits_of 32) a b
+words-append a b = flat_map-append (bits_of 64) a b
 
-pub words-length : (ws : List ℕ) → length (bits_of_words ws) ≡ 32 * length ws
+pub words-length : (ws : List ℕ) → length (bits_of_words ws) ≡ 64 * length ws
 words-length [] = refl
-words-length (w ∷ ws) = omega (arith, length-append (bits_of 32 w) (bits_of_words ws), length-bits_of 32 w, words-length ws)
+words-length (w ∷ ws) = omega (arith, length-append (bits_of 64 w) (bits_of_words ws), length-bits_of 64 w, words-length ws)
 
 -- one more word
-pub words-push : (ws : List ℕ) (w : ℕ) (rest : List Bool) → bits_of_words (ws ++ w ∷ []) ++ rest ≡ bits_of_words ws ++ (bits_of 32 w ++ rest)
-words-push ws w rest = ap (λ (s : List Bool). s ++ rest) (words-append ws (w ∷ []) ∙ ap (λ (s : List Bool). bits_of_words ws ++ s) (append-nil (bits_of 32 w))) ∙ append_assoc (bits_of_words ws) (bits_of 32 w) rest
+pub words-push : (ws : List ℕ) (w : ℕ) (rest : List Bool) → bits_of_words (ws ++ w ∷ []) ++ rest ≡ bits_of_words ws ++ (bits_of 64 w ++ rest)
+words-push ws w rest = ap (λ (s : List Bool). s ++ rest) (words-append ws (w ∷ []) ∙ ap (λ (s : List Bool). bits_of_words ws ++ s) (append-nil (bits_of 64 w))) ∙ append_assoc (bits_of_words ws) (bits_of 64 w) rest
 
 -- the word at a place comes next
-pub words-next : (ws : List ℕ) (i : ℕ) → i < length ws → bits_of_words (drop i ws) ≡ bits_of 32 (get_or ws i 0) ++ bits_of_words (drop (i + 1) ws)
+pub words-next : (ws : List ℕ) (i : ℕ) → i < length ws → bits_of_words (drop i ws) ≡ bits_of 64 (get_or ws i 0) ++ bits_of_words (drop (i + 1) ws)
 words-next ws i lt = rw add-one (ap bits_of_words (drop-cons ws i 0 lt))
 
-pub words-more : (ws : List ℕ) (i : ℕ) → i < length ws → bits_of_words (take (i + 1) ws) ≡ bits_of_words (take i ws) ++ bits_of 32 (get_or ws i 0)
-words-more ws i lt = ap bits_of_words (take_more ws i 0 lt) ∙ words-append (take i ws) (get_or ws i 0 ∷ []) ∙ ap (λ (s : List Bool). bits_of_words (take i ws) ++ s) (append-nil (bits_of 32 (get_or ws i 0)))
+pub words-more : (ws : List ℕ) (i : ℕ) → i < length ws → bits_of_words (take (i + 1) ws) ≡ bits_of_words (take i ws) ++ bits_of 64 (get_or ws i 0)
+words-more ws i lt = ap bits_of_words (take_more ws i 0 lt) ∙ words-append (take i ws) (get_or ws i 0 ∷ []) ∙ ap (λ (s : List Bool). bits_of_words (take i ws) ++ s) (append-nil (bits_of 64 (get_or ws i 0)))
 
 -- the word there was added
-pub added_so_far : (ws : List ℕ) (i : ℕ) (now next : List Bool) (w : ℕ) → i < length ws → w ≡ get_or ws i 0 → next ≡ now ++ bits_of 32 w → next ++ bits_of_words (drop (i + 1) ws) ≡ now ++ bits_of_words (drop i ws)
+pub added_so_far : (ws : List ℕ) (i : ℕ) (now next : List Bool) (w : ℕ) → i < length ws → w ≡ get_or ws i 0 → next ≡ now ++ bits_of 64 w → next ++ bits_of_words (drop (i + 1) ws) ≡ now ++ bits_of_words (drop i ws)
 added_so_far ws i now next w lt w_is next_is =
-    ap (λ (s : List Bool). s ++ bits_of_words (drop (i + 1) ws)) (next_is ∙ ap (λ (x : ℕ). now ++ bits_of 32 x) w_is)
-    ∙ append_assoc now (bits_of 32 (get_or ws i 0)) (bits_of_words (drop (i + 1) ws))
+    ap (λ (s : List Bool). s ++ bits_of_words (drop (i + 1) ws)) (next_is ∙ ap (λ (x : ℕ). now ++ bits_of 64 x) w_is)
+    ∙ append_assoc now (bits_of 64 (get_or ws i 0)) (bits_of_words (drop (i + 1) ws))
     ∙ ap (λ (s : List Bool). now ++ s) (sym (words-next ws i lt))
 
 -- the first bits of a list, as their number spells them
@@ -128,19 +141,80 @@ with_word_between a b c place word first second =
     let parts = cut a b c (32 * place) first second in
     ap (λ (s : List Bool). s ++ (bits_of 32 word ++ drop (32 * place + 32) (a ++ (b ++ c)))) parts.0 ∙ ap (λ (s : List Bool). a ++ (bits_of 32 word ++ s)) parts.1
 
-pub words-set : (ws : List ℕ) (n word : ℕ) (rest : List Bool) → n < length ws → bits_of_words (set ws n word) ++ rest ≡ with_word n word (bits_of_words ws ++ rest)
-words-set ws n word rest lt =
-    let front = take n ws in
+word_between : (front behind : List ℕ) (x : ℕ) (rest : List Bool) → bits_of_words (front ++ x ∷ behind) ++ rest ≡ bits_of_words front ++ (bits_of 64 x ++ (bits_of_words behind ++ rest))
+word_between front behind x rest =
+    ap (λ (s : List Bool). s ++ rest) (words-append front (x ∷ behind)) ∙ append_assoc (bits_of_words front) (bits_of 64 x ++ bits_of_words behind) rest ∙ ap (λ (s : List Bool). bits_of_words front ++ s) (append_assoc (bits_of 64 x) (bits_of_words behind) rest)
+
+-- the halves of the word at a place, between the words before and behind it
+halves : (ws : List ℕ) (n : ℕ) (rest : List Bool) → n < length ws
+    → bits_of_words ws ++ rest ≡ bits_of_words (take n ws) ++ (bits_of 32 (get_or ws n 0) ++ (bits_of 32 (get_or ws n 0 / 2 ^ 32) ++ (bits_of_words (drop (suc n) ws) ++ rest)))
+halves ws n rest lt =
     let old = get_or ws n 0 in
-    let behind = drop (suc n) ws in
-    let whole : ws ≡ front ++ old ∷ behind = sym (take-append-drop n ws) ∙ ap (λ (s : List ℕ). front ++ s) (drop-cons ws n 0 lt) in
-    let parted : (x : ℕ) → bits_of_words (front ++ x ∷ behind) ++ rest ≡ bits_of_words front ++ (bits_of 32 x ++ (bits_of_words behind ++ rest)) = λ (x : ℕ).
-    ap (λ (s : List Bool). s ++ rest) (words-append front (x ∷ behind)) ∙ append_assoc (bits_of_words front) (bits_of 32 x ++ bits_of_words behind) rest ∙ ap (λ (s : List Bool). bits_of_words front ++ s) (append_assoc (bits_of 32 x) (bits_of_words behind) rest) in
-    let place : length (bits_of_words front) ≡ 32 * n = words-length front ∙ ap (λ (k : ℕ). 32 * k) (length-take-le n ws (omega (arith, lt))) in
-    ap (λ (s : List ℕ). bits_of_words s ++ rest) (set_split ws n word lt)
-    ∙ parted word
-    ∙ sym (with_word_between (bits_of_words front) (bits_of 32 old) (bits_of_words behind ++ rest) n word place (length-bits_of 32 old))
-    ∙ ap (with_word n word) (sym (ap (λ (s : List ℕ). bits_of_words s ++ rest) whole ∙ parted old))
+    let behind = bits_of_words (drop (suc n) ws) ++ rest in
+    let whole : ws ≡ take n ws ++ old ∷ drop (suc n) ws = sym (take-append-drop n ws) ∙ ap (λ (s : List ℕ). take n ws ++ s) (drop-cons ws n 0 lt) in
+    ap (λ (s : List ℕ). bits_of_words s ++ rest) whole
+    ∙ word_between (take n ws) (drop (suc n) ws) old rest
+    ∙ ap (λ (s : List Bool). bits_of_words (take n ws) ++ (s ++ behind)) (bits_of-split 32 32 old)
+    ∙ ap (λ (s : List Bool). bits_of_words (take n ws) ++ s) (append_assoc (bits_of 32 old) (bits_of 32 (old / 2 ^ 32)) behind)
+
+pub word-set : (ws : List ℕ) (n place word new : ℕ) (rest : List Bool) → n < length ws → n ≡ place / 2 → (place % 2 ≡ 0 → bits_of 64 new ≡ bits_of 32 word ++ bits_of 32 (get_or ws n 0 / 2 ^ 32)) → (place % 2 ≡ 1 → bits_of 64 new ≡ bits_of 32 (get_or ws n 0) ++ bits_of 32 word)
+    → bits_of_words (set ws n new) ++ rest ≡ with_word place word (bits_of_words ws ++ rest)
+word-set ws n place word new rest lt n_is first second =
+    ap (λ (s : List ℕ). bits_of_words s ++ rest) (set_split ws n new lt) ∙ word_between (take n ws) (drop (suc n) ws) new rest ∙ elim (cases_lt (place % 2) 1) [ inl even ↦ low (omega (arith, even)) | inr odd ↦ high (omega (arith, odd)) ] ∙ ap (with_word place word) (sym (halves ws n rest lt))
+  where
+    front : List Bool
+    front = bits_of_words (take n ws)
+
+    behind : List Bool
+    behind = bits_of_words (drop (suc n) ws) ++ rest
+
+    a : List Bool
+    a = bits_of 32 (get_or ws n 0)
+
+    b : List Bool
+    b = bits_of 32 (get_or ws n 0 / 2 ^ 32)
+
+    long : length front ≡ 64 * n
+    long = words-length (take n ws) ∙ ap (λ (k : ℕ). 64 * k) (length-take-le n ws (omega (arith, lt)))
+
+    low : place % 2 ≡ 0 → front ++ (bits_of 64 new ++ behind) ≡ with_word place word (front ++ (a ++ (b ++ behind)))
+    low even = ap (λ (s : List Bool). front ++ (s ++ behind)) (first even) ∙ ap (λ (s : List Bool). front ++ s) (append_assoc (bits_of 32 word) b behind) ∙ sym (with_word_between front a (b ++ behind) place word (omega (arith, long, n_is, even)) (length-bits_of 32 (get_or ws n 0)))
+
+    high : place % 2 ≡ 1 → front ++ (bits_of 64 new ++ behind) ≡ with_word place word (front ++ (a ++ (b ++ behind)))
+    high odd =
+        ap (λ (s : List Bool). front ++ (s ++ behind)) (second odd)
+        ∙ ap (λ (s : List Bool). front ++ s) (append_assoc a (bits_of 32 word) behind)
+        ∙ sym (append_assoc front a (bits_of 32 word ++ behind))
+        ∙ sym (with_word_between (front ++ a) b behind place word (omega (arith, long, n_is, odd, length-append front a, length-bits_of 32 (get_or ws n 0))) (length-bits_of 32 (get_or ws n 0 / 2 ^ 32)))
+        ∙ ap (with_word place word) (append_assoc front a (b ++ behind))
+
+-- the last word of 32 bits, after whole words of 64
+pub window-set : (front window : List Bool) (place word : ℕ) → length front ≡ 32 * place → length window ≡ 32 → front ++ bits_of 32 word ≡ with_word place word (front ++ window)
+window-set front window place word first second =
+    ap (λ (s : List Bool). front ++ s) (sym (append-nil (bits_of 32 word))) ∙ sym (with_word_between front window [] place word first second) ∙ ap (λ (s : List Bool). with_word place word (front ++ s)) (append-nil window)
+
+-- bits after a window that has no room for them: the first 64 bits and the others
+pub carried : (held word count more : ℕ) (window bits : List Bool) → held < 64 → word < 2 ^ held → 64 ≤ held + count → bits_of held word ≡ window → bits_of count more ≡ bits
+    → bits_of 64 ((word + more * 2 ^ held % 2 ^ 64) % 2 ^ 64) ++ bits_of (count - (64 - held)) (more / 2 ^ (64 - held)) ≡ window ++ bits
+carried held word count more window bits short low full window_is bits_is =
+    let front : ℕ = 64 - held in
+    let sum : held + front ≡ 64 = omega arith in
+    let whole : front + (count - front) ≡ count = omega arith in
+    let first : bits_of 64 ((word + more * 2 ^ held % 2 ^ 64) % 2 ^ 64) ≡ bits_of held word ++ bits_of front more =
+    ap (bits_of 64) (add-mod-mod word (more * 2 ^ held) (2 ^ 64)) ∙ bits_of-mod 64 (word + more * 2 ^ held) ∙ ap (λ (k : ℕ). bits_of k (word + more * 2 ^ held)) (sym sum) ∙ bits_of-above held front word more low in
+    ap (λ (s : List Bool). s ++ bits_of (count - front) (more / 2 ^ front)) first
+    ∙ append_assoc (bits_of held word) (bits_of front more) (bits_of (count - front) (more / 2 ^ front))
+    ∙ ap (λ (s : List Bool). bits_of held word ++ s) (sym (bits_of-split front (count - front) more) ∙ ap (λ (k : ℕ). bits_of k more) whole ∙ bits_is)
+    ∙ ap (λ (s : List Bool). s ++ bits) window_is
+
+pub none_held : (window : List Bool) → length window ≡ 0 → window ≡ []
+none_held [] none = refl
+none_held (b ∷ window) none = absurd (omega (arith, none))
+
+-- the first 64 of them are one more word
+pub carried_on : (words next : List ℕ) (window rest bits : List Bool) (w : ℕ) → next ≡ words ++ w ∷ [] → bits_of 64 w ++ rest ≡ window ++ bits → bits_of_words next ++ rest ≡ (bits_of_words words ++ window) ++ bits
+carried_on words next window rest bits w next_is same =
+    ap (λ (ws : List ℕ). bits_of_words ws ++ rest) next_is ∙ words-push words w rest ∙ ap (λ (s : List Bool). bits_of_words words ++ s) same ∙ sym (append_assoc (bits_of_words words) window bits)
 
 -- ---- writing a text in parts
 
@@ -202,9 +276,3 @@ moved_so_far chunks chunk now next some is next_is =
 
 pub chunk_fits : (chunks : List (Vec ℕ)) (chunk : Vec ℕ) → 0 < length chunks → chunk ≡ get_or chunks 0 chunk → length chunk.items ≤ length (words_of_chunks chunks)
 chunk_fits chunks chunk some is = omega (arith, ap length (first_chunk chunks chunk some is), length-append chunk.items (words_of_chunks (drop 1 chunks)))
-
--- ---- numbers
-
--- the number at a place comes next
-pub value-next : (vs : List ℕ) (i : ℕ) → i < length vs → values_bits (drop i vs) ≡ shortest 6 (get_or vs i 0) ++ values_bits (drop (i + 1) vs)
-value-next vs i lt = rw add-one (ap values_bits (drop-cons vs i 0 lt))

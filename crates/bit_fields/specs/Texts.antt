@@ -12,13 +12,13 @@ words_of_chunks (chunk ∷ chunks) = chunk.items ++ words_of_chunks chunks
 -- each chunk is full
 abbrev pub AreFull : List (Vec ℕ) → Type 0
 AreFull [] = Unit {0}
-AreFull (chunk ∷ chunks) = (length chunk.items ≡ 262144) × AreFull chunks
+AreFull (chunk ∷ chunks) = (length chunk.items ≡ 131072) × AreFull chunks
 
--- the bits of words of 32 bits in order, the low bit of each first
+-- the bits of words of 64 bits in order, the low bit of each first
 abbrev pub bits_of_words : List ℕ → List Bool
-bits_of_words words = flat_map (bits_of 32) words
+bits_of_words words = flat_map (bits_of 64) words
 
--- a text with one word replaced
+-- a text with one word of 32 bits replaced
 abbrev pub with_word : (place word : ℕ) → List Bool → List Bool
 with_word place word text = take (32 * place) text
     ++ (bits_of 32 word ++ drop (32 * place + 32) text)

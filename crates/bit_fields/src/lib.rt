@@ -13,7 +13,7 @@
 //!
 //! The values of a record go to a `ValueTaker`: `Vec<u64>` keeps them, `ValueCount` counts them, `PackedValues` keeps them in 1
 //! or 8 bytes each, and `ExpectedValues` compares them with another record's. `KeptSource` keeps the bytes that its source gives.
-//! `BitText` holds bits in memory: 32-bit words in chunks, which grow without a copy.
+//! `BitText` holds bits in memory: 64-bit words in chunks, which grow without a copy.
 #![tactic(auto)]
 
 mod buffered;
@@ -36,6 +36,7 @@ mod packed_tests;
 mod reader;
 mod run;
 mod settled;
+mod short_text;
 mod sink;
 mod six_bits;
 #[cfg(test)]
@@ -68,10 +69,12 @@ pub use limits::Limits;
 pub use packed::{PackedValues, ValueParts};
 pub use reader::BitReader;
 pub use run::Run;
+pub use short_text::{ShortText, more_chunks, short_chunks, two_chunks};
 pub use sink::{Sink, SinkFailed, VecSink, WriteSink};
 pub use source::{BufSource, ReadSource, SliceSource, Source, SourceFailed};
 pub use text::BitText;
 pub use values::{NotTaken, ValueCount, ValueTaker};
 pub use width::{ChunkWidth, FieldWidth};
+pub use window::Window;
 pub use writer::BitWriter;
 pub use writer_laws::{bytes_of_writing, write_nothing, write_then_stop, write_then_write};

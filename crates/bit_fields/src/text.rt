@@ -1,13 +1,14 @@
 //! Bits in memory.
 
-ghost use Rattle.std.specs.Prelude.{◌≡◌, ◌+◌, ◌*◌, ◌/◌, ◌%◌, ◌^◌, ◌<◌, ◌≤◌, ◌++◌, [], length, drop, true, IfOk, OnOk, OnErr};
+ghost use Rattle.std.specs.Prelude.{◌≡◌, ◌+◌, ◌-◌, ◌*◌, ◌/◌, ◌%◌, ◌^◌, ◌<◌, ◌≤◌, ◌++◌, [], length, true, slice_index, OnOk, OnErr};
 ghost use Rattle.bit_grammar.specs.Bits.{bits_of};
 ghost use Rattle.bit_grammar.specs.FormatFields.{shortest};
-ghost use Rattle.bit_grammar.specs.Normal.{padding, values_bits};
+ghost use Rattle.bit_grammar.specs.Normal.{padding};
 ghost use Rattle.bit_fields.specs.Texts.{bits_of_words, with_word};
 ghost use Rattle.bit_fields.specs.Writer.{Writes};
 
 use crate::fault::Fault;
+use crate::short_text::{ShortText, carry};
 use crate::sink::Sink;
 use crate::window::Window;
 use crate::word_list::Words;
@@ -16,7 +17,7 @@ use std::alloc::{AllocError, Global};
 use std::marker::Model;
 use std::mem;
 
-/// Bits in memory: whole words of 32 bits, and up to 64 bits after them. It grows without a copy of its bits. If an allocation
+/// Bits in memory: whole words of 64 bits, and fewer than 64 bits after them. It grows without a copy of its bits. If an allocation
 /// fails, its bits are undefined.
 #[derive(Drop)]
 pub struct BitText {
@@ -32,7 +33,8 @@ impl Model for BitText {
 
     ghost view = { λ t. bits_of_words t.words ++ t.window };
 
-    ghost invariant = { λ t. length (bits_of_words t.words ++ t.window) < 2 ^ 64 };
+    ghost invariant = { λ t. (length (bits_of_words t.words ++ t.window) < 2 ^ 64)
+        × (length t.window < 64) };
 }
 
 impl BitText {
@@ -51,7 +53,7 @@ impl BitText {
     pub fn len(&self) -> u64
         ensures { result ≡ length self.now }
     {
-        32 * self.words.len() as u64 + u64::from(self.window.len())
+        64 * self.words.len() as u64 + u64::from(self.window.len())
     }
 
     /// Drops all bits.
@@ -63,6 +65,16 @@ impl BitText {
         self.window = Window::new();
     }
 
+    /// Appends at most 63 bits.
+    #[inline(always)]
+    pub fn add(&mut self, bits: Window) -> Result<(), AllocError>
+        requires few { length bits < 64 }
+        requires room { length self.old < 2 ^ 63 }
+        ensures { OnOk result (self.new ≡ self.old ++ bits) }
+    {
+        add_bits(&mut self.words, &mut self.window, bits)
+    }
+
     /// Appends a number of n bits, n from 0 to 32, the lowest bit first.
     #[inline(always)]
     pub fn fixed(&mut self, n: u32, value: u64) -> Result<(), AllocError>
@@ -71,7 +83,7 @@ impl BitText {
         requires room { length self.old < 2 ^ 63 }
         ensures { OnOk result (self.new ≡ self.old ++ bits_of n value) }
     {
-        add_field(&mut self.words, &mut self.window, n, value)
+        self.add(Window::of(value, n))
     }
 
     /// Appends a number in chunks of n bits, n from 2 to 32, in as few as possible.
@@ -91,20 +103,6 @@ impl BitText {
         self.fixed(n, rest)
     }
 
-    /// Appends numbers in chunks of six bits, each in as few as possible.
-    #[inline]
-    pub fn numbers(&mut self, values: &[u64]) -> Result<(), AllocError>
-        requires { length self.old + length (values_bits values.now) < 2 ^ 62 }
-        ensures { OnOk result (self.new ≡ self.old ++ values_bits values.now) }
-    {
-        if let Err(AllocError) = add_numbers(&mut self.words, &mut self.window, values) {
-            self.words.clear();
-            self.window = Window::new();
-            return Err(AllocError);
-        }
-        Ok(())
-    }
-
     /// Appends zeros up to the next position that is a multiple of 32, possibly none.
     pub fn pad(&mut self) -> Result<(), AllocError>
         requires { length self.old < 2 ^ 63 }
@@ -114,20 +112,25 @@ impl BitText {
         self.fixed(count, 0)
     }
 
-    /// Replaces the word at a place, counted in words of 32 bits. The bits are whole words.
-    pub fn set_word(&mut self, place: u64, word: u32) -> Result<(), AllocError>
+    /// Replaces the word of 32 bits at a place, counted in such words. The bits are whole ones.
+    pub fn set_word(&mut self, place: u64, word: u32)
         requires whole { length self.old % 32 ≡ 0 }
         requires there { 32 * place + 32 ≤ length self.old }
-        ensures { OnOk result (self.new ≡ with_word place word self.old) }
+        ensures { self.new ≡ with_word place word self.old }
     {
-        settle(&mut self.words, &mut self.window)?;
-        self.words.set(place as usize, word);
-        Ok(())
+        let index = (place / 2) as usize;
+        if index == self.words.len() {
+            self.window = Window::of(u64::from(word), 32);
+            return;
+        }
+        let old = self.words.get(index);
+        self.words.set(index, with_half(old, place, word));
     }
 
     /// Appends words.
-    pub(crate) fn add_words(&mut self, words: &[u32]) -> Result<(), AllocError>
-        requires { length self.old + 32 * length words.now < 2 ^ 63 }
+    #[inline]
+    pub(crate) fn add_words(&mut self, words: &[u64]) -> Result<(), AllocError>
+        requires { length self.old + 64 * length words.now < 2 ^ 63 }
         ensures { OnOk result (self.new ≡ self.old ++ bits_of_words words.now) }
     {
         if let Err(AllocError) = add_each(&mut self.words, &mut self.window, words) {
@@ -138,29 +141,16 @@ impl BitText {
         Ok(())
     }
 
-    /// Appends the bits of a window, at most 32.
+    /// Appends the bits of a short text.
     #[inline(always)]
-    fn add_few(&mut self, bits: Window) -> Result<(), AllocError>
-        requires few { length bits ≤ 32 }
-        requires room { length self.old < 2 ^ 63 }
-        ensures { OnOk result (self.new ≡ self.old ++ bits) }
-    {
-        let mut bits = bits;
-        let count = bits.len();
-        let value = bits.take(count);
-        self.fixed(count, value)
-    }
-
-    /// Appends the bits of a window.
-    #[inline(always)]
-    fn add_window(&mut self, bits: Window) -> Result<(), AllocError>
+    pub fn add_short(&mut self, text: &ShortText) -> Result<(), AllocError>
         requires { length self.old < 2 ^ 62 }
-        ensures { OnOk result (self.new ≡ self.old ++ bits) }
+        ensures added { OnOk result (self.new ≡ self.old ++ text.now) }
+        ensures few { length text.now < 2 ^ 11 }
     {
-        let mut rest = bits;
-        let count = rest.len().min(32);
-        self.add_few(rest.split(count))?;
-        self.add_few(rest)
+        let (words, rest) = text.parts();
+        self.add_words(words)?;
+        self.add(rest)
     }
 
     /// Moves all bits of another text to the end of this one. The other is then empty, and its memory is freed, except that of its
@@ -175,7 +165,7 @@ impl BitText {
         let rest = mem::replace(&mut other.window, Window::new());
         other.words.clear();
         moved?;
-        self.add_window(rest)
+        self.add(rest)
     }
 
     /// Writes all bits, at a position of the writer that is a multiple of 8.
@@ -191,184 +181,67 @@ impl BitText {
     }
 }
 
-/// Moves the first 32 bits of the window to the words.
-#[inline(always)]
-fn move_word(words: &mut Words, window: &mut Window) -> Result<(), AllocError>
-    requires { 32 ≤ length window.old }
-    ensures same { bits_of_words words.new ++ window.new ≡ bits_of_words words.old ++ window.old }
-    ensures fewer { OnOk result (length window.new + 32 ≡ length window.old) }
+/// A word of 64 bits with the first of its halves replaced, or the second one if the place is odd.
+fn with_half(old: u64, place: u64, half: u32) -> u64
+    ensures first { place % 2 ≡ 0 → bits_of 64 result ≡ bits_of 32 half ++ bits_of 32 (old / 2 ^ 32) }
+    ensures second { place % 2 ≡ 1 → bits_of 64 result ≡ bits_of 32 old ++ bits_of 32 half }
 {
-    let word = window.peek(32);
-    words.push(word as u32)?;
-    window.take(32);
-    Ok(())
-}
-
-/// Moves a word from the window to the words, if there is one, so that the window has room for 32 bits.
-#[inline(always)]
-fn make_room(words: &mut Words, window: &mut Window) -> Result<(), AllocError>
-    ensures same { bits_of_words words.new ++ window.new ≡ bits_of_words words.old ++ window.old }
-    ensures few { OnOk result (length window.new ≤ 32) }
-{
-    if window.len() >= 32 {
-        return move_word(words, window);
+    let half = u64::from(half);
+    if place % 2 == 0 {
+        half + old / (1 << 32) * (1 << 32)
+    } else {
+        old % (1 << 32) + half * (1 << 32)
     }
-    Ok(())
 }
 
-/// Moves all whole words from the window to the words.
-fn settle(words: &mut Words, window: &mut Window) -> Result<(), AllocError>
-    ensures same { bits_of_words words.new ++ window.new ≡ bits_of_words words.old ++ window.old }
-    ensures few { OnOk result (length window.new < 32) }
-{
-    while window.len() >= 32 {
-        move_word(words, window)?;
-    }
-    Ok(())
-}
-
-/// Appends a number of n bits to words and a window.
+/// Appends bits to words and a window.
 #[inline(always)]
-fn add_field(words: &mut Words, window: &mut Window, n: u32, value: u64) -> Result<(), AllocError>
-    requires few { n ≤ 32 }
-    requires fits { value < 2 ^ n }
+fn add_bits(words: &mut Words, window: &mut Window, bits: Window) -> Result<(), AllocError>
+    requires short { length window.old < 64 }
+    requires few { length bits < 64 }
     ensures ok { OnOk result (bits_of_words words.new ++ window.new
-        ≡ (bits_of_words words.old ++ window.old) ++ bits_of n value) }
+        ≡ (bits_of_words words.old ++ window.old) ++ bits) }
     ensures err { OnErr result (bits_of_words words.new ++ window.new
         ≡ bits_of_words words.old ++ window.old) }
+    ensures short { length window.new < 64 }
 {
-    make_room(words, window)?;
-    window.push(value, n);
-    Ok(())
-}
-
-/// The chunks of six bits of a number of ten bits: one or two.
-#[inline(always)]
-fn short_chunks(value: u64) -> Window
-    requires { value < 1024 }
-    ensures spelled { result ≡ shortest 6 value }
-    ensures some { 0 < length result }
-    ensures few { length result ≤ 12 }
-{
-    let more = (value + 992) / 1024;
-    Window::of(value + 32 * (value / 32 + more), 6 + 6 * more as u32)
-}
-
-/// Two chunks of six bits of a number of more than ten bits: those of its low ten bits, with continuation bits.
-#[inline(always)]
-fn two_chunks(value: u64) -> u64
-    requires { 1024 ≤ value }
-    ensures spelled { bits_of 12 result ++ shortest 6 (value / 1024) ≡ shortest 6 value }
-    ensures below { result < 4096 }
-{
-    value % 32 + 64 * (value / 32 % 32) + 2080
-}
-
-/// The chunks of six bits of a number of eleven to twenty bits: three or four.
-#[inline(always)]
-fn more_chunks(value: u64) -> Window
-    requires some { 1024 ≤ value }
-    requires few { value < 2 ^ 20 }
-    ensures spelled { result ≡ shortest 6 value }
-    ensures some { 0 < length result }
-    ensures few { length result ≤ 24 }
-{
-    let mut chunks = Window::of(two_chunks(value), 12);
-    chunks.append(short_chunks(value / 1024));
-    chunks
-}
-
-/// Appends a number of more than ten bits in chunks of six to words and a window.
-#[inline(always)]
-fn add_great_number(words: &mut Words, window: &mut Window, value: u64) -> Result<(), AllocError>
-    requires { 1024 ≤ value }
-    ensures { OnOk result (bits_of_words words.new ++ window.new
-        ≡ (bits_of_words words.old ++ window.old) ++ shortest 6 value) }
-{
-    let mut rest = value;
-    while rest >= 1 << 20 {
-        add_field(words, window, 12, two_chunks(rest))?;
-        rest >>= 10;
-    }
-    make_room(words, window)?;
-    window.append(more_chunks(rest));
-    Ok(())
-}
-
-/// Appends a number in chunks of six bits to words and a window.
-#[inline(always)]
-fn add_number(words: &mut Words, window: &mut Window, value: u64) -> Result<(), AllocError>
-    ensures { OnOk result (bits_of_words words.new ++ window.new
-        ≡ (bits_of_words words.old ++ window.old) ++ shortest 6 value) }
-{
-    if value >= 1024 {
-        return add_great_number(words, window, value);
-    }
-    make_room(words, window)?;
-    window.append(short_chunks(value));
-    Ok(())
-}
-
-/// Appends two numbers in chunks of six bits to words and a window, at once if both are small.
-#[inline(always)]
-fn add_two(
-    words: &mut Words,
-    window: &mut Window,
-    first: u64,
-    second: u64,
-) -> Result<(), AllocError>
-    ensures { OnOk result (bits_of_words words.new ++ window.new
-        ≡ (bits_of_words words.old ++ window.old) ++ (shortest 6 first ++ shortest 6 second)) }
-{
-    if first < 1024 && second < 1024 {
-        make_room(words, window)?;
-        window.append(short_chunks(first));
-        window.append(short_chunks(second));
+    let (word, count) = bits.parts();
+    if window.len() + count < 64 {
+        window.push(word, count);
         return Ok(());
     }
-    add_number(words, window, first)?;
-    add_number(words, window, second)
-}
-
-/// Appends numbers two by two, and returns how many: all, or all but one.
-#[inline(always)]
-fn add_pairs(words: &mut Words, window: &mut Window, values: &[u64]) -> Result<usize, AllocError>
-    ensures { IfOk result (λ count. (count ≤ length values.now)
-        × ((bits_of_words words.new ++ window.new) ++ values_bits (drop count values.now)
-        ≡ (bits_of_words words.old ++ window.old) ++ values_bits values.now)) }
-{
-    let mut done = 0;
-    while values.len() - done >= 2 {
-        add_two(words, window, values[done], values[done + 1])?;
-        done += 2;
-    }
-    Ok(done)
-}
-
-/// Appends numbers in chunks of six bits to words and a window, which stays in registers meanwhile. If an allocation fails, the
-/// bits are undefined.
-#[inline(always)]
-fn add_numbers(words: &mut Words, window: &mut Window, values: &[u64]) -> Result<(), AllocError>
-    ensures { OnOk result (bits_of_words words.new ++ window.new
-        ≡ (bits_of_words words.old ++ window.old) ++ values_bits values.now) }
-{
-    let mut pen = window.copy();
-    let done = add_pairs(words, &mut pen, values)?;
-    for value in &values[done..] {
-        add_number(words, &mut pen, *value)?;
-    }
-    *window = pen;
+    let mut rest = window.copy();
+    words.push(carry(&mut rest, bits))?;
+    *window = rest;
     Ok(())
+}
+
+/// Appends a word to words and a window.
+#[inline(always)]
+fn add_word(words: &mut Words, window: &mut Window, word: u64) -> Result<(), AllocError>
+    requires { length window.old < 64 }
+    ensures ok { OnOk result (bits_of_words words.new ++ window.new
+        ≡ (bits_of_words words.old ++ window.old) ++ bits_of 64 word) }
+    ensures short { length window.new < 64 }
+{
+    if window.len() == 0 {
+        return words.push(word);
+    }
+    let full = carry(window, Window::of(word, 64));
+    words.push(full)
 }
 
 /// Appends words to words and a window, which stays in registers meanwhile. If an allocation fails, the bits are undefined.
-fn add_each(words: &mut Words, window: &mut Window, more: &[u32]) -> Result<(), AllocError>
-    ensures { OnOk result (bits_of_words words.new ++ window.new
+#[inline(always)]
+fn add_each(words: &mut Words, window: &mut Window, more: &[u64]) -> Result<(), AllocError>
+    requires { length window.old < 64 }
+    ensures ok { OnOk result (bits_of_words words.new ++ window.new
         ≡ (bits_of_words words.old ++ window.old) ++ bits_of_words more.now) }
+    ensures short { OnOk result (length window.new < 64) }
 {
     let mut pen = window.copy();
     for word in more {
-        add_field(words, &mut pen, 32, u64::from(*word))?;
+        add_word(words, &mut pen, *word)?;
     }
     *window = pen;
     Ok(())

@@ -71,6 +71,7 @@ impl Window {
     #[inline(always)]
     pub fn parts(&self) -> (u64, u32)
         ensures bits { bits_of result.1 result.0 ≡ self.now }
+        ensures length { result.1 ≡ length self.now }
         ensures below { result.0 < 2 ^ result.1 }
         ensures most { result.1 ≤ 64 }
     {

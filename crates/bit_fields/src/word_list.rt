@@ -1,7 +1,7 @@
-//! Words of 32 bits in memory.
+//! Words of 64 bits in memory.
 
-ghost use Rattle.std.specs.Prelude.{◌≡◌, ◌+◌, ◌*◌, ◌%◌, ◌^◌, ◌<◌, ◌≤◌, ◌++◌, [], ◌∷◌, length, take, true, OnOk, OnErr};
-ghost use Rattle.std.specs.Int.{w32, to_le_bytes};
+ghost use Rattle.std.specs.Prelude.{◌≡◌, ◌+◌, ◌*◌, ◌%◌, ◌^◌, ◌<◌, ◌≤◌, ◌++◌, [], ◌∷◌, length, take, true, slice_index, OnOk, OnErr};
+ghost use Rattle.std.specs.Int.{w64, to_le_bytes};
 ghost use Rattle.bit_grammar.specs.Bits.{bits_of_bytes};
 ghost use Rattle.std.proofs.Math.ListN.{set};
 ghost use Rattle.bit_fields.specs.Texts.{bits_of_words, words_of_chunks, AreFull};
@@ -16,17 +16,17 @@ use std::marker::Model;
 use std::mem;
 
 /// How many words a chunk has.
-const CHUNK: usize = 262144;
+const CHUNK: usize = 131072;
 
 /// How many words are written at once.
-const PIECE: usize = 1024;
+const PIECE: usize = 512;
 
-/// Words of 32 bits, in chunks of 1 MiB, so that growing moves none of them.
+/// Words of 64 bits, in chunks of 1 MiB, so that growing moves none of them.
 #[derive(Drop)]
 pub(crate) struct Words {
     alloc: Global,
-    pub(crate) full: Vec<Vec<u32>>,
-    pub(crate) last: Vec<u32>,
+    pub(crate) full: Vec<Vec<u64>>,
+    pub(crate) last: Vec<u64>,
 }
 
 impl Model for Words {
@@ -45,10 +45,10 @@ impl Model for Words {
 #[inline(never)]
 fn next_chunk(
     alloc: Global,
-    full: &mut Vec<Vec<u32>>,
-    last: &mut Vec<u32>,
+    full: &mut Vec<Vec<u64>>,
+    last: &mut Vec<u64>,
 ) -> Result<(), AllocError>
-    requires last { length last.old.items ≡ 262144 }
+    requires last { length last.old.items ≡ 131072 }
     requires full { AreFull full.old.items }
     ensures full { AreFull full.new.items }
     ensures same { words_of_chunks full.new.items ++ last.new.items
@@ -85,7 +85,7 @@ impl Words {
 
     /// Appends a word.
     #[inline(always)]
-    pub(crate) fn push(&mut self, word: u32) -> Result<(), AllocError>
+    pub(crate) fn push(&mut self, word: u64) -> Result<(), AllocError>
         ensures ok { OnOk result (self.new ≡ self.old ++ word ∷ []) }
         ensures err { OnErr result (self.new ≡ self.old) }
     {
@@ -96,8 +96,19 @@ impl Words {
         Ok(())
     }
 
+    /// The word at a place.
+    pub(crate) fn get(&self, place: usize) -> u64
+        requires { place < length self.now }
+        ensures { result ≡ slice_index self.now place }
+    {
+        match self.full.get(place / CHUNK) {
+            Some(chunk) => chunk[place % CHUNK],
+            None => self.last[place - self.full.len() * CHUNK],
+        }
+    }
+
     /// Replaces the word at a place.
-    pub(crate) fn set(&mut self, place: usize, word: u32)
+    pub(crate) fn set(&mut self, place: usize, word: u64)
         requires { place < length self.old }
         ensures { self.new ≡ set self.old place word }
     {
@@ -118,7 +129,7 @@ impl Words {
     /// Moves all words to the end of a text, a chunk at a time. Each chunk is freed once it is moved. If an allocation fails, some
     /// words are left.
     pub(crate) fn move_behind(&mut self, text: &mut BitText) -> Result<(), AllocError>
-        requires { length text.old + 32 * length self.old < 2 ^ 62 }
+        requires { length text.old + 64 * length self.old < 2 ^ 62 }
         ensures { OnOk result (text.new ≡ text.old ++ bits_of_words self.old) }
     {
         move_chunks(&mut self.full, text)?;
@@ -129,7 +140,7 @@ impl Words {
     pub(crate) fn write<K: Sink>(&self, writer: &mut BitWriter<K>) -> Result<(), Fault>
         requires live { writer.old.live ≡ true }
         requires whole { writer.old.position % 8 ≡ 0 }
-        requires room { writer.old.position + 32 * length self.now < 2 ^ 63 }
+        requires room { writer.old.position + 64 * length self.now < 2 ^ 63 }
         ensures { Writes (bits_of_words self.now) writer.old result writer.new }
     {
         for chunk in &self.full {
@@ -141,8 +152,8 @@ impl Words {
 
 /// Moves the words of chunks to the end of a text. The loop is kept out of its callers, since there is seldom a whole chunk.
 #[inline(always)]
-fn move_chunks(chunks: &mut Vec<Vec<u32>>, text: &mut BitText) -> Result<(), AllocError>
-    requires { length text.old + 32 * length (words_of_chunks chunks.old.items) < 2 ^ 62 }
+fn move_chunks(chunks: &mut Vec<Vec<u64>>, text: &mut BitText) -> Result<(), AllocError>
+    requires { length text.old + 64 * length (words_of_chunks chunks.old.items) < 2 ^ 62 }
     ensures moved { OnOk result (text.new ≡ text.old
         ++ bits_of_words (words_of_chunks chunks.old.items)) }
     ensures none { OnOk result (chunks.new.items ≡ []) }
@@ -157,8 +168,8 @@ fn move_chunks(chunks: &mut Vec<Vec<u32>>, text: &mut BitText) -> Result<(), All
 /// Moves the words of chunks to the end of a text, one chunk after another.
 #[cold]
 #[inline(never)]
-fn move_each(chunks: &mut Vec<Vec<u32>>, text: &mut BitText) -> Result<(), AllocError>
-    requires { length text.old + 32 * length (words_of_chunks chunks.old.items) < 2 ^ 62 }
+fn move_each(chunks: &mut Vec<Vec<u64>>, text: &mut BitText) -> Result<(), AllocError>
+    requires { length text.old + 64 * length (words_of_chunks chunks.old.items) < 2 ^ 62 }
     ensures moved { OnOk result (text.new ≡ text.old
         ++ bits_of_words (words_of_chunks chunks.old.items)) }
     ensures none { OnOk result (chunks.new.items ≡ []) }
@@ -171,46 +182,42 @@ fn move_each(chunks: &mut Vec<Vec<u32>>, text: &mut BitText) -> Result<(), Alloc
     Ok(())
 }
 
-/// Stores the four bytes of a word at a place, the lowest first.
+/// Stores the eight bytes of a word at a place, the lowest first.
 #[inline(always)]
-fn put_word(bytes: &mut [u8], at: usize, word: u32)
-    requires { at + 4 ≤ length bytes.old }
-    ensures { take (at + 4) bytes.new ≡ take at bytes.old ++ to_le_bytes w32 word }
+fn put_word(bytes: &mut [u8], at: usize, word: u64)
+    requires { at + 8 ≤ length bytes.old }
+    ensures { take (at + 8) bytes.new ≡ take at bytes.old ++ to_le_bytes w64 word }
 {
-    let four = word.to_le_bytes();
-    bytes[at] = four[0];
-    bytes[at + 1] = four[1];
-    bytes[at + 2] = four[2];
-    bytes[at + 3] = four[3];
+    bytes[at..at + 8].copy_from_slice(&word.to_le_bytes());
 }
 
 /// Stores the bytes of words at the front of a slice.
-fn put_words(bytes: &mut [u8], words: &[u32])
-    requires { 4 * length words.now ≤ length bytes.old }
-    ensures { bits_of_bytes (take (4 * length words.now) bytes.new) ≡ bits_of_words words.now }
+fn put_words(bytes: &mut [u8], words: &[u64])
+    requires { 8 * length words.now ≤ length bytes.old }
+    ensures { bits_of_bytes (take (8 * length words.now) bytes.new) ≡ bits_of_words words.now }
 {
     for (place, word) in words.iter().enumerate() {
-        put_word(bytes, 4 * place, *word);
+        put_word(bytes, 8 * place, *word);
     }
 }
 
 /// Writes words, at most as many as are written at once.
-fn write_piece<K: Sink>(words: &[u32], writer: &mut BitWriter<K>) -> Result<(), Fault>
-    requires few { length words.now ≤ 1024 }
+fn write_piece<K: Sink>(words: &[u64], writer: &mut BitWriter<K>) -> Result<(), Fault>
+    requires few { length words.now ≤ 512 }
     requires whole { writer.old.position % 8 ≡ 0 }
-    requires room { writer.old.position + 32 * length words.now < 2 ^ 63 }
+    requires room { writer.old.position + 64 * length words.now < 2 ^ 63 }
     ensures { Writes (bits_of_words words.now) writer.old result writer.new }
 {
-    let mut bytes = [0; 4 * PIECE];
+    let mut bytes = [0; 8 * PIECE];
     put_words(&mut bytes, words);
-    writer.bytes(&bytes[..4 * words.len()])
+    writer.bytes(&bytes[..8 * words.len()])
 }
 
 /// Writes words.
-fn write_words<K: Sink>(words: &[u32], writer: &mut BitWriter<K>) -> Result<(), Fault>
+fn write_words<K: Sink>(words: &[u64], writer: &mut BitWriter<K>) -> Result<(), Fault>
     requires live { writer.old.live ≡ true }
     requires whole { writer.old.position % 8 ≡ 0 }
-    requires room { writer.old.position + 32 * length words.now < 2 ^ 63 }
+    requires room { writer.old.position + 64 * length words.now < 2 ^ 63 }
     ensures { Writes (bits_of_words words.now) writer.old result writer.new }
 {
     let mut rest = words;

@@ -1,5 +1,5 @@
 -- A normal form that is being built, and the form after the events that follow.
-use Rattle.std.specs.Prelude.{◌≡◌, ℕ, suc, ◌+◌, ◌-◌, ◌/◌, ◌%◌, ◌^◌, ◌<◌, ◌≤◌, Bool, true, false, List, [], ◌∷◌, ◌++◌, length, min, take, ◌&&◌}
+use Rattle.std.specs.Prelude.{◌≡◌, ℕ, suc, ◌+◌, ◌-◌, ◌/◌, ◌%◌, ◌^◌, ◌<◌, ◌≤◌, Bool, true, false, List, [], ◌∷◌, ◌++◌, length, min, ◌&&◌}
 use Rattle.std.specs.List.{list_all}
 use Rattle.bit_grammar.specs.Setting.{keeps, keeps_record}
 use Rattle.bit_grammar.specs.Under.{ids_behind, innermost, events_under}
@@ -13,26 +13,27 @@ use Rattle.bit_events.specs.Gathering.{left_open}
 use Rattle.bit_norm.specs.Told.{told_at_level}
 use Rattle.bit_events.specs.Standing.{OpenUnder}
 use Rattle.bit_norm.specs.declared.form_values.Holding.{Holding}
-use Rattle.bit_norm.specs.declared.form_values.Holding.TheVariants.{All, TooLong, Unknown}
+use Rattle.bit_norm.specs.declared.form_values.Holding.TheVariants.{Short, All, TooLong, Unknown}
 use Rattle.bit_norm.specs.declared.form_values.FormValues.{FormValues}
 use Rattle.bit_norm.specs.declared.form_builder.FormBuilder.{FormBuilder}
 
 -- ---- the values of a record
 
--- how much of the text of values is held: all of it; nothing, because it is longer than the limit on bytes; or unknown
-abbrev pub HoldsText : Holding → (text : List Bool) → (limit : ℕ) → List ℕ → Type 0
-HoldsText All text limit values = text ≡ values_bits values
-HoldsText TooLong text limit values = limit < length (values_bits values) / 8
-HoldsText Unknown text limit values = Unit {0}
+-- how much of these bits is held: all of them, in the short text; all, in the long text and the short one; none, because they are
+-- more than the limit on bytes; or unknown
+abbrev pub HoldsBits : Holding → (text recent : List Bool) → (limit : ℕ) → List Bool → Type 0
+HoldsBits Short text recent limit bits = recent ≡ bits
+HoldsBits All text recent limit bits = text ++ recent ≡ bits
+HoldsBits TooLong text recent limit bits = limit < length bits / 8
+HoldsBits Unknown text recent limit bits = Unit {0}
 
--- these are the values that were taken: the first ones, of whose text this much is held, and those that are held as numbers
+abbrev pub HasBits : FormValues → List Bool → Type 0
+HasBits t bits = HoldsBits t.holding t.text t.recent t.limits.bytes bits
+
+-- these are the values that were taken, of whose bits this much is held
 pub record HasTaken (t : FormValues) (values : List ℕ) : Type 0 where
-  pub front : List ℕ
-  pub wide : length t.numbers ≡ 64
-  pub few : t.held ≤ 64
-  pub whole : values ≡ front ++ take t.held t.numbers
-  pub count : t.before ≡ min (length front) (2 ^ 64 - 1)
-  pub holds : HoldsText t.holding t.text t.limits.bytes front
+  pub count : t.count ≡ min (length values) (2 ^ 64 - 1)
+  pub holds : HasBits t (values_bits values)
 
 -- ---- open blocks
 

@@ -1,4 +1,4 @@
-ghost use Rattle.std.specs.Prelude.{◌≡◌, ◌+◌, ◌*◌, ◌/◌, ◌^◌, ◌<◌, ◌≤◌, ℕ, List, [], ◌++◌, length, true, false, IfSome, MatchOption, OnOk};
+ghost use Rattle.std.specs.Prelude.{◌≡◌, ◌+◌, ◌-◌, ◌*◌, ◌/◌, ◌^◌, ◌<◌, ◌≤◌, ℕ, List, [], ◌++◌, length, min, true, false, IfSome, MatchOption, OnOk};
 ghost use Rattle.bit_grammar.specs.Machine.{Event};
 ghost use Rattle.bit_grammar.specs.Setting.{setting_of};
 ghost use Rattle.bit_grammar.specs.Normal.{most_bytes, values_bits, end_text};
@@ -11,7 +11,7 @@ ghost use Rattle.bit_norm.specs.Writing.{record_front, record_text, enter_text};
 use crate::form_values::{FormValues, is_long};
 use bit_abbrev::Abbrev;
 use bit_events::{Gatherer, OpenBlocks};
-use bit_fields::{BitText, Limits};
+use bit_fields::{BitText, Limits, ShortText};
 use bit_tree::Info;
 use std::alloc::{AllocError, Global};
 
@@ -37,7 +37,8 @@ fn close_block(text: &mut BitText, hole: u64) -> Result<(), AllocError>
     text.fixed(2, 0)?;
     text.pad()?;
     let words = text.len() / 32 - (hole + 1);
-    text.set_word(hole, words as u32)
+    text.set_word(hole, words as u32);
+    Ok(())
 }
 
 /// Adds what comes in a record before its values, field by field.
@@ -64,16 +65,21 @@ fn add_record_head(text: &mut BitText, code: u64, count: u64) -> Result<(), Allo
     add_long_head(text, code, count)
 }
 
-/// Adds a record of few values.
+/// Adds a record whose values have these few bits.
 #[inline(always)]
-#[tactic(auto, using(crate::proofs::Building::record_joined, crate::proofs::ValueTexts::values_few))]
-fn add_short_record(text: &mut BitText, code: u64, values: &[u64]) -> Result<(), AllocError>
-    requires few { length text.old < 2 ^ 38 }
-    requires short { length values.now ≤ 64 }
-    ensures { OnOk result (text.new ≡ text.old ++ record_text code values.now (length text.old)) }
+fn add_short_record(
+    text: &mut BitText,
+    code: u64,
+    count: u64,
+    values: &ShortText,
+) -> Result<(), AllocError>
+    requires { length text.old < 2 ^ 38 }
+    ensures { OnOk result ((list : List ℕ) → count ≡ min (length list) (2 ^ 64 - 1)
+        → values.now ≡ values_bits list
+        → text.new ≡ text.old ++ record_text code list (length text.old)) }
 {
-    add_record_head(text, code, values.len() as u64)?;
-    text.numbers(values)
+    add_record_head(text, code, count)?;
+    text.add_short(values)
 }
 
 /// Adds a record whose values have these bits, and moves the bits out of `values`.
@@ -203,7 +209,7 @@ impl<'a> FormBuilder<'a> {
         close_block(&mut self.text, hole)
     }
 
-    /// Adds a record that is kept, and moves its values out if some of them may be text. Fails also if their text is unknown.
+    /// Adds a record that is kept, and moves its values out. Fails also if their bits are unknown.
     #[inline(never)]
     fn add_long(&mut self, code: u64, values: &mut FormValues) -> Result<(), AllocError>
         requires { length self.old.text < 2 ^ 38 }
@@ -218,7 +224,7 @@ impl<'a> FormBuilder<'a> {
         if !values.is_held() {
             return Err(AllocError);
         }
-        add_record(&mut self.text, code, values.before, &mut values.text)
+        add_record(&mut self.text, code, values.count, &mut values.text)
     }
 
     /// Adds a record that is kept. It may move the values out.
@@ -232,8 +238,8 @@ impl<'a> FormBuilder<'a> {
             self.stop();
             return Ok(());
         }
-        if let Some(all) = values.all() {
-            return add_short_record(&mut self.text, code, all);
+        if let Some(short) = values.short() {
+            return add_short_record(&mut self.text, code, values.count, short);
         }
         let added = self.add_long(code, values);
         values.reset();

@@ -1,35 +1,36 @@
-ghost use Rattle.std.specs.Prelude.{◌≡◌, ◌+◌, ◌*◌, ◌/◌, ◌^◌, ◌<◌, ◌≤◌, ℕ, List, [], ◌++◌, length, min, take, true, false, IfSome, OnOk, OnErr};
-ghost use Rattle.bit_norm.specs.Building.{HoldsText, HasTaken};
-ghost use Rattle.bit_norm.specs.declared.form_values.Holding.TheVariants.{All, Unknown};
+ghost use Rattle.std.specs.Prelude.{◌≡◌, ◌≢◌, ◌+◌, ◌*◌, ◌/◌, ◌^◌, ◌<◌, ◌≤◌, ℕ, List, Bool, [], ◌-◌, ◌++◌, length, take, true, false, IfOk, IfSome, OnOk, OnErr};
+ghost use Rattle.bit_norm.specs.Building.{HoldsBits, HasBits, HasTaken};
+ghost use Rattle.bit_norm.specs.declared.form_values.Holding.TheVariants.{All, Short, Unknown};
+ghost use Rattle.bit_grammar.specs.FormatFields.{shortest};
 ghost use Rattle.bit_grammar.specs.Normal.{most_bytes, values_bits};
 
-use bit_fields::{BitText, Limits, NotTaken, ValueTaker};
+use crate::byte_chunks::chunks_of_bytes;
+use bit_fields::{
+    BitText, Limits, NotTaken, ShortText, ValueTaker, Window, more_chunks, short_chunks, two_chunks,
+};
 use std::alloc::{AllocError, Global};
 
-/// How many values are held as numbers before they become text.
-const ROOM: usize = 64;
-
-/// How much of the text of values is held.
+/// How much of the bits of values is held.
 #[derive(Clone, Copy, Debug, PartialEq, Eq)]
 pub(crate) enum Holding {
-    /// All of it.
+    /// All of them, in the short text.
+    Short,
+    /// All of them, in the long text and then the short one.
     All,
-    /// Nothing, because it is longer than the limit on bytes.
+    /// None, because they are more than the limit on bytes.
     TooLong,
     /// Unknown: an allocation failed, or values were dropped.
     Unknown,
 }
 
-/// A value sink for the records of a normal form, up to the limit on bytes. It holds the last values as numbers, so that a record
-/// of few values is added to the form at once, and the values before them as their bits in the form.
+/// A value sink for the records of a normal form, up to the limit on bytes. It holds the values as their bits in the form: the
+/// last ones in a short text, so that those of a short record are added to the form at once, and the others in a long one.
 #[derive(Drop)]
 pub(crate) struct FormValues {
-    /// The first `held` of these are values.
-    numbers: [u64; ROOM],
-    held: usize,
+    recent: ShortText,
     pub(crate) text: BitText,
-    /// How many values come before these.
-    pub(crate) before: u64,
+    /// How many values there are.
+    pub(crate) count: u64,
     limits: Limits,
     holding: Holding,
 }
@@ -45,18 +46,34 @@ pub(crate) fn is_long(text: &BitText, limits: Limits) -> bool
     text.len() / 8 > limits.bytes()
 }
 
-/// Adds values to the text of earlier ones, if all of that is held.
-#[tactic(auto, using(crate::proofs::ValueTexts::holds_more, crate::proofs::ValueTexts::holds_all, crate::proofs::ValueTexts::holds_past, crate::proofs::ValueTexts::values_few))]
-fn add_values(
+/// Begins the long text, if all bits are in the short one.
+#[tactic(auto, using(crate::proofs::ValueTexts::begun))]
+fn begin_text(text: &mut BitText, holding: &mut Holding)
+    ensures same { (recent bits : List Bool) (limit : ℕ)
+        → HoldsBits holding.old text.old recent limit bits
+        → HoldsBits holding.new text.new recent limit bits }
+    ensures begun { holding.new ≢ Short }
+{
+    if let Holding::Short = *holding {
+        text.clear();
+        *holding = Holding::All;
+    }
+}
+
+/// Adds the bits of the short text to the long one, if all bits are held and not too long.
+#[tactic(auto, using(crate::proofs::ValueTexts::moved, crate::proofs::ValueTexts::stays, crate::proofs::ValueTexts::holds_past, crate::proofs::ValueTexts::unknown))]
+fn move_bits(
     text: &mut BitText,
     holding: &mut Holding,
     limits: Limits,
-    values: &[u64],
+    recent: &ShortText,
 ) -> Result<(), AllocError>
-    requires { length values.now ≤ 64 }
-    ensures ok { OnOk result ((others : List ℕ) → HoldsText holding.old text.old limits.bytes others
-        → HoldsText holding.new text.new limits.bytes (others ++ values.now)) }
+    requires { holding.old ≢ Short }
+    ensures ok { OnOk result ((bits : List Bool)
+        → HoldsBits holding.old text.old recent.now limits.bytes bits
+        → HoldsBits holding.new text.new [] limits.bytes bits) }
     ensures err { OnErr result (holding.new ≡ Unknown) }
+    ensures begun { holding.new ≢ Short }
 {
     if let Holding::All = *holding {
         if is_long(text, limits) {
@@ -64,7 +81,7 @@ fn add_values(
             *holding = Holding::TooLong;
             return Ok(());
         }
-        if let Err(AllocError) = text.numbers(values) {
+        if let Err(AllocError) = text.add_short(recent) {
             *holding = Holding::Unknown;
             return Err(AllocError);
         }
@@ -78,63 +95,138 @@ impl FormValues {
         ensures { HasTaken result [] }
     {
         FormValues {
-            numbers: [0; ROOM],
-            held: 0,
+            recent: ShortText::new(),
             text: BitText::new(alloc),
-            before: 0,
+            count: 0,
             limits,
-            holding: Holding::All,
+            holding: Holding::Short,
         }
     }
 
-    /// The values that are held as numbers.
+    /// The bits of the values, if they are few.
     #[inline(always)]
-    fn recent(&self) -> &[u64]
-        ensures { result.now ≡ take (min self.now.held 64) self.now.numbers }
+    pub(crate) fn short(&self) -> Option<&ShortText>
+        ensures { IfSome result (λ text. (values : List ℕ) → HasTaken self.now values
+            → text.now ≡ values_bits values) }
     {
-        &self.numbers[..self.held.min(ROOM)]
-    }
-
-    /// The values, if all are held as numbers.
-    #[inline(always)]
-    pub(crate) fn all(&self) -> Option<&[u64]>
-        ensures are { IfSome result (λ all. (values : List ℕ) → HasTaken self.now values
-            → values ≡ all.now) }
-        ensures few { IfSome result (λ all. length all.now ≤ 64) }
-    {
-        if self.before > 0 {
-            return None;
+        match self.holding {
+            Holding::Short => Some(&self.recent),
+            Holding::All | Holding::TooLong | Holding::Unknown => None,
         }
-        Some(self.recent())
     }
 
-    /// Converts the values that are held as numbers to text.
+    /// Moves the bits in the short text to the long one, and replaces them by at most 63 others, which come next.
+    #[cold]
     #[inline(never)]
+    #[tactic(auto, using(crate::proofs::ValueTexts::pushed))]
+    fn push_behind(&mut self, bits: Window) -> Result<(), AllocError>
+        requires { length bits < 64 }
+        ensures ok { OnOk result ((before : List Bool) → HasBits self.old before
+            → HasBits self.new (before ++ bits)) }
+        ensures err { OnErr result (self.new.holding ≡ Unknown) }
+        ensures count { self.new.count ≡ self.old.count }
+        ensures only { OnOk result (self.new.recent ≡ bits) }
+        ensures begun { self.new.holding ≢ Short }
+    {
+        begin_text(&mut self.text, &mut self.holding);
+        move_bits(&mut self.text, &mut self.holding, self.limits, &self.recent)?;
+        self.recent.restart(bits);
+        Ok(())
+    }
+
+    /// Appends at most 63 bits.
+    #[inline(always)]
+    #[tactic(auto, using(crate::proofs::ValueTexts::pushed))]
+    fn push(&mut self, bits: Window) -> Result<(), AllocError>
+        requires { length bits < 64 }
+        ensures ok { OnOk result ((before : List Bool) → HasBits self.old before
+            → HasBits self.new (before ++ bits)) }
+        ensures err { OnErr result (self.new.holding ≡ Unknown) }
+        ensures count { self.new.count ≡ self.old.count }
+    {
+        if self.recent.push(&bits) {
+            return Ok(());
+        }
+        self.push_behind(bits)
+    }
+
+    /// Appends the bits of a value of more than ten bits.
+    #[inline(never)]
+    fn add_great(&mut self, value: u64) -> Result<(), AllocError>
+        requires { 1024 ≤ value }
+        ensures ok { OnOk result ((before : List Bool) → HasBits self.old before
+            → HasBits self.new (before ++ shortest 6 value)) }
+        ensures err { OnErr result (self.new.holding ≡ Unknown) }
+        ensures count { self.new.count ≡ self.old.count }
+    {
+        let mut rest = value;
+        while rest >= 1 << 20 {
+            self.push(two_chunks(rest))?;
+            rest >>= 10;
+        }
+        self.push(more_chunks(rest))
+    }
+
+    /// Appends the bits of a value.
+    #[inline(always)]
+    fn add(&mut self, value: u64) -> Result<(), AllocError>
+        ensures ok { OnOk result ((before : List Bool) → HasBits self.old before
+            → HasBits self.new (before ++ shortest 6 value)) }
+        ensures err { OnErr result (self.new.holding ≡ Unknown) }
+        ensures count { self.new.count ≡ self.old.count }
+    {
+        if value >= 1024 {
+            return self.add_great(value);
+        }
+        self.push(short_chunks(value))
+    }
+
+    /// Appends the bits of bytes, four at once, and returns how many: all but up to three.
+    fn add_fours(&mut self, bytes: &[u8]) -> Result<usize, AllocError>
+        ensures ok { IfOk result (λ done. (before : List Bool) → HasBits self.old before
+            → HasBits self.new (before ++ values_bits (take done bytes.now))) }
+        ensures most { IfOk result (λ done. done ≤ length bytes.now) }
+        ensures err { OnErr result (self.new.holding ≡ Unknown) }
+        ensures count { self.new.count ≡ self.old.count }
+    {
+        let mut done = 0;
+        while bytes.len() - done >= 4 {
+            let bits = chunks_of_bytes(
+                bytes[done],
+                bytes[done + 1],
+                bytes[done + 2],
+                bytes[done + 3],
+            );
+            self.push(bits)?;
+            done += 4;
+        }
+        Ok(done)
+    }
+
+    /// Appends the bits of bytes.
+    fn add_bytes(&mut self, bytes: &[u8]) -> Result<(), AllocError>
+        ensures ok { OnOk result ((before : List Bool) → HasBits self.old before
+            → HasBits self.new (before ++ values_bits bytes.now)) }
+        ensures err { OnErr result (self.new.holding ≡ Unknown) }
+        ensures count { self.new.count ≡ self.old.count }
+    {
+        let done = self.add_fours(bytes)?;
+        for byte in &bytes[done..] {
+            self.add(u64::from(*byte))?;
+        }
+        Ok(())
+    }
+
+    /// Moves all bits to the long text, if they are held and not too long.
     pub(crate) fn settle(&mut self) -> Result<(), AllocError>
         ensures took { (values : List ℕ) → HasTaken self.old values → HasTaken self.new values }
-        ensures ok { OnOk result (self.new.held ≡ 0) }
+        ensures ok { OnOk result (self.new.recent ≡ []) }
+        ensures begun { self.new.holding ≢ Short }
     {
-        let count = self.count();
-        let recent = &self.numbers[..self.held.min(ROOM)];
-        add_values(&mut self.text, &mut self.holding, self.limits, recent)?;
-        self.before = count;
-        self.held = 0;
-        Ok(())
+        self.push_behind(Window::new())
     }
 
-    /// Makes room for a number.
-    #[inline(always)]
-    fn make_room(&mut self) -> Result<(), AllocError>
-        ensures took { (values : List ℕ) → HasTaken self.old values → HasTaken self.new values }
-        ensures ok { OnOk result (self.new.held < 64) }
-    {
-        if self.held >= ROOM {
-            return self.settle();
-        }
-        Ok(())
-    }
-
-    /// Whether the text of the values is known to have more bytes than a limit. No value is held as a number.
+    /// Whether the bits of the values are known to have more bytes than a limit. The short text has none.
     #[inline(always)]
     pub(crate) fn is_past(&self, limits: Limits) -> bool
         ensures yes { result ≡ true → (values : List ℕ) → HasTaken self.now values
@@ -144,40 +236,43 @@ impl FormValues {
         match self.holding {
             Holding::All => is_long(&self.text, limits),
             Holding::TooLong => limits.bytes() <= self.limits.bytes(),
-            Holding::Unknown => false,
+            Holding::Short | Holding::Unknown => false,
         }
     }
 
-    /// Whether the text of the values is held.
+    /// Whether all bits of the values are held, some of them in the long text.
     #[inline(always)]
     pub(crate) fn is_held(&self) -> bool
         ensures { result ≡ true → self.now.holding ≡ All }
     {
         match self.holding {
             Holding::All => true,
-            Holding::TooLong | Holding::Unknown => false,
+            Holding::Short | Holding::TooLong | Holding::Unknown => false,
         }
     }
 
-    /// Drops all values. Some may be text.
+    /// Drops all values. Some bits may be in the long text.
     #[inline(never)]
     pub(crate) fn reset(&mut self)
         ensures { HasTaken self.new [] }
     {
-        self.held = 0;
+        self.recent.restart(Window::new());
         self.text.clear();
-        self.before = 0;
-        self.holding = Holding::All;
+        self.count = 0;
+        self.holding = Holding::Short;
     }
 
     /// Drops all values.
     #[inline(always)]
     fn clear(&mut self)
-        ensures { (values : List ℕ) → HasTaken self.old values → HasTaken self.new [] }
+        ensures { HasTaken self.new [] }
     {
-        self.held = 0;
-        if self.before > 0 || !self.is_held() {
-            self.reset();
+        match self.holding {
+            Holding::Short => {
+                self.recent.restart(Window::new());
+                self.count = 0;
+            }
+            Holding::All | Holding::TooLong | Holding::Unknown => self.reset(),
         }
     }
 }
@@ -189,39 +284,54 @@ impl ValueTaker for FormValues {
 
     #[inline(always)]
     fn take(&mut self, value: u64) -> Result<(), NotTaken> {
-        self.make_room()?;
-        self.numbers[self.held] = value;
-        self.held += 1;
+        self.add(value)?;
+        self.count = self.count.saturating_add(1);
         Ok(())
     }
 
-    /// Values after a text that is not held are only counted.
+    fn take_bytes(&mut self, bytes: &[u8]) -> Result<(), NotTaken> {
+        if self.pass(bytes.len() as u64) {
+            return Ok(());
+        }
+        self.add_bytes(bytes)?;
+        self.count = self.count.saturating_add(bytes.len() as u64);
+        Ok(())
+    }
+
+    /// Values whose bits are not held are only counted.
     #[inline]
     fn pass(&mut self, count: u64) -> bool {
-        if let Holding::All = self.holding {
-            return false;
+        match self.holding {
+            Holding::Short | Holding::All => false,
+            Holding::TooLong | Holding::Unknown => {
+                self.count = self.count.saturating_add(count);
+                true
+            }
         }
-        if self.held > 0 {
+    }
+
+    #[inline(always)]
+    fn take_run(&mut self, bits: u64, len: u32, count: u64) -> bool {
+        let Ok(()) = self.push(Window::of(bits, len)) else {
             return false;
-        }
-        self.before = self.before.saturating_add(count);
+        };
+        self.count = self.count.saturating_add(count);
         true
     }
 
-    /// If some values stay, their text is no longer known.
+    /// If some values stay, their bits are no longer known.
     #[inline(always)]
     fn truncate(&mut self, count: u64) {
         if count == 0 {
             self.clear();
             return;
         }
-        self.before = self.count().min(count);
-        self.held = 0;
+        self.count = self.count.min(count);
         self.holding = Holding::Unknown;
     }
 
     #[inline(always)]
     fn count(&self) -> u64 {
-        self.before.saturating_add(self.held as u64)
+        self.count
     }
 }

@@ -3,8 +3,8 @@
 //! normal form of a `Document`, and a `FormWriter` that of a tree given item by item.
 //!
 //! `normalise` is a fold into `FormBuilder`: the bits of the form so far and, for each open block, the word for its length. Closed
-//! by whatever events follow, these bits are the normal form of the tree of all events. `FormValues` holds few values of a record
-//! as numbers and many as bits. Nothing is written before the input is accepted. `FormWriter` is the same builder for callers that
+//! by whatever events follow, these bits are the normal form of the tree of all events. `FormValues` holds the values of a
+//! record as bits of the form. Nothing is written before the input is accepted. `FormWriter` is the same builder for callers that
 //! have a tree.
 //!
 //! `first_difference` reads the first input alone and keeps its bytes, and then reads the second in step with them. The trees are
@@ -14,6 +14,7 @@
 //! its values are not held unless they differ. `same` is true if there is no first difference.
 #![tactic(auto)]
 
+mod byte_chunks;
 mod comparing;
 mod difference_laws;
 #[cfg(test)]

@@ -10,7 +10,7 @@ add_words-requires c =
     let chunks = c.loop-chunks.chunks.items in
     let text = c.loop-chunks.text in
     let some : 0 < length chunks = omega (arith, c.loop-chunks.chunks.ok.0, some_left (vec_len c.loop-chunks.chunks) c.loop-chunks-test.ensures) in
-    let room : length text + 32 * length (words_of_chunks chunks) < 4611686018427387904 = omega (arith, c.requires, ap length c.loop-chunks.invariant.same, length-append text (bits_of_words (words_of_chunks chunks)), words-length (words_of_chunks chunks), length-append c.args.text.now (bits_of_words (words_of_chunks c.args.chunks.now.items)), words-length (words_of_chunks c.args.chunks.now.items)) in
+    let room : length text + 64 * length (words_of_chunks chunks) < 4611686018427387904 = omega (arith, c.requires, ap length c.loop-chunks.invariant.same, length-append text (bits_of_words (words_of_chunks chunks)), words-length (words_of_chunks chunks), length-append c.args.text.now (bits_of_words (words_of_chunks c.args.chunks.now.items)), words-length (words_of_chunks c.args.chunks.now.items)) in
     omega (arith, room, ap length c.deref.ensures.value, chunk_fits chunks c.remove-chunk.result some c.remove-chunk.ensures.value)
 
 pub loop-chunks-preserved : goal.loop-chunks-preserved

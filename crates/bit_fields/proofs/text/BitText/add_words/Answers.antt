@@ -11,4 +11,4 @@ invariant_of-self c =
 pub invariant_of-self-in_default : goal.invariant_of-self-in_default
 invariant_of-self-in_default c =
     let ws = c.args.words.now in
-    omega (arith, c.requires, ap length c.in_default.ensures, ap length c.self.view_is, length-append (bits_of_words c.self.inside.words ++ c.self.inside.window) (bits_of_words ws), words-length ws)
+    (omega (arith, c.requires, ap length c.in_default.ensures.ok, ap length c.self.view_is, length-append (bits_of_words c.self.inside.words ++ c.self.inside.window) (bits_of_words ws), words-length ws), c.in_default.ensures.short)

@@ -1,4 +1,4 @@
-use Rattle.std.proofs.Common.{ℕ, List, [], ◌∷◌, ◌++◌, ap, sym, ◌∙◌}
+use Rattle.std.proofs.Common.{ℕ, [], ◌∷◌, ◌++◌, ap, sym, ◌∙◌}
 use Rattle.std.proofs.lemmas.Result.{on_ok_weaker}
 use Rattle.bit_grammar.specs.Machine.{notes}
 use Rattle.bit_norm.specs.Writing.{record_text}
@@ -15,5 +15,5 @@ returns-in-Some-clause-form c =
     on_ok_weaker c.add_short_record.result
     (λ added done mark code took was short some.
     formed old.limits.bytes (done ++ notes mark ∷ []) c.add_short_record.new.text old.holes.items old.long short
-    (builds_record done old.text old.holes.items (was.builds short) mark c.add_short_record.new.text some (added ∙ ap (λ (vs : List ℕ). old.text ++ record_text c.args.code vs 0) (sym (c.in-Some.ensures.are mark.values took)) ∙ ap (λ (n : ℕ). old.text ++ record_text n mark.values 0) (sym code))))
+    (builds_record done old.text old.holes.items (was.builds short) mark c.add_short_record.new.text some (added mark.values took.count (c.in-Some.ensures mark.values took) ∙ ap (λ (n : ℕ). old.text ++ record_text n mark.values 0) (sym code))))
     c.add_short_record.ensures

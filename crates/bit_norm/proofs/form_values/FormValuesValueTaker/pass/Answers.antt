@@ -1,18 +1,13 @@
-use Rattle.std.proofs.Common.{◌≡◌, ℕ, List, ◌++◌, take, ap, sym, ◌∙◌, arith, length-append}
-use Rattle.std.proofs.lemmas.List.{append-nil}
-use Rattle.bit_norm.proofs.ValueTexts.{all_text, holds_more}
+use Rattle.std.proofs.Common.{Bool, List, sym, subst, arith, length-append}
+use Rattle.bit_grammar.specs.Normal.{values_bits}
+use Rattle.bit_norm.specs.Building.{HoldsBits}
+use Rattle.bit_norm.proofs.ValueTexts.{holds_more, values_text-append}
 use Rattle.bit_norm.proofs.form_values.FormValuesValueTaker.pass.Goals as goal
 
-pub returns-clause-yes : goal.returns-clause-yes
-returns-clause-yes c = λ yes values others was len.
-    let old = c.args.self.now in
-    let none : old.held ≡ 0 = omega arith in
-    let is : values ≡ was.front = all_text old values none was in
+pub returns-in-TooLong-clause-yes : goal.returns-in-TooLong-clause-yes
+returns-in-TooLong-clause-yes c = λ yes values others took len.
+    let t = c.args.self.now in
     record {
-      front = was.front ++ others;
-      wide = was.wide;
-      few = was.few;
-      whole = ap (λ (vs : List ℕ). vs ++ others) is ∙ sym (append-nil (was.front ++ others)) ∙ ap (λ (n : ℕ). (was.front ++ others) ++ take n old.numbers) (sym none);
-      count = omega (arith, c.saturating_add-self.ensures, was.count, length-append was.front others, len);
-      holds = holds_more old.limits.bytes old.text was.front others old.holding c.in_default.not-All was.holds;
+      count = omega (arith, c.saturating_add-self.ensures, took.count, length-append values others, len);
+      holds = subst (λ (bits : List Bool). HoldsBits t.holding t.text t.recent t.limits.bytes bits) (sym (values_text-append values others)) (holds_more t.limits.bytes t.text t.recent (values_bits values) (values_bits others) t.holding c.in-TooLong.is took.holds);
     }
