@@ -31,6 +31,7 @@ mod operands;
 mod reading_tests;
 mod record;
 mod runs;
+mod tails;
 #[cfg(test)]
 mod tests;
 mod widths;
@@ -47,3 +48,4 @@ pub use lent::Definition;
 pub use operands::Operands;
 pub use record::{read_abbreviated, read_plain, read_record};
 pub use runs::Runs;
+pub use tails::Tails;

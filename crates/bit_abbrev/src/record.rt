@@ -20,6 +20,7 @@ use crate::bits::Bits;
 use crate::lent::Definition;
 use crate::operands::Operands;
 use crate::runs::Runs;
+use crate::tails::Tails;
 use bit_fields::{BitReader, ChunkWidth, Fault, FieldWidth, Source, ValueTaker};
 use bit_grammar::{Op, Reason};
 
@@ -140,7 +141,7 @@ fn read_runs<U, B: Runs, V: ValueTaker>(
 
 /// Reads `count` elements of an array.
 #[inline(always)]
-fn read_elements<U, B: Runs, V: ValueTaker>(
+fn read_elements<B: Runs, V: ValueTaker>(
     bits: &mut B,
     count: u64,
     element: Op,
@@ -156,13 +157,13 @@ fn read_elements<U, B: Runs, V: ValueTaker>(
     match element {
         Op::Fixed(0) => bits.zeros(count, values),
         Op::Vbr(0) => bits.zeros(count, values),
-        _ => read_runs::<U, B, V>(bits, count, element, values),
+        _ => read_runs::<(), B, V>(bits, count, element, values),
     }
 }
 
 /// Reads an array of fields of an operand, at most `room` of them.
-#[inline(always)]
-fn read_array<U, B: Runs, V: ValueTaker>(
+#[inline(never)]
+pub(crate) fn read_array<B: Runs, V: ValueTaker>(
     bits: &mut B,
     room: u64,
     element: Op,
@@ -176,12 +177,12 @@ fn read_array<U, B: Runs, V: ValueTaker>(
     ensures keeps { Keeps V.took values.old values.new }
 {
     let count = read_count(bits, room)?;
-    read_elements::<U, B, V>(bits, count, element, values)
+    read_elements(bits, count, element, values)
 }
 
 /// Reads a blob of at most `room` bytes.
-#[inline(always)]
-fn read_blob<U, B: Runs, V: ValueTaker>(
+#[inline(never)]
+pub(crate) fn read_blob<B: Runs, V: ValueTaker>(
     bits: &mut B,
     room: u64,
     values: &mut V,
@@ -193,7 +194,7 @@ fn read_blob<U, B: Runs, V: ValueTaker>(
 {
     let count = read_count(bits, room)?;
     bits.pad()?;
-    read_runs::<U, B, V>(bits, count, Op::Fixed(8), values)?;
+    read_runs::<(), B, V>(bits, count, Op::Fixed(8), values)?;
     bits.pad()
 }
 
@@ -255,7 +256,7 @@ fn read_singles<U, B: Bits, V: ValueTaker>(
 
 /// Reads the values of operands, at most `room`. The first `count` operands give one value each.
 #[inline(always)]
-fn read_values<U, B: Runs, V: ValueTaker>(
+fn read_values<U, B: Tails, V: ValueTaker>(
     bits: &mut B,
     room: u64,
     operands: Operands<'_>,
@@ -279,19 +280,18 @@ fn read_values<U, B: Runs, V: ValueTaker>(
     let Some(op) = others.next() else {
         return Ok(());
     };
-    // Tested first, so that the blob is inlined and the buffered bits stay in registers.
     if let Op::Blob = op {
-        return read_blob::<U, B, V>(bits, left, values);
+        return bits.blob(left, values);
     }
     let Some(element) = others.next() else {
         unreachable!();
     };
-    read_array::<U, B, V>(bits, left, element, values)
+    bits.array(left, element, values)
 }
 
 /// Reads a record by its operands. After the first one, `count` of them give one value each.
 #[inline(always)]
-fn read_by_ops<U, B: Runs, V: ValueTaker>(
+fn read_by_ops<U, B: Tails, V: ValueTaker>(
     bits: &mut B,
     operands: Operands<'_>,
     count: usize,
@@ -323,7 +323,7 @@ fn read_by_ops<U, B: Runs, V: ValueTaker>(
 /// `U` names the caller. So each caller has its own copy, which the compiler inlines into the caller's loop; the buffered bits
 /// then stay in registers.
 #[inline(always)]
-pub fn read_record<U, B: Runs, V: ValueTaker>(
+pub fn read_record<U, B: Tails, V: ValueTaker>(
     bits: &mut B,
     abbrev: Definition<'_>,
     first: u64,

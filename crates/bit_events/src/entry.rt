@@ -5,14 +5,14 @@ ghost use Rattle.bit_grammar.specs.Blocks.{entry};
 ghost use Rattle.bit_abbrev.specs.Bits.{Answers};
 ghost use Rattle.bit_abbrev.specs.Values.{AddsWithin, Gains, Keeps};
 
-use bit_abbrev::{Lookup, Runs, read_plain, read_record};
+use bit_abbrev::{Lookup, Tails, read_plain, read_record};
 use bit_fields::{Reason, ValueTaker};
 
 /// Reads the code and the values of a record after its abbreviation id: gives the values to the value sink and returns the code.
 /// The record began at the bit `first`, and may have `room` values. If it fails, some of its values may have been added. For `U`
 /// see `read_record`. Source: "Abbreviation IDs".
 #[inline(always)]
-pub(crate) fn read_entry<U, B: Runs, D: Lookup, V: ValueTaker>(
+pub(crate) fn read_entry<U, B: Tails, D: Lookup, V: ValueTaker>(
     bits: &mut B,
     definitions: &D,
     room: u64,

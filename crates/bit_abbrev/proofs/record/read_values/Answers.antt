@@ -35,13 +35,13 @@ returns-in-Blob-clause-adds g c =
     let room = c.args.room - count in
     let a = g.B.Bits.as_reader c.args.bits.now in
     let b = g.B.Bits.as_reader c.read_singles.new.bits in
-    let d = g.B.Bits.as_reader c.read_blob.new.bits in
+    let d = g.B.Bits.as_reader c.blob.new.self in
     let rest = ops_in c.next.new.self.held.now in
     let first = rw c.requires.singles at (c.in_ok-read_singles.ensures.adds room (drop count ops)) in
-    let blob = rw c.requires.singles at (c.read_blob.ensures.adds rest) in
+    let blob = rw c.requires.singles at (c.blob.ensures.adds rest) in
     let next : drop count ops ≡ Blob ∷ rest = rw (← c.requires.singles, ← c.in_ok-read_singles.ensures.left, ← c.in-Blob.is) c.in-Some.ensures.some in
-    answers_so g.B.Bits.faults (λ r. Gains g.V.ValueTaker.took c.read_singles.new.values c.read_blob.new.values (AddsFew (values_of room (Blob ∷ rest)) room b r d))
-    (λ r. Gains g.V.ValueTaker.took c.args.values.now c.read_blob.new.values (AddsFew (values_of room ops) c.args.room a r d)) c.read_blob.result
+    answers_so g.B.Bits.faults (λ r. Gains g.V.ValueTaker.took c.read_singles.new.values c.blob.new.values (AddsFew (values_of room (Blob ∷ rest)) room b r d))
+    (λ r. Gains g.V.ValueTaker.took c.args.values.now c.blob.new.values (AddsFew (values_of room ops) c.args.room a r d)) c.blob.result
     (λ r gains before t.
     let h = first before t in
     let k = gains h.0 h.1 in
@@ -53,13 +53,13 @@ unreachable-requires g c =
     let ops = ops_in c.args.operands.held.now in
     array_some ops (ops_in c.next.new.self.held.now) c.in-Some.op c.args.count c.requires.singles c.requires.order c.in_default-op.not-Blob (sym c.in_ok-read_singles.ensures.left ∙ c.in-Some.ensures.some) c.in_default-next.ensures.none
 
-pub read_array-requires-clause-element : goal.read_array-requires-clause-element
-read_array-requires-clause-element g c =
+pub array-requires-clause-element : goal.array-requires-clause-element
+array-requires-clause-element g c =
     let ops = ops_in c.args.operands.held.now in
     (array_taken ops (ops_in c.next.new.self.held.now) (ops_in c.next-2.new.self.held.now) c.in-Some.op c.in-Some-next.element c.args.count c.requires.singles c.requires.order c.in_default-op.not-Blob (sym c.in_ok-read_singles.ensures.left ∙ c.in-Some.ensures.some) c.in-Some-next.ensures.some).1
 
-pub read_array-requires-clause-lawful : goal.read_array-requires-clause-lawful
-read_array-requires-clause-lawful g c =
+pub array-requires-clause-lawful : goal.array-requires-clause-lawful
+array-requires-clause-lawful g c =
     let ops = ops_in c.args.operands.held.now in
     array_lawful ops (ops_in c.next.new.self.held.now) (ops_in c.next-2.new.self.held.now) c.in-Some.op c.in-Some-next.element c.args.count c.requires.singles c.requires.order c.requires.lawful c.in_default-op.not-Blob (sym c.in_ok-read_singles.ensures.left ∙ c.in-Some.ensures.some) c.in-Some-next.ensures.some
 
@@ -70,13 +70,13 @@ returns-clause-adds g c =
     let room = c.args.room - count in
     let a = g.B.Bits.as_reader c.args.bits.now in
     let b = g.B.Bits.as_reader c.read_singles.new.bits in
-    let d = g.B.Bits.as_reader c.read_array.new.bits in
+    let d = g.B.Bits.as_reader c.array.new.self in
     let rest = ops_in c.next-2.new.self.held.now in
     let first = rw c.requires.singles at (c.in_ok-read_singles.ensures.adds room (drop count ops)) in
-    let array = rw c.requires.singles at (c.read_array.ensures.adds rest) in
+    let array = rw c.requires.singles at (c.array.ensures.adds rest) in
     let next = (array_taken ops (ops_in c.next.new.self.held.now) rest c.in-Some.op c.in-Some-next.element c.args.count c.requires.singles c.requires.order c.in_default-op.not-Blob (sym c.in_ok-read_singles.ensures.left ∙ c.in-Some.ensures.some) c.in-Some-next.ensures.some).0 in
-    answers_so g.B.Bits.faults (λ r. Gains g.V.ValueTaker.took c.read_singles.new.values c.read_array.new.values (AddsFew (values_of room (Array ∷ c.in-Some-next.element ∷ rest)) room b r d))
-    (λ r. Gains g.V.ValueTaker.took c.args.values.now c.read_array.new.values (AddsFew (values_of room ops) c.args.room a r d)) c.read_array.result
+    answers_so g.B.Bits.faults (λ r. Gains g.V.ValueTaker.took c.read_singles.new.values c.array.new.values (AddsFew (values_of room (Array ∷ c.in-Some-next.element ∷ rest)) room b r d))
+    (λ r. Gains g.V.ValueTaker.took c.args.values.now c.array.new.values (AddsFew (values_of room ops) c.args.room a r d)) c.array.result
     (λ r gains before t.
     let h = first before t in
     let k = gains h.0 h.1 in
