@@ -149,6 +149,9 @@ impl BitText {
         ensures few { length text.now < 2 ^ 11 }
     {
         let (words, rest) = text.parts();
+        if words.is_empty() {
+            return self.add(rest);
+        }
         self.add_words(words)?;
         self.add(rest)
     }

@@ -3,8 +3,8 @@ use Rattle.bit_fields.specs.Texts.{bits_of_words}
 use Rattle.bit_fields.proofs.Texts.{words-length}
 use Rattle.bit_fields.proofs.text.BitText.add_short.Goals as goal
 
-pub add-requires-clause-room : goal.add-requires-clause-room
-add-requires-clause-room c =
+pub add-requires-2-clause-room : goal.add-requires-2-clause-room
+add-requires-2-clause-room c =
     let words = c.parts-rest.result.0.now in
     omega (arith, c.requires, c.parts-rest.ensures.few, ap length c.in_ok-add_words.ensures, length-append c.args.self.now (bits_of_words words), words-length words)
 
