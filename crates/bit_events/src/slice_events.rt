@@ -57,16 +57,6 @@ impl<'a> Model for SliceEvents<'a> {
     ghost invariant = { λ e. SeesEvents e.over e.machine e.found e.reader e.buffered };
 }
 
-/// Drops the last event. It writes only if there is one, since a run of records calls it for each record.
-#[inline(always)]
-fn forget(found: &mut Option<Step>)
-    ensures { found.new ≡ None }
-{
-    if found.is_some() {
-        *found = None;
-    }
-}
-
 impl<'a> SliceEvents<'a> {
     ghost use Rattle.bit_events.specs.contracts.slice_events.SliceEvents.{the_row};
 
@@ -136,7 +126,7 @@ impl<'a> SliceEvents<'a> {
             .buffered_step(&self.limits, &mut buffered, values)?;
         self.values.clear(); // so that values are held once
         self.buffered = buffered;
-        forget(&mut self.found);
+        self.found = None;
         Some(read)
     }
 

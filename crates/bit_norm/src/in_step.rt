@@ -211,8 +211,7 @@ fn weigh_next(
 
 /// Takes the next kept sign of the first input, or the end of its stream, and compares it with this one. What comes before it ended
 /// at `ended`.
-#[inline(never)]
-fn later_beside(
+fn next_beside(
     events: &mut SliceEvents<'_>,
     blocks: &mut OpenBlocks<'_>,
     walk: &Walk,
@@ -228,25 +227,6 @@ fn later_beside(
             Weighed::Passed => {}
             Weighed::Stands(beside) => return Ok(beside),
         }
-    }
-}
-
-/// Does the same. The next event of the first input is nearly always kept, so it is taken outside the loop.
-#[inline(always)]
-fn next_beside(
-    events: &mut SliceEvents<'_>,
-    blocks: &mut OpenBlocks<'_>,
-    walk: &Walk,
-    ended: u64,
-    sign: Sign<'_>,
-    apart: &mut Apart,
-) -> Result<Beside, Fault>
-    ensures { Meets blocks.old (stand_of walk.now ended) events.old (sign_shown sign.entry) result
-        apart.new blocks.new events.new }
-{
-    match weigh_next(events, blocks, walk, ended, sign, apart)? {
-        Weighed::Passed => later_beside(events, blocks, walk, ended, sign, apart),
-        Weighed::Stands(beside) => Ok(beside),
     }
 }
 
