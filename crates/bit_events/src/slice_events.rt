@@ -1,6 +1,6 @@
 //! The events of a slice of bytes, most of whose records are read in place.
 
-ghost use Rattle.std.specs.Prelude.{◌≡◌, ⊤, ℕ, List, [], IfOk, IfErr, IfSome, IfNone};
+ghost use Rattle.std.specs.Prelude.{◌≡◌, ⊤, ℕ, List, [], None, IfOk, IfErr, IfSome, IfNone};
 ghost use Rattle.std.specs.Borrow.{sem, follows_so};
 ghost use mathlib.Core.Option.{none};
 ghost use mir.Syntax.{named};
@@ -55,6 +55,18 @@ impl<'a> Model for SliceEvents<'a> {
         (reader_seen e.reader e.buffered) };
 
     ghost invariant = { λ e. SeesEvents e.over e.machine e.found e.reader e.buffered };
+}
+
+/// Drops the last event that the reader found and its values, so that values are held once. In a run of records only the first one
+/// comes after such an event.
+#[inline(always)]
+fn forget(found: &mut Option<Step>, values: &mut WithFirst<PackedValues>)
+    ensures { found.new ≡ None }
+{
+    if found.is_some() {
+        values.clear();
+        *found = None;
+    }
 }
 
 impl<'a> SliceEvents<'a> {
@@ -124,9 +136,8 @@ impl<'a> SliceEvents<'a> {
         let read = self
             .machine
             .buffered_step(&self.limits, &mut buffered, values)?;
-        self.values.clear(); // so that values are held once
+        forget(&mut self.found, &mut self.values);
         self.buffered = buffered;
-        self.found = None;
         Some(read)
     }
 

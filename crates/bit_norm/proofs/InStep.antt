@@ -386,6 +386,26 @@ departed old coming now sign bit ended f p first value none took second = record
       };
 }
 
+-- it agrees
+module _ (old : Compared) (coming : Coming) (now : blocks.OpenUnder) (within : List OpenBlock) (items : ℕ) (sign : Sign) (bit ended first_ended : ℕ) (p : Apart) where
+  pub agreed : old.found ≡ None → ((before behind : ℕ) → (let s : Stand = record { within = within; items = items; ended = behind } in (s ≡ stand_behind (here old before) sign behind))) → (TellsComing old.first → Took old.first_blocks (here old old.first_ended) old.first sign (Same first_ended) p now coming)
+      → TakesSign old sign bit ended (record { first = coming; first_blocks = now; second_blocks = old.second_blocks; within = within; items = items; first_ended = first_ended; second_ended = ended; found = old.found })
+  agreed none moves took = record {
+    second_blocks = refl;
+    tells = λ tells. (took tells).tells;
+    stays = λ g some. absurd cc;
+    same = λ _ _. record {
+      moves = λ before. moves before ended;
+      takes = λ tells.
+          let one = took tells in
+          let s = here old old.first_ended in
+          let events = blocks.left_of now coming.told.0 in
+          let behind : behind_sign one.found.sign (told_entries (stand_behind s one.found.sign one.found.ended) events) ≡ behind_sign sign (told_entries (stand_behind s sign first_ended) events) = rw (one.beside.0, one.beside.1) refl in
+          (one.found, one.beside.0, one.is ∙ ap (λ (l : List Entry). entry_at s one.found ∷ l) (behind ∙ ap (λ (t : Stand). behind_sign sign (told_entries t events)) (sym (moves old.first_ended first_ended))));
+    };
+    other = λ _ g some. absurd cc;
+  }
+
 -- ---- the signs of events
 
 pub begin_signed : (old : Compared) (o : Opened) → is_left old.second_blocks.setting old.second_blocks.ids (enters o) ≡ true → IsSigned old (enters o) (record { sign = begins o.id; bit = o.first; ended = o.body })
@@ -454,6 +474,10 @@ stepped stands now s old new event sign (weighed.Stands beside) p g is says = λ
       ∙ ap (λ (l : List Entry). entry_at s says.found ∷ l) (sym (left_item stands s.ended event says.found (told_entries (stand_behind s says.found.sign says.found.ended) (blocks.left_of now new.told.0)) says.is));
   beside = says.beside;
 }
+
+-- events of which none is kept come before it
+pub took_behind : (stands between now : blocks.OpenUnder) (s : Stand) (old mid new : Coming) (sign : Sign) (b : Beside) (p : Apart) → told_entries s (blocks.left_of stands old.told.0) ≡ told_entries s (blocks.left_of between mid.told.0) → Took between s mid sign b p now new → Took stands s old sign b p now new
+took_behind stands between now s old mid new sign b p same took = record { tells = took.tells; found = took.found; is = same ∙ took.is; beside = took.beside }
 
 -- ---- a record of the first that begins with the values of another one
 

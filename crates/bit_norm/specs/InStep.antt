@@ -1,5 +1,5 @@
 -- The effect of reading an input in step with another one.
-use Rattle.std.specs.Prelude.{◌≡◌, ◌≢◌, ◌<◌, ◌^◌, ⊤, ℕ, zero, suc, List, [], ◌∷◌, ◌++◌, Option, Some, None, IsSome, Result, Ok, Err, length, if◌then◌else◌}
+use Rattle.std.specs.Prelude.{◌≡◌, ◌≢◌, ◌<◌, ◌^◌, ℕ, zero, suc, List, [], ◌∷◌, ◌++◌, Option, Some, None, IsSome, Result, Ok, Err, length, if◌then◌else◌}
 use Rattle.bit_grammar.specs.Setting.{Setting}
 use Rattle.bit_grammar.specs.Under.{is_left, ids_behind, events_under}
 use Rattle.bit_grammar.specs.Blocks.{Limits}
@@ -199,11 +199,11 @@ Steps stands s old sign weighed.Passed apart now new = Passes stands s old now n
 Steps stands s old sign (weighed.Stands beside) apart now new = TellsComing old
     → Took stands s old sign beside apart now new
 
-abbrev pub Meets : blocks.OpenUnder → Stand → Coming → tree.Sign → Result Beside Fault → Apart
+-- the next entry, or the end of the stream, was taken, and this is the result of comparing it
+abbrev pub Meets : blocks.OpenUnder → Stand → Coming → tree.Sign → Beside → Apart
     → blocks.OpenUnder → Coming → Type 0
-Meets stands s old sign (Ok beside) apart now new = TellsComing old
+Meets stands s old sign beside apart now new = TellsComing old
     → Took stands s old sign beside apart now new
-Meets stands s old sign (Err fault) apart now new = ⊤
 
 -- ---- the comparison
 

@@ -192,25 +192,20 @@ fn weigh_next(
     ended: u64,
     sign: Sign<'_>,
     apart: &mut Apart,
-) -> Result<Weighed, Fault>
+) -> Result<Weighed, AllocError>
     ensures { IfOk result (λ weighed. Steps blocks.old (stand_of walk.now ended) events.old
         (sign_shown sign.entry) weighed apart.new blocks.new events.new) }
 {
-    if let Sign::Record(code, values) = sign {
-        match weigh_record(events, blocks, code, values, apart) {
-            Ok(None) => {}
-            Ok(Some(weighed)) => return Ok(weighed),
-            Err(AllocError) => return Err(Fault::Memory),
-        }
-    }
-    match events.next()? {
-        None => Ok(Weighed::Stands(held_beside(Sign::Over, ended, ended, sign, apart))),
-        Some(event) => weigh(event, sign, blocks, ended, apart).map_err(|_| Fault::Memory),
+    match events.next() {
+        Ok(None) => Ok(Weighed::Stands(held_beside(Sign::Over, ended, ended, sign, apart))),
+        Ok(Some(event)) => weigh(event, sign, blocks, ended, apart),
+        Err(_) => Err(AllocError),
     }
 }
 
 /// Takes the next kept sign of the first input, or the end of its stream, and compares it with this one. What comes before it ended
 /// at `ended`.
+#[inline(never)]
 fn next_beside(
     events: &mut SliceEvents<'_>,
     blocks: &mut OpenBlocks<'_>,
@@ -218,14 +213,40 @@ fn next_beside(
     ended: u64,
     sign: Sign<'_>,
     apart: &mut Apart,
-) -> Result<Beside, Fault>
-    ensures { Meets blocks.old (stand_of walk.now ended) events.old (sign_shown sign.entry) result
-        apart.new blocks.new events.new }
+) -> Result<Beside, AllocError>
+    ensures { IfOk result (λ beside. Meets blocks.old (stand_of walk.now ended) events.old
+        (sign_shown sign.entry) beside apart.new blocks.new events.new) }
 {
     'events: loop {
         match weigh_next(events, blocks, walk, ended, sign, apart)? {
             Weighed::Passed => {}
             Weighed::Stands(beside) => return Ok(beside),
+        }
+    }
+}
+
+/// The same for a record. The next kept sign is nearly always a record too, which is read in step with it.
+#[inline(always)]
+fn next_beside_record(
+    events: &mut SliceEvents<'_>,
+    blocks: &mut OpenBlocks<'_>,
+    walk: &Walk,
+    ended: u64,
+    code: u64,
+    values: &PackedValues,
+    apart: &mut Apart,
+) -> Result<Beside, AllocError>
+    ensures { IfOk result (λ beside. Meets blocks.old (stand_of walk.now ended) events.old
+        (has_record code values.now) beside apart.new blocks.new events.new) }
+{
+    'events: loop {
+        match weigh_record(events, blocks, code, values, apart)? {
+            Some(Weighed::Stands(beside)) => return Ok(beside),
+            Some(Weighed::Passed) => {}
+            None => {
+                let sign = Sign::Record(code, values);
+                return next_beside(events, blocks, walk, ended, sign, apart);
+            }
         }
     }
 }
@@ -310,19 +331,50 @@ impl<'a> Comparer<'a> {
             self.first_ended,
             sign,
             &mut self.apart,
-        ) {
-            Ok(Beside::Same(first_ended)) => {
+        )? {
+            Beside::Same(first_ended) => {
                 self.walk.pass(sign)?;
                 self.first_ended = first_ended;
                 self.second_ended = ended;
-                Ok(())
             }
-            Ok(Beside::Other) => {
-                put_down(&self.apart, sign, bit, &mut self.found);
-                Ok(())
-            }
-            Err(_) => Err(AllocError),
+            Beside::Other => put_down(&self.apart, sign, bit, &mut self.found),
         }
+        Ok(())
+    }
+
+    /// The same for a record, from `first` to below `after`.
+    fn take_record(
+        &mut self,
+        code: u64,
+        values: &PackedValues,
+        first: u64,
+        after: u64,
+    ) -> Result<(), AllocError>
+        ensures { OnOk result (TakesSign self.old (has_record code values.now) first after self.new) }
+    {
+        if self.found.is_some() {
+            return Ok(());
+        }
+        match next_beside_record(
+            &mut self.first,
+            &mut self.first_blocks,
+            &self.walk,
+            self.first_ended,
+            code,
+            values,
+            &mut self.apart,
+        )? {
+            Beside::Same(ended) => {
+                self.walk.pass(Sign::Record(code, values))?;
+                self.first_ended = ended;
+                self.second_ended = after;
+            }
+            Beside::Other => {
+                let sign = Sign::Record(code, values);
+                put_down(&self.apart, sign, first, &mut self.found);
+            }
+        }
+        Ok(())
     }
 
     /// The difference, if one was found.
@@ -397,7 +449,7 @@ impl<'a> Gatherer for Comparer<'a> {
         after: u64,
     ) -> Result<(), AllocError> {
         if self.second_blocks.leaves_record(code) {
-            return self.take(Sign::Record(code, values), first, after);
+            return self.take_record(code, values, first, after);
         }
         Ok(())
     }
