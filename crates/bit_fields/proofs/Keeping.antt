@@ -18,7 +18,7 @@ told_on kept now gone None j all gave more is = absurd cc
 told_on kept now gone (Some xs) None all gave more is = absurd gave
 told_on kept now gone (Some xs) (Some ys) all gave more is = ap Some (ap (λ (s : List ℕ). s ++ ys) more ∙ append_assoc kept gone ys ∙ ap (λ (s : List ℕ). kept ++ s) (sym gave)) ∙ is
 
-says_before : (a b : Account) (old new : List Account) → ((all : List ℕ) → (a.kept ≡ true → a.whole ≡ Some all) → b.kept ≡ true → b.whole ≡ Some all) → ((n : ℕ) (all : List ℕ) → SaysOf old n all → SaysOf new n all) → (n : ℕ) (all : List ℕ) → SaysOf (a ∷ old) n all → SaysOf (b ∷ new) n all
+pub says_before : (a b : Account) (old new : List Account) → ((all : List ℕ) → (a.kept ≡ true → a.whole ≡ Some all) → b.kept ≡ true → b.whole ≡ Some all) → ((n : ℕ) (all : List ℕ) → SaysOf old n all → SaysOf new n all) → (n : ℕ) (all : List ℕ) → SaysOf (a ∷ old) n all → SaysOf (b ∷ new) n all
 unfolding SaysOf
 says_before a b old new first others zero all says = first all says
 says_before a b old new first others (suc n) all says = others n all says
@@ -146,7 +146,7 @@ failed_buffered old mid new a b c count fresh looked buffered none whole cut =
 
 -- ---- in the end
 
-spared : (a b : Account) (old new : List Account) → ((n : ℕ) (all : List ℕ) → SaysOf (a ∷ old) n all → SaysOf (b ∷ new) n all) → (n : ℕ) (all : List ℕ) → SaysOf old n all → SaysOf new n all
+pub spared : (a b : Account) (old new : List Account) → ((n : ℕ) (all : List ℕ) → SaysOf (a ∷ old) n all → SaysOf (b ∷ new) n all) → (n : ℕ) (all : List ℕ) → SaysOf old n all → SaysOf new n all
 unfolding SaysOf
 spared a b old new more n all says = more (suc n) all says
 
@@ -173,7 +173,7 @@ all_of : (bytes all : List ℕ) (to_come : Option (List ℕ)) → prepend_known 
 all_of bytes all None is none = absurd cc
 all_of bytes all (Some rest) is none = sym (append-nil bytes) ∙ ap (λ (s : List ℕ). bytes ++ s) (sym none) ∙ (let same : Some (bytes ++ rest) ≡ Some all = is in cc)
 
-says_all : (a b : Account) (old new : List Account) (all : List ℕ) → ((n : ℕ) (all : List ℕ) → SaysOf (a ∷ old) n all → SaysOf (b ∷ new) n all) → a.whole ≡ Some all → b.kept ≡ true → b.whole ≡ Some all
+pub says_all : (a b : Account) (old new : List Account) (all : List ℕ) → ((n : ℕ) (all : List ℕ) → SaysOf (a ∷ old) n all → SaysOf (b ∷ new) n all) → a.whole ≡ Some all → b.kept ≡ true → b.whole ≡ Some all
 unfolding SaysOf
 says_all a b old new all more told kept = more zero all (λ h. told) kept
 

@@ -14,7 +14,7 @@ known_bytes (Some bytes) = bytes
 -- ---- sources
 
 -- The account of a source that keeps its bytes: whether it has kept all that it gave; and all its bytes, given and still to come,
--- if they are known.
+-- if they are known. The account of the front of a source (`front_of`) has the bytes behind it.
 pub record Account : Type 0 where
   pub kept : Bool
   pub whole : Option (List ℕ)
@@ -30,7 +30,7 @@ pub record Incoming : Type 0 where
   pub to_come : Option (List ℕ)
   pub pulls : ℕ
   pub failures : ℕ
-  -- the accounts of it and of each source within it that keeps its bytes, the outermost first
+  -- the accounts of it and of each source within it that has one, the outermost first
   pub accounts : List Account
 
 -- a counter is exhausted

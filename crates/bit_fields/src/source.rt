@@ -205,7 +205,8 @@ fn read_through<R: Read>(reader: &mut R, into: &mut [u8]) -> io::Result<usize>
     Err(IoError::from(ErrorKind::TimedOut))
 }
 
-/// A source over a reader. A read that a signal interrupted is tried again; any other error of the reader is a failure.
+/// A source over a reader. A read that a signal interrupted is tried again; any other error of the reader is a failure. A pull into
+/// an empty slice asks the reader for nothing.
 #[derive(Drop)]
 pub struct ReadSource<R> {
     reader: R,
@@ -293,6 +294,9 @@ impl<R: Read> Source for ReadSource<R> {
             return Err(SourceFailed);
         }
         self.pulls += 1;
+        if into.is_empty() {
+            return Ok(0);
+        }
         match read_through(&mut self.reader, into) {
             Ok(count) => Ok(count),
             Err(_) => {
