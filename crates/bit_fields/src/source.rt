@@ -49,7 +49,6 @@ pub trait Source {
     /// Lends the next bytes that are buffered, possibly none, and takes none.
     #[inline(always)]
     fn lend(&mut self) -> &[u8]
-        requires { IsFresh (incoming self.old) }
         ensures front { Begins (incoming self.old).to_come result.now }
         ensures* rests { sem 𝓛 (Rests Self.row self.entry
             (λ new. Looked (incoming self.old) (incoming new))) }
@@ -205,8 +204,7 @@ fn read_through<R: Read>(reader: &mut R, into: &mut [u8]) -> io::Result<usize>
     Err(IoError::from(ErrorKind::TimedOut))
 }
 
-/// A source over a reader. A read that a signal interrupted is tried again; any other error of the reader is a failure. A pull into
-/// an empty slice asks the reader for nothing.
+/// A source over a reader. A read that a signal interrupted is tried again; any other error of the reader is a failure.
 #[derive(Drop)]
 pub struct ReadSource<R> {
     reader: R,
@@ -267,12 +265,14 @@ impl<R: BufRead> ReadSource<R> {
     /// Lends the reader's buffer.
     #[inline(always)]
     fn lend(&mut self) -> &[u8]
-        requires { IsFresh (⟦<ReadSource<R> as Source>⟧.incoming self.old) }
         ensures front { Begins (⟦<ReadSource<R> as Source>⟧.incoming self.old).to_come result.now }
         ensures* rests { sem 𝓛 (Rests (the_row R.row) self.entry
             (λ new. Looked (⟦<ReadSource<R> as Source>⟧.incoming self.old)
             (⟦<ReadSource<R> as Source>⟧.incoming new))) }
     {
+        if self.is_worn() {
+            return &[];
+        }
         match self.reader.fill_buf() {
             Ok(bytes) => bytes,
             Err(_) => &[], // though the reader has just shown some
@@ -294,9 +294,6 @@ impl<R: Read> Source for ReadSource<R> {
             return Err(SourceFailed);
         }
         self.pulls += 1;
-        if into.is_empty() {
-            return Ok(0);
-        }
         match read_through(&mut self.reader, into) {
             Ok(count) => Ok(count),
             Err(_) => {
