@@ -224,8 +224,8 @@ known_front : (o : Option (List ℕ)) (first : ℕ) → IsSome o → IsSome (opt
 known_front None first told = absurd cc
 known_front (Some bytes) first told = refl
 
-rest_after : (limits : Limits) (first left : ℕ) (i j : Incoming) (bytes : List ℕ) → Kept limits (front_of first i) (front_of left j) bytes → HasRest first i j
-rest_after limits first left i j bytes kept told = rest_left first left i j (limits.bytes + 1) 0 kept.0 told (kept.1 (known_front i.to_come first told)).1
+rest_after : (limits : Limits) (first left pulls failures : ℕ) (i j : Incoming) (bytes : List ℕ) → Kept limits (front_of first 0 0 i) (front_of left pulls failures j) bytes → HasRest first i j
+rest_after limits first left pulls failures i j bytes kept told = rest_left first left pulls failures i j (limits.bytes + 1) 0 kept.0 told (kept.1 (known_front i.to_come first told)).1
 
 reached : (which : Which) (first : ℕ) (i j : Incoming) → HasRest first i j → HasRestUnless which first i j
 reached First first i j rest = tt
@@ -236,18 +236,18 @@ reaches (Ok found) first i j rest = rest
 reaches (Err e) first i j rest = reached e.which first i j rest
 
 -- the first was accepted
-pub finds_in_parts : (setting : Setting) (limits : Limits) (first left : ℕ) (i p q j later : Incoming) (bytes : List ℕ) (answer : Result (Option Difference) SameFault) → Capped limits → p ≡ front_of first i → q ≡ front_of left j → Kept limits p q bytes → ComparesWith setting limits bytes j answer later
+pub finds_in_parts : (setting : Setting) (limits : Limits) (first left pulls failures : ℕ) (i p q j later : Incoming) (bytes : List ℕ) (answer : Result (Option Difference) SameFault) → Capped limits → p ≡ front_of first 0 0 i → q ≡ front_of left pulls failures j → Kept limits p q bytes → ComparesWith setting limits bytes j answer later
     → FindsInParts setting limits first i answer later
-finds_in_parts setting limits first left i p q j later bytes answer capped begun ended read compared =
-    let kept = subst (λ (s : Incoming). Kept limits (front_of first i) s bytes) ended (subst (λ (s : Incoming). Kept limits s q bytes) begun read) in
-    (left, j, finds setting limits (front_of first i) (front_of left j) j later bytes answer capped kept compared, reaches answer first i j (rest_after limits first left i j bytes kept))
+finds_in_parts setting limits first left pulls failures i p q j later bytes answer capped begun ended read compared =
+    let kept = subst (λ (s : Incoming). Kept limits (front_of first 0 0 i) s bytes) ended (subst (λ (s : Incoming). Kept limits s q bytes) begun read) in
+    (left, pulls, failures, j, finds setting limits (front_of first 0 0 i) (front_of left pulls failures j) j later bytes answer capped kept compared, reaches answer first i j (rest_after limits first left pulls failures i j bytes kept))
 
 -- it was not
-pub parts_misread : {A : Type 0} (Holds : List ℕ → A → Type 0) (setting : Setting) (limits : Limits) (first left : ℕ) (i p q j : Incoming) (fault : Fault) → p ≡ front_of first i → q ≡ front_of left j → ReadsWhole Holds limits p (Err fault) q
+pub parts_misread : {A : Type 0} (Holds : List ℕ → A → Type 0) (setting : Setting) (limits : Limits) (first left pulls failures : ℕ) (i p q j : Incoming) (fault : Fault) → p ≡ front_of first 0 0 i → q ≡ front_of left pulls failures j → ReadsWhole Holds limits p (Err fault) q
     → FindsInParts setting limits first i (Err (record { which = First; fault = fault })) j
-parts_misread Holds setting limits first left i p q j fault begun ended read =
-    let none = subst (λ (s : Incoming). ReadsWhole Holds limits (front_of first i) (Err fault) s) ended (subst (λ (s : Incoming). ReadsWhole Holds limits s (Err fault) q) begun read) in
-    (left, j, misread_first Holds setting limits (front_of first i) (front_of left j) j fault none, tt)
+parts_misread Holds setting limits first left pulls failures i p q j fault begun ended read =
+    let none = subst (λ (s : Incoming). ReadsWhole Holds limits (front_of first 0 0 i) (Err fault) s) ended (subst (λ (s : Incoming). ReadsWhole Holds limits s (Err fault) q) begun read) in
+    (left, pulls, failures, j, misread_first Holds setting limits (front_of first 0 0 i) (front_of left pulls failures j) j fault none, tt)
 
 -- ---- whether there is no difference
 

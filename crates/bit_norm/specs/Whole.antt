@@ -124,9 +124,9 @@ ReachesRest first i j (Err e) = HasRestUnless e.which first i j
 -- The first `first` bytes of a source, or all if it has fewer, and its rest were compared. Between both the source was `j`.
 abbrev pub FindsInParts : Setting → Limits → (first : ℕ) → (i : Incoming)
     → Result (Option Difference) SameFault → (later : Incoming) → Type 0
-FindsInParts setting limits first i answer later = (left : ℕ) × (j : Incoming)
-    × FindsDifference setting limits (front_of first i) j answer (front_of left j) later
-    × ReachesRest first i j answer
+FindsInParts setting limits first i answer later = (left pulls failures : ℕ) × (j : Incoming)
+    × FindsDifference setting limits (front_of first 0 0 i) j answer
+    (front_of left pulls failures j) later × ReachesRest first i j answer
 
 -- such a source, which never failed, and another one were compared
 abbrev pub ComparesBytes : Setting → Limits → (bytes : List ℕ) → (j : Incoming)

@@ -1,5 +1,5 @@
 -- Comparing the first bytes of an input with the rest.
-use Rattle.std.proofs.Common.{◌≡◌, ℕ, ◌+◌, min, List, take, drop, Option, Some, None, Ok, Err, refl, sym, subst, inl, arith}
+use Rattle.std.proofs.Common.{◌≡◌, ℕ, ◌+◌, ◌-◌, ◌^◌, ◌<◌, min, List, take, drop, Option, Some, None, Ok, Err, refl, sym, subst, inl, arith}
 use Rattle.std.specs.Prelude.{IsSome, IfSome, option_map}
 use Rattle.bit_grammar.specs.Setting.{Setting}
 use Rattle.bit_grammar.specs.Under.{under}
@@ -14,7 +14,7 @@ use Rattle.bit_fields.specs.declared.fault.Fault as code
 use Rattle.bit_fields.specs.declared.fault.Fault.TheVariants as fault
 use Rattle.bit_fields.specs.Devices.{Incoming, Spends, Fails, known_bytes}
 use Rattle.bit_fields.specs.Front.{front_of}
-use Rattle.bit_fields.proofs.Fronts.{fails_behind, few_lost, few_spent, spends_behind}
+use Rattle.bit_fields.proofs.Fronts.{fails_behind, spends_behind}
 use Rattle.bit_events.specs.Reading.{Spent, LostInput}
 use Rattle.bit_norm.specs.declared.comparing.Which.{Which}
 use Rattle.bit_norm.specs.declared.comparing.Which.TheVariants.{First, Second}
@@ -32,7 +32,7 @@ use Rattle.bit_norm.proofs.Apart.{never_same}
 use Rattle.bitstool.specs.Differences.{different_text, same_text}
 use Rattle.bitstool.specs.LeftOut.{setting_for}
 use Rattle.bitstool.specs.Performing.{ComparesParts, FindsForTask, outcome_found, outcome_in}
-use Rattle.bitstool.specs.Runs.{Answers, DifferFirst, IsDrained, TakesAtMost, TakesInput, ToldBytes}
+use Rattle.bitstool.specs.Runs.{Answers, DifferFirst, IsDrained, TakesInput, ToldBytes}
 use Rattle.bitstool.proofs.Taking.{drained, fails_more, fails_then, spends_more, spends_then}
 use Rattle.bitstool.proofs.Known.{if_told}
 
@@ -46,22 +46,22 @@ second_is P first (Some bytes) j is h = subst (λ (rest : ToldBytes). IfSome res
 both_told : (P : List ℕ → List ℕ → Type 0) (a b : ToldBytes) → (IsSome a → IsSome b → P (known_bytes a) (known_bytes b)) → IfSome a (λ x. IfSome b (λ y. P x y))
 both_told P a b h = if_told a (λ x. IfSome b (λ y. P x y)) (λ one. if_told b (λ y. P (known_bytes a) y) (λ two. h one two))
 
-module _ (setting : Setting) (limits : Limits) (first left : ℕ) (i j later : Incoming) where
+module _ (setting : Setting) (limits : Limits) (first left pulls failures : ℕ) (i j later : Incoming) where
   -- for two inputs that were read
-  found_parts : (found : Option Difference) → FindsDifference setting limits (front_of first i) j (Ok found) (front_of left j) later → HasRest first i j → ComparesParts setting limits first i.to_come (Ok found)
+  found_parts : (found : Option Difference) → FindsDifference setting limits (front_of first 0 0 i) j (Ok found) (front_of left pulls failures j) later → HasRest first i j → ComparesParts setting limits first i.to_come (Ok found)
   found_parts None h rest =
       let Same : List ℕ → List ℕ → Type 0 = λ x y. (tree : Tree) × HasTree setting limits x tree × HasTree setting limits y tree in
-      second_is Same first i.to_come j.to_come rest (both_told Same (front_of first i).to_come j.to_come (λ one two. (under setting (tree_of h.0), (h.0, (h.2.1 one).0, refl), (h.1, (h.3.1 two).0, sym (h.4 one two)))))
+      second_is Same first i.to_come j.to_come rest (both_told Same (front_of first 0 0 i).to_come j.to_come (λ one two. (under setting (tree_of h.0), (h.0, (h.2.1 one).0, refl), (h.1, (h.3.1 two).0, sym (h.4 one two)))))
   found_parts (Some difference) h rest =
       let Apart : List ℕ → List ℕ → Type 0 = λ x y. DifferFirst setting limits x y (difference_shown difference) in
-      second_is Apart first i.to_come j.to_come rest (both_told Apart (front_of first i).to_come j.to_come (λ one two. (h.0, h.1, (h.2.1 one).0, (h.3.1 two).0, h.4 one two)))
+      second_is Apart first i.to_come j.to_come rest (both_told Apart (front_of first 0 0 i).to_come j.to_come (λ one two. (h.0, h.1, (h.2.1 one).0, (h.3.1 two).0, h.4 one two)))
 
   -- one was not read
-  fault_parts : (limit : ℕ) (which : Which) (why : code.Fault) → Misreads setting limits which why (front_of first i) j (front_of left j) later → HasRestUnless which first i j → ComparesParts setting limits first i.to_come (Err (outcome_in which limit why))
-  fault_parts limit First (fault.Refused reason bit) h rest = if_told (front_of first i).to_come (λ bytes. BreaksInput limits bytes (at reason bit)) h.0.1
+  fault_parts : (limit : ℕ) (which : Which) (why : code.Fault) → Misreads setting limits which why (front_of first 0 0 i) j (front_of left pulls failures j) later → HasRestUnless which first i j → ComparesParts setting limits first i.to_come (Err (outcome_in which limit why))
+  fault_parts limit First (fault.Refused reason bit) h rest = if_told (front_of first 0 0 i).to_come (λ bytes. BreaksInput limits bytes (at reason bit)) h.0.1
   fault_parts limit Second (fault.Refused reason bit) h rest =
       let Broken : List ℕ → List ℕ → Type 0 = λ x y. Accepts limits x × BreaksInput limits y (at reason bit) in
-      second_is Broken first i.to_come j.to_come rest (both_told Broken (front_of first i).to_come j.to_come (λ one two. let has = (h.1.1 one).0.0 in ((has.0, has.1), h.2.1 two)))
+      second_is Broken first i.to_come j.to_come rest (both_told Broken (front_of first 0 0 i).to_come j.to_come (λ one two. let has = (h.1.1 one).0.0 in ((has.0, has.1), h.2.1 two)))
   fault_parts limit First fault.Read h rest = tt
   fault_parts limit Second fault.Read h rest = tt
   fault_parts limit First fault.Memory h rest = tt
@@ -76,112 +76,69 @@ module _ (setting : Setting) (limits : Limits) (first left : ℕ) (i j later : I
   -- ---- the bytes that were taken
 
   -- of the first input
-  front_spent : Spent limits (front_of first i) (front_of left j) → Spends i (limits.bytes + 1) j 0 × TakesAtMost (min first (limits.bytes + 1)) i j
-  front_spent h =
-      let spent = spends_behind first left i j (limits.bytes + 1) 0 h in (
-        spent,
-        λ t.
-            let all = spent.bytes t in
-            let few = few_spent first left i j (limits.bytes + 1) 0 h t in
-            omega (arith, all, few),
-      )
+  front_spent : Spent limits (front_of first 0 0 i) (front_of left pulls failures j) → Spends i (min first (limits.bytes + 1)) j 0
+  front_spent h = spends_behind first left pulls failures i j (limits.bytes + 1) 0 h
 
-  front_lost : LostInput limits (front_of first i) (front_of left j) → Fails i (limits.bytes + 1) j 0 × TakesAtMost (min first (limits.bytes + 1)) i j
-  front_lost h =
-      let lost = fails_behind first left i j (limits.bytes + 1) 0 h in (
-        lost,
-        λ t.
-            let all = lost.bytes t in
-            let few = few_lost first left i j (limits.bytes + 1) 0 h t in
-            omega (arith, all, few),
-      )
+  front_lost : limits.bytes + 1 < 2 ^ 64 - 1 → LostInput limits (front_of first 0 0 i) (front_of left pulls failures j) → Fails i (min first (limits.bytes + 1)) j 0
+  front_lost small h = fails_behind first left pulls failures i j (limits.bytes + 1) 0 small h
 
   -- of both
   abbrev Most : ℕ
-  Most = (limits.bytes + 1) + (limits.bytes + 1)
+  Most = min first (limits.bytes + 1) + (limits.bytes + 1)
 
-  abbrev OfBoth : Incoming → Type 0
-  OfBoth = TakesAtMost (min first (limits.bytes + 1) + (limits.bytes + 1)) i
+  both_spent : Spent limits (front_of first 0 0 i) (front_of left pulls failures j) → Spent limits j later → Spends i Most later 0
+  both_spent h k = spends_then i j later (min first (limits.bytes + 1)) (limits.bytes + 1) (front_spent h) k
 
-  both_spent : Spent limits (front_of first i) (front_of left j) → Spent limits j later → Spends i Most later 0 × OfBoth later
-  both_spent h k =
-      let front = front_spent h in (
-        spends_then i j later (limits.bytes + 1) (limits.bytes + 1) front.0 k,
-        λ t.
-            let one = front.1 t in
-            let two = k.bytes (front.0.tells t) in
-            omega (arith, one, two),
-      )
+  both_lost : Spent limits (front_of first 0 0 i) (front_of left pulls failures j) → LostInput limits j later → Fails i Most later 0
+  both_lost h k = fails_then i j later (min first (limits.bytes + 1)) (limits.bytes + 1) (front_spent h) k
 
-  both_lost : Spent limits (front_of first i) (front_of left j) → LostInput limits j later → Fails i Most later 0 × OfBoth later
-  both_lost h k =
-      let front = front_spent h in (
-        fails_then i j later (limits.bytes + 1) (limits.bytes + 1) front.0 k,
-        λ t.
-            let one = front.1 t in
-            let two = k.bytes (front.0.tells t) in
-            omega (arith, one, two),
-      )
+  first_spent : Spent limits (front_of first 0 0 i) (front_of left pulls failures j) → Spends i Most j 0
+  first_spent h = spends_more i j (min first (limits.bytes + 1)) Most (omega arith) (front_spent h)
 
-  first_spent : Spent limits (front_of first i) (front_of left j) → Spends i Most j 0 × OfBoth j
-  first_spent h =
-      let front = front_spent h in (
-        spends_more i j (limits.bytes + 1) Most (omega arith) front.0,
-        λ t.
-            let one = front.1 t in
-            omega (arith, one),
-      )
-
-  first_lost : LostInput limits (front_of first i) (front_of left j) → Fails i Most j 0 × OfBoth j
-  first_lost h =
-      let front = front_lost h in (
-        fails_more i j (limits.bytes + 1) Most (omega arith) front.0,
-        λ t.
-            let one = front.1 t in
-            omega (arith, one),
-      )
+  first_lost : limits.bytes + 1 < 2 ^ 64 - 1 → LostInput limits (front_of first 0 0 i) (front_of left pulls failures j) → Fails i Most j 0
+  first_lost small h = fails_more i j (min first (limits.bytes + 1)) Most (omega arith) (front_lost small h)
 
   -- all bytes of an accepted input
-  all_taken : (a b : Marked) → ReadsMarked limits (front_of first i) a (front_of left j) → ReadsMarked limits j b later → IsDrained i later
+  all_taken : (a b : Marked) → ReadsMarked limits (front_of first 0 0 i) a (front_of left pulls failures j) → ReadsMarked limits j b later → IsDrained i later
   all_taken a b h k =
-      let known = (front_spent h.0).0.tells in
+      let known = (front_spent h.0).tells in
       drained i later (λ t. k.0.tells (known t)) (λ t. (k.1 (known t)).1)
 
-  taken_parts : (out : LeftOut) (explain : Explain) (found : Option Difference) → FindsDifference setting limits (front_of first i) j (Ok found) (front_of left j) later → TakesInput (Same first explain limits out) i later (outcome_found (Ok found))
+  taken_parts : (out : LeftOut) (explain : Explain) (found : Option Difference) → FindsDifference setting limits (front_of first 0 0 i) j (Ok found) (front_of left pulls failures j) later → TakesInput (Same first explain limits out) i later (outcome_found (Ok found))
   taken_parts out explain None h = (both_spent h.2.0 h.3.0, all_taken h.0 h.1 h.2 h.3)
   taken_parts out explain (Some difference) h = (both_spent h.2.0 h.3.0, all_taken h.0 h.1 h.2 h.3)
 
-  taken_first : (out : LeftOut) (explain : Explain) (why : code.Fault) → ReadsTree setting limits (front_of first i) (Err why) (front_of left j) → TakesInput (Same first explain limits out) i j (outcome_in First limits.bytes why)
-  taken_first out explain (fault.Refused reason bit) h = (front_spent h.0, tt)
-  taken_first out explain fault.Read h = (first_lost h, tt)
-  taken_first out explain fault.Memory h = let took = first_spent h in ((inl took.0, took.1), tt)
-  taken_first out explain fault.Write h = absurd h
-  taken_first out explain fault.OutputTooLong h = absurd h
-  taken_first out explain fault.Failed h = absurd h
+  taken_first : limits.bytes + 1 < 2 ^ 64 - 1 → (out : LeftOut) (explain : Explain) (why : code.Fault) → ReadsTree setting limits (front_of first 0 0 i) (Err why) (front_of left pulls failures j) → TakesInput (Same first explain limits out) i j (outcome_in First limits.bytes why)
+  taken_first small out explain (fault.Refused reason bit) h = (front_spent h.0, tt)
+  taken_first small out explain fault.Read h = (first_lost small h, tt)
+  taken_first small out explain fault.Memory h = (inl (first_spent h), tt)
+  taken_first small out explain fault.Write h = absurd h
+  taken_first small out explain fault.OutputTooLong h = absurd h
+  taken_first small out explain fault.Failed h = absurd h
 
-  taken_fault : (out : LeftOut) (explain : Explain) (which : Which) (why : code.Fault) → Misreads setting limits which why (front_of first i) j (front_of left j) later → TakesInput (Same first explain limits out) i later (outcome_in which limits.bytes why)
-  taken_fault out explain First why h = subst (λ (n : Incoming). TakesInput (Same first explain limits out) i n (outcome_in First limits.bytes why)) (sym h.1) (taken_first out explain why h.0)
-  taken_fault out explain Second (fault.Refused reason bit) h = (both_spent h.1.0 h.2.0, tt)
-  taken_fault out explain Second fault.Read h = (both_lost h.1.0 h.2, tt)
-  taken_fault out explain Second fault.Memory h = let took = both_spent h.1.0 h.2 in ((inl took.0, took.1), tt)
-  taken_fault out explain Second fault.Write h = absurd h.2
-  taken_fault out explain Second fault.OutputTooLong h = absurd h.2
-  taken_fault out explain Second fault.Failed h = absurd h.2
+  taken_fault : limits.bytes + 1 < 2 ^ 64 - 1 → (out : LeftOut) (explain : Explain) (which : Which) (why : code.Fault) → Misreads setting limits which why (front_of first 0 0 i) j (front_of left pulls failures j) later → TakesInput (Same first explain limits out) i later (outcome_in which limits.bytes why)
+  taken_fault small out explain First why h = subst (λ (n : Incoming). TakesInput (Same first explain limits out) i n (outcome_in First limits.bytes why)) (sym h.1) (taken_first small out explain why h.0)
+  taken_fault small out explain Second (fault.Refused reason bit) h = (both_spent h.1.0 h.2.0, tt)
+  taken_fault small out explain Second fault.Read h = (both_lost h.1.0 h.2, tt)
+  taken_fault small out explain Second fault.Memory h = (inl (both_spent h.1.0 h.2), tt)
+  taken_fault small out explain Second fault.Write h = absurd h.2
+  taken_fault small out explain Second fault.OutputTooLong h = absurd h.2
+  taken_fault small out explain Second fault.Failed h = absurd h.2
 
 -- the two inputs were compared
 module _ (out : LeftOut) (limits : Limits) (first : ℕ) (i later : Incoming) where
   pub compared : (found : Option Difference) → FindsInParts (setting_for out) limits first i (Ok found) later → ComparesParts (setting_for out) limits first i.to_come (Ok found)
-  compared found h = found_parts (setting_for out) limits first h.0 i h.1 later found h.2 h.3
+  compared found h = found_parts (setting_for out) limits first h.0 h.1 h.2 i h.3 later found h.4 h.5
 
   pub compared_taken : (explain : Explain) (found : Option Difference) → FindsInParts (setting_for out) limits first i (Ok found) later → TakesInput (Same first explain limits out) i later (outcome_found (Ok found))
-  compared_taken explain found h = taken_parts (setting_for out) limits first h.0 i h.1 later out explain found h.2
+  compared_taken explain found h = taken_parts (setting_for out) limits first h.0 h.1 h.2 i h.3 later out explain found h.4
 
   -- or not
   pub misread : (limit : ℕ) (e : SameFault) → FindsInParts (setting_for out) limits first i (Err e) later → ComparesParts (setting_for out) limits first i.to_come (Err (outcome_in e.which limit e.fault))
-  misread limit e h = fault_parts (setting_for out) limits first h.0 i h.1 later limit e.which e.fault h.2 h.3
+  misread limit e h = fault_parts (setting_for out) limits first h.0 h.1 h.2 i h.3 later limit e.which e.fault h.4 h.5
 
-  pub misread_taken : (explain : Explain) (e : SameFault) → FindsInParts (setting_for out) limits first i (Err e) later → TakesInput (Same first explain limits out) i later (outcome_in e.which limits.bytes e.fault)
-  misread_taken explain e h = taken_fault (setting_for out) limits first h.0 i h.1 later out explain e.which e.fault h.2
+  pub misread_taken : limits.bytes + 1 < 2 ^ 64 - 1 → (explain : Explain) (e : SameFault) → FindsInParts (setting_for out) limits first i (Err e) later → TakesInput (Same first explain limits out) i later (outcome_in e.which limits.bytes e.fault)
+  misread_taken small explain e h = taken_fault (setting_for out) limits first h.0 h.1 h.2 i h.3 later small out explain e.which e.fault h.4
 
 -- ---- the report on that
 

@@ -46,7 +46,7 @@ use Rattle.bitstool.specs.declared.task.Task.TheVariants.{Check, Normal, Same, A
 use Rattle.bitstool.specs.Performing.{ComparesParts, FindsForTask, Found, Judges, Settles, TellsDifference, TellsFound, TellsLine, outcome_of_assembling, outcome_of_writing, outcome_found, outcome_of}
 use Rattle.bitstool.specs.Differences.{different_text, same_text}
 use Rattle.bitstool.specs.LeftOut.{setting_for}
-use Rattle.bitstool.specs.Runs.{IsDrained, ToldBytes, Answers, Refuses, StopsShort, LacksMemory, LeavesRefused, LeavesUnread, StaysOutput, TakesInput, LeavesOutput, Does, most_of_parts, most_taken, Pays, PaysForRun, TakesListing}
+use Rattle.bitstool.specs.Runs.{IsDrained, ToldBytes, Answers, Refuses, StopsShort, LacksMemory, LeavesRefused, LeavesUnread, StaysOutput, TakesInput, LeavesOutput, Does, most_taken, Pays, PaysForRun, TakesListing}
 use Rattle.bitstool.proofs.Known.{gained, gained_front, gains_front, gains_text, gains_part, gains_kept, front_kept, if_told}
 use Rattle.bitstool.proofs.Comparing.{apart_answers, same_answers, unread_finds}
 use Rattle.bitstool.proofs.Taking.{drained, fails_more, spends_more, takes_done, takes_fault, takes_long, takes_memory, takes_write}
@@ -378,19 +378,6 @@ most_write first explain limits out Read = omega arith
 most_write first explain limits out Write = omega arith
 most_write first explain limits out Memory = omega arith
 
-parts_write : (first : ℕ) (limits : Limits) (o : Outcome) → most_of_parts first limits o ≤ most_of_parts first limits Write
-parts_write first limits (RefusedOf First reason bit) = omega arith
-parts_write first limits (RefusedOf Second reason bit) = omega arith
-parts_write first limits Done = omega arith
-parts_write first limits Different = omega arith
-parts_write first limits (Refused reason bit) = omega arith
-parts_write first limits (RefusedLine reason line) = omega arith
-parts_write first limits (TooLong limit) = omega arith
-parts_write first limits Usage = omega arith
-parts_write first limits Read = omega arith
-parts_write first limits Write = omega arith
-parts_write first limits Memory = omega arith
-
 paid_more : (i now : Incoming) (a b : ℕ) (o : Outcome) → a ≤ b → PaysForRun o i a now → PaysForRun Write i b now
 paid_more i now a b Done le p = inl (spends_more i now a b le p)
 paid_more i now a b Different le p = inl (spends_more i now a b le p)
@@ -419,13 +406,8 @@ listing_write i now Memory p = inl p
 pays_write : (task : Task) (i now : Incoming) (o : Outcome) → Pays task o i now → Pays task Write i now
 pays_write (Check limits) i now o p = paid_more i now (limits.bytes + 1) (limits.bytes + 1) o (omega arith) p
 pays_write (Normal limits out) i now o p = paid_more i now (limits.bytes + 1) (limits.bytes + 1) o (omega arith) p
-pays_write (Same first explain limits out) i now o p = (
-  paid_more i now (most_taken (Same first explain limits out) o) (most_taken (Same first explain limits out) Write) o (most_write first explain limits out o) p.0,
-  λ t.
-      let few = p.1 t in
-      let more = parts_write first limits o in
-      omega (arith, few, more),
-)
+pays_write (Same first explain limits out) i now o p =
+    paid_more i now (most_taken (Same first explain limits out) o) (most_taken (Same first explain limits out) Write) o (most_write first explain limits out o) p
 pays_write (Analyse limits format) i now o p = paid_more i now (limits.bytes + 1) (limits.bytes + 1) o (omega arith) p
 pays_write (Show limits out) i now o p = paid_more i now (limits.bytes + 1) (limits.bytes + 1) o (omega arith) p
 pays_write (Events limits style) i now o p = paid_more i now (limits.bytes + 1) (limits.bytes + 1) o (omega arith) p
@@ -467,7 +449,7 @@ no_line task i now old new outcome not_done not_different stays refuses judged =
 module _ (out : LeftOut) (limits : Limits) (first : ℕ) (explain : Explain) (i now : Incoming) (old new : Outgoing) (after : Outcome) where
   difference_told : (text : List ℕ) → TakesInput (Same first explain limits out) i now Different → Answers (Same first explain limits out) i.to_come Different (bits_of_bytes text) → TellsDifference text old after new → Does (Same first explain limits out) i now old new after
   difference_told text takes answers (inl told) = different_told (Same first explain limits out) i now old new text after takes answers told
-  difference_told text takes answers (inr none) = rw (none.0) (((inl takes.0.0, takes.0.1), tt), stays_same old new none.1)
+  difference_told text takes answers (inr none) = rw (none.0) ((inl takes.0, tt), stays_same old new none.1)
 
   pub told_same : (found : Found) → TakesInput (Same first explain limits out) i now (outcome_found found) → ComparesParts (setting_for out) limits first i.to_come found → TellsFound explain found old after new
       → Does (Same first explain limits out) i now old new after

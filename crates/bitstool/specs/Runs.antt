@@ -1,5 +1,5 @@
 -- What a command does with its input and its output, and what a run of the program does, over any devices.
-use Rattle.std.specs.Prelude.{◌≡◌, ◌≢◌, ◌⊎◌, ⊤, ℕ, ◌+◌, ◌<◌, ◌≤◌, min, Bool, List, [], ◌++◌, take, drop, codes, length, Option, Some, IfSome, IsSome, Ok, Err, string_bytes}
+use Rattle.std.specs.Prelude.{◌≡◌, ◌≢◌, ◌⊎◌, ⊤, ℕ, ◌+◌, ◌<◌, ◌≤◌, min, Bool, List, [], ◌++◌, take, drop, codes, Option, Some, IfSome, Ok, Err, string_bytes}
 use Rattle.std.specs.Io.KnownBytes.{Keeps}
 use Rattle.bit_grammar.specs.Setting.{Setting}
 use Rattle.bit_grammar.specs.declared.reason.Reason.{Reason}
@@ -16,7 +16,7 @@ use Rattle.bit_grammar.specs.Texts.{listing_of}
 use Rattle.bit_grammar.specs.EventTexts.{outlook_end}
 use Rattle.bit_grammar.specs.Machine.{Ending, accepted, broke}
 use Rattle.bit_grammar.specs.Outlook.{Outlook, outlook}
-use Rattle.bit_fields.specs.Devices.{Incoming, IsWorn, Outgoing, Spends, Fails, known_bytes}
+use Rattle.bit_fields.specs.Devices.{Incoming, IsWorn, Outgoing, Spends, Fails}
 use Rattle.bit_scan.specs.declared.format.EventStyle.{EventStyle}
 use Rattle.bit_scan.specs.Analysing.{HasTally}
 use Rattle.bit_scan.specs.Styles.{report_as, styled_outlook}
@@ -131,21 +131,11 @@ limits_of (Events limits style) = limits
 limits_of (Assemble limits) = limits
 
 -- The most bytes that a command takes of its input, and the most pulls that it makes: the limit on bytes, plus one. For two inputs
--- that is the most of each. If the first is refused, the second is not read.
+-- that is the most of each, and at most `first` bytes of the first. If the first is refused, the second is not read.
 abbrev pub most_taken : Task → Outcome → ℕ
-most_taken (Same first explain limits left) (RefusedOf First reason bit) = limits.bytes + 1
-most_taken (Same first explain limits left) outcome = (limits.bytes + 1) + (limits.bytes + 1)
+most_taken (Same first explain limits left) (RefusedOf First reason bit) = min first (limits.bytes + 1)
+most_taken (Same first explain limits left) outcome = min first (limits.bytes + 1) + (limits.bytes + 1)
 most_taken task outcome = (limits_of task).bytes + 1
-
--- the most bytes of two inputs: at most `first` are the first's
-abbrev pub most_of_parts : (first : ℕ) → Limits → Outcome → ℕ
-most_of_parts first limits (RefusedOf First reason bit) = min first (limits.bytes + 1)
-most_of_parts first limits outcome = min first (limits.bytes + 1) + (limits.bytes + 1)
-
--- at most this many bytes were taken, if they are known
-abbrev pub TakesAtMost : ℕ → Incoming → Incoming → Type 0
-TakesAtMost most i now = IsSome i.to_come
-    → length (known_bytes i.to_come) ≤ length (known_bytes now.to_come) + most
 
 -- an input whose bytes are known has none left
 abbrev pub IsDrained : Incoming → Incoming → Type 0
@@ -176,9 +166,6 @@ TakesListing outcome i now = now.failures ≡ i.failures
 
 abbrev pub Pays : Task → Outcome → Incoming → Incoming → Type 0
 Pays (Assemble limits) outcome i now = TakesListing outcome i now
-Pays (Same first explain limits left) outcome i now =
-    PaysForRun outcome i (most_taken (Same first explain limits left) outcome) now
-    × TakesAtMost (most_of_parts first limits outcome) i now
 Pays task outcome i now = PaysForRun outcome i (most_taken task outcome) now
 
 abbrev pub TakesInput : Task → Incoming → Incoming → Outcome → Type 0

@@ -1,3 +1,4 @@
+use Rattle.std.proofs.Common.{arith}
 use Rattle.bitstool.proofs.Comparing.{compared, compared_taken, misread, misread_taken}
 use Rattle.bitstool.proofs.perform.compare.Goals as goal
 
@@ -14,7 +15,7 @@ returns-in-Ok-clause-found g c =
 pub returns-in-Err-clause-taken : goal.returns-in-Err-clause-taken
 returns-in-Err-clause-taken g c explain =
     let found = rw c.in-Err.is at (rw c.info.ensures at c.first_difference_in_parts-answer.ensures) in
-    rw (c.outcome_in-outcome.ensures, c.bytes.ensures.bytes) (misread_taken c.args.left.now c.args.limits c.args.first (g.S.Source.incoming c.args.source) (g.S.Source.incoming c.first_difference_in_parts-answer.result.1) explain c.in-Err.misread found)
+    rw (c.outcome_in-outcome.ensures, c.bytes.ensures.bytes) (misread_taken c.args.left.now c.args.limits c.args.first (g.S.Source.incoming c.args.source) (g.S.Source.incoming c.first_difference_in_parts-answer.result.1) (omega (arith, c.bytes.ensures.capped.bytes)) explain c.in-Err.misread found)
 
 pub returns-in-Err-clause-found : goal.returns-in-Err-clause-found
 returns-in-Err-clause-found g c =
