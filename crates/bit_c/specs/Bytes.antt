@@ -1,6 +1,6 @@
 -- The bytes of events, and what their source tells.
 use Rattle.std.specs.Prelude.{◌≡◌, ⊤, true, ℕ, List, Some, None}
-use Rattle.bit_fields.specs.Devices.{Account, Incoming}
+use Rattle.bit_fields.specs.Devices.{Account, keeping, Incoming}
 use Rattle.bit_c.specs.declared.input_bytes.Bytes.{Bytes}
 use Rattle.bit_c.specs.declared.input_bytes.Bytes.TheVariants.{Lent, Owned}
 
@@ -10,8 +10,8 @@ bytes_in (Owned bytes) = bytes.items
 
 -- Owned bytes are accounted for. Lent ones are not, so owned bytes that went into a source come out of it as owned bytes.
 abbrev pub account_of : Bytes → Account
-account_of (Lent bytes) = record { kept = true; whole = None }
-account_of (Owned bytes) = record { kept = true; whole = Some bytes.items }
+account_of (Lent bytes) = keeping true None
+account_of (Owned bytes) = keeping true (Some bytes.items)
 
 -- a source that has given none of its bytes
 abbrev pub whole : List ℕ → List Account → Incoming

@@ -7,7 +7,7 @@ use Rattle.bit_grammar.specs.Grammar.{Grammar, at, gives, position, test, choose
 use Rattle.bit_grammar.proofs.Readings.Deciding.{reads, is_spelled, one_value}
 use Rattle.bit_fields.specs.declared.fault.Fault.{Fault}
 use Rattle.bit_fields.specs.declared.fault.Fault.TheVariants.{Refused, Read, Write, Memory, OutputTooLong, Failed}
-use Rattle.bit_fields.specs.Reader.{Reader, Extent, within, Breaks, GoesOn, Took, StopsReading, Loses, Why, Takes, IsOnly, failed_reader}
+use Rattle.bit_fields.specs.Reader.{Reader, Extent, Breaks, GoesOn, Took, StopsReading, Loses, Why, Takes, IsOnly, failed_reader}
 use Rattle.bit_fields.proofs.InflowLaws.{Spends-refl, Spends-trans, Spends-none, fails_later}
 
 pub goes_on_both : (a b c : Reader) → GoesOn a b → GoesOn b c → GoesOn a c

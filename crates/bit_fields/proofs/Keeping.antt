@@ -6,7 +6,7 @@ use lib.Seq.{take-append_seam}
 use Rattle.std.specs.Io.KnownBytes.{Consumes, Keeps, prepend_known}
 use Rattle.bit_fields.specs.declared.kept.Kept.{Kept}
 use Rattle.bit_fields.specs.declared.source.SourceFailed.{SourceFailed}
-use Rattle.bit_fields.specs.Devices.{Account, SaysOf, Incoming, IsFresh, Begins, Gave, GaveNone, GaveUnseen, Looked, Looks, Spends, Fails, known_bytes, keeps_of}
+use Rattle.bit_fields.specs.Devices.{Account, keeping, Says, SaysOf, Incoming, IsFresh, Begins, Gave, GaveNone, GaveUnseen, Looked, Looks, Spends, Fails, known_bytes, keeps_of}
 use Rattle.bit_fields.specs.Kept.{KeptBuffered}
 use Rattle.bit_fields.proofs.Words.{looked_consumed, none_looked}
 
@@ -18,7 +18,7 @@ told_on kept now gone None j all gave more is = absurd cc
 told_on kept now gone (Some xs) None all gave more is = absurd gave
 told_on kept now gone (Some xs) (Some ys) all gave more is = ap Some (ap (λ (s : List ℕ). s ++ ys) more ∙ append_assoc kept gone ys ∙ ap (λ (s : List ℕ). kept ++ s) (sym gave)) ∙ is
 
-says_before : (a b : Account) (old new : List Account) → ((all : List ℕ) → (a.kept ≡ true → a.whole ≡ Some all) → b.kept ≡ true → b.whole ≡ Some all) → ((n : ℕ) (all : List ℕ) → SaysOf old n all → SaysOf new n all) → (n : ℕ) (all : List ℕ) → SaysOf (a ∷ old) n all → SaysOf (b ∷ new) n all
+pub says_before : (a b : Account) (old new : List Account) → ((all : List ℕ) → Says a all → Says b all) → ((n : ℕ) (all : List ℕ) → SaysOf old n all → SaysOf new n all) → (n : ℕ) (all : List ℕ) → SaysOf (a ∷ old) n all → SaysOf (b ∷ new) n all
 unfolding SaysOf
 says_before a b old new first others zero all says = first all says
 says_before a b old new first others (suc n) all says = others n all says
@@ -32,7 +32,7 @@ gave_kept was is kept now i j count into gave keeps = record {
   end = gave.end;
   pulls = gave.pulls;
   failures = gave.failures;
-  accounts = says_before (record { kept = was; whole = prepend_known kept i.to_come }) (record { kept = is; whole = prepend_known now j.to_come }) i.accounts j.accounts
+  accounts = says_before (keeping was (prepend_known kept i.to_come)) (keeping is (prepend_known now j.to_come)) i.accounts j.accounts
       (λ all says h. told_on kept now (take count into) i.to_come j.to_come all gave.bytes (keeps h).1 (says (keeps h).0)) gave.accounts;
 }
 
@@ -47,7 +47,7 @@ gave_none is kept i j none = record {
   bytes = none.bytes;
   counted = none.counted;
   worn = λ worn. ap (keeps_of is kept) (none.worn worn);
-  accounts = says_before (record { kept = is; whole = prepend_known kept i.to_come }) (record { kept = is; whole = prepend_known kept j.to_come }) i.accounts j.accounts
+  accounts = says_before (keeping is (prepend_known kept i.to_come)) (keeping is (prepend_known kept j.to_come)) i.accounts j.accounts
       (λ all says h. kept_told kept i.to_come j.to_come all none.bytes (says h)) none.accounts;
 }
 
@@ -60,7 +60,7 @@ looked_kept is kept i j looked = record {
   pulls = looked.pulls;
   failures = looked.failures;
   worn = λ worn. ap (keeps_of is kept) (looked.worn worn);
-  accounts = says_before (record { kept = is; whole = prepend_known kept i.to_come }) (record { kept = is; whole = prepend_known kept j.to_come }) i.accounts j.accounts
+  accounts = says_before (keeping is (prepend_known kept i.to_come)) (keeping is (prepend_known kept j.to_come)) i.accounts j.accounts
       (λ all says h. kept_told kept i.to_come j.to_come all looked.bytes (says h)) looked.accounts;
 }
 
@@ -92,7 +92,7 @@ gave_buffered old new a b c count into looked buffered gave = record {
   end = gave.end;
   pulls = gave.pulls ∙ ap (λ (n : ℕ). n + 1) looked.pulls;
   failures = gave.failures ∙ looked.failures;
-  accounts = says_before (record { kept = old.whole; whole = prepend_known old.bytes.items a.to_come }) (record { kept = new.whole; whole = prepend_known new.bytes.items c.to_come }) a.accounts c.accounts
+  accounts = says_before (keeping old.whole (prepend_known old.bytes.items a.to_come)) (keeping new.whole (prepend_known new.bytes.items c.to_come)) a.accounts c.accounts
       (λ all says h. let grew = buffered.3 h in
       told_buffered old.bytes.items new.bytes.items buffered.0 (take count into) a.to_come c.to_come all (looked_consumed a.to_come b.to_come c.to_come (take count into) looked.bytes gave.bytes) buffered.2 (buffered.1 ∙ sym (length-take-le count into gave.fits)) grew.1 (says grew.0))
       (λ n all says. gave.accounts n all (looked.accounts n all says));
@@ -128,7 +128,7 @@ lost_none was is kept now i j fresh same none = record {
   bytes = none.bytes;
   counted = none.counted;
   worn = λ worn. absurd (omega (arith, fresh, worn));
-  accounts = says_before (record { kept = was; whole = prepend_known kept i.to_come }) (record { kept = is; whole = prepend_known now j.to_come }) i.accounts j.accounts
+  accounts = says_before (keeping was (prepend_known kept i.to_come)) (keeping is (prepend_known now j.to_come)) i.accounts j.accounts
       (λ all says h. let s = same h in subst (λ (list : List ℕ). prepend_known list j.to_come ≡ Some all) (sym s.1) (kept_told kept i.to_come j.to_come all none.bytes (says s.0))) none.accounts;
 }
 
@@ -146,7 +146,7 @@ failed_buffered old mid new a b c count fresh looked buffered none whole cut =
 
 -- ---- in the end
 
-spared : (a b : Account) (old new : List Account) → ((n : ℕ) (all : List ℕ) → SaysOf (a ∷ old) n all → SaysOf (b ∷ new) n all) → (n : ℕ) (all : List ℕ) → SaysOf old n all → SaysOf new n all
+pub spared : (a b : Account) (old new : List Account) → ((n : ℕ) (all : List ℕ) → SaysOf (a ∷ old) n all → SaysOf (b ∷ new) n all) → (n : ℕ) (all : List ℕ) → SaysOf old n all → SaysOf new n all
 unfolding SaysOf
 spared a b old new more n all says = more (suc n) all says
 
@@ -157,7 +157,7 @@ spends_within was is xs ys i j before after p = record {
   failures = p.failures;
   tells = p.tells;
   bytes = p.bytes;
-  accounts = spared (record { kept = was; whole = prepend_known xs i.to_come }) (record { kept = is; whole = prepend_known ys j.to_come }) i.accounts j.accounts p.accounts;
+  accounts = spared (keeping was (prepend_known xs i.to_come)) (keeping is (prepend_known ys j.to_come)) i.accounts j.accounts p.accounts;
 }
 
 pub fails_within : (was is : Bool) (xs ys : List ℕ) (i j : Incoming) (before after : ℕ) → Fails (keeps_of was xs i) before (keeps_of is ys j) after → Fails i before j after
@@ -166,18 +166,18 @@ fails_within was is xs ys i j before after p = record {
   failed = p.failed;
   tells = p.tells;
   bytes = p.bytes;
-  accounts = spared (record { kept = was; whole = prepend_known xs i.to_come }) (record { kept = is; whole = prepend_known ys j.to_come }) i.accounts j.accounts p.accounts;
+  accounts = spared (keeping was (prepend_known xs i.to_come)) (keeping is (prepend_known ys j.to_come)) i.accounts j.accounts p.accounts;
 }
 
 all_of : (bytes all : List ℕ) (to_come : Option (List ℕ)) → prepend_known bytes to_come ≡ Some all → known_bytes to_come ≡ [] → bytes ≡ all
 all_of bytes all None is none = absurd cc
 all_of bytes all (Some rest) is none = sym (append-nil bytes) ∙ ap (λ (s : List ℕ). bytes ++ s) (sym none) ∙ (let same : Some (bytes ++ rest) ≡ Some all = is in cc)
 
-says_all : (a b : Account) (old new : List Account) (all : List ℕ) → ((n : ℕ) (all : List ℕ) → SaysOf (a ∷ old) n all → SaysOf (b ∷ new) n all) → a.whole ≡ Some all → b.kept ≡ true → b.whole ≡ Some all
+pub says_first : (a b : Account) (old new : List Account) (all : List ℕ) → ((n : ℕ) (all : List ℕ) → SaysOf (a ∷ old) n all → SaysOf (b ∷ new) n all) → Says a all → Says b all
 unfolding SaysOf
-says_all a b old new all more told kept = more zero all (λ h. told) kept
+says_first a b old new all more told = more zero all told
 
 -- if no byte is left it has kept all
 pub all_kept : (bytes all : List ℕ) (i j : Incoming) (before after : ℕ) → Spends (keeps_of true [] i) before (keeps_of true bytes j) after → i.to_come ≡ Some all → known_bytes j.to_come ≡ [] → bytes ≡ all
 all_kept bytes all i j before after p told none =
-    all_of bytes all j.to_come (says_all (record { kept = true; whole = prepend_known [] i.to_come }) (record { kept = true; whole = prepend_known bytes j.to_come }) i.accounts j.accounts all p.accounts (ap (prepend_known []) told) refl) none
+    all_of bytes all j.to_come (says_first (keeping true (prepend_known [] i.to_come)) (keeping true (prepend_known bytes j.to_come)) i.accounts j.accounts all p.accounts (λ h. ap (prepend_known []) told) refl) none

@@ -2,6 +2,7 @@ pub mod BitLaws
 pub mod Words
 pub mod InflowLaws
 pub mod Keeping
+pub mod Fronts
 pub mod Shortening
 pub mod Draining
 pub mod Composing

@@ -7,7 +7,7 @@ use Rattle.std.proofs.lemmas.Nat.{shr-shr, mod-pow-add, pow_pos, mod_below, div-
 use Rattle.std.proofs.Math.Nat.{mod-eq_of_lt, div-eq_of_lt}
 use Rattle.std.proofs.Math.Pow.{pow_mono, mod-mod-pow}
 use Rattle.bit_grammar.specs.Bits.{bits_of, number}
-use Rattle.bit_grammar.specs.Grammar.{at, reading}
+use Rattle.bit_grammar.specs.Grammar.{reading}
 use Rattle.bit_grammar.specs.Fields.{chunks, vbr}
 use Rattle.bit_grammar.specs.Terms.{chunk_limit}
 use Rattle.bit_grammar.proofs.Bits.Numbers.{length-bits_of}

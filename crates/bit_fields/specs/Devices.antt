@@ -13,16 +13,40 @@ known_bytes (Some bytes) = bytes
 
 -- ---- sources
 
--- The account of a source that keeps its bytes: whether it has kept all that it gave; and all its bytes, given and still to come,
--- if they are known.
-pub record Account : Type 0 where
-  pub kept : Bool
-  pub whole : Option (List ℕ)
+-- the counts of a source that another one calls, those of its caller, and how many more pulls the caller may make
+pub record Calls : Type 0 where
+  pub pulls : ℕ
+  pub failures : ℕ
+  pub asked : ℕ
+  pub failed : ℕ
+  pub left : ℕ
 
--- an account says that these are all bytes, unless not all are kept
+-- Since the source had these counts it was called at most as often as its caller, and at most `most` times. The caller fails if the
+-- source does, and then calls it no more.
+pub record CalledFrom (calls : Calls) (pulls failures most : ℕ) : Type 0 where
+  pub each : calls.pulls ≤ pulls + calls.asked
+  pub well : calls.failed ≡ 0 → (calls.pulls + calls.left ≤ pulls + most)
+      × (calls.failures ≡ failures)
+  pub lost : 0 < calls.failed → (calls.pulls ≤ pulls + most)
+      × ((calls.failures ≡ failures + 1)
+      ⊎ ((calls.failures ≡ failures) × (2 ^ 64 - 1 ≤ max calls.pulls calls.failures)))
+
+-- The account of a source that keeps bytes: whether it has kept all, and all its bytes, given and still to come, if they are known.
+-- That of a source that calls another one: the counts of both.
+pub data Account : Type 0 where
+  keeping : Bool → Option (List ℕ) → Account
+  calling : Calls → Account
+
+-- What an account says: these are all bytes, unless not all are kept; or the other source was called since it had these counts.
+abbrev pub Says : Account → List ℕ → Type 0
+Says (keeping kept whole) all = kept ≡ true → whole ≡ Some all
+Says (calling calls) (pulls ∷ failures ∷ most ∷ []) = CalledFrom calls pulls failures most
+Says (calling calls) numbers = Unit {0}
+
+-- what the account with this number says
 unfoldable pub SaysOf : List Account → ℕ → List ℕ → Type 0
 SaysOf [] n all = Unit {0}
-SaysOf (a ∷ accounts) zero all = a.kept ≡ true → a.whole ≡ Some all
+SaysOf (a ∷ accounts) zero all = Says a all
 SaysOf (a ∷ accounts) (suc n) all = SaysOf accounts n all
 
 -- a source: the bytes still to come, if they are known, and how many calls and failures it counted
@@ -30,7 +54,7 @@ pub record Incoming : Type 0 where
   pub to_come : Option (List ℕ)
   pub pulls : ℕ
   pub failures : ℕ
-  -- the accounts of it and of each source within it that keeps its bytes, the outermost first
+  -- the accounts of it and of each source within it that has one, the outermost first
   pub accounts : List Account
 
 -- a counter is exhausted
@@ -128,10 +152,9 @@ pub record Fails (old : Incoming) (before : ℕ) (new : Incoming) (after : ℕ) 
 -- ---- a source that keeps its bytes
 
 -- it gives what another source gives, and has kept these bytes: all that it gave, or not all
-abbrev pub keeps_of : (is_whole : Bool) → (bytes : List ℕ) → Incoming → Incoming
-keeps_of is_whole bytes i = record i {
-  accounts = (record
-      { kept = is_whole; whole = prepend_known bytes i.to_come }) ∷ i.accounts;
+abbrev pub keeps_of : (is_whole : Bool) → (kept : List ℕ) → Incoming → Incoming
+keeps_of is_whole kept i = record i {
+  accounts = keeping is_whole (prepend_known kept i.to_come) ∷ i.accounts;
 }
 
 -- ---- sinks

@@ -1,5 +1,6 @@
 pub mod Devices
 pub mod Kept
+pub mod Front
 pub mod Inflow
 pub mod Reader
 pub mod Inside

@@ -12,7 +12,8 @@
 //! (`Reads`) covers successes only. A reader of a slice lends its bits for as long as the slice lives (`parts_in_slice`).
 //!
 //! The values of a record go to a `ValueTaker`: `Vec<u64>` keeps them, `ValueCount` counts them, `PackedValues` keeps them in 1
-//! or 8 bytes each, and `ExpectedValues` compares them with another record's. `KeptSource` keeps the bytes that its source gives.
+//! or 8 bytes each, and `ExpectedValues` compares them with another record's. `KeptSource` keeps the bytes that its source gives, and
+//! `FrontSource` gives only the first of them.
 //! `BitText` holds bits in memory: 32-bit words in chunks, which grow without a copy.
 #![tactic(auto)]
 
@@ -24,6 +25,7 @@ mod expected;
 #[cfg(test)]
 mod expected_tests;
 mod fault;
+mod front;
 mod head;
 mod inflow;
 mod keeper;
@@ -56,6 +58,7 @@ pub use bit_grammar::{MOST_BYTES, MOST_DEPTH, MOST_VALUES, Reason, Shapes};
 pub use buffered::{Buffered, BufferedParts};
 pub use expected::ExpectedValues;
 pub use fault::Fault;
+pub use front::FrontSource;
 pub use head::{Head, Wrapper};
 pub use keeper::ValueKeeper;
 pub use kept::KeptSource;

@@ -49,7 +49,6 @@ pub trait Source {
     /// Lends the next bytes that are buffered, possibly none, and takes none.
     #[inline(always)]
     fn lend(&mut self) -> &[u8]
-        requires { IsFresh (incoming self.old) }
         ensures front { Begins (incoming self.old).to_come result.now }
         ensures* rests { sem 𝓛 (Rests Self.row self.entry
             (λ new. Looked (incoming self.old) (incoming new))) }
@@ -266,12 +265,14 @@ impl<R: BufRead> ReadSource<R> {
     /// Lends the reader's buffer.
     #[inline(always)]
     fn lend(&mut self) -> &[u8]
-        requires { IsFresh (⟦<ReadSource<R> as Source>⟧.incoming self.old) }
         ensures front { Begins (⟦<ReadSource<R> as Source>⟧.incoming self.old).to_come result.now }
         ensures* rests { sem 𝓛 (Rests (the_row R.row) self.entry
             (λ new. Looked (⟦<ReadSource<R> as Source>⟧.incoming self.old)
             (⟦<ReadSource<R> as Source>⟧.incoming new))) }
     {
+        if self.is_worn() {
+            return &[];
+        }
         match self.reader.fill_buf() {
             Ok(bytes) => bytes,
             Err(_) => &[], // though the reader has just shown some

@@ -1,6 +1,6 @@
 -- The result for two inputs.
-use Rattle.std.proofs.Common.{◌≡◌, ℕ, ◌+◌, ◌⊎◌, inl, inr, arith, Bool, true, false, IsTrue, List, [], ◌∷◌, ◌++◌, Option, Some, None, Result, Ok, Err, refl, sym, ap, ◌∙◌, subst, append-nil}
-use Rattle.std.specs.Prelude.{◌↔◌, IsSome}
+use Rattle.std.proofs.Common.{◌≡◌, ℕ, ◌+◌, ◌⊎◌, inl, inr, arith, Bool, true, false, IsTrue, List, [], ◌∷◌, ◌++◌, Option, Some, None, Result, Ok, Err, refl, sym, ap, ◌∙◌, subst, append-nil, take}
+use Rattle.std.specs.Prelude.{◌↔◌, IsSome, option_map}
 use Rattle.bit_grammar.specs.Setting.{Setting}
 use Rattle.bit_grammar.specs.Under.{under}
 use Rattle.bit_events.specs.Standing as blocks
@@ -20,13 +20,15 @@ use Rattle.bit_tree.specs.Reading.{HasFit}
 use Rattle.bit_grammar.proofs.NormalForms.Settings.{fit_of_setting}
 use Rattle.bit_grammar.proofs.Events.Telling.{told_if_spelled}
 use Rattle.bit_fields.specs.Devices.{Incoming, known_bytes}
+use Rattle.bit_fields.specs.Front.{front_of}
+use Rattle.bit_fields.proofs.Fronts.{rest_left}
 use Rattle.bit_events.specs.Coming.{Coming, TellsComing}
 use Rattle.bit_norm.specs.declared.differences.Difference.{Difference}
 use Rattle.bit_norm.specs.declared.differences.Standing as bit
 use Rattle.bit_norm.specs.declared.differences.Place.TheVariants as place
 use Rattle.bit_norm.specs.declared.in_step.Found.{Found}
 use Rattle.bit_norm.specs.Entries.{Sign, Entry, over, signs_in, Seen, Standing, at_magic, standing_shown, difference_shown, magic_standing, behind_magic, all_entries, magics_apart, apart_at, in_magic, behind, Differs}
-use Rattle.bit_norm.specs.Whole.{ReadsTree, ReadsMarked, Misreads, Compares, source_of, FindsDifference, FindsInBytes, SaysNone}
+use Rattle.bit_norm.specs.Whole.{ReadsTree, ReadsMarked, Misreads, Compares, source_of, FindsDifference, FindsInBytes, FindsInParts, HasRest, HasRestUnless, ReachesRest, SaysNone}
 use Rattle.bit_norm.specs.InStep.{Said, entry_at, Compared, here, entries_of_first, entries_of_second, second_end, seen_of, TakesSign, Alike, ApartAt, Tallied, AnswersFound, Finishes, Concludes, other_magic, same_magic, ReadBeside, NotRead, ComparesWith}
 use Rattle.bit_norm.specs.declared.comparing.Which.{Which}
 use Rattle.bit_norm.specs.declared.comparing.Which.TheVariants.{First, Second}
@@ -202,19 +204,50 @@ finds_in_bytes setting limits bytes i now j later checked answer capped is never
     let whole = subst (λ (s : Incoming). ReadsWhole (λ (all : List ℕ) (_ : Unit {0}). (m : Marked) × SpellsInput limits all m) limits s (Ok checked) now) is read in
     (now, never, finds setting limits (source_of bytes) now j later bytes answer capped (whole.0, λ tells. let found = whole.1 tells in ((refl, found.0), found.1)) compared)
 
-misread_first : (setting : Setting) (limits : Limits) (i now j : Incoming) (fault : Fault) → ReadsWhole (λ (all : List ℕ) (_ : Unit {0}). (m : Marked) × SpellsInput limits all m) limits i (Err fault) now → FindsDifference setting limits i j (Err (record { which = First; fault = fault })) now j
-misread_first setting limits i now j (Refused reason bit) read = (read, refl)
-misread_first setting limits i now j Read read = (read, refl)
-misread_first setting limits i now j Memory read = (read, refl)
-misread_first setting limits i now j Write read = absurd read
-misread_first setting limits i now j OutputTooLong read = absurd read
-misread_first setting limits i now j Failed read = absurd read
+misread_first : {A : Type 0} (Holds : List ℕ → A → Type 0) (setting : Setting) (limits : Limits) (i now j : Incoming) (fault : Fault) → ReadsWhole Holds limits i (Err fault) now → FindsDifference setting limits i j (Err (record { which = First; fault = fault })) now j
+misread_first Holds setting limits i now j (Refused reason bit) read = (read, refl)
+misread_first Holds setting limits i now j Read read = (read, refl)
+misread_first Holds setting limits i now j Memory read = (read, refl)
+misread_first Holds setting limits i now j Write read = absurd read
+misread_first Holds setting limits i now j OutputTooLong read = absurd read
+misread_first Holds setting limits i now j Failed read = absurd read
 
 -- it was not accepted
 pub bytes_misread : (setting : Setting) (limits : Limits) (bytes : List ℕ) (i now j : Incoming) (fault : Fault) → i ≡ source_of bytes → now.failures ≡ 0 → ReadsWhole (λ (all : List ℕ) (_ : Unit {0}). (m : Marked) × SpellsInput limits all m) limits i (Err fault) now
     → FindsInBytes setting limits bytes j (Err (record { which = First; fault = fault })) j
 bytes_misread setting limits bytes i now j fault is never read =
-    (now, never, misread_first setting limits (source_of bytes) now j fault (subst (λ (s : Incoming). ReadsWhole (λ (all : List ℕ) (_ : Unit {0}). (m : Marked) × SpellsInput limits all m) limits s (Err fault) now) is read))
+    (now, never, misread_first (λ (all : List ℕ) (_ : Unit {0}). (m : Marked) × SpellsInput limits all m) setting limits (source_of bytes) now j fault (subst (λ (s : Incoming). ReadsWhole (λ (all : List ℕ) (_ : Unit {0}). (m : Marked) × SpellsInput limits all m) limits s (Err fault) now) is read))
+
+-- ---- two parts of one source
+
+known_front : (o : Option (List ℕ)) (first : ℕ) → IsSome o → IsSome (option_map (take first) o)
+known_front None first told = absurd cc
+known_front (Some bytes) first told = refl
+
+rest_after : (limits : Limits) (first left pulls failures : ℕ) (i j : Incoming) (bytes : List ℕ) → Kept limits (front_of first 0 0 i) (front_of left pulls failures j) bytes → HasRest first i j
+rest_after limits first left pulls failures i j bytes kept told = rest_left first left pulls failures i j (limits.bytes + 1) 0 kept.0 told (kept.1 (known_front i.to_come first told)).1
+
+reached : (which : Which) (first : ℕ) (i j : Incoming) → HasRest first i j → HasRestUnless which first i j
+reached First first i j rest = tt
+reached Second first i j rest = rest
+
+reaches : (answer : Result (Option Difference) SameFault) (first : ℕ) (i j : Incoming) → HasRest first i j → ReachesRest first i j answer
+reaches (Ok found) first i j rest = rest
+reaches (Err e) first i j rest = reached e.which first i j rest
+
+-- the first was accepted
+pub finds_in_parts : (setting : Setting) (limits : Limits) (first left pulls failures : ℕ) (i p q j later : Incoming) (bytes : List ℕ) (answer : Result (Option Difference) SameFault) → Capped limits → p ≡ front_of first 0 0 i → q ≡ front_of left pulls failures j → Kept limits p q bytes → ComparesWith setting limits bytes j answer later
+    → FindsInParts setting limits first i answer later
+finds_in_parts setting limits first left pulls failures i p q j later bytes answer capped begun ended read compared =
+    let kept = subst (λ (s : Incoming). Kept limits (front_of first 0 0 i) s bytes) ended (subst (λ (s : Incoming). Kept limits s q bytes) begun read) in
+    (left, pulls, failures, j, finds setting limits (front_of first 0 0 i) (front_of left pulls failures j) j later bytes answer capped kept compared, reaches answer first i j (rest_after limits first left pulls failures i j bytes kept))
+
+-- it was not
+pub parts_misread : {A : Type 0} (Holds : List ℕ → A → Type 0) (setting : Setting) (limits : Limits) (first left pulls failures : ℕ) (i p q j : Incoming) (fault : Fault) → p ≡ front_of first 0 0 i → q ≡ front_of left pulls failures j → ReadsWhole Holds limits p (Err fault) q
+    → FindsInParts setting limits first i (Err (record { which = First; fault = fault })) j
+parts_misread Holds setting limits first left pulls failures i p q j fault begun ended read =
+    let none = subst (λ (s : Incoming). ReadsWhole Holds limits (front_of first 0 0 i) (Err fault) s) ended (subst (λ (s : Incoming). ReadsWhole Holds limits s (Err fault) q) begun read) in
+    (left, pulls, failures, j, misread_first Holds setting limits (front_of first 0 0 i) (front_of left pulls failures j) j fault none, tt)
 
 -- ---- whether there is no difference
 

@@ -1,11 +1,12 @@
 -- The effect of the calls on whole inputs.
-use Rattle.std.specs.Prelude.{◌≡◌, ◌↔◌, ℕ, Bool, true, false, IsTrue, IsSome, List, [], Option, Some, None, Result, Ok, Err, codes}
+use Rattle.std.specs.Prelude.{◌≡◌, ◌↔◌, ℕ, Bool, true, false, IsTrue, IsSome, List, [], Option, Some, None, Result, Ok, Err, ⊤, codes, drop, option_map}
 use Rattle.bit_grammar.specs.Setting.{Setting}
 use Rattle.bit_grammar.specs.Forest.{Tree}
 use Rattle.bit_grammar.specs.Blocks.{Limits}
 use Rattle.bit_fields.specs.declared.fault.Fault.{Fault}
 use Rattle.bit_fields.specs.declared.fault.Fault.TheVariants.{Refused, Read, Write, Memory, OutputTooLong, Failed}
 use Rattle.bit_fields.specs.Devices.{Incoming, Outgoing}
+use Rattle.bit_fields.specs.Front.{front_of}
 use Rattle.bit_events.specs.Reading.{ReadsWhole}
 use Rattle.bit_grammar.specs.Input.{SpellsInput}
 use Rattle.bit_grammar.specs.Terms.{Marked}
@@ -105,6 +106,27 @@ abbrev pub FindsInBytes : Setting → Limits → (bytes : List ℕ) → (j : Inc
     → Result (Option Difference) SameFault → (later : Incoming) → Type 0
 FindsInBytes setting limits bytes j answer later = (now : Incoming) × (now.failures ≡ 0)
     × FindsDifference setting limits (source_of bytes) j answer now later
+
+-- the source of two inputs has what follows the first `first` bytes
+abbrev pub HasRest : (first : ℕ) → (i j : Incoming) → Type 0
+HasRest first i j = IsSome i.to_come → j.to_come ≡ option_map (drop first) i.to_come
+
+-- so it is unless the first input was not read
+abbrev pub HasRestUnless : Which → (first : ℕ) → (i j : Incoming) → Type 0
+HasRestUnless First first i j = ⊤
+HasRestUnless Second first i j = HasRest first i j
+
+abbrev pub ReachesRest : (first : ℕ) → (i j : Incoming) → Result (Option Difference) SameFault
+    → Type 0
+ReachesRest first i j (Ok answer) = HasRest first i j
+ReachesRest first i j (Err e) = HasRestUnless e.which first i j
+
+-- The first `first` bytes of a source, or all if it has fewer, and its rest were compared. Between both the source was `j`.
+abbrev pub FindsInParts : Setting → Limits → (first : ℕ) → (i : Incoming)
+    → Result (Option Difference) SameFault → (later : Incoming) → Type 0
+FindsInParts setting limits first i answer later = (left pulls failures : ℕ) × (j : Incoming)
+    × FindsDifference setting limits (front_of first 0 0 i) j answer
+    (front_of left pulls failures j) later × ReachesRest first i j answer
 
 -- such a source, which never failed, and another one were compared
 abbrev pub ComparesBytes : Setting → Limits → (bytes : List ℕ) → (j : Incoming)

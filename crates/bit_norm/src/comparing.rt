@@ -1,11 +1,11 @@
 ghost use Rattle.std.specs.Prelude.{◌≡◌, Some};
 ghost use Rattle.bit_grammar.specs.Setting.{setting_of};
-ghost use Rattle.bit_norm.specs.Whole.{FindsDifference, FindsInBytes, SaysNone, Compares, ComparesBytes};
+ghost use Rattle.bit_norm.specs.Whole.{FindsDifference, FindsInBytes, FindsInParts, SaysNone, Compares, ComparesBytes};
 
 use crate::differences::Difference;
 use crate::in_step::compare_with;
 use bit_events::{check, check_keeping};
-use bit_fields::{Fault, Limits, SliceSource, Source};
+use bit_fields::{Fault, FrontSource, Limits, SliceSource, Source};
 use bit_tree::Info;
 use std::alloc::Global;
 use std::fmt;
@@ -73,6 +73,29 @@ pub fn first_difference<A: Source, B: Source>(
     };
     let (answer, b) = compare_with(alloc, &first, b, limits, info);
     (answer, a, b)
+}
+
+/// The same for two inputs from one source: its first `first` bytes, or all if it has fewer, and its rest.
+///
+/// If the first input is refused, no byte is taken that `check` would not take of it.
+pub fn first_difference_in_parts<S: Source>(
+    alloc: Global,
+    source: S,
+    first: u64,
+    limits: Limits,
+    info: Info<'_>,
+) -> (Result<Option<Difference>, SameFault>, S)
+    ensures { FindsInParts (setting_of info.entry) limits first (S.incoming source) result.0
+        (S.incoming result.1) }
+{
+    // The limits are within their caps, so each length in a normal form fits its field.
+    let _bytes = limits.bytes();
+    let (kept, front) = check_keeping(alloc, FrontSource::new(source, first), limits);
+    let rest = front.into_inner();
+    match kept {
+        Ok(bytes) => compare_with(alloc, &bytes, rest, limits, info),
+        Err(fault) => (Err(faulty(Which::First, fault)), rest),
+    }
 }
 
 /// The same for bytes and an input: what `first_difference` returns for a source of these bytes, which are not copied.

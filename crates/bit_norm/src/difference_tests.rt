@@ -2,8 +2,11 @@
 
 use crate::fault_tests::agrees;
 use crate::input_tests::bytes_of;
-use crate::{Difference, Info, Place, RecordName, Standing, ValueDifference, first_difference};
-use bit_fields::{Limits, SliceSource};
+use crate::{
+    Difference, Info, Place, RecordName, SameFault, Standing, ValueDifference, Which,
+    first_difference, first_difference_in_parts,
+};
+use bit_fields::{Fault, Limits, Reason, SliceSource, Source};
 use std::alloc::{AllocError, Global};
 use std::process::Abort;
 
@@ -64,12 +67,68 @@ fn difference_of(
     answer.expect(rt, "inputs that are accepted")
 }
 
+/// The same of two inputs that come one after the other.
+fn difference_in_parts(
+    rt: &impl Abort,
+    alloc: Global,
+    a: &[u8],
+    b: &[u8],
+    info: Info,
+) -> Option<Difference> {
+    let mut both = a.to_vec(alloc).expect(rt, "memory");
+    both.extend_from_slice(b).expect(rt, "memory");
+    let source = SliceSource::new(&both);
+    let (answer, _) = first_difference_in_parts(
+        alloc,
+        source,
+        a.len() as u64,
+        Limits::usual(),
+        info,
+    );
+    answer.expect(rt, "inputs that are accepted")
+}
+
 /// Checks the difference of two inputs, and the same the other way round.
 fn is_told(rt: &impl Abort, alloc: Global, a: &[u8], b: &[u8], info: Info, wanted: &str) {
     let there = difference_of(rt, alloc, a, b, info);
     agrees(rt, text_there(alloc, &there), wanted, "there");
     let back = difference_of(rt, alloc, b, a, info);
     agrees(rt, text_back(alloc, &back), wanted, "back");
+    let parts = difference_in_parts(rt, alloc, a, b, info);
+    agrees(rt, text_there(alloc, &parts), wanted, "in parts");
+}
+
+/// Which of the two inputs in these bytes is truncated at bit 0, and how many bytes are left.
+fn truncated_part(alloc: Global, bytes: &[u8], first: u64) -> (Option<Which>, usize) {
+    let source = SliceSource::new(bytes);
+    let (answer, mut source) = first_difference_in_parts(
+        alloc,
+        source,
+        first,
+        Limits::usual(),
+        Info::Keep,
+    );
+    let truncated = Fault::Refused {
+        reason: Reason::Truncated,
+        bit: 0,
+    };
+    let which = match answer {
+        Err(SameFault { which, fault }) if fault == truncated => Some(which),
+        _ => None,
+    };
+    (which, source.pull(&mut [0; 64]).unwrap_or(99))
+}
+
+#[test]
+fn parts_that_are_refused(rt: HostRuntime) {
+    let input = bytes_of(rt.alloc(), "M T").expect(&rt, "memory");
+    for first in 0..4 {
+        let left = input.len().saturating_sub(first as usize);
+        assert!(rt; truncated_part(rt.alloc(), &input, first) == (Some(Which::First), left));
+    }
+    for first in [16, 17, u64::MAX] {
+        assert!(rt; truncated_part(rt.alloc(), &input, first) == (Some(Which::Second), 0));
+    }
 }
 
 /// The same for two inputs that are spelled.

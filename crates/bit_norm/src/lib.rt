@@ -7,7 +7,8 @@
 //! as numbers and many as bits. Nothing is written before the input is accepted. `FormWriter` is the same builder for callers that
 //! have a tree.
 //!
-//! `first_difference` reads the first input alone and keeps its bytes, and then reads the second in step with them. The trees are
+//! `first_difference` reads the first input alone and keeps its bytes, and then reads the second in step with them. Both may come
+//! from one source, one after the other (`first_difference_in_parts`), and the first may be in memory. The trees are
 //! compared as sequences of entries, each with a place, a sign (a block's id, a record's code and values, an end) and a bit.
 //! `Comparer` gathers the second's events and compares each sign with the next entry of the first; until the first difference both
 //! are at the same place, so one `Walk` serves both. A record of the first is read into `ExpectedValues` of the second's record, so
@@ -42,7 +43,10 @@ mod writing;
 
 pub use bit_grammar::{normal_once, normal_spelled};
 pub use bit_tree::{Info, RecordName};
-pub use comparing::{SameFault, Which, first_difference, first_difference_from, same, same_as};
+pub use comparing::{
+    SameFault, Which, first_difference, first_difference_from, first_difference_in_parts, same,
+    same_as,
+};
 pub use difference_laws::one_difference;
 pub use differences::{Difference, OpenBlock, Place, Standing, ValueDifference, What};
 pub use form_writer::{FormWriter, Untold};

@@ -1,28 +1,29 @@
 -- Comparing the first bytes of an input with the rest.
-use Rattle.std.proofs.Common.{◌≡◌, ◌∙◌, ℕ, ◌+◌, ◌<◌, ◌≤◌, min, Bool, true, false, List, [], ◌++◌, length, take, drop, Option, Some, None, Ok, Err, refl, sym, ap, subst, inl, inr, arith, codes, length-append, length-take}
-use Rattle.std.specs.Prelude.{IsSome, IfSome, ◌^◌, ◌⊎◌}
-use Rattle.std.proofs.lemmas.List.{append-nil, take_all, take_at, drop_at, take-take}
-use Rattle.std.proofs.Math.ListN.{drop_of_length-le}
-use Rattle.std.proofs.lemmas.Bool.{cases_lt}
+use Rattle.std.proofs.Common.{◌≡◌, ℕ, ◌+◌, ◌-◌, ◌^◌, ◌<◌, min, List, take, drop, Option, Some, None, Ok, Err, refl, sym, subst, inl, arith}
+use Rattle.std.specs.Prelude.{IsSome, IfSome, option_map}
 use Rattle.bit_grammar.specs.Setting.{Setting}
 use Rattle.bit_grammar.specs.Under.{under}
 use Rattle.bit_grammar.specs.Bits.{bits_of_bytes}
-use Rattle.bit_grammar.specs.Grammar.{Fault, at}
+use Rattle.bit_grammar.specs.Grammar.{at}
 use Rattle.bit_grammar.specs.Forest.{Tree}
+use Rattle.bit_grammar.specs.Terms.{Marked}
 use Rattle.bit_grammar.specs.Blocks.{Limits}
-use Rattle.bit_grammar.specs.Input.{Accepts, BreaksInput, Cut, SpellsInput, front_broken, front_spelled, tree_of}
+use Rattle.bit_grammar.specs.Input.{Accepts, BreaksInput, tree_of}
 use Rattle.bit_grammar.specs.Normal.{HasTree}
 use Rattle.bit_fields.specs.declared.fault.Fault as code
 use Rattle.bit_fields.specs.declared.fault.Fault.TheVariants as fault
 use Rattle.bit_fields.specs.Devices.{Incoming, Spends, Fails, known_bytes}
+use Rattle.bit_fields.specs.Front.{front_of}
+use Rattle.bit_fields.proofs.Fronts.{fails_behind, spends_behind}
 use Rattle.bit_events.specs.Reading.{Spent, LostInput}
 use Rattle.bit_norm.specs.declared.comparing.Which.{Which}
 use Rattle.bit_norm.specs.declared.comparing.Which.TheVariants.{First, Second}
+use Rattle.bit_norm.specs.declared.comparing.SameFault.{SameFault}
 use Rattle.bit_norm.specs.declared.differences.Difference.{Difference}
-use Rattle.bit_norm.specs.Entries.{Differs, difference_shown}
-use Rattle.bit_norm.specs.Whole.{FindsDifference, Misreads}
+use Rattle.bit_norm.specs.Entries.{difference_shown}
+use Rattle.bit_norm.specs.Whole.{FindsDifference, FindsInParts, HasRest, HasRestUnless, Misreads, ReadsMarked, ReadsTree}
 use Rattle.bitstool.specs.declared.outcome.Outcome.{Outcome}
-use Rattle.bitstool.specs.declared.outcome.Outcome.TheVariants.{Done, Different, Refused, RefusedOf, RefusedLine, TooLong, Usage, Read, Write, Memory}
+use Rattle.bitstool.specs.declared.outcome.Outcome.TheVariants.{Done, Different, Refused, RefusedOf, TooLong, Read, Memory}
 use Rattle.bitstool.specs.declared.task.LeftOut.{LeftOut}
 use Rattle.bitstool.specs.declared.task.Explain.{Explain}
 use Rattle.bitstool.specs.declared.task.Explain.TheVariants.{Word, Lines, Json}
@@ -30,206 +31,114 @@ use Rattle.bitstool.specs.declared.task.Task.TheVariants.{Same}
 use Rattle.bit_norm.proofs.Apart.{never_same}
 use Rattle.bitstool.specs.Differences.{different_text, same_text}
 use Rattle.bitstool.specs.LeftOut.{setting_for}
-use Rattle.bitstool.specs.Performing.{AreFirst, ComparesParts, ComparesTold, FindsForTask, Found, TakesFirst, TakesRest, outcome_found, outcome_in, outcome_of}
+use Rattle.bitstool.specs.Performing.{ComparesParts, FindsForTask, outcome_found, outcome_in}
 use Rattle.bitstool.specs.Runs.{Answers, DifferFirst, IsDrained, TakesInput, ToldBytes}
-use Rattle.bitstool.proofs.Taking.{drained, fails_more, fails_then, spends_more, spends_none, spends_then}
+use Rattle.bitstool.proofs.Taking.{drained, fails_more, fails_then, spends_more, spends_then}
 use Rattle.bitstool.proofs.Known.{if_told}
 
 -- ---- the result of a comparison
 
--- a fact of a known input
-known_first : (i : Incoming) (first : List ℕ) (P : List ℕ → Type 0) → i.to_come ≡ Some first → (IsSome i.to_come → P (known_bytes i.to_come)) → P first
-known_first i first P is h = subst (λ (o : ToldBytes). (IsSome o → P (known_bytes o)) → P first) (sym is) (λ of_first. of_first refl) h
+-- the second input is what follows the first
+second_is : (P : List ℕ → List ℕ → Type 0) (first : ℕ) (o j : ToldBytes) → (IsSome o → j ≡ option_map (drop first) o) → IfSome (option_map (take first) o) (λ x. IfSome j (λ y. P x y)) → IfSome (option_map (take first) o) (λ x. IfSome (option_map (drop first) o) (λ y. P x y))
+second_is P first None j is h = tt
+second_is P first (Some bytes) j is h = subst (λ (rest : ToldBytes). IfSome rest (λ y. P (take first bytes) y)) (is refl) h
 
--- the result for bytes and an input
-pub found_both : (setting : Setting) (limits : Limits) (first : List ℕ) (i j now later : Incoming) (found : Option Difference) → i.to_come ≡ Some first → FindsDifference setting limits i j (Ok found) now later → ComparesTold setting limits (Some first) j.to_come (Ok found)
-found_both setting limits first i j now later found is h = go found h.4
-  where
-    spells : SpellsInput limits first h.0
-    spells = known_first i first (λ bytes. SpellsInput limits bytes h.0) is (λ tells. (h.2.1 tells).0)
+both_told : (P : List ℕ → List ℕ → Type 0) (a b : ToldBytes) → (IsSome a → IsSome b → P (known_bytes a) (known_bytes b)) → IfSome a (λ x. IfSome b (λ y. P x y))
+both_told P a b h = if_told a (λ x. IfSome b (λ y. P x y)) (λ one. if_told b (λ y. P (known_bytes a) y) (λ two. h one two))
 
-    some : IsSome i.to_come
-    some = subst (λ (o : ToldBytes). IsSome o) (sym is) refl
+module _ (setting : Setting) (limits : Limits) (first left pulls failures : ℕ) (i j later : Incoming) where
+  -- for two inputs that were read
+  found_parts : (found : Option Difference) → FindsDifference setting limits (front_of first 0 0 i) j (Ok found) (front_of left pulls failures j) later → HasRest first i j → ComparesParts setting limits first i.to_come (Ok found)
+  found_parts None h rest =
+      let Same : List ℕ → List ℕ → Type 0 = λ x y. (tree : Tree) × HasTree setting limits x tree × HasTree setting limits y tree in
+      second_is Same first i.to_come j.to_come rest (both_told Same (front_of first 0 0 i).to_come j.to_come (λ one two. (under setting (tree_of h.0), (h.0, (h.2.1 one).0, refl), (h.1, (h.3.1 two).0, sym (h.4 one two)))))
+  found_parts (Some difference) h rest =
+      let Apart : List ℕ → List ℕ → Type 0 = λ x y. DifferFirst setting limits x y (difference_shown difference) in
+      second_is Apart first i.to_come j.to_come rest (both_told Apart (front_of first 0 0 i).to_come j.to_come (λ one two. (h.0, h.1, (h.2.1 one).0, (h.3.1 two).0, h.4 one two)))
 
-    go : (f : Option Difference) → (IsSome i.to_come → IsSome j.to_come → Differs setting h.0 h.1 f) → ComparesTold setting limits (Some first) j.to_come (Ok f)
-    go None same = if_told j.to_come (λ bytes. (tree : Tree) × HasTree setting limits first tree × HasTree setting limits bytes tree) (λ tells. (under setting (tree_of h.0), (h.0, spells, refl), (h.1, (h.3.1 tells).0, sym (same some tells))))
-    go (Some difference) apart = if_told j.to_come (λ bytes. DifferFirst setting limits first bytes (difference_shown difference)) (λ tells. (h.0, h.1, spells, (h.3.1 tells).0, apart some tells))
+  -- one was not read
+  fault_parts : (limit : ℕ) (which : Which) (why : code.Fault) → Misreads setting limits which why (front_of first 0 0 i) j (front_of left pulls failures j) later → HasRestUnless which first i j → ComparesParts setting limits first i.to_come (Err (outcome_in which limit why))
+  fault_parts limit First (fault.Refused reason bit) h rest = if_told (front_of first 0 0 i).to_come (λ bytes. BreaksInput limits bytes (at reason bit)) h.0.1
+  fault_parts limit Second (fault.Refused reason bit) h rest =
+      let Broken : List ℕ → List ℕ → Type 0 = λ x y. Accepts limits x × BreaksInput limits y (at reason bit) in
+      second_is Broken first i.to_come j.to_come rest (both_told Broken (front_of first 0 0 i).to_come j.to_come (λ one two. let has = (h.1.1 one).0.0 in ((has.0, has.1), h.2.1 two)))
+  fault_parts limit First fault.Read h rest = tt
+  fault_parts limit Second fault.Read h rest = tt
+  fault_parts limit First fault.Memory h rest = tt
+  fault_parts limit Second fault.Memory h rest = tt
+  fault_parts limit First fault.Write h rest = h.0
+  fault_parts limit Second fault.Write h rest = h.2
+  fault_parts limit First fault.OutputTooLong h rest = h.0
+  fault_parts limit Second fault.OutputTooLong h rest = h.2
+  fault_parts limit First fault.Failed h rest = absurd h.0
+  fault_parts limit Second fault.Failed h rest = absurd h.2
 
--- one was not read
-pub found_fault : (setting : Setting) (limits : Limits) (limit : ℕ) (first : List ℕ) (i j now later : Incoming) (which : Which) (why : code.Fault) → i.to_come ≡ Some first → Misreads setting limits which why i j now later → ComparesTold setting limits (Some first) j.to_come (Err (outcome_in which limit why))
-found_fault setting limits limit first i j now later First (fault.Refused reason bit) is h = known_first i first (λ bytes. BreaksInput limits bytes (at reason bit)) is h.0.1
-found_fault setting limits limit first i j now later Second (fault.Refused reason bit) is h =
-    let has : HasTree setting limits first h.0 = known_first i first (λ bytes. HasTree setting limits bytes h.0) is (λ tells. (h.1.1 tells).0.0) in
-    if_told j.to_come (λ bytes. Accepts limits first × BreaksInput limits bytes (at reason bit)) (λ tells. ((has.0, has.1), h.2.1 tells))
-found_fault setting limits limit first i j now later First fault.Read is h = tt
-found_fault setting limits limit first i j now later Second fault.Read is h = tt
-found_fault setting limits limit first i j now later First fault.Memory is h = tt
-found_fault setting limits limit first i j now later Second fault.Memory is h = tt
-found_fault setting limits limit first i j now later First fault.Write is h = h.0
-found_fault setting limits limit first i j now later Second fault.Write is h = h.2
-found_fault setting limits limit first i j now later First fault.OutputTooLong is h = h.0
-found_fault setting limits limit first i j now later Second fault.OutputTooLong is h = h.2
-found_fault setting limits limit first i j now later First fault.Failed is h = absurd h.0
-found_fault setting limits limit first i j now later Second fault.Failed is h = absurd h.2
+  -- ---- the bytes that were taken
 
--- ---- the bytes that were taken of the second input
+  -- of the first input
+  front_spent : Spent limits (front_of first 0 0 i) (front_of left pulls failures j) → Spends i (min first (limits.bytes + 1)) j 0
+  front_spent h = spends_behind first left pulls failures i j (limits.bytes + 1) 0 h
 
--- all, if it was read
-pub rest_taken : (setting : Setting) (limits : Limits) (i j now later : Incoming) (found : Option Difference) → FindsDifference setting limits i j (Ok found) now later → TakesRest limits j later (outcome_found (Ok found))
-rest_taken setting limits i j now later None h = (h.3.0, drained j later h.3.0.tells (λ t. (h.3.1 t).1))
-rest_taken setting limits i j now later (Some difference) h = (h.3.0, drained j later h.3.0.tells (λ t. (h.3.1 t).1))
+  front_lost : limits.bytes + 1 < 2 ^ 64 - 1 → LostInput limits (front_of first 0 0 i) (front_of left pulls failures j) → Fails i (min first (limits.bytes + 1)) j 0
+  front_lost small h = fails_behind first left pulls failures i j (limits.bytes + 1) 0 small h
 
--- a slice never fails in a comparison
-abbrev pub IsSlice : Incoming → Type 0
-IsSlice i = i.failures ≡ 0
+  -- of both
+  abbrev Most : ℕ
+  Most = min first (limits.bytes + 1) + (limits.bytes + 1)
 
-never_fails : (limits : Limits) (i now : Incoming) → limits.bytes < 2 ^ 60 → i.pulls ≡ 0 → IsSlice now → LostInput limits i now → ⊥
-never_fails limits i now capped fresh slice lost = elim lost.failed [
-  | inl rose ↦ omega (arith, slice, rose)
-  | inr worn ↦ omega (arith, slice, worn.1, lost.pulls, fresh, capped)
-]
+  both_spent : Spent limits (front_of first 0 0 i) (front_of left pulls failures j) → Spent limits j later → Spends i Most later 0
+  both_spent h k = spends_then i j later (min first (limits.bytes + 1)) (limits.bytes + 1) (front_spent h) k
 
--- none, if the first was not read
-none_spent : (limits : Limits) (j later : Incoming) → later ≡ j → Spent limits j later
-none_spent limits j later same = subst (λ (n : Incoming). Spent limits j n) (sym same) (spends_none j (limits.bytes + 1))
+  both_lost : Spent limits (front_of first 0 0 i) (front_of left pulls failures j) → LostInput limits j later → Fails i Most later 0
+  both_lost h k = fails_then i j later (min first (limits.bytes + 1)) (limits.bytes + 1) (front_spent h) k
 
-pub rest_misread : (setting : Setting) (limits : Limits) (i j now later : Incoming) (which : Which) (why : code.Fault) → limits.bytes < 2 ^ 60 → i.pulls ≡ 0 → IsSlice now
-    → Misreads setting limits which why i j now later → TakesRest limits j later (outcome_in which limits.bytes why)
-rest_misread setting limits i j now later First (fault.Refused reason bit) capped fresh slice h = h.1
-rest_misread setting limits i j now later Second (fault.Refused reason bit) capped fresh slice h = (h.2.0, tt)
-rest_misread setting limits i j now later First fault.Read capped fresh slice h = absurd (never_fails limits i now capped fresh slice h.0)
-rest_misread setting limits i j now later Second fault.Read capped fresh slice h = (h.2, tt)
-rest_misread setting limits i j now later First fault.Memory capped fresh slice h = (inl (none_spent limits j later h.1), tt)
-rest_misread setting limits i j now later Second fault.Memory capped fresh slice h = (inl h.2, tt)
-rest_misread setting limits i j now later First fault.Write capped fresh slice h = absurd h.0
-rest_misread setting limits i j now later Second fault.Write capped fresh slice h = absurd h.2
-rest_misread setting limits i j now later First fault.OutputTooLong capped fresh slice h = absurd h.0
-rest_misread setting limits i j now later Second fault.OutputTooLong capped fresh slice h = absurd h.2
-rest_misread setting limits i j now later First fault.Failed capped fresh slice h = absurd h.0
-rest_misread setting limits i j now later Second fault.Failed capped fresh slice h = absurd h.2
+  first_spent : Spent limits (front_of first 0 0 i) (front_of left pulls failures j) → Spends i Most j 0
+  first_spent h = spends_more i j (min first (limits.bytes + 1)) Most (omega arith) (front_spent h)
 
-drained_then : (i mid later : Incoming) (most : ℕ) → Spends i most mid 0 → IsDrained mid later → IsDrained i later
-drained_then i mid later most h all = drained i later (λ t. (left (h.tells t)).0) (λ t. (left (h.tells t)).1)
-  where
-    left : IsSome mid.to_come → IsSome later.to_come × (known_bytes later.to_come ≡ [])
-    left told = go mid.to_come told all
-      where
-        go : (o : ToldBytes) → IsSome o → IfSome o (λ bytes. later.to_come ≡ Some []) → IsSome later.to_come × (known_bytes later.to_come ≡ [])
-        go None told all = absurd (cc)
-        go (Some bytes) told all = rw all (refl, refl)
+  first_lost : limits.bytes + 1 < 2 ^ 64 - 1 → LostInput limits (front_of first 0 0 i) (front_of left pulls failures j) → Fails i Most j 0
+  first_lost small h = fails_more i j (min first (limits.bytes + 1)) Most (omega arith) (front_lost small h)
 
--- the bytes that were taken of both
-pub both_taken : (out : LeftOut) (limits : Limits) (first count : ℕ) (explain : Explain) (i mid later : Incoming) (outcome : Outcome) → count ≡ min first (limits.bytes + 1) → Spends i count mid 0 → TakesRest limits mid later outcome → TakesInput (Same first explain limits out) i later outcome
-both_taken out limits first count explain i mid later outcome counted h rest = go outcome rest
-  where
-    both : Spent limits mid later → Spends i (min first (limits.bytes + 1) + (limits.bytes + 1)) later 0
-    both k = subst (λ (n : ℕ). Spends i (n + (limits.bytes + 1)) later 0) counted (spends_then i mid later count (limits.bytes + 1) h k)
+  -- all bytes of an accepted input
+  all_taken : (a b : Marked) → ReadsMarked limits (front_of first 0 0 i) a (front_of left pulls failures j) → ReadsMarked limits j b later → IsDrained i later
+  all_taken a b h k =
+      let known = (front_spent h.0).tells in
+      drained i later (λ t. k.0.tells (known t)) (λ t. (k.1 (known t)).1)
 
-    lost : LostInput limits mid later → Fails i (min first (limits.bytes + 1) + (limits.bytes + 1)) later 0
-    lost k = subst (λ (n : ℕ). Fails i (n + (limits.bytes + 1)) later 0) counted (fails_then i mid later count (limits.bytes + 1) h k)
+  taken_parts : (out : LeftOut) (explain : Explain) (found : Option Difference) → FindsDifference setting limits (front_of first 0 0 i) j (Ok found) (front_of left pulls failures j) later → TakesInput (Same first explain limits out) i later (outcome_found (Ok found))
+  taken_parts out explain None h = (both_spent h.2.0 h.3.0, all_taken h.0 h.1 h.2 h.3)
+  taken_parts out explain (Some difference) h = (both_spent h.2.0 h.3.0, all_taken h.0 h.1 h.2 h.3)
 
-    either : Spent limits mid later ⊎ LostInput limits mid later → Spends i (min first (limits.bytes + 1) + (limits.bytes + 1)) later 0 ⊎ Fails i (min first (limits.bytes + 1) + (limits.bytes + 1)) later 0
-    either p = elim p [ inl spends ↦ inl (both spends) | inr fails ↦ inr (lost fails) ]
+  taken_first : limits.bytes + 1 < 2 ^ 64 - 1 → (out : LeftOut) (explain : Explain) (why : code.Fault) → ReadsTree setting limits (front_of first 0 0 i) (Err why) (front_of left pulls failures j) → TakesInput (Same first explain limits out) i j (outcome_in First limits.bytes why)
+  taken_first small out explain (fault.Refused reason bit) h = (front_spent h.0, tt)
+  taken_first small out explain fault.Read h = (first_lost small h, tt)
+  taken_first small out explain fault.Memory h = (inl (first_spent h), tt)
+  taken_first small out explain fault.Write h = absurd h
+  taken_first small out explain fault.OutputTooLong h = absurd h
+  taken_first small out explain fault.Failed h = absurd h
 
-    go : (o : Outcome) → TakesRest limits mid later o → TakesInput (Same first explain limits out) i later o
-    go (RefusedOf First reason bit) r = (subst (λ (n : Incoming). Spends i (min first (limits.bytes + 1)) n 0) (sym r) (subst (λ (n : ℕ). Spends i n mid 0) counted h), tt)
-    go (RefusedOf Second reason bit) r = (both r.0, tt)
-    go Done r = (both r.0, drained_then i mid later count h r.1)
-    go Different r = (both r.0, drained_then i mid later count h r.1)
-    go (TooLong limit) r = (both r.0, drained_then i mid later count h r.1)
-    go Read r = (lost r.0, tt)
-    go Memory r = (either r.0, tt)
-    go Write r = (either r.0, tt)
-    go Usage r = (both r.0, tt)
-    go (Refused reason bit) r = (both r.0, tt)
-    go (RefusedLine reason line) r = (both r.0, tt)
+  taken_fault : limits.bytes + 1 < 2 ^ 64 - 1 → (out : LeftOut) (explain : Explain) (which : Which) (why : code.Fault) → Misreads setting limits which why (front_of first 0 0 i) j (front_of left pulls failures j) later → TakesInput (Same first explain limits out) i later (outcome_in which limits.bytes why)
+  taken_fault small out explain First why h = subst (λ (n : Incoming). TakesInput (Same first explain limits out) i n (outcome_in First limits.bytes why)) (sym h.1) (taken_first small out explain why h.0)
+  taken_fault small out explain Second (fault.Refused reason bit) h = (both_spent h.1.0 h.2.0, tt)
+  taken_fault small out explain Second fault.Read h = (both_lost h.1.0 h.2, tt)
+  taken_fault small out explain Second fault.Memory h = (inl (both_spent h.1.0 h.2), tt)
+  taken_fault small out explain Second fault.Write h = absurd h.2
+  taken_fault small out explain Second fault.OutputTooLong h = absurd h.2
+  taken_fault small out explain Second fault.Failed h = absurd h.2
 
--- ---- the bytes that were taken first
+-- the two inputs were compared
+module _ (out : LeftOut) (limits : Limits) (first : ℕ) (i later : Incoming) where
+  pub compared : (found : Option Difference) → FindsInParts (setting_for out) limits first i (Ok found) later → ComparesParts (setting_for out) limits first i.to_come (Ok found)
+  compared found h = found_parts (setting_for out) limits first h.0 h.1 h.2 i h.3 later found h.4 h.5
 
--- they are the first ones, and the others remain
-taken_all : (input bytes rest : List ℕ) (count : ℕ) → input ≡ bytes ++ rest → length bytes ≡ count → (bytes ≡ take count input) × (rest ≡ drop count input)
-taken_all input bytes rest count is long = (sym (ap (take count) is ∙ take_at bytes rest count long), sym (ap (drop count) is ∙ drop_at bytes rest count long))
+  pub compared_taken : (explain : Explain) (found : Option Difference) → FindsInParts (setting_for out) limits first i (Ok found) later → TakesInput (Same first explain limits out) i later (outcome_found (Ok found))
+  compared_taken explain found h = taken_parts (setting_for out) limits first h.0 h.1 h.2 i h.3 later out explain found h.4
 
-taken_few : (input bytes rest : List ℕ) (count : ℕ) → input ≡ bytes ++ rest → length bytes ≤ count → rest ≡ [] → (bytes ≡ take count input) × (rest ≡ drop count input)
-taken_few input bytes rest count is few none =
-    let whole : input ≡ bytes = is ∙ ap (λ (r : List ℕ). bytes ++ r) none ∙ append-nil bytes in
-    let short : length input ≤ count = omega (arith, ap length whole) in
-    (sym (take_all count input short ∙ whole), none ∙ sym (drop_of_length-le input short))
+  -- or not
+  pub misread : (limit : ℕ) (e : SameFault) → FindsInParts (setting_for out) limits first i (Err e) later → ComparesParts (setting_for out) limits first i.to_come (Err (outcome_in e.which limit e.fault))
+  misread limit e h = fault_parts (setting_for out) limits first h.0 h.1 h.2 i h.3 later limit e.which e.fault h.4 h.5
 
--- an input breaks as another one does that has the same bytes up to the limit and is longer than the limit too
-breaks_alike : (limits : Limits) (a b : List ℕ) (fault : Fault) → limits.bytes < length a → limits.bytes < length b → take limits.bytes a ≡ take limits.bytes b → BreaksInput limits a fault → BreaksInput limits b fault
-breaks_alike limits a b fault long_a long_b same (inl within) = absurd (omega (arith, within.0))
-breaks_alike limits a b fault long_a long_b same (inr past) = inr (long_b, cut past.1)
-  where
-    cut : Cut limits a fault → Cut limits b fault
-    cut (front_spelled m spelled is) = front_spelled m (rw (← same) spelled) is
-    cut (front_broken own stops is) = front_broken own (rw (← same) stops) (rw (← same) is)
-
--- The taken bytes are the first `first` bytes; or the limit on bytes came before that. Then both are longer than the limit, and
--- equal up to it.
-data Taken (limits : Limits) (first : ℕ) (input bytes rest : List ℕ) : Type 0 where
-  whole : bytes ≡ take first input → rest ≡ drop first input → Taken limits first input bytes rest
-  past : limits.bytes < length bytes → limits.bytes < length (take first input) → take limits.bytes bytes ≡ take limits.bytes (take first input) → Taken limits first input bytes rest
-
-taken : (limits : Limits) (first count : ℕ) (input bytes rest : List ℕ) → count ≡ min first (limits.bytes + 1) → input ≡ bytes ++ rest → length bytes ≤ count → (length bytes < count → rest ≡ []) → Taken limits first input bytes rest
-taken limits first count input bytes rest counted is few ended =
-    elim (cases_lt (length bytes) count) [
-      | inl short ↦ let parts = taken_few input bytes rest first is (omega arith) (ended short) in whole parts.0 parts.1
-      | inr long ↦ elim (cases_lt count first) [
-        | inl cut ↦
-            let parts = taken_all input bytes rest count is (omega arith) in
-            let there : count ≤ length input = omega (arith, ap length is, length-append bytes rest) in
-            let front : take limits.bytes bytes ≡ take limits.bytes (take first input) = ap (take limits.bytes) parts.0 ∙ take-take limits.bytes count input (omega arith) ∙ sym (take-take limits.bytes first input (omega arith)) in
-            past (omega arith) (omega (arith, length-take first input)) front
-        | inr all ↦ let parts = taken_all input bytes rest first is (omega arith) in whole parts.0 parts.1
-      ]
-    ]
-
--- past the limit only the first can break
-of_past : (setting : Setting) (limits : Limits) (bytes all rest others : List ℕ) (found : Found) → limits.bytes < length bytes → limits.bytes < length all → take limits.bytes bytes ≡ take limits.bytes all
-    → ComparesTold setting limits (Some bytes) (Some rest) found → ComparesTold setting limits (Some all) (Some others) found
-of_past setting limits bytes all rest others (Ok None) long also same h = absurd (omega (arith, h.1.1.fits))
-of_past setting limits bytes all rest others (Ok (Some difference)) long also same h = absurd (omega (arith, h.2.fits))
-of_past setting limits bytes all rest others (Err (RefusedOf First reason bit)) long also same h = breaks_alike limits bytes all (at reason bit) long also same h
-of_past setting limits bytes all rest others (Err (RefusedOf Second reason bit)) long also same h = absurd (omega (arith, h.0.1.fits))
-of_past setting limits bytes all rest others (Err outcome) long also same h = h
-
--- nothing is claimed of an input whose bytes are unknown
-of_none : (setting : Setting) (limits : Limits) (a b : ToldBytes) (found : Found) → ComparesTold setting limits a b found → ComparesTold setting limits None None found
-of_none setting limits a b (Ok None) h = tt
-of_none setting limits a b (Ok (Some difference)) h = tt
-of_none setting limits a b (Err (RefusedOf First reason bit)) h = tt
-of_none setting limits a b (Err (RefusedOf Second reason bit)) h = tt
-of_none setting limits a b (Err outcome) h = h
-
--- the comparison with the taken bytes is that of the first bytes and the others
-pub compared : (setting : Setting) (limits : Limits) (first count : ℕ) (told left : ToldBytes) (bytes : List ℕ) (found : Found) → count ≡ min first (limits.bytes + 1)
-    → (IsSome told → AreFirst count told bytes left) → ComparesTold setting limits (Some bytes) left found → ComparesParts setting limits first told found
-compared setting limits first count None left bytes found counted are h = of_none setting limits (Some bytes) left found h
-compared setting limits first count (Some input) None bytes found counted are h = absurd (are refl).0
-compared setting limits first count (Some input) (Some rest) bytes found counted are h = go (taken limits first count input bytes rest counted (are refl).0 (are refl).1 (are refl).2)
-  where
-    go : Taken limits first input bytes rest → ComparesParts setting limits first (Some input) found
-    go (whole is rest_is) = rw (← is, ← rest_is) h
-    go (past long also same) = of_past setting limits bytes (take first input) rest (drop first input) found long also same h
-
--- the first bytes were not taken
-module _ (limits : Limits) (first count : ℕ) (i now : Incoming) (counted : count ≡ min first (limits.bytes + 1)) where
-  pub none_taken : (out : LeftOut) (explain : Explain) (why : code.Fault) → TakesFirst count i (Err why) now → TakesInput (Same first explain limits out) i now (outcome_of limits.bytes why)
-  none_taken out explain fault.Read h = (fails_more i now count _ (omega (arith, counted)) h, tt)
-  none_taken out explain fault.Memory h = (inl (spends_more i now count _ (omega (arith, counted)) h), tt)
-  none_taken out explain fault.Write h = absurd h
-  none_taken out explain fault.OutputTooLong h = absurd h
-  none_taken out explain fault.Failed h = absurd h
-  none_taken out explain (fault.Refused reason bit) h = absurd h
-
-pub none_compared : (setting : Setting) (limits : Limits) (limit first count : ℕ) (i now : Incoming) (why : code.Fault) → TakesFirst count i (Err why) now → ComparesParts setting limits first i.to_come (Err (outcome_of limit why))
-none_compared setting limits limit first count i now fault.Read h = tt
-none_compared setting limits limit first count i now fault.Memory h = tt
-none_compared setting limits limit first count i now fault.Write h = absurd h
-none_compared setting limits limit first count i now fault.OutputTooLong h = absurd h
-none_compared setting limits limit first count i now fault.Failed h = absurd h
-none_compared setting limits limit first count i now (fault.Refused reason bit) h = absurd h
+  pub misread_taken : limits.bytes + 1 < 2 ^ 64 - 1 → (explain : Explain) (e : SameFault) → FindsInParts (setting_for out) limits first i (Err e) later → TakesInput (Same first explain limits out) i later (outcome_in e.which limits.bytes e.fault)
+  misread_taken small explain e h = taken_fault (setting_for out) limits first h.0 h.1 h.2 i h.3 later small out explain e.which e.fault h.4
 
 -- ---- the report on that
 

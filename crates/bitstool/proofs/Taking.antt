@@ -15,14 +15,11 @@ use Rattle.bit_events.specs.Reading.{ReadsWhole}
 use Rattle.bitstool.specs.declared.outcome.Outcome.{Outcome}
 use Rattle.bitstool.specs.declared.outcome.Outcome.TheVariants.{Done, Refused, Read, TooLong, Write, Memory}
 use Rattle.bitstool.specs.declared.task.Task.{Task}
-use Rattle.bitstool.specs.Performing.{AreFirst, PullsFirst, TakesFirst, outcome_of}
+use Rattle.bitstool.specs.Performing.{outcome_of}
 use Rattle.bitstool.specs.Runs.{IsDrained, Pays, PaysForRun, TakesInput, ToldBytes}
 use Rattle.bitstool.proofs.Known.{if_told}
 
 -- ---- the counts of bytes and pulls
-
-pub spends_none : (i : Incoming) (most : ℕ) → Spends i most i 0
-spends_none i most = record { pulls = omega arith; failures = refl; tells = λ t. t; bytes = λ t. omega arith; accounts = λ n all says. says }
 
 pub spends_more : (i now : Incoming) (a b : ℕ) → a ≤ b → Spends i a now 0 → Spends i b now 0
 spends_more i now a b le h = record { pulls = omega (arith, h.pulls); failures = h.failures; tells = h.tells; bytes = λ t. let few = h.bytes t in omega (arith, few); accounts = h.accounts }
@@ -54,69 +51,6 @@ fails_then i mid now a b h k = record {
       omega (arith, first, second);
   accounts = λ n all says. k.accounts n all (h.accounts n all says);
 }
-
--- ---- pulls
-
-known_after : (a b : ToldBytes) (bytes : List ℕ) → Consumes a b bytes → IsSome a → IsSome b × (length (known_bytes a) ≡ length bytes + length (known_bytes b))
-known_after None b bytes h told = absurd (cc)
-known_after (Some xs) None bytes h told = absurd h
-known_after (Some xs) (Some ys) bytes h told = (refl, ap length h ∙ length-append bytes ys)
-
--- bytes that a pull gave, each of which pays for it
-pub gave_spends : (old new : Incoming) (count : ℕ) (into : List ℕ) → Gave old new count into → 0 < count → Spends old count new 0
-gave_spends old new count into g some =
-    let long : length (take count into) ≤ count = omega (arith, length-take count into) in
-    record {
-      pulls = omega (arith, g.pulls);
-      failures = g.failures;
-      tells = λ t. (known_after old.to_come new.to_come (take count into) g.bytes t).0;
-      bytes = λ t. let more = (known_after old.to_come new.to_come (take count into) g.bytes t).1 in omega (arith, more, long);
-      accounts = g.accounts;
-    }
-
--- `count` bytes were pulled
-abbrev pub Pulled : Incoming → ℕ → Incoming → Type 0
-Pulled i count now = Spends i count now 0 × ((bytes : List ℕ) × Consumes i.to_come now.to_come bytes × (length bytes ≡ count))
-
-pub pulled_more : (i mid now : Incoming) (count came : ℕ) (into : List ℕ) → Pulled i count mid → Gave mid now came into → (came ≡ 0 → ⊥) → Pulled i (count + came) now
-pulled_more i mid now count came into h g some =
-    let all : length (take came into) ≡ came = omega (arith, length-take came into, g.fits) in (
-      spends_then i mid now count came h.0 (gave_spends mid now came into g (omega (arith, some))),
-      (h.1.0 ++ take came into, Consumes-trans i.to_come mid.to_come now.to_come h.1.0 (take came into) h.1.1 g.bytes, omega (arith, length-append h.1.0 (take came into), h.1.2, all)),
-    )
-
--- ---- a source that keeps the pulled bytes
-
-says_whole : (a b : Account) (old new : List Account) (all : List ℕ) → ((n : ℕ) (all : List ℕ) → SaysOf (a ∷ old) n all → SaysOf (b ∷ new) n all) → a.whole ≡ Some all → b.kept ≡ true → b.whole ≡ Some all
-unfolding SaysOf
-says_whole a b old new all more told kept = more 0 all (λ h. told) kept
-
-kept_are : (o left : ToldBytes) (bytes gone : List ℕ) → ((all : List ℕ) → prepend_known [] o ≡ Some all → prepend_known bytes left ≡ Some all) → Consumes o left gone → IsSome o → gone ≡ bytes
-kept_are None left bytes gone says takes told = absurd (cc)
-kept_are (Some all) None bytes gone says takes told = absurd takes
-kept_are (Some all) (Some rest) bytes gone says takes told =
-    let same : Some (bytes ++ rest) ≡ Some all = says all refl in
-    append_cancel_right gone bytes rest (sym takes ∙ sym (ap (λ (o : ToldBytes). known_bytes o) same))
-
--- it has kept the pulled bytes, if its bytes are known
-pub first_kept : (i p q now : Incoming) (count : ℕ) (bytes : List ℕ) → p ≡ keeps_of true [] i → q ≡ keeps_of true bytes now → PullsFirst count p (Ok tt) q → TakesFirst count i (Ok bytes) now
-first_kept i p q now count bytes begun ended pulls = go (subst (λ (r : Incoming). PullsFirst count (keeps_of true [] i) (Ok tt) r) ended (subst (λ (r : Incoming). PullsFirst count r (Ok tt) q) begun pulls))
-  where
-    go : PullsFirst count (keeps_of true [] i) (Ok tt) (keeps_of true bytes now) → TakesFirst count i (Ok bytes) now
-    go h =
-        let says : (all : List ℕ) → prepend_known [] i.to_come ≡ Some all → prepend_known bytes now.to_come ≡ Some all =
-        λ all told. says_whole (record { kept = true; whole = prepend_known [] i.to_come }) (record { kept = true; whole = prepend_known bytes now.to_come }) i.accounts now.accounts all h.0.accounts told refl in (
-          spends_within true true [] bytes i now count 0 h.0,
-          λ told. subst (λ (b : List ℕ). AreFirst count i.to_come b now.to_come) (kept_are i.to_come now.to_come bytes h.1.0 says h.1.1.0 told) h.1.1,
-        )
-
--- an allocation for that failed
-pub first_lost : (i p q now : Incoming) (count : ℕ) → p ≡ keeps_of true [] i → Stands q now → PullsFirst count p (Ok tt) q → TakesFirst count i (Err fault.Memory) now
-first_lost i p q now count begun s pulls = spends_within true s.is [] s.bytes i now count 0 (subst (λ (r : Incoming). Spends (keeps_of true [] i) count r 0) s.same (subst (λ (r : Incoming). Spends r count q 0) begun pulls.0))
-
--- the source failed
-pub first_unread : (i p q now : Incoming) (count : ℕ) (e : SourceFailed) → p ≡ keeps_of true [] i → Stands q now → PullsFirst count p (Err e) q → TakesFirst count i (Err fault.Read) now
-first_unread i p q now count e begun s pulls = fails_within true s.is [] s.bytes i now count 0 (subst (λ (r : Incoming). Fails (keeps_of true [] i) count r 0) s.same (subst (λ (r : Incoming). Fails r count q 0) begun pulls))
 
 -- ---- the remaining bytes
 

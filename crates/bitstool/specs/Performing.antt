@@ -31,25 +31,6 @@ abbrev pub PutsAll : List ℕ → Outgoing → Result (Unit {0}) SinkFailed → 
 PutsAll text old (Ok _) new = TookText text old new
 PutsAll text old (Err e) new = TookFront text old new × HasFailed old new
 
--- these bytes were pulled out of a source: `count` bytes, or all if it had fewer
-abbrev pub AreFirst : ℕ → ToldBytes → List ℕ → ToldBytes → Type 0
-AreFirst count told bytes left = Consumes told left bytes × (length bytes ≤ count)
-    × (length bytes < count → IsAtEnd left)
-
--- first bytes were pulled, or the source failed
-abbrev pub PullsFirst : ℕ → Incoming → Result (Unit {0}) SourceFailed → Incoming → Type 0
-PullsFirst count i (Ok _) now = Spends i count now 0
-    × ((bytes : List ℕ) × AreFirst count i.to_come bytes now.to_come)
-PullsFirst count i (Err e) now = Fails i count now 0
-
--- These bytes were read into memory, if those of the source are known; or the source failed, or an allocation failed.
-abbrev pub TakesFirst : ℕ → Incoming → Result (List ℕ) Fault → Incoming → Type 0
-TakesFirst count i (Ok bytes) now = Spends i count now 0
-    × (IsSome i.to_come → AreFirst count i.to_come bytes now.to_come)
-TakesFirst count i (Err fault.Read) now = Fails i count now 0
-TakesFirst count i (Err fault.Memory) now = Spends i count now 0
-TakesFirst count i (Err fault) now = ⊥
-
 -- the outcome of a fault, under this limit on bytes; a call on a whole input never returns `Failed`
 abbrev pub outcome_of : ℕ → Fault → Outcome
 outcome_of limit (fault.Refused reason bit) = Refused reason bit
@@ -96,12 +77,6 @@ FindsForTask task input Memory = ⊤
 -- and what it took of its input for that
 abbrev pub Judges : Task → Incoming → Incoming → Outcome → Type 0
 Judges task i now outcome = TakesInput task i now outcome × FindsForTask task i.to_come outcome
-
--- the bytes that were taken of the second for that: none if the first is refused
-abbrev pub TakesRest : Limits → Incoming → Incoming → Outcome → Type 0
-TakesRest limits j later (RefusedOf First reason bit) = later ≡ j
-TakesRest limits j later outcome = PaysForRun outcome j (limits.bytes + 1) later
-    × EndsAs outcome j later
 
 -- the result for two inputs: this first difference, or none; or another outcome
 abbrev pub Found : Type 0

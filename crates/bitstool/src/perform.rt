@@ -1,12 +1,10 @@
 //! Carrying out a command.
 
-ghost use Rattle.std.specs.Prelude.{◌≡◌, ◌<◌, ◌≤◌, ◌^◌, ℕ, List, IfOk, string_bytes, vec_items};
-ghost use Rattle.bit_grammar.specs.Setting.{setting_of};
-ghost use Rattle.bit_fields.specs.Reader.{told_by};
+ghost use Rattle.std.specs.Prelude.{◌≡◌, ◌≤◌, ℕ, List, IfOk, string_bytes};
 ghost use Rattle.bitstool.specs.declared.outcome.Outcome.{Outcome as OutcomeValue};
 ghost use Rattle.bitstool.specs.declared.task.Explain.{Explain as ExplainValue};
 ghost use Rattle.bitstool.specs.declared.task.Task.{Task as TaskValue};
-ghost use Rattle.bitstool.specs.Performing.{ComparesParts, ComparesTold, Judges, PullsFirst, TellsDifference, TellsFound, outcome_found, Settles, TakesFirst, TakesRest, TellsLine, outcome_of_assembling, outcome_of_writing, outcome_in, outcome_of};
+ghost use Rattle.bitstool.specs.Performing.{ComparesParts, Judges, TellsDifference, TellsFound, outcome_found, Settles, TellsLine, outcome_of_assembling, outcome_of_writing, outcome_in, outcome_of};
 ghost use Rattle.bit_norm.specs.Entries.{difference_shown};
 ghost use Rattle.bitstool.specs.Differences.{different_text, same_text};
 ghost use Rattle.bitstool.specs.LeftOut.{setting_for};
@@ -19,15 +17,12 @@ use crate::json_differences::json_of;
 use crate::outcome::Outcome;
 use crate::task::{Explain, LeftOut, Task};
 use bit_events::check;
-use bit_fields::{Fault, KeptSource, Limits, Sink, Source, SourceFailed};
-use bit_norm::{Difference, Which, first_difference_from, normalise};
+use bit_fields::{Fault, Limits, Sink, Source};
+use bit_norm::{Difference, Which, first_difference_in_parts, normalise};
 use bit_scan::{EventStyle, Format, write_events, write_report_as, write_show};
 use bit_text::{AssembleFault, assemble};
 use bit_tree::Info;
 use std::alloc::{AllocError, Global};
-
-/// The number of bytes of a first input that are pulled at once.
-const PIECE: usize = 4096;
 
 /// The outcome of a fault, under a limit on bytes.
 fn outcome_of(limit: u64, fault: Fault) -> Outcome
@@ -64,64 +59,6 @@ fn outcome_of_writing(limit: u64, answer: Result<(), Fault>) -> Outcome
     }
 }
 
-/// Pulls `count` bytes out of a source, or all if it has fewer.
-fn pull_first<S: Source>(source: &mut S, count: u64) -> Result<(), SourceFailed>
-    requires { count < 2 ^ 60 }
-    ensures { PullsFirst count (S.incoming source.old) result (S.incoming source.new) }
-{
-    let mut pulled = 0;
-    let mut piece = [0u8; PIECE];
-    while pulled < count {
-        let room = (count - pulled).min(PIECE as u64) as usize;
-        let came = source.pull(&mut piece[..room])?;
-        if came == 0 {
-            return Ok(());
-        }
-        pulled += came as u64;
-    }
-    Ok(())
-}
-
-/// Reads `count` bytes of a source into memory, or all if it has fewer. Besides them memory holds at most as many bytes as the list
-/// of a `KeptSource` has unused.
-fn take_first<S: Source>(alloc: Global, source: S, count: u64) -> (Result<Vec<u8>, Fault>, S)
-    requires { count < 2 ^ 60 }
-    ensures { TakesFirst count (S.incoming source) (told_by vec_items result.0)
-        (S.incoming result.1) }
-{
-    let mut kept = KeptSource::new(alloc, source);
-    let pulled = pull_first(&mut kept, count);
-    let (bytes, source) = kept.into_parts();
-    match (pulled, bytes) {
-        (Ok(()), Ok(bytes)) => (Ok(bytes), source),
-        (Ok(()), Err(AllocError)) => (Err(Fault::Memory), source),
-        (Err(SourceFailed), _) => (Err(Fault::Read), source),
-    }
-}
-
-/// Compares two inputs, the first of which is in memory.
-fn compare_rest<S: Source>(
-    alloc: Global,
-    first: &[u8],
-    rest: S,
-    limits: Limits,
-    info: Info<'_>,
-) -> (Result<Option<Difference>, Outcome>, S)
-    ensures found { ComparesTold (setting_of info.entry) limits (Some first.now)
-        (S.incoming rest).to_come result.0 }
-    ensures taken { TakesRest limits (S.incoming rest) (S.incoming result.1)
-        (outcome_found result.0) }
-{
-    let (answer, rest) = first_difference_from(alloc, first, rest, limits, info);
-    match answer {
-        Ok(found) => (Ok(found), rest),
-        Err(misread) => {
-            let outcome = outcome_in(misread.which, limits.bytes(), misread.fault);
-            (Err(outcome), rest)
-        }
-    }
-}
-
 /// Compares the first `first` bytes of a source with the rest.
 fn compare<S: Source>(
     alloc: Global,
@@ -136,11 +73,13 @@ fn compare<S: Source>(
     ensures found { ComparesParts (setting_for left.now) limits first (S.incoming source).to_come
         result.0 }
 {
-    let count = first.min(limits.bytes() + 1);
-    let (taken, source) = take_first(alloc, source, count);
-    match taken {
-        Ok(bytes) => compare_rest(alloc, &bytes, source, limits, left.info()),
-        Err(fault) => (Err(outcome_of(limits.bytes(), fault)), source),
+    let (answer, source) = first_difference_in_parts(alloc, source, first, limits, left.info());
+    match answer {
+        Ok(found) => (Ok(found), source),
+        Err(misread) => {
+            let outcome = outcome_in(misread.which, limits.bytes(), misread.fault);
+            (Err(outcome), source)
+        }
     }
 }
 

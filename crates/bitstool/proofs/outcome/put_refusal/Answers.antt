@@ -1,4 +1,4 @@
-use Rattle.std.proofs.Common.{◌≡◌, ◌++◌, Err, codes, decimal}
+use Rattle.std.proofs.Common.{◌++◌, Err, codes, decimal}
 use Rattle.std.proofs.lemmas.Result.{err_from_is_err_and}
 use Rattle.bitstool.specs.Outcome.{refused_at}
 use Rattle.bitstool.proofs.Putting.{front_of, text_then}
