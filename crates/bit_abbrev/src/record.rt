@@ -1,6 +1,6 @@
 //! Reading records from any source of bits.
 
-ghost use Rattle.std.specs.Prelude.{◌≡◌, ◌≢◌, ◌+◌, ◌-◌, ◌≤◌, ℕ, List, [], ◌∷◌, ◌++◌, Ok, Err, IfErr, IfOk, OnErr, OnOk, length, true, nat_le, false};
+ghost use Rattle.std.specs.Prelude.{◌≡◌, ◌≢◌, ◌+◌, ◌-◌, ◌≤◌, ℕ, List, [], ◌∷◌, ◌++◌, Ok, Err, IfErr, IfOk, OnErr, OnOk, length, take, drop, true, nat_le, false};
 ghost use Rattle.std.specs.List.{AllByRecursion};
 ghost use Rattle.bit_grammar.specs.Grammar.{gives};
 ghost use Rattle.bit_grammar.specs.Record.{scalar, singles, value_count, values_of, abbreviated, unabbreviated};
@@ -12,11 +12,13 @@ ghost use Rattle.bit_fields.specs.declared.fault.Fault.{Fault};
 ghost use Rattle.bit_fields.specs.declared.fault.Fault.TheVariants.{Memory};
 ghost use Rattle.bit_fields.specs.Reader.{Takes, IsOnly, failed_reader};
 ghost use Rattle.bit_abbrev.specs.Bits.{Answers};
+ghost use Rattle.bit_abbrev.specs.HeldOps.{ops_in};
 ghost use Rattle.bit_abbrev.specs.Operands.{OthersInOrder, others_of};
 ghost use Rattle.bit_abbrev.specs.Values.{AddsAll, AddsFew, AddsFirst, AddsWithin, Gains, Keeps, PassesFirst, Recorded};
 
-use crate::abbrev::Abbrev;
 use crate::bits::Bits;
+use crate::lent::Definition;
+use crate::operands::Operands;
 use crate::runs::Runs;
 use bit_fields::{BitReader, ChunkWidth, Fault, FieldWidth, Source, ValueTaker};
 use bit_grammar::{Op, Reason};
@@ -195,41 +197,57 @@ fn read_blob<U, B: Runs, V: ValueTaker>(
     bits.pad()
 }
 
-/// Skips the fields of operands that give one value each.
+/// Skips the fields of the first `count` operands, which give one value each.
 #[inline(always)]
-fn skip_singles<B: Bits>(bits: &mut B, ops: &[Op]) -> Result<(), B::Miss>
-    requires single { singles ops.now ≡ length ops.now }
-    requires lawful { AllByRecursion HasLawfulValue ops.now }
+fn skip_singles<B: Bits>(
+    bits: &mut B,
+    operands: &mut Operands<'_>,
+    count: usize,
+) -> Result<(), B::Miss>
+    requires single { count ≡ singles (ops_in operands.old.held.now) }
+    requires lawful { AllByRecursion HasLawfulValue (ops_in operands.old.held.now) }
     requires live { (B.as_reader bits.old).live ≡ true }
-    ensures { (room : ℕ) (tail : List Op) → Answers B.faults (PassesFirst room ops.now tail
-        (B.as_reader bits.old) (B.as_reader bits.new)) result }
+    ensures passes { (room : ℕ) (tail : List Op) → Answers B.faults (PassesFirst room
+        (take count (ops_in operands.old.held.now)) tail (B.as_reader bits.old)
+        (B.as_reader bits.new)) result }
+    ensures left { OnOk result (ops_in operands.new.held.now
+        ≡ drop count (ops_in operands.old.held.now)) }
 {
-    for op in ops {
-        skip_scalar(bits, *op)?;
+    for _done in 0..count {
+        let Some(op) = operands.next() else {
+            unreachable!();
+        };
+        skip_scalar(bits, op)?;
     }
     Ok(())
 }
 
-/// Reads the values of operands that give one value each, or skips them if the value sink does not use them.
+/// Reads the values of the first `count` operands, which give one value each, or skips them if the value sink does not use them.
 #[inline(always)]
 fn read_singles<U, B: Bits, V: ValueTaker>(
     bits: &mut B,
-    ops: &[Op],
+    operands: &mut Operands<'_>,
+    count: usize,
     values: &mut V,
 ) -> Result<(), B::Miss>
-    requires single { singles ops.now ≡ length ops.now }
-    requires lawful { AllByRecursion HasLawfulValue ops.now }
+    requires single { count ≡ singles (ops_in operands.old.held.now) }
+    requires lawful { AllByRecursion HasLawfulValue (ops_in operands.old.held.now) }
     requires live { (B.as_reader bits.old).live ≡ true }
     ensures adds { (room : ℕ) (tail : List Op) → Answers B.faults (λ r. Gains V.took values.old
-        values.new (AddsFirst room ops.now tail (B.as_reader bits.old) r (B.as_reader bits.new)))
-        result }
+        values.new (AddsFirst room (take count (ops_in operands.old.held.now)) tail
+        (B.as_reader bits.old) r (B.as_reader bits.new))) result }
+    ensures left { OnOk result (ops_in operands.new.held.now
+        ≡ drop count (ops_in operands.old.held.now)) }
     ensures keeps { Keeps V.took values.old values.new }
 {
-    if values.pass(ops.len() as u64) {
-        return skip_singles(bits, ops);
+    if values.pass(count as u64) {
+        return skip_singles(bits, operands, count);
     }
-    for op in ops {
-        let value = read_scalar(bits, *op)?;
+    for _done in 0..count {
+        let Some(op) = operands.next() else {
+            unreachable!();
+        };
+        let value = read_scalar(bits, op)?;
         keep(bits, values, value)?;
     }
     Ok(())
@@ -240,58 +258,61 @@ fn read_singles<U, B: Bits, V: ValueTaker>(
 fn read_values<U, B: Runs, V: ValueTaker>(
     bits: &mut B,
     room: u64,
-    ops: &[Op],
+    operands: Operands<'_>,
     count: usize,
     values: &mut V,
 ) -> Result<(), B::Miss>
-    requires order { OthersInOrder ops.now }
-    requires singles { count ≡ singles ops.now }
-    requires within { count ≤ length ops.now }
-    requires lawful { AllByRecursion HasLawfulValue ops.now }
+    requires order { OthersInOrder (ops_in operands.held.now) }
+    requires singles { count ≡ singles (ops_in operands.held.now) }
+    requires lawful { AllByRecursion HasLawfulValue (ops_in operands.held.now) }
     requires live { (B.as_reader bits.old).live ≡ true }
-    requires fits { singles ops.now ≤ room }
+    requires fits { singles (ops_in operands.held.now) ≤ room }
     ensures adds { Answers B.faults (λ r. Gains V.took values.old values.new
-        (AddsFew (values_of (room - singles ops.now) ops.now) room (B.as_reader bits.old) r
-        (B.as_reader bits.new))) result }
+        (AddsFew (values_of (room - singles (ops_in operands.entry.held.now))
+        (ops_in operands.entry.held.now)) room (B.as_reader bits.old) r (B.as_reader bits.new)))
+        result }
     ensures keeps { Keeps V.took values.old values.new }
 {
-    read_singles::<U, B, V>(bits, &ops[..count], values)?;
+    let mut others = operands;
+    read_singles::<U, B, V>(bits, &mut others, count, values)?;
     let left = room - count as u64;
-    let last = ops.len() - count;
+    let Some(op) = others.next() else {
+        return Ok(());
+    };
     // Tested first, so that the blob is inlined and the buffered bits stay in registers.
-    if last == 1 {
+    if let Op::Blob = op {
         return read_blob::<U, B, V>(bits, left, values);
     }
-    if last == 0 {
-        return Ok(());
-    }
-    read_array::<U, B, V>(bits, left, ops[count + 1], values)
+    let Some(element) = others.next() else {
+        unreachable!();
+    };
+    read_array::<U, B, V>(bits, left, element, values)
 }
 
 /// Reads a record by its operands. After the first one, `count` of them give one value each.
 #[inline(always)]
 fn read_by_ops<U, B: Runs, V: ValueTaker>(
     bits: &mut B,
-    ops: &[Op],
+    operands: Operands<'_>,
     count: usize,
     first: u64,
     room: u64,
     values: &mut V,
 ) -> Result<u64, B::Miss>
-    requires lawful { Lawful ops.now }
+    requires lawful { Lawful (ops_in operands.held.now) }
     requires live { (B.as_reader bits.old).live ≡ true }
-    requires singles { count ≡ singles (others_of ops.now) }
-    requires within { count ≤ length (others_of ops.now) }
+    requires singles { count ≡ singles (others_of (ops_in operands.held.now)) }
     ensures adds { Answers B.faults (λ r. Gains V.took values.old values.new
-        (AddsWithin (abbreviated first room ops.now) room (B.as_reader bits.old) r
-        (B.as_reader bits.new))) result }
+        (AddsWithin (abbreviated first room (ops_in operands.entry.held.now)) room
+        (B.as_reader bits.old) r (B.as_reader bits.new))) result }
     ensures keeps { Keeps V.took values.old values.new }
 {
-    let [code_op, others @ ..] = ops else {
+    let mut others = operands;
+    let Some(code_op) = others.next() else {
         unreachable!();
     };
     bits.judge(count as u64 <= room, Reason::TooManyValues, first)?;
-    let code = read_scalar(bits, *code_op)?;
+    let code = read_scalar(bits, code_op)?;
     read_values::<U, B, V>(bits, room, others, count, values)?;
     Ok(code)
 }
@@ -304,21 +325,20 @@ fn read_by_ops<U, B: Runs, V: ValueTaker>(
 #[inline(always)]
 pub fn read_record<U, B: Runs, V: ValueTaker>(
     bits: &mut B,
-    abbrev: &Abbrev,
+    abbrev: Definition<'_>,
     first: u64,
     room: u64,
     values: &mut V,
 ) -> Result<u64, B::Miss>
-    requires shape { has_shape «abbrev».now ≡ true }
+    requires shape { has_shape (ops_in «abbrev».held.now) ≡ true }
     requires live { (B.as_reader bits.old).live ≡ true }
     ensures adds { Answers B.faults (λ r. Gains V.took values.old values.new
-        (AddsWithin (abbreviated first room «abbrev».now) room (B.as_reader bits.old) r
-        (B.as_reader bits.new))) result }
+        (AddsWithin (abbreviated first room (ops_in «abbrev».entry.held.now)) room
+        (B.as_reader bits.old) r (B.as_reader bits.new))) result }
     ensures keeps { Keeps V.took values.old values.new }
 {
-    let ops = abbrev.lawful_ops();
-    let count = ops.len() - 1 - abbrev.tail().len();
-    read_by_ops::<U, B, V>(bits, ops, count, first, room, values)
+    let count = abbrev.singles();
+    read_by_ops::<U, B, V>(bits, abbrev.operands(), count, first, room, values)
 }
 
 /// Reads a record that is not abbreviated, after its abbreviation id: gives its values to the value sink and returns its code. If
@@ -349,17 +369,17 @@ pub fn read_plain<U, B: Runs, V: ValueTaker>(
 /// where the call began.
 pub fn read_abbreviated<S: Source, V: ValueTaker>(
     reader: &mut BitReader<S>,
-    abbrev: &Abbrev,
+    abbrev: Definition<'_>,
     first: u64,
     room: u64,
     values: &mut V,
 ) -> Result<u64, Fault>
-    requires { has_shape «abbrev».now ≡ true }
+    requires { has_shape (ops_in «abbrev».held.now) ≡ true }
     ensures takes { Gains V.took values.old values.new
-        (Recorded (λ r. Takes (abbreviated first room «abbrev».now) reader.old r reader.new)
+        (Recorded (λ r. Takes (abbreviated first room (ops_in «abbrev».entry.held.now)) reader.old r reader.new)
         result) }
     ensures only { Gains V.took values.old values.new
-        (Recorded (λ r. IsOnly (abbreviated first room «abbrev».now) reader.old r reader.new)
+        (Recorded (λ r. IsOnly (abbreviated first room (ops_in «abbrev».entry.held.now)) reader.old r reader.new)
         result) }
     ensures few { Gains V.took values.old values.new
         (λ before after. OnOk result (length after ≤ length before + room)) }

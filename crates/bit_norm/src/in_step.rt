@@ -14,7 +14,7 @@ use crate::differences::{Difference, Place, Standing, ValueDifference, What};
 use crate::sign::Sign;
 use crate::walk::Walk;
 use crate::writing::number_of_magic;
-use bit_abbrev::Abbrev;
+use bit_abbrev::Definition;
 use bit_events::{Event, Folded, Gatherer, OpenBlocks, PackedEvent, RecordHead, SliceEvents, fold};
 use bit_fields::{ExpectedValues, Fault, Head, Limits, PackedValues, SliceSource, Source, Wrapper};
 use bit_tree::Info;
@@ -205,7 +205,10 @@ fn weigh_next(
     }
     match events.next()? {
         None => Ok(Weighed::Stands(held_beside(Sign::Over, ended, ended, sign, apart))),
-        Some(event) => weigh(event, sign, blocks, ended, apart).map_err(|_| Fault::Memory),
+        Some(event) => match weigh(event, sign, blocks, ended, apart) {
+            Ok(weighed) => Ok(weighed),
+            Err(AllocError) => Err(Fault::Memory),
+        },
     }
 }
 
@@ -383,7 +386,12 @@ impl<'a> Gatherer for Comparer<'a> {
         Ok(())
     }
 
-    fn define(&mut self, _abbrev: &Abbrev, _first: u64, _after: u64) -> Result<(), AllocError> {
+    fn define(
+        &mut self,
+        _abbrev: Definition<'_>,
+        _first: u64,
+        _after: u64,
+    ) -> Result<(), AllocError> {
         Ok(())
     }
 

@@ -44,7 +44,7 @@ fn give(
             first,
             body,
         } => builder.enter(id, width, first, body),
-        Row::Define { first, after } => builder.define(define, first, after),
+        Row::Define { first, after } => builder.define(define.lend(), first, after),
         Row::Record {
             abbrev,
             code,
@@ -115,7 +115,7 @@ static MARKED: [Row; 9] = [
 static MARKED_TEXT: &str = "MarkedBlocks([\
     MarkedBlock { id: 0, width: 2, first: 32, body: 96, after: 160, items: MarkedItems([\
     Record(MarkedRecord { abbrev: 3, code: 1, values: Values([8]), first: 96, after: 116 }), \
-    Define(MarkedDefine { abbrev: Abbrev { ops: [Literal(1), Fixed(7)], usable: true, tail: Nothing }, first: 116, after: 141 })]) }, \
+    Define(MarkedDefine { abbrev: Abbrev { ops: [Literal(1), Fixed(7)], usable: true }, first: 116, after: 141 })]) }, \
     MarkedBlock { id: 8, width: 3, first: 160, body: 224, after: 352, items: MarkedItems([\
     Block(MarkedBlock { id: 9, width: 4, first: 224, body: 288, after: 320, items: MarkedItems([]) }), \
     Record(MarkedRecord { abbrev: 4, code: 1, values: Values([100]), first: 320, after: 330 })]) }])";

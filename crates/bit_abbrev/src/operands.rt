@@ -1,0 +1,129 @@
+//! Operands that are taken one by one.
+
+ghost use Rattle.std.specs.Prelude.{◌≡◌, ◌∷◌, ◌+◌, ◌<◌, ◌^◌, [], IfSome, IfNone, length};
+ghost use Rattle.bit_grammar.specs.Definition.{has_shape};
+ghost use Rattle.bit_grammar.specs.Record.{singles};
+ghost use Rattle.bit_abbrev.specs.HeldOps.{more, ops_in};
+
+use crate::abbrev::{fits, kind_of, place_after};
+use crate::held_op::HeldOp;
+use bit_grammar::{Op, Place};
+
+/// Operands in order, of which the first one can be taken.
+#[derive(Clone, Copy, Debug)]
+pub struct Operands<'a> {
+    pub(crate) held: &'a [HeldOp],
+}
+
+/// What the further bytes of a literal add to it, in units of 256.
+fn more(held: &[HeldOp]) -> u64
+    ensures { result ≡ more held.now }
+{
+    match held {
+        [HeldOp::More(byte), rest @ ..] => (u64::from(*byte) + 256 * more(rest)) % (1 << 56),
+        _ => 0,
+    }
+}
+
+/// The first operand, and those after it, if the first one may be a great literal.
+#[cold]
+#[inline(never)]
+fn next_great(held: &[HeldOp]) -> Option<(Op, &[HeldOp])>
+    ensures some { IfSome result (λ found. ops_in held.now ≡ found.0 ∷ ops_in found.1.now) }
+    ensures none { IfNone result (ops_in held.now ≡ []) }
+{
+    let mut left = held;
+    while let [first, rest @ ..] = left {
+        left = rest;
+        let op = match *first {
+            HeldOp::Literal(value) => Op::Literal(u64::from(value)),
+            HeldOp::Great(byte) => Op::Literal(u64::from(byte) + 256 * more(rest)),
+            HeldOp::Fixed(width) => Op::Fixed(width),
+            HeldOp::Vbr(width) => Op::Vbr(width),
+            HeldOp::Array => Op::Array,
+            HeldOp::Char6 => Op::Char6,
+            HeldOp::Blob => Op::Blob,
+            HeldOp::More(_) | HeldOp::Counted(_) | HeldOp::Long | HeldOp::Unusable => continue,
+        };
+        return Some((op, rest));
+    }
+    None
+}
+
+impl<'a> Operands<'a> {
+    /// Takes the first operand, if there is one.
+    #[inline(always)]
+    pub fn next(&mut self) -> Option<Op>
+        ensures some { IfSome result (λ op. ops_in self.old.held.now ≡ op ∷ ops_in self.new.held.now) }
+        ensures none { IfNone result (ops_in self.old.held.now ≡ []) }
+    {
+        let [first, rest @ ..] = self.held else {
+            return None;
+        };
+        let op = match *first {
+            HeldOp::Literal(value) => Op::Literal(u64::from(value)),
+            HeldOp::Fixed(width) => Op::Fixed(width),
+            HeldOp::Vbr(width) => Op::Vbr(width),
+            HeldOp::Array => Op::Array,
+            HeldOp::Char6 => Op::Char6,
+            HeldOp::Blob => Op::Blob,
+            _ => {
+                let (op, rest) = next_great(self.held)?;
+                self.held = rest;
+                return Some(op);
+            }
+        };
+        self.held = rest;
+        Some(op)
+    }
+
+    /// How many there are.
+    #[tactic(auto, using(crate::proofs::Encoded::ops_few))]
+    pub fn count(self) -> usize
+        ensures { result ≡ length (ops_in self.entry.held.now) }
+    {
+        let _most = self.held.len();
+        let mut left = self;
+        let mut count = 0;
+        while let Some(_) = left.next() {
+            count += 1;
+        }
+        count
+    }
+
+    /// How many there are before the first array or blob.
+    #[tactic(auto, using(crate::proofs::Encoded::ops_few))]
+    pub(crate) fn singles(self) -> usize
+        ensures { result ≡ singles (ops_in self.entry.held.now) }
+    {
+        let _most = self.held.len();
+        let mut left = self;
+        let mut count = 0;
+        while let Some(op) = left.next() {
+            match op {
+                Op::Array | Op::Blob => return count,
+                _ => count += 1,
+            }
+        }
+        count
+    }
+
+    /// Whether they are in a lawful order, of this many operands.
+    pub(crate) fn has_shape(self, count: usize) -> bool
+        requires { count ≡ length (ops_in self.held.now) }
+        ensures { result ≡ has_shape (ops_in self.entry.held.now) }
+    {
+        let mut left = self;
+        let mut place = Place::First;
+        for at in 0..count {
+            let Some(op) = left.next() else {
+                unreachable!();
+            };
+            if !fits(place, (count - 1 - at) as u64, kind_of(op)) {
+                return false;
+            }
+            place = place_after(op);
+        }
+        true
+    }
+}
