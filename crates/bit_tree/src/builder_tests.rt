@@ -1,7 +1,7 @@
 use crate::MarkedBlocks;
 use crate::marked_builder::MarkedBuilder;
 use crate::tests::{agrees, definition};
-use bit_abbrev::Abbrev;
+use bit_abbrev::{Abbrev, Definition, InForce};
 use bit_events::Gatherer;
 use std::alloc::{AllocError, Global};
 use std::process::Abort;
@@ -35,7 +35,7 @@ fn give(
     alloc: Global,
     builder: &mut MarkedBuilder,
     row: &Row,
-    define: &Abbrev,
+    define: Definition<'_>,
 ) -> Result<(), AllocError> {
     match *row {
         Row::Enter {
@@ -44,7 +44,7 @@ fn give(
             first,
             body,
         } => builder.enter(id, width, first, body),
-        Row::Define { first, after } => builder.define(define.lend(), first, after),
+        Row::Define { first, after } => builder.define(define, first, after),
         Row::Record {
             abbrev,
             code,
@@ -60,7 +60,12 @@ fn give(
 }
 
 /// The marked blocks of these events.
-fn marked_of(alloc: Global, rows: &[Row], define: &Abbrev) -> Result<MarkedBlocks, AllocError> {
+fn marked_of(alloc: Global, rows: &[Row], define: Abbrev) -> Result<MarkedBlocks, AllocError> {
+    let mut definitions = InForce::new(alloc);
+    definitions.define(define)?;
+    let Some(define) = definitions.get(0) else {
+        return Err(AllocError);
+    };
     let mut builder = MarkedBuilder::new(alloc);
     for row in rows {
         give(alloc, &mut builder, row, define)?;
@@ -123,7 +128,7 @@ static MARKED_TEXT: &str = "MarkedBlocks([\
 /// What these events build, as text.
 fn told_of_marked(rt: &impl Abort, alloc: Global, rows: &[Row]) -> Result<String, AllocError> {
     let define = definition(rt, alloc);
-    let blocks = marked_of(alloc, rows, &define).expect(rt, "memory");
+    let blocks = marked_of(alloc, rows, define).expect(rt, "memory");
     format!(in alloc; "{blocks:?}")
 }
 

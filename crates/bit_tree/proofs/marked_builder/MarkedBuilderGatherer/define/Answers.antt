@@ -8,4 +8,4 @@ use Rattle.bit_tree.proofs.marked_builder.MarkedBuilderGatherer.define.Goals as 
 pub returns : goal.returns
 returns c =
     item_added (item.Define (record { «abbrev» = c.in_ok-abbrev.abbrev; first = c.args.first; after = c.args.after })) (defines (record { ops = ops_in c.args.«abbrev».held.now; first = c.args.first; after = c.args.after })) c.args.self.now c.add_marked.new.frames c.add_marked.result
-    (λ following. rw c.in_ok-abbrev.ensures.ok refl) (λ count. refl) c.add_marked.ensures.items c.add_marked.ensures.len
+    (λ following. rw c.in_ok-abbrev.ensures refl) (λ count. refl) c.add_marked.ensures.items c.add_marked.ensures.len
