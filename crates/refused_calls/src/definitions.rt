@@ -24,10 +24,9 @@ fn has(list: Listed<'_>, value: u32) -> bool {
     let Some(definition) = list.get((value / IDS) as usize) else {
         return false;
     };
-    match definition.ops() {
-        [Op::Literal(found)] => *found == u64::from(value),
-        _ => false,
-    }
+    let mut operands = definition.operands();
+    let first = operands.next();
+    first == Some(Op::Literal(u64::from(value))) && operands.next().is_none()
 }
 
 /// Whether a table has the definitions with these literals, each for its block id and at its place.
