@@ -81,8 +81,8 @@ ended all last start within =
     let many : length all - start ≡ length own = omega (arith, length-drop start all) in
     rw (drop-append-le start all (last ∷ []) within, many) (take-append-le (length own) own (last ∷ []) (omega arith) ∙ take-length own)
 
-pub end_held : (all : List HeldOp) (last : HeldOp) (head : Head) → head.start ≤ length all → head.end ≡ length all → Definable (ops_in (drop head.start all)) → IsLast last (ops_in (drop head.start all)) → IsHeld (all ++ last ∷ []) head
+pub end_held : (all : List HeldOp) (last : HeldOp) (head : Head) → head.start ≤ length all → head.end ≡ length all → Definable (ops_in (drop head.start all)) → IsLast last (drop head.start all) → IsHeld (all ++ last ∷ []) head
 end_held all last head within ends definable is =
-    let here : ops_of (all ++ last ∷ []) head ≡ ops_in (drop head.start all) = rw ends (ap ops_in (ended all last head.start within)) in
+    let here : slice_range (all ++ last ∷ []) head.start head.end ≡ drop head.start all = rw ends (ended all last head.start within) in
     let there : get_or (all ++ last ∷ []) head.end Unusable ≡ last = rw ends (get_or-append_seam all last [] Unusable) in
     (omega (arith, within, ends), omega (arith, ends, length-append all (last ∷ [])), rw (here, there) ((definable.some, definable.values), is))

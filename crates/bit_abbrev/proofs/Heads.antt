@@ -21,7 +21,7 @@ same_in_more all more head h = ap ops_in (same_range all more head h)
 held_in_more : (all more : List HeldOp) (head : Head) → IsHeld all head → IsHeld (all ++ more) head
 held_in_more all more head h =
     let last : get_or (all ++ more) head.end Unusable ≡ get_or all head.end Unusable = get_or_append_left all more Unusable head.end h.1 in
-    (h.0, omega (arith, h.1, length-append all more), rw (same_in_more all more head h, last) h.2)
+    (h.0, omega (arith, h.1, length-append all more), rw (same_range all more head h, last) h.2)
 
 pub all_in_more : (all more : List HeldOp) (heads : List Head) → AreHeld all heads → AreHeld (all ++ more) heads
 all_in_more all more [] h = tt

@@ -15,7 +15,7 @@ ops_of all head = ops_in (slice_range all head.start head.end)
 -- they are in the list of all, with what the definition is to records after them
 abbrev pub IsHeld : (all : List HeldOp) → Head → Type 0
 IsHeld all head = (head.start ≤ head.end) × (head.end < length all)
-    × Known (ops_of all head) (get_or all head.end Unusable)
+    × Known (slice_range all head.start head.end) (get_or all head.end Unusable)
 
 abbrev pub AreHeld : (all : List HeldOp) → List Head → Type 0
 AreHeld all heads = AllByRecursion (IsHeld all) heads

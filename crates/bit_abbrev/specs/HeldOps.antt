@@ -1,5 +1,6 @@
 -- Operands as they are held.
 use Rattle.std.specs.Prelude.{ℕ, ◌+◌, ◌*◌, ◌%◌, ◌^◌, List, [], ◌∷◌}
+use Rattle.std.specs.List.{AllByRecursion}
 use Rattle.bit_grammar.specs.declared.op.Op.{Op}
 use Rattle.bit_grammar.specs.declared.op.Op.TheVariants as op
 use Rattle.bit_abbrev.specs.declared.held_op.HeldOp.{HeldOp}
@@ -24,3 +25,15 @@ ops_in (Blob ∷ held) = op.Blob ∷ ops_in held
 ops_in (Counted count ∷ held) = ops_in held
 ops_in (Long ∷ held) = ops_in held
 ops_in (Unusable ∷ held) = ops_in held
+
+-- held in one place
+abbrev pub IsPlain : HeldOp → Type 0
+IsPlain (Great byte) = ⊥
+IsPlain (More byte) = ⊥
+IsPlain (Counted count) = ⊥
+IsPlain Long = ⊥
+IsPlain Unusable = ⊥
+IsPlain _ = Unit {0}
+
+abbrev pub ArePlain : List HeldOp → Type 0
+ArePlain held = AllByRecursion IsPlain held

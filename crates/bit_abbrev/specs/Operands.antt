@@ -3,7 +3,7 @@
 use Rattle.std.specs.Prelude.{◌≡◌, ℕ, ◌+◌, ◌-◌, ◌<◌, Bool, true, false, List, length, take, drop}
 use Rattle.std.specs.List.{AllByRecursion, AllByRecursion-prop}
 use Rattle.std.specs.Coded.{×_prop, Π_prop, Unit-prop, le_prop, Coded-set, coded_bool, coded_ℕ}
-use mathlib.Core.HLevel.{⊥_prop}
+use mathlib.Core.HLevel.{⊥_prop, ×₃_prop}
 use Rattle.bit_grammar.specs.declared.op.Op.{Op}
 use Rattle.bit_grammar.specs.declared.op.Op.TheVariants.{Literal, Fixed, Vbr, Array, Char6, Blob}
 use Rattle.bit_grammar.specs.Definition.{has_shape}
@@ -12,6 +12,7 @@ use Rattle.bit_grammar.specs.Record.{singles}
 use Rattle.bit_abbrev.specs.declared.held_op.HeldOp.{HeldOp}
 use Rattle.bit_abbrev.specs.declared.held_op.HeldOp.TheVariants.{Counted, Unusable}
 use Rattle.bit_abbrev.specs.declared.held_op.HeldOp.TheVariants as held
+use Rattle.bit_abbrev.specs.HeldOps.{ops_in, IsPlain, ArePlain}
 
 -- an array is the last but one, and an element follows it; a blob is the last
 pub record OthersInOrder (ops : List Op) : Type 0 where
@@ -24,14 +25,16 @@ abbrev pub others_of : List Op → List Op
 others_of ops = take (length ops - 1) (drop 1 ops)
 
 -- what a definition of operands is to records
-abbrev pub IsLast : HeldOp → List Op → Type 0
-IsLast (Counted count) ops = (has_shape ops ≡ true) × (count ≡ singles (others_of ops))
-IsLast Unusable ops = has_shape ops ≡ false
-IsLast _ ops = has_shape ops ≡ true
+abbrev pub IsLast : HeldOp → (held : List HeldOp) → Type 0
+IsLast (Counted count) held = (has_shape (ops_in held) ≡ true)
+    × (count ≡ singles (others_of (ops_in held))) × ArePlain held
+IsLast Unusable held = has_shape (ops_in held) ≡ false
+IsLast _ held = has_shape (ops_in held) ≡ true
 
 -- What is known of the operands of a definition: there is one, each has a lawful value, and what the definition is to records.
-abbrev pub Known : List Op → (last : HeldOp) → Type 0
-Known ops last = ((0 < length ops) × AllByRecursion HasLawfulValue ops) × IsLast last ops
+abbrev pub Known : (held : List HeldOp) → (last : HeldOp) → Type 0
+Known held last = ((0 < length (ops_in held)) × AllByRecursion HasLawfulValue (ops_in held))
+    × IsLast last held
 
 HasLawfulValue-prop : (op : Op) → IsProp (HasLawfulValue op)
 HasLawfulValue-prop (Literal v) = le_prop
@@ -44,20 +47,37 @@ HasLawfulValue-prop Blob = Unit-prop
 is-prop : (a b : Bool) → IsProp (a ≡ b)
 is-prop a b = Coded-set coded_bool a b
 
-IsLast-prop : (last : HeldOp) (ops : List Op) → IsProp (IsLast last ops)
-IsLast-prop (Counted count) ops = ×_prop (is-prop (has_shape ops) true) (Coded-set coded_ℕ count (singles (others_of ops)))
-IsLast-prop Unusable ops = is-prop (has_shape ops) false
-IsLast-prop (held.Literal v) ops = is-prop (has_shape ops) true
-IsLast-prop (held.Great v) ops = is-prop (has_shape ops) true
-IsLast-prop (held.More v) ops = is-prop (has_shape ops) true
-IsLast-prop (held.Fixed w) ops = is-prop (has_shape ops) true
-IsLast-prop (held.Vbr w) ops = is-prop (has_shape ops) true
-IsLast-prop held.Array ops = is-prop (has_shape ops) true
-IsLast-prop held.Char6 ops = is-prop (has_shape ops) true
-IsLast-prop held.Blob ops = is-prop (has_shape ops) true
-IsLast-prop held.Long ops = is-prop (has_shape ops) true
+IsPlain-prop : (op : HeldOp) → IsProp (IsPlain op)
+IsPlain-prop (held.Literal v) = Unit-prop
+IsPlain-prop (held.Fixed w) = Unit-prop
+IsPlain-prop (held.Vbr w) = Unit-prop
+IsPlain-prop held.Array = Unit-prop
+IsPlain-prop held.Char6 = Unit-prop
+IsPlain-prop held.Blob = Unit-prop
+IsPlain-prop (held.Great v) = ⊥_prop
+IsPlain-prop (held.More v) = ⊥_prop
+IsPlain-prop (Counted n) = ⊥_prop
+IsPlain-prop held.Long = ⊥_prop
+IsPlain-prop Unusable = ⊥_prop
 
-pub Known-prop : (ops : List Op) (last : HeldOp) → IsProp (Known ops last)
-Known-prop ops last = ×_prop
-    (×_prop (le_prop {n = 1} {m = length ops}) (AllByRecursion-prop HasLawfulValue HasLawfulValue-prop ops))
-    (IsLast-prop last ops)
+pub ArePlain-prop : (all : List HeldOp) → IsProp (ArePlain all)
+ArePlain-prop all = AllByRecursion-prop IsPlain IsPlain-prop all
+
+IsLast-prop : (last : HeldOp) (all : List HeldOp) → IsProp (IsLast last all)
+IsLast-prop (Counted count) all = ×₃_prop (is-prop (has_shape (ops_in all)) true)
+    (Coded-set coded_ℕ count (singles (others_of (ops_in all)))) (ArePlain-prop all)
+IsLast-prop Unusable all = is-prop (has_shape (ops_in all)) false
+IsLast-prop (held.Literal v) all = is-prop (has_shape (ops_in all)) true
+IsLast-prop (held.Fixed w) all = is-prop (has_shape (ops_in all)) true
+IsLast-prop (held.Vbr w) all = is-prop (has_shape (ops_in all)) true
+IsLast-prop held.Array all = is-prop (has_shape (ops_in all)) true
+IsLast-prop held.Char6 all = is-prop (has_shape (ops_in all)) true
+IsLast-prop held.Blob all = is-prop (has_shape (ops_in all)) true
+IsLast-prop (held.Great v) all = is-prop (has_shape (ops_in all)) true
+IsLast-prop (held.More v) all = is-prop (has_shape (ops_in all)) true
+IsLast-prop held.Long all = is-prop (has_shape (ops_in all)) true
+
+pub Known-prop : (all : List HeldOp) (last : HeldOp) → IsProp (Known all last)
+Known-prop all last = ×_prop
+    (×_prop (le_prop {n = 1} {m = length (ops_in all)}) (AllByRecursion-prop HasLawfulValue HasLawfulValue-prop (ops_in all)))
+    (IsLast-prop last all)

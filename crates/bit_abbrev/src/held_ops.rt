@@ -10,7 +10,7 @@ ghost use Rattle.bit_abbrev.specs.Operands.{IsLast};
 
 use crate::definition::TakeOps;
 use crate::head::Head;
-use crate::held_op::{HeldOp, great};
+use crate::held_op::{HeldOp, are_plain, great};
 use crate::operands::Operands;
 use bit_grammar::Op;
 use std::alloc::{AllocError, Global};
@@ -26,7 +26,7 @@ pub(crate) struct HeldOps {
 
 /// What a definition of these operands is to records.
 fn last_of(held: &[HeldOp]) -> HeldOp
-    ensures { IsLast result (ops_in held.now) }
+    ensures { IsLast result held.now }
 {
     let operands = Operands { held };
     if !operands.has_shape(operands.count()) {
@@ -37,7 +37,7 @@ fn last_of(held: &[HeldOp]) -> HeldOp
         return HeldOp::Long;
     };
     let singles = others.singles();
-    if singles < 256 {
+    if singles < 256 && are_plain(held) {
         HeldOp::Counted(singles as u8)
     } else {
         HeldOp::Long

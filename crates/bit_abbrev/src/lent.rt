@@ -1,8 +1,8 @@
 //! Definitions that are lent.
 
-ghost use Rattle.std.specs.Prelude.{◌≡◌, true, IfOk};
+ghost use Rattle.std.specs.Prelude.{◌≡◌, IfOk};
 ghost use Rattle.bit_grammar.specs.Definition.{has_shape};
-ghost use Rattle.bit_grammar.specs.FormatDefinition.{Definable, Lawful};
+ghost use Rattle.bit_grammar.specs.FormatDefinition.{Definable};
 ghost use Rattle.bit_grammar.specs.Record.{singles};
 ghost use Rattle.bit_abbrev.specs.HeldOps.{ops_in};
 ghost use Rattle.bit_abbrev.specs.Operands.{Known, Known-prop, others_of};
@@ -19,20 +19,7 @@ pub struct Definition<'a> {
     pub(crate) held: &'a [HeldOp],
     /// What it is to records.
     pub(crate) last: HeldOp,
-    pub ghost known: { Known (ops_in held.now) last } by { Known-prop (ops_in held.now) last },
-}
-
-/// How many operands after the first one give one value each, if the definition does not say so.
-#[cold]
-#[inline(never)]
-fn count_singles(operands: Operands<'_>) -> usize
-    ensures { result ≡ singles (others_of (ops_in operands.entry.held.now)) }
-{
-    let mut others = operands;
-    match others.next() {
-        Some(_) => others.singles(),
-        None => 0,
-    }
+    pub ghost known: { Known held.now last } by { Known-prop held.now last },
 }
 
 impl<'a> Definition<'a> {
@@ -57,15 +44,13 @@ impl<'a> Definition<'a> {
     }
 
     /// How many operands after the first one give one value each.
-    #[inline(always)]
     pub(crate) fn singles(&self) -> usize
-        requires { has_shape (ops_in self.now.held.now) ≡ true }
-        ensures count { result ≡ singles (others_of (ops_in self.now.held.now)) }
-        ensures lawful { Lawful (ops_in self.now.held.now) }
+        ensures { result ≡ singles (others_of (ops_in self.now.held.now)) }
     {
-        match self.last {
-            HeldOp::Counted(count) => usize::from(count),
-            _ => count_singles(self.operands()),
+        let mut others = self.operands();
+        match others.next() {
+            Some(_) => others.singles(),
+            None => 0,
         }
     }
 

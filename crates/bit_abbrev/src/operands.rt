@@ -3,7 +3,8 @@
 ghost use Rattle.std.specs.Prelude.{◌≡◌, ◌∷◌, ◌+◌, ◌<◌, ◌^◌, [], IfSome, IfNone, length};
 ghost use Rattle.bit_grammar.specs.Definition.{has_shape};
 ghost use Rattle.bit_grammar.specs.Record.{singles};
-ghost use Rattle.bit_abbrev.specs.HeldOps.{more, ops_in};
+ghost use Rattle.bit_abbrev.specs.HeldOps.{more, ops_in, ArePlain};
+ghost use Rattle.bit_abbrev.specs.Operands.{ArePlain-prop};
 
 use crate::abbrev::{fits, kind_of, place_after};
 use crate::held_op::HeldOp;
@@ -25,38 +26,32 @@ fn more(held: &[HeldOp]) -> u64
     }
 }
 
-/// The first operand, and those after it, if the first one may be a great literal.
-#[cold]
-#[inline(never)]
-fn next_great(held: &[HeldOp]) -> Option<(Op, &[HeldOp])>
-    ensures some { IfSome result (λ found. ops_in held.now ≡ found.0 ∷ ops_in found.1.now) }
-    ensures none { IfNone result (ops_in held.now ≡ []) }
-{
-    let mut left = held;
-    while let [first, rest @ ..] = left {
-        left = rest;
-        let op = match *first {
-            HeldOp::Literal(value) => Op::Literal(u64::from(value)),
-            HeldOp::Great(byte) => Op::Literal(u64::from(byte) + 256 * more(rest)),
-            HeldOp::Fixed(width) => Op::Fixed(width),
-            HeldOp::Vbr(width) => Op::Vbr(width),
-            HeldOp::Array => Op::Array,
-            HeldOp::Char6 => Op::Char6,
-            HeldOp::Blob => Op::Blob,
-            HeldOp::More(_) | HeldOp::Counted(_) | HeldOp::Long | HeldOp::Unusable => continue,
-        };
-        return Some((op, rest));
-    }
-    None
+/// Operands that are taken one by one.
+pub(crate) trait OneByOne {
+    ghost use Rattle.std.specs.Prelude.{List};
+    ghost use Rattle.bit_grammar.specs.declared.op.Op.{Op};
+
+    // The operands that are left.
+    ghost left: { Self → List Op };
+
+    /// Takes the first operand, if there is one.
+    fn take_one(&mut self) -> Option<Op>
+        ensures some { IfSome result (λ op. left self.old ≡ op ∷ left self.new) }
+        ensures none { IfNone result (left self.old ≡ []) };
 }
 
-impl<'a> Operands<'a> {
-    /// Takes the first operand, if there is one.
+/// Operands each of which is held in one place.
+#[derive(Clone, Copy)]
+pub(crate) struct Plain<'a> {
+    pub(crate) held: &'a [HeldOp],
+    ghost plain: { ArePlain held.now } by { ArePlain-prop held.now },
+}
+
+impl<'a> OneByOne for Plain<'a> {
+    ghost left = { λ operands. ops_in operands.held.now };
+
     #[inline(always)]
-    pub fn next(&mut self) -> Option<Op>
-        ensures some { IfSome result (λ op. ops_in self.old.held.now ≡ op ∷ ops_in self.new.held.now) }
-        ensures none { IfNone result (ops_in self.old.held.now ≡ []) }
-    {
+    fn take_one(&mut self) -> Option<Op> {
         let [first, rest @ ..] = self.held else {
             return None;
         };
@@ -67,14 +62,42 @@ impl<'a> Operands<'a> {
             HeldOp::Array => Op::Array,
             HeldOp::Char6 => Op::Char6,
             HeldOp::Blob => Op::Blob,
-            _ => {
-                let (op, rest) = next_great(self.held)?;
-                self.held = rest;
-                return Some(op);
-            }
+            _ => unreachable!(),
         };
         self.held = rest;
         Some(op)
+    }
+}
+
+impl<'a> OneByOne for Operands<'a> {
+    ghost left = { λ operands. ops_in operands.held.now };
+
+    fn take_one(&mut self) -> Option<Op> {
+        self.next()
+    }
+}
+
+impl<'a> Operands<'a> {
+    /// Takes the first operand, if there is one.
+    pub fn next(&mut self) -> Option<Op>
+        ensures some { IfSome result (λ op. ops_in self.old.held.now ≡ op ∷ ops_in self.new.held.now) }
+        ensures none { IfNone result (ops_in self.old.held.now ≡ []) }
+    {
+        while let [first, rest @ ..] = self.held {
+            self.held = rest;
+            let op = match *first {
+                HeldOp::Literal(value) => Op::Literal(u64::from(value)),
+                HeldOp::Great(byte) => Op::Literal(u64::from(byte) + 256 * more(rest)),
+                HeldOp::Fixed(width) => Op::Fixed(width),
+                HeldOp::Vbr(width) => Op::Vbr(width),
+                HeldOp::Array => Op::Array,
+                HeldOp::Char6 => Op::Char6,
+                HeldOp::Blob => Op::Blob,
+                HeldOp::More(_) | HeldOp::Counted(_) | HeldOp::Long | HeldOp::Unusable => continue,
+            };
+            return Some(op);
+        }
+        None
     }
 
     /// How many there are.

@@ -17,8 +17,9 @@ ghost use Rattle.bit_abbrev.specs.Operands.{OthersInOrder, others_of};
 ghost use Rattle.bit_abbrev.specs.Values.{AddsAll, AddsFew, AddsFirst, AddsWithin, Gains, Keeps, PassesFirst, Recorded};
 
 use crate::bits::Bits;
+use crate::held_op::HeldOp;
 use crate::lent::Definition;
-use crate::operands::Operands;
+use crate::operands::{OneByOne, Operands, Plain};
 use crate::runs::Runs;
 use bit_fields::{BitReader, ChunkWidth, Fault, FieldWidth, Source, ValueTaker};
 use bit_grammar::{Op, Reason};
@@ -199,22 +200,22 @@ fn read_blob<U, B: Runs, V: ValueTaker>(
 
 /// Skips the fields of the first `count` operands, which give one value each.
 #[inline(always)]
-fn skip_singles<B: Bits>(
+fn skip_singles<B: Bits, L: OneByOne>(
     bits: &mut B,
-    operands: &mut Operands<'_>,
+    operands: &mut L,
     count: usize,
 ) -> Result<(), B::Miss>
-    requires single { count ≡ singles (ops_in operands.old.held.now) }
-    requires lawful { AllByRecursion HasLawfulValue (ops_in operands.old.held.now) }
+    requires single { count ≡ singles (L.left operands.old) }
+    requires lawful { AllByRecursion HasLawfulValue (L.left operands.old) }
     requires live { (B.as_reader bits.old).live ≡ true }
     ensures passes { (room : ℕ) (tail : List Op) → Answers B.faults (PassesFirst room
-        (take count (ops_in operands.old.held.now)) tail (B.as_reader bits.old)
+        (take count (L.left operands.old)) tail (B.as_reader bits.old)
         (B.as_reader bits.new)) result }
-    ensures left { OnOk result (ops_in operands.new.held.now
-        ≡ drop count (ops_in operands.old.held.now)) }
+    ensures left { OnOk result (L.left operands.new
+        ≡ drop count (L.left operands.old)) }
 {
     for _done in 0..count {
-        let Some(op) = operands.next() else {
+        let Some(op) = operands.take_one() else {
             unreachable!();
         };
         skip_scalar(bits, op)?;
@@ -224,27 +225,27 @@ fn skip_singles<B: Bits>(
 
 /// Reads the values of the first `count` operands, which give one value each, or skips them if the value sink does not use them.
 #[inline(always)]
-fn read_singles<U, B: Bits, V: ValueTaker>(
+fn read_singles<U, B: Bits, L: OneByOne, V: ValueTaker>(
     bits: &mut B,
-    operands: &mut Operands<'_>,
+    operands: &mut L,
     count: usize,
     values: &mut V,
 ) -> Result<(), B::Miss>
-    requires single { count ≡ singles (ops_in operands.old.held.now) }
-    requires lawful { AllByRecursion HasLawfulValue (ops_in operands.old.held.now) }
+    requires single { count ≡ singles (L.left operands.old) }
+    requires lawful { AllByRecursion HasLawfulValue (L.left operands.old) }
     requires live { (B.as_reader bits.old).live ≡ true }
     ensures adds { (room : ℕ) (tail : List Op) → Answers B.faults (λ r. Gains V.took values.old
-        values.new (AddsFirst room (take count (ops_in operands.old.held.now)) tail
+        values.new (AddsFirst room (take count (L.left operands.old)) tail
         (B.as_reader bits.old) r (B.as_reader bits.new))) result }
-    ensures left { OnOk result (ops_in operands.new.held.now
-        ≡ drop count (ops_in operands.old.held.now)) }
+    ensures left { OnOk result (L.left operands.new
+        ≡ drop count (L.left operands.old)) }
     ensures keeps { Keeps V.took values.old values.new }
 {
     if values.pass(count as u64) {
         return skip_singles(bits, operands, count);
     }
     for _done in 0..count {
-        let Some(op) = operands.next() else {
+        let Some(op) = operands.take_one() else {
             unreachable!();
         };
         let value = read_scalar(bits, op)?;
@@ -255,35 +256,34 @@ fn read_singles<U, B: Bits, V: ValueTaker>(
 
 /// Reads the values of operands, at most `room`. The first `count` operands give one value each.
 #[inline(always)]
-fn read_values<U, B: Runs, V: ValueTaker>(
+fn read_values<U, B: Runs, L: OneByOne, V: ValueTaker>(
     bits: &mut B,
     room: u64,
-    operands: Operands<'_>,
+    operands: &mut L,
     count: usize,
     values: &mut V,
 ) -> Result<(), B::Miss>
-    requires order { OthersInOrder (ops_in operands.held.now) }
-    requires singles { count ≡ singles (ops_in operands.held.now) }
-    requires lawful { AllByRecursion HasLawfulValue (ops_in operands.held.now) }
+    requires order { OthersInOrder (L.left operands.old) }
+    requires singles { count ≡ singles (L.left operands.old) }
+    requires lawful { AllByRecursion HasLawfulValue (L.left operands.old) }
     requires live { (B.as_reader bits.old).live ≡ true }
-    requires fits { singles (ops_in operands.held.now) ≤ room }
+    requires fits { singles (L.left operands.old) ≤ room }
     ensures adds { Answers B.faults (λ r. Gains V.took values.old values.new
-        (AddsFew (values_of (room - singles (ops_in operands.entry.held.now))
-        (ops_in operands.entry.held.now)) room (B.as_reader bits.old) r (B.as_reader bits.new)))
+        (AddsFew (values_of (room - singles (L.left operands.old))
+        (L.left operands.old)) room (B.as_reader bits.old) r (B.as_reader bits.new)))
         result }
     ensures keeps { Keeps V.took values.old values.new }
 {
-    let mut others = operands;
-    read_singles::<U, B, V>(bits, &mut others, count, values)?;
+    read_singles::<U, B, L, V>(bits, operands, count, values)?;
     let left = room - count as u64;
-    let Some(op) = others.next() else {
+    let Some(op) = operands.take_one() else {
         return Ok(());
     };
     // Tested first, so that the blob is inlined and the buffered bits stay in registers.
     if let Op::Blob = op {
         return read_blob::<U, B, V>(bits, left, values);
     }
-    let Some(element) = others.next() else {
+    let Some(element) = operands.take_one() else {
         unreachable!();
     };
     read_array::<U, B, V>(bits, left, element, values)
@@ -291,30 +291,51 @@ fn read_values<U, B: Runs, V: ValueTaker>(
 
 /// Reads a record by its operands. After the first one, `count` of them give one value each.
 #[inline(always)]
-fn read_by_ops<U, B: Runs, V: ValueTaker>(
+fn read_by_ops<U, B: Runs, L: OneByOne, V: ValueTaker>(
     bits: &mut B,
-    operands: Operands<'_>,
+    operands: &mut L,
     count: usize,
     first: u64,
     room: u64,
     values: &mut V,
 ) -> Result<u64, B::Miss>
-    requires lawful { Lawful (ops_in operands.held.now) }
+    requires lawful { Lawful (L.left operands.old) }
     requires live { (B.as_reader bits.old).live ≡ true }
-    requires singles { count ≡ singles (others_of (ops_in operands.held.now)) }
+    requires singles { count ≡ singles (others_of (L.left operands.old)) }
     ensures adds { Answers B.faults (λ r. Gains V.took values.old values.new
-        (AddsWithin (abbreviated first room (ops_in operands.entry.held.now)) room
+        (AddsWithin (abbreviated first room (L.left operands.old)) room
         (B.as_reader bits.old) r (B.as_reader bits.new))) result }
     ensures keeps { Keeps V.took values.old values.new }
 {
-    let mut others = operands;
-    let Some(code_op) = others.next() else {
+    let Some(code_op) = operands.take_one() else {
         unreachable!();
     };
     bits.judge(count as u64 <= room, Reason::TooManyValues, first)?;
     let code = read_scalar(bits, code_op)?;
-    read_values::<U, B, V>(bits, room, others, count, values)?;
+    read_values::<U, B, L, V>(bits, room, operands, count, values)?;
     Ok(code)
+}
+
+/// Reads a record by a definition that may have great literals or many operands.
+#[cold]
+#[inline(never)]
+fn read_apart<B: Runs, V: ValueTaker>(
+    bits: &mut B,
+    abbrev: Definition<'_>,
+    first: u64,
+    room: u64,
+    values: &mut V,
+) -> Result<u64, B::Miss>
+    requires shape { has_shape (ops_in «abbrev».held.now) ≡ true }
+    requires live { (B.as_reader bits.old).live ≡ true }
+    ensures adds { Answers B.faults (λ r. Gains V.took values.old values.new
+        (AddsWithin (abbreviated first room (ops_in «abbrev».entry.held.now)) room
+        (B.as_reader bits.old) r (B.as_reader bits.new))) result }
+    ensures keeps { Keeps V.took values.old values.new }
+{
+    let count = abbrev.singles();
+    let mut operands = abbrev.operands();
+    read_by_ops::<V, B, Operands<'_>, V>(bits, &mut operands, count, first, room, values)
 }
 
 /// Reads a record by its definition, after its abbreviation id, which began at `first`: gives its values to the value sink and
@@ -337,8 +358,13 @@ pub fn read_record<U, B: Runs, V: ValueTaker>(
         (B.as_reader bits.old) r (B.as_reader bits.new))) result }
     ensures keeps { Keeps V.took values.old values.new }
 {
-    let count = abbrev.singles();
-    read_by_ops::<U, B, V>(bits, abbrev.operands(), count, first, room, values)
+    if let HeldOp::Counted(count) = abbrev.last {
+        let mut plain = Plain { held: abbrev.held };
+        let count = usize::from(count);
+        return read_by_ops::<U, B, Plain<'_>, V>(bits, &mut plain, count, first, room, values);
+    }
+    bits.only_reader()?;
+    read_apart::<B, V>(bits, abbrev, first, room, values)
 }
 
 /// Reads a record that is not abbreviated, after its abbreviation id: gives its values to the value sink and returns its code. If

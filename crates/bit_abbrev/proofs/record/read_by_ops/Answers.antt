@@ -2,7 +2,6 @@ use Rattle.std.proofs.Common.{◌≡◌, ◌∙◌, ap, List, Err, Ok, subst, sy
 use Rattle.std.proofs.lemmas.Result.{err_from_is_err_and}
 use Rattle.bit_grammar.specs.declared.op.Op.{Op}
 use Rattle.bit_grammar.specs.Record.{abbreviated, singles}
-use Rattle.bit_abbrev.specs.HeldOps.{ops_in}
 use Rattle.bit_abbrev.specs.Values.{AddsRecord}
 use Rattle.bit_abbrev.proofs.Records.{others_are, others_ordered, record_crowded, record_coded, record_fails, record_read}
 use Rattle.bit_abbrev.proofs.record.read_by_ops.Goals as goal
@@ -10,8 +9,8 @@ use Rattle.bit_abbrev.proofs.record.read_by_ops.Goals as goal
 pub returns-in_err-judge-clause-adds : goal.returns-in_err-judge-clause-adds
 returns-in_err-judge-clause-adds g c =
     let parts = sym c.in-Some.ensures.some in
-    let others = ops_in c.next.new.self.held.now in
-    let counted : c.args.count ≡ singles others = c.requires.singles ∙ ap singles (others_are (ops_in c.args.operands.held.now) others c.in-Some.code_op c.in-Some.ensures.some) in
+    let others = g.L.OneByOne.left c.take_one.new.self in
+    let counted : c.args.count ≡ singles others = c.requires.singles ∙ ap singles (others_are (g.L.OneByOne.left c.args.operands.now) others c.in-Some.code_op c.in-Some.ensures.some) in
     let failed = err_from_is_err_and c.from_residual.result c.from_residual.ensures.1 in
     let a = g.B.Bits.as_reader c.args.bits.now in
     let d = g.B.Bits.as_reader c.judge.new.self in
@@ -25,8 +24,8 @@ returns-in_err-judge-clause-adds g c =
 pub returns-in_err-code-clause-adds : goal.returns-in_err-code-clause-adds
 returns-in_err-code-clause-adds g c =
     let parts = sym c.in-Some.ensures.some in
-    let others = ops_in c.next.new.self.held.now in
-    let counted : c.args.count ≡ singles others = c.requires.singles ∙ ap singles (others_are (ops_in c.args.operands.held.now) others c.in-Some.code_op c.in-Some.ensures.some) in
+    let others = g.L.OneByOne.left c.take_one.new.self in
+    let counted : c.args.count ≡ singles others = c.requires.singles ∙ ap singles (others_are (g.L.OneByOne.left c.args.operands.now) others c.in-Some.code_op c.in-Some.ensures.some) in
     let judged = rw counted at c.in_ok-judge.ensures.takes in
     let failed = err_from_is_err_and c.from_residual-in_err-code.result c.from_residual-in_err-code.ensures.1 in
     let a = g.B.Bits.as_reader c.args.bits.now in
@@ -39,14 +38,14 @@ returns-in_err-code-clause-adds g c =
 
 pub read_values-requires-clause-order : goal.read_values-requires-clause-order
 read_values-requires-clause-order g c =
-    let ops = ops_in c.args.operands.held.now in
-    others_ordered ops (ops_in c.next.new.self.held.now) c.in-Some.code_op c.in-Some.ensures.some c.requires.lawful
+    let ops = g.L.OneByOne.left c.args.operands.now in
+    others_ordered ops (g.L.OneByOne.left c.take_one.new.self) c.in-Some.code_op c.in-Some.ensures.some c.requires.lawful
 
 pub returns-in_err-read_values-clause-adds : goal.returns-in_err-read_values-clause-adds
 returns-in_err-read_values-clause-adds g c =
     let parts = sym c.in-Some.ensures.some in
-    let others = ops_in c.next.new.self.held.now in
-    let counted : c.args.count ≡ singles others = c.requires.singles ∙ ap singles (others_are (ops_in c.args.operands.held.now) others c.in-Some.code_op c.in-Some.ensures.some) in
+    let others = g.L.OneByOne.left c.take_one.new.self in
+    let counted : c.args.count ≡ singles others = c.requires.singles ∙ ap singles (others_are (g.L.OneByOne.left c.args.operands.now) others c.in-Some.code_op c.in-Some.ensures.some) in
     let judged = rw counted at c.in_ok-judge.ensures.takes in
     let failed = err_from_is_err_and c.from_residual-in_err-read_values.result c.from_residual-in_err-read_values.ensures.1 in
     let a = g.B.Bits.as_reader c.args.bits.now in
@@ -61,8 +60,8 @@ returns-in_err-read_values-clause-adds g c =
 pub returns-clause-adds : goal.returns-clause-adds
 returns-clause-adds g c = λ before t.
     let parts = sym c.in-Some.ensures.some in
-    let others = ops_in c.next.new.self.held.now in
-    let counted : c.args.count ≡ singles others = c.requires.singles ∙ ap singles (others_are (ops_in c.args.operands.held.now) others c.in-Some.code_op c.in-Some.ensures.some) in
+    let others = g.L.OneByOne.left c.take_one.new.self in
+    let counted : c.args.count ≡ singles others = c.requires.singles ∙ ap singles (others_are (g.L.OneByOne.left c.args.operands.now) others c.in-Some.code_op c.in-Some.ensures.some) in
     let judged = rw counted at c.in_ok-judge.ensures.takes in
     let h = c.in_ok-read_values.ensures.adds before t in
     let a = g.B.Bits.as_reader c.args.bits.now in

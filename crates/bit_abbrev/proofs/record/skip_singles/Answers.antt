@@ -1,6 +1,5 @@
 use Rattle.std.proofs.Common.{◌∙◌, arith, take, refl, sym}
 use Rattle.std.proofs.lemmas.Result.{err_from_is_err_and}
-use Rattle.bit_abbrev.specs.HeldOps.{ops_in}
 use Rattle.bit_abbrev.proofs.Records.{skips_begin, skips_go_on, skips_fail, skips_done, front_many, front_op, front_some, front_lawful, front_done}
 use Rattle.bit_abbrev.proofs.record.skip_singles.Goals as goal
 
@@ -8,26 +7,26 @@ pub loop-done-init : goal.loop-done-init
 loop-done-init g c = record {
   live = c.requires.live;
   left = refl;
-  far = λ room tail before. skips_begin room (take c.args.count (ops_in c.args.operands.now.held.now)) tail (g.B.Bits.as_reader c.args.bits.now) before c.requires.live;
+  far = λ room tail before. skips_begin room (take c.args.count (g.L.OneByOne.left c.args.operands.now)) tail (g.B.Bits.as_reader c.args.bits.now) before c.requires.live;
 }
 
 pub unreachable-requires : goal.unreachable-requires
 unreachable-requires g c =
-    let ops = ops_in c.args.operands.now.held.now in
+    let ops = g.L.OneByOne.left c.args.operands.now in
     front_some ops c.args.count c.loop-done._done c.requires.single c.loop-done-test.true (sym c.loop-done.invariant.left ∙ c.in_default.ensures.none)
 
 pub skip_scalar-requires-clause-lawful : goal.skip_scalar-requires-clause-lawful
 skip_scalar-requires-clause-lawful g c =
-    let ops = ops_in c.args.operands.now.held.now in
-    front_lawful ops (ops_in c.next.new.self.held.now) c.in-Some.op c.loop-done._done c.requires.lawful (sym c.loop-done.invariant.left ∙ c.in-Some.ensures.some)
+    let ops = g.L.OneByOne.left c.args.operands.now in
+    front_lawful ops (g.L.OneByOne.left c.take_one.new.self) c.in-Some.op c.loop-done._done c.requires.lawful (sym c.loop-done.invariant.left ∙ c.in-Some.ensures.some)
 
 pub skip_scalar-requires-clause-live : goal.skip_scalar-requires-clause-live
 skip_scalar-requires-clause-live g c = c.loop-done.invariant.live
 
 pub returns-in_err-skip_scalar-clause-passes : goal.returns-in_err-skip_scalar-clause-passes
 returns-in_err-skip_scalar-clause-passes g c =
-    let ops = ops_in c.args.operands.now.held.now in
-    let here = front_op ops (ops_in c.next.new.self.held.now) c.in-Some.op c.args.count c.loop-done._done c.requires.single c.loop-done-test.true (sym c.loop-done.invariant.left ∙ c.in-Some.ensures.some) in
+    let ops = g.L.OneByOne.left c.args.operands.now in
+    let here = front_op ops (g.L.OneByOne.left c.take_one.new.self) c.in-Some.op c.args.count c.loop-done._done c.requires.single c.loop-done-test.true (sym c.loop-done.invariant.left ∙ c.in-Some.ensures.some) in
     let many = front_many ops c.args.count c.requires.single in
     let failed = err_from_is_err_and c.from_residual.result c.from_residual.ensures.1 in
     let missed = rw here.0 at c.in_err-skip_scalar.ensures in
@@ -35,8 +34,8 @@ returns-in_err-skip_scalar-clause-passes g c =
 
 pub loop-done-preserved : goal.loop-done-preserved
 loop-done-preserved g c =
-    let ops = ops_in c.args.operands.now.held.now in
-    let here = front_op ops (ops_in c.next.new.self.held.now) c.in-Some.op c.args.count c.loop-done._done c.requires.single c.loop-done-test.true (sym c.loop-done.invariant.left ∙ c.in-Some.ensures.some) in
+    let ops = g.L.OneByOne.left c.args.operands.now in
+    let here = front_op ops (g.L.OneByOne.left c.take_one.new.self) c.in-Some.op c.args.count c.loop-done._done c.requires.single c.loop-done-test.true (sym c.loop-done.invariant.left ∙ c.in-Some.ensures.some) in
     let many = front_many ops c.args.count c.requires.single in
     record {
       live = c.in_ok-skip_scalar.ensures.live;
@@ -46,10 +45,10 @@ loop-done-preserved g c =
 
 pub returns-clause-passes : goal.returns-clause-passes
 returns-clause-passes g c = λ room tail before.
-    let ops = ops_in c.args.operands.now.held.now in
+    let ops = g.L.OneByOne.left c.args.operands.now in
     let many = front_many ops c.args.count c.requires.single in
     skips_done room (take c.args.count ops) tail (g.B.Bits.as_reader c.args.bits.now) c.loop-done._done (g.B.Bits.as_reader c.loop-done.bits) before (omega (arith, c.loop-done-test.false, many.1)) (omega (arith, many.1)) (c.loop-done.invariant.far room tail before)
 
 pub returns-clause-left : goal.returns-clause-left
 returns-clause-left g c =
-    front_done (ops_in c.args.operands.now.held.now) (ops_in c.loop-done.operands.held.now) c.args.count c.loop-done._done c.loop-done-test.false (omega arith) c.loop-done.invariant.left
+    front_done (g.L.OneByOne.left c.args.operands.now) (g.L.OneByOne.left c.loop-done.operands) c.args.count c.loop-done._done c.loop-done-test.false (omega arith) c.loop-done.invariant.left
