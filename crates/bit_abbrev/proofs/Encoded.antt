@@ -1,6 +1,6 @@
 -- Operands as they are held.
-use Rattle.std.proofs.Common.{◌≡◌, ℕ, ◌+◌, ◌-◌, ◌*◌, ◌%◌, ◌^◌, ◌≤◌, List, [], ◌∷◌, ◌++◌, length, refl, sym, ap, ◌∙◌, arith, take, drop, get_or, append_assoc}
-use Rattle.std.proofs.lemmas.List.{length-append, length-drop, take-append-le, drop-append-le, take-append-drop}
+use Rattle.std.proofs.Common.{◌≡◌, ℕ, suc, ◌<◌, ◌+◌, ◌-◌, ◌*◌, ◌%◌, ◌^◌, ◌≤◌, List, [], ◌∷◌, ◌++◌, length, refl, sym, ap, ◌∙◌, arith, take, drop, get_or, append_assoc}
+use Rattle.std.proofs.lemmas.List.{length-append, length-drop, take_all, take-append-le, drop-append-le, take-append-drop}
 use Rattle.std.proofs.Math.Seq.{take-length, take-append_seam, get_or-append_seam}
 use Rattle.std.specs.List.{slice_range}
 use Rattle.bit_grammar.specs.declared.op.Op.{Op}
@@ -10,7 +10,7 @@ use Rattle.bit_abbrev.specs.declared.head.Head.{Head}
 use Rattle.bit_abbrev.specs.declared.held_op.HeldOp.{HeldOp}
 use Rattle.bit_abbrev.specs.declared.held_op.HeldOp.TheVariants.{Literal, Great, More, Fixed, Vbr, Array, Char6, Blob, Counted, Long, Unusable}
 use Rattle.bit_abbrev.specs.Heads.{ops_of, IsHeld}
-use Rattle.bit_abbrev.specs.HeldOps.{more, ops_in}
+use Rattle.bit_abbrev.specs.HeldOps.{more, ops_in, IsPlain, ArePlain}
 use Rattle.bit_abbrev.specs.Lists.{Grows}
 use Rattle.bit_abbrev.specs.Operands.{IsLast}
 
@@ -72,6 +72,39 @@ grown_twice before all more g h = (g.0 ++ h.0, h.1 ∙ ap (λ (front : List Held
 
 pub taken_back : (all items : List HeldOp) (before : ℕ) → Grows items all → before ≡ length items → take before all ≡ items
 taken_back all items before grows is = rw (is, grows.1) (take-append_seam items grows.0)
+
+-- ---- operands each of which is held in one place
+
+pub plain_length : (xs : List HeldOp) → ArePlain xs → length (ops_in xs) ≡ length xs
+plain_length [] plain = refl
+plain_length (Literal b ∷ xs) plain = ap suc (plain_length xs plain.1)
+plain_length (Great b ∷ xs) plain = absurd plain.0
+plain_length (More b ∷ xs) plain = absurd plain.0
+plain_length (Fixed b ∷ xs) plain = ap suc (plain_length xs plain.1)
+plain_length (Vbr b ∷ xs) plain = ap suc (plain_length xs plain.1)
+plain_length (Array ∷ xs) plain = ap suc (plain_length xs plain.1)
+plain_length (Char6 ∷ xs) plain = ap suc (plain_length xs plain.1)
+plain_length (Blob ∷ xs) plain = ap suc (plain_length xs plain.1)
+plain_length (Counted b ∷ xs) plain = absurd plain.0
+plain_length (Long ∷ xs) plain = absurd plain.0
+plain_length (Unusable ∷ xs) plain = absurd plain.0
+
+pub plain_some : (xs : List HeldOp) → ArePlain xs → 0 < length (ops_in xs) → 0 < length xs
+plain_some xs plain some = omega (arith, plain_length xs plain, some)
+
+-- all but the first one
+pub plain_behind : (xs : List HeldOp) → ArePlain xs → ArePlain (slice_range xs 1 (length xs))
+plain_behind [] plain = tt
+plain_behind (x ∷ xs) plain =
+    let whole : take (suc (length xs) - 1) xs ≡ xs = take_all (suc (length xs) - 1) xs (omega arith) in
+    rw whole plain.1
+
+pub plain_first : (xs : List HeldOp) (d : HeldOp) (op : Op) → ArePlain xs → 0 < length (ops_in xs) → ((rest : List HeldOp) → IsPlain (get_or xs 0 d) → ops_in (get_or xs 0 d ∷ rest) ≡ op ∷ ops_in rest)
+    → ops_in xs ≡ op ∷ ops_in (slice_range xs 1 (length xs))
+plain_first [] d op plain some first = absurd (omega (arith, some))
+plain_first (x ∷ xs) d op plain some first =
+    let whole : take (suc (length xs) - 1) xs ≡ xs = take_all (suc (length xs) - 1) xs (omega arith) in
+    rw whole (first xs plain.0)
 
 -- ---- the end of a definition
 

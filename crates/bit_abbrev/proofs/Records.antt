@@ -358,8 +358,8 @@ front_op ops rest op count i is less next =
     (cc, cc)
 
 -- there is one
-pub front_some : (ops : List Op) (count i : ℕ) → count ≡ singles ops → i < count → drop i ops ≡ [] → ⊥
-front_some ops count i is less none = omega (arith, is, less, singles_within ops, length-drop i ops, ap length none)
+pub front_some : (ops : List Op) (count i : ℕ) → count ≡ singles ops → i < count → 0 < length (drop i ops)
+front_some ops count i is less = omega (arith, is, less, singles_within ops, length-drop i ops)
 
 -- it has a lawful value
 pub front_lawful : (ops rest : List Op) (op : Op) (i : ℕ) → AllByRecursion HasLawfulValue ops → drop i ops ≡ op ∷ rest → HasLawfulValue op
@@ -371,47 +371,24 @@ front_lawful (one ∷ ops) rest op (suc i) all next = front_lawful ops rest op i
 pub front_done : (ops : List Op) (left : List Op) (count i : ℕ) → count ≤ i → i ≤ count → left ≡ drop i ops → left ≡ drop count ops
 front_done ops left count i most least is = is ∙ ap (λ (n : ℕ). drop n ops) (omega (arith, most, least))
 
--- those after the single ones: nothing, a blob, or an array and its element
-pub behind_none : (ops : List Op) (count : ℕ) → count ≡ singles ops → drop count ops ≡ [] → length ops ≤ singles ops
-behind_none ops count is none = omega (arith, is, length-drop count ops, ap length none)
+-- those after the single ones: a blob, or an array and its element
+pub blob_left : (ops left : List Op) (count : ℕ) → count ≡ singles ops → OthersInOrder ops → left ≡ drop count ops → length left ≡ 1 → drop (singles ops) ops ≡ Blob ∷ drop (singles ops + 1) ops
+blob_left ops left count is h here one = blob_behind ops h (omega (arith, is, one, ap length here, length-drop count ops))
 
-pub behind_array : (ops rest : List Op) (op : Op) (count : ℕ) → count ≡ singles ops → OthersInOrder ops → (op ≡ Blob → ⊥) → drop count ops ≡ op ∷ rest → (op ≡ Array) × (singles ops + 1 < length ops)
-behind_array ops rest op count is h no_blob next = by (behind ops)
-  where
-    some : singles ops < length ops
-    some = omega (arith, is, length-drop count ops, ap length next)
-
-    here : op ≡ op_at ops (singles ops)
-    here =
-        let same : op ∷ rest ≡ op_at ops (singles ops) ∷ drop (singles ops + 1) ops = sym next ∙ ap (λ (n : ℕ). drop n ops) is ∙ from_index ops (singles ops) some in
-        cc
-
-    by : (singles ops ≡ length ops) ⊎ (op_at ops (singles ops) ≡ Blob) ⊎ (op_at ops (singles ops) ≡ Array) → (op ≡ Array) × (singles ops + 1 < length ops)
-    by (inl all) = absurd (omega (arith, all, some))
-    by (inr (inl blob)) = absurd (no_blob (here ∙ blob))
-    by (inr (inr array)) = (here ∙ array, omega (arith, h.array (singles ops) array))
-
-behind_is : (ops rest : List Op) (op : Op) (count : ℕ) → count ≡ singles ops → OthersInOrder ops → (op ≡ Blob → ⊥) → drop count ops ≡ op ∷ rest → op ∷ rest ≡ Array ∷ op_at ops (singles ops + 1) ∷ drop (singles ops + 1 + 1) ops
-behind_is ops rest op count is h no_blob next = sym next ∙ ap (λ (n : ℕ). drop n ops) is ∙ (array_behind ops h (behind_array ops rest op count is h no_blob next).1).0
-
-pub array_taken : (ops rest others : List Op) (op element : Op) (count : ℕ) → count ≡ singles ops → OthersInOrder ops → (op ≡ Blob → ⊥) → drop count ops ≡ op ∷ rest → rest ≡ element ∷ others → (drop (singles ops) ops ≡ Array ∷ element ∷ others) × IsElement element
-array_taken ops rest others op element count is h no_blob next more =
-    let less = (behind_array ops rest op count is h no_blob next).1 in
-    let same = behind_is ops rest op count is h no_blob next in
+-- the array and its element, which are taken one after another
+pub array_taken : (ops rest others : List Op) (op element : Op) (count : ℕ) → count ≡ singles ops → OthersInOrder ops → drop count ops ≡ op ∷ rest → rest ≡ element ∷ others → (drop (singles ops) ops ≡ Array ∷ element ∷ others) × IsElement element
+array_taken ops rest others op element count is h next more =
+    let less : singles ops + 1 < length ops = omega (arith, is, length-drop count ops, ap length next, ap length more) in
     let all = array_behind ops h less in
+    let same : op ∷ rest ≡ Array ∷ op_at ops (singles ops + 1) ∷ drop (singles ops + 1 + 1) ops = sym next ∙ ap (λ (n : ℕ). drop n ops) is ∙ all.0 in
     let here : op_at ops (singles ops + 1) ≡ element = cc in
     let tail : drop (singles ops + 1 + 1) ops ≡ others = cc in
     (rw (here, tail) at all.0, subst IsElement here all.1)
 
-pub array_some : (ops rest : List Op) (op : Op) (count : ℕ) → count ≡ singles ops → OthersInOrder ops → (op ≡ Blob → ⊥) → drop count ops ≡ op ∷ rest → rest ≡ [] → ⊥
-array_some ops rest op count is h no_blob next none =
-    let same = behind_is ops rest op count is h no_blob next in
-    absurd cc
-
-pub array_lawful : (ops rest others : List Op) (op element : Op) (count : ℕ) → count ≡ singles ops → OthersInOrder ops → AllByRecursion HasLawfulValue ops → (op ≡ Blob → ⊥) → drop count ops ≡ op ∷ rest → rest ≡ element ∷ others → HasLawfulValue element
-array_lawful ops rest others op element count is h lawful no_blob next more =
-    let less = (behind_array ops rest op count is h no_blob next).1 in
-    let taken = (array_taken ops rest others op element count is h no_blob next more).0 in
+pub array_lawful : (ops rest others : List Op) (op element : Op) (count : ℕ) → count ≡ singles ops → OthersInOrder ops → AllByRecursion HasLawfulValue ops → drop count ops ≡ op ∷ rest → rest ≡ element ∷ others → HasLawfulValue element
+array_lawful ops rest others op element count is h lawful next more =
+    let less : singles ops + 1 < length ops = omega (arith, is, length-drop count ops, ap length next, ap length more) in
+    let taken = (array_taken ops rest others op element count is h next more).0 in
     let here = from_index ops (singles ops) (omega (arith, less)) in
     let second : drop (singles ops + 1) ops ≡ element ∷ others = cc in
     front_lawful ops others element (singles ops + 1) lawful second

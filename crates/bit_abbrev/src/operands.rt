@@ -1,9 +1,10 @@
 //! Operands that are taken one by one.
 
-ghost use Rattle.std.specs.Prelude.{◌≡◌, ◌∷◌, ◌+◌, ◌<◌, ◌^◌, [], IfSome, IfNone, length};
+ghost use Rattle.std.specs.Prelude.{◌≡◌, ◌∷◌, ◌+◌, ◌<◌, ◌^◌, List, [], IfSome, IfNone, length};
+ghost use Rattle.bit_abbrev.specs.declared.held_op.HeldOp.{HeldOp};
 ghost use Rattle.bit_grammar.specs.Definition.{has_shape};
 ghost use Rattle.bit_grammar.specs.Record.{singles};
-ghost use Rattle.bit_abbrev.specs.HeldOps.{more, ops_in, ArePlain};
+ghost use Rattle.bit_abbrev.specs.HeldOps.{more, ops_in, IsPlain, ArePlain};
 ghost use Rattle.bit_abbrev.specs.Operands.{ArePlain-prop};
 
 use crate::abbrev::{fits, kind_of, place_after};
@@ -34,10 +35,29 @@ pub(crate) trait OneByOne {
     // The operands that are left.
     ghost left: { Self → List Op };
 
-    /// Takes the first operand, if there is one.
-    fn take_one(&mut self) -> Option<Op>
-        ensures some { IfSome result (λ op. left self.old ≡ op ∷ left self.new) }
-        ensures none { IfNone result (left self.old ≡ []) };
+    /// How many are left.
+    fn len(&self) -> usize
+        ensures { result ≡ length (left self.now) };
+
+    /// Takes the first one.
+    fn take_one(&mut self) -> Op
+        requires { 0 < length (left self.old) }
+        ensures { left self.old ≡ result ∷ left self.new };
+}
+
+/// The operand that is held in one place.
+#[inline(always)]
+fn plain_op(held: HeldOp) -> Op
+    ensures { (rest : List HeldOp) → IsPlain held → ops_in (held ∷ rest) ≡ result ∷ ops_in rest }
+{
+    match held {
+        HeldOp::Literal(value) => Op::Literal(u64::from(value)),
+        HeldOp::Fixed(width) => Op::Fixed(width),
+        HeldOp::Vbr(width) => Op::Vbr(width),
+        HeldOp::Array => Op::Array,
+        HeldOp::Char6 => Op::Char6,
+        _ => Op::Blob,
+    }
 }
 
 /// Operands each of which is held in one place.
@@ -51,29 +71,32 @@ impl<'a> OneByOne for Plain<'a> {
     ghost left = { λ operands. ops_in operands.held.now };
 
     #[inline(always)]
-    fn take_one(&mut self) -> Option<Op> {
-        let [first, rest @ ..] = self.held else {
-            return None;
-        };
-        let op = match *first {
-            HeldOp::Literal(value) => Op::Literal(u64::from(value)),
-            HeldOp::Fixed(width) => Op::Fixed(width),
-            HeldOp::Vbr(width) => Op::Vbr(width),
-            HeldOp::Array => Op::Array,
-            HeldOp::Char6 => Op::Char6,
-            HeldOp::Blob => Op::Blob,
-            _ => unreachable!(),
-        };
-        self.held = rest;
-        Some(op)
+    #[tactic(auto, using(crate::proofs::Encoded::plain_length))]
+    fn len(&self) -> usize {
+        self.held.len()
+    }
+
+    #[inline(always)]
+    #[tactic(auto, using(crate::proofs::Encoded::plain_some))]
+    fn take_one(&mut self) -> Op {
+        let op = plain_op(self.held[0]);
+        self.held = &self.held[1..];
+        op
     }
 }
 
 impl<'a> OneByOne for Operands<'a> {
     ghost left = { λ operands. ops_in operands.held.now };
 
-    fn take_one(&mut self) -> Option<Op> {
-        self.next()
+    fn len(&self) -> usize {
+        self.count()
+    }
+
+    fn take_one(&mut self) -> Op {
+        let Some(op) = self.next() else {
+            unreachable!();
+        };
+        op
     }
 }
 

@@ -215,9 +215,7 @@ fn skip_singles<B: Bits, L: OneByOne>(
         ≡ drop count (L.left operands.old)) }
 {
     for _done in 0..count {
-        let Some(op) = operands.take_one() else {
-            unreachable!();
-        };
+        let op = operands.take_one();
         skip_scalar(bits, op)?;
     }
     Ok(())
@@ -245,9 +243,7 @@ fn read_singles<U, B: Bits, L: OneByOne, V: ValueTaker>(
         return skip_singles(bits, operands, count);
     }
     for _done in 0..count {
-        let Some(op) = operands.take_one() else {
-            unreachable!();
-        };
+        let op = operands.take_one();
         let value = read_scalar(bits, op)?;
         keep(bits, values, value)?;
     }
@@ -276,16 +272,16 @@ fn read_values<U, B: Runs, L: OneByOne, V: ValueTaker>(
 {
     read_singles::<U, B, L, V>(bits, operands, count, values)?;
     let left = room - count as u64;
-    let Some(op) = operands.take_one() else {
-        return Ok(());
-    };
+    let last = operands.len();
     // Tested first, so that the blob is inlined and the buffered bits stay in registers.
-    if let Op::Blob = op {
+    if last == 1 {
         return read_blob::<U, B, V>(bits, left, values);
     }
-    let Some(element) = operands.take_one() else {
-        unreachable!();
-    };
+    if last == 0 {
+        return Ok(());
+    }
+    let _array = operands.take_one();
+    let element = operands.take_one();
     read_array::<U, B, V>(bits, left, element, values)
 }
 
@@ -307,10 +303,9 @@ fn read_by_ops<U, B: Runs, L: OneByOne, V: ValueTaker>(
         (B.as_reader bits.old) r (B.as_reader bits.new))) result }
     ensures keeps { Keeps V.took values.old values.new }
 {
-    let Some(code_op) = operands.take_one() else {
-        unreachable!();
-    };
     bits.judge(count as u64 <= room, Reason::TooManyValues, first)?;
+    // Taken and read in one match.
+    let code_op = operands.take_one();
     let code = read_scalar(bits, code_op)?;
     read_values::<U, B, L, V>(bits, room, operands, count, values)?;
     Ok(code)

@@ -30,7 +30,7 @@ pub returns-in_err-value-clause-adds : goal.returns-in_err-value-clause-adds
 returns-in_err-value-clause-adds g c =
     let ops = g.L.OneByOne.left c.args.operands.now in
     let many = front_many ops c.args.count c.requires.single in
-    let here = front_op ops (g.L.OneByOne.left c.take_one.new.self) c.in-Some.op c.args.count c.loop-done._done c.requires.single c.loop-done-test.true (sym c.loop-done.invariant.left ∙ c.in-Some.ensures.some) in
+    let here = front_op ops (g.L.OneByOne.left c.take_one-op.new.self) c.take_one-op.result c.args.count c.loop-done._done c.requires.single c.loop-done-test.true (sym c.loop-done.invariant.left ∙ c.take_one-op.ensures) in
     let less : c.loop-done._done < length (take c.args.count ops) = omega (arith, c.loop-done-test.true, many.1) in
     let missed = rw here.0 at c.in_err-value.ensures.takes in
     let failed = err_from_is_err_and c.from_residual.result c.from_residual.ensures.1 in
@@ -47,7 +47,7 @@ returns-in_err-keep-clause-adds g c =
     rw (failed.1, failed.2) (λ room tail fault stands before t.
     let h = c.loop-done.invariant.far room tail before t in
     let full = c.in_err-keep.ensures.err fault stands in
-    rw (full.0, full.1) (h.0, c.in_err-keep.ensures.same h.0 h.1, from_refused room (take c.args.count (g.L.OneByOne.left c.args.operands.now)) tail (g.B.Bits.as_reader c.args.bits.now) c.loop-done._done (g.B.Bits.as_reader c.loop-done.bits) before h.0 c.in-Some.op c.in_ok-value.value (g.B.Bits.as_reader c.read_scalar.new.bits) h.2 c.in_ok-value.ensures.takes))
+    rw (full.0, full.1) (h.0, c.in_err-keep.ensures.same h.0 h.1, from_refused room (take c.args.count (g.L.OneByOne.left c.args.operands.now)) tail (g.B.Bits.as_reader c.args.bits.now) c.loop-done._done (g.B.Bits.as_reader c.loop-done.bits) before h.0 c.take_one-op.result c.in_ok-value.value (g.B.Bits.as_reader c.read_scalar.new.bits) h.2 c.in_ok-value.ensures.takes))
 
 pub returns-in_err-keep-clause-keeps : goal.returns-in_err-keep-clause-keeps
 returns-in_err-keep-clause-keeps g c = λ before t. let h = c.loop-done.invariant.far 0 [] before t in (h.0, c.in_err-keep.ensures.same h.0 h.1)
@@ -56,7 +56,7 @@ pub loop-done-preserved : goal.loop-done-preserved
 loop-done-preserved g c =
     let ops = g.L.OneByOne.left c.args.operands.now in
     let many = front_many ops c.args.count c.requires.single in
-    let here = front_op ops (g.L.OneByOne.left c.take_one.new.self) c.in-Some.op c.args.count c.loop-done._done c.requires.single c.loop-done-test.true (sym c.loop-done.invariant.left ∙ c.in-Some.ensures.some) in
+    let here = front_op ops (g.L.OneByOne.left c.take_one-op.new.self) c.take_one-op.result c.args.count c.loop-done._done c.requires.single c.loop-done-test.true (sym c.loop-done.invariant.left ∙ c.take_one-op.ensures) in
     let less : c.loop-done._done < length (take c.args.count ops) = omega (arith, c.loop-done-test.true, many.1) in
     let took = rw here.0 at c.in_ok-value.ensures.takes in
     rw c.in_ok-keep.ensures.ok.0 (record {
@@ -76,15 +76,15 @@ returns-clause-adds g c = λ room tail before t.
 pub returns-clause-keeps : goal.returns-clause-keeps
 returns-clause-keeps g c = λ before t. let h = c.loop-done.invariant.far 0 [] before t in (h.0, h.1)
 
-pub unreachable-requires : goal.unreachable-requires
-unreachable-requires g c =
+pub take_one-op-requires : goal.take_one-op-requires
+take_one-op-requires g c =
     let ops = g.L.OneByOne.left c.args.operands.now in
-    front_some ops c.args.count c.loop-done._done c.requires.single c.loop-done-test.true (sym c.loop-done.invariant.left ∙ c.in_default.ensures.none)
+    rw c.loop-done.invariant.left (front_some ops c.args.count c.loop-done._done c.requires.single c.loop-done-test.true)
 
 pub read_scalar-requires-clause-lawful : goal.read_scalar-requires-clause-lawful
 read_scalar-requires-clause-lawful g c =
     let ops = g.L.OneByOne.left c.args.operands.now in
-    front_lawful ops (g.L.OneByOne.left c.take_one.new.self) c.in-Some.op c.loop-done._done c.requires.lawful (sym c.loop-done.invariant.left ∙ c.in-Some.ensures.some)
+    front_lawful ops (g.L.OneByOne.left c.take_one-op.new.self) c.take_one-op.result c.loop-done._done c.requires.lawful (sym c.loop-done.invariant.left ∙ c.take_one-op.ensures)
 
 pub read_scalar-requires-clause-live : goal.read_scalar-requires-clause-live
 read_scalar-requires-clause-live g c = c.loop-done.invariant.live

@@ -1,11 +1,12 @@
-use Rattle.std.proofs.Common.{◌≡◌, ◌-◌, ◌∷◌, ◌∙◌, List, drop, subst, sym}
+use Rattle.std.proofs.Common.{◌≡◌, ◌+◌, ◌-◌, ◌≤◌, ◌∷◌, ◌∙◌, List, ap, arith, drop, length, subst, sym}
+use Rattle.std.proofs.lemmas.List.{length-drop}
 use Rattle.std.proofs.lemmas.Result.{err_from_is_err_and}
 use Rattle.bit_grammar.specs.declared.op.Op.{Op}
 use Rattle.bit_grammar.specs.declared.op.Op.TheVariants.{Array, Blob}
 use Rattle.bit_grammar.specs.Record.{singles, values_of}
 use Rattle.bit_abbrev.specs.Values.{AddsFew, Gains}
 use Rattle.bit_abbrev.proofs.Missing.{answers_so}
-use Rattle.bit_abbrev.proofs.Records.{front_fails, front_is_all, front_then, behind_none, array_taken, array_some, array_lawful}
+use Rattle.bit_abbrev.proofs.Records.{front_fails, front_is_all, front_then, blob_left, array_taken, array_lawful}
 use Rattle.bit_abbrev.proofs.record.read_values.Goals as goal
 
 pub returns-in_err-read_singles-clause-adds : goal.returns-in_err-read_singles-clause-adds
@@ -18,27 +19,27 @@ returns-in_err-read_singles-clause-adds g c =
     let h = first fault stands before t in
     (h.0, h.1, front_fails c.args.room ops (g.B.Bits.as_reader c.args.bits.now) fault before h.0 (g.B.Bits.as_reader c.read_singles.new.bits) h.2))
 
-pub returns-in_default-clause-adds : goal.returns-in_default-clause-adds
-returns-in_default-clause-adds g c = λ before t.
+pub returns-then-last-eq0-clause-adds : goal.returns-then-last-eq0-clause-adds
+returns-then-last-eq0-clause-adds g c = λ before t.
     let ops = g.L.OneByOne.left c.args.operands.now in
     let count = singles ops in
     let first = rw c.requires.singles at (c.in_ok-read_singles.ensures.adds (c.args.room - count) (drop count ops)) in
-    let all = behind_none ops c.args.count c.requires.singles (sym c.in_ok-read_singles.ensures.left ∙ c.in_default.ensures.none) in
+    let all : length ops ≤ singles ops = omega (arith, c.requires.singles, c.len-last.ensures, c.if-last-eq0.true, ap length c.in_ok-read_singles.ensures.left, length-drop c.args.count ops) in
     let h = first before t in
     (h.0, h.1, front_is_all c.args.room ops (g.B.Bits.as_reader c.args.bits.now) (g.B.Bits.as_reader c.read_singles.new.bits) before h.0 c.requires.fits all h.2)
 
-pub returns-in-Blob-clause-adds : goal.returns-in-Blob-clause-adds
-returns-in-Blob-clause-adds g c =
+pub returns-then-last-eq1-clause-adds : goal.returns-then-last-eq1-clause-adds
+returns-then-last-eq1-clause-adds g c =
     let ops = g.L.OneByOne.left c.args.operands.now in
     let count = singles ops in
     let room = c.args.room - count in
     let a = g.B.Bits.as_reader c.args.bits.now in
     let b = g.B.Bits.as_reader c.read_singles.new.bits in
     let d = g.B.Bits.as_reader c.read_blob.new.bits in
-    let rest = g.L.OneByOne.left c.take_one.new.self in
+    let rest = drop (singles ops + 1) ops in
     let first = rw c.requires.singles at (c.in_ok-read_singles.ensures.adds room (drop count ops)) in
     let blob = rw c.requires.singles at (c.read_blob.ensures.adds rest) in
-    let next : drop count ops ≡ Blob ∷ rest = rw (← c.requires.singles, ← c.in_ok-read_singles.ensures.left, ← c.in-Blob.is) c.in-Some.ensures.some in
+    let next = blob_left ops (g.L.OneByOne.left c.read_singles.new.operands) c.args.count c.requires.singles c.requires.order c.in_ok-read_singles.ensures.left (sym c.len-last.ensures ∙ c.if-last-eq1.true) in
     answers_so g.B.Bits.faults (λ r. Gains g.V.ValueTaker.took c.read_singles.new.values c.read_blob.new.values (AddsFew (values_of room (Blob ∷ rest)) room b r d))
     (λ r. Gains g.V.ValueTaker.took c.args.values.now c.read_blob.new.values (AddsFew (values_of room ops) c.args.room a r d)) c.read_blob.result
     (λ r gains before t.
@@ -47,20 +48,18 @@ returns-in-Blob-clause-adds g c =
     (k.0, k.1, front_then c.args.room ops a b before h.0 k.0 r d c.requires.fits h.2 (subst (λ (tail : List Op). AddsFew (values_of room tail) room b r d h.0 k.0) (sym next) k.2)))
     blob
 
-pub unreachable-requires : goal.unreachable-requires
-unreachable-requires g c =
-    let ops = g.L.OneByOne.left c.args.operands.now in
-    array_some ops (g.L.OneByOne.left c.take_one.new.self) c.in-Some.op c.args.count c.requires.singles c.requires.order c.in_default-op.not-Blob (sym c.in_ok-read_singles.ensures.left ∙ c.in-Some.ensures.some) c.in_default-take_one.ensures.none
+pub take_one-element-requires : goal.take_one-element-requires
+take_one-element-requires g c = omega (arith, c.if-last-eq1.false, c.if-last-eq0.false, c.len-last.ensures, ap length c.take_one-array.ensures)
 
 pub read_array-requires-clause-element : goal.read_array-requires-clause-element
 read_array-requires-clause-element g c =
     let ops = g.L.OneByOne.left c.args.operands.now in
-    (array_taken ops (g.L.OneByOne.left c.take_one.new.self) (g.L.OneByOne.left c.take_one-2.new.self) c.in-Some.op c.in-Some-take_one.element c.args.count c.requires.singles c.requires.order c.in_default-op.not-Blob (sym c.in_ok-read_singles.ensures.left ∙ c.in-Some.ensures.some) c.in-Some-take_one.ensures.some).1
+    (array_taken ops (g.L.OneByOne.left c.take_one-array.new.self) (g.L.OneByOne.left c.take_one-element.new.self) c.take_one-array.result c.take_one-element.result c.args.count c.requires.singles c.requires.order (sym c.in_ok-read_singles.ensures.left ∙ c.take_one-array.ensures) c.take_one-element.ensures).1
 
 pub read_array-requires-clause-lawful : goal.read_array-requires-clause-lawful
 read_array-requires-clause-lawful g c =
     let ops = g.L.OneByOne.left c.args.operands.now in
-    array_lawful ops (g.L.OneByOne.left c.take_one.new.self) (g.L.OneByOne.left c.take_one-2.new.self) c.in-Some.op c.in-Some-take_one.element c.args.count c.requires.singles c.requires.order c.requires.lawful c.in_default-op.not-Blob (sym c.in_ok-read_singles.ensures.left ∙ c.in-Some.ensures.some) c.in-Some-take_one.ensures.some
+    array_lawful ops (g.L.OneByOne.left c.take_one-array.new.self) (g.L.OneByOne.left c.take_one-element.new.self) c.take_one-array.result c.take_one-element.result c.args.count c.requires.singles c.requires.order c.requires.lawful (sym c.in_ok-read_singles.ensures.left ∙ c.take_one-array.ensures) c.take_one-element.ensures
 
 pub returns-clause-adds : goal.returns-clause-adds
 returns-clause-adds g c =
@@ -70,11 +69,11 @@ returns-clause-adds g c =
     let a = g.B.Bits.as_reader c.args.bits.now in
     let b = g.B.Bits.as_reader c.read_singles.new.bits in
     let d = g.B.Bits.as_reader c.read_array.new.bits in
-    let rest = g.L.OneByOne.left c.take_one-2.new.self in
+    let rest = g.L.OneByOne.left c.take_one-element.new.self in
     let first = rw c.requires.singles at (c.in_ok-read_singles.ensures.adds room (drop count ops)) in
     let array = rw c.requires.singles at (c.read_array.ensures.adds rest) in
-    let next = (array_taken ops (g.L.OneByOne.left c.take_one.new.self) rest c.in-Some.op c.in-Some-take_one.element c.args.count c.requires.singles c.requires.order c.in_default-op.not-Blob (sym c.in_ok-read_singles.ensures.left ∙ c.in-Some.ensures.some) c.in-Some-take_one.ensures.some).0 in
-    answers_so g.B.Bits.faults (λ r. Gains g.V.ValueTaker.took c.read_singles.new.values c.read_array.new.values (AddsFew (values_of room (Array ∷ c.in-Some-take_one.element ∷ rest)) room b r d))
+    let next = (array_taken ops (g.L.OneByOne.left c.take_one-array.new.self) rest c.take_one-array.result c.take_one-element.result c.args.count c.requires.singles c.requires.order (sym c.in_ok-read_singles.ensures.left ∙ c.take_one-array.ensures) c.take_one-element.ensures).0 in
+    answers_so g.B.Bits.faults (λ r. Gains g.V.ValueTaker.took c.read_singles.new.values c.read_array.new.values (AddsFew (values_of room (Array ∷ c.take_one-element.result ∷ rest)) room b r d))
     (λ r. Gains g.V.ValueTaker.took c.args.values.now c.read_array.new.values (AddsFew (values_of room ops) c.args.room a r d)) c.read_array.result
     (λ r gains before t.
     let h = first before t in

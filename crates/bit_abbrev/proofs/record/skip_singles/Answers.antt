@@ -10,15 +10,15 @@ loop-done-init g c = record {
   far = λ room tail before. skips_begin room (take c.args.count (g.L.OneByOne.left c.args.operands.now)) tail (g.B.Bits.as_reader c.args.bits.now) before c.requires.live;
 }
 
-pub unreachable-requires : goal.unreachable-requires
-unreachable-requires g c =
+pub take_one-op-requires : goal.take_one-op-requires
+take_one-op-requires g c =
     let ops = g.L.OneByOne.left c.args.operands.now in
-    front_some ops c.args.count c.loop-done._done c.requires.single c.loop-done-test.true (sym c.loop-done.invariant.left ∙ c.in_default.ensures.none)
+    rw c.loop-done.invariant.left (front_some ops c.args.count c.loop-done._done c.requires.single c.loop-done-test.true)
 
 pub skip_scalar-requires-clause-lawful : goal.skip_scalar-requires-clause-lawful
 skip_scalar-requires-clause-lawful g c =
     let ops = g.L.OneByOne.left c.args.operands.now in
-    front_lawful ops (g.L.OneByOne.left c.take_one.new.self) c.in-Some.op c.loop-done._done c.requires.lawful (sym c.loop-done.invariant.left ∙ c.in-Some.ensures.some)
+    front_lawful ops (g.L.OneByOne.left c.take_one-op.new.self) c.take_one-op.result c.loop-done._done c.requires.lawful (sym c.loop-done.invariant.left ∙ c.take_one-op.ensures)
 
 pub skip_scalar-requires-clause-live : goal.skip_scalar-requires-clause-live
 skip_scalar-requires-clause-live g c = c.loop-done.invariant.live
@@ -26,7 +26,7 @@ skip_scalar-requires-clause-live g c = c.loop-done.invariant.live
 pub returns-in_err-skip_scalar-clause-passes : goal.returns-in_err-skip_scalar-clause-passes
 returns-in_err-skip_scalar-clause-passes g c =
     let ops = g.L.OneByOne.left c.args.operands.now in
-    let here = front_op ops (g.L.OneByOne.left c.take_one.new.self) c.in-Some.op c.args.count c.loop-done._done c.requires.single c.loop-done-test.true (sym c.loop-done.invariant.left ∙ c.in-Some.ensures.some) in
+    let here = front_op ops (g.L.OneByOne.left c.take_one-op.new.self) c.take_one-op.result c.args.count c.loop-done._done c.requires.single c.loop-done-test.true (sym c.loop-done.invariant.left ∙ c.take_one-op.ensures) in
     let many = front_many ops c.args.count c.requires.single in
     let failed = err_from_is_err_and c.from_residual.result c.from_residual.ensures.1 in
     let missed = rw here.0 at c.in_err-skip_scalar.ensures in
@@ -35,7 +35,7 @@ returns-in_err-skip_scalar-clause-passes g c =
 pub loop-done-preserved : goal.loop-done-preserved
 loop-done-preserved g c =
     let ops = g.L.OneByOne.left c.args.operands.now in
-    let here = front_op ops (g.L.OneByOne.left c.take_one.new.self) c.in-Some.op c.args.count c.loop-done._done c.requires.single c.loop-done-test.true (sym c.loop-done.invariant.left ∙ c.in-Some.ensures.some) in
+    let here = front_op ops (g.L.OneByOne.left c.take_one-op.new.self) c.take_one-op.result c.args.count c.loop-done._done c.requires.single c.loop-done-test.true (sym c.loop-done.invariant.left ∙ c.take_one-op.ensures) in
     let many = front_many ops c.args.count c.requires.single in
     record {
       live = c.in_ok-skip_scalar.ensures.live;
