@@ -1,5 +1,5 @@
 -- Operands as they are held.
-use Rattle.std.proofs.Common.{◌≡◌, ℕ, suc, ◌<◌, ◌+◌, ◌-◌, ◌*◌, ◌%◌, ◌^◌, ◌≤◌, List, [], ◌∷◌, ◌++◌, length, refl, sym, ap, ◌∙◌, arith, take, drop, get_or, append_assoc}
+use Rattle.std.proofs.Common.{◌≡◌, ℕ, zero, suc, ◌<◌, ◌+◌, ◌-◌, ◌*◌, ◌%◌, ◌^◌, ◌≤◌, List, [], ◌∷◌, ◌++◌, length, refl, sym, ap, ◌∙◌, arith, take, drop, get_or, append_assoc}
 use Rattle.std.proofs.lemmas.List.{length-append, length-drop, take_all, take-append-le, drop-append-le, take-append-drop}
 use Rattle.std.proofs.Math.Seq.{take-length, take-append_seam, get_or-append_seam}
 use Rattle.std.specs.List.{slice_range}
@@ -105,6 +105,30 @@ plain_first [] d op plain some first = absurd (omega (arith, some))
 plain_first (x ∷ xs) d op plain some first =
     let whole : take (suc (length xs) - 1) xs ≡ xs = take_all (suc (length xs) - 1) xs (omega arith) in
     rw whole (first xs plain.0)
+
+-- all but the first ones
+pub plain_after : (n : ℕ) (xs : List HeldOp) → ArePlain xs → ArePlain (drop n xs)
+plain_after zero xs plain = plain
+plain_after (suc n) [] plain = tt
+plain_after (suc n) (x ∷ xs) plain = plain_after n xs plain.1
+
+pub ops_after : (n : ℕ) (xs : List HeldOp) → ArePlain xs → ops_in (drop n xs) ≡ drop n (ops_in xs)
+ops_after zero xs plain = refl
+ops_after (suc n) [] plain = refl
+ops_after (suc n) (Literal b ∷ xs) plain = ops_after n xs plain.1
+ops_after (suc n) (Great b ∷ xs) plain = absurd plain.0
+ops_after (suc n) (More b ∷ xs) plain = absurd plain.0
+ops_after (suc n) (Fixed b ∷ xs) plain = ops_after n xs plain.1
+ops_after (suc n) (Vbr b ∷ xs) plain = ops_after n xs plain.1
+ops_after (suc n) (Array ∷ xs) plain = ops_after n xs plain.1
+ops_after (suc n) (Char6 ∷ xs) plain = ops_after n xs plain.1
+ops_after (suc n) (Blob ∷ xs) plain = ops_after n xs plain.1
+ops_after (suc n) (Counted b ∷ xs) plain = absurd plain.0
+ops_after (suc n) (Long ∷ xs) plain = absurd plain.0
+ops_after (suc n) (Unusable ∷ xs) plain = absurd plain.0
+
+pub range_after : (n : ℕ) (xs : List HeldOp) → slice_range xs n (length xs) ≡ drop n xs
+range_after n xs = take_all (length xs - n) (drop n xs) (omega (arith, length-drop n xs))
 
 -- ---- the end of a definition
 

@@ -368,8 +368,12 @@ front_lawful [] rest op (suc i) all next = absurd cc
 front_lawful (one ∷ ops) rest op zero all next = let same : one ≡ op = cc in subst HasLawfulValue same all.0
 front_lawful (one ∷ ops) rest op (suc i) all next = front_lawful ops rest op i all.1 next
 
-pub front_done : (ops : List Op) (left : List Op) (count i : ℕ) → count ≤ i → i ≤ count → left ≡ drop i ops → left ≡ drop count ops
-front_done ops left count i most least is = is ∙ ap (λ (n : ℕ). drop n ops) (omega (arith, most, least))
+-- those after the first one of the rest
+pub others_next : (ops rest : List Op) (op : Op) (i : ℕ) → drop i ops ≡ op ∷ rest → rest ≡ drop (i + 1) ops
+others_next ops rest op i next =
+    let whole : i < length ops = omega (arith, length-drop i ops, ap length next) in
+    let h : op ∷ rest ≡ op_at ops i ∷ drop (i + 1) ops = sym next ∙ from_index ops i whole in
+    cc
 
 -- those after the single ones: a blob, or an array and its element
 pub blob_left : (ops left : List Op) (count : ℕ) → count ≡ singles ops → OthersInOrder ops → left ≡ drop count ops → length left ≡ 1 → drop (singles ops) ops ≡ Blob ∷ drop (singles ops + 1) ops

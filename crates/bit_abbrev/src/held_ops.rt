@@ -15,6 +15,9 @@ use crate::operands::Operands;
 use bit_grammar::Op;
 use std::alloc::{AllocError, Global};
 
+/// How many operands have room at first, so that few blocks need more room.
+const FIRST: usize = 32;
+
 /// The operands of definitions. Those of each one are followed by what it is to records.
 #[derive(Drop)]
 pub(crate) struct HeldOps {
@@ -51,6 +54,9 @@ impl TakeOps for HeldOps {
 
     #[tactic(auto, using(crate::proofs::Encoded::put_behind))]
     fn take(&mut self, op: Op) -> Result<(), AllocError> {
+        if self.held.is_empty() {
+            self.held.reserve(FIRST)?;
+        }
         match op {
             Op::Literal(value) if value < 256 => self.held.push(HeldOp::Literal(value as u8))?,
             Op::Literal(value) => self.held.extend_from_slice(&great(value))?,

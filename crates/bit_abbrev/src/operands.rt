@@ -1,6 +1,6 @@
 //! Operands that are taken one by one.
 
-ghost use Rattle.std.specs.Prelude.{◌≡◌, ◌∷◌, ◌+◌, ◌<◌, ◌^◌, List, [], IfSome, IfNone, length};
+ghost use Rattle.std.specs.Prelude.{◌≡◌, ◌∷◌, ◌+◌, ◌<◌, ◌≤◌, ◌^◌, List, [], drop, IfSome, IfNone, length};
 ghost use Rattle.bit_abbrev.specs.declared.held_op.HeldOp.{HeldOp};
 ghost use Rattle.bit_grammar.specs.Definition.{has_shape};
 ghost use Rattle.bit_grammar.specs.Record.{singles};
@@ -28,7 +28,7 @@ fn more(held: &[HeldOp]) -> u64
 }
 
 /// Operands that are taken one by one.
-pub(crate) trait OneByOne {
+pub(crate) trait OneByOne: Drop {
     ghost use Rattle.std.specs.Prelude.{List};
     ghost use Rattle.bit_grammar.specs.declared.op.Op.{Op};
 
@@ -43,6 +43,11 @@ pub(crate) trait OneByOne {
     fn take_one(&mut self) -> Op
         requires { 0 < length (left self.old) }
         ensures { left self.old ≡ result ∷ left self.new };
+
+    /// Those after the first `count`.
+    fn behind(&self, count: usize) -> Self
+        requires { count ≤ length (left self.now) }
+        ensures { left result ≡ drop count (left self.now) };
 }
 
 /// The operand that is held in one place.
@@ -83,6 +88,14 @@ impl<'a> OneByOne for Plain<'a> {
         self.held = &self.held[1..];
         op
     }
+
+    #[inline(always)]
+    #[tactic(auto, using(crate::proofs::Encoded::plain_length))]
+    fn behind(&self, count: usize) -> Self {
+        Plain {
+            held: &self.held[count..],
+        }
+    }
 }
 
 impl<'a> OneByOne for Operands<'a> {
@@ -97,6 +110,16 @@ impl<'a> OneByOne for Operands<'a> {
             unreachable!();
         };
         op
+    }
+
+    fn behind(&self, count: usize) -> Self {
+        let mut others = *self;
+        for _taken in 0..count {
+            let Some(_) = others.next() else {
+                unreachable!();
+            };
+        }
+        others
     }
 }
 

@@ -208,11 +208,9 @@ fn skip_singles<B: Bits, L: OneByOne>(
     requires single { count ≡ singles (L.left operands.old) }
     requires lawful { AllByRecursion HasLawfulValue (L.left operands.old) }
     requires live { (B.as_reader bits.old).live ≡ true }
-    ensures passes { (room : ℕ) (tail : List Op) → Answers B.faults (PassesFirst room
+    ensures { (room : ℕ) (tail : List Op) → Answers B.faults (PassesFirst room
         (take count (L.left operands.old)) tail (B.as_reader bits.old)
         (B.as_reader bits.new)) result }
-    ensures left { OnOk result (L.left operands.new
-        ≡ drop count (L.left operands.old)) }
 {
     for _done in 0..count {
         let op = operands.take_one();
@@ -235,8 +233,6 @@ fn read_singles<U, B: Bits, L: OneByOne, V: ValueTaker>(
     ensures adds { (room : ℕ) (tail : List Op) → Answers B.faults (λ r. Gains V.took values.old
         values.new (AddsFirst room (take count (L.left operands.old)) tail
         (B.as_reader bits.old) r (B.as_reader bits.new))) result }
-    ensures left { OnOk result (L.left operands.new
-        ≡ drop count (L.left operands.old)) }
     ensures keeps { Keeps V.took values.old values.new }
 {
     if values.pass(count as u64) {
@@ -270,9 +266,11 @@ fn read_values<U, B: Runs, L: OneByOne, V: ValueTaker>(
         result }
     ensures keeps { Keeps V.took values.old values.new }
 {
+    // Found first, so that the loop's place in the operands is in one register.
+    let mut others = operands.behind(count);
     read_singles::<U, B, L, V>(bits, operands, count, values)?;
     let left = room - count as u64;
-    let last = operands.len();
+    let last = others.len();
     // Tested first, so that the blob is inlined and the buffered bits stay in registers.
     if last == 1 {
         return read_blob::<U, B, V>(bits, left, values);
@@ -280,8 +278,8 @@ fn read_values<U, B: Runs, L: OneByOne, V: ValueTaker>(
     if last == 0 {
         return Ok(());
     }
-    let _array = operands.take_one();
-    let element = operands.take_one();
+    let _array = others.take_one();
+    let element = others.take_one();
     read_array::<U, B, V>(bits, left, element, values)
 }
 

@@ -3,7 +3,7 @@ use Rattle.std.proofs.lemmas.List.{length-replicate}
 use Rattle.std.proofs.lemmas.Result.{err_from_is_err_and}
 use Rattle.bit_abbrev.specs.Values.{AddsFirst, Gains, PassesFirst}
 use Rattle.bit_abbrev.proofs.Missing.{answers_so}
-use Rattle.bit_abbrev.proofs.Records.{skipped, from_begins, from_goes_on, from_fails, from_refused, from_done, front_many, front_op, front_some, front_lawful, front_done}
+use Rattle.bit_abbrev.proofs.Records.{skipped, from_begins, from_goes_on, from_fails, from_refused, from_done, front_many, front_op, front_some, front_lawful}
 use Rattle.bit_abbrev.proofs.record.read_singles.Goals as goal
 
 pub returns-then-pass-clause-adds : goal.returns-then-pass-clause-adds
@@ -14,7 +14,7 @@ returns-then-pass-clause-adds g c = λ room tail.
     let passes = c.pass.ensures.yes c.if-pass.true in
     answers_so g.B.Bits.faults (PassesFirst room (take c.args.count (g.L.OneByOne.left c.args.operands.now)) tail a d) (λ r. Gains g.V.ValueTaker.took c.args.values.now c.pass.new.self (AddsFirst room (take c.args.count (g.L.OneByOne.left c.args.operands.now)) tail a r d)) c.skip_singles.result
     (λ r. skipped g.V.ValueTaker.took c.args.values.now c.pass.new.self room (take c.args.count (g.L.OneByOne.left c.args.operands.now)) tail a d r (λ before others t k. passes before others t (k ∙ many.1)))
-    (c.skip_singles.ensures.passes room tail)
+    (c.skip_singles.ensures room tail)
 
 pub returns-then-pass-clause-keeps : goal.returns-then-pass-clause-keeps
 returns-then-pass-clause-keeps g c = λ before t. (before ++ replicate c.args.count 0, c.pass.ensures.yes c.if-pass.true before (replicate c.args.count 0) t (length-replicate c.args.count 0))
@@ -88,7 +88,3 @@ read_scalar-requires-clause-lawful g c =
 
 pub read_scalar-requires-clause-live : goal.read_scalar-requires-clause-live
 read_scalar-requires-clause-live g c = c.loop-done.invariant.live
-
-pub returns-clause-left : goal.returns-clause-left
-returns-clause-left g c =
-    front_done (g.L.OneByOne.left c.args.operands.now) (g.L.OneByOne.left c.loop-done.operands) c.args.count c.loop-done._done c.loop-done-test.false (omega arith) c.loop-done.invariant.left
