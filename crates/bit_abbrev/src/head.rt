@@ -4,3 +4,10 @@ pub(crate) struct Head {
     pub(crate) start: u32,
     pub(crate) end: u32,
 }
+
+/// Definitions one after another among others: the index of the first one, and the index after the last one.
+#[derive(Clone, Copy, Drop)]
+pub(crate) struct Run {
+    pub(crate) start: u32,
+    pub(crate) end: u32,
+}
