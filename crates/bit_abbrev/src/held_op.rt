@@ -18,7 +18,7 @@ pub(crate) enum HeldOp {
     Great(u8),
     /// Another byte of it.
     More(u8),
-    /// A record may use the definition. No literal is great, and so many operands after the first one give one value each.
+    /// A record may use the definition, no literal is great, and so many operands after the first one give one value each.
     Counted(u8),
     /// A record may use it.
     Long,

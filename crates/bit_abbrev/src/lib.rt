@@ -9,10 +9,12 @@
 //!
 //! `SharedInfo` and `InForce` give a block the definitions in force without a copy: a finished table is shared by one `Rc`, and a
 //! block adds its own. A table and a block each hold the operands of all their definitions in one vector, two bytes for each of them
-//! (`HeldOp`), into which they are read, and for each definition a `Head` of eight bytes: where its operands are. After these stands
-//! what the definition is to records: whether its shape is lawful, and how many operands give one value each. `Listed` looks
-//! definitions up, and lends one as a `Definition`, whose `Operands` are taken one by one. No record may use one whose shape is not
-//! lawful (`is_usable`). An `Abbrev` owns its operands.
+//! (`HeldOp`), into which they are read, and for each definition a `Head` of eight bytes: where its operands are. A table has the
+//! heads in the order of the definitions, and for each id a `Run` of them; an id that is described again after others gets a list of
+//! its own. After the operands of a definition stands what it is to records: whether its shape is lawful (`is_usable`), and how many
+//! operands give one value each, if each operand is held in one place. Records are then read from `Plain` operands, in one match for
+//! each. By other definitions, with a literal above 255 or many operands, only a reader reads records, from `Operands`; buffered bits
+//! miss them. `Listed` looks definitions up, and lends one as a `Definition`. An `Abbrev` owns its operands.
 #![tactic(auto)]
 
 mod abbrev;
