@@ -1,8 +1,10 @@
 pub mod Breaks
+mod Encoded
+mod Heads
 pub mod Table
 pub mod Adding
 pub mod Taking
-pub mod Operands
+pub mod Defining
 pub mod Shapes
 pub mod Records
 mod Several

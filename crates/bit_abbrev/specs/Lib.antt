@@ -1,5 +1,10 @@
 pub mod Bits
 pub mod Breaks
+pub mod Heads
+pub mod Held
+pub mod HeldOps
+pub mod Lists
 pub mod Operands
+pub mod Putting
 pub mod Table
 pub mod Values

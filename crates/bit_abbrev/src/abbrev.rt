@@ -3,10 +3,8 @@
 ghost use Rattle.std.specs.Prelude.{◌≡◌, ◌≤◌, ◌↔◌, true, length, IsOk, IfOk, IfErr, IfSome, IfNone};
 ghost use Rattle.bit_grammar.specs.Definition.{fits, place_after, kind_of, has_shape};
 ghost use Rattle.bit_grammar.specs.FormatDefinition.{Definable, Lawful};
-ghost use Rattle.bit_abbrev.specs.Operands.{HasTail};
 ghost use Rattle.bit_abbrev.specs.Breaks.{IsFirstBreak, LiteralFits, break_of};
 
-use crate::tail::{Tail, tail_of};
 use crate::widths::{is_fixed_width, is_vbr_width};
 use bit_grammar::{Kind, Op, Place, Reason};
 use smallvec::SmallVec;
@@ -32,23 +30,20 @@ pub struct BadAbbrev {
 pub struct Abbrev {
     ops: Ops,
     usable: bool,
-    tail: Tail,
 }
 
 impl Model for Abbrev {
-    ghost use Rattle.std.specs.Prelude.{◌≡◌, List, true};
+    ghost use Rattle.std.specs.Prelude.{◌≡◌, List};
     ghost use Rattle.bit_grammar.specs.declared.op.Op.{Op};
     ghost use Rattle.bit_grammar.specs.Definition.{has_shape};
     ghost use Rattle.bit_grammar.specs.FormatDefinition.{Definable};
-    ghost use Rattle.bit_abbrev.specs.Operands.{HasTail};
 
     ghost Value = { List Op };
 
     ghost view = { λ definition. definition.ops.items };
 
     ghost invariant = { λ definition. Definable definition.ops.items
-        × (definition.usable ≡ has_shape definition.ops.items)
-        × (definition.usable ≡ true → HasTail definition.ops.items definition.tail) };
+        × (definition.usable ≡ has_shape definition.ops.items) };
 }
 
 /// Whether an operand of this kind may be at a place, with `after` operands after it.
@@ -74,7 +69,8 @@ pub(crate) fn place_after(op: Op) -> Place
     }
 }
 
-fn kind_of(op: Op) -> Kind
+/// What an operand is, without its value.
+pub(crate) fn kind_of(op: Op) -> Kind
     ensures { result ≡ kind_of op }
 {
     match op {
@@ -143,14 +139,7 @@ impl Abbrev {
         ensures first { IfErr result (λ bad. IsFirstBreak ops.items bad.at bad.reason) }
     {
         match first_break(ops.as_slice()) {
-            None => {
-                let tail = tail_of(ops.as_slice());
-                Ok(Abbrev {
-                    ops,
-                    usable: true,
-                    tail,
-                })
-            }
+            None => Ok(Abbrev { ops, usable: true }),
             Some((at, reason)) => Err(BadAbbrev { ops, at, reason }),
         }
     }
@@ -161,8 +150,7 @@ impl Abbrev {
         ensures { result ≡ ops.items }
     {
         let usable = has_shape(ops.as_slice());
-        let tail = tail_of(ops.as_slice());
-        Abbrev { ops, usable, tail }
+        Abbrev { ops, usable }
     }
 
     /// The operands.
@@ -180,24 +168,6 @@ impl Abbrev {
         self.usable
     }
 
-    /// The operands, in a lawful order.
-    pub fn lawful_ops(&self) -> &[Op]
-        requires { has_shape self.now ≡ true }
-        ensures items { result.now ≡ self.now }
-        ensures lawful { Lawful self.now }
-    {
-        self.ops.as_slice()
-    }
-
-    /// What follows the operands that stand for one value each.
-    #[inline(always)]
-    pub(crate) fn tail(&self) -> Tail
-        requires { has_shape self.now ≡ true }
-        ensures { HasTail self.now result }
-    {
-        self.tail
-    }
-
     /// A copy, with the same operands.
     pub fn copy(&self, alloc: Global) -> Result<Abbrev, AllocError>
         ensures ok { IfOk result (λ copy. copy ≡ self.now) }
@@ -207,7 +177,6 @@ impl Abbrev {
         Ok(Abbrev {
             ops,
             usable: self.usable,
-            tail: self.tail,
         })
     }
 }

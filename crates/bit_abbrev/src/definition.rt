@@ -1,17 +1,18 @@
 //! Reading definitions.
 
-ghost use Rattle.std.specs.Prelude.{◌≡◌, ◌-◌, ◌<◌, IfOk, OnErr, true};
+ghost use Rattle.std.specs.Prelude.{◌≡◌, ◌-◌, ◌<◌, ◌++◌, ◌∷◌, [], IfOk, OnErr, OnOk, true};
 ghost use Rattle.bit_grammar.specs.Definition.{kind, passes, valued, operand, operands, definition};
 ghost use Rattle.bit_grammar.specs.declared.op.Place.TheVariants.{First};
 ghost use Rattle.bit_grammar.specs.FormatDefinition.{HasLawfulValue, Definable};
 ghost use Rattle.bit_fields.specs.Reader.{Takes, IsOnly, told_by};
+ghost use Rattle.bit_abbrev.specs.Lists.{Grows, added};
 
 use crate::abbrev::{Abbrev, Ops, fits, place_after};
 use crate::widths::{is_fixed_width, is_vbr_width};
 use bit_fields::{BitReader, Fault, Source};
 use bit_grammar::{Kind, Op, Place, Reason, Shapes};
 use smallvec::SmallVec;
-use std::alloc::Global;
+use std::alloc::{AllocError, Global};
 
 /// Reads the flag of an operand, and its encoding if it has one.
 #[tactic(auto, unfolding(bit_grammar::specs::Definition::kind))]
@@ -90,46 +91,81 @@ fn read_operand<S: Source>(
     read_value(reader, kind)
 }
 
-/// Reads `count` operands.
-fn read_operands<S: Source>(
-    alloc: Global,
+/// Takes operands in order.
+pub(crate) trait TakeOps {
+    ghost use Rattle.std.specs.Prelude.{List};
+    ghost use Rattle.bit_grammar.specs.declared.op.Op.{Op};
+    ghost use Rattle.bit_abbrev.specs.declared.held_op.HeldOp.{HeldOp};
+
+    // The operands that it took, and those that it held before.
+    ghost took: { Self → List Op };
+
+    ghost before: { Self → List HeldOp };
+
+    /// Takes one more.
+    fn take(&mut self, op: Op) -> Result<(), AllocError>
+        ensures ok { OnOk result (took self.new ≡ took self.old ++ op ∷ []) }
+        ensures err { OnErr result (took self.new ≡ took self.old) }
+        ensures same { before self.new ≡ before self.old };
+}
+
+impl TakeOps for Ops {
+    ghost use Rattle.std.specs.Prelude.{[]};
+
+    ghost took = { λ ops. ops.items };
+
+    ghost before = { λ _. [] };
+
+    fn take(&mut self, op: Op) -> Result<(), AllocError> {
+        self.push(op)?;
+        Ok(())
+    }
+}
+
+/// Reads `count` operands, and adds them to others. If it fails, some may be added.
+fn read_operands<S: Source, T: TakeOps>(
     reader: &mut BitReader<S>,
     shapes: Shapes,
     count: u64,
-) -> Result<Ops, Fault>
+    ops: &mut T,
+) -> Result<(), Fault>
     requires some { 0 < count }
     requires live { reader.old.live ≡ true }
     ensures takes { Takes (operands shapes count First) reader.old
-        (told_by (λ ops. ops.items) result) reader.new }
-    ensures definable { IfOk result (λ ops. Definable ops.items) }
+        (told_by (λ _. added (T.took ops.old) (T.took ops.new)) result) reader.new }
+    ensures grows { Grows (T.took ops.old) (T.took ops.new) }
+    ensures same { T.before ops.new ≡ T.before ops.old }
+    ensures definable { OnOk result (Definable (added (T.took ops.old) (T.took ops.new))) }
 {
-    let mut ops = SmallVec::new(alloc);
     let mut place = Place::First;
     for i in 0..count {
         let op = read_operand(reader, shapes, place, count - 1 - i)?;
         place = place_after(op);
-        match ops.push(op) {
+        match ops.take(op) {
             Ok(()) => {}
             Err(_) => return Err(reader.fail(Fault::Memory)),
         }
     }
-    Ok(ops)
+    Ok(())
 }
 
-/// Reads the number of operands, and the operands.
+/// Reads the number of operands, and the operands, and adds them to others. If it fails, some may be added.
 #[tactic(auto, unfolding(bit_grammar::specs::Definition::definition))]
-fn read_definition<S: Source>(
-    alloc: Global,
+pub(crate) fn read_definition<S: Source, T: TakeOps>(
     reader: &mut BitReader<S>,
     shapes: Shapes,
-) -> Result<Abbrev, Fault>
-    ensures { Takes (definition shapes) reader.old result reader.new }
+    ops: &mut T,
+) -> Result<(), Fault>
+    ensures takes { Takes (definition shapes) reader.old
+        (told_by (λ _. added (T.took ops.old) (T.took ops.new)) result) reader.new }
+    ensures grows { Grows (T.took ops.old) (T.took ops.new) }
+    ensures same { T.before ops.new ≡ T.before ops.old }
+    ensures definable { OnOk result (Definable (added (T.took ops.old) (T.took ops.new))) }
 {
     let first = reader.position();
     let count = reader.vbr(5)?;
     reader.judge(count != 0, Reason::AbbrevEmpty, first)?;
-    let ops = read_operands(alloc, reader, shapes, count)?;
-    Ok(Abbrev::from_definable(ops))
+    read_operands(reader, shapes, count, ops)
 }
 
 /// Reads a definition after its abbreviation id. If shapes are judged at their use, operands in any order are read.
@@ -145,8 +181,9 @@ pub fn read_define<S: Source>(
     ensures stays { OnErr result (reader.new.position ≡ reader.old.position) }
 {
     let first = reader.position();
-    match read_definition(alloc, reader, shapes) {
-        Ok(abbrev) => Ok(abbrev),
+    let mut ops = SmallVec::new(alloc);
+    match read_definition(reader, shapes, &mut ops) {
+        Ok(()) => Ok(Abbrev::from_definable(ops)),
         Err(fault) => Err(reader.fail_at(fault, first)),
     }
 }

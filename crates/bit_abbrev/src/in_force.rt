@@ -1,10 +1,17 @@
 //! The table that blocks share, and the definitions in force in a block.
 
 ghost use Rattle.std.specs.Prelude.{◌≡◌, ◌-◌, ◌++◌, [], ◌∷◌, IfOk, OnOk, OnErr, length, slice_get};
-ghost use Rattle.std.specs.Option.{option_copied};
+ghost use Rattle.bit_grammar.specs.Definition.{definition};
+ghost use Rattle.bit_abbrev.specs.Held.{lent_ops};
+ghost use Rattle.bit_abbrev.specs.Putting.{Puts};
 ghost use Rattle.bit_abbrev.specs.Table.{definitions_at};
 
-use crate::{Abbrev, InfoTable};
+use crate::head::Head;
+use crate::held::{Listed, add, read_held};
+use crate::held_ops::HeldOps;
+use crate::{Abbrev, Definition, InfoTable};
+use bit_fields::{BitReader, Fault, Source};
+use bit_grammar::Shapes;
 use std::alloc::{AllocError, Global};
 use std::marker::Model;
 use std::rc::Rc;
@@ -48,16 +55,16 @@ impl SharedInfo {
     pub fn enter(&self, alloc: Global, id: u32) -> Result<InForce, AllocError>
         ensures ok { IfOk result (λ definitions. definitions ≡ definitions_at self.now id) }
     {
-        let own = Vec::new(alloc);
         let Some(table) = &self.table else {
-            return Ok(InForce { shared: None, own });
+            return Ok(InForce::new(alloc));
         };
-        if table.for_block(id).is_empty() {
-            return Ok(InForce { shared: None, own });
+        if table.for_block(id).len() == 0 {
+            return Ok(InForce::new(alloc));
         }
         Ok(InForce {
             shared: Some((table.clone()?, id)),
-            own,
+            heads: Vec::new(alloc),
+            ops: HeldOps::new(alloc),
         })
     }
 }
@@ -67,26 +74,31 @@ impl SharedInfo {
 pub struct InForce {
     /// The table, and the id of the block.
     shared: Option<(Rc<InfoTable>, u32)>,
-    own: Vec<Abbrev>,
+    /// The block's own definitions, and the operands of all of them.
+    heads: Vec<Head>,
+    ops: HeldOps,
 }
 
 impl Model for InForce {
     ghost use Rattle.std.specs.Prelude.{List, [], ◌++◌};
     ghost use Rattle.std.specs.Option.{option_map_or};
     ghost use Rattle.bit_grammar.specs.declared.op.Op.{Op};
+    ghost use Rattle.bit_abbrev.specs.Heads.{AreHeld, all_held};
     ghost use Rattle.bit_abbrev.specs.Table.{definitions_at};
 
     ghost Value = { List (List Op) };
 
     ghost view = { λ inside. option_map_or (λ shared. definitions_at shared.0.value shared.1) inside.shared
-        [] ++ inside.own.items };
+        [] ++ all_held inside.ops.held.items inside.heads.items };
+
+    ghost invariant = { λ inside. AreHeld inside.ops.held.items inside.heads.items };
 }
 
 /// The definitions in force in a block, as two lists: the table's and the block's own.
 #[derive(Drop)]
 pub struct Definitions<'a> {
-    shared: &'a [Abbrev],
-    own: &'a [Abbrev],
+    shared: Listed<'a>,
+    own: Listed<'a>,
 }
 
 impl<'a> Model for Definitions<'a> {
@@ -95,19 +107,29 @@ impl<'a> Model for Definitions<'a> {
 
     ghost Value = { List (List Op) };
 
-    ghost view = { λ all. all.shared.now ++ all.own.now };
+    ghost view = { λ all. all.shared ++ all.own };
 }
 
 impl<'a> Definitions<'a> {
     /// The definition at an index, if there is one.
     #[inline(always)]
-    pub fn get(&self, index: usize) -> Option<&'a Abbrev>
-        ensures { option_copied result ≡ slice_get self.now index }
+    pub fn get(&self, index: usize) -> Option<Definition<'a>>
+        ensures { lent_ops result ≡ slice_get self.now index }
     {
         if index < self.shared.len() {
             self.shared.get(index)
         } else {
             self.own.get(index - self.shared.len())
+        }
+    }
+
+    /// The last definition, if there is one.
+    fn last(&self) -> Option<Definition<'a>>
+        ensures { lent_ops result ≡ slice_get self.now (length self.now - 1) }
+    {
+        match self.own.last() {
+            Some(own) => Some(own),
+            None => self.shared.last(),
         }
     }
 }
@@ -121,15 +143,15 @@ pub trait Lookup {
     ghost listed: { Self → List (List Op) };
 
     /// The definition at an index, if there is one.
-    fn look_up(&self, index: usize) -> Option<&Abbrev>
-        ensures { option_copied result ≡ slice_get (listed self.now) index };
+    fn look_up(&self, index: usize) -> Option<Definition<'_>>
+        ensures { lent_ops result ≡ slice_get (listed self.now) index };
 }
 
 impl<'a> Lookup for Definitions<'a> {
     ghost listed = { λ definitions. definitions };
 
     #[inline(always)]
-    fn look_up(&self, index: usize) -> Option<&Abbrev> {
+    fn look_up(&self, index: usize) -> Option<Definition<'_>> {
         self.get(index)
     }
 }
@@ -139,7 +161,7 @@ impl Lookup for InForce {
     ghost listed = { λ definitions. definitions };
 
     #[inline(always)]
-    fn look_up(&self, index: usize) -> Option<&Abbrev> {
+    fn look_up(&self, index: usize) -> Option<Definition<'_>> {
         self.get(index)
     }
 }
@@ -151,7 +173,8 @@ impl InForce {
     {
         InForce {
             shared: None,
-            own: Vec::new(alloc),
+            heads: Vec::new(alloc),
+            ops: HeldOps::new(alloc),
         }
     }
 
@@ -160,7 +183,25 @@ impl InForce {
         ensures ok { OnOk result (self.new ≡ self.old ++ «abbrev» ∷ []) }
         ensures err { OnErr result (self.new ≡ self.old) }
     {
-        self.own.push(abbrev)?;
+        let head = add(&mut self.ops, &abbrev)?;
+        self.heads.push(head)?;
+        Ok(())
+    }
+
+    /// Reads a definition of the block after its abbreviation id, and adds it.
+    pub fn read_define<S: Source>(
+        &mut self,
+        reader: &mut BitReader<S>,
+        shapes: Shapes,
+    ) -> Result<(), Fault>
+        ensures puts { Puts (definition shapes) reader.old result reader.new
+            (λ ops. self.new ≡ self.old ++ ops ∷ []) }
+    {
+        let head = read_held(reader, shapes, &mut self.ops)?;
+        match self.heads.push(head) {
+            Ok(()) => {}
+            Err(_) => return Err(reader.fail(Fault::Memory)),
+        }
         Ok(())
     }
 
@@ -169,34 +210,32 @@ impl InForce {
     pub fn all(&self) -> Definitions<'_>
         ensures { result ≡ self.now }
     {
+        let own = Listed {
+            heads: self.heads.as_slice(),
+            held: self.ops.held.as_slice(),
+        };
         let shared = match &self.shared {
             Some((table, id)) => table.for_block(*id),
-            None => &[],
+            None => Listed {
+                heads: &[],
+                held: &[],
+            },
         };
-        Definitions {
-            shared,
-            own: self.own.as_slice(),
-        }
+        Definitions { shared, own }
     }
 
     /// The definition at an index, if there is one.
     #[inline]
-    pub fn get(&self, index: usize) -> Option<&Abbrev>
-        ensures { option_copied result ≡ slice_get self.now index }
+    pub fn get(&self, index: usize) -> Option<Definition<'_>>
+        ensures { lent_ops result ≡ slice_get self.now index }
     {
         self.all().get(index)
     }
 
     /// The last definition that the block added, or else the last one of the table.
-    pub fn last(&self) -> Option<&Abbrev>
-        ensures { option_copied result ≡ slice_get self.now (length self.now - 1) }
+    pub fn last(&self) -> Option<Definition<'_>>
+        ensures { lent_ops result ≡ slice_get self.now (length self.now - 1) }
     {
-        if let Some(own) = self.own.last() {
-            return Some(own);
-        }
-        match &self.shared {
-            Some((table, id)) => table.for_block(*id).last(),
-            None => None,
-        }
+        self.all().last()
     }
 }

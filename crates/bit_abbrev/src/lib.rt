@@ -8,20 +8,31 @@
 //! reader, and restores the values if it fails.
 //!
 //! `SharedInfo` and `InForce` give a block the definitions in force without a copy: a finished table is shared by one `Rc`, and a
-//! block adds its own in a vector. An `Abbrev` knows whether its shape is lawful (`is_usable`); no record may use one that is not.
+//! block adds its own. A table and a block each hold the operands of all their definitions in one vector, two bytes for each of them
+//! (`HeldOp`), into which they are read, and for each definition a `Head` of eight bytes: where its operands are. A table has the
+//! heads in the order of the definitions, and for each id a `Run` of them; an id that is described again after others gets a list of
+//! its own. After the operands of a definition stands what it is to records: whether its shape is lawful (`is_usable`), and how many
+//! operands give one value each, if each operand is held in one place. Records are then read from `Plain` operands, in one match for
+//! each. By other definitions, with a literal above 255 or many operands, only a reader reads records, from `Operands`; buffered bits
+//! miss them. `Listed` looks definitions up, and lends one as a `Definition`. An `Abbrev` owns its operands.
 #![tactic(auto)]
 
 mod abbrev;
 mod bits;
 mod definition;
+mod head;
+mod held;
+mod held_op;
+mod held_ops;
 mod in_force;
 mod info;
 mod laws;
+mod lent;
+mod operands;
 #[cfg(test)]
 mod reading_tests;
 mod record;
 mod runs;
-mod tail;
 #[cfg(test)]
 mod tests;
 mod widths;
@@ -30,8 +41,11 @@ pub use abbrev::{Abbrev, BadAbbrev, Ops};
 pub use bit_grammar::Op;
 pub use bits::{Bits, NotBuffered};
 pub use definition::read_define;
+pub use held::Listed;
 pub use in_force::{Definitions, InForce, Lookup, SharedInfo};
 pub use info::InfoTable;
 pub use laws::lawful_unbroken;
+pub use lent::Definition;
+pub use operands::Operands;
 pub use record::{read_abbreviated, read_plain, read_record};
 pub use runs::Runs;

@@ -1,4 +1,4 @@
-use crate::{Abbrev, read_abbreviated, read_define, read_plain};
+use crate::{Definition, InForce, read_abbreviated, read_define, read_plain};
 use bit_fields::{
     BitReader, Fault, Limits, ReadSource, Reason, Shapes, SliceSource, Source, ValueCount,
     ValueTaker,
@@ -30,7 +30,7 @@ fn open_block<S: Source + Drop>(reader: &mut BitReader<S>) -> Result<(), Fault> 
 /// Reads a record by a definition: its code.
 fn next_record<S: Source + Drop, V: ValueTaker>(
     reader: &mut BitReader<S>,
-    definition: &Abbrev,
+    definition: Definition<'_>,
     room: u64,
     values: &mut V,
 ) -> Result<u64, Fault> {
@@ -42,7 +42,7 @@ fn next_record<S: Source + Drop, V: ValueTaker>(
 /// The same after the record's id. If no record may use the definition, it is not read.
 fn by_definition<S: Source + Drop, V: ValueTaker>(
     reader: &mut BitReader<S>,
-    definition: &Abbrev,
+    definition: Definition<'_>,
     at: u64,
     room: u64,
     values: &mut V,
@@ -53,6 +53,16 @@ fn by_definition<S: Source + Drop, V: ValueTaker>(
     read_abbreviated(reader, definition, at, room, values)
 }
 
+/// Reads a definition of a block.
+fn first_definition<S: Source + Drop>(
+    alloc: Global,
+    reader: &mut BitReader<S>,
+) -> Result<InForce, Fault> {
+    let mut definitions = InForce::new(alloc);
+    definitions.read_define(reader, Shapes::AtDefinition)?;
+    Ok(definitions)
+}
+
 /// Reads a definition and a record by it: its code, and the bit after it.
 fn one_record<S: Source + Drop, V: ValueTaker>(
     alloc: Global,
@@ -61,8 +71,11 @@ fn one_record<S: Source + Drop, V: ValueTaker>(
     values: &mut V,
 ) -> Result<(u64, u64), Fault> {
     open_block(reader)?;
-    let definition = read_define(alloc, reader, Shapes::AtDefinition)?;
-    let code = next_record(reader, &definition, room, values)?;
+    let definitions = first_definition(alloc, reader)?;
+    let Some(definition) = definitions.get(0) else {
+        return Err(Fault::Memory);
+    };
+    let code = next_record(reader, definition, room, values)?;
     Ok((code, reader.position()))
 }
 
@@ -342,7 +355,7 @@ fn shapes_at_use(rt: HostRuntime) -> Result<(), Fail> {
 /// Two records by a definition, and one more after a failure: the codes and the position after the records, and the fault.
 fn three_records<S: Source + Drop>(
     reader: &mut BitReader<S>,
-    definition: &Abbrev,
+    definition: Definition<'_>,
     values: &mut Vec<u64>,
 ) -> Result<([u64; 3], Option<Fault>), Fault> {
     let first = next_record(reader, definition, 7, values)?;
@@ -359,10 +372,13 @@ fn defined_records<S: Source + Drop>(
     reader: &mut BitReader<S>,
     values: &mut Vec<u64>,
 ) -> Result<(usize, u64, [u64; 3], Option<Fault>), Fault> {
-    let definition = read_define(alloc, reader, Shapes::AtDefinition)?;
+    let definitions = first_definition(alloc, reader)?;
+    let Some(definition) = definitions.get(0) else {
+        return Err(Fault::Memory);
+    };
     let start = reader.position();
-    let (records, fault) = three_records(reader, &definition, values)?;
-    Ok((definition.ops().len(), start, records, fault))
+    let (records, fault) = three_records(reader, definition, values)?;
+    Ok((definition.operands().count(), start, records, fault))
 }
 
 /// The same from a source.

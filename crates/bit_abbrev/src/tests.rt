@@ -1,4 +1,4 @@
-use crate::{Abbrev, InForce, InfoTable, Op, SharedInfo};
+use crate::{Abbrev, Definition, InForce, InfoTable, Op, SharedInfo};
 use bit_grammar::Reason;
 use smallvec::SmallVec;
 use std::alloc::{AllocError, Global};
@@ -124,11 +124,13 @@ fn constant(alloc: Global, value: u64) -> Result<Abbrev, Fail> {
 }
 
 /// The literal with which a definition begins; 0 for no definition, and the greatest number for one that begins otherwise.
-fn literal(definition: Option<&Abbrev>) -> u64 {
-    match definition.map(Abbrev::ops) {
-        None => 0,
-        Some([Op::Literal(value), ..]) if *value > 0 => *value,
-        Some(_) => u64::MAX,
+fn literal(definition: Option<Definition<'_>>) -> u64 {
+    let Some(definition) = definition else {
+        return 0;
+    };
+    match definition.operands().next() {
+        Some(Op::Literal(value)) if value > 0 => value,
+        _ => u64::MAX,
     }
 }
 

@@ -2,8 +2,9 @@ ghost use Rattle.std.specs.Prelude.{ℕ, List, [], OnOk};
 ghost use Rattle.bit_grammar.specs.Machine.{enters, defines, notes, leaves};
 ghost use Rattle.bit_events.specs.Gathering.{Gathers};
 ghost use Rattle.bit_events.specs.MachineView.{TookSome};
+ghost use Rattle.bit_abbrev.specs.HeldOps.{ops_in};
 
-use bit_abbrev::Abbrev;
+use bit_abbrev::Definition;
 use bit_fields::ValueTaker;
 use std::alloc::AllocError;
 
@@ -28,9 +29,9 @@ pub trait Gatherer: Drop {
             (enters (record { id = id; width = width; first = first; body = body })) self.new) };
 
     /// Takes a definition in the innermost block, its first bit and the bit after it.
-    fn define(&mut self, abbrev: &Abbrev, first: u64, after: u64) -> Result<(), AllocError>
+    fn define(&mut self, abbrev: Definition<'_>, first: u64, after: u64) -> Result<(), AllocError>
         ensures { OnOk result (Gathers gathered self.old
-            (defines (record { ops = «abbrev».now; first = first; after = after })) self.new) };
+            (defines (record { ops = ops_in «abbrev».entry.held.now; first = first; after = after })) self.new) };
 
     /// Takes a record in the innermost block: its abbreviation id, its code, the value sink with its values, its first bit and the
     /// bit after it. The values may be moved out.

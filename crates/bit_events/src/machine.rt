@@ -1,10 +1,11 @@
 ghost use Rattle.std.specs.Prelude.{◌≡◌, ◌<◌, ◌≤◌, ◌+◌, ◌-◌, ◌^◌, ◌%◌, true, [], ℕ, List, OnOk, IfOk, vec_len, is_none, IfSome, IfNone, OnSome, IsTrue, ◌↔◌};
-ghost use Rattle.std.specs.Option.{option_copied, option_map};
+ghost use Rattle.std.specs.Option.{option_map};
 ghost use Rattle.bit_grammar.specs.Blocks.{enter, leave};
 ghost use Rattle.bit_grammar.specs.Terms.{info_for};
 ghost use Rattle.bit_grammar.specs.Machine.{at_start, open_block, open_nested, step_after, step_in, step_top, step, scope_of, inside};
 ghost use Rattle.bit_fields.specs.Reader.{Takes, told_by};
 ghost use Rattle.bit_fields.specs.Buffered.{Reads};
+ghost use Rattle.bit_abbrev.specs.Held.{lent_ops};
 ghost use Rattle.bit_abbrev.specs.Values.{Gains, Has, Keeps};
 ghost use Rattle.bit_events.specs.Next.{FindsNext};
 ghost use Rattle.bit_events.specs.EventView.{shown_if_any};
@@ -19,7 +20,7 @@ use crate::head::BlockHead;
 use crate::heads::{block_head, end_of_block, or_memory_fault, shuts};
 use crate::running::{buffered_item, buffered_record};
 use crate::with_first::WithFirst;
-use bit_abbrev::{Abbrev, InForce, InfoTable, SharedInfo};
+use bit_abbrev::{Definition, InForce, InfoTable, SharedInfo};
 use bit_fields::{BitReader, Buffered, Fault, Limits, Reason, Source, ValueTaker};
 use std::alloc::{AllocError, Global};
 
@@ -205,7 +206,6 @@ impl Machine {
     /// Reads a definition in the innermost block, after its id, which began at `first`.
     fn define<S: Source>(
         &mut self,
-        alloc: Global,
         reader: &mut BitReader<S>,
         limits: &Limits,
         first: u64,
@@ -222,7 +222,7 @@ impl Machine {
         let Some(frame) = self.frames.last_mut() else {
             unreachable!();
         };
-        let after = define(alloc, reader, limits.shapes(), frame, first)?;
+        let after = define(reader, limits.shapes(), frame, first)?;
         Ok(Step::Define { first, after })
     }
 
@@ -391,7 +391,7 @@ impl Machine {
         if id == 1 {
             return self.open_nested(alloc, reader, limits, first);
         }
-        self.define(alloc, reader, limits, first)
+        self.define(reader, limits, first)
     }
 
     /// Reads one item of the innermost block, or its end.
@@ -516,8 +516,8 @@ impl Machine {
 
     /// The last definition in the list to which the innermost block adds one.
     #[tactic(auto, using(crate::proofs::Stepping::newest_is))]
-    pub(crate) fn newest(&self) -> Option<&Abbrev>
-        ensures { option_copied result ≡ newest (frames_shown self.now.frames.items) }
+    pub(crate) fn newest(&self) -> Option<Definition<'_>>
+        ensures { lent_ops result ≡ newest (frames_shown self.now.frames.items) }
     {
         match self.frames.last() {
             Some(frame) => frame.newest(),

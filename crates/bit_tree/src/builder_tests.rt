@@ -1,7 +1,7 @@
 use crate::MarkedBlocks;
 use crate::marked_builder::MarkedBuilder;
 use crate::tests::{agrees, definition};
-use bit_abbrev::Abbrev;
+use bit_abbrev::{Abbrev, Definition, InForce};
 use bit_events::Gatherer;
 use std::alloc::{AllocError, Global};
 use std::process::Abort;
@@ -35,7 +35,7 @@ fn give(
     alloc: Global,
     builder: &mut MarkedBuilder,
     row: &Row,
-    define: &Abbrev,
+    define: Definition<'_>,
 ) -> Result<(), AllocError> {
     match *row {
         Row::Enter {
@@ -60,7 +60,12 @@ fn give(
 }
 
 /// The marked blocks of these events.
-fn marked_of(alloc: Global, rows: &[Row], define: &Abbrev) -> Result<MarkedBlocks, AllocError> {
+fn marked_of(alloc: Global, rows: &[Row], define: Abbrev) -> Result<MarkedBlocks, AllocError> {
+    let mut definitions = InForce::new(alloc);
+    definitions.define(define)?;
+    let Some(define) = definitions.get(0) else {
+        return Err(AllocError);
+    };
     let mut builder = MarkedBuilder::new(alloc);
     for row in rows {
         give(alloc, &mut builder, row, define)?;
@@ -115,7 +120,7 @@ static MARKED: [Row; 9] = [
 static MARKED_TEXT: &str = "MarkedBlocks([\
     MarkedBlock { id: 0, width: 2, first: 32, body: 96, after: 160, items: MarkedItems([\
     Record(MarkedRecord { abbrev: 3, code: 1, values: Values([8]), first: 96, after: 116 }), \
-    Define(MarkedDefine { abbrev: Abbrev { ops: [Literal(1), Fixed(7)], usable: true, tail: Nothing }, first: 116, after: 141 })]) }, \
+    Define(MarkedDefine { abbrev: Abbrev { ops: [Literal(1), Fixed(7)], usable: true }, first: 116, after: 141 })]) }, \
     MarkedBlock { id: 8, width: 3, first: 160, body: 224, after: 352, items: MarkedItems([\
     Block(MarkedBlock { id: 9, width: 4, first: 224, body: 288, after: 320, items: MarkedItems([]) }), \
     Record(MarkedRecord { abbrev: 4, code: 1, values: Values([100]), first: 320, after: 330 })]) }])";
@@ -123,7 +128,7 @@ static MARKED_TEXT: &str = "MarkedBlocks([\
 /// What these events build, as text.
 fn told_of_marked(rt: &impl Abort, alloc: Global, rows: &[Row]) -> Result<String, AllocError> {
     let define = definition(rt, alloc);
-    let blocks = marked_of(alloc, rows, &define).expect(rt, "memory");
+    let blocks = marked_of(alloc, rows, define).expect(rt, "memory");
     format!(in alloc; "{blocks:?}")
 }
 

@@ -8,7 +8,7 @@ use crate::marked::{
     MarkedBlock, MarkedBlocks, MarkedDefine, MarkedItem, MarkedItems, MarkedRecord,
 };
 use crate::tree::Values;
-use bit_abbrev::Abbrev;
+use bit_abbrev::Definition;
 use bit_events::Gatherer;
 use std::alloc::{AllocError, Global};
 
@@ -87,7 +87,7 @@ impl Gatherer for MarkedBuilder {
         Ok(())
     }
 
-    fn define(&mut self, abbrev: &Abbrev, first: u64, after: u64) -> Result<(), AllocError> {
+    fn define(&mut self, abbrev: Definition<'_>, first: u64, after: u64) -> Result<(), AllocError> {
         let abbrev = abbrev.copy(self.alloc)?;
         let define = MarkedDefine {
             abbrev,

@@ -2,7 +2,7 @@
 
 use crate::ending::Ending;
 use crate::inputs::INPUT;
-use bit_abbrev::{Abbrev, Op, read_abbreviated, read_define};
+use bit_abbrev::{Abbrev, Definition, InForce, Op, read_abbreviated, read_define};
 use bit_events::{Event, Events};
 use bit_fields::{BitReader, Fault, Limits, Shapes, SliceSource};
 use std::alloc::Global;
@@ -59,7 +59,12 @@ fn copy(alloc: Global, definition: &Abbrev) -> Ending {
 }
 
 /// `read_abbreviated`: if an allocation fails, the values are those from before, and the reader has failed.
-fn record(reader: &mut Reader, definition: &Abbrev, first: u64, values: &mut Vec<u64>) -> Ending {
+fn record(
+    reader: &mut Reader,
+    definition: Definition<'_>,
+    first: u64,
+    values: &mut Vec<u64>,
+) -> Ending {
     if !definition.is_usable() {
         return Ending::Wrong;
     }
@@ -73,7 +78,7 @@ fn record(reader: &mut Reader, definition: &Abbrev, first: u64, values: &mut Vec
 }
 
 /// The same after the record's id, with a list that has a value.
-fn behind_a_value(alloc: Global, reader: &mut Reader, definition: &Abbrev) -> Ending {
+fn behind_a_value(alloc: Global, reader: &mut Reader, definition: Definition<'_>) -> Ending {
     let first = reader.position();
     let mut values = Vec::new(alloc);
     match (values.push(VALUES[0]), reader.fixed(3)) {
@@ -83,20 +88,23 @@ fn behind_a_value(alloc: Global, reader: &mut Reader, definition: &Abbrev) -> En
     }
 }
 
-/// Makes a call that needs a definition.
-fn by_definition(alloc: Global, reader: &mut Reader, definition: &Abbrev, letter: u8) -> Ending {
-    if letter == b'c' {
-        copy(alloc, definition)
-    } else {
-        behind_a_value(alloc, reader, definition)
+/// Reads the definition, and copies it.
+fn copied(alloc: Global, reader: &mut Reader) -> Ending {
+    match read_define(alloc, reader, Shapes::AtDefinition) {
+        Ok(definition) => copy(alloc, &definition),
+        Err(_) => Ending::Unready,
     }
 }
 
-/// Reads the definition, and makes a call that needs it.
-fn with_definition(alloc: Global, reader: &mut Reader, letter: u8) -> Ending {
-    match read_define(alloc, reader, Shapes::AtDefinition) {
-        Ok(definition) => by_definition(alloc, reader, &definition, letter),
-        Err(_) => Ending::Unready,
+/// Reads the definition, and a record by it.
+fn by_definition(alloc: Global, reader: &mut Reader) -> Ending {
+    let mut definitions = InForce::new(alloc);
+    if definitions.read_define(reader, Shapes::AtDefinition).is_err() {
+        return Ending::Unready;
+    }
+    match definitions.get(0) {
+        Some(definition) => behind_a_value(alloc, reader, definition),
+        None => Ending::Wrong,
     }
 }
 
@@ -108,8 +116,10 @@ pub fn ask(alloc: Global, letter: u8) -> Ending {
                 Ending::Wrong
             } else if letter == b'd' {
                 define(alloc, &mut reader)
+            } else if letter == b'c' {
+                copied(alloc, &mut reader)
             } else {
-                with_definition(alloc, &mut reader, letter)
+                by_definition(alloc, &mut reader)
             }
         }
         Err(_) => Ending::Wrong,

@@ -6,6 +6,7 @@ use Rattle.bit_fields.specs.declared.fault.Fault.{Fault}
 use Rattle.bit_abbrev.specs.Values.{AddsWithin, Gains}
 use Rattle.bit_abbrev.proofs.Missing.{answers_so}
 use Rattle.bit_events.proofs.Framing.{plain_entry, short_entry, shapeless_entry, no_entry, added_as, fails_so}
+use Rattle.bit_abbrev.specs.HeldOps.{ops_in}
 use Rattle.bit_events.proofs.entry.read_entry.Goals as goal
 
 pub returns-then-id-eq3-clause-adds : goal.returns-then-id-eq3-clause-adds
@@ -39,13 +40,13 @@ returns-in_err-judge-2-clause-adds g c =
       before,
       t,
       fails_so (entry c.args.room c.args.first c.args.id (g.D.Lookup.listed c.args.definitions.now)) c.args.room (g.B.Bits.as_reader c.args.bits.now) fault (g.B.Bits.as_reader c.judge-2.new.self) before
-          (shapeless_entry c.args.room c.args.first c.args.id (g.D.Lookup.listed c.args.definitions.now) c.in-Some.abbrev.now (g.B.Bits.as_reader c.args.bits.now) fault (g.B.Bits.as_reader c.judge-2.new.self) c.if-id-eq3.false (sym c.in-Some.ensures) (judged fault stands)),
+          (shapeless_entry c.args.room c.args.first c.args.id (g.D.Lookup.listed c.args.definitions.now) (ops_in c.in-Some.abbrev.held.now) (g.B.Bits.as_reader c.args.bits.now) fault (g.B.Bits.as_reader c.judge-2.new.self) c.if-id-eq3.false (sym c.in-Some.ensures) (judged fault stands)),
     ))
 
 pub returns-clause-adds : goal.returns-clause-adds
 returns-clause-adds g c =
     let room = c.args.room in
-    let ops = c.in-Some.abbrev.now in
+    let ops = ops_in c.in-Some.abbrev.held.now in
     let a = g.B.Bits.as_reader c.args.bits.now in
     let b = g.B.Bits.as_reader c.read_record.new.bits in
     let took = g.V.ValueTaker.took in

@@ -7,8 +7,4 @@ returns-in-Some-clause-lawful c =
     (λ e. absurd cc, λ h. absurd (not_lawful c.as_slice.result.now c.in-Some.at c.in-Some.reason c.in-Some.ensures.found (rw c.as_slice.ensures h)))
 
 pub invariant_of-result : goal.invariant_of-result
-invariant_of-result c =
-    let lawful = rw c.as_slice.ensures at c.in-None.ensures.none in
-    let h = of_lawful c.args.ops.items lawful in
-    let tail = rw c.as_slice-in-None.ensures at c.tail_of-tail.ensures in
-    (h.0, h.1, λ yes. tail lawful)
+invariant_of-result c = of_lawful c.args.ops.items (rw c.as_slice.ensures at c.in-None.ensures.none)

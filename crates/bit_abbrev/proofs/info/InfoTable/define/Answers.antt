@@ -1,23 +1,13 @@
-use Rattle.std.proofs.Common.{◌∙◌, [], ap, refl}
-use Rattle.std.proofs.lemmas.Result.{err_from_is_err_and}
-use Rattle.bit_abbrev.specs.Table.{table_shown}
-use Rattle.bit_abbrev.proofs.Table.{found_at, none_at, kept, defined}
+use Rattle.bit_abbrev.specs.Table.{lists_of}
+use Rattle.bit_abbrev.proofs.Table.{defined, holds_more}
 use Rattle.bit_abbrev.proofs.info.InfoTable.define.Goals as goal
 
-pub returns-in_err-push-clause-err : goal.returns-in_err-push-clause-err
-returns-in_err-push-clause-err c =
-    let failed = err_from_is_err_and c.from_residual.result c.from_residual.ensures.1 in
-    rw failed.1 (ap table_shown (c.get_mut.follows.holds c.push.new.self).0 ∙ kept c.self.inside.lists.entries c.args.id c.in-Some.list.now c.push.new.self c.in-Some.ensures.value c.in_err-push.ensures.items ∙ c.self.view_is)
+pub invariant_of-self-in-Ok : goal.invariant_of-self-in-Ok
+invariant_of-self-in-Ok c =
+    let grows = c.in_ok-head.ensures.grows in
+    (rw grows.1 (holds_more c.self.inside.ops.held.items grows.0 (lists_of c.self.inside.again.entries c.self.inside.heads.items c.self.inside.runs.entries) (lists_of c.put.new.again.entries c.put.new.heads.items c.put.new.runs.entries) c.args.id c.in_ok-head.head c.self.invariant.0 (rw grows.1 at c.in_ok-head.ensures.held) c.in-Ok.ensures.ok), c.put.ensures.runs)
 
-pub returns-in-Some-clause-ok : goal.returns-in-Some-clause-ok
-returns-in-Some-clause-ok c =
-    let writes = c.get_mut.follows.holds c.push.new.self in
-    let found = found_at c.self.inside.lists.entries c.args.id c.in-Some.list.now c.in-Some.ensures.value in
-    rw (← c.self.view_is) (defined c.self.inside.lists.entries (c.get_mut.follows.lender c.push.new.self).entries c.args.id c.args.abbrev c.in-Some.list.now.items c.push.new.self ((writes.3 (rw (← c.in-Some.ensures.value) refl)).0) found c.in_ok-push.ensures.items)
-
-pub returns-clause-ok : goal.returns-clause-ok
-returns-clause-ok c =
-    let found = none_at c.self.inside.lists.entries c.args.id c.in_default.ensures.value in
-    let puts = rw c.get_mut.follows.holds-at-none at c.in_ok-insert.ensures.updates.0 in
-    let items = rw c.new-list.ensures.items at c.in_ok-push-2.ensures.items in
-    rw (← c.self.view_is) (defined c.self.inside.lists.entries c.insert.new.self.entries c.args.id c.args.abbrev [] c.push-2.new.self puts found items)
+pub returns-in-Ok-clause-ok : goal.returns-in-Ok-clause-ok
+returns-in-Ok-clause-ok c =
+    let grows = c.in_ok-head.ensures.grows in
+    rw (← c.self.view_is, ← c.in_ok-head.ensures.ok, grows.1) (defined c.self.inside.ops.held.items grows.0 (lists_of c.self.inside.again.entries c.self.inside.heads.items c.self.inside.runs.entries) (lists_of c.put.new.again.entries c.put.new.heads.items c.put.new.runs.entries) c.args.id c.in_ok-head.head c.self.invariant.0 c.in-Ok.ensures.ok)

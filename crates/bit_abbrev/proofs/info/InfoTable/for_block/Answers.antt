@@ -1,11 +1,7 @@
-use Rattle.std.proofs.Common.{◌∙◌, sym}
-use Rattle.bit_abbrev.proofs.Table.{found_at, none_at}
+use Rattle.std.proofs.Common.{sym}
+use Rattle.bit_abbrev.specs.Table.{lists_of}
+use Rattle.bit_abbrev.proofs.Table.{shown_at}
 use Rattle.bit_abbrev.proofs.info.InfoTable.for_block.Goals as goal
 
-pub returns-in-Some : goal.returns-in-Some
-returns-in-Some c =
-    rw (← c.self.view_is) (c.as_slice.ensures.value ∙ sym (found_at c.self.inside.lists.entries c.args.id c.in-Some.list.now c.in-Some.ensures.value))
-
-pub returns-in-None : goal.returns-in-None
-returns-in-None c =
-    rw (← c.self.view_is) (sym (none_at c.self.inside.lists.entries c.args.id c.in-None.ensures.value))
+pub returns : goal.returns
+returns c = rw (c.as_slice.ensures.value, c.heads_for.ensures, c.deref.ensures.value, ← c.self.view_is) (sym (shown_at c.self.inside.ops.held.items (lists_of c.self.inside.again.entries c.self.inside.heads.items c.self.inside.runs.entries) c.args.id))

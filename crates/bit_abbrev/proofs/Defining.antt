@@ -1,6 +1,7 @@
 -- Reading the operands of a definition, one after another.
-use Rattle.std.proofs.Common.{◌≡◌, ℕ, suc, ◌+◌, ◌-◌, ◌<◌, ◌≤◌, true, List, [], ◌∷◌, ◌++◌, length, Result, Ok, Err, refl, sym, ap, subst, arith, append_assoc}
+use Rattle.std.proofs.Common.{◌≡◌, ℕ, suc, ◌+◌, ◌-◌, ◌<◌, ◌≤◌, true, List, [], ◌∷◌, ◌++◌, length, Result, Ok, Err, refl, sym, ap, subst, arith, append_assoc, ◌∙◌}
 use Rattle.std.proofs.lemmas.List.{append-nil, length-append}
+use Rattle.std.proofs.Math.Seq.{drop-append_seam}
 use Rattle.std.specs.List.{AllByRecursion}
 use Rattle.bit_grammar.specs.declared.shapes.Shapes.{Shapes}
 use Rattle.bit_grammar.specs.declared.op.Op.{Op}
@@ -15,6 +16,7 @@ use Rattle.bit_fields.specs.declared.fault.Fault.{Fault}
 use Rattle.bit_fields.specs.declared.fault.Fault.TheVariants.{Memory}
 use Rattle.bit_fields.specs.Reader.{Reader, Took, Why, Takes, told_by, failed_reader}
 use Rattle.bit_fields.proofs.Composing.{fault_then, took_then, took_nothing, from_here}
+use Rattle.bit_abbrev.specs.Lists.{added}
 use Rattle.bit_abbrev.proofs.Adding.{and_gives, memory_after}
 
 -- an operand that may not be there
@@ -98,3 +100,7 @@ is_done shapes count a done place b ops most h =
 
 pub all_definable : (shapes : Shapes) (count : ℕ) (a : Reader) (done : ℕ) (place : Place) (b : Reader) (ops : List Op) → 0 < count → count ≤ done → Defines shapes count a done place b ops → Definable ops
 all_definable shapes count a done place b ops some most h = record { some = omega (arith, some, most, h.length_is); values = h.values }
+
+-- what was added to a list
+pub added_is : (before more after : List Op) → after ≡ before ++ more → added before after ≡ more
+added_is before more after is = ap (added before) is ∙ drop-append_seam before more
