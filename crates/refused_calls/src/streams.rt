@@ -99,7 +99,10 @@ fn copied(alloc: Global, reader: &mut Reader) -> Ending {
 /// Reads the definition, and a record by it.
 fn by_definition(alloc: Global, reader: &mut Reader) -> Ending {
     let mut definitions = InForce::new(alloc);
-    if definitions.read_define(reader, Shapes::AtDefinition).is_err() {
+    if definitions
+        .read_define(reader, Shapes::AtDefinition)
+        .is_err()
+    {
         return Ending::Unready;
     }
     match definitions.get(0) {
