@@ -7,6 +7,7 @@ pub mod Taking
 pub mod Defining
 pub mod Shapes
 pub mod Records
+pub mod Ordered
 mod Several
 pub mod Buffered
 pub mod Missing

@@ -1,56 +1,33 @@
--- The table of the definitions that BLOCKINFO blocks make, as the list of its entries.
-use Rattle.std.specs.Prelude.{◌≡◌, ℕ, ◌==◌, ◌+◌, ◌≤◌, List, [], ◌∷◌, ◌++◌, length, drop, map, nat_eq, slice_range, unwrap_or, Option, Some, None, if◌then◌else◌}
-use Rattle.std.specs.Map.{lookup}
-use Rattle.std.specs.Global.{Vec}
+-- The table of the definitions that BLOCKINFO blocks make, in order, each with the id of the blocks that it is for.
+use Rattle.std.specs.Prelude.{ℕ, ◌≤◌, List, length, map, nat_eq, slice_range}
+use Rattle.std.specs.List.{filter}
+use Rattle.std.specs.List.Sorted.{IsNonDecreasingBy}
 use Rattle.bit_grammar.specs.declared.op.Op.{Op}
 use Rattle.bit_abbrev.specs.declared.head.Head.{Head}
 use Rattle.bit_abbrev.specs.declared.head.Run.{Run}
 use Rattle.bit_abbrev.specs.declared.held_op.HeldOp.{HeldOp}
-use Rattle.bit_abbrev.specs.Heads.{AreHeld, all_held}
+use Rattle.bit_abbrev.specs.Heads.{ops_of}
 
--- the definitions for a block id; none if it has no entry
-abbrev pub definitions_at : List (ℕ × List (List Op)) → ℕ → List (List Op)
-definitions_at table id = unwrap_or (lookup (nat_eq id) table) []
+-- the definitions for a block id
+abbrev pub definitions_at : List (ℕ × List Op) → ℕ → List (List Op)
+definitions_at table id = map (λ e. e.1) (filter (λ e. nat_eq id e.0) table)
+
+-- the table, if the operands stand in one list
+abbrev pub table_shown : (all : List HeldOp) → List Head → List (ℕ × List Op)
+table_shown all heads = map (λ h. (h.id, ops_of all h)) heads
 
 -- where the definitions for a block id are
-abbrev pub heads_at : List (ℕ × List Head) → ℕ → List Head
-heads_at lists id = unwrap_or (lookup (nat_eq id) lists) []
+abbrev pub heads_at : List Head → ℕ → List Head
+heads_at heads id = filter (λ h. nat_eq id h.id) heads
 
--- one more for a block id
-abbrev pub and_at : ℕ → Head → (ℕ → List Head) → ℕ → List Head
-and_at id head before other = if other == id then before other ++ head ∷ [] else before other
+-- the definitions are in the order of block ids
+abbrev pub InOrder : List (ℕ × List Op) → Type 0
+InOrder table = IsNonDecreasingBy (λ e. e.0) table
 
--- where the definitions of a run are
-abbrev pub run_of : List Head → Run → List Head
-run_of heads run = slice_range heads run.start run.end
+-- a run is in the table
+abbrev pub IsWithin : Run → List (ℕ × List Op) → Type 0
+IsWithin run table = (run.start ≤ run.end) × (run.end ≤ length table)
 
--- the entries of ids that were described again, and of the others
-abbrev pub lists_of : (again : List (ℕ × Vec Head)) → (heads : List Head) → (runs : List (ℕ × Run)) → List (ℕ × List Head)
-lists_of again heads runs = map (λ e. (e.0, e.1.items)) again ++ map (λ e. (e.0, run_of heads e.1)) runs
-
--- a run is in the list of all
-abbrev pub IsRun : (heads : List Head) → Option Run → Type 0
-IsRun heads None = Unit {0}
-IsRun heads (Some run) = (run.start ≤ run.end) × (run.end ≤ length heads)
-
-abbrev pub AreRuns : (heads : List Head) → List (ℕ × Run) → Type 0
-AreRuns heads runs = (id : ℕ) → IsRun heads (lookup (nat_eq id) runs)
-
--- the definitions from `start` are those of an id that was not described again
-abbrev pub IsFrom : (heads : List Head) → (runs : List (ℕ × Run)) → (id start : ℕ) → Type 0
-IsFrom heads runs id start = (again : List (ℕ × Vec Head)) → lookup (nat_eq id) again ≡ None
-    → heads_at (lists_of again heads runs) id ≡ drop start heads
-
--- One more definition is behind all others: it and those from `start` are then the run of an id.
-abbrev pub Extends : (heads : List Head) → (runs : List (ℕ × Run)) → (id start : ℕ) → Head → (more : List Head) → (new : List (ℕ × Run)) → Type 0
-Extends heads runs id start head more new = (more ≡ heads ++ head ∷ [])
-    × ((run : Run) × (run.start ≡ start) × (run.end ≡ length heads + 1)
-    × ((other : ℕ) → lookup (nat_eq other) new ≡ (if id == other then Some run else lookup (nat_eq other) runs)))
-
--- the definitions of the lists
-abbrev pub table_shown : (all : List HeldOp) → List (ℕ × List Head) → List (ℕ × List (List Op))
-table_shown all lists = map (λ e. (e.0, all_held all e.1)) lists
-
--- the operands of each definition are in the list of all
-abbrev pub HoldsTable : (all : List HeldOp) → List (ℕ × List Head) → Type 0
-HoldsTable all lists = (id : ℕ) → AreHeld all (heads_at lists id)
+-- the definitions of a run
+abbrev pub run_in : List (ℕ × List Op) → Run → List (List Op)
+run_in table run = map (λ e. e.1) (slice_range table run.start run.end)

@@ -1,6 +1,8 @@
-/// A definition among others: where its operands begin in the list of all, and where they end.
+/// A definition among others: the id of the block that it is for in a table, and 0 in a block; where its operands begin in the list
+/// of all, and where they end.
 #[derive(Clone, Copy, Drop)]
 pub(crate) struct Head {
+    pub(crate) id: u32,
     pub(crate) start: u32,
     pub(crate) end: u32,
 }
@@ -8,6 +10,6 @@ pub(crate) struct Head {
 /// Definitions one after another among others: the index of the first one, and the index after the last one.
 #[derive(Clone, Copy, Drop)]
 pub(crate) struct Run {
-    pub(crate) start: u32,
-    pub(crate) end: u32,
+    pub(crate) start: usize,
+    pub(crate) end: usize,
 }

@@ -5,6 +5,7 @@ ghost use Rattle.bit_grammar.specs.Definition.{definition};
 ghost use Rattle.bit_fields.specs.Reader.{Takes, told_by};
 ghost use Rattle.bit_abbrev.specs.Heads.{IsHeld, ops_of};
 ghost use Rattle.bit_abbrev.specs.Held.{lent_ops};
+ghost use Rattle.bit_abbrev.specs.HeldOps.{ops_in};
 ghost use Rattle.bit_abbrev.specs.Lists.{Grows};
 
 use crate::Abbrev;
@@ -37,6 +38,18 @@ impl<'a> Model for Listed<'a> {
     ghost invariant = { λ list. AreHeld list.held.now list.heads.now };
 }
 
+/// The definition that is there.
+#[inline(always)]
+pub(crate) fn lent(held: &[HeldOp], head: Head) -> Definition<'_>
+    requires { IsHeld held.now head }
+    ensures { ops_in result.held.now ≡ ops_of held.now head }
+{
+    Definition {
+        held: &held[head.start as usize..head.end as usize],
+        last: held[head.end as usize],
+    }
+}
+
 impl<'a> Listed<'a> {
     /// How many there are.
     #[inline(always)]
@@ -52,10 +65,7 @@ impl<'a> Listed<'a> {
         ensures { lent_ops result ≡ slice_get self.now index }
     {
         match self.heads.get(index) {
-            Some(head) => Some(Definition {
-                held: &self.held[head.start as usize..head.end as usize],
-                last: self.held[head.end as usize],
-            }),
+            Some(head) => Some(lent(self.held, *head)),
             None => None,
         }
     }
@@ -71,28 +81,30 @@ impl<'a> Listed<'a> {
     }
 }
 
-/// Adds the operands of a definition to those of others, and returns where they are. If it fails, some may be added.
-fn add_all(ops: &mut HeldOps, abbrev: &Abbrev) -> Result<Head, AllocError>
+/// Adds the operands of a definition for a block id to those of others, and returns where they are. If it fails, some may be added.
+fn add_all(ops: &mut HeldOps, id: u32, abbrev: &Abbrev) -> Result<Head, AllocError>
     ensures grows { Grows ops.old.held.items ops.new.held.items }
     ensures held { IfOk result (IsHeld ops.new.held.items) }
+    ensures id { IfOk result (λ head. head.id ≡ id) }
     ensures ok { IfOk result (λ head. ops_of ops.new.held.items head ≡ «abbrev».now) }
 {
     ops.begin();
     for op in abbrev.ops() {
         ops.take(*op)?;
     }
-    ops.end()
+    ops.end(id)
 }
 
-/// Adds the operands of a definition to those of others, and returns where they are. If it fails, none are added.
-pub(crate) fn add(ops: &mut HeldOps, abbrev: &Abbrev) -> Result<Head, AllocError>
+/// Adds the operands of a definition for a block id to those of others, and returns where they are. If it fails, none are added.
+pub(crate) fn add(ops: &mut HeldOps, id: u32, abbrev: &Abbrev) -> Result<Head, AllocError>
     ensures grows { Grows ops.old.held.items ops.new.held.items }
     ensures held { IfOk result (IsHeld ops.new.held.items) }
+    ensures id { IfOk result (λ head. head.id ≡ id) }
     ensures ok { IfOk result (λ head. ops_of ops.new.held.items head ≡ «abbrev».now) }
     ensures err { OnErr result (ops.new.held.items ≡ ops.old.held.items) }
 {
     let before = ops.held.len();
-    match add_all(ops, abbrev) {
+    match add_all(ops, id, abbrev) {
         Ok(head) => Ok(head),
         Err(refused) => {
             ops.restore(before);
@@ -107,18 +119,20 @@ pub(crate) fn read_held<S: Source>(
     reader: &mut BitReader<S>,
     shapes: Shapes,
     ops: &mut HeldOps,
+    id: u32,
 ) -> Result<Head, Fault>
     ensures takes { Takes (definition shapes) reader.old
         (told_by (ops_of ops.new.held.items) result) reader.new }
     ensures grows { Grows ops.old.held.items ops.new.held.items }
     ensures held { IfOk result (IsHeld ops.new.held.items) }
+    ensures id { IfOk result (λ head. head.id ≡ id) }
 {
     let first = reader.position();
     ops.begin();
     if let Err(fault) = read_definition(reader, shapes, ops) {
         return Err(reader.fail_at(fault, first));
     }
-    match ops.end() {
+    match ops.end(id) {
         Ok(head) => Ok(head),
         Err(_) => Err(reader.fail(Fault::Memory)),
     }

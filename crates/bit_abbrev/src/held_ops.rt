@@ -99,11 +99,12 @@ impl HeldOps {
         self.held.truncate(before);
     }
 
-    /// Ends a definition, and returns where it is. More than 2^32 operands in all count as out of memory.
-    pub(crate) fn end(&mut self) -> Result<Head, AllocError>
+    /// Ends a definition for a block id, and returns where it is. More than 2^32 operands in all count as out of memory.
+    pub(crate) fn end(&mut self, id: u32) -> Result<Head, AllocError>
         requires { Definable (ops_in (drop self.old.start self.old.held.items)) }
         ensures grows { Grows self.old.held.items self.new.held.items }
         ensures held { IfOk result (IsHeld self.new.held.items) }
+        ensures id { IfOk result (λ head. head.id ≡ id) }
         ensures ok { IfOk result (λ head. ops_of self.new.held.items head
             ≡ ops_in (drop self.old.start self.old.held.items)) }
     {
@@ -115,6 +116,7 @@ impl HeldOps {
         let last = last_of(&self.held[start..]);
         self.held.push(last)?;
         Ok(Head {
+            id,
             start: start as u32,
             end: end as u32,
         })

@@ -1,12 +1,12 @@
 //! The table that blocks share, and the definitions in force in a block.
 
-ghost use Rattle.std.specs.Prelude.{◌≡◌, ◌-◌, ◌++◌, [], ◌∷◌, IfOk, OnOk, OnErr, length, slice_get};
+ghost use Rattle.std.specs.Prelude.{◌≡◌, ◌-◌, ◌++◌, ℕ, [], ◌∷◌, IfOk, OnOk, OnErr, length, slice_get};
 ghost use Rattle.bit_grammar.specs.Definition.{definition};
 ghost use Rattle.bit_abbrev.specs.Held.{lent_ops};
 ghost use Rattle.bit_abbrev.specs.Putting.{Puts};
-ghost use Rattle.bit_abbrev.specs.Table.{definitions_at};
+ghost use Rattle.bit_abbrev.specs.Table.{definitions_at, IsWithin};
 
-use crate::head::Head;
+use crate::head::{Head, Run};
 use crate::held::{Listed, add, read_held};
 use crate::held_ops::HeldOps;
 use crate::{Abbrev, Definition, InfoTable};
@@ -16,22 +16,23 @@ use std::alloc::{AllocError, Global};
 use std::marker::Model;
 use std::rc::Rc;
 
-/// A finished table. The blocks that are entered under it share it.
+/// A finished table, in the order of block ids. The blocks that are entered under it share it.
 #[derive(Drop)]
 pub struct SharedInfo {
     table: Option<Rc<InfoTable>>,
 }
 
 impl Model for SharedInfo {
-    ghost use Rattle.std.specs.Prelude.{ℕ, List};
-    ghost use Rattle.bit_grammar.specs.declared.op.Op.{Op};
-
-    ghost Value = { List (ℕ × List (List Op)) };
-
-    ghost use Rattle.std.specs.Prelude.{[]};
+    ghost use Rattle.std.specs.Prelude.{ℕ, List, [], IfSome};
     ghost use Rattle.std.specs.Option.{option_map_or};
+    ghost use Rattle.bit_grammar.specs.declared.op.Op.{Op};
+    ghost use Rattle.bit_abbrev.specs.Table.{InOrder};
+
+    ghost Value = { List (ℕ × List Op) };
 
     ghost view = { λ shared. option_map_or (λ rc. rc.value) shared.table [] };
+
+    ghost invariant = { λ shared. IfSome shared.table (λ rc. InOrder rc.value) };
 }
 
 impl SharedInfo {
@@ -44,9 +45,10 @@ impl SharedInfo {
 
     /// Shares a finished table. If an allocation fails, the table is dropped.
     pub fn share(alloc: Global, table: InfoTable) -> Result<SharedInfo, AllocError>
-        ensures { IfOk result (λ shared. shared ≡ table) }
+        ensures { IfOk result (λ shared. (id : ℕ)
+            → definitions_at shared id ≡ definitions_at table.entry id) }
     {
-        let table = Rc::new(alloc, table)?;
+        let table = Rc::new(alloc, table.in_order()?)?;
         Ok(SharedInfo { table: Some(table) })
     }
 
@@ -58,22 +60,33 @@ impl SharedInfo {
         let Some(table) = &self.table else {
             return Ok(InForce::new(alloc));
         };
-        if table.for_block(id).len() == 0 {
+        let run = table.run_of(id);
+        if run.start == run.end {
             return Ok(InForce::new(alloc));
         }
         Ok(InForce {
-            shared: Some((table.clone()?, id)),
+            shared: Some(FromTable {
+                table: table.clone()?,
+                run,
+            }),
             heads: Vec::new(alloc),
             ops: HeldOps::new(alloc),
         })
     }
 }
 
+/// The definitions that a block has from a table.
+#[derive(Drop)]
+struct FromTable {
+    table: Rc<InfoTable>,
+    run: Run,
+    ghost within: { IsWithin run table.value },
+}
+
 /// The definitions in force in a block: first those of the table, then the block's own.
 #[derive(Drop)]
 pub struct InForce {
-    /// The table, and the id of the block.
-    shared: Option<(Rc<InfoTable>, u32)>,
+    shared: Option<FromTable>,
     /// The block's own definitions, and the operands of all of them.
     heads: Vec<Head>,
     ops: HeldOps,
@@ -84,11 +97,11 @@ impl Model for InForce {
     ghost use Rattle.std.specs.Option.{option_map_or};
     ghost use Rattle.bit_grammar.specs.declared.op.Op.{Op};
     ghost use Rattle.bit_abbrev.specs.Heads.{AreHeld, all_held};
-    ghost use Rattle.bit_abbrev.specs.Table.{definitions_at};
+    ghost use Rattle.bit_abbrev.specs.Table.{run_in};
 
     ghost Value = { List (List Op) };
 
-    ghost view = { λ inside. option_map_or (λ shared. definitions_at shared.0.value shared.1) inside.shared
+    ghost view = { λ inside. option_map_or (λ shared. run_in shared.table.value shared.run) inside.shared
         [] ++ all_held inside.ops.held.items inside.heads.items };
 
     ghost invariant = { λ inside. AreHeld inside.ops.held.items inside.heads.items };
@@ -183,7 +196,7 @@ impl InForce {
         ensures ok { OnOk result (self.new ≡ self.old ++ «abbrev» ∷ []) }
         ensures err { OnErr result (self.new ≡ self.old) }
     {
-        let head = add(&mut self.ops, &abbrev)?;
+        let head = add(&mut self.ops, 0, &abbrev)?;
         self.heads.push(head)?;
         Ok(())
     }
@@ -197,7 +210,7 @@ impl InForce {
         ensures puts { Puts (definition shapes) reader.old result reader.new
             (λ ops. self.new ≡ self.old ++ ops ∷ []) }
     {
-        let head = read_held(reader, shapes, &mut self.ops)?;
+        let head = read_held(reader, shapes, &mut self.ops, 0)?;
         match self.heads.push(head) {
             Ok(()) => {}
             Err(_) => return Err(reader.fail(Fault::Memory)),
@@ -215,7 +228,7 @@ impl InForce {
             held: self.ops.held.as_slice(),
         };
         let shared = match &self.shared {
-            Some((table, id)) => table.for_block(*id),
+            Some(shared) => shared.table.listed(shared.run),
             None => Listed {
                 heads: &[],
                 held: &[],

@@ -43,7 +43,7 @@ pub use bits::{Bits, NotBuffered};
 pub use definition::read_define;
 pub use held::Listed;
 pub use in_force::{Definitions, InForce, Lookup, SharedInfo};
-pub use info::InfoTable;
+pub use info::{ForBlock, InfoTable};
 pub use laws::lawful_unbroken;
 pub use lent::Definition;
 pub use operands::Operands;
