@@ -1,7 +1,9 @@
 -- The table, in the order of its definitions and in that of block ids.
-use Rattle.std.proofs.Common.{◌≡◌, ℕ, ◌+◌, ◌-◌, ◌<◌, ◌≤◌, Bool, true, false, List, [], ◌∷◌, ◌++◌, refl, sym, ap, ◌∙◌, inl, inr, cond, nat_eq, arith, length, map, take, drop, subst, slice_range, slice_get, None}
+use Rattle.std.proofs.Common.{◌≡◌, ℕ, ◌+◌, ◌-◌, ◌<◌, ◌≤◌, Bool, true, false, List, [], ◌∷◌, ◌++◌, refl, sym, ap, ◌∙◌, inl, inr, cond, nat_eq, arith, length, map, take, drop, subst, slice_range, slice_get, None, Some, suc, get_or}
 use Rattle.std.specs.List.{filter}
-use Rattle.std.proofs.lemmas.List.{map-append, append-nil}
+use Rattle.std.proofs.Math.Seq.{take-suc}
+use Rattle.std.proofs.lemmas.List.{map-append, append-nil, length-append, get_or_push}
+use Rattle.std.proofs.lemmas.Option.{slice_get-get_or}
 use Rattle.std.proofs.lemmas.Bool.{cases_eq, eq-eqb, ne_eqb}
 use Rattle.bit_grammar.specs.declared.op.Op.{Op}
 use Rattle.bit_grammar.specs.Terms.{defined_at}
@@ -66,3 +68,15 @@ heads_other head others id differ = ap (λ (b : Bool). cond b (head ∷ heads_at
 pub none_left : (left : List Head) (id before : ℕ) → length left < 1 → slice_get (heads_at left id) before ≡ None
 none_left [] id before few = refl
 none_left (h ∷ left) id before few = absurd (omega (arith, few))
+
+last_one : {X : Type 0} → (xs : List X) (x : X) → slice_get (xs ++ x ∷ []) (length (xs ++ x ∷ []) - 1) ≡ Some x
+last_one xs x =
+    let one : length (xs ++ x ∷ []) ≡ length xs + 1 = length-append xs (x ∷ []) in
+    slice_get-get_or (xs ++ x ∷ []) (length (xs ++ x ∷ []) - 1) x (omega (arith, one)) ∙ ap Some (get_or_push xs x x (length (xs ++ x ∷ []) - 1) (omega (arith, one)))
+
+-- the last definition for an id
+pub last_at : (all : List HeldOp) (heads : List Head) (end : ℕ) (id : ℕ) (head : Head) → end < length heads → head ≡ get_or heads end head → head.id ≡ id → heads_at heads id ≡ heads_at (take (suc end) heads) id → slice_get (all_held all (heads_at heads id)) (length (all_held all (heads_at heads id)) - 1) ≡ Some (ops_of all head)
+last_at all heads end id head within at is from =
+    let here : heads_at heads id ≡ (heads_at (take end heads) id ++ head ∷ []) = from ∙ ap (λ (l : List Head). heads_at l id) (take-suc heads end head within ∙ ap (λ (h : Head). take end heads ++ h ∷ []) (sym at)) ∙ heads_and_one (take end heads) head id ∙ ap (λ (b : Bool). heads_at (take end heads) id ++ cond b (head ∷ []) []) (eq-eqb id head.id (sym is)) in
+    let shown : all_held all (heads_at heads id) ≡ (all_held all (heads_at (take end heads) id) ++ ops_of all head ∷ []) = ap (all_held all) here ∙ map-append (ops_of all) (heads_at (take end heads) id) (head ∷ []) in
+    rw shown (last_one (all_held all (heads_at (take end heads) id)) (ops_of all head))

@@ -46,7 +46,7 @@ impl SharedInfo {
     /// Shares a finished table. If an allocation fails, the table is dropped.
     pub fn share(alloc: Global, table: InfoTable) -> Result<SharedInfo, AllocError>
         ensures { IfOk result (λ shared. (id : ℕ)
-            → definitions_at shared id ≡ definitions_at table.entry id) }
+            → definitions_at shared id ≡ definitions_at table id) }
     {
         let table = Rc::new(alloc, table.in_order()?)?;
         Ok(SharedInfo { table: Some(table) })

@@ -38,7 +38,7 @@ put_own f definitions rule a (Ok x) b is puts = (puts.0, puts.1, λ handed. rw (
 put_own f definitions rule a (Err fault) b is why = why
 
 -- one more definition for the described block
-pub put_described : (f : Frame) (d : Describing) (id : ℕ) (made : List (ℕ × List (List Op))) (rule : Grammar (List Op)) (a : Reader) (result : Result (Unit {0}) Fault) (b : Reader) → f.info ≡ Some d → d.described ≡ Some id
+pub put_described : (f : Frame) (d : Describing) (id : ℕ) (made : List (ℕ × List Op)) (rule : Grammar (List Op)) (a : Reader) (result : Result (Unit {0}) Fault) (b : Reader) → f.info ≡ Some d → d.described ≡ Some id
     → Puts rule a result b (λ ops. (other : ℕ) → definitions_at made other ≡ defined_at id ops (definitions_at d.made) other)
     → Puts rule a result b (λ ops. (handed : Handed) → scope_of (frame_shown (record f { info = Some (record d { made = made }) })) handed ≡ defined (info_shown f.info) ops (scope_of (frame_shown f) handed))
 put_described f d id made rule a (Ok x) b is described puts =
