@@ -184,7 +184,7 @@ fn weigh_record(
 
 /// Takes the next event of the first input, or the end of its stream, and compares it with a sign. What comes before it ended at
 /// `ended`.
-#[inline(always)]
+#[inline(never)]
 fn weigh_next(
     events: &mut SliceEvents<'_>,
     blocks: &mut OpenBlocks<'_>,
@@ -205,7 +205,6 @@ fn weigh_next(
 
 /// Takes the next kept sign of the first input, or the end of its stream, and compares it with this one. What comes before it ended
 /// at `ended`.
-#[inline(never)]
 fn next_beside(
     events: &mut SliceEvents<'_>,
     blocks: &mut OpenBlocks<'_>,
@@ -245,7 +244,10 @@ fn next_beside_record(
             Some(Weighed::Passed) => {}
             None => {
                 let sign = Sign::Record(code, values);
-                return next_beside(events, blocks, walk, ended, sign, apart);
+                match weigh_next(events, blocks, walk, ended, sign, apart)? {
+                    Weighed::Passed => {}
+                    Weighed::Stands(beside) => return Ok(beside),
+                }
             }
         }
     }

@@ -16,8 +16,8 @@ returns-in-Some-Stands c = λ tells.
     took_behind c.args.blocks.now blocks blocks s c.args.events.now c.events.events c.weigh_record.new.events sign c.in-Some-Stands.beside c.weigh_record.new.apart now.1
     (stepped blocks blocks s c.events.events c.weigh_record.new.events next.event sign (Stands c.in-Some-Stands.beside) c.weigh_record.new.apart next.gave (sym next.stays) (next.weighs c.args.ended) now.0)
 
-pub events-preserved : goal.events-preserved
-events-preserved c = λ tells.
+pub events-preserved-in-Some-Passed : goal.events-preserved-in-Some-Passed
+events-preserved-in-Some-Passed c = λ tells.
     let s = stand_of c.args.walk.now c.args.ended in
     let blocks = c.events.blocks in
     let sign = has_record c.args.code c.args.values.now in
