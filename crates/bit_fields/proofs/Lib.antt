@@ -24,3 +24,4 @@ pub mod Looking
 pub mod Unlike
 pub mod Standing
 pub mod Expecting
+pub mod Wides

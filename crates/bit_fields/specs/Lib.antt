@@ -12,4 +12,5 @@ pub mod Short
 pub mod Buffered
 pub mod BufferedParts
 pub mod Packed
+pub mod Wide
 pub mod Expected

@@ -11,8 +11,8 @@
 //! `BitReader::catch_up` takes what was read. `Buffered` judges nothing: it reads complete fields and declines the rest. Its clause
 //! (`Reads`) covers successes only. A reader of a slice lends its bits for as long as the slice lives (`parts_in_slice`).
 //!
-//! The values of a record go to a `ValueTaker`: `Vec<u64>` keeps them, `ValueCount` counts them, `PackedValues` keeps them in 1
-//! or 8 bytes each, and `ExpectedValues` compares them with another record's. `KeptSource` keeps the bytes that its source gives, and
+//! The values of a record go to a `ValueTaker`: `Vec<u64>` keeps them, `ValueCount` counts them, `PackedValues` keeps them in 1,
+//! 2 or 10 bytes each, and `ExpectedValues` compares them with another record's. `KeptSource` keeps the bytes that its source gives, and
 //! `FrontSource` gives only the first of them.
 //! `BitText` holds bits in memory: 32-bit words in chunks, which grow without a copy.
 #![tactic(auto)]
@@ -43,6 +43,7 @@ mod source;
 mod tests;
 mod text;
 mod values;
+mod wide;
 mod width;
 mod window;
 mod word;
@@ -69,6 +70,7 @@ pub use sink::{Sink, SinkFailed, VecSink, WriteSink};
 pub use source::{BufSource, ReadSource, SliceSource, Source, SourceFailed};
 pub use text::BitText;
 pub use values::{NotTaken, ValueCount, ValueTaker};
+pub use wide::WideSlice;
 pub use width::{ChunkWidth, FieldWidth};
 pub use writer::BitWriter;
 pub use writer_laws::{bytes_of_writing, write_nothing, write_then_stop, write_then_write};

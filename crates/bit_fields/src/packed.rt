@@ -6,21 +6,22 @@ ghost use Rattle.bit_fields.specs.Packed.{first_apart, StandAt};
 
 use crate::settled::{BATCH, SettledValues};
 use crate::values::{NotTaken, ValueTaker};
+use crate::wide::WideSlice;
 use std::alloc::Global;
 use std::marker::Model;
 
-/// Values in four parts, one after another: numbers, bytes, a count of zeros, and the last values as numbers.
-#[derive(Clone, Copy, Debug)]
+/// Values in four parts, one after another: wide ones, bytes, a count of zeros, and the last values as numbers.
+#[derive(Debug, Drop)]
 pub struct ValueParts<'a> {
-    pub numbers: &'a [u64],
+    pub wide: WideSlice<'a>,
     pub bytes: &'a [u8],
     pub zeros: u64,
     pub recent: &'a [u64],
 }
 
 /// The values of a record, packed to save memory. The last ones, at most 64, are in a buffer of 512 bytes. The values before them
-/// are packed 64 at a time: values up to the last batch that contains one above 255 take eight bytes each, and later ones take one,
-/// as those of a Blob or an Array of Char6. Zeros that were taken at once are counted; at the end they take no memory.
+/// are packed 64 at a time: values up to the last batch that contains one above 255 take two bytes each, or ten from 65,535 on, and
+/// later ones take one, as those of a Blob or an Array of Char6. Zeros that were taken at once are counted; at the end they take no memory.
 #[derive(Drop)]
 pub struct PackedValues {
     settled: SettledValues,
@@ -89,11 +90,11 @@ impl PackedValues {
     #[inline]
     pub fn parts(&self) -> ValueParts<'_>
         ensures { self.now
-            ≡ result.numbers.now ++ result.bytes.now ++ replicate result.zeros 0 ++ result.recent.now }
+            ≡ result.wide ++ result.bytes.now ++ replicate result.zeros 0 ++ result.recent.now }
     {
-        let (numbers, bytes, zeros) = self.settled.parts();
+        let (wide, bytes, zeros) = self.settled.parts();
         ValueParts {
-            numbers,
+            wide,
             bytes,
             zeros,
             recent: &self.recent[..self.held],
@@ -121,7 +122,7 @@ impl PackedValues {
     {
         let settled = self.settled.len();
         if place < settled {
-            return self.settled.numbers_from(place);
+            return &[];
         }
         let recent = &self.recent[..self.held];
         &recent[((place - settled) as usize).min(self.held)..]

@@ -49,7 +49,7 @@ fn has_parts(rt: &impl Abort, alloc: Global, count: u64, wanted: &str) {
 #[test]
 fn parts_of_values(rt: HostRuntime) {
     let alloc = rt.alloc();
-    let first = "8 ValueParts { numbers: [1, 256], bytes: [0, 0, 7], zeros: 3, recent: [] }";
+    let first = "8 ValueParts { wide: WideSlice { units: [1, 256], great: [] }, bytes: [0, 0, 7], zeros: 3, recent: [] }";
     assert!(rt;
         parts_told(alloc, 0)
             .expect(&rt, "memory")
@@ -60,25 +60,25 @@ fn parts_of_values(rt: HostRuntime) {
         &rt,
         alloc,
         7,
-        ", 8 ValueParts { numbers: [1, 256], bytes: [0, 0, 7], zeros: 2, recent: [9] }",
+        ", 8 ValueParts { wide: WideSlice { units: [1, 256], great: [] }, bytes: [0, 0, 7], zeros: 2, recent: [9] }",
     );
     has_parts(
         &rt,
         alloc,
         3,
-        ", 4 ValueParts { numbers: [1, 256], bytes: [0], zeros: 0, recent: [9] }",
+        ", 4 ValueParts { wide: WideSlice { units: [1, 256], great: [] }, bytes: [0], zeros: 0, recent: [9] }",
     );
     has_parts(
         &rt,
         alloc,
         1,
-        ", 2 ValueParts { numbers: [1], bytes: [], zeros: 0, recent: [9] }",
+        ", 2 ValueParts { wide: WideSlice { units: [1], great: [] }, bytes: [], zeros: 0, recent: [9] }",
     );
     has_parts(
         &rt,
         alloc,
         0,
-        ", 1 ValueParts { numbers: [], bytes: [], zeros: 0, recent: [9] }",
+        ", 1 ValueParts { wide: WideSlice { units: [], great: [] }, bytes: [], zeros: 0, recent: [9] }",
     );
 }
 
@@ -94,7 +94,7 @@ fn lengths(
     }
     let parts = values.parts();
     Ok((
-        parts.numbers.len(),
+        parts.wide.len(),
         parts.bytes.len(),
         parts.recent.len(),
         values.get(100),
@@ -206,11 +206,70 @@ fn lengths_behind(alloc: Global, as_slice: bool) -> Result<[usize; 3], NotTaken>
         take_all(&mut values, &[7; 300])?;
     }
     let parts = values.parts();
-    Ok([parts.numbers.len(), parts.bytes.len(), parts.recent.len()])
+    Ok([parts.wide.len(), parts.bytes.len(), parts.recent.len()])
 }
 
 #[test]
 fn bytes_are_packed_alike(rt: HostRuntime) {
     assert!(rt; lengths_behind(rt.alloc(), true) == Ok([64, 192, 45]));
     assert!(rt; lengths_behind(rt.alloc(), false) == Ok([64, 192, 45]));
+}
+
+/// Numbers that need their own eight bytes, among smaller ones: 300 of these.
+fn great_numbers() -> [u64; 300] {
+    let mut numbers = [7; 300];
+    for place in 0..300 {
+        if place % 3 == 0 {
+            numbers[place] = 65533 + place as u64;
+        }
+    }
+    numbers[299] = u64::MAX;
+    numbers
+}
+
+/// How many of these values are found at their places, and how many values there are.
+fn found(values: &PackedValues, numbers: &[u64]) -> (usize, u64) {
+    let right = numbers
+        .iter()
+        .enumerate()
+        .filter(|(place, number)| values.get(*place as u64) == Some(**number));
+    (right.count(), values.len())
+}
+
+/// The same after all were taken, and after only the first 100 were kept and the others were taken again; and the number of wide
+/// values with the first two of them.
+fn great_found(alloc: Global) -> Result<[(usize, u64); 3], NotTaken> {
+    let numbers = great_numbers();
+    let mut values = values_of(alloc, (&numbers, 0, &[]))?;
+    let all = found(&values, &numbers);
+    values.truncate(100);
+    let kept = found(&values, &numbers);
+    take_all(&mut values, &numbers[100..])?;
+    Ok([all, kept, found(&values, &numbers)])
+}
+
+#[test]
+fn great_values(rt: HostRuntime) {
+    let told = great_found(rt.alloc()).expect(&rt, "memory");
+    assert!(rt; told == [(300, 300), (100, 100), (300, 300)], "{told:?}");
+}
+
+/// The wide values, one by one: how many are right.
+fn wide_read(alloc: Global) -> Result<(usize, usize), NotTaken> {
+    let numbers = great_numbers();
+    let values = values_of(alloc, (&numbers, 0, &[]))?;
+    let mut wide = values.parts().wide;
+    let count = wide.len();
+    let mut right = 0;
+    while let Some(number) = wide.take_first() {
+        if number == numbers[count - wide.len() - 1] {
+            right += 1;
+        }
+    }
+    Ok((count, right))
+}
+
+#[test]
+fn wide_values_in_order(rt: HostRuntime) {
+    assert!(rt; wide_read(rt.alloc()) == Ok((256, 256)));
 }

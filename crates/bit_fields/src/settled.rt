@@ -5,6 +5,7 @@ ghost use Rattle.std.proofs.Math.ListN.{replicate};
 ghost use Rattle.bit_fields.specs.Packed.{StandAt};
 
 use crate::values::NotTaken;
+use crate::wide::{WideNumbers, WideSlice};
 use std::alloc::{AllocError, Global};
 use std::marker::Model;
 
@@ -17,11 +18,11 @@ const MOST: u64 = u64::MAX - BATCH as u64;
 /// How many numbers a cleared list may have room for; a larger list is freed.
 const ROOM: usize = 65536;
 
-/// Numbers. Those after the last batch with one above 255 take one byte each, and the others eight.
+/// Numbers. Those after the last batch with one above 255 take one byte each, and the others two or more.
 #[derive(Drop)]
 struct Numbers {
     alloc: Global,
-    wide: Vec<u64>,
+    wide: WideNumbers,
     bytes: Vec<u8>,
 }
 
@@ -30,31 +31,16 @@ impl Model for Numbers {
 
     ghost Value = { List ℕ };
 
-    ghost view = { λ n. n.wide.items ++ n.bytes.items };
+    ghost view = { λ n. n.wide ++ n.bytes.items };
 }
 
-/// Appends bytes as numbers.
-fn add_bytes(wide: &mut Vec<u64>, bytes: &[u8]) -> Result<(), AllocError>
-    ensures ok { OnOk result (wide.new.items ≡ wide.old.items ++ bytes.now) }
-    ensures err { OnErr result (take (length wide.old.items) wide.new.items ≡ wide.old.items) }
-{
-    for byte in bytes {
-        wide.push(u64::from(*byte))?;
-    }
-    Ok(())
-}
-
-/// Moves numbers of one byte each to those of eight.
+/// Moves numbers of one byte each to the wide ones.
 #[cold]
-fn widen(wide: &mut Vec<u64>, bytes: &mut Vec<u8>) -> Result<(), AllocError>
-    ensures same { wide.new.items ++ bytes.new.items ≡ wide.old.items ++ bytes.old.items }
+fn widen(wide: &mut WideNumbers, bytes: &mut Vec<u8>) -> Result<(), AllocError>
+    ensures same { wide.new ++ bytes.new.items ≡ wide.old ++ bytes.old.items }
     ensures all { OnOk result (bytes.new.items ≡ []) }
 {
-    let count = wide.len();
-    if let Err(error) = add_bytes(wide, bytes) {
-        wide.truncate(count);
-        return Err(error);
-    }
+    wide.push_bytes(bytes)?;
     bytes.clear();
     Ok(())
 }
@@ -80,7 +66,7 @@ impl Numbers {
     {
         Numbers {
             alloc,
-            wide: Vec::new(alloc),
+            wide: WideNumbers::new(alloc),
             bytes: Vec::new(alloc),
         }
     }
@@ -115,7 +101,7 @@ impl Numbers {
         if !self.bytes.is_empty() {
             widen(&mut self.wide, &mut self.bytes)?;
         }
-        self.wide.extend_from_slice(numbers)
+        self.wide.push_all(numbers)
     }
 
     /// Appends numbers of one byte each.
@@ -133,21 +119,12 @@ impl Numbers {
     {
         let place = place as usize;
         match self.wide.get(place) {
-            Some(number) => Some(*number),
+            Some(number) => Some(number),
             None => self
                 .bytes
                 .get(place - self.wide.len())
                 .map(|byte| u64::from(*byte)),
         }
-    }
-
-    /// Numbers from `place` on that take eight bytes each, possibly none.
-    #[inline]
-    fn wide_from(&self, place: u64) -> &[u64]
-        ensures { StandAt place result.now self.now }
-    {
-        let wide = self.wide.as_slice();
-        &wide[(place as usize).min(wide.len())..]
     }
 
     /// Numbers from `place` on that take one byte each, possibly none.
@@ -192,12 +169,12 @@ impl Numbers {
         ensures { self.new ≡ [] }
     {
         self.bytes = Vec::new(self.alloc);
-        self.wide = Vec::new(self.alloc);
+        self.wide = WideNumbers::new(self.alloc);
     }
 }
 
-/// Values that were packed in batches: eight bytes for each value up to the last batch that contains one above 255, and one byte
-/// for each later value. Zeros that were added at once at the end are only counted.
+/// Values that were packed in batches: two bytes or more for each value up to the last batch that contains one above 255, and one
+/// byte for each later value. Zeros that were added at once at the end are only counted.
 #[derive(Drop)]
 pub(crate) struct SettledValues {
     numbers: Numbers,
@@ -244,10 +221,10 @@ impl SettledValues {
         self.numbers.len()
     }
 
-    /// The values that are held in eight bytes each, those in a byte each, and how many zeros come after them.
+    /// The values that are wide, those in a byte each, and how many zeros come after them.
     #[inline]
-    pub(crate) fn parts(&self) -> (&[u64], &[u8], u64)
-        ensures { self.now ≡ result.0.now ++ result.1.now ++ replicate result.2 0 }
+    pub(crate) fn parts(&self) -> (WideSlice<'_>, &[u8], u64)
+        ensures { self.now ≡ result.0 ++ result.1.now ++ replicate result.2 0 }
     {
         let zeros = self.count - self.numbers.len();
         (
@@ -263,7 +240,7 @@ impl SettledValues {
     {
         self.count == other.count
             && self.numbers.bytes == other.numbers.bytes
-            && self.numbers.wide == other.numbers.wide
+            && self.numbers.wide.is(&other.numbers.wide)
     }
 
     /// The value at `place`, if there is one.
@@ -275,14 +252,6 @@ impl SettledValues {
             return self.numbers.get(place);
         }
         if place < self.count { Some(0) } else { None }
-    }
-
-    /// Values from `place` on that are held in eight bytes each, possibly none.
-    #[inline]
-    pub(crate) fn numbers_from(&self, place: u64) -> &[u64]
-        ensures { StandAt place result.now self.now }
-    {
-        self.numbers.wide_from(place)
     }
 
     /// Values from `place` on that are held in a byte each, possibly none.

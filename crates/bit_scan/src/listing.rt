@@ -11,7 +11,7 @@ ghost use Rattle.bit_scan.specs.Printing.{Prints};
 
 use crate::printer::Printer;
 use bit_events::{Event, OpenBlocks, PackedEvent, SliceEvents};
-use bit_fields::{Fault, Limits, PackedValues, Sink, SliceSource, ValueTaker};
+use bit_fields::{Fault, Limits, PackedValues, Sink, SliceSource, ValueTaker, WideSlice};
 use bit_grammar::Info;
 use std::alloc::Global;
 
@@ -35,6 +35,16 @@ fn write_numbers<K: Sink>(printer: &mut Printer<K>, numbers: &[u64]) -> Result<(
     Ok(())
 }
 
+/// Writes wide values.
+fn write_wide<K: Sink>(printer: &mut Printer<K>, mut values: WideSlice<'_>) -> Result<(), Fault>
+    ensures { Prints (values_text values) printer.old result printer.new }
+{
+    while let Some(value) = values.take_first() {
+        printer.value(value)?;
+    }
+    Ok(())
+}
+
 /// Writes `count` values that are zero.
 fn write_zeros<K: Sink>(printer: &mut Printer<K>, count: u64) -> Result<(), Fault>
     ensures { Prints (values_text (replicate count 0)) printer.old result printer.new }
@@ -51,7 +61,7 @@ fn write_parts<K: Sink>(printer: &mut Printer<K>, values: &PackedValues) -> Resu
     ensures { Prints (values_text values.now) printer.old result printer.new }
 {
     let parts = values.parts();
-    write_numbers(printer, parts.numbers)?;
+    write_wide(printer, parts.wide)?;
     write_bytes(printer, parts.bytes)?;
     write_zeros(printer, parts.zeros)?;
     write_numbers(printer, parts.recent)
