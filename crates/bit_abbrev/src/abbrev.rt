@@ -14,8 +14,8 @@ use std::alloc::{AllocError, Global};
 use std::marker::Model;
 use thiserror::Error;
 
-/// A list of operands. Up to eight need no allocation.
-pub type Ops = SmallVec<Op, 8>;
+/// A list of operands. One or two need no allocation.
+pub type Ops = SmallVec<Op, 2>;
 
 /// A list of operands that is refused: the list itself, and its first break.
 #[derive(Debug, Drop, Error)]
@@ -201,7 +201,7 @@ impl Abbrev {
     /// A copy, with the same operands.
     pub fn copy(&self, alloc: Global) -> Result<Abbrev, AllocError>
         ensures ok { IfOk result (λ copy. copy ≡ self.now) }
-        ensures short { length self.now ≤ 8 → IsOk result }
+        ensures short { length self.now ≤ 2 → IsOk result }
     {
         let ops = SmallVec::from_slice(alloc, self.ops.as_slice())?;
         Ok(Abbrev {

@@ -113,6 +113,7 @@ fn read_operands<S: Source>(
             Err(_) => return Err(reader.fail(Fault::Memory)),
         }
     }
+    ops.shrink_to_fit();
     Ok(ops)
 }
 
@@ -134,7 +135,7 @@ fn read_definition<S: Source>(
 
 /// Reads a definition after its abbreviation id. If shapes are judged at their use, operands in any order are read.
 ///
-/// After any fault the reader has failed, at the position where the call began. Up to eight operands need no allocation.
+/// After any fault the reader has failed, at the position where the call began. One or two operands need no allocation.
 pub fn read_define<S: Source>(
     alloc: Global,
     reader: &mut BitReader<S>,

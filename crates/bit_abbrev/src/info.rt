@@ -60,7 +60,8 @@ impl InfoTable {
             list.push(abbrev)?;
             return Ok(());
         }
-        let mut list = Vec::new(self.alloc);
+        // Most hold few definitions, and there may be one for each id.
+        let mut list = Vec::with_capacity(self.alloc, 1)?;
         list.push(abbrev)?;
         self.lists.insert(id, list)?;
         Ok(())

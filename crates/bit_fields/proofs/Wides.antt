@@ -48,7 +48,7 @@ numbers_first n us gs le all =
     let k = marks (take n us) in
     let there : length (take k gs) ≡ k = length-take k gs ∙ omega (arith, all, marks_first n us) in
     let both : numbers_of us gs ≡ numbers_of (take n us) (take k gs) ++ numbers_of (drop n us) (drop k gs) =
-        ap (λ (s : List ℕ). numbers_of s gs) (sym (take-append-drop n us)) ∙ ap (numbers_of (take n us ++ drop n us)) (sym (take-append-drop k gs)) ∙ numbers_append (take n us) (drop n us) (take k gs) (drop k gs) (sym there) in
+    ap (λ (s : List ℕ). numbers_of s gs) (sym (take-append-drop n us)) ∙ ap (numbers_of (take n us ++ drop n us)) (sym (take-append-drop k gs)) ∙ numbers_append (take n us) (drop n us) (take k gs) (drop k gs) (sym there) in
     let count : n ≡ length (numbers_of (take n us) (take k gs)) = sym (length_numbers (take n us) (take k gs) ∙ length-take n us ∙ omega (arith, le)) in
     ap (take n) both ∙ ap (λ (i : ℕ). take i (numbers_of (take n us) (take k gs) ++ numbers_of (drop n us) (drop k gs))) count ∙ take-append_seam (numbers_of (take n us) (take k gs)) (numbers_of (drop n us) (drop k gs))
 

@@ -49,7 +49,8 @@ fn has_parts(rt: &impl Abort, alloc: Global, count: u64, wanted: &str) {
 #[test]
 fn parts_of_values(rt: HostRuntime) {
     let alloc = rt.alloc();
-    let first = "8 ValueParts { wide: WideSlice { units: [1, 256], great: [] }, bytes: [0, 0, 7], zeros: 3, recent: [] }";
+    let first =
+        "8 ValueParts { wide: WideSlice { units: [1, 256], great: [] }, bytes: [0, 0, 7], zeros: 3, recent: [] }";
     assert!(rt;
         parts_told(alloc, 0)
             .expect(&rt, "memory")
@@ -229,10 +230,8 @@ fn great_numbers() -> [u64; 300] {
 
 /// How many of these values are found at their places, and how many values there are.
 fn found(values: &PackedValues, numbers: &[u64]) -> (usize, u64) {
-    let right = numbers
-        .iter()
-        .enumerate()
-        .filter(|(place, number)| values.get(*place as u64) == Some(**number));
+    let right = numbers.iter().enumerate().filter(|(place, number)| values.get(*place as u64)
+        == Some(**number));
     (right.count(), values.len())
 }
 

@@ -19,5 +19,5 @@ pub returns-clause-ok : goal.returns-clause-ok
 returns-clause-ok c =
     let found = none_at c.self.inside.lists.entries c.args.id c.in_default.ensures.value in
     let puts = rw c.get_mut.follows.holds-at-none at c.in_ok-insert.ensures.updates.0 in
-    let items = rw c.new-list.ensures.items at c.in_ok-push-2.ensures.items in
+    let items = rw c.in_ok-list.ensures.items at c.in_ok-push-2.ensures.items in
     rw (← c.self.view_is) (defined c.self.inside.lists.entries c.insert.new.self.entries c.args.id c.args.abbrev [] c.push-2.new.self puts found items)

@@ -1,6 +1,6 @@
-use Rattle.std.proofs.Common.{arith, sym, subst, ℕ, ap, ◌∙◌, ◌≡◌, [], Some, None, false}
+use Rattle.std.proofs.Common.{◌%◌, arith, sym, subst, ℕ, ap, ◌∙◌, ◌≡◌, [], Some, None, false}
 use Rattle.std.proofs.lemmas.Result.{err_from_is_err_and}
-use Rattle.bit_fields.specs.Buffered.{BufferedBits}
+use Rattle.bit_fields.specs.Buffered.{BufferedBits, Sees}
 use Rattle.bit_fields.specs.Devices.{Incoming}
 use Rattle.bit_fields.specs.Reader.{Reader}
 use Rattle.bit_events.specs.Events.{Begun, coming_of}
@@ -26,3 +26,16 @@ returns-clause-begun c =
     let begun = began c.args.limits i head m values r c.bytes-bytes.ensures.capped c.new.ensures.machine (c.new-3.ensures.taker ∙ c.new-2.ensures) c.new.ensures.none c.in_ok-reader.ensures.begun in
     subst (λ (p : ℕ). Begun c.args.limits i (coming_of false c.args.limits head m values None p (reader_seen r a))) there
     (subst (λ (x : Reader). Begun c.args.limits i (coming_of false c.args.limits head m values None r.position x)) (sym (nothing_seen r a there)) begun)
+
+pub invariant_of-result : goal.invariant_of-result
+invariant_of-result c =
+    let r = c.in_ok-reader.reader in
+    let a = c.new-buffered.result in
+    let there : r.position ≡ a.position = c.parts_in_slice.ensures.sees.position ∙ sym (ap (λ (x : BufferedBits). x.position) c.new-buffered.ensures) in
+    record {
+      behind = λ _. omega (arith, there);
+      there = λ _ _. omega (arith, there);
+      sees = λ _. rw (nothing_seen r a there) (subst (λ (x : BufferedBits). Sees r x) (sym c.new-buffered.ensures) c.parts_in_slice.ensures.sees);
+      aligned = λ _ _. sym (ap (λ (p : ℕ). p % 8) there) ∙ omega (arith, c.in_ok-reader.ensures.place);
+      closed = λ e. absurd (cc);
+    }
