@@ -90,13 +90,16 @@ fn read_operand<S: Source>(
     read_value(reader, kind)
 }
 
+/// Operands while they are read. Up to eight need no allocation.
+type Gathered = SmallVec<Op, 8>;
+
 /// Reads `count` operands.
 fn read_operands<S: Source>(
     alloc: Global,
     reader: &mut BitReader<S>,
     shapes: Shapes,
     count: u64,
-) -> Result<Ops, Fault>
+) -> Result<Gathered, Fault>
     requires some { 0 < count }
     requires live { reader.old.live ≡ true }
     ensures takes { Takes (operands shapes count First) reader.old
@@ -113,7 +116,6 @@ fn read_operands<S: Source>(
             Err(_) => return Err(reader.fail(Fault::Memory)),
         }
     }
-    ops.shrink_to_fit();
     Ok(ops)
 }
 
@@ -129,8 +131,11 @@ fn read_definition<S: Source>(
     let first = reader.position();
     let count = reader.vbr(5)?;
     reader.judge(count != 0, Reason::AbbrevEmpty, first)?;
-    let ops = read_operands(alloc, reader, shapes, count)?;
-    Ok(Abbrev::from_definable(ops))
+    let gathered = read_operands(alloc, reader, shapes, count)?;
+    match Ops::from_slice(alloc, gathered.as_slice()) {
+        Ok(ops) => Ok(Abbrev::from_definable(ops)),
+        Err(_) => Err(reader.fail(Fault::Memory)),
+    }
 }
 
 /// Reads a definition after its abbreviation id. If shapes are judged at their use, operands in any order are read.

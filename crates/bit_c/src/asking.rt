@@ -9,7 +9,7 @@ use crate::handle::{BsHandle, handle_of, take_out};
 use crate::home::{Home, Reading};
 use crate::operand::BsOperand;
 use crate::outcome::{BsFault, Outcome};
-use crate::room::hand_out;
+use crate::room::{hand_out, hand_out_values};
 use std::alloc::Global;
 
 /// The magic of a stream, its first byte first.
@@ -27,7 +27,7 @@ fn values(reading: &Reading, room: &mut [u64], needed: &mut usize) -> Outcome
         *needed = 0;
         return Outcome::of(0, fault);
     }
-    hand_out(reading.events.values(), room, needed)
+    hand_out_values(reading.events.values(), room, needed)
 }
 
 /// The same for the object of a handle.

@@ -6,7 +6,7 @@ ghost use Rattle.bit_c.specs.Stepping.{Gets, event_told};
 
 use crate::input_bytes::BytesSource;
 use crate::operand::{BsOperand, put_operands};
-use bit_events::{Event, Events};
+use bit_events::{Event, PackedEvent, PackedEvents};
 use bit_fields::Fault;
 use std::alloc::AllocError;
 
@@ -53,7 +53,7 @@ pub(crate) const NONE: BsEvent = BsEvent {
 };
 
 /// An event as C sees it.
-fn event_of(event: Event<'_>) -> BsEvent
+fn event_of(event: PackedEvent<'_>) -> BsEvent
     ensures { result ≡ event_told (Some (event_shown event.entry)) }
 {
     match event {
@@ -91,7 +91,7 @@ fn event_of(event: Event<'_>) -> BsEvent
             id: abbrev,
             width: 0,
             code,
-            count: values.len(),
+            count: values.len() as usize,
             first,
             after,
         },
@@ -105,7 +105,7 @@ fn event_of(event: Event<'_>) -> BsEvent
 
 /// The next event as C sees it. The operands of a definition replace the earlier ones.
 pub(crate) fn next_of(
-    events: &mut Events<BytesSource>,
+    events: &mut PackedEvents<BytesSource>,
     operands: &mut Vec<BsOperand>,
 ) -> Result<BsEvent, Fault>
     ensures { Gets events.old result operands.new.items events.new }

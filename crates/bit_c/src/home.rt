@@ -2,7 +2,7 @@
 
 use crate::input_bytes::BytesSource;
 use crate::operand::BsOperand;
-use bit_events::Events;
+use bit_events::PackedEvents;
 use bit_fields::Fault;
 use bit_norm::FormWriter;
 use std::alloc::Global;
@@ -10,7 +10,7 @@ use std::alloc::Global;
 /// The events of bytes, their fault, and the operands of the event returned last.
 #[derive(Drop)]
 pub struct Reading {
-    pub(crate) events: Events<BytesSource>,
+    pub(crate) events: PackedEvents<BytesSource>,
     pub(crate) fault: Option<Fault>,
     pub(crate) operands: Vec<BsOperand>,
 }

@@ -4,7 +4,7 @@ ghost use Rattle.std.specs.Prelude.{◌≡◌, ◌++◌, [], map, OnOk};
 ghost use Rattle.bit_events.specs.EventView.{event_shown};
 ghost use Rattle.bit_c.specs.Stepping.{operand_told, operands_in};
 
-use bit_events::Event;
+use bit_events::{Event, PackedEvent};
 use bit_grammar::Op;
 use std::alloc::AllocError;
 
@@ -44,7 +44,10 @@ fn add_operands(out: &mut Vec<BsOperand>, ops: &[Op]) -> Result<(), AllocError>
 }
 
 /// Replaces operands with those of an event: none if it is no definition.
-pub(crate) fn put_operands(out: &mut Vec<BsOperand>, event: Event<'_>) -> Result<(), AllocError>
+pub(crate) fn put_operands(
+    out: &mut Vec<BsOperand>,
+    event: PackedEvent<'_>,
+) -> Result<(), AllocError>
     ensures { OnOk result (out.new.items ≡ operands_in (event_shown event.entry)) }
 {
     out.clear();

@@ -12,7 +12,7 @@ use crate::home::{Home, Reading, no_text};
 use crate::input_bytes::{Bytes, BytesSource};
 use crate::limits::BsLimits;
 use crate::outcome::{BsFault, Outcome};
-use bit_events::Events;
+use bit_events::PackedEvents;
 use bit_fields::Limits;
 use std::alloc::Global;
 use std::mem;
@@ -21,7 +21,7 @@ use std::mem;
 fn begin(alloc: Global, bytes: Bytes, limits: Limits) -> Result<Reading, (Outcome, Bytes)>
     ensures { BeginsReading limits bytes result }
 {
-    match Events::start(alloc, BytesSource::new(bytes), limits) {
+    match PackedEvents::start(alloc, BytesSource::new(bytes), limits) {
         Ok(events) => Ok(Reading {
             events,
             fault: None,

@@ -5,7 +5,7 @@ ghost use Rattle.bit_c.specs.Handing.{FillsRoom, Hands, HandsKept, HandsOut};
 
 use crate::outcome::Outcome;
 use crate::room_sink::RoomSink;
-use bit_fields::Sink;
+use bit_fields::{PackedValues, Sink};
 
 /// Puts items at the start of the caller's room.
 pub(crate) fn put<T: Copy>(items: &[T], room: &mut [T])
@@ -24,6 +24,22 @@ pub(crate) fn hand_out<T: Copy>(items: &[T], room: &mut [T], needed: &mut usize)
         return Outcome::Room;
     }
     put(items, room);
+    Outcome::Done
+}
+
+/// The same for the values of a record.
+pub(crate) fn hand_out_values(
+    values: &PackedValues,
+    room: &mut [u64],
+    needed: &mut usize,
+) -> Outcome
+    ensures { HandsOut values.now room.old needed.new room.new result }
+{
+    *needed = values.len() as usize;
+    if *needed > room.len() {
+        return Outcome::Room;
+    }
+    values.copy_to(&mut room[..*needed]);
     Outcome::Done
 }
 

@@ -115,6 +115,20 @@ impl PackedValues {
             .copied()
     }
 
+    /// Copies the values to a room with a place for each.
+    pub fn copy_to(&self, room: &mut [u64])
+        requires { length room.old ≡ length self.now }
+        ensures { room.new ≡ self.now }
+    {
+        if self.settled.len() == 0 {
+            room.copy_from_slice(&self.recent[..self.held]);
+            return;
+        }
+        for place in 0..room.len() {
+            room[place] = self.get(place as u64).unwrap_or(0);
+        }
+    }
+
     /// Values from `place` on that are held as numbers, possibly none.
     #[inline]
     pub(crate) fn numbers_from(&self, place: u64) -> &[u64]

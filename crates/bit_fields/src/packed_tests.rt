@@ -228,6 +228,13 @@ fn great_numbers() -> [u64; 300] {
     numbers
 }
 
+/// Whether these values are copied in order.
+fn are_copied(values: &PackedValues, numbers: &[u64]) -> bool {
+    let mut room = [1; 300];
+    values.copy_to(&mut room[..numbers.len()]);
+    &room[..numbers.len()] == numbers
+}
+
 /// How many of these values are found at their places, and how many values there are.
 fn found(values: &PackedValues, numbers: &[u64]) -> (usize, u64) {
     let right = numbers.iter().enumerate().filter(|(place, number)| values.get(*place as u64)
@@ -245,6 +252,19 @@ fn great_found(alloc: Global) -> Result<[(usize, u64); 3], NotTaken> {
     let kept = found(&values, &numbers);
     take_all(&mut values, &numbers[100..])?;
     Ok([all, kept, found(&values, &numbers)])
+}
+
+#[test]
+fn copied_values(rt: HostRuntime) {
+    let numbers = great_numbers();
+    let all = values_of(rt.alloc(), (&numbers, 0, &[])).expect(&rt, "memory");
+    let few = values_of(rt.alloc(), (&numbers[..40], 0, &[])).expect(&rt, "memory");
+    let none = values_of(rt.alloc(), (&[], 0, &[])).expect(&rt, "memory");
+    assert!(rt; are_copied(&all, &numbers));
+    assert!(rt; are_copied(&few, &numbers[..40]));
+    assert!(rt; are_copied(&none, &[]));
+    let zeros = values_of(rt.alloc(), (&[300], 3, &[9])).expect(&rt, "memory");
+    assert!(rt; are_copied(&zeros, &[300, 0, 0, 0, 9]));
 }
 
 #[test]

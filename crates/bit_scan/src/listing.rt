@@ -37,7 +37,7 @@ fn write_numbers<K: Sink>(printer: &mut Printer<K>, numbers: &[u64]) -> Result<(
 
 /// Writes wide values.
 fn write_wide<K: Sink>(printer: &mut Printer<K>, mut values: WideSlice<'_>) -> Result<(), Fault>
-    ensures { Prints (values_text values) printer.old result printer.new }
+    ensures { Prints (values_text values.entry) printer.old result printer.new }
 {
     while let Some(value) = values.take_first() {
         printer.value(value)?;

@@ -16,7 +16,7 @@ loop-i-preserved g c =
     rw (c.in-Ok.ensures.ok, c.place_after-place.ensures) (go_on c.args.shapes c.args.count c.args.reader.now c.loop-i.i c.loop-i.place c.loop-i.reader c.loop-i.ops.items c.in_ok-op.op c.read_operand.new.reader c.loop-i-test.true c.loop-i.invariant c.in_ok-op.ensures.takes c.in_ok-op.ensures.lawful)
 
 pub returns-clause-takes : goal.returns-clause-takes
-returns-clause-takes g c = rw c.shrink_to_fit.ensures.items (is_done c.args.shapes c.args.count c.args.reader.now c.loop-i.i c.loop-i.place c.loop-i.reader c.loop-i.ops.items c.loop-i-test.false c.loop-i.invariant)
+returns-clause-takes g c = is_done c.args.shapes c.args.count c.args.reader.now c.loop-i.i c.loop-i.place c.loop-i.reader c.loop-i.ops.items c.loop-i-test.false c.loop-i.invariant
 
 pub returns-clause-definable : goal.returns-clause-definable
-returns-clause-definable g c = rw c.shrink_to_fit.ensures.items (all_definable c.args.shapes c.args.count c.args.reader.now c.loop-i.i c.loop-i.place c.loop-i.reader c.loop-i.ops.items c.requires.some c.loop-i-test.false c.loop-i.invariant)
+returns-clause-definable g c = all_definable c.args.shapes c.args.count c.args.reader.now c.loop-i.i c.loop-i.place c.loop-i.reader c.loop-i.ops.items c.requires.some c.loop-i-test.false c.loop-i.invariant
