@@ -11,7 +11,7 @@ use crate::widths::{is_fixed_width, is_vbr_width};
 use bit_fields::{BitReader, Fault, Source};
 use bit_grammar::{Kind, Op, Place, Reason, Shapes};
 use smallvec::SmallVec;
-use std::alloc::Global;
+use std::alloc::{AllocError, Global};
 
 /// Reads the flag of an operand, and its encoding if it has one.
 #[tactic(auto, unfolding(bit_grammar::specs::Definition::kind))]
@@ -119,6 +119,18 @@ fn read_operands<S: Source>(
     Ok(ops)
 }
 
+/// The operands, without room for more.
+fn settle(alloc: Global, gathered: Gathered) -> Result<Ops, AllocError>
+    ensures { IfOk result (λ ops. ops.items ≡ gathered.items) }
+{
+    if !gathered.spilled() {
+        return Ops::from_slice(alloc, gathered.as_slice());
+    }
+    let mut ops = gathered.into_vec()?;
+    ops.shrink_to_fit();
+    Ok(Ops::from_vec(ops))
+}
+
 /// Reads the number of operands, and the operands.
 #[tactic(auto, unfolding(bit_grammar::specs::Definition::definition))]
 fn read_definition<S: Source>(
@@ -132,7 +144,7 @@ fn read_definition<S: Source>(
     let count = reader.vbr(5)?;
     reader.judge(count != 0, Reason::AbbrevEmpty, first)?;
     let gathered = read_operands(alloc, reader, shapes, count)?;
-    match Ops::from_slice(alloc, gathered.as_slice()) {
+    match settle(alloc, gathered) {
         Ok(ops) => Ok(Abbrev::from_definable(ops)),
         Err(_) => Err(reader.fail(Fault::Memory)),
     }
