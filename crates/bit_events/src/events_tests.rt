@@ -346,7 +346,8 @@ fn packed(alloc: Global, bytes: &[u8]) -> Result<String, AllocError> {
 #[test]
 fn packed_events(rt: HostRuntime) {
     let bytes = bytes_of(rt.alloc(), MIXED).expect(&rt, "memory");
-    let wanted = "1 ValueParts { wide: WideSlice { units: [], great: [] }, bytes: [], zeros: 0, recent: [97, 98, 99] } \
+    let wanted =
+        "1 ValueParts { wide: WideSlice { units: [], great: [] }, bytes: [], zeros: 0, recent: [97, 98, 99] } \
         2 ValueParts { wide: WideSlice { units: [], great: [] }, bytes: [], zeros: 0, recent: [0] } \
         7 ValueParts { wide: WideSlice { units: [], great: [] }, bytes: [], zeros: 0, recent: [5, 33] } ";
     agrees(&rt, packed(rt.alloc(), &bytes), wanted, MIXED);

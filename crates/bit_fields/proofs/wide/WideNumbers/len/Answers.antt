@@ -1,4 +1,4 @@
-use Rattle.std.proofs.Common.{sym, ap, ◌∙◌, length, arith}
+use Rattle.std.proofs.Common.{ap, length, arith}
 use Rattle.bit_fields.proofs.Wides.{length_numbers}
 use Rattle.bit_fields.proofs.wide.WideNumbers.len.Goals as goal
 

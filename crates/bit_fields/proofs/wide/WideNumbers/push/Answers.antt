@@ -1,4 +1,4 @@
-use Rattle.std.proofs.Common.{◌≡◌, ◌<◌, ◌*◌, ◌∷◌, ◌++◌, [], sym, ap, ◌∙◌, subst, length, take, arith}
+use Rattle.std.proofs.Common.{◌≡◌, ◌<◌, ◌*◌, ◌∷◌, ◌++◌, [], ap, ◌∙◌, subst, length, take, arith}
 use Rattle.bit_fields.specs.Wide.{AreBefore, marks, numbers_of}
 use Rattle.bit_fields.proofs.Wides.{pushed_small, pushed_great, pushed_back}
 use Rattle.bit_fields.proofs.wide.WideNumbers.push.Goals as goal

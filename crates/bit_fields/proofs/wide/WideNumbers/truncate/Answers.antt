@@ -1,4 +1,4 @@
-use Rattle.std.proofs.Common.{◌≡◌, ◌*◌, ◌/◌, ◌+◌, sym, ap, ◌∙◌, length, take, arith}
+use Rattle.std.proofs.Common.{◌≡◌, sym, ap, ◌∙◌, length, take, arith}
 use Rattle.std.proofs.lemmas.List.{take_all}
 use Rattle.bit_fields.specs.Wide.{AreBefore, marks, numbers_of}
 use Rattle.bit_fields.proofs.Wides.{kept_first, length_numbers}
