@@ -145,7 +145,7 @@ class Maker:
                 self.bits.fixed(width, place + 4)
                 items.append(self.by(defined[place]))
             else:
-                values = [self.number() for _ in range(self.chance.randint(0, 9))]
+                values = [self.number() for _ in range(self.count())]
                 items.append(self.plain(width, self.number(self.code_bits), values))
         return items
 
@@ -213,8 +213,12 @@ class Maker:
             self.vbr(op.given, number)
         return number
 
+    def count(self):
+        """How many values a record or an array has: few, but sometimes more than the program packs at once."""
+        return self.number(9 if self.often(0.1) else 4)
+
     def array(self, element):
-        count = self.number(4)
+        count = self.count()
         self.vbr(6, count)
         return [self.field(element) for _ in range(count)]
 
