@@ -228,11 +228,14 @@ fn great_numbers() -> [u64; 300] {
     numbers
 }
 
-/// Whether these values are copied in order.
-fn are_copied(values: &PackedValues, numbers: &[u64]) -> bool {
-    let mut room = [1; 300];
-    values.copy_to(&mut room[..numbers.len()]);
-    &room[..numbers.len()] == numbers
+/// The values, copied to a room of this size, if they fill it.
+fn copied<const N: usize>(values: &PackedValues) -> Option<[u64; N]> {
+    let mut room = [1; N];
+    if values.len() != N as u64 {
+        return None;
+    }
+    values.copy_to(&mut room);
+    Some(room)
 }
 
 /// How many of these values are found at their places, and how many values there are.
@@ -242,8 +245,7 @@ fn found(values: &PackedValues, numbers: &[u64]) -> (usize, u64) {
     (right.count(), values.len())
 }
 
-/// The same after all were taken, and after only the first 100 were kept and the others were taken again; and the number of wide
-/// values with the first two of them.
+/// The same after all were taken, after only the first 100 were kept, and after the others were taken again.
 fn great_found(alloc: Global) -> Result<[(usize, u64); 3], NotTaken> {
     let numbers = great_numbers();
     let mut values = values_of(alloc, (&numbers, 0, &[]))?;
@@ -254,17 +256,23 @@ fn great_found(alloc: Global) -> Result<[(usize, u64); 3], NotTaken> {
     Ok([all, kept, found(&values, &numbers)])
 }
 
+/// Whether 300 values are copied in order, and two other lists of values, copied.
+fn copies(alloc: Global) -> Result<(bool, Option<[u64; 2]>, Option<[u64; 5]>), NotTaken> {
+    let numbers = great_numbers();
+    let many = values_of(alloc, (&numbers, 0, &[]))?;
+    let few = values_of(alloc, (&[7, 1 << 40], 0, &[]))?;
+    let zeros = values_of(alloc, (&[300], 3, &[9]))?;
+    Ok((
+        copied(&many) == Some(numbers),
+        copied(&few),
+        copied(&zeros),
+    ))
+}
+
 #[test]
 fn copied_values(rt: HostRuntime) {
-    let numbers = great_numbers();
-    let all = values_of(rt.alloc(), (&numbers, 0, &[])).expect(&rt, "memory");
-    let few = values_of(rt.alloc(), (&numbers[..40], 0, &[])).expect(&rt, "memory");
-    let none = values_of(rt.alloc(), (&[], 0, &[])).expect(&rt, "memory");
-    assert!(rt; are_copied(&all, &numbers));
-    assert!(rt; are_copied(&few, &numbers[..40]));
-    assert!(rt; are_copied(&none, &[]));
-    let zeros = values_of(rt.alloc(), (&[300], 3, &[9])).expect(&rt, "memory");
-    assert!(rt; are_copied(&zeros, &[300, 0, 0, 0, 9]));
+    let told = copies(rt.alloc()).expect(&rt, "memory");
+    assert!(rt; told == (true, Some([7, 1 << 40]), Some([300, 0, 0, 0, 9])), "{told:?}");
 }
 
 #[test]
@@ -273,22 +281,21 @@ fn great_values(rt: HostRuntime) {
     assert!(rt; told == [(300, 300), (100, 100), (300, 300)], "{told:?}");
 }
 
-/// The wide values, one by one: how many are right.
-fn wide_read(alloc: Global) -> Result<(usize, usize), NotTaken> {
+/// The number of wide values, and whether they are right, one by one.
+fn wide_read(alloc: Global) -> Result<(usize, bool), NotTaken> {
     let numbers = great_numbers();
     let values = values_of(alloc, (&numbers, 0, &[]))?;
     let mut wide = values.parts().wide;
     let count = wide.len();
-    let mut right = 0;
-    while let Some(number) = wide.take_first() {
-        if number == numbers[count - wide.len() - 1] {
-            right += 1;
-        }
+    let mut are_right = true;
+    for (place, number) in numbers.iter().enumerate() {
+        let wanted = if place < count { Some(*number) } else { None };
+        are_right &= wide.take_first() == wanted;
     }
-    Ok((count, right))
+    Ok((count, are_right))
 }
 
 #[test]
 fn wide_values_in_order(rt: HostRuntime) {
-    assert!(rt; wide_read(rt.alloc()) == Ok((256, 256)));
+    assert!(rt; wide_read(rt.alloc()) == Ok((256, true)));
 }
