@@ -262,17 +262,16 @@ fn copies(alloc: Global) -> Result<(bool, Option<[u64; 2]>, Option<[u64; 5]>), N
     let many = values_of(alloc, (&numbers, 0, &[]))?;
     let few = values_of(alloc, (&[7, 1 << 40], 0, &[]))?;
     let zeros = values_of(alloc, (&[300], 3, &[9]))?;
-    Ok((
-        copied(&many) == Some(numbers),
-        copied(&few),
-        copied(&zeros),
-    ))
+    Ok((copied(&many) == Some(numbers), copied(&few), copied(&zeros)))
 }
 
 #[test]
 fn copied_values(rt: HostRuntime) {
     let told = copies(rt.alloc()).expect(&rt, "memory");
-    assert!(rt; told == (true, Some([7, 1 << 40]), Some([300, 0, 0, 0, 9])), "{told:?}");
+    assert!(rt;
+        told == (true, Some([7, 1 << 40]), Some([300, 0, 0, 0, 9])),
+        "{told:?}"
+    );
 }
 
 #[test]
