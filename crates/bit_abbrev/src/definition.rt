@@ -93,6 +93,10 @@ fn read_operand<S: Source>(
 /// Operands while they are read. Up to eight need no allocation.
 type Gathered = SmallVec<Op, 8>;
 
+/// How many operands are copied at most: a list that is made smaller leaves gaps in memory, and a copy of a long one costs as much
+/// again.
+const COPIED: usize = 4096;
+
 /// Reads `count` operands.
 fn read_operands<S: Source>(
     alloc: Global,
@@ -119,13 +123,12 @@ fn read_operands<S: Source>(
     Ok(ops)
 }
 
-/// The operands, without room for more.
-fn settle(alloc: Global, gathered: Gathered) -> Result<Ops, AllocError>
+/// The same operands, without room for more.
+#[cold]
+#[inline(never)]
+fn shrunk(gathered: Gathered) -> Result<Ops, AllocError>
     ensures { IfOk result (λ ops. ops.items ≡ gathered.items) }
 {
-    if !gathered.spilled() {
-        return Ops::from_slice(alloc, gathered.as_slice());
-    }
     let mut ops = gathered.into_vec()?;
     ops.shrink_to_fit();
     Ok(Ops::from_vec(ops))
@@ -144,7 +147,12 @@ fn read_definition<S: Source>(
     let count = reader.vbr(5)?;
     reader.judge(count != 0, Reason::AbbrevEmpty, first)?;
     let gathered = read_operands(alloc, reader, shapes, count)?;
-    match settle(alloc, gathered) {
+    let ops = if gathered.len() <= COPIED {
+        Ops::from_slice(alloc, gathered.as_slice())
+    } else {
+        shrunk(gathered)
+    };
+    match ops {
         Ok(ops) => Ok(Abbrev::from_definable(ops)),
         Err(_) => Err(reader.fail(Fault::Memory)),
     }
