@@ -12,8 +12,8 @@
 //! (`Reads`) covers successes only. A reader of a slice lends its bits for as long as the slice lives (`parts_in_slice`).
 //!
 //! The values of a record go to a `ValueTaker`: `Vec<u64>` keeps them, `ValueCount` counts them, `PackedValues` keeps them in 1,
-//! 2 or 10 bytes each, and `ExpectedValues` compares them with another record's. `KeptSource` keeps the bytes that its source gives, and
-//! `FrontSource` gives only the first of them.
+//! 2 or 10 bytes each, and `ExpectedValues` compares them with another record's. `KeptSource` keeps the bytes that its source gives,
+//! and `FrontSource` gives only the first of them.
 //! `BitText` holds bits in memory: 32-bit words in chunks, which grow without a copy.
 #![tactic(auto)]
 

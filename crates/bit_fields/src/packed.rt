@@ -21,7 +21,8 @@ pub struct ValueParts<'a> {
 
 /// The values of a record, packed to save memory. The last ones, at most 64, are in a buffer of 512 bytes. The values before them
 /// are packed 64 at a time: values up to the last batch that contains one above 255 take two bytes each, or ten from 65,535 on, and
-/// later ones take one, as those of a Blob or an Array of Char6. Zeros that were taken at once are counted; at the end they take no memory.
+/// later ones take one, as those of a Blob or an Array of Char6. Zeros that were taken at once are counted; at the end they take no
+/// memory.
 #[derive(Drop)]
 pub struct PackedValues {
     settled: SettledValues,
