@@ -2,8 +2,9 @@
 use Rattle.std.specs.Prelude.{nat_le}
 use Rattle.std.proofs.Common.{◌≡◌, true, ℕ, zero, suc, ◌+◌, ◌-◌, ◌<◌, ◌≤◌, List, [], ◌∷◌, ◌++◌, length, take, drop, Result, Ok, Err, refl, sym, ap, ◌∙◌, subst, arith, add-one, append_assoc, length-append, ◌⊎◌, inl, inr}
 use Rattle.std.proofs.Math.ListN.{replicate}
-use Rattle.std.proofs.lemmas.List.{append-nil, length-replicate, length-take-le, drop_all, take_all, take-append-drop}
+use Rattle.std.proofs.lemmas.List.{append-nil, length-replicate, length-take-le, drop_all, take_all, take-append-drop, get_or-take, length-drop}
 use Rattle.std.proofs.Math.Seq.{drop-cons}
+use Rattle.std.specs.List.{AllByRecursion}
 use Rattle.std.specs.Result.{OnOk}
 use Rattle.bit_grammar.specs.declared.op.Op.{Op}
 use Rattle.bit_grammar.specs.declared.op.Op.TheVariants.{Literal, Fixed, Vbr, Array, Char6, Blob}
@@ -12,7 +13,7 @@ use Rattle.bit_grammar.specs.Grammar.{Grammar, at, gives, test, ◌>>=◌, ◌>>
 use Rattle.bit_grammar.specs.Fields.{fixed, align32, byte}
 use Rattle.bit_grammar.specs.Record.{value_count, scalar, singles, values_of, abbreviated}
 use Rattle.bit_grammar.specs.Terms.{CodeAndValues}
-use Rattle.bit_grammar.specs.FormatDefinition.{op_at, IsElement, Lawful}
+use Rattle.bit_grammar.specs.FormatDefinition.{op_at, HasLawfulValue, IsElement, Lawful}
 use Rattle.bit_fields.specs.declared.fault.Fault.{Fault}
 use Rattle.bit_fields.specs.declared.fault.Fault.TheVariants.{Memory}
 use Rattle.bit_fields.specs.Reader.{Reader, Took, Why, Takes, failed_reader}
@@ -352,3 +353,67 @@ tail_blob ops some h none one is = omega (arith, ap length (in_parts ops some), 
 
 pub tail_nothing : (ops : List Op) → 1 ≤ length ops → Lawful ops → (2 ≤ length (others_of ops) → op_at (others_of ops) (length (others_of ops) - 2) ≡ Array → ⊥) → (1 ≤ length (others_of ops) → op_at (others_of ops) (length (others_of ops) - 1) ≡ Blob → ⊥) → HasTail ops tail.Nothing
 tail_nothing ops some h none no_blob = omega (arith, ap length (in_parts ops some), counted_all (others_of ops) (others_in_order ops some h) none no_blob)
+
+-- ---- operands that are taken one by one
+
+-- a number of single operands from the front
+pub front_many : (ops : List Op) (count : ℕ) → count ≡ singles ops → (singles (take count ops) ≡ length (take count ops)) × (length (take count ops) ≡ count)
+front_many ops count is =
+    (subst (λ (n : ℕ). singles (take n ops) ≡ length (take n ops)) (sym is) (front_single ops), length-take-le count ops (omega (arith, is, singles_within ops)))
+
+-- the one that is taken after `i` of them
+pub front_op : (ops rest : List Op) (op : Op) (count i : ℕ) → count ≡ singles ops → i < count → drop i ops ≡ op ∷ rest → (op ≡ op_at (take count ops) i) × (rest ≡ drop (i + 1) ops)
+front_op ops rest op count i is less next =
+    let whole : i < length ops = omega (arith, is, less, singles_within ops) in
+    let h : op ∷ rest ≡ op_at ops i ∷ drop (i + 1) ops = sym next ∙ from_index ops i whole in
+    let front : op_at (take count ops) i ≡ op_at ops i = get_or-take count ops i (Literal 0) less in
+    (cc, cc)
+
+-- there is one
+pub front_some : (ops : List Op) (count i : ℕ) → count ≡ singles ops → i < count → 0 < length (drop i ops)
+front_some ops count i is less = omega (arith, is, less, singles_within ops, length-drop i ops)
+
+-- it has a lawful value
+pub front_lawful : (ops rest : List Op) (op : Op) (i : ℕ) → AllByRecursion HasLawfulValue ops → drop i ops ≡ op ∷ rest → HasLawfulValue op
+front_lawful [] rest op zero all next = absurd cc
+front_lawful [] rest op (suc i) all next = absurd cc
+front_lawful (one ∷ ops) rest op zero all next = let same : one ≡ op = cc in subst HasLawfulValue same all.0
+front_lawful (one ∷ ops) rest op (suc i) all next = front_lawful ops rest op i all.1 next
+
+-- those after the first one of the rest
+pub others_next : (ops rest : List Op) (op : Op) (i : ℕ) → drop i ops ≡ op ∷ rest → rest ≡ drop (i + 1) ops
+others_next ops rest op i next =
+    let whole : i < length ops = omega (arith, length-drop i ops, ap length next) in
+    let h : op ∷ rest ≡ op_at ops i ∷ drop (i + 1) ops = sym next ∙ from_index ops i whole in
+    cc
+
+-- those after the single ones: a blob, or an array and its element
+pub blob_left : (ops left : List Op) (count : ℕ) → count ≡ singles ops → OthersInOrder ops → left ≡ drop count ops → length left ≡ 1 → drop (singles ops) ops ≡ Blob ∷ drop (singles ops + 1) ops
+blob_left ops left count is h here one = blob_behind ops h (omega (arith, is, one, ap length here, length-drop count ops))
+
+-- the array and its element, which are taken one after another
+pub array_taken : (ops rest others : List Op) (op element : Op) (count : ℕ) → count ≡ singles ops → OthersInOrder ops → drop count ops ≡ op ∷ rest → rest ≡ element ∷ others → (drop (singles ops) ops ≡ Array ∷ element ∷ others) × IsElement element
+array_taken ops rest others op element count is h next more =
+    let less : singles ops + 1 < length ops = omega (arith, is, length-drop count ops, ap length next, ap length more) in
+    let all = array_behind ops h less in
+    let same : op ∷ rest ≡ Array ∷ op_at ops (singles ops + 1) ∷ drop (singles ops + 1 + 1) ops = sym next ∙ ap (λ (n : ℕ). drop n ops) is ∙ all.0 in
+    let here : op_at ops (singles ops + 1) ≡ element = cc in
+    let tail : drop (singles ops + 1 + 1) ops ≡ others = cc in
+    (rw (here, tail) at all.0, subst IsElement here all.1)
+
+pub array_lawful : (ops rest others : List Op) (op element : Op) (count : ℕ) → count ≡ singles ops → OthersInOrder ops → AllByRecursion HasLawfulValue ops → drop count ops ≡ op ∷ rest → rest ≡ element ∷ others → HasLawfulValue element
+array_lawful ops rest others op element count is h lawful next more =
+    let less : singles ops + 1 < length ops = omega (arith, is, length-drop count ops, ap length next, ap length more) in
+    let taken = (array_taken ops rest others op element count is h next more).0 in
+    let here = from_index ops (singles ops) (omega (arith, less)) in
+    let second : drop (singles ops + 1) ops ≡ element ∷ others = cc in
+    front_lawful ops others element (singles ops + 1) lawful second
+
+-- those after the first one
+pub others_are : (ops others : List Op) (op : Op) → ops ≡ op ∷ others → others_of ops ≡ others
+others_are ops others op is =
+    let whole : take (suc (length others) - 1) others ≡ others = take_all (suc (length others) - 1) others (omega arith) in
+    ap others_of is ∙ whole
+
+pub others_ordered : (ops others : List Op) (op : Op) → ops ≡ op ∷ others → Lawful ops → OthersInOrder others
+others_ordered ops others op is lawful = subst OthersInOrder (others_are ops others op is) (others_in_order ops (omega (arith, ap length is)) lawful)

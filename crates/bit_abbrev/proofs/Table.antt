@@ -1,88 +1,108 @@
--- The table as the list of its entries, which a map in the order of ids has.
-use Rattle.std.proofs.Common.{◌≡◌, ℕ, Bool, true, false, List, [], ◌∷◌, ◌++◌, Option, Some, None, refl, sym, ap, ◌∙◌, inl, inr, cond, nat_eq, unwrap_or, ◌<◌, arith}
-use Rattle.std.specs.BTreeMap.{is_at}
-use Rattle.std.specs.Cmp.{nat_cmp_is}
-use Rattle.std.specs.Global.{Vec}
-use Rattle.std.specs.Map.{lookup, set_value}
+-- A table, in the order of its definitions.
+use Rattle.std.proofs.Common.{◌≡◌, ℕ, ◌+◌, ◌-◌, ◌<◌, ◌≤◌, Bool, true, false, List, [], ◌∷◌, ◌++◌, refl, sym, ap, ◌∙◌, cond, nat_eq, arith, length, map, take, slice_get, Some, suc, get_or}
+use Rattle.std.specs.List.{filter}
+use Rattle.std.proofs.Math.Seq.{take-suc}
+use Rattle.std.proofs.lemmas.List.{map-append, length-append, length-map, get_or_push}
+use Rattle.std.proofs.lemmas.Option.{slice_get-get_or, slice_get-map, slice_get_within}
 use Rattle.std.specs.Option.{option_map}
-use Rattle.std.specs.Ordering.{nat_cmp, is_eq}
-use Rattle.std.specs.declared.cmp.Ordering.TheVariants.{Less, Equal, Greater}
-use Rattle.std.proofs.lemmas.Bool.{cases_eq, cases_lt, eq-eqb, ne_eqb}
+use Rattle.std.proofs.lemmas.Bool.{eq-eqb}
 use Rattle.bit_grammar.specs.declared.op.Op.{Op}
 use Rattle.bit_grammar.specs.Terms.{defined_at}
-use Rattle.bit_abbrev.specs.Table.{definitions_at, table_shown}
+use Rattle.bit_abbrev.specs.declared.head.Head.{Head}
+use Rattle.bit_abbrev.specs.declared.held_op.HeldOp.{HeldOp}
+use Rattle.bit_abbrev.specs.Heads.{ops_of, IsHeld, AreHeld, all_held}
+use Rattle.bit_abbrev.specs.Table.{all_of, definitions_at, heads_at, table_shown}
+use Rattle.bit_abbrev.specs.Lists.{Agree}
+use Rattle.bit_abbrev.proofs.Heads.{same_in_more, same_all, all_in_more, and_one, held_and_one}
+use Rattle.bit_abbrev.proofs.Lists.{agree_more, agree_next}
 
--- keys that compare as equal are equal
-at_key : (k q : ℕ) → is_at (nat_cmp k) q ≡ nat_eq k q
-at_key k q = elim (cases_eq k q) [
-  | inl same ↦ sym (ap is_eq (nat_cmp_is k q Equal same)) ∙ sym (eq-eqb k q same)
-  | inr differ ↦ apart differ ∙ sym (ne_eqb k q differ)
-]
+-- the definitions for an id are those of the heads for it
+pub shown_at : (all : List HeldOp) (heads : List Head) (id : ℕ) → definitions_at (table_shown all heads) id ≡ all_held all (heads_at heads id)
+shown_at all [] id = refl
+shown_at all (h ∷ heads) id = by (nat_eq id h.id) (shown_at all heads id)
   where
-    apart : (k ≡ q → ⊥) → is_at (nat_cmp k) q ≡ false
-    apart differ = elim (cases_lt k q) [
-      | inl below ↦ sym (ap is_eq (nat_cmp_is k q Less below))
-      | inr not ↦ (let above : q < k = omega (arith, differ) in sym (ap is_eq (nat_cmp_is k q Greater above)))
-    ]
-
--- so the map has at an id what the list of its entries has there
-at_id : {X : Type 0} → (es : List (ℕ × X)) (id : ℕ) → lookup (is_at (nat_cmp id)) es ≡ lookup (nat_eq id) es
-at_id [] id = refl
-at_id {X = X} (e ∷ es) id = rw (at_key id e.0) (ap (λ (found : Option X). cond (nat_eq id e.0) (Some e.1) found) (at_id es id))
-
--- the definitions of a vector
-abbrev items_of : Vec (List Op) → List (List Op)
-items_of list = list.items
-
--- an entry that is found is found among the shown entries
-lookup-shown : (es : List (ℕ × Vec (List Op))) (id : ℕ) → lookup (nat_eq id) (table_shown es) ≡ option_map items_of (lookup (nat_eq id) es)
-lookup-shown [] id = refl
-lookup-shown (e ∷ es) id = by (nat_eq id e.0) (lookup-shown es id)
-  where
-    by : (b : Bool) → lookup (nat_eq id) (table_shown es) ≡ option_map items_of (lookup (nat_eq id) es) → cond b (Some e.1.items) (lookup (nat_eq id) (table_shown es)) ≡ option_map items_of (cond b (Some e.1) (lookup (nat_eq id) es))
-    by true rest = refl
+    by : (b : Bool) → definitions_at (table_shown all heads) id ≡ all_held all (heads_at heads id) → map (λ (e : ℕ × List Op). e.1) (cond b ((h.id, ops_of all h) ∷ filter (λ (e : ℕ × List Op). nat_eq id e.0) (table_shown all heads)) (filter (λ (e : ℕ × List Op). nat_eq id e.0) (table_shown all heads))) ≡ all_held all (cond b (h ∷ heads_at heads id) (heads_at heads id))
+    by true rest = ap (λ (l : List (List Op)). ops_of all h ∷ l) rest
     by false rest = rest
 
-at_lookup : (es : List (ℕ × Vec (List Op))) (id : ℕ) (o : Option (Vec (List Op))) → lookup (nat_eq id) es ≡ o → definitions_at (table_shown es) id ≡ unwrap_or (option_map items_of o) []
-at_lookup es id o h = ap (λ (x : Option (List (List Op))). unwrap_or x []) (lookup-shown es id ∙ ap (option_map items_of) h)
+-- all definitions are those of the heads
+pub all_shown : (all : List HeldOp) (heads : List Head) → all_of (table_shown all heads) ≡ all_held all heads
+all_shown all [] = refl
+all_shown all (h ∷ heads) = ap (λ (l : List (List Op)). ops_of all h ∷ l) (all_shown all heads)
 
--- the definitions of a vector that is found
-pub found_at : (es : List (ℕ × Vec (List Op))) (id : ℕ) (list : Vec (List Op)) → Some list ≡ lookup (is_at (nat_cmp id)) es → definitions_at (table_shown es) id ≡ list.items
-found_at es id list h = at_lookup es id (Some list) (sym (h ∙ at_id es id))
+-- the table is the same in a longer list of operands
+pub same_shown : (all more : List HeldOp) (heads : List Head) → AreHeld all heads → table_shown (all ++ more) heads ≡ table_shown all heads
+same_shown all more [] are = refl
+same_shown all more (h ∷ heads) are = rw (same_in_more all more h are.0, same_shown all more heads are.1) refl
 
--- and none if none is found
-pub none_at : (es : List (ℕ × Vec (List Op))) (id : ℕ) → None ≡ lookup (is_at (nat_cmp id)) es → definitions_at (table_shown es) id ≡ []
-none_at es id h = at_lookup es id None (sym (h ∙ at_id es id))
+-- ---- what a table holds, also with operands in the list that are not yet those of a definition
 
--- a vector with the same definitions replaces one that is found
-pub kept : (es : List (ℕ × Vec (List Op))) (id : ℕ) (old new : Vec (List Op)) → Some old ≡ lookup (is_at (nat_cmp id)) es → new.items ≡ old.items → table_shown (set_value (is_at (nat_cmp id)) es new) ≡ table_shown es
-kept [] id old new h e = refl
-kept (x ∷ es) id old new h e = by (is_at (nat_cmp id) x.0) (λ k. kept es id old new k e) h
+abbrev pub Holds : (all : List HeldOp) → List Head → (ready : List (List Op)) → Type 0
+Holds all heads ready = AreHeld all heads × (length ready ≤ length heads) × Agree ready (all_held all heads)
+
+pub holds_more : (all more : List HeldOp) (heads : List Head) (ready : List (List Op)) → Holds all heads ready → Holds (all ++ more) heads ready
+holds_more all more heads ready h = (all_in_more all more heads h.0, h.1, rw (same_all all more heads h.0) h.2)
+
+pub holds_one : (all : List HeldOp) (heads : List Head) (head : Head) (ready : List (List Op)) → Holds all heads ready → IsHeld all head → Holds all (heads ++ head ∷ []) ready
+holds_one all heads head ready h here = (
+  and_one (IsHeld all) heads head h.0 here,
+  omega (arith, h.1, length-append heads (head ∷ [])),
+  rw (held_and_one all heads head) (agree_more ready (all_held all heads) (ops_of all head) (omega (arith, h.1, length-map heads (ops_of all))) h.2),
+)
+
+pub holds_ready : (all : List HeldOp) (heads : List Head) (ready : List (List Op)) (head : Head) → Holds all heads ready → slice_get heads (length ready) ≡ Some head → Holds all heads (ready ++ ops_of all head ∷ [])
+holds_ready all heads ready head h is = (
+  h.0,
+  omega (arith, slice_get_within heads (length ready) head is, length-append ready (ops_of all head ∷ [])),
+  agree_next ready (all_held all heads) (ops_of all head) (slice_get-map (ops_of all) heads (length ready) ∙ ap (option_map (ops_of all)) is) h.2,
+)
+
+pub shown_and_one : (all : List HeldOp) (heads : List Head) (head : Head) → table_shown all (heads ++ head ∷ []) ≡ table_shown all heads ++ (head.id, ops_of all head) ∷ []
+shown_and_one all heads head = map-append (λ (h : Head). (h.id, ops_of all h)) heads (head ∷ [])
+
+-- ---- one more definition
+
+pub all_and_one : (table : List (ℕ × List Op)) (id : ℕ) (ops : List Op) → all_of (table ++ (id, ops) ∷ []) ≡ all_of table ++ ops ∷ []
+all_and_one table id ops = map-append (λ (e : ℕ × List Op). e.1) table ((id, ops) ∷ [])
+
+pub defined : (table : List (ℕ × List Op)) (id : ℕ) (ops : List Op) (other : ℕ) → definitions_at (table ++ (id, ops) ∷ []) other ≡ defined_at id ops (definitions_at table) other
+defined [] id ops other = by (nat_eq other id)
   where
-    by : (b : Bool) → (Some old ≡ lookup (is_at (nat_cmp id)) es → table_shown (set_value (is_at (nat_cmp id)) es new) ≡ table_shown es) → Some old ≡ cond b (Some x.1) (lookup (is_at (nat_cmp id)) es) → table_shown (cond b ((x.0, new) ∷ es) (x ∷ set_value (is_at (nat_cmp id)) es new)) ≡ table_shown (x ∷ es)
-    by true rest h =
-        let same : old ≡ x.1 = cc in
-        ap (λ (items : List (List Op)). (x.0, items) ∷ table_shown es) (e ∙ ap items_of same)
-    by false rest h = ap (λ (others : List (ℕ × List (List Op))). (x.0, x.1.items) ∷ others) (rest h)
-
--- one more definition at the end of an id's vector
-pub defined : (es more : List (ℕ × Vec (List Op))) (id : ℕ) (ops : List Op) (before : List (List Op)) (list : Vec (List Op))
-    → ((q : ℕ) → lookup (is_at (nat_cmp q)) more ≡ cond (is_at (nat_cmp id) q) (Some list) (lookup (is_at (nat_cmp q)) es)) → definitions_at (table_shown es) id ≡ before → list.items ≡ before ++ ops ∷ []
-    → (other : ℕ) → definitions_at (table_shown more) other ≡ defined_at id ops (definitions_at (table_shown es)) other
-defined es more id ops before list map_puts had has other =
-    elim (cases_eq other id) [
-      | inl same ↦
-          let there : nat_eq id other ≡ true = eq-eqb id other (sym same) in
-          let back : nat_eq other id ≡ true = eq-eqb other id same in
-          let is : lookup (nat_eq other) more ≡ Some list = puts other ∙ ap (λ (b : Bool). cond b (Some list) (lookup (nat_eq other) es)) there in
-          let old : definitions_at (table_shown es) other ≡ before = ap (definitions_at (table_shown es)) same ∙ had in
-          rw (back, old) (at_lookup more other (Some list) is ∙ has)
-      | inr differ ↦
-          let there : nat_eq id other ≡ false = ne_eqb id other (λ same. differ (sym same)) in
-          let back : nat_eq other id ≡ false = ne_eqb other id differ in
-          let is : lookup (nat_eq other) more ≡ lookup (nat_eq other) es = puts other ∙ ap (λ (b : Bool). cond b (Some list) (lookup (nat_eq other) es)) there in
-          rw back (at_lookup more other (lookup (nat_eq other) es) is ∙ sym (at_lookup es other (lookup (nat_eq other) es) refl))
-    ]
+    by : (b : Bool) → map (λ (e : ℕ × List Op). e.1) (cond b ((id, ops) ∷ []) []) ≡ cond b (ops ∷ []) []
+    by true = refl
+    by false = refl
+defined (e ∷ table) id ops other = by (nat_eq other e.0) (defined table id ops other) (nat_eq other id)
   where
-    puts : (q : ℕ) → lookup (nat_eq q) more ≡ cond (nat_eq id q) (Some list) (lookup (nat_eq q) es)
-    puts q = rw (← at_id more q, ← at_id es q, ← at_key id q) (map_puts q)
+    inside : (c : Bool) → (e.1 ∷ cond c (definitions_at table other ++ ops ∷ []) (definitions_at table other)) ≡ cond c ((e.1 ∷ definitions_at table other) ++ ops ∷ []) (e.1 ∷ definitions_at table other)
+    inside true = refl
+    inside false = refl
+
+    by : (b : Bool) → definitions_at (table ++ (id, ops) ∷ []) other ≡ defined_at id ops (definitions_at table) other → (c : Bool) → map (λ (e : ℕ × List Op). e.1) (cond b (e ∷ filter (λ (e : ℕ × List Op). nat_eq other e.0) (table ++ (id, ops) ∷ [])) (filter (λ (e : ℕ × List Op). nat_eq other e.0) (table ++ (id, ops) ∷ []))) ≡ cond (nat_eq other id) (map (λ (e : ℕ × List Op). e.1) (cond b (e ∷ filter (λ (e : ℕ × List Op). nat_eq other e.0) table) (filter (λ (e : ℕ × List Op). nat_eq other e.0) table)) ++ ops ∷ []) (map (λ (e : ℕ × List Op). e.1) (cond b (e ∷ filter (λ (e : ℕ × List Op). nat_eq other e.0) table) (filter (λ (e : ℕ × List Op). nat_eq other e.0) table)))
+    by false rest c = rest
+    by true rest c = ap (λ (l : List (List Op)). e.1 ∷ l) rest ∙ inside (nat_eq other id)
+
+heads_and_one : (heads : List Head) (head : Head) (other : ℕ) → heads_at (heads ++ head ∷ []) other ≡ (heads_at heads other ++ cond (nat_eq other head.id) (head ∷ []) [])
+heads_and_one [] head other = by (nat_eq other head.id)
+  where
+    by : (b : Bool) → cond b (head ∷ []) [] ≡ ([] ++ cond b (head ∷ []) [])
+    by true = refl
+    by false = refl
+heads_and_one (h ∷ heads) head other = by (nat_eq other h.id) (heads_and_one heads head other)
+  where
+    by : (b : Bool) → heads_at (heads ++ head ∷ []) other ≡ (heads_at heads other ++ cond (nat_eq other head.id) (head ∷ []) []) → cond b (h ∷ heads_at (heads ++ head ∷ []) other) (heads_at (heads ++ head ∷ []) other) ≡ (cond b (h ∷ heads_at heads other) (heads_at heads other) ++ cond (nat_eq other head.id) (head ∷ []) [])
+    by true rest = ap (λ (l : List Head). h ∷ l) rest
+    by false rest = rest
+
+-- ---- the last definition for an id
+
+last_one : {X : Type 0} → (xs : List X) (x : X) → slice_get (xs ++ x ∷ []) (length (xs ++ x ∷ []) - 1) ≡ Some x
+last_one xs x =
+    let one : length (xs ++ x ∷ []) ≡ length xs + 1 = length-append xs (x ∷ []) in
+    slice_get-get_or (xs ++ x ∷ []) (length (xs ++ x ∷ []) - 1) x (omega (arith, one)) ∙ ap Some (get_or_push xs x x (length (xs ++ x ∷ []) - 1) (omega (arith, one)))
+
+-- The heads after this one are for other ids.
+pub last_at : (all : List HeldOp) (heads : List Head) (end : ℕ) (id : ℕ) (head : Head) → end < length heads → head ≡ get_or heads end head → head.id ≡ id → heads_at heads id ≡ heads_at (take (suc end) heads) id → slice_get (all_held all (heads_at heads id)) (length (all_held all (heads_at heads id)) - 1) ≡ Some (ops_of all head)
+last_at all heads end id head within at is from =
+    let here : heads_at heads id ≡ (heads_at (take end heads) id ++ head ∷ []) = from ∙ ap (λ (l : List Head). heads_at l id) (take-suc heads end head within ∙ ap (λ (h : Head). take end heads ++ h ∷ []) (sym at)) ∙ heads_and_one (take end heads) head id ∙ ap (λ (b : Bool). heads_at (take end heads) id ++ cond b (head ∷ []) []) (eq-eqb id head.id (sym is)) in
+    let shown : all_held all (heads_at heads id) ≡ (all_held all (heads_at (take end heads) id) ++ ops_of all head ∷ []) = ap (all_held all) here ∙ map-append (ops_of all) (heads_at (take end heads) id) (head ∷ []) in
+    rw shown (last_one (all_held all (heads_at (take end heads) id)) (ops_of all head))

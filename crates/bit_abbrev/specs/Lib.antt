@@ -1,5 +1,9 @@
 pub mod Bits
 pub mod Breaks
+pub mod Heads
+pub mod HeldOps
+pub mod Lists
 pub mod Operands
+pub mod Putting
 pub mod Table
 pub mod Values

@@ -74,7 +74,8 @@ pub(crate) fn place_after(op: Op) -> Place
     }
 }
 
-fn kind_of(op: Op) -> Kind
+/// What an operand is, without its value.
+pub(crate) fn kind_of(op: Op) -> Kind
     ensures { result ≡ kind_of op }
 {
     match op {

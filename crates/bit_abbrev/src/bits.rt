@@ -1,6 +1,6 @@
 //! Where the bits of a record come from: a reader, which judges them, or buffered bits, which may be incomplete.
 
-ghost use Rattle.std.specs.Prelude.{◌≡◌, ◌<◌, ◌≤◌, true, OnOk, OnErr};
+ghost use Rattle.std.specs.Prelude.{◌≡◌, ◌<◌, ◌≤◌, true, IfErr, OnOk, OnErr};
 ghost use Rattle.bit_grammar.specs.Fields.{fixed, vbr, char6, align32};
 ghost use Rattle.bit_grammar.specs.Grammar.{at, test};
 ghost use Rattle.bit_fields.specs.Reader.{Extent, Takes, within, failed_reader};
@@ -67,6 +67,11 @@ pub trait Bits {
             (as_reader self.old) r (as_reader self.new)) result }
         ensures same { OnOk result (as_reader self.new ≡ as_reader self.old) }
         ensures holds { OnOk result (holds ≡ true) };
+
+    /// Goes on with what only a reader reads.
+    fn only_reader(&mut self) -> Result<(), Self::Miss>
+        ensures same { OnOk result (as_reader self.new ≡ as_reader self.old) }
+        ensures none { IfErr result (λ miss. (fault : Fault) → faults miss fault → ⊥) };
 
     /// Fails because an allocation for a value failed.
     fn out_of_memory(&mut self) -> Self::Miss
@@ -137,6 +142,11 @@ impl<'a> Bits for Buffered<'a> {
     }
 
     #[inline(always)]
+    fn only_reader(&mut self) -> Result<(), NotBuffered> {
+        Err(NotBuffered)
+    }
+
+    #[inline(always)]
     fn out_of_memory(&mut self) -> NotBuffered {
         NotBuffered
     }
@@ -186,6 +196,11 @@ impl<S: Source> Bits for BitReader<S> {
     #[inline(always)]
     fn judge(&mut self, holds: bool, reason: Reason, bit: u64) -> Result<(), Fault> {
         BitReader::judge(self, holds, reason, bit)
+    }
+
+    #[inline(always)]
+    fn only_reader(&mut self) -> Result<(), Fault> {
+        Ok(())
     }
 
     #[inline(always)]

@@ -4,14 +4,14 @@ ghost use Rattle.std.specs.Prelude.{◌≡◌, ◌-◌, ◌<◌, IfOk, OnErr, tr
 ghost use Rattle.bit_grammar.specs.Definition.{kind, passes, valued, operand, operands, definition};
 ghost use Rattle.bit_grammar.specs.declared.op.Place.TheVariants.{First};
 ghost use Rattle.bit_grammar.specs.FormatDefinition.{HasLawfulValue, Definable};
-ghost use Rattle.bit_fields.specs.Reader.{Takes, IsOnly, told_by};
+ghost use Rattle.bit_fields.specs.Reader.{Takes, IsOnly};
 
-use crate::abbrev::{Abbrev, Ops, fits, place_after};
+use crate::abbrev::{Abbrev, fits, place_after};
+use crate::held_op::HeldOps;
 use crate::widths::{is_fixed_width, is_vbr_width};
 use bit_fields::{BitReader, Fault, Source};
 use bit_grammar::{Kind, Op, Place, Reason, Shapes};
-use smallvec::SmallVec;
-use std::alloc::{AllocError, Global};
+use std::alloc::Global;
 
 /// Reads the flag of an operand, and its encoding if it has one.
 #[tactic(auto, unfolding(bit_grammar::specs::Definition::kind))]
@@ -90,27 +90,19 @@ fn read_operand<S: Source>(
     read_value(reader, kind)
 }
 
-/// Operands while they are read. Up to eight need no allocation.
-type Gathered = SmallVec<Op, 8>;
-
-/// How many operands are copied at most: a list that is made smaller leaves gaps in memory, and a copy of a long one costs as much
-/// again.
-const COPIED: usize = 4096;
-
 /// Reads `count` operands.
 fn read_operands<S: Source>(
     alloc: Global,
     reader: &mut BitReader<S>,
     shapes: Shapes,
     count: u64,
-) -> Result<Gathered, Fault>
+) -> Result<HeldOps, Fault>
     requires some { 0 < count }
     requires live { reader.old.live ≡ true }
-    ensures takes { Takes (operands shapes count First) reader.old
-        (told_by (λ ops. ops.items) result) reader.new }
-    ensures definable { IfOk result (λ ops. Definable ops.items) }
+    ensures takes { Takes (operands shapes count First) reader.old result reader.new }
+    ensures definable { IfOk result Definable }
 {
-    let mut ops = SmallVec::new(alloc);
+    let mut ops = HeldOps::new(alloc);
     let mut place = Place::First;
     for i in 0..count {
         let op = read_operand(reader, shapes, place, count - 1 - i)?;
@@ -123,37 +115,33 @@ fn read_operands<S: Source>(
     Ok(ops)
 }
 
-/// The same operands, without room for more.
-#[cold]
-#[inline(never)]
-fn shrunk(gathered: Gathered) -> Result<Ops, AllocError>
-    ensures { IfOk result (λ ops. ops.items ≡ gathered.items) }
-{
-    let mut ops = gathered.into_vec()?;
-    ops.shrink_to_fit();
-    Ok(Ops::from_vec(ops))
-}
-
 /// Reads the number of operands, and the operands.
 #[tactic(auto, unfolding(bit_grammar::specs::Definition::definition))]
-fn read_definition<S: Source>(
+pub(crate) fn read_definition<S: Source>(
+    alloc: Global,
+    reader: &mut BitReader<S>,
+    shapes: Shapes,
+) -> Result<HeldOps, Fault>
+    ensures takes { Takes (definition shapes) reader.old result reader.new }
+    ensures definable { IfOk result Definable }
+{
+    let first = reader.position();
+    let count = reader.vbr(5)?;
+    reader.judge(count != 0, Reason::AbbrevEmpty, first)?;
+    read_operands(alloc, reader, shapes, count)
+}
+
+/// Reads a definition as one that records are read by.
+fn read_abbrev<S: Source>(
     alloc: Global,
     reader: &mut BitReader<S>,
     shapes: Shapes,
 ) -> Result<Abbrev, Fault>
     ensures { Takes (definition shapes) reader.old result reader.new }
 {
-    let first = reader.position();
-    let count = reader.vbr(5)?;
-    reader.judge(count != 0, Reason::AbbrevEmpty, first)?;
-    let gathered = read_operands(alloc, reader, shapes, count)?;
-    let ops = if gathered.len() <= COPIED {
-        Ops::from_slice(alloc, gathered.as_slice())
-    } else {
-        shrunk(gathered)
-    };
-    match ops {
-        Ok(ops) => Ok(Abbrev::from_definable(ops)),
+    let ops = read_definition(alloc, reader, shapes)?;
+    match ops.operands().copy(alloc) {
+        Ok(abbrev) => Ok(abbrev),
         Err(_) => Err(reader.fail(Fault::Memory)),
     }
 }
@@ -171,7 +159,7 @@ pub fn read_define<S: Source>(
     ensures stays { OnErr result (reader.new.position ≡ reader.old.position) }
 {
     let first = reader.position();
-    match read_definition(alloc, reader, shapes) {
+    match read_abbrev(alloc, reader, shapes) {
         Ok(abbrev) => Ok(abbrev),
         Err(fault) => Err(reader.fail_at(fault, first)),
     }

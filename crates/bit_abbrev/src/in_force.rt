@@ -1,30 +1,38 @@
 //! The table that blocks share, and the definitions in force in a block.
 
-ghost use Rattle.std.specs.Prelude.{◌≡◌, ◌-◌, ◌++◌, [], ◌∷◌, IfOk, OnOk, OnErr, length, slice_get};
-ghost use Rattle.std.specs.Option.{option_copied};
-ghost use Rattle.bit_abbrev.specs.Table.{definitions_at};
+ghost use Rattle.std.specs.Prelude.{◌≡◌, ◌-◌, ◌++◌, ℕ, [], ◌∷◌, IfOk, IfSome, OnOk, OnErr, length, slice_get};
+ghost use Rattle.bit_grammar.specs.Definition.{definition};
+ghost use Rattle.bit_grammar.specs.FormatDefinition.{Definable};
+ghost use Rattle.bit_abbrev.specs.HeldOps.{lent_ops, ops_in};
+ghost use Rattle.bit_abbrev.specs.Putting.{Puts};
+ghost use Rattle.bit_abbrev.specs.Table.{definitions_at, IsWithin};
 
-use crate::{Abbrev, InfoTable};
+use crate::head::Run;
+use crate::lent::Listed;
+use crate::{Abbrev, Definition, InfoTable, Operands};
+use bit_fields::{BitReader, Fault, Source};
+use bit_grammar::Shapes;
 use std::alloc::{AllocError, Global};
 use std::marker::Model;
 use std::rc::Rc;
 
-/// A finished table. The blocks that are entered under it share it.
+/// A finished table, in the order of block ids. The blocks that are entered under it share it.
 #[derive(Drop)]
 pub struct SharedInfo {
     table: Option<Rc<InfoTable>>,
 }
 
 impl Model for SharedInfo {
-    ghost use Rattle.std.specs.Prelude.{ℕ, List};
-    ghost use Rattle.bit_grammar.specs.declared.op.Op.{Op};
-
-    ghost Value = { List (ℕ × List (List Op)) };
-
-    ghost use Rattle.std.specs.Prelude.{[]};
+    ghost use Rattle.std.specs.Prelude.{ℕ, List, [], IfSome};
     ghost use Rattle.std.specs.Option.{option_map_or};
+    ghost use Rattle.bit_grammar.specs.declared.op.Op.{Op};
+    ghost use Rattle.bit_abbrev.specs.Table.{InOrder};
+
+    ghost Value = { List (ℕ × List Op) };
 
     ghost view = { λ shared. option_map_or (λ rc. rc.value) shared.table [] };
+
+    ghost invariant = { λ shared. IfSome shared.table (λ rc. InOrder rc.value) };
 }
 
 impl SharedInfo {
@@ -37,8 +45,11 @@ impl SharedInfo {
 
     /// Shares a finished table. If an allocation fails, the table is dropped.
     pub fn share(alloc: Global, table: InfoTable) -> Result<SharedInfo, AllocError>
-        ensures { IfOk result (λ shared. shared ≡ table) }
+        ensures { IfOk result (λ shared. (id : ℕ)
+            → definitions_at shared id ≡ definitions_at table id) }
     {
+        let mut table = table.in_order()?;
+        table.make_ready(alloc);
         let table = Rc::new(alloc, table)?;
         Ok(SharedInfo { table: Some(table) })
     }
@@ -48,45 +59,56 @@ impl SharedInfo {
     pub fn enter(&self, alloc: Global, id: u32) -> Result<InForce, AllocError>
         ensures ok { IfOk result (λ definitions. definitions ≡ definitions_at self.now id) }
     {
-        let own = Vec::new(alloc);
         let Some(table) = &self.table else {
-            return Ok(InForce { shared: None, own });
+            return Ok(InForce::new(alloc));
         };
-        if table.for_block(id).is_empty() {
-            return Ok(InForce { shared: None, own });
+        let run = table.run_of(id);
+        if run.start == run.end {
+            return Ok(InForce::new(alloc));
         }
         Ok(InForce {
-            shared: Some((table.clone()?, id)),
-            own,
+            shared: Some(FromTable {
+                table: table.clone()?,
+                run,
+            }),
+            own: InfoTable::new(alloc),
         })
     }
+}
+
+/// The definitions that a block has from a table.
+#[derive(Drop)]
+struct FromTable {
+    table: Rc<InfoTable>,
+    run: Run,
+    ghost within: { IsWithin run table.value },
 }
 
 /// The definitions in force in a block: first those of the table, then the block's own.
 #[derive(Drop)]
 pub struct InForce {
-    /// The table, and the id of the block.
-    shared: Option<(Rc<InfoTable>, u32)>,
-    own: Vec<Abbrev>,
+    shared: Option<FromTable>,
+    /// The block's own definitions, each for the block id 0.
+    own: InfoTable,
 }
 
 impl Model for InForce {
     ghost use Rattle.std.specs.Prelude.{List, [], ◌++◌};
     ghost use Rattle.std.specs.Option.{option_map_or};
     ghost use Rattle.bit_grammar.specs.declared.op.Op.{Op};
-    ghost use Rattle.bit_abbrev.specs.Table.{definitions_at};
+    ghost use Rattle.bit_abbrev.specs.Table.{all_of, run_in};
 
     ghost Value = { List (List Op) };
 
-    ghost view = { λ inside. option_map_or (λ shared. definitions_at shared.0.value shared.1) inside.shared
-        [] ++ inside.own.items };
+    ghost view = { λ inside. option_map_or (λ shared. run_in shared.table.value shared.run) inside.shared
+        [] ++ all_of inside.own };
 }
 
 /// The definitions in force in a block, as two lists: the table's and the block's own.
 #[derive(Drop)]
 pub struct Definitions<'a> {
-    shared: &'a [Abbrev],
-    own: &'a [Abbrev],
+    shared: Listed<'a>,
+    own: Listed<'a>,
 }
 
 impl<'a> Model for Definitions<'a> {
@@ -95,19 +117,30 @@ impl<'a> Model for Definitions<'a> {
 
     ghost Value = { List (List Op) };
 
-    ghost view = { λ all. all.shared.now ++ all.own.now };
+    ghost view = { λ all. all.shared ++ all.own };
 }
 
 impl<'a> Definitions<'a> {
     /// The definition at an index, if there is one.
     #[inline(always)]
-    pub fn get(&self, index: usize) -> Option<&'a Abbrev>
-        ensures { option_copied result ≡ slice_get self.now index }
+    pub fn get(&self, index: usize) -> Option<Definition<'a>>
+        ensures { result ≡ slice_get self.now index }
     {
         if index < self.shared.len() {
             self.shared.get(index)
         } else {
             self.own.get(index - self.shared.len())
+        }
+    }
+
+    /// The operands of the last definition, if there is one.
+    fn last(&self) -> Option<Operands<'a>>
+        ensures last { lent_ops result ≡ slice_get self.now (length self.now - 1) }
+        ensures definable { IfSome result (λ operands. Definable (ops_in operands.held.now)) }
+    {
+        match self.own.last() {
+            Some(own) => Some(own),
+            None => self.shared.last(),
         }
     }
 }
@@ -121,25 +154,24 @@ pub trait Lookup {
     ghost listed: { Self → List (List Op) };
 
     /// The definition at an index, if there is one.
-    fn look_up(&self, index: usize) -> Option<&Abbrev>
-        ensures { option_copied result ≡ slice_get (listed self.now) index };
+    fn look_up(&self, index: usize) -> Option<Definition<'_>>
+        ensures { result ≡ slice_get (listed self.now) index };
 }
 
 impl<'a> Lookup for Definitions<'a> {
     ghost listed = { λ definitions. definitions };
 
     #[inline(always)]
-    fn look_up(&self, index: usize) -> Option<&Abbrev> {
+    fn look_up(&self, index: usize) -> Option<Definition<'_>> {
         self.get(index)
     }
 }
 
-/// Each look-up searches the table. For many look-ups, `InForce::all` searches it once.
 impl Lookup for InForce {
     ghost listed = { λ definitions. definitions };
 
     #[inline(always)]
-    fn look_up(&self, index: usize) -> Option<&Abbrev> {
+    fn look_up(&self, index: usize) -> Option<Definition<'_>> {
         self.get(index)
     }
 }
@@ -151,16 +183,32 @@ impl InForce {
     {
         InForce {
             shared: None,
-            own: Vec::new(alloc),
+            own: InfoTable::new(alloc),
         }
     }
 
-    /// Adds a definition of the block. If an allocation fails, the definition is dropped.
-    pub fn define(&mut self, abbrev: Abbrev) -> Result<(), AllocError>
-        ensures ok { OnOk result (self.new ≡ self.old ++ «abbrev» ∷ []) }
+    /// Adds a definition of the block. If an allocation fails, it is dropped.
+    pub fn define(&mut self, alloc: Global, abbrev: &Abbrev) -> Result<(), AllocError>
+        ensures ok { OnOk result (self.new ≡ self.old ++ «abbrev».now ∷ []) }
         ensures err { OnErr result (self.new ≡ self.old) }
     {
-        self.own.push(abbrev)?;
+        self.own.define(alloc, 0, abbrev)?;
+        self.own.make_next_ready(alloc);
+        Ok(())
+    }
+
+    /// Reads a definition of the block after its abbreviation id, and adds it.
+    pub fn read_define<S: Source>(
+        &mut self,
+        alloc: Global,
+        reader: &mut BitReader<S>,
+        shapes: Shapes,
+    ) -> Result<(), Fault>
+        ensures { Puts (definition shapes) reader.old result reader.new
+            (λ ops. self.new ≡ self.old ++ ops ∷ []) }
+    {
+        self.own.read_define(alloc, 0, reader, shapes)?;
+        self.own.make_next_ready(alloc);
         Ok(())
     }
 
@@ -170,33 +218,32 @@ impl InForce {
         ensures { result ≡ self.now }
     {
         let shared = match &self.shared {
-            Some((table, id)) => table.for_block(*id),
-            None => &[],
+            Some(shared) => shared.table.listed(shared.run),
+            None => Listed {
+                heads: &[],
+                held: &[],
+                ready: &[],
+            },
         };
         Definitions {
             shared,
-            own: self.own.as_slice(),
+            own: self.own.all(),
         }
     }
 
     /// The definition at an index, if there is one.
     #[inline]
-    pub fn get(&self, index: usize) -> Option<&Abbrev>
-        ensures { option_copied result ≡ slice_get self.now index }
+    pub fn get(&self, index: usize) -> Option<Definition<'_>>
+        ensures { result ≡ slice_get self.now index }
     {
         self.all().get(index)
     }
 
-    /// The last definition that the block added, or else the last one of the table.
-    pub fn last(&self) -> Option<&Abbrev>
-        ensures { option_copied result ≡ slice_get self.now (length self.now - 1) }
+    /// The operands of the last definition that the block added, or else of the last one of the table.
+    pub fn last(&self) -> Option<Operands<'_>>
+        ensures last { lent_ops result ≡ slice_get self.now (length self.now - 1) }
+        ensures definable { IfSome result (λ operands. Definable (ops_in operands.held.now)) }
     {
-        if let Some(own) = self.own.last() {
-            return Some(own);
-        }
-        match &self.shared {
-            Some((table, id)) => table.for_block(*id).last(),
-            None => None,
-        }
+        self.all().last()
     }
 }

@@ -1,69 +1,230 @@
-//! The table of the abbreviations that BLOCKINFO blocks define, by block id.
+//! Definitions in order, each with the id of the blocks that it is for.
 
-ghost use Rattle.std.specs.Prelude.{◌≡◌, ℕ, OnOk, OnErr};
-ghost use Rattle.bit_grammar.specs.Terms.{defined_at, no_definitions};
-ghost use Rattle.bit_abbrev.specs.Table.{definitions_at};
+ghost use Rattle.std.specs.Prelude.{◌≡◌, ◌-◌, ◌++◌, ◌∷◌, [], ℕ, IfOk, IfSome, OnOk, OnErr, drop, length, slice_get};
+ghost use Rattle.bit_grammar.specs.Definition.{definition};
+ghost use Rattle.bit_grammar.specs.FormatDefinition.{Definable};
+ghost use Rattle.bit_abbrev.specs.HeldOps.{lent_ops, ops_in};
+ghost use Rattle.bit_abbrev.specs.Putting.{Puts};
+ghost use Rattle.bit_abbrev.specs.Table.{all_of, definitions_at, InOrder, IsWithin, run_in};
 
-use crate::Abbrev;
+use crate::abbrev::Abbrev;
+use crate::definition::read_definition;
+use crate::head::{Head, Run};
+use crate::held_op::{HeldOp, HeldOps};
+use crate::lent::{Listed, operands_at};
+use crate::operands::Operands;
+use bit_fields::{BitReader, Fault, Source};
+use bit_grammar::Shapes;
 use std::alloc::{AllocError, Global};
-use std::collections::BTreeMap;
 use std::marker::Model;
 
-/// The definitions of BLOCKINFO blocks, for each block id in the order in which they are made. The ids are kept sorted, so that no
-/// choice of ids makes a look-up slow.
+/// Definitions are ready if their operands begin before this place in the list of all: those of real files do, and more would take
+/// much memory.
+const READY: usize = 1024;
+
+/// The definitions of BLOCKINFO blocks, in order, each with the id of the blocks that it is for; or those of one block.
+///
+/// Their operands stand in one list, two bytes for each, and eight bytes tell where those of a definition begin.
 #[derive(Drop)]
 pub struct InfoTable {
-    alloc: Global,
-    lists: BTreeMap<u32, Vec<Abbrev>>,
+    held: Vec<HeldOp>,
+    heads: Vec<Head>,
+    /// The first definitions, if they are ready.
+    ready: Vec<Abbrev>,
 }
 
 impl Model for InfoTable {
-    ghost use Rattle.std.specs.Prelude.{ℕ, List};
+    ghost use Rattle.std.specs.Prelude.{◌≤◌, ℕ, List, length};
     ghost use Rattle.bit_grammar.specs.declared.op.Op.{Op};
-
-    ghost Value = { List (ℕ × List (List Op)) };
-
+    ghost use Rattle.bit_abbrev.specs.Heads.{AreHeld, all_held};
+    ghost use Rattle.bit_abbrev.specs.Lists.{Agree};
     ghost use Rattle.bit_abbrev.specs.Table.{table_shown};
 
-    ghost view = { λ table. table_shown table.lists.entries };
+    ghost Value = { List (ℕ × List Op) };
+
+    ghost view = { λ table. table_shown table.held.items table.heads.items };
+
+    ghost invariant = { λ table. AreHeld table.held.items table.heads.items
+        × (length table.ready.items ≤ length table.heads.items)
+        × Agree table.ready.items (all_held table.held.items table.heads.items) };
+}
+
+/// The operands of a definition, as they are held.
+fn held(alloc: Global, abbrev: &Abbrev) -> Result<HeldOps, AllocError>
+    ensures ops { IfOk result (λ ops. ops ≡ «abbrev».now) }
+    ensures definable { IfOk result Definable }
+{
+    let mut ops = HeldOps::new(alloc);
+    for op in abbrev.ops() {
+        ops.push(*op)?;
+    }
+    Ok(ops)
+}
+
+/// Those from an index on.
+#[inline(always)]
+fn ready_from(ready: &[Abbrev], start: usize) -> &[Abbrev]
+    ensures { result.now ≡ drop start ready.now }
+{
+    if start < ready.len() { &ready[start..] } else { &[] }
 }
 
 impl InfoTable {
-    /// A table without definitions.
+    /// A table without definitions. It allocates nothing.
     pub fn new(alloc: Global) -> InfoTable
-        ensures { (id : ℕ) → definitions_at result id ≡ no_definitions id }
+        ensures { result ≡ [] }
     {
         InfoTable {
-            alloc,
-            lists: BTreeMap::new(alloc),
+            held: Vec::new(alloc),
+            heads: Vec::new(alloc),
+            ready: Vec::new(alloc),
         }
     }
 
-    /// The definitions for a block id, possibly none.
-    pub fn for_block(&self, id: u32) -> &[Abbrev]
-        ensures { result.now ≡ definitions_at self.now id }
-    {
-        match self.lists.get(&id) {
-            Some(list) => list.as_slice(),
-            None => &[],
-        }
-    }
-
-    /// Adds a definition to those for a block id. If an allocation fails, it is dropped.
-    pub fn define(&mut self, id: u32, abbrev: Abbrev) -> Result<(), AllocError>
-        ensures ok { OnOk result ((other : ℕ)
-            → definitions_at self.new other ≡ defined_at id «abbrev» (definitions_at self.old)
-            other) }
+    /// Adds a definition for a block id. If an allocation fails, or all have 2^32 operands, nothing changes.
+    fn add(&mut self, id: u32, ops: &HeldOps) -> Result<(), AllocError>
+        requires { Definable ops.now }
+        ensures ok { OnOk result (self.new ≡ self.old ++ (id, ops.now) ∷ []) }
         ensures err { OnErr result (self.new ≡ self.old) }
     {
-        if let Some(list) = self.lists.get_mut(&id) {
-            list.push(abbrev)?;
-            return Ok(());
+        let start = self.held.len();
+        if start > u32::MAX as usize {
+            return Err(AllocError);
         }
-        // Most hold few definitions, and there may be one for each id.
-        let mut list = Vec::with_capacity(self.alloc, 1)?;
-        list.push(abbrev)?;
-        self.lists.insert(id, list)?;
+        self.held.extend_from_slice(ops.as_slice())?;
+        self.held.push(HeldOp::End)?;
+        self.heads.push(Head {
+            id,
+            start: start as u32,
+        })?;
         Ok(())
+    }
+
+    /// Adds a definition for a block id. If an allocation fails, it is dropped.
+    pub fn define(&mut self, alloc: Global, id: u32, abbrev: &Abbrev) -> Result<(), AllocError>
+        ensures ok { OnOk result (self.new ≡ self.old ++ (id, «abbrev».now) ∷ []) }
+        ensures err { OnErr result (self.new ≡ self.old) }
+    {
+        let ops = held(alloc, abbrev)?;
+        self.add(id, &ops)
+    }
+
+    /// Reads a definition for a block id after its abbreviation id, and adds it.
+    pub fn read_define<S: Source>(
+        &mut self,
+        alloc: Global,
+        id: u32,
+        reader: &mut BitReader<S>,
+        shapes: Shapes,
+    ) -> Result<(), Fault>
+        ensures { Puts (definition shapes) reader.old result reader.new
+            (λ ops. self.new ≡ self.old ++ (id, ops) ∷ []) }
+    {
+        let ops = read_definition(alloc, reader, shapes)?;
+        match self.add(id, &ops) {
+            Ok(()) => Ok(()),
+            Err(_) => Err(reader.fail(Fault::Memory)),
+        }
+    }
+
+    /// Makes the next definition ready, if there is one, it is short and there is memory. Returns whether it did.
+    pub(crate) fn make_next_ready(&mut self, alloc: Global) -> bool
+        ensures { self.new ≡ self.old }
+    {
+        let Some(head) = self.heads.get(self.ready.len()) else {
+            return false;
+        };
+        let operands = operands_at(self.held.as_slice(), *head);
+        if head.start as usize >= READY || !operands.is_short() {
+            return false;
+        }
+        let Ok(abbrev) = operands.copy(alloc) else {
+            return false;
+        };
+        match self.ready.push(abbrev) {
+            Ok(()) => true,
+            Err(_) => false,
+        }
+    }
+
+    /// Makes definitions ready, from the next one to the first that can't be.
+    pub(crate) fn make_ready(&mut self, alloc: Global)
+        ensures { self.new ≡ self.old }
+    {
+        for _made in 0..self.heads.len() {
+            if !self.make_next_ready(alloc) {
+                return;
+            }
+        }
+    }
+
+    /// All definitions, whatever their ids.
+    pub(crate) fn all(&self) -> Listed<'_>
+        ensures { result ≡ all_of self.now }
+    {
+        Listed {
+            heads: self.heads.as_slice(),
+            held: self.held.as_slice(),
+            ready: self.ready.as_slice(),
+        }
+    }
+
+    /// The operands of the last definition for a block id, if there is one.
+    pub fn last_for(&self, id: u32) -> Option<Operands<'_>>
+        ensures last { lent_ops result
+            ≡ slice_get (definitions_at self.now id) (length (definitions_at self.now id) - 1) }
+        ensures definable { IfSome result (λ operands. Definable (ops_in operands.held.now)) }
+    {
+        let mut end = self.heads.len();
+        while end > 0 {
+            end -= 1;
+            let head = self.heads[end];
+            if head.id == id {
+                return Some(operands_at(self.held.as_slice(), head));
+            }
+        }
+        None
+    }
+
+    /// The table in the order of block ids. The definitions for one id stay in their order.
+    pub(crate) fn in_order(self) -> Result<InfoTable, AllocError>
+        ensures order { IfOk result InOrder }
+        ensures same { IfOk result (λ table. (id : ℕ)
+            → definitions_at table id ≡ definitions_at self id) }
+    {
+        let InfoTable {
+            held,
+            mut heads,
+            mut ready,
+        } = self;
+        ready.clear();
+        heads.sort_by_key(|head| head.id)?;
+        Ok(InfoTable { held, heads, ready })
+    }
+
+    /// Where the definitions for a block id are in a table in the order of ids.
+    pub(crate) fn run_of(&self, id: u32) -> Run
+        requires { InOrder self.now }
+        ensures within { IsWithin result self.now }
+        ensures run { run_in self.now result ≡ definitions_at self.now id }
+    {
+        let heads = self.heads.as_slice();
+        Run {
+            start: heads.partition_point(|head| head.id < id),
+            end: heads.partition_point(|head| head.id <= id),
+        }
+    }
+
+    /// The definitions of a run.
+    #[inline(always)]
+    pub(crate) fn listed(&self, run: Run) -> Listed<'_>
+        requires { IsWithin run self.now }
+        ensures { result ≡ run_in self.now run }
+    {
+        Listed {
+            heads: &self.heads[run.start..run.end],
+            held: self.held.as_slice(),
+            ready: ready_from(self.ready.as_slice(), run.start),
+        }
     }
 }

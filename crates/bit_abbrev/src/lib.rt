@@ -7,16 +7,26 @@
 //! VBRs, bytes. `read_record` and `read_plain` read records with and without a definition; `read_abbreviated` is `read_record` on a
 //! reader, and restores the values if it fails.
 //!
-//! `SharedInfo` and `InForce` give a block the definitions in force without a copy: a finished table is shared by one `Rc`, and a
-//! block adds its own in a vector. An `Abbrev` knows whether its shape is lawful (`is_usable`); no record may use one that is not.
+//! An `InfoTable` holds definitions in little memory, since an input may make many: their operands stand in one list, two bytes for
+//! each (`HeldOp`), and for each definition there are eight bytes that tell its block id and where its operands begin. The first short
+//! ones are held as an `Abbrev` each too: they are ready, which is all that most inputs need. Buffered records are read by ready
+//! definitions alone, and a reader reads records by all, operand by operand (`OneByOne`).
+//!
+//! `SharedInfo` and `InForce` give a block the definitions in force without a copy: a finished table is sorted by block id and shared
+//! by one `Rc`, and a block adds its own. A `Definition` knows whether its shape is lawful (`is_usable`); no record may use one that
+//! is not.
 #![tactic(auto)]
 
 mod abbrev;
 mod bits;
 mod definition;
+mod head;
+mod held_op;
 mod in_force;
 mod info;
 mod laws;
+mod lent;
+mod operands;
 #[cfg(test)]
 mod reading_tests;
 mod record;
@@ -33,5 +43,7 @@ pub use definition::read_define;
 pub use in_force::{Definitions, InForce, Lookup, SharedInfo};
 pub use info::InfoTable;
 pub use laws::lawful_unbroken;
+pub use lent::Definition;
+pub use operands::Operands;
 pub use record::{read_abbreviated, read_plain, read_record};
 pub use runs::Runs;

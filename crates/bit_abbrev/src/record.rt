@@ -1,6 +1,6 @@
 //! Reading records from any source of bits.
 
-ghost use Rattle.std.specs.Prelude.{◌≡◌, ◌≢◌, ◌+◌, ◌-◌, ◌≤◌, ℕ, List, [], ◌∷◌, ◌++◌, Ok, Err, IfErr, IfOk, OnErr, OnOk, length, true, nat_le, false};
+ghost use Rattle.std.specs.Prelude.{◌≡◌, ◌≢◌, ◌+◌, ◌-◌, ◌≤◌, ℕ, List, [], ◌∷◌, ◌++◌, Ok, Err, IfErr, IfOk, OnErr, OnOk, length, take, drop, true, nat_le, false};
 ghost use Rattle.std.specs.List.{AllByRecursion};
 ghost use Rattle.bit_grammar.specs.Grammar.{gives};
 ghost use Rattle.bit_grammar.specs.Record.{scalar, singles, value_count, values_of, abbreviated, unabbreviated};
@@ -12,11 +12,14 @@ ghost use Rattle.bit_fields.specs.declared.fault.Fault.{Fault};
 ghost use Rattle.bit_fields.specs.declared.fault.Fault.TheVariants.{Memory};
 ghost use Rattle.bit_fields.specs.Reader.{Takes, IsOnly, failed_reader};
 ghost use Rattle.bit_abbrev.specs.Bits.{Answers};
+ghost use Rattle.bit_abbrev.specs.HeldOps.{ops_in};
 ghost use Rattle.bit_abbrev.specs.Operands.{OthersInOrder, others_of};
 ghost use Rattle.bit_abbrev.specs.Values.{AddsAll, AddsFew, AddsFirst, AddsWithin, Gains, Keeps, PassesFirst, Recorded};
 
-use crate::abbrev::Abbrev;
 use crate::bits::Bits;
+use crate::abbrev::Abbrev;
+use crate::lent::Definition;
+use crate::operands::{OneByOne, Operands, Ready};
 use crate::runs::Runs;
 use bit_fields::{BitReader, ChunkWidth, Fault, FieldWidth, Source, ValueTaker};
 use bit_grammar::{Op, Reason};
@@ -195,41 +198,49 @@ fn read_blob<U, B: Runs, V: ValueTaker>(
     bits.pad()
 }
 
-/// Skips the fields of operands that give one value each.
+/// Skips the fields of the first `count` operands, which give one value each.
 #[inline(always)]
-fn skip_singles<B: Bits>(bits: &mut B, ops: &[Op]) -> Result<(), B::Miss>
-    requires single { singles ops.now ≡ length ops.now }
-    requires lawful { AllByRecursion HasLawfulValue ops.now }
+fn skip_singles<B: Bits, L: OneByOne>(
+    bits: &mut B,
+    operands: &mut L,
+    count: usize,
+) -> Result<(), B::Miss>
+    requires single { count ≡ singles (L.left operands.old) }
+    requires lawful { AllByRecursion HasLawfulValue (L.left operands.old) }
     requires live { (B.as_reader bits.old).live ≡ true }
-    ensures { (room : ℕ) (tail : List Op) → Answers B.faults (PassesFirst room ops.now tail
-        (B.as_reader bits.old) (B.as_reader bits.new)) result }
+    ensures { (room : ℕ) (tail : List Op) → Answers B.faults (PassesFirst room
+        (take count (L.left operands.old)) tail (B.as_reader bits.old)
+        (B.as_reader bits.new)) result }
 {
-    for op in ops {
-        skip_scalar(bits, *op)?;
+    for _done in 0..count {
+        let op = operands.take_one();
+        skip_scalar(bits, op)?;
     }
     Ok(())
 }
 
-/// Reads the values of operands that give one value each, or skips them if the value sink does not use them.
+/// Reads the values of the first `count` operands, which give one value each, or skips them if the value sink does not use them.
 #[inline(always)]
-fn read_singles<U, B: Bits, V: ValueTaker>(
+fn read_singles<U, B: Bits, L: OneByOne, V: ValueTaker>(
     bits: &mut B,
-    ops: &[Op],
+    operands: &mut L,
+    count: usize,
     values: &mut V,
 ) -> Result<(), B::Miss>
-    requires single { singles ops.now ≡ length ops.now }
-    requires lawful { AllByRecursion HasLawfulValue ops.now }
+    requires single { count ≡ singles (L.left operands.old) }
+    requires lawful { AllByRecursion HasLawfulValue (L.left operands.old) }
     requires live { (B.as_reader bits.old).live ≡ true }
     ensures adds { (room : ℕ) (tail : List Op) → Answers B.faults (λ r. Gains V.took values.old
-        values.new (AddsFirst room ops.now tail (B.as_reader bits.old) r (B.as_reader bits.new)))
-        result }
+        values.new (AddsFirst room (take count (L.left operands.old)) tail
+        (B.as_reader bits.old) r (B.as_reader bits.new))) result }
     ensures keeps { Keeps V.took values.old values.new }
 {
-    if values.pass(ops.len() as u64) {
-        return skip_singles(bits, ops);
+    if values.pass(count as u64) {
+        return skip_singles(bits, operands, count);
     }
-    for op in ops {
-        let value = read_scalar(bits, *op)?;
+    for _done in 0..count {
+        let op = operands.take_one();
+        let value = read_scalar(bits, op)?;
         keep(bits, values, value)?;
     }
     Ok(())
@@ -237,27 +248,29 @@ fn read_singles<U, B: Bits, V: ValueTaker>(
 
 /// Reads the values of operands, at most `room`. The first `count` operands give one value each.
 #[inline(always)]
-fn read_values<U, B: Runs, V: ValueTaker>(
+fn read_values<U, B: Runs, L: OneByOne, V: ValueTaker>(
     bits: &mut B,
     room: u64,
-    ops: &[Op],
+    operands: &mut L,
     count: usize,
     values: &mut V,
 ) -> Result<(), B::Miss>
-    requires order { OthersInOrder ops.now }
-    requires singles { count ≡ singles ops.now }
-    requires within { count ≤ length ops.now }
-    requires lawful { AllByRecursion HasLawfulValue ops.now }
+    requires order { OthersInOrder (L.left operands.old) }
+    requires singles { count ≡ singles (L.left operands.old) }
+    requires lawful { AllByRecursion HasLawfulValue (L.left operands.old) }
     requires live { (B.as_reader bits.old).live ≡ true }
-    requires fits { singles ops.now ≤ room }
+    requires fits { singles (L.left operands.old) ≤ room }
     ensures adds { Answers B.faults (λ r. Gains V.took values.old values.new
-        (AddsFew (values_of (room - singles ops.now) ops.now) room (B.as_reader bits.old) r
-        (B.as_reader bits.new))) result }
+        (AddsFew (values_of (room - singles (L.left operands.old))
+        (L.left operands.old)) room (B.as_reader bits.old) r (B.as_reader bits.new)))
+        result }
     ensures keeps { Keeps V.took values.old values.new }
 {
-    read_singles::<U, B, V>(bits, &ops[..count], values)?;
+    // Found first, so that the loop's place in the operands is in one register.
+    let mut others = operands.behind(count);
+    read_singles::<U, B, L, V>(bits, operands, count, values)?;
     let left = room - count as u64;
-    let last = ops.len() - count;
+    let last = others.len();
     // Tested first, so that the blob is inlined and the buffered bits stay in registers.
     if last == 1 {
         return read_blob::<U, B, V>(bits, left, values);
@@ -265,44 +278,64 @@ fn read_values<U, B: Runs, V: ValueTaker>(
     if last == 0 {
         return Ok(());
     }
-    read_array::<U, B, V>(bits, left, ops[count + 1], values)
+    let _array = others.take_one();
+    let element = others.take_one();
+    read_array::<U, B, V>(bits, left, element, values)
 }
 
 /// Reads a record by its operands. After the first one, `count` of them give one value each.
 #[inline(always)]
-fn read_by_ops<U, B: Runs, V: ValueTaker>(
+fn read_by_ops<U, B: Runs, L: OneByOne, V: ValueTaker>(
     bits: &mut B,
-    ops: &[Op],
+    operands: &mut L,
     count: usize,
     first: u64,
     room: u64,
     values: &mut V,
 ) -> Result<u64, B::Miss>
-    requires lawful { Lawful ops.now }
+    requires lawful { Lawful (L.left operands.old) }
     requires live { (B.as_reader bits.old).live ≡ true }
-    requires singles { count ≡ singles (others_of ops.now) }
-    requires within { count ≤ length (others_of ops.now) }
+    requires singles { count ≡ singles (others_of (L.left operands.old)) }
     ensures adds { Answers B.faults (λ r. Gains V.took values.old values.new
-        (AddsWithin (abbreviated first room ops.now) room (B.as_reader bits.old) r
-        (B.as_reader bits.new))) result }
+        (AddsWithin (abbreviated first room (L.left operands.old)) room
+        (B.as_reader bits.old) r (B.as_reader bits.new))) result }
     ensures keeps { Keeps V.took values.old values.new }
 {
-    let [code_op, others @ ..] = ops else {
-        unreachable!();
-    };
     bits.judge(count as u64 <= room, Reason::TooManyValues, first)?;
-    let code = read_scalar(bits, *code_op)?;
-    read_values::<U, B, V>(bits, room, others, count, values)?;
+    // Taken and read in one match.
+    let code_op = operands.take_one();
+    let code = read_scalar(bits, code_op)?;
+    read_values::<U, B, L, V>(bits, room, operands, count, values)?;
     Ok(code)
 }
 
-/// Reads a record by its definition, after its abbreviation id, which began at `first`: gives its values to the value sink and
-/// returns its code. If it fails, some of its values may have been added.
-///
-/// `U` names the caller. So each caller has its own copy, which the compiler inlines into the caller's loop; the buffered bits
-/// then stay in registers.
+/// Reads a record by a definition that is not ready.
+#[cold]
+#[inline(never)]
+fn read_apart<B: Runs, V: ValueTaker>(
+    bits: &mut B,
+    operands: Operands<'_>,
+    first: u64,
+    room: u64,
+    values: &mut V,
+) -> Result<u64, B::Miss>
+    requires lawful { Lawful (ops_in operands.held.now) }
+    requires live { (B.as_reader bits.old).live ≡ true }
+    ensures adds { Answers B.faults (λ r. Gains V.took values.old values.new
+        (AddsWithin (abbreviated first room (ops_in operands.entry.held.now)) room
+        (B.as_reader bits.old) r (B.as_reader bits.new))) result }
+    ensures keeps { Keeps V.took values.old values.new }
+{
+    let mut others = operands;
+    let _code = others.take_one();
+    let count = others.singles();
+    let mut operands = operands;
+    read_by_ops::<V, B, Operands<'_>, V>(bits, &mut operands, count, first, room, values)
+}
+
+/// Reads a record by a definition that is ready. For `U` see `read_record`.
 #[inline(always)]
-pub fn read_record<U, B: Runs, V: ValueTaker>(
+fn read_ready<U, B: Runs, V: ValueTaker>(
     bits: &mut B,
     abbrev: &Abbrev,
     first: u64,
@@ -318,7 +351,35 @@ pub fn read_record<U, B: Runs, V: ValueTaker>(
 {
     let ops = abbrev.lawful_ops();
     let count = ops.len() - 1 - abbrev.tail().len();
-    read_by_ops::<U, B, V>(bits, ops, count, first, room, values)
+    let mut operands = Ready { ops };
+    read_by_ops::<U, B, Ready<'_>, V>(bits, &mut operands, count, first, room, values)
+}
+
+/// Reads a record by its definition, after its abbreviation id, which began at `first`: gives its values to the value sink and
+/// returns its code. If it fails, some of its values may have been added.
+///
+/// `U` names the caller. So each caller has its own copy, which the compiler inlines into the caller's loop; the buffered bits
+/// then stay in registers.
+#[inline(always)]
+pub fn read_record<U, B: Runs, V: ValueTaker>(
+    bits: &mut B,
+    definition: &Definition<'_>,
+    first: u64,
+    room: u64,
+    values: &mut V,
+) -> Result<u64, B::Miss>
+    requires shape { has_shape definition.now ≡ true }
+    requires live { (B.as_reader bits.old).live ≡ true }
+    ensures adds { Answers B.faults (λ r. Gains V.took values.old values.new
+        (AddsWithin (abbreviated first room definition.now) room (B.as_reader bits.old) r
+        (B.as_reader bits.new))) result }
+    ensures keeps { Keeps V.took values.old values.new }
+{
+    if let Some(abbrev) = definition.ready() {
+        return read_ready::<U, B, V>(bits, abbrev, first, room, values);
+    }
+    bits.only_reader()?;
+    read_apart::<B, V>(bits, definition.operands(), first, room, values)
 }
 
 /// Reads a record that is not abbreviated, after its abbreviation id: gives its values to the value sink and returns its code. If
@@ -370,7 +431,7 @@ pub fn read_abbreviated<S: Source, V: ValueTaker>(
     }
     let start = reader.position();
     let before = values.count();
-    match read_record::<V, BitReader<S>, V>(reader, abbrev, first, room, values) {
+    match read_ready::<V, BitReader<S>, V>(reader, abbrev, first, room, values) {
         Ok(code) => Ok(code),
         Err(fault) => {
             values.truncate(before);

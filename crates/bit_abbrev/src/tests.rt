@@ -1,4 +1,4 @@
-use crate::{Abbrev, InForce, InfoTable, Op, SharedInfo};
+use crate::{Abbrev, InForce, InfoTable, Op, Operands, SharedInfo};
 use bit_grammar::Reason;
 use smallvec::SmallVec;
 use std::alloc::{AllocError, Global};
@@ -124,22 +124,32 @@ fn constant(alloc: Global, value: u64) -> Result<Abbrev, Fail> {
 }
 
 /// The literal with which a definition begins; 0 for no definition, and the greatest number for one that begins otherwise.
-fn literal(definition: Option<&Abbrev>) -> u64 {
-    match definition.map(Abbrev::ops) {
-        None => 0,
-        Some([Op::Literal(value), ..]) if *value > 0 => *value,
-        Some(_) => u64::MAX,
+fn literal(operands: Option<Operands<'_>>) -> u64 {
+    let Some(mut operands) = operands else {
+        return 0;
+    };
+    match operands.next() {
+        Some(Op::Literal(value)) if value > 0 => value,
+        _ => u64::MAX,
     }
 }
 
-/// The literals of an id's definitions, with zeros after them.
-fn literals_of(table: &InfoTable, id: u32) -> [u64; 5] {
-    let definitions = table.for_block(id);
+/// The same for the definition at an index.
+fn literal_at(definitions: &InForce, index: usize) -> u64 {
+    match definitions.get(index) {
+        Some(definition) => literal(Some(definition.operands())),
+        None => 0,
+    }
+}
+
+/// The literals of the definitions with which a block begins, with zeros after them.
+fn literals_of(alloc: Global, shared: &SharedInfo, id: u32) -> Result<[u64; 5], AllocError> {
+    let definitions = shared.enter(alloc, id)?;
     let mut values = [0; 5];
     for (index, value) in values.iter_mut().enumerate() {
-        *value = literal(definitions.get(index));
+        *value = literal_at(&definitions, index);
     }
-    values
+    Ok(values)
 }
 
 /// Defines a literal. If an allocation fails, the others stay.
@@ -150,23 +160,23 @@ fn define(
     id: u32,
     value: u64,
 ) -> Result<(), Fail> {
-    let before = literals_of(table, id);
+    let before = literal(table.last_for(id));
     let definition = constant(alloc, value)?;
-    if let Err(refused) = table.define(id, definition) {
-        assert!(rt; literals_of(table, id) == before);
+    if let Err(refused) = table.define(alloc, id, &definition) {
+        assert!(rt; literal(table.last_for(id)) == before);
         return Err(refused.into());
     }
     Ok(())
 }
 
 /// The definitions of four ids.
-fn four_ids(table: &InfoTable) -> [[u64; 5]; 4] {
-    [
-        literals_of(table, 8),
-        literals_of(table, 0),
-        literals_of(table, u32::MAX),
-        literals_of(table, 9),
-    ]
+fn four_ids(alloc: Global, shared: &SharedInfo) -> Result<[[u64; 5]; 4], AllocError> {
+    Ok([
+        literals_of(alloc, shared, 8)?,
+        literals_of(alloc, shared, 0)?,
+        literals_of(alloc, shared, u32::MAX)?,
+        literals_of(alloc, shared, 9)?,
+    ])
 }
 
 /// Defines five literals for three ids, in turn.
@@ -187,10 +197,11 @@ static FOUR_IDS: [[u64; 5]; 4] = [
 #[test]
 fn the_table_keeps_the_order_of_each_id(rt: HostRuntime) -> Result<(), Fail> {
     let mut table = InfoTable::new(rt.alloc());
-    let before = table.for_block(8).len();
     define_five(&rt, rt.alloc(), &mut table)?;
-    let told = four_ids(&table);
-    assert!(rt; before == 0 && told == FOUR_IDS);
+    let last = literal(table.last_for(8));
+    let shared = SharedInfo::share(rt.alloc(), table)?;
+    let told = four_ids(rt.alloc(), &shared)?;
+    assert!(rt; last == 5 && told == FOUR_IDS);
     Ok(())
 }
 
@@ -198,14 +209,14 @@ fn the_table_keeps_the_order_of_each_id(rt: HostRuntime) -> Result<(), Fail> {
 fn in_force(definitions: &InForce) -> ([u64; 9], u64) {
     let mut values = [0; 9];
     for (index, value) in values.iter_mut().enumerate() {
-        *value = literal(definitions.get(index));
+        *value = literal_at(definitions, index);
     }
     (values, literal(definitions.last()))
 }
 
 /// Adds a definition to a table.
 fn put(alloc: Global, table: &mut InfoTable, id: u32, value: u64) -> Result<(), Fail> {
-    table.define(id, constant(alloc, value)?)?;
+    table.define(alloc, id, &constant(alloc, value)?)?;
     Ok(())
 }
 
@@ -225,7 +236,7 @@ fn shared_of(alloc: Global, id: u32, values: &[u64]) -> Result<SharedInfo, Fail>
 
 /// Adds a definition to a block.
 fn add(alloc: Global, definitions: &mut InForce, value: u64) -> Result<(), Fail> {
-    definitions.define(constant(alloc, value)?)?;
+    definitions.define(alloc, &constant(alloc, value)?)?;
     Ok(())
 }
 

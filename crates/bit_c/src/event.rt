@@ -71,7 +71,7 @@ fn event_of(event: PackedEvent<'_>) -> BsEvent
             ..NONE
         },
         Event::Define {
-            abbrev: _,
+            operands: _,
             first,
             after,
         } => BsEvent {

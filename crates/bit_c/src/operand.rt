@@ -1,9 +1,11 @@
 //! The operands of a definition as C sees them.
 
 ghost use Rattle.std.specs.Prelude.{◌≡◌, ◌++◌, [], map, OnOk};
+ghost use Rattle.bit_abbrev.specs.HeldOps.{ops_in};
 ghost use Rattle.bit_events.specs.EventView.{event_shown};
 ghost use Rattle.bit_c.specs.Stepping.{operand_told, operands_in};
 
+use bit_abbrev::Operands;
 use bit_events::{Event, PackedEvent};
 use bit_grammar::Op;
 use std::alloc::AllocError;
@@ -34,11 +36,13 @@ fn operand_of(op: Op) -> BsOperand
 }
 
 /// Adds operands, as C sees them.
-fn add_operands(out: &mut Vec<BsOperand>, ops: &[Op]) -> Result<(), AllocError>
-    ensures { OnOk result (out.new.items ≡ out.old.items ++ map operand_told ops.now) }
+fn add_operands(out: &mut Vec<BsOperand>, operands: Operands<'_>) -> Result<(), AllocError>
+    ensures { OnOk result (out.new.items
+        ≡ out.old.items ++ map operand_told (ops_in operands.entry.held.now)) }
 {
-    for op in ops {
-        out.push(operand_of(*op))?;
+    let mut left = operands;
+    while let Some(op) = left.next() {
+        out.push(operand_of(op))?;
     }
     Ok(())
 }
@@ -52,7 +56,7 @@ pub(crate) fn put_operands(
 {
     out.clear();
     match event {
-        Event::Define { abbrev, .. } => add_operands(out, abbrev.ops()),
+        Event::Define { operands, .. } => add_operands(out, operands),
         Event::Enter { .. } | Event::Record { .. } | Event::Leave { .. } => Ok(()),
     }
 }

@@ -13,9 +13,9 @@ use Rattle.bit_events.specs.HeadView.{head_shown}
 use Rattle.bit_events.specs.FrameView.{info_shown, frames_shown}
 use Rattle.bit_events.proofs.Stepping.{frames-push}
 
-abbrev machine_with : List Frame → List (ℕ × List (List Op)) → ℕ → machine.Machine
+abbrev machine_with : List Frame → List (ℕ × List Op) → ℕ → machine.Machine
 machine_with frames table used = record { frames = frames_shown frames; handed = record { table = definitions_at table; used = used } }
 
 -- a block is open
-pub entered : (frames : List Frame) (head : BlockHead) (definitions : List (List Op)) (info : Option Describing) (table : List (ℕ × List (List Op))) (used : ℕ) → definitions ≡ definitions_at table head.id → info_shown info ≡ info_for head.id → machine_with (frames ++ record { head = head; definitions = definitions; info = info } ∷ []) table used ≡ inside (head_shown head) (frames_shown frames) (enter head.id (record { table = definitions_at table; used = used }))
+pub entered : (frames : List Frame) (head : BlockHead) (definitions : List (List Op)) (info : Option Describing) (table : List (ℕ × List Op)) (used : ℕ) → definitions ≡ definitions_at table head.id → info_shown info ≡ info_for head.id → machine_with (frames ++ record { head = head; definitions = definitions; info = info } ∷ []) table used ≡ inside (head_shown head) (frames_shown frames) (enter head.id (record { table = definitions_at table; used = used }))
 entered frames head definitions info table used is described = rw (frames-push, is, described) refl

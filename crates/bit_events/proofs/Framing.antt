@@ -7,7 +7,6 @@ use Rattle.std.proofs.lemmas.List.{append-nil}
 use borrow.Author.Tests.{ltb-true}
 use Rattle.std.proofs.lemmas.Option.{slice_get_within, get_or_from_slice_get, slice_get-get_or}
 use Rattle.std.specs.Result.{OnOk}
-use Rattle.std.specs.declared.alloc.AllocError.{AllocError}
 use Rattle.bit_grammar.specs.declared.shapes.Shapes.{Shapes}
 use Rattle.bit_grammar.specs.declared.op.Op.{Op}
 use Rattle.bit_grammar.specs.declared.reason.Reason.TheVariants.{UndefinedAbbrev, AbbrevShape, NoBlockSet, BadSetBid}
@@ -24,6 +23,7 @@ use Rattle.bit_fields.proofs.Composing.{took_then, fault_then, took_nothing, fir
 use Rattle.bit_grammar.specs.Definition.{definition, has_shape}
 use Rattle.bit_abbrev.specs.Table.{definitions_at}
 use Rattle.bit_abbrev.specs.Values.{AddsWithin, Gains}
+use Rattle.bit_abbrev.specs.Putting.{Puts}
 use Rattle.bit_events.proofs.Telling.{told, why, andThen, breaks, ends, here, without_memory}
 use Rattle.bit_events.specs.declared.frame.Describing.{Describing}
 use Rattle.bit_events.specs.declared.frame.Frame.{Frame}
@@ -31,13 +31,20 @@ use Rattle.bit_events.specs.FrameView.{info_shown, described_value, described_id
 
 -- ---- definitions
 
+-- one more definition of the block
+pub put_own : (f : Frame) (definitions : List (List Op)) (rule : Grammar (List Op)) (a : Reader) (result : Result (Unit {0}) Fault) (b : Reader) → f.info ≡ None → Puts rule a result b (λ ops. definitions ≡ f.definitions ++ ops ∷ [])
+    → Puts rule a result b (λ ops. (handed : Handed) → scope_of (frame_shown (record f { definitions = definitions })) handed ≡ defined (info_shown f.info) ops (scope_of (frame_shown f) handed))
+put_own f definitions rule a (Ok x) b is puts = (puts.0, puts.1, λ handed. rw (is, puts.2) refl)
+put_own f definitions rule a (Err fault) b is why = why
+
 -- one more definition for the described block
-pub put_described : (f : Frame) (d : Describing) (id : ℕ) (ops : List Op) (made : List (ℕ × List (List Op))) (result : Result (Unit {0}) AllocError) → f.info ≡ Some d → d.described ≡ Some id → OnOk result ((other : ℕ) → definitions_at made other ≡ defined_at id ops (definitions_at d.made) other)
-    → OnOk result ((handed : Handed) → scope_of (frame_shown (record f { info = Some (record d { made = made }) })) handed ≡ defined (info_shown f.info) ops (scope_of (frame_shown f) handed))
-put_described f d id ops made (Ok x) is described puts = λ handed.
-    let same : definitions_at made ≡ defined_at id ops (definitions_at d.made) = fun_ext puts in
-    rw (is, described, same) refl
-put_described f d id ops made (Err e) is described puts = tt
+pub put_described : (f : Frame) (d : Describing) (id : ℕ) (made : List (ℕ × List Op)) (rule : Grammar (List Op)) (a : Reader) (result : Result (Unit {0}) Fault) (b : Reader) → f.info ≡ Some d → d.described ≡ Some id
+    → Puts rule a result b (λ ops. (other : ℕ) → definitions_at made other ≡ defined_at id ops (definitions_at d.made) other)
+    → Puts rule a result b (λ ops. (handed : Handed) → scope_of (frame_shown (record f { info = Some (record d { made = made }) })) handed ≡ defined (info_shown f.info) ops (scope_of (frame_shown f) handed))
+put_described f d id made rule a (Ok x) b is described puts =
+    let same : definitions_at made ≡ defined_at id puts.0 (definitions_at d.made) = fun_ext puts.2 in
+    (puts.0, puts.1, λ handed. rw (is, described, same) refl)
+put_described f d id made rule a (Err fault) b is described why = why
 
 last_put : (xs : List (List Op)) (x : List Op) → last_one (xs ++ x ∷ []) ≡ Some x
 last_put xs x =
@@ -177,10 +184,6 @@ define_judged shapes first scope a fault b h = why (define shapes first scope) a
 pub define_missed : (shapes : Shapes) (first : ℕ) (scope : Scope) (a b : Reader) (fault : Fault) (c : Reader) → Took (test (may_define scope.info) (at NoBlockSet first)) a tt b → Why (definition shapes) b fault c → Why (define shapes first scope) a fault c
 unfolding define
 define_missed shapes first scope a b fault c t h = why (define shapes first scope) a fault c (andThen t (breaks h))
-
-pub define_lost : (shapes : Shapes) (first : ℕ) (scope : Scope) (a b : Reader) (ops : List Op) (c d : Reader) → Took (test (may_define scope.info) (at NoBlockSet first)) a tt b → Took (definition shapes) b ops c → d ≡ failed_reader c → Why (define shapes first scope) a Memory d
-unfolding define
-define_lost shapes first scope a b ops c d t u is = why (define shapes first scope) a Memory d (andThen t (andThen u (here c.position refl (without_memory u.live is))))
 
 pub define_took : (shapes : Shapes) (first : ℕ) (scope : Scope) (a b : Reader) (ops : List Op) (c d : Reader) (after : ℕ) (copy : List Op) (new : Scope) → Took (test (may_define scope.info) (at NoBlockSet first)) a tt b → Took (definition shapes) b ops c → d ≡ c → after ≡ c.position → copy ≡ ops → new ≡ defined scope.info ops scope
     → Took (define shapes first scope) a (record { ops = copy; first = first; after = after }, new) d

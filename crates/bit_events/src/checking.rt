@@ -5,7 +5,7 @@ ghost use Rattle.bit_events.specs.Reading.{ReadsWhole};
 
 use crate::folding::fold;
 use crate::gatherer::Gatherer;
-use bit_abbrev::Abbrev;
+use bit_abbrev::Operands;
 use bit_fields::{Fault, KeptSource, Limits, Source, ValueCount};
 use std::alloc::{AllocError, Global};
 
@@ -29,7 +29,12 @@ impl Gatherer for Nothing {
     }
 
     #[inline]
-    fn define(&mut self, _abbrev: &Abbrev, _first: u64, _after: u64) -> Result<(), AllocError> {
+    fn define(
+        &mut self,
+        _operands: Operands<'_>,
+        _first: u64,
+        _after: u64,
+    ) -> Result<(), AllocError> {
         Ok(())
     }
 

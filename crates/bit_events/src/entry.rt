@@ -30,10 +30,10 @@ pub(crate) fn read_entry<U, B: Runs, D: Lookup, V: ValueTaker>(
     if id == 3 {
         return read_plain::<U, B, V>(bits, room, values);
     }
-    let Some(abbrev) = definitions.look_up((id - 4) as usize) else {
+    let Some(definition) = definitions.look_up((id - 4) as usize) else {
         bits.judge(false, Reason::UndefinedAbbrev, first)?;
         unreachable!();
     };
-    bits.judge(abbrev.is_usable(), Reason::AbbrevShape, first)?;
-    read_record::<U, B, V>(bits, abbrev, first, room, values)
+    bits.judge(definition.is_usable(), Reason::AbbrevShape, first)?;
+    read_record::<U, B, V>(bits, &definition, first, room, values)
 }

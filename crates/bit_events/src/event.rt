@@ -1,4 +1,4 @@
-use bit_abbrev::Abbrev;
+use bit_abbrev::Operands;
 
 /// An event of a stream, whose lists are lent: a block begins, a definition, a record, or a block ends. The values of a record are
 /// lent as numbers, or as the value sink that keeps them.
@@ -11,7 +11,7 @@ pub enum Event<'a, L = &'a [u64]> {
         body: u64,
     },
     Define {
-        abbrev: &'a Abbrev,
+        operands: Operands<'a>,
         first: u64,
         after: u64,
     },

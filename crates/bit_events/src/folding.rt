@@ -52,7 +52,7 @@ fn hand_on<G: Gatherer>(
             body,
         } => gatherer.enter(id, width, first, body),
         Step::Define { first, after } => match machine.newest() {
-            Some(abbrev) => gatherer.define(abbrev, first, after),
+            Some(operands) => gatherer.define(operands, first, after),
             None => unreachable!(),
         },
         Step::Record(head) => gatherer.record(

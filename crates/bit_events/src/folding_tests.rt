@@ -2,7 +2,7 @@
 
 use crate::events_tests::{agrees, bytes_of, in_pieces, told_of_fault};
 use crate::{Event, Gatherer, check, fold};
-use bit_abbrev::Abbrev;
+use bit_abbrev::Operands;
 use bit_fields::{Limits, Source};
 use std::alloc::{AllocError, Global};
 use std::fmt::Write;
@@ -39,9 +39,9 @@ impl Gatherer for Text {
         })
     }
 
-    fn define(&mut self, abbrev: &Abbrev, first: u64, after: u64) -> Result<(), AllocError> {
+    fn define(&mut self, operands: Operands<'_>, first: u64, after: u64) -> Result<(), AllocError> {
         self.add(Event::Define {
-            abbrev,
+            operands,
             first,
             after,
         })
@@ -101,7 +101,7 @@ static FOLDED: [(&str, &str, &str); 7] = [
         "accepted",
         "Enter { id: 0, width: 2, first: 32, body: 96 } \
         Record { abbrev: 3, code: 1, values: [8], first: 96, after: 116 } \
-        Define { abbrev: Abbrev { ops: [Literal(1), Fixed(7)], usable: true, tail: Nothing }, first: 116, after: 141 } Leave { after: 160 } \
+        Define { operands: Operands { held: [Literal(1), Fixed(7), End] }, first: 116, after: 141 } Leave { after: 160 } \
         Enter { id: 8, width: 3, first: 160, body: 224 } \
         Record { abbrev: 4, code: 1, values: [100], first: 224, after: 234 } Leave { after: 256 } \
         [66, 67, 192, 222] 256",

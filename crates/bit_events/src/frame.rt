@@ -1,21 +1,23 @@
 ghost use Rattle.std.specs.Prelude.{◌≡◌, ◌-◌, ◌+◌, ◌≤◌, true, [], ℕ, List, Some, OnOk, IsSome, length, unwrap_or, slice_get};
-ghost use Rattle.std.specs.Option.{option_copied};
 ghost use Rattle.bit_grammar.specs.Blocks as blocks;
 ghost use Rattle.bit_grammar.specs.Blocks.{Handed, defined, define, describe, record_after, may_define};
+ghost use Rattle.bit_grammar.specs.Definition.{definition};
+ghost use Rattle.bit_grammar.specs.FormatDefinition.{Definable};
 ghost use Rattle.bit_grammar.specs.Machine.{scope_of};
 ghost use Rattle.bit_fields.specs.Reader.{Takes, told_by};
+ghost use Rattle.bit_abbrev.specs.HeldOps.{lent_ops, ops_in};
+ghost use Rattle.bit_abbrev.specs.Putting.{Puts};
 ghost use Rattle.bit_abbrev.specs.Values.{Has};
 ghost use Rattle.bit_events.specs.Firsts.{TookWithFirst};
 ghost use Rattle.bit_events.specs.FrameView.{describing_shown, info_shown, described_value, frame_shown, newest_in};
 
 use crate::entry::read_entry;
 use crate::head::BlockHead;
-use crate::heads::or_memory_fault;
 use crate::with_first::WithFirst;
-use bit_abbrev::{Abbrev, InForce, InfoTable, read_define};
+use bit_abbrev::{InForce, InfoTable, Operands};
 use bit_fields::{BitReader, Fault, Reason, Shapes, Source, ValueTaker};
 use bit_grammar::SET_BID;
-use std::alloc::{AllocError, Global};
+use std::alloc::Global;
 
 /// In a BLOCKINFO block: the id of the described block, and the table that is being made.
 #[derive(Drop)]
@@ -43,35 +45,39 @@ impl Frame {
         }
     }
 
-    /// The last definition in the list to which a new one is added: the definitions in force, or in a BLOCKINFO block those made
-    /// for the described block.
-    pub(crate) fn newest(&self) -> Option<&Abbrev>
-        ensures { option_copied result ≡ newest_in (frame_shown self.now) }
+    /// The operands of the last definition in the list to which a new one is added: the definitions in force, or in a BLOCKINFO
+    /// block those made for the described block.
+    pub(crate) fn newest(&self) -> Option<Operands<'_>>
+        ensures newest { lent_ops result ≡ newest_in (frame_shown self.now) }
+        ensures definable { IfSome result (λ operands. Definable (ops_in operands.held.now)) }
     {
         match &self.info {
             None => self.definitions.last(),
             Some(info) => match info.described {
-                Some(id) => info.made.for_block(id).last(),
+                Some(id) => info.made.last_for(id),
                 None => None,
             },
         }
     }
 
-    /// Adds a definition: to the block's own, or in a BLOCKINFO block to those of the described block.
-    #[tactic(auto, using(crate::proofs::Framing::put_described))]
-    fn put(&mut self, abbrev: Abbrev) -> Result<(), AllocError>
+    /// Reads a definition after its id, and adds it: to the block's own, or in a BLOCKINFO block to those of the described block.
+    fn read_define<S: Source>(
+        &mut self,
+        alloc: Global,
+        reader: &mut BitReader<S>,
+        shapes: Shapes,
+    ) -> Result<(), Fault>
         requires { may_define (info_shown self.old.info) ≡ true }
-        ensures defined { OnOk result ((handed : Handed)
-            → scope_of (frame_shown self.new) handed
-            ≡ defined (info_shown self.old.info) «abbrev»
-            (scope_of (frame_shown self.old) handed)) }
+        ensures puts { Puts (definition shapes) reader.old result reader.new (λ ops.
+            (handed : Handed) → scope_of (frame_shown self.new) handed
+            ≡ defined (info_shown self.old.info) ops (scope_of (frame_shown self.old) handed)) }
         ensures head { self.new.head ≡ self.old.head }
     {
         match &mut self.info {
-            None => self.definitions.define(abbrev),
+            None => self.definitions.read_define(alloc, reader, shapes),
             Some(info) => match info.described {
-                Some(id) => info.made.define(id, abbrev),
-                None => Ok(()),
+                Some(id) => info.made.read_define(alloc, id, reader, shapes),
+                None => unreachable!(),
             },
         }
     }
@@ -100,10 +106,8 @@ pub(crate) fn define<S: Source>(
     ensures head { frame.new.head ≡ frame.old.head }
 {
     reader.judge(frame.may_define(), Reason::NoBlockSet, first)?;
-    let abbrev = read_define(alloc, reader, shapes)?;
-    let after = reader.position();
-    or_memory_fault(reader, frame.put(abbrev))?;
-    Ok(after)
+    frame.read_define(alloc, reader, shapes)?;
+    Ok(reader.position())
 }
 
 /// The first value of a record as a block id, if there is one and it fits.

@@ -2,8 +2,10 @@ ghost use Rattle.std.specs.Prelude.{ℕ, List, [], OnOk};
 ghost use Rattle.bit_grammar.specs.Machine.{enters, defines, notes, leaves};
 ghost use Rattle.bit_events.specs.Gathering.{Gathers};
 ghost use Rattle.bit_events.specs.MachineView.{TookSome};
+ghost use Rattle.bit_grammar.specs.FormatDefinition.{Definable};
+ghost use Rattle.bit_abbrev.specs.HeldOps.{ops_in};
 
-use bit_abbrev::Abbrev;
+use bit_abbrev::Operands;
 use bit_fields::ValueTaker;
 use std::alloc::AllocError;
 
@@ -27,10 +29,11 @@ pub trait Gatherer: Drop {
         ensures { OnOk result (Gathers gathered self.old
             (enters (record { id = id; width = width; first = first; body = body })) self.new) };
 
-    /// Takes a definition in the innermost block, its first bit and the bit after it.
-    fn define(&mut self, abbrev: &Abbrev, first: u64, after: u64) -> Result<(), AllocError>
+    /// Takes a definition in the innermost block: its operands, its first bit and the bit after it.
+    fn define(&mut self, operands: Operands<'_>, first: u64, after: u64) -> Result<(), AllocError>
+        requires { Definable (ops_in operands.held.now) }
         ensures { OnOk result (Gathers gathered self.old
-            (defines (record { ops = «abbrev».now; first = first; after = after })) self.new) };
+            (defines (record { ops = ops_in operands.held.now; first = first; after = after })) self.new) };
 
     /// Takes a record in the innermost block: its abbreviation id, its code, the value sink with its values, its first bit and the
     /// bit after it. The values may be moved out.

@@ -1,10 +1,12 @@
 ghost use Rattle.std.specs.Prelude.{◌≡◌, ◌<◌, ◌≤◌, ◌+◌, ◌-◌, ◌^◌, ◌%◌, true, [], ℕ, List, OnOk, IfOk, vec_len, is_none, IfSome, IfNone, OnSome, IsTrue, ◌↔◌};
-ghost use Rattle.std.specs.Option.{option_copied, option_map};
+ghost use Rattle.std.specs.Option.{option_map};
 ghost use Rattle.bit_grammar.specs.Blocks.{enter, leave};
+ghost use Rattle.bit_grammar.specs.FormatDefinition.{Definable};
 ghost use Rattle.bit_grammar.specs.Terms.{info_for};
 ghost use Rattle.bit_grammar.specs.Machine.{at_start, open_block, open_nested, step_after, step_in, step_top, step, scope_of, inside};
 ghost use Rattle.bit_fields.specs.Reader.{Takes, told_by};
 ghost use Rattle.bit_fields.specs.Buffered.{Reads};
+ghost use Rattle.bit_abbrev.specs.HeldOps.{lent_ops, ops_in};
 ghost use Rattle.bit_abbrev.specs.Values.{Gains, Has, Keeps};
 ghost use Rattle.bit_events.specs.Next.{FindsNext};
 ghost use Rattle.bit_events.specs.EventView.{shown_if_any};
@@ -19,7 +21,7 @@ use crate::head::BlockHead;
 use crate::heads::{block_head, end_of_block, or_memory_fault, shuts};
 use crate::running::{buffered_item, buffered_record};
 use crate::with_first::WithFirst;
-use bit_abbrev::{Abbrev, InForce, InfoTable, SharedInfo};
+use bit_abbrev::{InForce, InfoTable, Operands, SharedInfo};
 use bit_fields::{BitReader, Buffered, Fault, Limits, Reason, Source, ValueTaker};
 use std::alloc::{AllocError, Global};
 
@@ -514,10 +516,11 @@ impl Machine {
         Ok(Some(step))
     }
 
-    /// The last definition in the list to which the innermost block adds one.
+    /// The operands of the last definition in the list to which the innermost block adds one.
     #[tactic(auto, using(crate::proofs::Stepping::newest_is))]
-    pub(crate) fn newest(&self) -> Option<&Abbrev>
-        ensures { option_copied result ≡ newest (frames_shown self.now.frames.items) }
+    pub(crate) fn newest(&self) -> Option<Operands<'_>>
+        ensures newest { lent_ops result ≡ newest (frames_shown self.now.frames.items) }
+        ensures definable { IfSome result (λ operands. Definable (ops_in operands.held.now)) }
     {
         match self.frames.last() {
             Some(frame) => frame.newest(),
@@ -553,8 +556,8 @@ impl Step {
                 body,
             }),
             Step::Define { first, after } => match machine.newest() {
-                Some(abbrev) => Some(Event::Define {
-                    abbrev,
+                Some(operands) => Some(Event::Define {
+                    operands,
                     first,
                     after,
                 }),

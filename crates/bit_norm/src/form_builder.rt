@@ -9,7 +9,7 @@ ghost use Rattle.bit_norm.specs.Building.{HasTaken, record_left, IsFormOf, Stays
 ghost use Rattle.bit_norm.specs.Writing.{record_front, record_text, enter_text};
 
 use crate::form_values::{FormValues, is_long};
-use bit_abbrev::Abbrev;
+use bit_abbrev::Operands;
 use bit_events::{Gatherer, OpenBlocks};
 use bit_fields::{BitText, Limits};
 use bit_tree::Info;
@@ -262,7 +262,12 @@ impl<'a> Gatherer for FormBuilder<'a> {
         Ok(())
     }
 
-    fn define(&mut self, _abbrev: &Abbrev, _first: u64, _after: u64) -> Result<(), AllocError> {
+    fn define(
+        &mut self,
+        _operands: Operands<'_>,
+        _first: u64,
+        _after: u64,
+    ) -> Result<(), AllocError> {
         Ok(())
     }
 

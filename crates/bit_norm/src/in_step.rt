@@ -14,7 +14,7 @@ use crate::differences::{Difference, Place, Standing, ValueDifference, What};
 use crate::sign::Sign;
 use crate::walk::Walk;
 use crate::writing::number_of_magic;
-use bit_abbrev::Abbrev;
+use bit_abbrev::Operands;
 use bit_events::{Event, Folded, Gatherer, OpenBlocks, PackedEvent, RecordHead, SliceEvents, fold};
 use bit_fields::{ExpectedValues, Fault, Head, Limits, PackedValues, SliceSource, Source, Wrapper};
 use bit_tree::Info;
@@ -437,7 +437,12 @@ impl<'a> Gatherer for Comparer<'a> {
         Ok(())
     }
 
-    fn define(&mut self, _abbrev: &Abbrev, _first: u64, _after: u64) -> Result<(), AllocError> {
+    fn define(
+        &mut self,
+        _operands: Operands<'_>,
+        _first: u64,
+        _after: u64,
+    ) -> Result<(), AllocError> {
         Ok(())
     }
 

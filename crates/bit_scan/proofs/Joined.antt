@@ -1,5 +1,5 @@
 -- Printing the items of a JSON list.
-use Rattle.std.proofs.Common.{◌≡◌, ℕ, ◌+◌, ◌<◌, ◌≤◌, List, [], ◌++◌, length, get_or, drop, Some, ap, subst}
+use Rattle.std.proofs.Common.{◌≡◌, ℕ, ◌+◌, ◌<◌, ◌≤◌, List, [], ◌∷◌, ◌++◌, arith, length, get_or, drop, Some, ap, subst}
 use Rattle.std.specs.Prelude.{slice_get}
 use Rattle.std.proofs.lemmas.List.{drop_all}
 use Rattle.std.proofs.lemmas.Option.{get_or_from_slice_get}
@@ -14,6 +14,10 @@ next_item text whole old now xs i x h g = goes_as whole old (joined_from text i 
 
 pub last_item : {A : Type 0} (text : A → List ℕ) (whole : List ℕ) (old now : Printing) (xs : List A) (i : ℕ) → length xs ≤ i → Goes whole old (joined_from text i (drop i xs)) now → Printed whole old now
 last_item text whole old now xs i h g = goes_ends whole old now (goes_as whole old (joined_from text i (drop i xs)) [] now (ap (joined_from text i) (drop_all i xs h)) g)
+
+pub none_after : {A : Type 0} (text : A → List ℕ) (whole : List ℕ) (old now : Printing) (xs : List A) (i : ℕ) → length xs ≤ 0 → Goes whole old (joined_from text i xs) now → Goes whole old [] now
+none_after text whole old now [] i h g = g
+none_after text whole old now (x ∷ xs) i h g = absurd (omega (arith, h))
 
 -- a value that was looked up
 pub next_value : (whole : List ℕ) (old now : Printing) (vs : List ℕ) (i v : ℕ) → i < length vs → slice_get vs i ≡ Some v → Goes whole old (joined_from number_json i (drop i vs)) now → Goes whole old ((comma i ++ number_json v) ++ joined_from number_json (i + 1) (drop (i + 1) vs)) now

@@ -6,7 +6,7 @@ ghost use Rattle.bit_scan.specs.Cut.{capped_counts, cut_open};
 ghost use Rattle.bit_scan.specs.Rows.{block_tallies};
 
 use crate::rows::{Addition, BlockRow, BlockRows};
-use bit_abbrev::Abbrev;
+use bit_abbrev::Operands;
 use bit_events::Gatherer;
 use bit_fields::{ValueCount, ValueTaker};
 use std::alloc::{AllocError, Global};
@@ -138,7 +138,12 @@ impl Gatherer for Counter {
         self.open_block(id, first)
     }
 
-    fn define(&mut self, _abbrev: &Abbrev, _first: u64, _after: u64) -> Result<(), AllocError> {
+    fn define(
+        &mut self,
+        _operands: Operands<'_>,
+        _first: u64,
+        _after: u64,
+    ) -> Result<(), AllocError> {
         self.count_here(Addition::Definition)
     }
 

@@ -4,6 +4,7 @@ ghost use Rattle.std.specs.Prelude.{◌≡◌, ◌≤◌, ◌++◌, OnOk, [], co
 ghost use Rattle.bit_grammar.specs.EventTexts.{line_at, op_text, ops_text, shown_values, noted_text, event_line};
 ghost use Rattle.bit_grammar.specs.declared.op.Op.{Op};
 ghost use Rattle.bit_fields.specs.Opening.{head_told};
+ghost use Rattle.bit_abbrev.specs.HeldOps.{ops_in};
 ghost use Rattle.bit_events.specs.Coming.{going};
 ghost use Rattle.bit_events.specs.EventView.{event_shown};
 ghost use Rattle.bit_scan.specs.Json.{event_json, fields_told, joined, list_line, noted_json, number_json, op_json};
@@ -16,29 +17,35 @@ use crate::format::{EventStyle, Format};
 use crate::json::Field;
 use crate::listing::{around_after, write_values};
 use crate::printer::Printer;
+use bit_abbrev::Operands;
 use bit_events::{Event, PackedEvent, PackedEvents};
 use bit_fields::{Fault, Head, Limits, PackedValues, Reason, Sink, Source};
-use bit_grammar::{Op, ValueDisplay};
+use bit_grammar::ValueDisplay;
 use std::alloc::Global;
 
 /// Writes operands, a comma before each.
-fn write_further_operands<K: Sink>(printer: &mut Printer<K>, ops: &[Op]) -> Result<(), Fault>
-    ensures { Prints (flat_map (λ (op : Op). codes ", " ++ op_text op) ops.now) printer.old result
-        printer.new }
+fn write_further_operands<K: Sink>(
+    printer: &mut Printer<K>,
+    operands: Operands<'_>,
+) -> Result<(), Fault>
+    ensures { Prints (flat_map (λ (op : Op). codes ", " ++ op_text op) (ops_in operands.entry.held.now))
+        printer.old result printer.new }
 {
-    for op in ops {
-        printer.further_operand(*op)?;
+    let mut left = operands;
+    while let Some(op) = left.next() {
+        printer.further_operand(op)?;
     }
     Ok(())
 }
 
 /// Writes operands, joined by commas.
-fn write_operands<K: Sink>(printer: &mut Printer<K>, ops: &[Op]) -> Result<(), Fault>
-    ensures { Prints (ops_text ops.now) printer.old result printer.new }
+fn write_operands<K: Sink>(printer: &mut Printer<K>, operands: Operands<'_>) -> Result<(), Fault>
+    ensures { Prints (ops_text (ops_in operands.entry.held.now)) printer.old result printer.new }
 {
-    match ops.split_first() {
-        Some((first, others)) => {
-            printer.operand(*first)?;
+    let mut others = operands;
+    match others.next() {
+        Some(first) => {
+            printer.operand(first)?;
             write_further_operands(printer, others)
         }
         None => Ok(()),
@@ -51,13 +58,13 @@ fn write_definition<K: Sink>(
     printer: &mut Printer<K>,
     around: u32,
     first: u64,
-    ops: &[Op],
+    operands: Operands<'_>,
 ) -> Result<(), Fault>
-    ensures { Prints (line_at first around (codes "define " ++ ops_text ops.now)) printer.old result
-        printer.new }
+    ensures { Prints (line_at first around (codes "define " ++ ops_text (ops_in operands.entry.held.now)))
+        printer.old result printer.new }
 {
     printer.definition_head(around, first)?;
-    write_operands(printer, ops)?;
+    write_operands(printer, operands)?;
     printer.line_end()
 }
 
@@ -124,8 +131,10 @@ fn write_line<K: Sink>(
             first,
             body,
         } => printer.opened_line(around, id, width, first, body),
-        Event::Define { abbrev, first, .. } => {
-            write_definition(printer, around, first, abbrev.ops())
+        Event::Define {
+            operands, first, ..
+        } => {
+            write_definition(printer, around, first, operands)
         }
         Event::Record {
             abbrev,
@@ -146,11 +155,18 @@ fn write_line<K: Sink>(
 }
 
 /// Writes operands as the items of a JSON list.
-fn write_json_operands<K: Sink>(printer: &mut Printer<K>, ops: &[Op]) -> Result<(), Fault>
-    ensures { Prints (joined op_json ops.now) printer.old result printer.new }
+fn write_json_operands<K: Sink>(
+    printer: &mut Printer<K>,
+    operands: Operands<'_>,
+) -> Result<(), Fault>
+    ensures { Prints (joined op_json (ops_in operands.entry.held.now)) printer.old result printer.new }
 {
-    for place in 0..ops.len() {
-        printer.op_item(place as u64, ops[place])?;
+    let mut left = operands;
+    for place in 0..operands.count() {
+        let Some(op) = left.next() else {
+            unreachable!();
+        };
+        printer.op_item(place as u64, op)?;
     }
     Ok(())
 }
@@ -159,13 +175,13 @@ fn write_json_operands<K: Sink>(printer: &mut Printer<K>, ops: &[Op]) -> Result<
 fn write_json_definition<K: Sink>(
     printer: &mut Printer<K>,
     fields: &[Field<'_>],
-    ops: &[Op],
+    operands: Operands<'_>,
 ) -> Result<(), Fault>
     ensures { Prints (list_line (codes "define") (fields_told fields.now) (codes "operands")
-        (joined op_json ops.now)) printer.old result printer.new }
+        (joined op_json (ops_in operands.entry.held.now))) printer.old result printer.new }
 {
     printer.list_front("define", fields, "operands")?;
-    write_json_operands(printer, ops)?;
+    write_json_operands(printer, operands)?;
     printer.list_end()
 }
 
@@ -235,9 +251,11 @@ fn write_json_line<K: Sink>(
                 ("body", body),
             ],
         ),
-        Event::Define { abbrev, first, .. } => {
+        Event::Define {
+            operands, first, ..
+        } => {
             let fields = [("bit", first), ("depth", around as u64)];
-            write_json_definition(printer, &fields, abbrev.ops())
+            write_json_definition(printer, &fields, operands)
         }
         Event::Record {
             abbrev,

@@ -1,7 +1,7 @@
 use crate::MarkedBlocks;
 use crate::marked_builder::MarkedBuilder;
 use crate::tests::{agrees, definition};
-use bit_abbrev::Abbrev;
+use bit_abbrev::{Abbrev, InForce, Operands};
 use bit_events::Gatherer;
 use std::alloc::{AllocError, Global};
 use std::process::Abort;
@@ -35,7 +35,7 @@ fn give(
     alloc: Global,
     builder: &mut MarkedBuilder,
     row: &Row,
-    define: &Abbrev,
+    define: Operands<'_>,
 ) -> Result<(), AllocError> {
     match *row {
         Row::Enter {
@@ -61,6 +61,11 @@ fn give(
 
 /// The marked blocks of these events.
 fn marked_of(alloc: Global, rows: &[Row], define: &Abbrev) -> Result<MarkedBlocks, AllocError> {
+    let mut definitions = InForce::new(alloc);
+    definitions.define(alloc, define)?;
+    let Some(define) = definitions.last() else {
+        return Err(AllocError);
+    };
     let mut builder = MarkedBuilder::new(alloc);
     for row in rows {
         give(alloc, &mut builder, row, define)?;

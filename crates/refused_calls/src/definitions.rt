@@ -1,7 +1,7 @@
 //! Definitions in a table.
 
 use crate::ending::Ending;
-use bit_abbrev::{Abbrev, InfoTable, Op, Ops};
+use bit_abbrev::{Abbrev, InfoTable, Listed, Op, Ops};
 use std::alloc::Global;
 
 /// For how many block ids definitions are made.
@@ -20,11 +20,13 @@ fn literal(alloc: Global, value: u32) -> Option<Abbrev> {
 }
 
 /// Whether a list has the definition with this literal at its place.
-fn has(list: &[Abbrev], value: u32) -> bool {
-    match list.get((value / IDS) as usize).map(Abbrev::ops) {
-        Some([Op::Literal(found)]) => *found == u64::from(value),
-        _ => false,
-    }
+fn has(list: Listed<'_>, value: u32) -> bool {
+    let Some(definition) = list.get((value / IDS) as usize) else {
+        return false;
+    };
+    let mut operands = definition.operands();
+    let first = operands.next();
+    first == Some(Op::Literal(u64::from(value))) && operands.next().is_none()
 }
 
 /// Whether a table has the definitions with these literals, each for its block id and at its place.

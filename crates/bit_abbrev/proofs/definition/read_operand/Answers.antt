@@ -1,5 +1,5 @@
 use Rattle.std.proofs.lemmas.Result.{err_from_is_err_and}
-use Rattle.bit_abbrev.proofs.Operands.{misplaced}
+use Rattle.bit_abbrev.proofs.Defining.{misplaced}
 use Rattle.bit_abbrev.proofs.definition.read_operand.Goals as goal
 
 pub returns-in_err-judge-clause-takes : goal.returns-in_err-judge-clause-takes

@@ -1,4 +1,5 @@
+use Rattle.bit_abbrev.proofs.Shapes.{lawful_of}
 use Rattle.bit_abbrev.proofs.record.read_record.Goals as goal
 
-pub returns-clause-adds : goal.returns-clause-adds
-returns-clause-adds g c = rw c.lawful_ops-ops.ensures.items at c.read_by_ops.ensures.adds
+pub read_apart-requires-clause-lawful : goal.read_apart-requires-clause-lawful
+read_apart-requires-clause-lawful g c = rw c.operands.ensures.items (lawful_of c.args.definition.now c.operands.ensures.definable c.requires.shape)

@@ -1,11 +1,12 @@
-use Rattle.std.proofs.Common.{◌≡◌, ℕ, List, true}
+use Rattle.std.proofs.Common.{◌≡◌, ℕ, List, true, take, drop}
 use Rattle.bit_grammar.specs.declared.op.Op.{Op}
 use Rattle.bit_abbrev.specs.Values.{Gains}
 use Rattle.bit_abbrev.proofs.Records.{FarIn}
 use Rattle.bit_abbrev.proofs.record.read_singles.Given as goal
 
-abbrev pub invariant-loop-op : goal.invariant-loop-op
-invariant-loop-op g l = record {
+abbrev pub invariant-loop-done : goal.invariant-loop-done
+invariant-loop-done g l = record {
   live : (g.B.Bits.as_reader l.bits).live ≡ true;
-  far : (room : ℕ) (tail : List Op) → Gains g.V.ValueTaker.took l.fn.values l.values (FarIn room l.ops tail (g.B.Bits.as_reader l.fn.bits) l.op-index (g.B.Bits.as_reader l.bits));
+  left : g.L.OneByOne.left l.operands ≡ drop l._done (g.L.OneByOne.left l.fn.operands);
+  far : (room : ℕ) (tail : List Op) → Gains g.V.ValueTaker.took l.fn.values l.values (FarIn room (take l.count (g.L.OneByOne.left l.fn.operands)) tail (g.B.Bits.as_reader l.fn.bits) l._done (g.B.Bits.as_reader l.bits));
 }

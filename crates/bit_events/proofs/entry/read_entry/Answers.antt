@@ -39,13 +39,13 @@ returns-in_err-judge-2-clause-adds g c =
       before,
       t,
       fails_so (entry c.args.room c.args.first c.args.id (g.D.Lookup.listed c.args.definitions.now)) c.args.room (g.B.Bits.as_reader c.args.bits.now) fault (g.B.Bits.as_reader c.judge-2.new.self) before
-          (shapeless_entry c.args.room c.args.first c.args.id (g.D.Lookup.listed c.args.definitions.now) c.in-Some.abbrev.now (g.B.Bits.as_reader c.args.bits.now) fault (g.B.Bits.as_reader c.judge-2.new.self) c.if-id-eq3.false (sym c.in-Some.ensures) (judged fault stands)),
+          (shapeless_entry c.args.room c.args.first c.args.id (g.D.Lookup.listed c.args.definitions.now) c.in-Some.definition (g.B.Bits.as_reader c.args.bits.now) fault (g.B.Bits.as_reader c.judge-2.new.self) c.if-id-eq3.false (sym c.in-Some.ensures) (judged fault stands)),
     ))
 
 pub returns-clause-adds : goal.returns-clause-adds
 returns-clause-adds g c =
     let room = c.args.room in
-    let ops = c.in-Some.abbrev.now in
+    let ops = c.in-Some.definition in
     let a = g.B.Bits.as_reader c.args.bits.now in
     let b = g.B.Bits.as_reader c.read_record.new.bits in
     let took = g.V.ValueTaker.took in

@@ -2,12 +2,13 @@ use Rattle.std.proofs.Common.{◌≡◌, ℕ, List, Some, sym}
 use Rattle.bit_events.specs.FrameView.{frames_shown}
 use Rattle.bit_events.specs.MachineView.{newest}
 use Rattle.bit_events.proofs.Folds.{for_each}
+use Rattle.bit_abbrev.specs.HeldOps.{ops_in}
 use Rattle.bit_events.proofs.folding.hand_on.Goals as goal
 
 pub unreachable-requires : goal.unreachable-requires
 unreachable-requires g c =
     let held = rw c.in-Define.is at c.requires.holds in
-    let none = c.in-None.ensures in
+    let none = c.in-None.ensures.newest in
     cc
 
 pub returns-in-Enter-clause-gathers : goal.returns-in-Enter-clause-gathers
@@ -15,7 +16,7 @@ returns-in-Enter-clause-gathers g c = rw c.in-Enter.is (for_each _ (λ (list : L
 
 pub returns-in-Some-clause-gathers : goal.returns-in-Some-clause-gathers
 returns-in-Some-clause-gathers g c =
-    let held : newest (frames_shown c.args.machine.now.frames.items) ≡ Some c.in-Some.abbrev.now = sym c.in-Some.ensures in
+    let held : newest (frames_shown c.args.machine.now.frames.items) ≡ Some (ops_in c.in-Some.operands.held.now) = sym c.in-Some.ensures.newest in
     rw (c.in-Define.is, held) (for_each _ (λ (list : List ℕ). g.G.Values.ValueTaker.took c.args.values.now list) c.define.result c.define.ensures)
 
 pub returns-in-Record-clause-gathers : goal.returns-in-Record-clause-gathers

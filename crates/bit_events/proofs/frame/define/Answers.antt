@@ -4,7 +4,7 @@ use Rattle.bit_grammar.specs.declared.op.Op.{Op}
 use Rattle.std.proofs.lemmas.Result.{err_from_is_err_and}
 use Rattle.bit_grammar.specs.Machine.{scope_of}
 use Rattle.bit_events.specs.FrameView.{frame_shown, newest_in}
-use Rattle.bit_events.proofs.Framing.{define_judged, define_missed, define_lost, define_took, newest_put}
+use Rattle.bit_events.proofs.Framing.{define_judged, define_missed, define_took, newest_put}
 use Rattle.bit_events.proofs.frame.define.Goals as goal
 
 pub returns-in_err-judge-clause-takes : goal.returns-in_err-judge-clause-takes
@@ -13,26 +13,20 @@ returns-in_err-judge-clause-takes g c = λ handed.
     let judged = rw c.may_define.ensures at c.in_err-judge.ensures.takes in
     rw (p.1, p.2) (define_judged c.args.shapes c.args.first (scope_of (frame_shown c.args.frame.now) handed) c.args.reader.now c.in_err-judge.field-0.0 c.judge.new.self judged)
 
-pub returns-in_err-abbrev-clause-takes : goal.returns-in_err-abbrev-clause-takes
-returns-in_err-abbrev-clause-takes g c = λ handed.
-    let p = err_from_is_err_and c.from_residual-in_err-abbrev.result c.from_residual-in_err-abbrev.ensures.1 in
+pub returns-in_err-read_define-clause-takes : goal.returns-in_err-read_define-clause-takes
+returns-in_err-read_define-clause-takes g c = λ handed.
+    let p = err_from_is_err_and c.from_residual-in_err-read_define.result c.from_residual-in_err-read_define.ensures.1 in
     let judged = rw c.may_define.ensures at c.in_ok-judge.ensures.takes in
-    rw (p.1, p.2) (define_missed c.args.shapes c.args.first (scope_of (frame_shown c.args.frame.now) handed) c.args.reader.now c.judge.new.self c.in_err-abbrev.field-0.0 c.read_define.new.reader judged c.in_err-abbrev.ensures.takes)
-
-pub returns-in_err-or_memory_fault-clause-takes : goal.returns-in_err-or_memory_fault-clause-takes
-returns-in_err-or_memory_fault-clause-takes g c = λ handed.
-    let p = err_from_is_err_and c.from_residual-in_err-or_memory_fault.result c.from_residual-in_err-or_memory_fault.ensures.1 in
-    let judged = rw c.may_define.ensures at c.in_ok-judge.ensures.takes in
-    rw (p.1, p.2, c.in_err-or_memory_fault.ensures.err.0) (define_lost c.args.shapes c.args.first (scope_of (frame_shown c.args.frame.now) handed) c.args.reader.now c.judge.new.self c.in_ok-abbrev.abbrev c.read_define.new.reader c.or_memory_fault.new.reader judged c.in_ok-abbrev.ensures.takes c.in_err-or_memory_fault.ensures.err.1)
+    rw (p.1, p.2) (define_missed c.args.shapes c.args.first (scope_of (frame_shown c.args.frame.now) handed) c.args.reader.now c.judge.new.self c.in_err-read_define.field-0.0 c.read_define.new.reader judged c.in_err-read_define.ensures.puts)
 
 pub returns-clause-takes : goal.returns-clause-takes
 returns-clause-takes g c = λ handed.
     let judged = rw c.may_define.ensures at c.in_ok-judge.ensures.takes in
-    let made = rw c.in_ok-or_memory_fault.ensures.ok.0 at c.put.ensures.defined in
-    let newest = newest_put c.args.frame.now c.put.new.self c.in_ok-abbrev.abbrev (sym c.may_define.ensures ∙ c.in_ok-judge.ensures.holds) made in
-    define_took c.args.shapes c.args.first (scope_of (frame_shown c.args.frame.now) handed) c.args.reader.now c.judge.new.self c.in_ok-abbrev.abbrev c.read_define.new.reader c.or_memory_fault.new.reader c.position-after.result (unwrap_or (newest_in (frame_shown c.put.new.self)) []) (scope_of (frame_shown c.put.new.self) handed) judged c.in_ok-abbrev.ensures.takes c.in_ok-or_memory_fault.ensures.ok.1 c.position-after.ensures.position (ap (λ (o : Option (List Op)). unwrap_or o []) newest) (made handed)
+    let puts = c.in_ok-read_define.ensures.puts in
+    let newest = newest_put c.args.frame.now c.read_define.new.self puts.0 (sym c.may_define.ensures ∙ c.in_ok-judge.ensures.holds) puts.2 in
+    define_took c.args.shapes c.args.first (scope_of (frame_shown c.args.frame.now) handed) c.args.reader.now c.judge.new.self puts.0 c.read_define.new.reader c.read_define.new.reader c.position.result (unwrap_or (newest_in (frame_shown c.read_define.new.self)) []) (scope_of (frame_shown c.read_define.new.self) handed) judged puts.1 refl c.position.ensures.position (ap (λ (o : Option (List Op)). unwrap_or o []) newest) (puts.2 handed)
 
 pub returns-clause-newest : goal.returns-clause-newest
 returns-clause-newest g c =
-    let made = rw c.in_ok-or_memory_fault.ensures.ok.0 at c.put.ensures.defined in
-    rw (newest_put c.args.frame.now c.put.new.self c.in_ok-abbrev.abbrev (sym c.may_define.ensures ∙ c.in_ok-judge.ensures.holds) made) refl
+    let puts = c.in_ok-read_define.ensures.puts in
+    rw (newest_put c.args.frame.now c.read_define.new.self puts.0 (sym c.may_define.ensures ∙ c.in_ok-judge.ensures.holds) puts.2) refl

@@ -1,0 +1,47 @@
+-- Lists that agree as far as both reach.
+use Rattle.std.proofs.Common.{◌≡◌, ℕ, zero, suc, ◌<◌, ◌≤◌, List, [], ◌∷◌, ◌++◌, length, refl, sym, arith, Option, Some, None, take, drop}
+use Rattle.std.specs.List.{slice_get}
+use Rattle.std.specs.Option.{option_copied, IfSome}
+use Rattle.std.specs.Borrow.{Bor}
+use Rattle.bit_abbrev.specs.Lists.{Agree}
+
+module _ {X : Type 0} where
+  pub agree_at : (xs ys : List X) (i : ℕ) (x y : X) → Agree xs ys → slice_get xs i ≡ Some x → slice_get ys i ≡ Some y → x ≡ y
+  agree_at [] ys i x y agree here there = absurd cc
+  agree_at (a ∷ xs) [] i x y agree here there = absurd cc
+  agree_at (a ∷ xs) (b ∷ ys) zero x y agree here there = let same : a ≡ b = agree.0 in cc
+  agree_at (a ∷ xs) (b ∷ ys) (suc i) x y agree here there = agree_at xs ys i x y agree.1 here there
+
+  pub agree_some : (xs ys : List X) (i : ℕ) (y : X) (found : Option (Bor X)) → Agree xs ys → option_copied found ≡ slice_get xs i → slice_get ys i ≡ Some y → IfSome found (λ x. x.now ≡ y)
+  agree_some xs ys i y None agree here there = tt
+  agree_some xs ys i y (Some x) agree here there = agree_at xs ys i x.now y agree (sym here) there
+
+  pub agree_behind : (n : ℕ) (xs ys : List X) → Agree xs ys → Agree (drop n xs) (drop n ys)
+  agree_behind zero xs ys agree = agree
+  agree_behind (suc n) [] ys agree = tt
+  agree_behind (suc n) (x ∷ xs) [] agree = none (drop n xs)
+    where
+      none : (xs : List X) → Agree xs []
+      none [] = tt
+      none (x ∷ xs) = tt
+  agree_behind (suc n) (x ∷ xs) (y ∷ ys) agree = agree_behind n xs ys agree.1
+
+  pub agree_front : (n : ℕ) (xs ys : List X) → Agree xs ys → Agree xs (take n ys)
+  agree_front zero [] ys agree = tt
+  agree_front zero (x ∷ xs) ys agree = tt
+  agree_front (suc n) [] ys agree = tt
+  agree_front (suc n) (x ∷ xs) [] agree = tt
+  agree_front (suc n) (x ∷ xs) (y ∷ ys) agree = (agree.0, agree_front n xs ys agree.1)
+
+  -- one more in the longer list
+  pub agree_more : (xs ys : List X) (y : X) → length xs ≤ length ys → Agree xs ys → Agree xs (ys ++ y ∷ [])
+  agree_more [] ys y few agree = tt
+  agree_more (x ∷ xs) [] y few agree = absurd (omega (arith, few))
+  agree_more (x ∷ xs) (z ∷ ys) y few agree = (agree.0, agree_more xs ys y (omega (arith, few)) agree.1)
+
+  -- the next one in the shorter list
+  pub agree_next : (xs ys : List X) (x : X) → slice_get ys (length xs) ≡ Some x → Agree xs ys → Agree (xs ++ x ∷ []) ys
+  agree_next [] [] x is agree = tt
+  agree_next [] (y ∷ ys) x is agree = let same : y ≡ x = cc in (sym same, tt)
+  agree_next (z ∷ xs) [] x is agree = tt
+  agree_next (z ∷ xs) (y ∷ ys) x is agree = (agree.0, agree_next xs ys x is agree.1)
