@@ -24,6 +24,7 @@ use Rattle.bit_grammar.specs.Definition.{definition, has_shape}
 use Rattle.bit_abbrev.specs.Table.{definitions_at}
 use Rattle.bit_abbrev.specs.Values.{AddsWithin, Gains}
 use Rattle.bit_abbrev.specs.Putting.{Puts}
+use Rattle.bit_abbrev.proofs.Table.{defined as one_defined}
 use Rattle.bit_events.proofs.Telling.{told, why, andThen, breaks, ends, here, without_memory}
 use Rattle.bit_events.specs.declared.frame.Describing.{Describing}
 use Rattle.bit_events.specs.declared.frame.Frame.{Frame}
@@ -39,10 +40,10 @@ put_own f definitions rule a (Err fault) b is why = why
 
 -- one more definition for the described block
 pub put_described : (f : Frame) (d : Describing) (id : ℕ) (made : List (ℕ × List Op)) (rule : Grammar (List Op)) (a : Reader) (result : Result (Unit {0}) Fault) (b : Reader) → f.info ≡ Some d → d.described ≡ Some id
-    → Puts rule a result b (λ ops. (other : ℕ) → definitions_at made other ≡ defined_at id ops (definitions_at d.made) other)
+    → Puts rule a result b (λ ops. made ≡ d.made ++ (id, ops) ∷ [])
     → Puts rule a result b (λ ops. (handed : Handed) → scope_of (frame_shown (record f { info = Some (record d { made = made }) })) handed ≡ defined (info_shown f.info) ops (scope_of (frame_shown f) handed))
 put_described f d id made rule a (Ok x) b is described puts =
-    let same : definitions_at made ≡ defined_at id puts.0 (definitions_at d.made) = fun_ext puts.2 in
+    let same : definitions_at made ≡ defined_at id puts.0 (definitions_at d.made) = ap definitions_at puts.2 ∙ fun_ext (λ other. one_defined d.made id puts.0 other) in
     (puts.0, puts.1, λ handed. rw (is, described, same) refl)
 put_described f d id made rule a (Err fault) b is described why = why
 

@@ -33,7 +33,7 @@ pub trait Gatherer: Drop {
     fn define(&mut self, operands: Operands<'_>, first: u64, after: u64) -> Result<(), AllocError>
         requires { Definable (ops_in operands.held.now) }
         ensures { OnOk result (Gathers gathered self.old
-            (defines (record { ops = ops_in operands.held.now; first = first; after = after })) self.new) };
+            (defines (record { ops = ops_in operands.entry.held.now; first = first; after = after })) self.new) };
 
     /// Takes a record in the innermost block: its abbreviation id, its code, the value sink with its values, its first bit and the
     /// bit after it. The values may be moved out.
