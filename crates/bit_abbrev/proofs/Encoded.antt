@@ -1,12 +1,13 @@
 -- Operands as they are held.
 use Rattle.std.proofs.Common.{◌≡◌, ℕ, ◌<◌, ◌+◌, ◌*◌, ◌%◌, ◌^◌, ◌≤◌, List, [], ◌∷◌, ◌++◌, length, refl, ap, arith, ◌∙◌, ◌-◌, drop, take}
-use Rattle.std.proofs.lemmas.List.{append-nil, take_all, length-drop}
+use Rattle.std.proofs.lemmas.List.{append-nil, take_all, length-append, length-drop}
 use Rattle.std.specs.List.{slice_range}
 use Rattle.bit_grammar.specs.declared.op.Op.{Op}
 use Rattle.bit_grammar.specs.declared.op.Op.TheVariants as op
 use Rattle.bit_abbrev.specs.declared.held_op.HeldOp.{HeldOp}
 use Rattle.bit_abbrev.specs.declared.held_op.HeldOp.TheVariants.{Literal, Great, More, Fixed, Vbr, Array, Char6, Blob, End}
-use Rattle.bit_abbrev.specs.HeldOps.{more, ops_in, Ends, NoneEnds}
+use Rattle.bit_abbrev.specs.declared.operands.Operands.{Operands}
+use Rattle.bit_abbrev.specs.HeldOps.{more, ops_in, ops_lent, Ends, NoneEnds}
 
 more_behind : (xs ys : List HeldOp) → more ys ≡ 0 → more (xs ++ ys) ≡ more xs
 more_behind [] ys none = none
@@ -38,7 +39,7 @@ none_behind [] ys first second = second
 none_behind (x ∷ xs) ys first second = (first.0, none_behind xs ys first.1 second)
 
 -- no more operands than places
-pub ops_few : (xs : List HeldOp) → length (ops_in xs) ≤ length xs
+ops_few : (xs : List HeldOp) → length (ops_in xs) ≤ length xs
 ops_few [] = omega arith
 ops_few (Literal b ∷ xs) = omega (arith, ops_few xs)
 ops_few (Great b ∷ xs) = omega (arith, ops_few xs)
@@ -49,6 +50,9 @@ ops_few (Array ∷ xs) = omega (arith, ops_few xs)
 ops_few (Char6 ∷ xs) = omega (arith, ops_few xs)
 ops_few (Blob ∷ xs) = omega (arith, ops_few xs)
 ops_few (End ∷ xs) = omega arith
+
+pub few_lent : (o : Operands) → length (ops_lent o) ≤ length o.ready.now + length o.held.now
+few_lent o = omega (arith, length-append o.ready.now (ops_in o.held.now), ops_few o.held.now)
 
 -- ---- the end of a definition
 

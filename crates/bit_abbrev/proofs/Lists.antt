@@ -1,7 +1,7 @@
 -- Lists that agree as far as both reach.
 use Rattle.std.proofs.Common.{◌≡◌, ℕ, zero, suc, ◌<◌, ◌≤◌, List, [], ◌∷◌, ◌++◌, length, refl, sym, arith, Option, Some, None, take, drop}
 use Rattle.std.specs.List.{slice_get}
-use Rattle.std.specs.Option.{option_copied, IfSome}
+use Rattle.std.specs.Option.{option_copied, option_map_or}
 use Rattle.std.specs.Borrow.{Bor}
 use Rattle.bit_abbrev.specs.Lists.{Agree}
 
@@ -12,9 +12,10 @@ module _ {X : Type 0} where
   agree_at (a ∷ xs) (b ∷ ys) zero x y agree here there = let same : a ≡ b = agree.0 in cc
   agree_at (a ∷ xs) (b ∷ ys) (suc i) x y agree here there = agree_at xs ys i x y agree.1 here there
 
-  pub agree_some : (xs ys : List X) (i : ℕ) (y : X) (found : Option (Bor X)) → Agree xs ys → option_copied found ≡ slice_get xs i → slice_get ys i ≡ Some y → IfSome found (λ x. x.now ≡ y)
-  agree_some xs ys i y None agree here there = tt
-  agree_some xs ys i y (Some x) agree here there = agree_at xs ys i x.now y agree (sym here) there
+  -- what is found in the one list, or else is the element of the other
+  pub agree_found : (xs ys : List X) (i : ℕ) (y other : X) (found : Option (Bor X)) → Agree xs ys → option_copied found ≡ slice_get xs i → slice_get ys i ≡ Some y → other ≡ y → option_map_or (λ (x : Bor X). x.now) found other ≡ y
+  agree_found xs ys i y other None agree here there same = same
+  agree_found xs ys i y other (Some x) agree here there same = agree_at xs ys i x.now y agree (sym here) there
 
   pub agree_behind : (n : ℕ) (xs ys : List X) → Agree xs ys → Agree (drop n xs) (drop n ys)
   agree_behind zero xs ys agree = agree

@@ -1,5 +1,5 @@
 -- Operands as they are held.
-use Rattle.std.specs.Prelude.{ℕ, ◌+◌, ◌*◌, ◌%◌, ◌^◌, ◌≤◌, List, [], ◌∷◌, Option}
+use Rattle.std.specs.Prelude.{ℕ, ◌+◌, ◌*◌, ◌%◌, ◌^◌, ◌≤◌, List, [], ◌∷◌, ◌++◌, Option}
 use Rattle.std.specs.List.{AllByRecursion}
 use Rattle.std.specs.Option.{option_map}
 use Rattle.bit_grammar.specs.declared.op.Op.{Op}
@@ -46,5 +46,8 @@ IsSmall (op.Literal value) = value ≤ 255
 IsSmall _ = Unit {0}
 
 -- the operands that are lent
-abbrev pub lent_ops : Option Operands → Option (List Op)
-lent_ops found = option_map (λ operands. ops_in operands.held.now) found
+abbrev pub ops_lent : Operands → List Op
+ops_lent operands = operands.ready.now ++ ops_in operands.held.now
+
+abbrev pub lent_if_any : Option Operands → Option (List Op)
+lent_if_any found = option_map ops_lent found

@@ -2,7 +2,7 @@
 
 ghost use Rattle.std.specs.Prelude.{◌≡◌, ◌<◌, ◌∷◌, ◌++◌, [], OnOk};
 ghost use Rattle.bit_grammar.specs.declared.op.Op.TheVariants.{Literal};
-ghost use Rattle.bit_abbrev.specs.HeldOps.{more, ops_in, IsSmall, NoneEnds};
+ghost use Rattle.bit_abbrev.specs.HeldOps.{more, ops_in, ops_lent, IsSmall, NoneEnds};
 
 use crate::operands::Operands;
 use bit_grammar::Op;
@@ -71,6 +71,9 @@ fn small(op: Op) -> HeldOp
     }
 }
 
+/// In how many places the operands of a block's own definition are at most that is ready.
+const SHORT: usize = 64;
+
 /// The operands of one definition, as they are held. Up to 32 places need no allocation.
 #[derive(Drop)]
 pub(crate) struct HeldOps {
@@ -119,11 +122,17 @@ impl HeldOps {
         self.held.as_slice()
     }
 
+    /// Whether they take few places.
+    pub(crate) fn is_short(&self) -> bool {
+        self.held.len() <= SHORT
+    }
+
     /// One by one.
     pub(crate) fn operands(&self) -> Operands<'_>
-        ensures { ops_in result.held.now ≡ self.now }
+        ensures { ops_lent result ≡ self.now }
     {
         Operands {
+            ready: &[],
             held: self.held.as_slice(),
         }
     }

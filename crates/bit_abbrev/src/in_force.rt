@@ -3,11 +3,14 @@
 ghost use Rattle.std.specs.Prelude.{◌≡◌, ◌-◌, ◌++◌, ℕ, [], ◌∷◌, IfOk, IfSome, OnOk, OnErr, length, slice_get};
 ghost use Rattle.bit_grammar.specs.Definition.{definition};
 ghost use Rattle.bit_grammar.specs.FormatDefinition.{Definable};
-ghost use Rattle.bit_abbrev.specs.HeldOps.{lent_ops, ops_in};
+ghost use Rattle.bit_abbrev.specs.HeldOps.{lent_if_any, ops_lent};
 ghost use Rattle.bit_abbrev.specs.Putting.{Puts};
 ghost use Rattle.bit_abbrev.specs.Table.{definitions_at, IsWithin};
 
+use crate::definition::read_definition;
 use crate::head::Run;
+use crate::held_op::HeldOps;
+use crate::info::held;
 use crate::lent::Listed;
 use crate::{Abbrev, Definition, InfoTable, Operands};
 use bit_fields::{BitReader, Fault, Source};
@@ -15,6 +18,9 @@ use bit_grammar::Shapes;
 use std::alloc::{AllocError, Global};
 use std::marker::Model;
 use std::rc::Rc;
+
+/// How many own definitions of a block are ready at most. More would take much memory, and real files have fewer.
+const READY: usize = 64;
 
 /// A finished table, in the order of block ids. The blocks that are entered under it share it.
 #[derive(Drop)]
@@ -71,7 +77,8 @@ impl SharedInfo {
                 table: table.clone()?,
                 run,
             }),
-            own: InfoTable::new(alloc),
+            own: Vec::new(alloc),
+            later: None,
         })
     }
 }
@@ -88,8 +95,10 @@ struct FromTable {
 #[derive(Drop)]
 pub struct InForce {
     shared: Option<FromTable>,
-    /// The block's own definitions, each for the block id 0.
-    own: InfoTable,
+    /// The block's own definitions that are ready,
+    own: Vec<Abbrev>,
+    /// and those after them, if there are any.
+    later: Option<Box<InfoTable>>,
 }
 
 impl Model for InForce {
@@ -101,14 +110,16 @@ impl Model for InForce {
     ghost Value = { List (List Op) };
 
     ghost view = { λ inside. option_map_or (λ shared. run_in shared.table.value shared.run) inside.shared
-        [] ++ all_of inside.own };
+        [] ++ (inside.own.items ++ option_map_or (λ later. all_of later.value) inside.later []) };
 }
 
-/// The definitions in force in a block, as two lists: the table's and the block's own.
+/// The definitions in force in a block, as three lists: those of the table, and the block's own ones that are ready and those that
+/// are not.
 #[derive(Drop)]
 pub struct Definitions<'a> {
     shared: Listed<'a>,
-    own: Listed<'a>,
+    own: &'a [Abbrev],
+    later: Listed<'a>,
 }
 
 impl<'a> Model for Definitions<'a> {
@@ -117,7 +128,7 @@ impl<'a> Model for Definitions<'a> {
 
     ghost Value = { List (List Op) };
 
-    ghost view = { λ all. all.shared ++ all.own };
+    ghost view = { λ all. all.shared ++ (all.own.now ++ all.later) };
 }
 
 impl<'a> Definitions<'a> {
@@ -127,19 +138,25 @@ impl<'a> Definitions<'a> {
         ensures { result ≡ slice_get self.now index }
     {
         if index < self.shared.len() {
-            self.shared.get(index)
-        } else {
-            self.own.get(index - self.shared.len())
+            return self.shared.get(index);
+        }
+        let index = index - self.shared.len();
+        match self.own.get(index) {
+            Some(abbrev) => Some(Definition::of(abbrev)),
+            None => self.later.get(index - self.own.len()),
         }
     }
 
     /// The operands of the last definition, if there is one.
     fn last(&self) -> Option<Operands<'a>>
-        ensures last { lent_ops result ≡ slice_get self.now (length self.now - 1) }
-        ensures definable { IfSome result (λ operands. Definable (ops_in operands.held.now)) }
+        ensures last { lent_if_any result ≡ slice_get self.now (length self.now - 1) }
+        ensures definable { IfSome result (λ operands. Definable (ops_lent operands)) }
     {
+        if let Some(later) = self.later.last() {
+            return Some(later);
+        }
         match self.own.last() {
-            Some(own) => Some(own),
+            Some(abbrev) => Some(Definition::of(abbrev).operands()),
             None => self.shared.last(),
         }
     }
@@ -176,6 +193,16 @@ impl Lookup for InForce {
     }
 }
 
+/// A table with one definition.
+fn table_of(alloc: Global, ops: &HeldOps) -> Result<InfoTable, AllocError>
+    requires { Definable ops.now }
+    ensures { IfOk result (λ table. table ≡ (0, ops.now) ∷ []) }
+{
+    let mut table = InfoTable::new(alloc);
+    table.add(0, ops)?;
+    Ok(table)
+}
+
 impl InForce {
     /// No definitions. It allocates nothing.
     pub fn new(alloc: Global) -> InForce
@@ -183,8 +210,27 @@ impl InForce {
     {
         InForce {
             shared: None,
-            own: InfoTable::new(alloc),
+            own: Vec::new(alloc),
+            later: None,
         }
+    }
+
+    /// Adds a definition of the block.
+    fn put(&mut self, alloc: Global, ops: &HeldOps) -> Result<(), AllocError>
+        requires { Definable ops.now }
+        ensures ok { OnOk result (self.new ≡ self.old ++ ops.now ∷ []) }
+        ensures err { OnErr result (self.new ≡ self.old) }
+    {
+        if let Some(later) = &mut self.later {
+            return later.add(0, ops);
+        }
+        if self.own.len() >= READY || !ops.is_short() {
+            self.later = Some(Box::new(alloc, table_of(alloc, ops)?)?);
+            return Ok(());
+        }
+        let abbrev = ops.operands().copy(alloc)?;
+        self.own.push(abbrev)?;
+        Ok(())
     }
 
     /// Adds a definition of the block. If an allocation fails, it is dropped.
@@ -192,9 +238,8 @@ impl InForce {
         ensures ok { OnOk result (self.new ≡ self.old ++ «abbrev».now ∷ []) }
         ensures err { OnErr result (self.new ≡ self.old) }
     {
-        self.own.define(alloc, 0, abbrev)?;
-        self.own.make_next_ready(alloc);
-        Ok(())
+        let ops = held(alloc, abbrev)?;
+        self.put(alloc, &ops)
     }
 
     /// Reads a definition of the block after its abbreviation id, and adds it.
@@ -207,9 +252,11 @@ impl InForce {
         ensures { Puts (definition shapes) reader.old result reader.new
             (λ ops. self.new ≡ self.old ++ ops ∷ []) }
     {
-        self.own.read_define(alloc, 0, reader, shapes)?;
-        self.own.make_next_ready(alloc);
-        Ok(())
+        let ops = read_definition(alloc, reader, shapes)?;
+        match self.put(alloc, &ops) {
+            Ok(()) => Ok(()),
+            Err(_) => Err(reader.fail(Fault::Memory)),
+        }
     }
 
     /// All of them, for many look-ups.
@@ -219,15 +266,16 @@ impl InForce {
     {
         let shared = match &self.shared {
             Some(shared) => shared.table.listed(shared.run),
-            None => Listed {
-                heads: &[],
-                held: &[],
-                ready: &[],
-            },
+            None => Listed::none(),
+        };
+        let later = match &self.later {
+            Some(later) => later.all(),
+            None => Listed::none(),
         };
         Definitions {
             shared,
-            own: self.own.all(),
+            own: self.own.as_slice(),
+            later,
         }
     }
 
@@ -241,8 +289,8 @@ impl InForce {
 
     /// The operands of the last definition that the block added, or else of the last one of the table.
     pub fn last(&self) -> Option<Operands<'_>>
-        ensures last { lent_ops result ≡ slice_get self.now (length self.now - 1) }
-        ensures definable { IfSome result (λ operands. Definable (ops_in operands.held.now)) }
+        ensures last { lent_if_any result ≡ slice_get self.now (length self.now - 1) }
+        ensures definable { IfSome result (λ operands. Definable (ops_lent operands)) }
     {
         self.all().last()
     }

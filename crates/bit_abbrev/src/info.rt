@@ -3,7 +3,7 @@
 ghost use Rattle.std.specs.Prelude.{◌≡◌, ◌-◌, ◌++◌, ◌∷◌, [], ℕ, IfOk, IfSome, OnOk, OnErr, drop, length, slice_get};
 ghost use Rattle.bit_grammar.specs.Definition.{definition};
 ghost use Rattle.bit_grammar.specs.FormatDefinition.{Definable};
-ghost use Rattle.bit_abbrev.specs.HeldOps.{lent_ops, ops_in};
+ghost use Rattle.bit_abbrev.specs.HeldOps.{lent_if_any, ops_lent};
 ghost use Rattle.bit_abbrev.specs.Putting.{Puts};
 ghost use Rattle.bit_abbrev.specs.Table.{all_of, definitions_at, InOrder, IsWithin, run_in};
 
@@ -50,7 +50,7 @@ impl Model for InfoTable {
 }
 
 /// The operands of a definition, as they are held.
-fn held(alloc: Global, abbrev: &Abbrev) -> Result<HeldOps, AllocError>
+pub(crate) fn held(alloc: Global, abbrev: &Abbrev) -> Result<HeldOps, AllocError>
     ensures ops { IfOk result (λ ops. ops ≡ «abbrev».now) }
     ensures definable { IfOk result Definable }
 {
@@ -82,7 +82,7 @@ impl InfoTable {
     }
 
     /// Adds a definition for a block id. If an allocation fails, or all have 2^32 operands, nothing changes.
-    fn add(&mut self, id: u32, ops: &HeldOps) -> Result<(), AllocError>
+    pub(crate) fn add(&mut self, id: u32, ops: &HeldOps) -> Result<(), AllocError>
         requires { Definable ops.now }
         ensures ok { OnOk result (self.new ≡ self.old ++ (id, ops.now) ∷ []) }
         ensures err { OnErr result (self.new ≡ self.old) }
@@ -171,9 +171,9 @@ impl InfoTable {
 
     /// The operands of the last definition for a block id, if there is one.
     pub fn last_for(&self, id: u32) -> Option<Operands<'_>>
-        ensures last { lent_ops result
+        ensures last { lent_if_any result
             ≡ slice_get (definitions_at self.now id) (length (definitions_at self.now id) - 1) }
-        ensures definable { IfSome result (λ operands. Definable (ops_in operands.held.now)) }
+        ensures definable { IfSome result (λ operands. Definable (ops_lent operands)) }
     {
         let mut end = self.heads.len();
         while end > 0 {

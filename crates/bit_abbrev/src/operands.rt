@@ -4,7 +4,7 @@ ghost use Rattle.std.specs.Prelude.{◌≡◌, ◌∷◌, ◌+◌, ◌≤◌, �
 ghost use Rattle.bit_grammar.specs.Definition.{has_shape};
 ghost use Rattle.bit_grammar.specs.FormatDefinition.{Definable};
 ghost use Rattle.bit_grammar.specs.Record.{singles};
-ghost use Rattle.bit_abbrev.specs.HeldOps.{more, ops_in};
+ghost use Rattle.bit_abbrev.specs.HeldOps.{more, ops_in, ops_lent};
 
 use crate::abbrev::{Abbrev, Ops, fits, kind_of, place_after};
 use crate::held_op::HeldOp;
@@ -17,6 +17,9 @@ const SHORT: usize = 64;
 /// Operands in order, of which the first one can be taken.
 #[derive(Clone, Copy, Debug)]
 pub struct Operands<'a> {
+    /// Those of a definition that is ready,
+    pub(crate) ready: &'a [Op],
+    /// or those of another one.
     pub(crate) held: &'a [HeldOp],
 }
 
@@ -33,8 +36,21 @@ fn more(held: &[HeldOp]) -> u64
 impl<'a> Operands<'a> {
     /// Takes the first operand, if there is one.
     pub fn next(&mut self) -> Option<Op>
-        ensures some { IfSome result (λ op. ops_in self.old.held.now ≡ op ∷ ops_in self.new.held.now) }
-        ensures none { IfNone result (ops_in self.old.held.now ≡ []) }
+        ensures some { IfSome result (λ op. ops_lent self.old ≡ op ∷ ops_lent self.new) }
+        ensures none { IfNone result (ops_lent self.old ≡ []) }
+    {
+        if let [op, rest @ ..] = self.ready {
+            self.ready = rest;
+            return Some(*op);
+        }
+        self.next_held()
+    }
+
+    /// The same if none are ready.
+    fn next_held(&mut self) -> Option<Op>
+        requires { self.old.ready.now ≡ [] }
+        ensures some { IfSome result (λ op. ops_lent self.old ≡ op ∷ ops_lent self.new) }
+        ensures none { IfNone result (ops_lent self.old ≡ []) }
     {
         while let [first, rest @ ..] = self.held {
             let op = match *first {
@@ -58,11 +74,11 @@ impl<'a> Operands<'a> {
     }
 
     /// How many there are.
-    #[tactic(auto, using(crate::proofs::Encoded::ops_few))]
+    #[tactic(auto, using(crate::proofs::Encoded::few_lent))]
     pub fn count(self) -> usize
-        ensures { result ≡ length (ops_in self.entry.held.now) }
+        ensures { result ≡ length (ops_lent self.entry) }
     {
-        let _most = self.held.len();
+        let _most = (self.ready.len(), self.held.len());
         let mut left = self;
         let mut count = 0;
         while let Some(_) = left.next() {
@@ -83,11 +99,11 @@ impl<'a> Operands<'a> {
     }
 
     /// How many there are before the first array or blob.
-    #[tactic(auto, using(crate::proofs::Encoded::ops_few))]
+    #[tactic(auto, using(crate::proofs::Encoded::few_lent))]
     pub(crate) fn singles(self) -> usize
-        ensures { result ≡ singles (ops_in self.entry.held.now) }
+        ensures { result ≡ singles (ops_lent self.entry) }
     {
-        let _most = self.held.len();
+        let _most = (self.ready.len(), self.held.len());
         let mut left = self;
         let mut count = 0;
         while let Some(op) = left.next() {
@@ -101,8 +117,8 @@ impl<'a> Operands<'a> {
 
     /// Whether they are in a lawful order, of this many operands.
     pub(crate) fn has_shape(self, count: usize) -> bool
-        requires { count ≡ length (ops_in self.held.now) }
-        ensures { result ≡ has_shape (ops_in self.entry.held.now) }
+        requires { count ≡ length (ops_lent self) }
+        ensures { result ≡ has_shape (ops_lent self.entry) }
     {
         let mut left = self;
         let mut place = Place::First;
@@ -120,10 +136,10 @@ impl<'a> Operands<'a> {
 
     /// The definition with these operands.
     pub fn copy(self, alloc: Global) -> Result<Abbrev, AllocError>
-        requires { Definable (ops_in self.held.now) }
-        ensures { IfOk result (λ copy. copy ≡ ops_in self.entry.held.now) }
+        requires { Definable (ops_lent self) }
+        ensures { IfOk result (λ copy. copy ≡ ops_lent self.entry) }
     {
-        let mut ops = Ops::new(alloc);
+        let mut ops = Ops::with_capacity(alloc, self.count())?;
         let mut left = self;
         while let Some(op) = left.next() {
             ops.push(op)?;
@@ -156,7 +172,7 @@ pub(crate) trait OneByOne: Drop {
 }
 
 impl<'a> OneByOne for Operands<'a> {
-    ghost left = { λ operands. ops_in operands.held.now };
+    ghost left = { λ operands. ops_lent operands };
 
     fn len(&self) -> usize {
         self.count()

@@ -12,7 +12,7 @@ ghost use Rattle.bit_fields.specs.declared.fault.Fault.{Fault};
 ghost use Rattle.bit_fields.specs.declared.fault.Fault.TheVariants.{Memory};
 ghost use Rattle.bit_fields.specs.Reader.{Takes, IsOnly, failed_reader};
 ghost use Rattle.bit_abbrev.specs.Bits.{Answers};
-ghost use Rattle.bit_abbrev.specs.HeldOps.{ops_in};
+ghost use Rattle.bit_abbrev.specs.HeldOps.{ops_lent};
 ghost use Rattle.bit_abbrev.specs.Operands.{OthersInOrder, others_of};
 ghost use Rattle.bit_abbrev.specs.Values.{AddsAll, AddsFew, AddsFirst, AddsWithin, Gains, Keeps, PassesFirst, Recorded};
 
@@ -319,10 +319,10 @@ fn read_apart<B: Runs, V: ValueTaker>(
     room: u64,
     values: &mut V,
 ) -> Result<u64, B::Miss>
-    requires lawful { Lawful (ops_in operands.held.now) }
+    requires lawful { Lawful (ops_lent operands) }
     requires live { (B.as_reader bits.old).live ≡ true }
     ensures adds { Answers B.faults (λ r. Gains V.took values.old values.new
-        (AddsWithin (abbreviated first room (ops_in operands.entry.held.now)) room
+        (AddsWithin (abbreviated first room (ops_lent operands.entry)) room
         (B.as_reader bits.old) r (B.as_reader bits.new))) result }
     ensures keeps { Keeps V.took values.old values.new }
 {

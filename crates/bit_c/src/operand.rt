@@ -1,7 +1,7 @@
 //! The operands of a definition as C sees them.
 
 ghost use Rattle.std.specs.Prelude.{◌≡◌, ◌++◌, [], map, OnOk};
-ghost use Rattle.bit_abbrev.specs.HeldOps.{ops_in};
+ghost use Rattle.bit_abbrev.specs.HeldOps.{ops_lent};
 ghost use Rattle.bit_events.specs.EventView.{event_shown};
 ghost use Rattle.bit_c.specs.Stepping.{operand_told, operands_in};
 
@@ -38,7 +38,7 @@ fn operand_of(op: Op) -> BsOperand
 /// Adds operands, as C sees them.
 fn add_operands(out: &mut Vec<BsOperand>, operands: Operands<'_>) -> Result<(), AllocError>
     ensures { OnOk result (out.new.items
-        ≡ out.old.items ++ map operand_told (ops_in operands.entry.held.now)) }
+        ≡ out.old.items ++ map operand_told (ops_lent operands.entry)) }
 {
     let mut left = operands;
     while let Some(op) = left.next() {

@@ -4,7 +4,7 @@ use Rattle.std.specs.Borrow.{Bor}
 use Rattle.bit_grammar.specs.Machine as machine
 use Rattle.bit_grammar.specs.Machine.{enters, defines, notes, leaves}
 use Rattle.bit_events.specs.declared.event.Event.{Event}
-use Rattle.bit_abbrev.specs.HeldOps.{ops_in}
+use Rattle.bit_abbrev.specs.HeldOps.{ops_lent}
 use Rattle.bit_events.specs.declared.event.Event.TheVariants as event
 
 -- with a function that gives the values of the lent list
@@ -12,7 +12,7 @@ abbrev pub shown_by : {L : Type 0} → (told : L → List ℕ) → Event L → m
 shown_by told (event.Enter id width first body) = enters
     (record { id = id; width = width; first = first; body = body })
 shown_by told (event.Define operands first after) = defines
-    (record { ops = ops_in operands.held.now; first = first; after = after })
+    (record { ops = ops_lent operands; first = first; after = after })
 shown_by told (event.Record abbreviation code values first after) = notes
     (record {
       abbreviation = abbreviation;

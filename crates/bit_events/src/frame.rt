@@ -5,7 +5,7 @@ ghost use Rattle.bit_grammar.specs.Definition.{definition};
 ghost use Rattle.bit_grammar.specs.FormatDefinition.{Definable};
 ghost use Rattle.bit_grammar.specs.Machine.{scope_of};
 ghost use Rattle.bit_fields.specs.Reader.{Takes, told_by};
-ghost use Rattle.bit_abbrev.specs.HeldOps.{lent_ops, ops_in};
+ghost use Rattle.bit_abbrev.specs.HeldOps.{lent_if_any, ops_lent};
 ghost use Rattle.bit_abbrev.specs.Putting.{Puts};
 ghost use Rattle.bit_abbrev.specs.Values.{Has};
 ghost use Rattle.bit_events.specs.Firsts.{TookWithFirst};
@@ -48,8 +48,8 @@ impl Frame {
     /// The operands of the last definition in the list to which a new one is added: the definitions in force, or in a BLOCKINFO
     /// block those made for the described block.
     pub(crate) fn newest(&self) -> Option<Operands<'_>>
-        ensures newest { lent_ops result ≡ newest_in (frame_shown self.now) }
-        ensures definable { IfSome result (λ operands. Definable (ops_in operands.held.now)) }
+        ensures newest { lent_if_any result ≡ newest_in (frame_shown self.now) }
+        ensures definable { IfSome result (λ operands. Definable (ops_lent operands)) }
     {
         match &self.info {
             None => self.definitions.last(),

@@ -3,7 +3,7 @@ ghost use Rattle.bit_grammar.specs.Machine.{enters, defines, notes, leaves};
 ghost use Rattle.bit_events.specs.Gathering.{Gathers};
 ghost use Rattle.bit_events.specs.MachineView.{TookSome};
 ghost use Rattle.bit_grammar.specs.FormatDefinition.{Definable};
-ghost use Rattle.bit_abbrev.specs.HeldOps.{ops_in};
+ghost use Rattle.bit_abbrev.specs.HeldOps.{ops_lent};
 
 use bit_abbrev::Operands;
 use bit_fields::ValueTaker;
@@ -31,9 +31,9 @@ pub trait Gatherer: Drop {
 
     /// Takes a definition in the innermost block: its operands, its first bit and the bit after it.
     fn define(&mut self, operands: Operands<'_>, first: u64, after: u64) -> Result<(), AllocError>
-        requires { Definable (ops_in operands.held.now) }
+        requires { Definable (ops_lent operands) }
         ensures { OnOk result (Gathers gathered self.old
-            (defines (record { ops = ops_in operands.entry.held.now; first = first; after = after })) self.new) };
+            (defines (record { ops = ops_lent operands.entry; first = first; after = after })) self.new) };
 
     /// Takes a record in the innermost block: its abbreviation id, its code, the value sink with its values, its first bit and the
     /// bit after it. The values may be moved out.

@@ -6,7 +6,7 @@ ghost use Rattle.bit_grammar.specs.Terms.{info_for};
 ghost use Rattle.bit_grammar.specs.Machine.{at_start, open_block, open_nested, step_after, step_in, step_top, step, scope_of, inside};
 ghost use Rattle.bit_fields.specs.Reader.{Takes, told_by};
 ghost use Rattle.bit_fields.specs.Buffered.{Reads};
-ghost use Rattle.bit_abbrev.specs.HeldOps.{lent_ops, ops_in};
+ghost use Rattle.bit_abbrev.specs.HeldOps.{lent_if_any, ops_lent};
 ghost use Rattle.bit_abbrev.specs.Values.{Gains, Has, Keeps};
 ghost use Rattle.bit_events.specs.Next.{FindsNext};
 ghost use Rattle.bit_events.specs.EventView.{shown_if_any};
@@ -519,8 +519,8 @@ impl Machine {
     /// The operands of the last definition in the list to which the innermost block adds one.
     #[tactic(auto, using(crate::proofs::Stepping::newest_is))]
     pub(crate) fn newest(&self) -> Option<Operands<'_>>
-        ensures newest { lent_ops result ≡ newest (frames_shown self.now.frames.items) }
-        ensures definable { IfSome result (λ operands. Definable (ops_in operands.held.now)) }
+        ensures newest { lent_if_any result ≡ newest (frames_shown self.now.frames.items) }
+        ensures definable { IfSome result (λ operands. Definable (ops_lent operands)) }
     {
         match self.frames.last() {
             Some(frame) => frame.newest(),

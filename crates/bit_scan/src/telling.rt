@@ -4,7 +4,7 @@ ghost use Rattle.std.specs.Prelude.{◌≡◌, ◌≤◌, ◌++◌, OnOk, [], co
 ghost use Rattle.bit_grammar.specs.EventTexts.{line_at, op_text, ops_text, shown_values, noted_text, event_line};
 ghost use Rattle.bit_grammar.specs.declared.op.Op.{Op};
 ghost use Rattle.bit_fields.specs.Opening.{head_told};
-ghost use Rattle.bit_abbrev.specs.HeldOps.{ops_in};
+ghost use Rattle.bit_abbrev.specs.HeldOps.{ops_lent};
 ghost use Rattle.bit_events.specs.Coming.{going};
 ghost use Rattle.bit_events.specs.EventView.{event_shown};
 ghost use Rattle.bit_scan.specs.Json.{event_json, fields_told, joined, list_line, noted_json, number_json, op_json};
@@ -28,7 +28,7 @@ fn write_further_operands<K: Sink>(
     printer: &mut Printer<K>,
     operands: Operands<'_>,
 ) -> Result<(), Fault>
-    ensures { Prints (flat_map (λ (op : Op). codes ", " ++ op_text op) (ops_in operands.entry.held.now))
+    ensures { Prints (flat_map (λ (op : Op). codes ", " ++ op_text op) (ops_lent operands.entry))
         printer.old result printer.new }
 {
     let mut left = operands;
@@ -40,7 +40,7 @@ fn write_further_operands<K: Sink>(
 
 /// Writes operands, joined by commas.
 fn write_operands<K: Sink>(printer: &mut Printer<K>, operands: Operands<'_>) -> Result<(), Fault>
-    ensures { Prints (ops_text (ops_in operands.entry.held.now)) printer.old result printer.new }
+    ensures { Prints (ops_text (ops_lent operands.entry)) printer.old result printer.new }
 {
     let mut others = operands;
     match others.next() {
@@ -60,7 +60,7 @@ fn write_definition<K: Sink>(
     first: u64,
     operands: Operands<'_>,
 ) -> Result<(), Fault>
-    ensures { Prints (line_at first around (codes "define " ++ ops_text (ops_in operands.entry.held.now)))
+    ensures { Prints (line_at first around (codes "define " ++ ops_text (ops_lent operands.entry)))
         printer.old result printer.new }
 {
     printer.definition_head(around, first)?;
@@ -159,7 +159,7 @@ fn write_json_operands<K: Sink>(
     printer: &mut Printer<K>,
     operands: Operands<'_>,
 ) -> Result<(), Fault>
-    ensures { Prints (joined op_json (ops_in operands.entry.held.now)) printer.old result printer.new }
+    ensures { Prints (joined op_json (ops_lent operands.entry)) printer.old result printer.new }
 {
     let mut left = operands;
     for place in 0..operands.count() {
@@ -178,7 +178,7 @@ fn write_json_definition<K: Sink>(
     operands: Operands<'_>,
 ) -> Result<(), Fault>
     ensures { Prints (list_line (codes "define") (fields_told fields.now) (codes "operands")
-        (joined op_json (ops_in operands.entry.held.now))) printer.old result printer.new }
+        (joined op_json (ops_lent operands.entry))) printer.old result printer.new }
 {
     printer.list_front("define", fields, "operands")?;
     write_json_operands(printer, operands)?;

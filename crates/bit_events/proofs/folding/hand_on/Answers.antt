@@ -2,7 +2,7 @@ use Rattle.std.proofs.Common.{◌≡◌, ℕ, List, Some, sym}
 use Rattle.bit_events.specs.FrameView.{frames_shown}
 use Rattle.bit_events.specs.MachineView.{newest}
 use Rattle.bit_events.proofs.Folds.{for_each}
-use Rattle.bit_abbrev.specs.HeldOps.{ops_in}
+use Rattle.bit_abbrev.specs.HeldOps.{ops_lent}
 use Rattle.bit_events.proofs.folding.hand_on.Goals as goal
 
 pub unreachable-requires : goal.unreachable-requires
@@ -16,7 +16,7 @@ returns-in-Enter-clause-gathers g c = rw c.in-Enter.is (for_each _ (λ (list : L
 
 pub returns-in-Some-clause-gathers : goal.returns-in-Some-clause-gathers
 returns-in-Some-clause-gathers g c =
-    let held : newest (frames_shown c.args.machine.now.frames.items) ≡ Some (ops_in c.in-Some.operands.held.now) = sym c.in-Some.ensures.newest in
+    let held : newest (frames_shown c.args.machine.now.frames.items) ≡ Some (ops_lent c.in-Some.operands) = sym c.in-Some.ensures.newest in
     rw (c.in-Define.is, held) (for_each _ (λ (list : List ℕ). g.G.Values.ValueTaker.took c.args.values.now list) c.define.result c.define.ensures)
 
 pub returns-in-Record-clause-gathers : goal.returns-in-Record-clause-gathers

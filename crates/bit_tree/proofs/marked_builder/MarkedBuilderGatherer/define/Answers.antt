@@ -1,11 +1,11 @@
 use Rattle.std.proofs.Common.{refl}
 use Rattle.bit_grammar.specs.Machine.{defines}
-use Rattle.bit_abbrev.specs.HeldOps.{ops_in}
+use Rattle.bit_abbrev.specs.HeldOps.{ops_lent}
 use Rattle.bit_tree.specs.declared.marked.MarkedItem.TheVariants as item
 use Rattle.bit_tree.proofs.Gathered.{item_added}
 use Rattle.bit_tree.proofs.marked_builder.MarkedBuilderGatherer.define.Goals as goal
 
 pub returns : goal.returns
 returns c =
-    item_added (item.Define (record { «abbrev» = c.in_ok-abbrev.abbrev; first = c.args.first; after = c.args.after })) (defines (record { ops = ops_in c.args.«abbrev».held.now; first = c.args.first; after = c.args.after })) c.args.self.now c.add_marked.new.frames c.add_marked.result
+    item_added (item.Define (record { «abbrev» = c.in_ok-abbrev.abbrev; first = c.args.first; after = c.args.after })) (defines (record { ops = ops_lent c.args.operands; first = c.args.first; after = c.args.after })) c.args.self.now c.add_marked.new.frames c.add_marked.result
     (λ following. rw c.in_ok-abbrev.ensures refl) (λ count. refl) c.add_marked.ensures.items c.add_marked.ensures.len
