@@ -34,12 +34,6 @@ module _ {X : Type 0} where
   agree_front (suc n) (x ∷ xs) [] agree = tt
   agree_front (suc n) (x ∷ xs) (y ∷ ys) agree = (agree.0, agree_front n xs ys agree.1)
 
-  -- one more in the longer list
-  pub agree_more : (xs ys : List X) (y : X) → length xs ≤ length ys → Agree xs ys → Agree xs (ys ++ y ∷ [])
-  agree_more [] ys y few agree = tt
-  agree_more (x ∷ xs) [] y few agree = absurd (omega (arith, few))
-  agree_more (x ∷ xs) (z ∷ ys) y few agree = (agree.0, agree_more xs ys y (omega (arith, few)) agree.1)
-
   -- the next one in the shorter list
   pub agree_next : (xs ys : List X) (x : X) → slice_get ys (length xs) ≡ Some x → Agree xs ys → Agree (xs ++ x ∷ []) ys
   agree_next [] [] x is agree = tt

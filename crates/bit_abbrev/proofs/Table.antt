@@ -1,20 +1,18 @@
 -- A table, in the order of its definitions.
-use Rattle.std.proofs.Common.{◌≡◌, ℕ, ◌+◌, ◌-◌, ◌<◌, ◌≤◌, Bool, true, false, List, [], ◌∷◌, ◌++◌, refl, sym, ap, ◌∙◌, cond, nat_eq, arith, length, map, take, slice_get, Some, suc, get_or}
+use Rattle.std.proofs.Common.{◌≡◌, ℕ, ◌+◌, ◌-◌, ◌<◌, ◌≤◌, Bool, true, false, List, [], ◌∷◌, ◌++◌, refl, sym, ap, ◌∙◌, subst, zero, cond, nat_eq, arith, length, map, take, slice_get, Some, suc, get_or}
 use Rattle.std.specs.List.{filter}
 use Rattle.std.proofs.Math.Seq.{take-suc}
-use Rattle.std.proofs.lemmas.List.{map-append, length-append, length-map, get_or_push}
-use Rattle.std.proofs.lemmas.Option.{slice_get-get_or, slice_get-map, slice_get_within}
-use Rattle.std.specs.Option.{option_map}
+use Rattle.std.proofs.lemmas.List.{map-append, length-append, get_or_push}
+use Rattle.std.proofs.lemmas.Option.{slice_get-get_or}
 use Rattle.std.proofs.lemmas.Bool.{eq-eqb}
 use Rattle.bit_grammar.specs.declared.op.Op.{Op}
 use Rattle.bit_grammar.specs.Terms.{defined_at}
 use Rattle.bit_abbrev.specs.declared.head.Head.{Head}
+use Rattle.bit_abbrev.specs.declared.head.Run.{Run}
 use Rattle.bit_abbrev.specs.declared.held_op.HeldOp.{HeldOp}
 use Rattle.bit_abbrev.specs.Heads.{ops_of, IsHeld, AreHeld, all_held}
 use Rattle.bit_abbrev.specs.Table.{all_of, definitions_at, heads_at, table_shown}
-use Rattle.bit_abbrev.specs.Lists.{Agree}
-use Rattle.bit_abbrev.proofs.Heads.{same_in_more, same_all, all_in_more, and_one, held_and_one}
-use Rattle.bit_abbrev.proofs.Lists.{agree_more, agree_next}
+use Rattle.bit_abbrev.proofs.Heads.{same_in_more}
 
 -- the definitions for an id are those of the heads for it
 pub shown_at : (all : List HeldOp) (heads : List Head) (id : ℕ) → definitions_at (table_shown all heads) id ≡ all_held all (heads_at heads id)
@@ -34,28 +32,6 @@ all_shown all (h ∷ heads) = ap (λ (l : List (List Op)). ops_of all h ∷ l) (
 pub same_shown : (all more : List HeldOp) (heads : List Head) → AreHeld all heads → table_shown (all ++ more) heads ≡ table_shown all heads
 same_shown all more [] are = refl
 same_shown all more (h ∷ heads) are = rw (same_in_more all more h are.0, same_shown all more heads are.1) refl
-
--- ---- what a table holds, also with operands in the list that are not yet those of a definition
-
-abbrev pub Holds : (all : List HeldOp) → List Head → (ready : List (List Op)) → Type 0
-Holds all heads ready = AreHeld all heads × (length ready ≤ length heads) × Agree ready (all_held all heads)
-
-pub holds_more : (all more : List HeldOp) (heads : List Head) (ready : List (List Op)) → Holds all heads ready → Holds (all ++ more) heads ready
-holds_more all more heads ready h = (all_in_more all more heads h.0, h.1, rw (same_all all more heads h.0) h.2)
-
-pub holds_one : (all : List HeldOp) (heads : List Head) (head : Head) (ready : List (List Op)) → Holds all heads ready → IsHeld all head → Holds all (heads ++ head ∷ []) ready
-holds_one all heads head ready h here = (
-  and_one (IsHeld all) heads head h.0 here,
-  omega (arith, h.1, length-append heads (head ∷ [])),
-  rw (held_and_one all heads head) (agree_more ready (all_held all heads) (ops_of all head) (omega (arith, h.1, length-map heads (ops_of all))) h.2),
-)
-
-pub holds_ready : (all : List HeldOp) (heads : List Head) (ready : List (List Op)) (head : Head) → Holds all heads ready → slice_get heads (length ready) ≡ Some head → Holds all heads (ready ++ ops_of all head ∷ [])
-holds_ready all heads ready head h is = (
-  h.0,
-  omega (arith, slice_get_within heads (length ready) head is, length-append ready (ops_of all head ∷ [])),
-  agree_next ready (all_held all heads) (ops_of all head) (slice_get-map (ops_of all) heads (length ready) ∙ ap (option_map (ops_of all)) is) h.2,
-)
 
 pub shown_and_one : (all : List HeldOp) (heads : List Head) (head : Head) → table_shown all (heads ++ head ∷ []) ≡ table_shown all heads ++ (head.id, ops_of all head) ∷ []
 shown_and_one all heads head = map-append (λ (h : Head). (h.id, ops_of all h)) heads (head ∷ [])
@@ -106,3 +82,11 @@ last_at all heads end id head within at is from =
     let here : heads_at heads id ≡ (heads_at (take end heads) id ++ head ∷ []) = from ∙ ap (λ (l : List Head). heads_at l id) (take-suc heads end head within ∙ ap (λ (h : Head). take end heads ++ h ∷ []) (sym at)) ∙ heads_and_one (take end heads) head id ∙ ap (λ (b : Bool). heads_at (take end heads) id ++ cond b (head ∷ []) []) (eq-eqb id head.id (sym is)) in
     let shown : all_held all (heads_at heads id) ≡ (all_held all (heads_at (take end heads) id) ++ ops_of all head ∷ []) = ap (all_held all) here ∙ map-append (ops_of all) (heads_at (take end heads) id) (head ∷ []) in
     rw shown (last_one (all_held all (heads_at (take end heads) id)) (ops_of all head))
+
+-- ---- runs of the first ids
+
+pub runs_and_one : (P : ℕ → Run → Type 0) (runs : List Run) (run : Run) → ((id : ℕ) (r : Run) → slice_get runs id ≡ Some r → P id r) → P (length runs) run → (id : ℕ) (r : Run) → slice_get (runs ++ run ∷ []) id ≡ Some r → P id r
+runs_and_one P [] run all here zero r is = let same : run ≡ r = cc in subst (P zero) same here
+runs_and_one P [] run all here (suc id) r is = absurd cc
+runs_and_one P (x ∷ runs) run all here zero r is = all zero r is
+runs_and_one P (x ∷ runs) run all here (suc id) r is = runs_and_one (λ id. P (suc id)) runs run (λ id. all (suc id)) here id r is

@@ -1,5 +1,5 @@
 -- Definitions in order, each with the id of the blocks that it is for.
-use Rattle.std.specs.Prelude.{ℕ, ◌≤◌, List, length, map, nat_eq, slice_range}
+use Rattle.std.specs.Prelude.{◌≡◌, ℕ, ◌≤◌, Some, List, length, map, nat_eq, slice_get, slice_range}
 use Rattle.std.specs.List.{filter}
 use Rattle.std.specs.List.Sorted.{IsNonDecreasingBy}
 use Rattle.bit_grammar.specs.declared.op.Op.{Op}
@@ -35,3 +35,11 @@ IsWithin run table = (run.start ≤ run.end) × (run.end ≤ length table)
 -- the definitions of a run
 abbrev pub run_in : List (ℕ × List Op) → Run → List (List Op)
 run_in table run = all_of (slice_range table run.start run.end)
+
+-- the run of the definitions for a block id
+abbrev pub IsRunOf : List (ℕ × List Op) → ℕ → Run → Type 0
+IsRunOf table id run = IsWithin run table × (run_in table run ≡ definitions_at table id)
+
+-- the runs of the first block ids
+abbrev pub AreRuns : List (ℕ × List Op) → List Run → Type 0
+AreRuns table runs = (id : ℕ) (run : Run) → slice_get runs id ≡ Some run → IsRunOf table id run

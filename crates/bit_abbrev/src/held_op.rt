@@ -71,9 +71,6 @@ fn small(op: Op) -> HeldOp
     }
 }
 
-/// In how many places the operands of a block's own definition are at most that is ready.
-const SHORT: usize = 64;
-
 /// The operands of one definition, as they are held. Up to 32 places need no allocation.
 #[derive(Drop)]
 pub(crate) struct HeldOps {
@@ -122,9 +119,9 @@ impl HeldOps {
         self.held.as_slice()
     }
 
-    /// Whether they take few places.
-    pub(crate) fn is_short(&self) -> bool {
-        self.held.len() <= SHORT
+    /// In how many places they are.
+    pub(crate) fn places(&self) -> usize {
+        self.held.len()
     }
 
     /// One by one.

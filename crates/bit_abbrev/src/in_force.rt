@@ -12,33 +12,29 @@ use crate::head::Run;
 use crate::held_op::HeldOps;
 use crate::info::held;
 use crate::lent::Listed;
-use crate::{Abbrev, Definition, InfoTable, Operands};
+use crate::operands::SHORT;
+use crate::sorted::{READY, SortedInfo};
+use crate::{Abbrev, Definition, InfoTable, Operands, Ops};
 use bit_fields::{BitReader, Fault, Source};
 use bit_grammar::Shapes;
 use std::alloc::{AllocError, Global};
 use std::marker::Model;
 use std::rc::Rc;
 
-/// How many own definitions of a block are ready at most. More would take much memory, and real files have fewer.
-const READY: usize = 64;
-
 /// A finished table, in the order of block ids. The blocks that are entered under it share it.
 #[derive(Drop)]
 pub struct SharedInfo {
-    table: Option<Rc<InfoTable>>,
+    table: Option<Rc<SortedInfo>>,
 }
 
 impl Model for SharedInfo {
-    ghost use Rattle.std.specs.Prelude.{ℕ, List, [], IfSome};
+    ghost use Rattle.std.specs.Prelude.{ℕ, List, []};
     ghost use Rattle.std.specs.Option.{option_map_or};
     ghost use Rattle.bit_grammar.specs.declared.op.Op.{Op};
-    ghost use Rattle.bit_abbrev.specs.Table.{InOrder};
 
     ghost Value = { List (ℕ × List Op) };
 
     ghost view = { λ shared. option_map_or (λ rc. rc.value) shared.table [] };
-
-    ghost invariant = { λ shared. IfSome shared.table (λ rc. InOrder rc.value) };
 }
 
 impl SharedInfo {
@@ -54,9 +50,7 @@ impl SharedInfo {
         ensures { IfOk result (λ shared. (id : ℕ)
             → definitions_at shared id ≡ definitions_at table id) }
     {
-        let mut table = table.in_order()?;
-        table.make_ready(alloc);
-        let table = Rc::new(alloc, table)?;
+        let table = Rc::new(alloc, SortedInfo::of(alloc, table)?)?;
         Ok(SharedInfo { table: Some(table) })
     }
 
@@ -68,7 +62,7 @@ impl SharedInfo {
         let Some(table) = &self.table else {
             return Ok(InForce::new(alloc));
         };
-        let run = table.run_of(id);
+        let run = table.run_for(id);
         if run.start == run.end {
             return Ok(InForce::new(alloc));
         }
@@ -86,7 +80,7 @@ impl SharedInfo {
 /// The definitions that a block has from a table.
 #[derive(Drop)]
 struct FromTable {
-    table: Rc<InfoTable>,
+    table: Rc<SortedInfo>,
     run: Run,
     ghost within: { IsWithin run table.value },
 }
@@ -224,11 +218,12 @@ impl InForce {
         if let Some(later) = &mut self.later {
             return later.add(0, ops);
         }
-        if self.own.len() >= READY || !ops.is_short() {
+        if self.own.len() >= READY || ops.places() > SHORT {
             self.later = Some(Box::new(alloc, table_of(alloc, ops)?)?);
             return Ok(());
         }
-        let abbrev = ops.operands().copy(alloc)?;
+        let list = Ops::with_capacity(alloc, ops.places())?;
+        let abbrev = ops.operands().copy_into(list)?;
         self.own.push(abbrev)?;
         Ok(())
     }

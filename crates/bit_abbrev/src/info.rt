@@ -4,6 +4,7 @@ ghost use Rattle.std.specs.Prelude.{◌≡◌, ◌-◌, ◌++◌, ◌∷◌, [],
 ghost use Rattle.bit_grammar.specs.Definition.{definition};
 ghost use Rattle.bit_grammar.specs.FormatDefinition.{Definable};
 ghost use Rattle.bit_abbrev.specs.HeldOps.{lent_if_any, ops_lent};
+ghost use Rattle.bit_abbrev.specs.Lists.{Agree};
 ghost use Rattle.bit_abbrev.specs.Putting.{Puts};
 ghost use Rattle.bit_abbrev.specs.Table.{all_of, definitions_at, InOrder, IsWithin, run_in};
 
@@ -18,10 +19,6 @@ use bit_grammar::Shapes;
 use std::alloc::{AllocError, Global};
 use std::marker::Model;
 
-/// Definitions are ready if their operands begin before this place in the list of all: those of real files do, and more would take
-/// much memory.
-const READY: usize = 1024;
-
 /// The definitions of BLOCKINFO blocks, in order, each with the id of the blocks that it is for; or those of one block.
 ///
 /// Their operands stand in one list, two bytes for each, and eight bytes tell where those of a definition begin.
@@ -29,24 +26,19 @@ const READY: usize = 1024;
 pub struct InfoTable {
     held: Vec<HeldOp>,
     heads: Vec<Head>,
-    /// The first definitions, if they are ready.
-    ready: Vec<Abbrev>,
 }
 
 impl Model for InfoTable {
-    ghost use Rattle.std.specs.Prelude.{◌≤◌, ℕ, List, length};
+    ghost use Rattle.std.specs.Prelude.{ℕ, List};
     ghost use Rattle.bit_grammar.specs.declared.op.Op.{Op};
-    ghost use Rattle.bit_abbrev.specs.Heads.{AreHeld, all_held};
-    ghost use Rattle.bit_abbrev.specs.Lists.{Agree};
+    ghost use Rattle.bit_abbrev.specs.Heads.{AreHeld};
     ghost use Rattle.bit_abbrev.specs.Table.{table_shown};
 
     ghost Value = { List (ℕ × List Op) };
 
     ghost view = { λ table. table_shown table.held.items table.heads.items };
 
-    ghost invariant = { λ table. AreHeld table.held.items table.heads.items
-        × (length table.ready.items ≤ length table.heads.items)
-        × Agree table.ready.items (all_held table.held.items table.heads.items) };
+    ghost invariant = { λ table. AreHeld table.held.items table.heads.items };
 }
 
 /// The operands of a definition, as they are held.
@@ -61,14 +53,6 @@ pub(crate) fn held(alloc: Global, abbrev: &Abbrev) -> Result<HeldOps, AllocError
     Ok(ops)
 }
 
-/// Those from an index on.
-#[inline(always)]
-fn ready_from(ready: &[Abbrev], start: usize) -> &[Abbrev]
-    ensures { result.now ≡ drop start ready.now }
-{
-    if start < ready.len() { &ready[start..] } else { &[] }
-}
-
 impl InfoTable {
     /// A table without definitions. It allocates nothing.
     pub fn new(alloc: Global) -> InfoTable
@@ -77,7 +61,6 @@ impl InfoTable {
         InfoTable {
             held: Vec::new(alloc),
             heads: Vec::new(alloc),
-            ready: Vec::new(alloc),
         }
     }
 
@@ -127,45 +110,14 @@ impl InfoTable {
         }
     }
 
-    /// Makes the next definition ready, if there is one, it is short and there is memory. Returns whether it did.
-    pub(crate) fn make_next_ready(&mut self, alloc: Global) -> bool
-        ensures { self.new ≡ self.old }
-    {
-        let Some(head) = self.heads.get(self.ready.len()) else {
-            return false;
-        };
-        let operands = operands_at(self.held.as_slice(), *head);
-        if head.start as usize >= READY || !operands.is_short() {
-            return false;
-        }
-        let Ok(abbrev) = operands.copy(alloc) else {
-            return false;
-        };
-        match self.ready.push(abbrev) {
-            Ok(()) => true,
-            Err(_) => false,
-        }
-    }
-
-    /// Makes definitions ready, from the next one to the first that can't be.
-    pub(crate) fn make_ready(&mut self, alloc: Global)
-        ensures { self.new ≡ self.old }
-    {
-        for _made in 0..self.heads.len() {
-            if !self.make_next_ready(alloc) {
-                return;
-            }
-        }
-    }
-
-    /// All definitions, whatever their ids.
+    /// All definitions, whatever their ids. None is ready.
     pub(crate) fn all(&self) -> Listed<'_>
         ensures { result ≡ all_of self.now }
     {
         Listed {
             heads: self.heads.as_slice(),
             held: self.held.as_slice(),
-            ready: self.ready.as_slice(),
+            ready: &[],
         }
     }
 
@@ -192,14 +144,9 @@ impl InfoTable {
         ensures same { IfOk result (λ table. (id : ℕ)
             → definitions_at table id ≡ definitions_at self id) }
     {
-        let InfoTable {
-            held,
-            mut heads,
-            mut ready,
-        } = self;
-        ready.clear();
+        let InfoTable { held, mut heads } = self;
         heads.sort_by_key(|head| head.id)?;
-        Ok(InfoTable { held, heads, ready })
+        Ok(InfoTable { held, heads })
     }
 
     /// Where the definitions for a block id are in a table in the order of ids.
@@ -215,16 +162,25 @@ impl InfoTable {
         }
     }
 
-    /// The definitions of a run.
+    /// The definitions of a run, with those of all that are ready.
     #[inline(always)]
-    pub(crate) fn listed(&self, run: Run) -> Listed<'_>
-        requires { IsWithin run self.now }
+    pub(crate) fn listed<'a>(&'a self, run: Run, ready: &'a [Abbrev]) -> Listed<'a>
+        requires within { IsWithin run self.now }
+        requires ready { Agree ready.now (all_of self.now) }
         ensures { result ≡ run_in self.now run }
     {
         Listed {
             heads: &self.heads[run.start..run.end],
             held: self.held.as_slice(),
-            ready: ready_from(self.ready.as_slice(), run.start),
+            ready: ready_from(ready, run.start),
         }
     }
+}
+
+/// Those from an index on.
+#[inline(always)]
+fn ready_from(ready: &[Abbrev], start: usize) -> &[Abbrev]
+    ensures { result.now ≡ drop start ready.now }
+{
+    if start < ready.len() { &ready[start..] } else { &[] }
 }

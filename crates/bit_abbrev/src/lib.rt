@@ -31,6 +31,7 @@ mod operands;
 mod reading_tests;
 mod record;
 mod runs;
+mod sorted;
 mod tail;
 #[cfg(test)]
 mod tests;

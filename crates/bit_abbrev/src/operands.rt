@@ -12,7 +12,7 @@ use bit_grammar::{Op, Place};
 use std::alloc::{AllocError, Global};
 
 /// How many operands a definition has at most that is ready.
-const SHORT: usize = 64;
+pub(crate) const SHORT: usize = 64;
 
 /// Operands in order, of which the first one can be taken.
 #[derive(Clone, Copy, Debug)]
@@ -139,7 +139,16 @@ impl<'a> Operands<'a> {
         requires { Definable (ops_lent self) }
         ensures { IfOk result (λ copy. copy ≡ ops_lent self.entry) }
     {
-        let mut ops = Ops::with_capacity(alloc, self.count())?;
+        self.copy_into(Ops::with_capacity(alloc, self.count())?)
+    }
+
+    /// The same in a list that is empty and has room.
+    pub(crate) fn copy_into(self, list: Ops) -> Result<Abbrev, AllocError>
+        requires empty { list.items ≡ [] }
+        requires definable { Definable (ops_lent self) }
+        ensures { IfOk result (λ copy. copy ≡ ops_lent self.entry) }
+    {
+        let mut ops = list;
         let mut left = self;
         while let Some(op) = left.next() {
             ops.push(op)?;

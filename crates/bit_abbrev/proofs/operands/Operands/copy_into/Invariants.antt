@@ -1,6 +1,6 @@
 use Rattle.std.proofs.Common.{◌≡◌, ◌++◌, length}
 use Rattle.bit_abbrev.specs.HeldOps.{ops_lent}
-use Rattle.bit_abbrev.proofs.operands.Operands.copy.Given as goal
+use Rattle.bit_abbrev.proofs.operands.Operands.copy_into.Given as goal
 
 abbrev pub invariant-loop-op : goal.invariant-loop-op
 invariant-loop-op l = l.ops.items ++ ops_lent l.left ≡ ops_lent l.self
