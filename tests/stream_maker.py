@@ -88,6 +88,10 @@ class Maker:
     def often(self, share):
         return self.chance.random() < share
 
+    def many(self, few):
+        """How many definitions or operands there are: few, but rarely more than the program holds ready."""
+        return 70 if self.often(0.04) else few
+
     def vbr(self, width, number):
         """A VBR; a short one sometimes has a chunk more than it needs."""
         payload = 2 ** (width - 1)
@@ -127,7 +131,7 @@ class Maker:
             elif self.often(0.2):
                 items.append(self.plain(width, 4 + self.number(self.code_bits - 1), [self.number()]))
             else:
-                described.append(self.define(width))
+                described.extend(self.define(width) for _ in range(self.many(1)))
         self.table = table
         return items
 
@@ -139,7 +143,7 @@ class Maker:
             if depth < 5 and self.often(0.2):
                 items.append(self.block(width, depth + 1))
             elif self.often(0.2):
-                defined.append(self.define(width))
+                defined.extend(self.define(width) for _ in range(self.many(1)))
             elif usable and self.often(0.8):
                 place = self.chance.choice(usable)
                 self.bits.fixed(width, place + 4)
@@ -164,7 +168,7 @@ class Maker:
 
     def operands(self):
         """The operands of a definition."""
-        scalars = [self.scalar(self.code_bits), *[self.scalar() for _ in range(self.chance.randint(0, 3))]]
+        scalars = [self.scalar(self.code_bits), *[self.scalar() for _ in range(self.many(self.chance.randint(0, 3)))]]
         elements = [Op("fixed", self.chance.randint(1, 32)), Op("vbr", self.chance.randint(2, 32)), Op("char6")]
         element = self.chance.choice(elements)
         tails = [[], [], [Op("array"), element], [Op("blob")], [Op("fixed", 0)], [Op("vbr", 0), self.scalar()]]

@@ -352,3 +352,38 @@ fn a_refused_definition_leaves_the_others(rt: HostRuntime) -> Result<(), Fail> {
     assert!(rt; told == ([1, 2, 3, 4, 5, 6, 7, 8, 0], 8));
     Ok(())
 }
+
+#[test]
+fn more_definitions_than_are_ready(rt: HostRuntime) -> Result<(), Fail> {
+    let mut definitions = InForce::new(rt.alloc());
+    for value in 1..71 {
+        add(rt.alloc(), &mut definitions, value)?;
+    }
+    let told = [
+        literal_at(&definitions, 63),
+        literal_at(&definitions, 64),
+        literal_at(&definitions, 69),
+        literal_at(&definitions, 70),
+    ];
+    assert!(rt; told == [64, 65, 70, 0] && literal(definitions.last()) == 70);
+    Ok(())
+}
+
+/// Whether operands that are held after those of another definition are the same if they are copied.
+fn is_held(alloc: Global, ops: &[Op]) -> Result<bool, Fail> {
+    let mut table = InfoTable::new(alloc);
+    table.define(alloc, 8, &constant(alloc, 300)?)?;
+    table.define(alloc, 8, &abbrev(alloc, ops)?)?;
+    let Some(operands) = table.last_for(8) else {
+        return Ok(false);
+    };
+    Ok(operands.copy(alloc)?.ops() == ops)
+}
+
+#[test]
+fn operands_are_held_as_they_are(rt: HostRuntime) -> Result<(), Fail> {
+    for ops in &LAWFUL {
+        assert!(rt; is_held(rt.alloc(), ops)?, "{ops:?}");
+    }
+    Ok(())
+}

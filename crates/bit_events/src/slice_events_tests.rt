@@ -77,13 +77,13 @@ fn show_packed(alloc: Global, text: &mut String, event: PackedEvent<'_>) -> Resu
             },
         ),
         Event::Define {
-            abbrev,
+            operands,
             first,
             after,
         } => show(
             text,
             &Event::Define {
-                abbrev,
+                operands,
                 first,
                 after,
             },
