@@ -1,7 +1,7 @@
 //! Definitions in a table.
 
 use crate::ending::Ending;
-use bit_abbrev::{Abbrev, InfoTable, Listed, Op, Ops};
+use bit_abbrev::{Abbrev, InfoTable, Op, Operands, Ops};
 use std::alloc::Global;
 
 /// For how many block ids definitions are made.
@@ -19,33 +19,32 @@ fn literal(alloc: Global, value: u32) -> Option<Abbrev> {
     }
 }
 
-/// Whether a list has the definition with this literal at its place.
-fn has(list: Listed<'_>, value: u32) -> bool {
-    let Some(definition) = list.get((value / IDS) as usize) else {
-        return false;
-    };
-    let mut operands = definition.operands();
-    let first = operands.next();
-    first == Some(Op::Literal(u64::from(value))) && operands.next().is_none()
+/// Whether a definition has only this literal.
+fn is_literal(operands: Operands<'_>, value: u32) -> bool {
+    let mut left = operands;
+    let first = left.next();
+    first == Some(Op::Literal(u64::from(value))) && left.next().is_none()
 }
 
-/// Whether a table has the definitions with these literals, each for its block id and at its place.
-fn has_all(table: &InfoTable, made: u32) -> bool {
+/// Whether the last definition for a block id is that of the last of the literals below `made` that are for this id.
+fn has_last(table: &InfoTable, made: u32, id: u32) -> bool {
+    let count = made.saturating_add(IDS - 1).saturating_sub(id) / IDS;
+    match table.last_for(id) {
+        Some(operands) => {
+            let before = count.saturating_sub(1).saturating_mul(IDS);
+            count > 0 && is_literal(operands, before.saturating_add(id))
+        }
+        None => count == 0,
+    }
+}
+
+/// Whether the last definition for each block id is that one.
+fn has_made(table: &InfoTable, made: u32) -> bool {
     let mut all = true;
-    for value in 0..made {
-        all &= has(table.for_block(value % IDS), value);
+    for id in 0..IDS {
+        all &= has_last(table, made, id);
     }
     all
-}
-
-/// Whether a table has at most `made` definitions.
-fn has_no_more(table: &InfoTable, made: u32) -> bool {
-    let mut none = true;
-    for id in 0..IDS {
-        let count = table.for_block(id).len() as u64;
-        none &= count == u64::from(made.saturating_add(IDS - 1 - id) / IDS);
-    }
-    none
 }
 
 /// Adds the definition with this literal: `None` if the table took it, and else how the call ended.
@@ -53,7 +52,7 @@ fn define_one(alloc: Global, table: &mut InfoTable, value: u32) -> Option<Ending
     let Some(definition) = literal(alloc, value) else {
         return Some(Ending::Wrong);
     };
-    match table.define(value % IDS, definition) {
+    match table.define(alloc, value % IDS, &definition) {
         Ok(()) => None,
         Err(_) => Some(Ending::Memory),
     }
@@ -73,7 +72,7 @@ fn define_all(alloc: Global, table: &mut InfoTable) -> (u32, Ending) {
 pub fn define(alloc: Global) -> Ending {
     let mut table = InfoTable::new(alloc);
     let (made, ending) = define_all(alloc, &mut table);
-    if made <= DEFINITIONS && has_all(&table, made) && has_no_more(&table, made) {
+    if made <= DEFINITIONS && has_made(&table, made) {
         ending
     } else {
         Ending::Wrong
