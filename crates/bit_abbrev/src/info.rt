@@ -182,5 +182,9 @@ impl InfoTable {
 fn ready_from(ready: &[Abbrev], start: usize) -> &[Abbrev]
     ensures { result.now ≡ drop start ready.now }
 {
-    if start < ready.len() { &ready[start..] } else { &[] }
+    if start < ready.len() {
+        &ready[start..]
+    } else {
+        &[]
+    }
 }

@@ -10,12 +10,13 @@ use crate::abbrev::{Abbrev, Ops, fits, kind_of, place_after};
 use crate::held_op::HeldOp;
 use bit_grammar::{Op, Place};
 use std::alloc::{AllocError, Global};
+use std::fmt::{Debug, Error, Formatter, Write};
 
 /// How many operands a definition has at most that is ready.
 pub(crate) const SHORT: usize = 64;
 
 /// Operands in order, of which the first one can be taken.
-#[derive(Clone, Copy, Debug)]
+#[derive(Clone, Copy)]
 pub struct Operands<'a> {
     /// Those of a definition that is ready,
     pub(crate) ready: &'a [Op],
@@ -30,6 +31,18 @@ fn more(held: &[HeldOp]) -> u64
     match held {
         [HeldOp::More(byte), rest @ ..] => (u64::from(*byte) + 256 * more(rest)) % (1 << 56),
         _ => 0,
+    }
+}
+
+/// Prints the operands as a list.
+impl<'a> Debug for Operands<'a> {
+    fn fmt<W: Write>(&self, f: &mut Formatter<W>) -> Result<(), Error> {
+        let mut list = f.debug_list();
+        let mut left = *self;
+        while let Some(op) = left.next() {
+            list.entry(&op);
+        }
+        list.finish()
     }
 }
 

@@ -16,8 +16,8 @@ ghost use Rattle.bit_abbrev.specs.HeldOps.{ops_lent};
 ghost use Rattle.bit_abbrev.specs.Operands.{OthersInOrder, others_of};
 ghost use Rattle.bit_abbrev.specs.Values.{AddsAll, AddsFew, AddsFirst, AddsWithin, Gains, Keeps, PassesFirst, Recorded};
 
-use crate::bits::Bits;
 use crate::abbrev::Abbrev;
+use crate::bits::Bits;
 use crate::lent::Definition;
 use crate::operands::{OneByOne, Operands, Ready};
 use crate::runs::Runs;

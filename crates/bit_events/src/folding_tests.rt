@@ -101,7 +101,7 @@ static FOLDED: [(&str, &str, &str); 7] = [
         "accepted",
         "Enter { id: 0, width: 2, first: 32, body: 96 } \
         Record { abbrev: 3, code: 1, values: [8], first: 96, after: 116 } \
-        Define { operands: Operands { ready: [], held: [Literal(1), Fixed(7), End] }, first: 116, after: 141 } Leave { after: 160 } \
+        Define { operands: [Literal(1), Fixed(7)], first: 116, after: 141 } Leave { after: 160 } \
         Enter { id: 8, width: 3, first: 160, body: 224 } \
         Record { abbrev: 4, code: 1, values: [100], first: 224, after: 234 } Leave { after: 256 } \
         [66, 67, 192, 222] 256",
