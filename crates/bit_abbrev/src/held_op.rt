@@ -1,6 +1,6 @@
 //! Operands as they are held.
 
-ghost use Rattle.std.specs.Prelude.{◌≡◌, ◌<◌, ◌∷◌, ◌++◌, [], OnOk};
+ghost use Rattle.std.specs.Prelude.{◌≡◌, ◌<◌, ◌^◌, ◌∷◌, ◌++◌, [], OnOk};
 ghost use Rattle.bit_grammar.specs.declared.op.Op.TheVariants.{Literal};
 ghost use Rattle.bit_abbrev.specs.HeldOps.{more, ops_in, ops_lent, IsSmall, NoneEnds};
 
@@ -10,8 +10,8 @@ use smallvec::SmallVec;
 use std::alloc::{AllocError, Global};
 use std::marker::Model;
 
-/// An operand of a definition as it is held, in two bytes. A literal above 255 is held as eight of them, from the last byte of its
-/// value to the first.
+/// An operand of a definition as it is held, in two bytes. A literal above 255 is held as two of them, or as eight if it is above
+/// 65,535, from the last byte of its value to the first.
 #[derive(Clone, Copy, Debug, Default, Drop)]
 pub(crate) enum HeldOp {
     Literal(u8),
@@ -29,7 +29,20 @@ pub(crate) enum HeldOp {
     End,
 }
 
-/// A literal as it is held if it is great.
+/// A literal as it is held if it is above 255 and has two bytes.
+fn two_bytes(value: u64) -> [HeldOp; 2]
+    requires { value < 2 ^ 16 }
+    ensures ops { ops_in result ≡ Literal value ∷ [] }
+    ensures whole { more result ≡ 0 }
+    ensures none { NoneEnds result }
+{
+    [
+        HeldOp::Great((value % 256) as u8),
+        HeldOp::More((value / 256) as u8),
+    ]
+}
+
+/// A literal as it is held if it has more bytes.
 fn great(value: u64) -> [HeldOp; 8]
     ensures ops { ops_in result ≡ Literal value ∷ [] }
     ensures whole { more result ≡ 0 }
@@ -105,7 +118,8 @@ impl HeldOps {
         ensures { OnOk result (self.new ≡ self.old ++ op ∷ []) }
     {
         match op {
-            Op::Literal(value) if value > 255 => self.held.extend_from_slice(&great(value))?,
+            Op::Literal(value) if value >= 1 << 16 => self.held.extend_from_slice(&great(value))?,
+            Op::Literal(value) if value > 255 => self.held.extend_from_slice(&two_bytes(value))?,
             op => self.held.push(small(op))?,
         }
         Ok(())
