@@ -46,5 +46,5 @@ pub use info::InfoTable;
 pub use laws::lawful_unbroken;
 pub use lent::Definition;
 pub use operands::Operands;
-pub use record::{go_on_with, read_abbreviated, read_plain, read_record};
+pub use record::{read_abbreviated, read_plain, read_record};
 pub use runs::Runs;

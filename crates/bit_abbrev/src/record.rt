@@ -355,20 +355,6 @@ fn read_ready<U, B: Runs, V: ValueTaker>(
     read_by_ops::<U, B, Ready<'_>, V>(bits, &mut operands, count, first, room, values)
 }
 
-/// Goes on with a definition that is ready. Only a reader goes on with another one.
-///
-/// Asked before anything else, so that buffered records are read without a place for the operands of other ones.
-#[inline(always)]
-pub fn go_on_with<B: Bits>(bits: &mut B, definition: &Definition<'_>) -> Result<(), B::Miss>
-    ensures same { OnOk result (B.as_reader bits.new ≡ B.as_reader bits.old) }
-    ensures none { IfErr result (λ miss. (fault : Fault) → B.faults miss fault → ⊥) }
-{
-    if definition.ready().is_none() {
-        return bits.only_reader();
-    }
-    Ok(())
-}
-
 /// Reads a record by its definition, after its abbreviation id, which began at `first`: gives its values to the value sink and
 /// returns its code. If it fails, some of its values may have been added.
 ///

@@ -5,7 +5,7 @@ ghost use Rattle.bit_grammar.specs.Blocks.{entry};
 ghost use Rattle.bit_abbrev.specs.Bits.{Answers};
 ghost use Rattle.bit_abbrev.specs.Values.{AddsWithin, Gains, Keeps};
 
-use bit_abbrev::{Lookup, Runs, go_on_with, read_plain, read_record};
+use bit_abbrev::{Lookup, Runs, read_plain, read_record};
 use bit_fields::{Reason, ValueTaker};
 
 /// Reads the code and the values of a record after its abbreviation id: gives the values to the value sink and returns the code.
@@ -34,7 +34,6 @@ pub(crate) fn read_entry<U, B: Runs, D: Lookup, V: ValueTaker>(
         bits.judge(false, Reason::UndefinedAbbrev, first)?;
         unreachable!();
     };
-    go_on_with(bits, &definition)?;
     bits.judge(definition.is_usable(), Reason::AbbrevShape, first)?;
     read_record::<U, B, V>(bits, &definition, first, room, values)
 }

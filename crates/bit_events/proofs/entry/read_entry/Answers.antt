@@ -34,7 +34,7 @@ returns-in_err-judge-clause-adds g c =
 pub returns-in_err-judge-2-clause-adds : goal.returns-in_err-judge-2-clause-adds
 returns-in_err-judge-2-clause-adds g c =
     let failed = err_from_is_err_and c.from_residual-in_err-judge-2.result c.from_residual-in_err-judge-2.ensures.1 in
-    let judged = rw (c.is_usable.ensures, c.in_ok-go_on_with.ensures.same) at c.in_err-judge-2.ensures.takes in
+    let judged = rw c.is_usable.ensures at c.in_err-judge-2.ensures.takes in
     rw (failed.1, failed.2) (λ fault stands before t. (
       before,
       t,
@@ -54,4 +54,4 @@ returns-clause-adds g c =
     let shape = sym c.is_usable.ensures ∙ c.in_ok-judge-2.ensures.holds in
     answers_so g.B.Bits.faults (λ (r : Result ℕ Fault). Gains took old new (AddsWithin (abbreviated c.args.first room ops) room a r b)) (λ (r : Result ℕ Fault). Gains took old new (AddsWithin (entry room c.args.first c.args.id (g.D.Lookup.listed c.args.definitions.now)) room a r b)) c.read_record.result
     (added_as took old new (abbreviated c.args.first room ops) (entry room c.args.first c.args.id (g.D.Lookup.listed c.args.definitions.now)) room a b (λ s takes. short_entry room c.args.first c.args.id (g.D.Lookup.listed c.args.definitions.now) ops a s b c.if-id-eq3.false (sym c.in-Some.ensures) shape takes))
-    (rw (c.in_ok-judge-2.ensures.same, c.in_ok-go_on_with.ensures.same) at c.read_record.ensures.adds)
+    (rw c.in_ok-judge-2.ensures.same at c.read_record.ensures.adds)
