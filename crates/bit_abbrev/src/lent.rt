@@ -168,12 +168,15 @@ impl<'a> Listed<'a> {
     pub(crate) fn get(&self, index: usize) -> Option<Definition<'a>>
         ensures { result ≡ slice_get self.now index }
     {
-        match self.heads.get(index) {
-            Some(head) => Some(Definition {
-                ready: self.ready.get(index),
+        let Some(head) = self.heads.get(index) else {
+            return None;
+        };
+        match self.ready.get(index) {
+            Some(abbrev) => Some(Definition::of(abbrev)),
+            None => Some(Definition {
+                ready: None,
                 held: held_at(self.held, *head),
             }),
-            None => None,
         }
     }
 
