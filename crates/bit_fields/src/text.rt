@@ -3,7 +3,7 @@
 ghost use Rattle.std.specs.Prelude.{◌≡◌, ◌+◌, ◌*◌, ◌/◌, ◌%◌, ◌^◌, ◌<◌, ◌≤◌, ◌++◌, [], length, drop, true, IfOk, OnOk, OnErr};
 ghost use Rattle.bit_grammar.specs.Bits.{bits_of};
 ghost use Rattle.bit_grammar.specs.FormatFields.{shortest};
-ghost use Rattle.bit_grammar.specs.Normal.{padding, values_bits};
+ghost use Rattle.bit_grammar.specs.Normal.{entry_text, padding, values_bits};
 ghost use Rattle.bit_fields.specs.Texts.{bits_of_words, with_word};
 ghost use Rattle.bit_fields.specs.Writer.{Writes};
 
@@ -98,6 +98,48 @@ impl BitText {
         ensures { OnOk result (self.new ≡ self.old ++ values_bits values.now) }
     {
         if let Err(AllocError) = add_numbers(&mut self.words, &mut self.window, values) {
+            self.words.clear();
+            self.window = Window::new();
+            return Err(AllocError);
+        }
+        Ok(())
+    }
+
+    /// Appends what comes in a record of a normal form before its values: its abbreviation id, its code and its count of values.
+    pub fn record_front(&mut self, code: u64, count: u64) -> Result<(), AllocError>
+        requires { length self.old + length (bits_of 2 3 ++ (shortest 6 code ++ shortest 6 count)) < 2 ^ 62 }
+        ensures { OnOk result (self.new
+            ≡ self.old ++ (bits_of 2 3 ++ (shortest 6 code ++ shortest 6 count))) }
+    {
+        if let Err(AllocError) = add_front(&mut self.words, &mut self.window, code, count) {
+            self.words.clear();
+            self.window = Window::new();
+            return Err(AllocError);
+        }
+        Ok(())
+    }
+
+    /// Appends a record of a normal form.
+    #[inline]
+    pub fn record(&mut self, code: u64, values: &[u64]) -> Result<(), AllocError>
+        requires { length self.old + length (bits_of 2 3 ++ entry_text code values.now) < 2 ^ 62 }
+        ensures { OnOk result (self.new ≡ self.old ++ (bits_of 2 3 ++ entry_text code values.now)) }
+    {
+        if let Err(AllocError) = add_record(&mut self.words, &mut self.window, code, values) {
+            self.words.clear();
+            self.window = Window::new();
+            return Err(AllocError);
+        }
+        Ok(())
+    }
+
+    /// Appends numbers of one byte each in chunks of six bits, each in as few as possible.
+    #[inline]
+    pub fn byte_numbers(&mut self, values: &[u8]) -> Result<(), AllocError>
+        requires { length self.old + length (values_bits values.now) < 2 ^ 62 }
+        ensures { OnOk result (self.new ≡ self.old ++ values_bits values.now) }
+    {
+        if let Err(AllocError) = add_bytes(&mut self.words, &mut self.window, values) {
             self.words.clear();
             self.window = Window::new();
             return Err(AllocError);
@@ -309,6 +351,25 @@ fn add_number(words: &mut Words, window: &mut Window, value: u64) -> Result<(), 
     Ok(())
 }
 
+/// Appends two numbers of ten bits in chunks of six bits to words and a window.
+#[inline(always)]
+fn add_short_two(
+    words: &mut Words,
+    window: &mut Window,
+    first: u64,
+    second: u64,
+) -> Result<(), AllocError>
+    requires first { first < 1024 }
+    requires second { second < 1024 }
+    ensures { OnOk result (bits_of_words words.new ++ window.new
+        ≡ (bits_of_words words.old ++ window.old) ++ (shortest 6 first ++ shortest 6 second)) }
+{
+    make_room(words, window)?;
+    window.append(short_chunks(first));
+    window.append(short_chunks(second));
+    Ok(())
+}
+
 /// Appends two numbers in chunks of six bits to words and a window, at once if both are small.
 #[inline(always)]
 fn add_two(
@@ -321,10 +382,7 @@ fn add_two(
         ≡ (bits_of_words words.old ++ window.old) ++ (shortest 6 first ++ shortest 6 second)) }
 {
     if first < 1024 && second < 1024 {
-        make_room(words, window)?;
-        window.append(short_chunks(first));
-        window.append(short_chunks(second));
-        return Ok(());
+        return add_short_two(words, window, first, second);
     }
     add_number(words, window, first)?;
     add_number(words, window, second)
@@ -345,17 +403,101 @@ fn add_pairs(words: &mut Words, window: &mut Window, values: &[u64]) -> Result<u
     Ok(done)
 }
 
-/// Appends numbers in chunks of six bits to words and a window, which stays in registers meanwhile. If an allocation fails, the
-/// bits are undefined.
+/// Appends numbers in chunks of six bits to words and a window.
+#[inline(always)]
+fn add_values(words: &mut Words, window: &mut Window, values: &[u64]) -> Result<(), AllocError>
+    ensures { OnOk result (bits_of_words words.new ++ window.new
+        ≡ (bits_of_words words.old ++ window.old) ++ values_bits values.now) }
+{
+    let done = add_pairs(words, window, values)?;
+    for value in &values[done..] {
+        add_number(words, window, *value)?;
+    }
+    Ok(())
+}
+
+/// The same with a window that stays in registers meanwhile. If an allocation fails, the bits are undefined.
 #[inline(always)]
 fn add_numbers(words: &mut Words, window: &mut Window, values: &[u64]) -> Result<(), AllocError>
     ensures { OnOk result (bits_of_words words.new ++ window.new
         ≡ (bits_of_words words.old ++ window.old) ++ values_bits values.now) }
 {
     let mut pen = window.copy();
-    let done = add_pairs(words, &mut pen, values)?;
+    add_values(words, &mut pen, values)?;
+    *window = pen;
+    Ok(())
+}
+
+/// Appends what comes in a record before its values to words and a window.
+#[inline(always)]
+fn add_front(
+    words: &mut Words,
+    window: &mut Window,
+    code: u64,
+    count: u64,
+) -> Result<(), AllocError>
+    ensures { OnOk result (bits_of_words words.new ++ window.new
+        ≡ (bits_of_words words.old ++ window.old)
+        ++ (bits_of 2 3 ++ (shortest 6 code ++ shortest 6 count))) }
+{
+    make_room(words, window)?;
+    window.push(3, 2);
+    if code < 1024 && count < 1024 {
+        window.append(short_chunks(code));
+        window.append(short_chunks(count));
+        return Ok(());
+    }
+    add_number(words, window, code)?;
+    add_number(words, window, count)
+}
+
+/// Appends a record to words and a window, which stays in registers meanwhile. If an allocation fails, the bits are undefined.
+fn add_record(
+    words: &mut Words,
+    window: &mut Window,
+    code: u64,
+    values: &[u64],
+) -> Result<(), AllocError>
+    ensures { OnOk result (bits_of_words words.new ++ window.new
+        ≡ (bits_of_words words.old ++ window.old) ++ (bits_of 2 3 ++ entry_text code values.now)) }
+{
+    let mut pen = window.copy();
+    add_front(words, &mut pen, code, values.len() as u64)?;
+    add_values(words, &mut pen, values)?;
+    *window = pen;
+    Ok(())
+}
+
+/// Appends bytes as numbers two by two, and returns how many: all, or all but one.
+#[inline(always)]
+fn add_byte_pairs(
+    words: &mut Words,
+    window: &mut Window,
+    values: &[u8],
+) -> Result<usize, AllocError>
+    ensures { IfOk result (λ count. (count ≤ length values.now)
+        × ((bits_of_words words.new ++ window.new) ++ values_bits (drop count values.now)
+        ≡ (bits_of_words words.old ++ window.old) ++ values_bits values.now)) }
+{
+    let mut done = 0;
+    while values.len() - done >= 2 {
+        let (first, second) = (u64::from(values[done]), u64::from(values[done + 1]));
+        add_short_two(words, window, first, second)?;
+        done += 2;
+    }
+    Ok(done)
+}
+
+/// Appends bytes as numbers in chunks of six bits to words and a window, which stays in registers meanwhile. If an allocation
+/// fails, the bits are undefined.
+fn add_bytes(words: &mut Words, window: &mut Window, values: &[u8]) -> Result<(), AllocError>
+    ensures { OnOk result (bits_of_words words.new ++ window.new
+        ≡ (bits_of_words words.old ++ window.old) ++ values_bits values.now) }
+{
+    let mut pen = window.copy();
+    let done = add_byte_pairs(words, &mut pen, values)?;
     for value in &values[done..] {
-        add_number(words, &mut pen, *value)?;
+        add_number(words, &mut pen, *value as u64)?;
     }
     *window = pen;
     Ok(())

@@ -433,26 +433,6 @@ passes_whole first last events was long =
 
 -- ---- what is added, in parts
 
--- what comes before the values, field by field or in one step
-pub record_head_parts : (text a b d : List Bool) (code count : ℕ) → a ≡ text ++ bits_of 2 3 → b ≡ a ++ shortest 6 code → d ≡ b ++ shortest 6 count → d ≡ text ++ record_front code count
-record_head_parts text a b d code count a_is b_is d_is =
-    let x = bits_of 2 3 in
-    let y = shortest 6 code in
-    let z = shortest 6 count in
-    d_is ∙ ap (λ (s : List Bool). s ++ z) (b_is ∙ ap (λ (s : List Bool). s ++ y) a_is) ∙ append_assoc (text ++ x) y z ∙ append_assoc text x (y ++ z)
-
-six_bits : (value : ℕ) → value < 32 → bits_of 6 value ≡ shortest 6 value
-six_bits value lt = short_spelled value 0 value (omega (arith, lt)) (omega (arith, lt)) (omega (arith, lt))
-
-pub record_head_at_once : (code count word : ℕ) → code < 32 → count < 32 → word ≡ 3 + 4 * code + 256 * count → bits_of 14 word ≡ record_front code count
-record_head_at_once code count word few short word_is =
-    let above : word ≡ 3 + (code + count * 64) * 4 = omega (arith, word_is) in
-    let three : 3 < 2 ^ 2 = omega arith in
-    let six : code < 2 ^ 6 = omega (arith, few) in
-    ap (bits_of 14) above
-    ∙ bits_of-above 2 12 3 (code + count * 64) three
-    ∙ ap (λ (s : List Bool). bits_of 2 3 ++ s) (bits_of-above 6 6 code count six ∙ ap (λ (s : List Bool). s ++ bits_of 6 count) (six_bits code few) ∙ ap (λ (s : List Bool). shortest 6 code ++ s) (six_bits count short))
-
 -- a record: its values after what comes before them
 pub record_joined : (text a e : List Bool) (code count : ℕ) (list : List ℕ) → a ≡ text ++ record_front code count → count ≡ length list → e ≡ a ++ values_bits list → e ≡ text ++ record_text code list (length text)
 record_joined text a e code count list a_is count_is e_is =

@@ -1,12 +1,14 @@
 -- The text of values that are taken one after another.
-use Rattle.std.proofs.Common.{◌≡◌, ℕ, ◌*◌, ◌/◌, ◌^◌, ◌<◌, ◌≤◌, Bool, List, [], ◌∷◌, ◌++◌, length, take, refl, sym, ap, subst, ◌∙◌, arith, append_assoc, length-append}
+use Rattle.std.proofs.Common.{◌≡◌, ℕ, ◌+◌, ◌*◌, ◌/◌, ◌^◌, ◌<◌, ◌≤◌, Bool, List, [], ◌∷◌, ◌++◌, length, take, refl, sym, ap, subst, ◌∙◌, arith, append_assoc, length-append}
 use Rattle.std.proofs.lemmas.List.{append-nil}
 use Rattle.bit_norm.specs.Building.{HoldsText, HasTaken}
 use Rattle.bit_norm.specs.declared.form_values.FormValues.{FormValues}
 use Rattle.bit_norm.specs.declared.form_values.Holding.{Holding}
 use Rattle.bit_norm.specs.declared.form_values.Holding.TheVariants.{All, TooLong, Unknown}
 use Rattle.bit_grammar.specs.FormatFields.{shortest}
-use Rattle.bit_grammar.specs.Normal.{values_bits}
+use Rattle.bit_grammar.specs.Bits.{bits_of}
+use Rattle.bit_grammar.specs.Normal.{entry_text, values_bits}
+use Rattle.bit_grammar.proofs.Bits.Numbers.{length-bits_of}
 use Rattle.bit_grammar.proofs.NormalForms.Sizes.{short_length, short_range}
 use Rattle.bit_norm.proofs.ChunkCounting.{short_few}
 
@@ -47,6 +49,14 @@ holds_past limit text values others Unknown is long holds = absurd (cc)
 pub values_few : (vs : List ℕ) → length (values_bits vs) ≤ 2048 * length vs
 values_few [] = omega arith
 values_few (v ∷ vs) = omega (arith, values_few vs, length-append (shortest 6 v) (values_bits vs), short_length 6 v (omega arith), short_few 6 v (omega arith) (omega arith))
+
+-- what comes in a record before its values takes few bits
+pub front_few : (code count : ℕ) → length (bits_of 2 3 ++ (shortest 6 code ++ shortest 6 count)) ≤ 4098
+front_few code count = omega (arith, length-append (bits_of 2 3) (shortest 6 code ++ shortest 6 count), length-append (shortest 6 code) (shortest 6 count), length-bits_of 2 3, short_length 6 code (omega arith), short_few 6 code (omega arith) (omega arith), short_length 6 count (omega arith), short_few 6 count (omega arith) (omega arith))
+
+-- and so does a record of few values
+pub entry_few : (code : ℕ) (vs : List ℕ) → length (bits_of 2 3 ++ entry_text code vs) ≤ 4098 + 2048 * length vs
+entry_few code vs = omega (arith, length-append (bits_of 2 3) (entry_text code vs), length-bits_of 2 3, values_few (code ∷ length vs ∷ vs))
 
 -- ---- what was taken
 

@@ -40,40 +40,25 @@ fn close_block(text: &mut BitText, hole: u64) -> Result<(), AllocError>
     text.set_word(hole, words as u32)
 }
 
-/// Adds what comes in a record before its values, field by field.
-fn add_long_head(text: &mut BitText, code: u64, count: u64) -> Result<(), AllocError>
-    requires { length text.old < 2 ^ 38 }
-    ensures ok { OnOk result (text.new ≡ text.old ++ record_front code count) }
-    ensures few { OnOk result (length text.new ≤ length text.old + 4098) }
-{
-    text.fixed(2, 3)?;
-    text.vbr(6, code)?;
-    text.vbr(6, count)
-}
-
-/// Adds what comes in a record before its values, in one step if the numbers are small.
-#[inline(always)]
+/// Adds what comes in a record before its values.
+#[tactic(auto, using(crate::proofs::ValueTexts::front_few))]
 fn add_record_head(text: &mut BitText, code: u64, count: u64) -> Result<(), AllocError>
     requires { length text.old < 2 ^ 38 }
     ensures ok { OnOk result (text.new ≡ text.old ++ record_front code count) }
     ensures few { OnOk result (length text.new ≤ length text.old + 4098) }
 {
-    if code < 32 && count < 32 {
-        return text.fixed(14, 3 + 4 * code + 256 * count);
-    }
-    add_long_head(text, code, count)
+    text.record_front(code, count)
 }
 
 /// Adds a record of few values.
 #[inline(always)]
-#[tactic(auto, using(crate::proofs::Building::record_joined, crate::proofs::ValueTexts::values_few))]
+#[tactic(auto, using(crate::proofs::ValueTexts::entry_few))]
 fn add_short_record(text: &mut BitText, code: u64, values: &[u64]) -> Result<(), AllocError>
     requires few { length text.old < 2 ^ 38 }
     requires short { length values.now ≤ 64 }
     ensures { OnOk result (text.new ≡ text.old ++ record_text code values.now (length text.old)) }
 {
-    add_record_head(text, code, values.len() as u64)?;
-    text.numbers(values)
+    text.record(code, values)
 }
 
 /// Adds a record whose values have these bits, and moves the bits out of `values`.

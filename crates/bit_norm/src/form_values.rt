@@ -9,6 +9,9 @@ use std::alloc::{AllocError, Global};
 /// How many values are held as numbers before they become text.
 const ROOM: usize = 64;
 
+/// How many values of one byte become text before the limit on bytes is tested again.
+const PIECE: usize = 4096;
+
 /// How much of the text of values is held.
 #[derive(Clone, Copy, Debug, PartialEq, Eq)]
 pub(crate) enum Holding {
@@ -65,6 +68,33 @@ fn add_values(
             return Ok(());
         }
         if let Err(AllocError) = text.numbers(values) {
+            *holding = Holding::Unknown;
+            return Err(AllocError);
+        }
+    }
+    Ok(())
+}
+
+/// Adds values of one byte each to the text of earlier ones, if all of that is held.
+#[tactic(auto, using(crate::proofs::ValueTexts::holds_more, crate::proofs::ValueTexts::holds_all, crate::proofs::ValueTexts::holds_past, crate::proofs::ValueTexts::values_few))]
+fn add_bytes(
+    text: &mut BitText,
+    holding: &mut Holding,
+    limits: Limits,
+    values: &[u8],
+) -> Result<(), AllocError>
+    requires { length values.now ≤ 4096 }
+    ensures ok { OnOk result ((others : List ℕ) → HoldsText holding.old text.old limits.bytes others
+        → HoldsText holding.new text.new limits.bytes (others ++ values.now)) }
+    ensures err { OnErr result (holding.new ≡ Unknown) }
+{
+    if let Holding::All = *holding {
+        if is_long(text, limits) {
+            text.clear();
+            *holding = Holding::TooLong;
+            return Ok(());
+        }
+        if let Err(AllocError) = text.byte_numbers(values) {
             *holding = Holding::Unknown;
             return Err(AllocError);
         }
@@ -134,6 +164,53 @@ impl FormValues {
         Ok(())
     }
 
+    /// Takes values of one byte each, one by one.
+    #[inline(always)]
+    fn take_few(&mut self, bytes: &[u8]) -> Result<(), NotTaken>
+        ensures ok { OnOk result ((values : List ℕ) → HasTaken self.old values
+            → HasTaken self.new (values ++ bytes.now)) }
+        ensures err { OnErr result ((values : List ℕ) → HasTaken self.old values
+            → (some : List ℕ) × HasTaken self.new (values ++ some)) }
+    {
+        for byte in bytes {
+            self.take(u64::from(*byte))?;
+        }
+        Ok(())
+    }
+
+    /// Takes at most `PIECE` values of one byte each. No value is held as a number.
+    fn take_piece(&mut self, bytes: &[u8]) -> Result<(), NotTaken>
+        requires few { length bytes.now ≤ 4096 }
+        requires none { self.old.held ≡ 0 }
+        ensures ok { OnOk result ((values : List ℕ) → HasTaken self.old values
+            → HasTaken self.new (values ++ bytes.now)) }
+        ensures err { OnErr result ((values : List ℕ) → HasTaken self.old values
+            → HasTaken self.new values) }
+        ensures none { self.new.held ≡ 0 }
+    {
+        add_bytes(&mut self.text, &mut self.holding, self.limits, bytes)?;
+        self.before = self.before.saturating_add(bytes.len() as u64);
+        Ok(())
+    }
+
+    /// Takes values of one byte each, in pieces, as text.
+    #[inline(never)]
+    fn take_many(&mut self, bytes: &[u8]) -> Result<(), NotTaken>
+        ensures ok { OnOk result ((values : List ℕ) → HasTaken self.old values
+            → HasTaken self.new (values ++ bytes.now)) }
+        ensures err { OnErr result ((values : List ℕ) → HasTaken self.old values
+            → (some : List ℕ) × HasTaken self.new (values ++ some)) }
+    {
+        self.settle()?;
+        let mut done = 0;
+        while done < bytes.len() {
+            let count = (bytes.len() - done).min(PIECE);
+            self.take_piece(&bytes[done..done + count])?;
+            done += count;
+        }
+        Ok(())
+    }
+
     /// Whether the text of the values is known to have more bytes than a limit. No value is held as a number.
     #[inline(always)]
     pub(crate) fn is_past(&self, limits: Limits) -> bool
@@ -193,6 +270,16 @@ impl ValueTaker for FormValues {
         self.numbers[self.held] = value;
         self.held += 1;
         Ok(())
+    }
+
+    /// A record of more values than are held as numbers becomes text, its bytes without a way through numbers.
+    #[inline]
+    fn take_bytes(&mut self, bytes: &[u8]) -> Result<(), NotTaken> {
+        if bytes.len() <= ROOM {
+            self.take_few(bytes)
+        } else {
+            self.take_many(bytes)
+        }
     }
 
     /// Values after a text that is not held are only counted.

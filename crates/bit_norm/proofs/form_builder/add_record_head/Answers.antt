@@ -1,8 +1,9 @@
-use Rattle.std.proofs.Common.{Bool, List, ◌++◌, refl, ap, ◌∙◌, arith}
+use Rattle.std.proofs.Common.{Bool, List, ◌++◌, length, ap, arith, length-append}
 use Rattle.std.proofs.lemmas.Result.{on_ok_weaker}
-use Rattle.bit_norm.proofs.Building.{record_head_at_once}
+use Rattle.bit_norm.specs.Writing.{record_front}
+use Rattle.bit_norm.proofs.ValueTexts.{front_few}
 use Rattle.bit_norm.proofs.form_builder.add_record_head.Goals as goal
 
-pub returns-then-count-lt32-clause-ok : goal.returns-then-count-lt32-clause-ok
-returns-then-count-lt32-clause-ok c =
-    on_ok_weaker c.fixed.result (λ added. added ∙ ap (λ (s : List Bool). c.args.text.now ++ s) (record_head_at_once c.args.code c.args.count _ (omega arith) (omega arith) refl)) c.fixed.ensures
+pub returns-clause-few : goal.returns-clause-few
+returns-clause-few c =
+    on_ok_weaker c.record_front.result (λ added. omega (arith, ap length added, length-append c.args.text.now (record_front c.args.code c.args.count), front_few c.args.code c.args.count)) c.record_front.ensures

@@ -5,7 +5,7 @@ use Rattle.bit_grammar.specs.Normal.{values_bits}
 use Rattle.bit_fields.specs.Texts.{bits_of_words}
 use Rattle.bit_fields.proofs.BitLaws.{take_whole}
 use Rattle.bit_fields.proofs.Texts.{value-next}
-use Rattle.bit_fields.proofs.text.add_numbers.Goals as goal
+use Rattle.bit_fields.proofs.text.add_values.Goals as goal
 
 pub loop-value-init : goal.loop-value-init
 loop-value-init c =
@@ -15,14 +15,13 @@ loop-value-init c =
     let rest : take (length vs - done) (drop done vs) ≡ drop done vs = take_whole (length vs - done) (drop done vs) (omega (arith, length-drop done vs)) in
     ap (λ (l : List ℕ). now ++ values_bits l) rest
     ∙ c.in_ok-done.ensures.1
-    ∙ ap (λ (s : List Bool). (bits_of_words c.args.words.now ++ s) ++ values_bits vs) c.copy-pen.ensures
 
 pub loop-value-preserved : goal.loop-value-preserved
 loop-value-preserved c =
     let l = c.loop-value in
     let vs = take (length c.args.values.now - c.in_ok-done.done) (drop c.in_ok-done.done c.args.values.now) in
     let rest = values_bits (drop (l.value-index + 1) vs) in
-    let now = bits_of_words l.words ++ l.pen in
+    let now = bits_of_words l.words ++ l.window in
     let n = shortest 6 (get_or vs l.value-index 0) in
     ap (λ (s : List Bool). s ++ rest) c.in_ok-add_number.ensures
     ∙ append_assoc now n rest
@@ -34,4 +33,4 @@ returns c =
     let l = c.loop-value in
     let vs = take (length c.args.values.now - c.in_ok-done.done) (drop c.in_ok-done.done c.args.values.now) in
     let none : values_bits (drop l.value-index vs) ≡ [] = ap values_bits (drop_all l.value-index vs c.loop-value-test.false) in
-    sym (append-nil (bits_of_words l.words ++ l.pen)) ∙ ap (λ (s : List Bool). (bits_of_words l.words ++ l.pen) ++ s) (sym none) ∙ l.invariant
+    sym (append-nil (bits_of_words l.words ++ l.window)) ∙ ap (λ (s : List Bool). (bits_of_words l.words ++ l.window) ++ s) (sym none) ∙ l.invariant
