@@ -1,5 +1,5 @@
 -- The result for two inputs.
-use Rattle.std.proofs.Common.{◌≡◌, ℕ, ◌+◌, ◌⊎◌, inl, inr, arith, Bool, true, false, IsTrue, List, [], ◌∷◌, ◌++◌, Option, Some, None, Result, Ok, Err, refl, sym, ap, ◌∙◌, subst, append-nil, take}
+use Rattle.std.proofs.Common.{◌≡◌, ℕ, ◌+◌, ◌⊎◌, inl, inr, arith, Bool, true, false, IsTrue, List, [], ◌∷◌, ◌++◌, Option, Some, None, Result, Ok, Err, refl, sym, ap, ◌∙◌, subst, append-nil, take, drop}
 use Rattle.std.specs.Prelude.{◌↔◌, IsSome, option_map}
 use Rattle.bit_grammar.specs.Setting.{Setting}
 use Rattle.bit_grammar.specs.Under.{under}
@@ -19,8 +19,9 @@ use Rattle.bit_events.specs.Reading.{Spent, ReadsWhole}
 use Rattle.bit_tree.specs.Reading.{HasFit}
 use Rattle.bit_grammar.proofs.NormalForms.Settings.{fit_of_setting}
 use Rattle.bit_grammar.proofs.Events.Telling.{told_if_spelled}
-use Rattle.bit_fields.specs.Devices.{Incoming, known_bytes}
-use Rattle.bit_fields.specs.Front.{front_of}
+use Rattle.bit_fields.specs.Devices.{Incoming, keeping, calling, known_bytes}
+use Rattle.bit_fields.specs.Front.{calls_of, front_of}
+use Rattle.bit_fields.proofs.Keeping.{says_before, spared}
 use Rattle.bit_fields.proofs.Fronts.{rest_left}
 use Rattle.bit_events.specs.Coming.{Coming, TellsComing}
 use Rattle.bit_norm.specs.declared.differences.Difference.{Difference}
@@ -30,6 +31,7 @@ use Rattle.bit_norm.specs.declared.in_step.Found.{Found}
 use Rattle.bit_norm.specs.Entries.{Sign, Entry, over, signs_in, Seen, Standing, at_magic, standing_shown, difference_shown, magic_standing, behind_magic, all_entries, magics_apart, apart_at, in_magic, behind, Differs}
 use Rattle.bit_norm.specs.Whole.{ReadsTree, ReadsMarked, Misreads, Compares, source_of, FindsDifference, FindsInBytes, FindsInParts, HasRest, HasRestUnless, ReachesRest, SaysNone}
 use Rattle.bit_norm.specs.InStep.{Said, entry_at, Compared, here, entries_of_first, entries_of_second, second_end, seen_of, TakesSign, Alike, ApartAt, Tallied, AnswersFound, Finishes, Concludes, other_magic, same_magic, ReadBeside, NotRead, ComparesWith}
+use Rattle.bit_norm.specs.Rejoined.{unknown, ComparesChecked}
 use Rattle.bit_norm.specs.declared.comparing.Which.{Which}
 use Rattle.bit_norm.specs.declared.comparing.Which.TheVariants.{First, Second}
 use Rattle.bit_norm.specs.declared.comparing.SameFault.{SameFault}
@@ -197,12 +199,17 @@ finds setting limits i now j later bytes (Ok answer) capped kept read =
     (a.0, b.0, a.1, b.1, λ first second. b.2 second a.0 (a.2 first))
 finds setting limits i now j later bytes (Err e) capped kept none = misread setting limits i now j later bytes e.which e.fault capped kept none
 
+-- the same for bytes that were not said to be judged
+pub finds_plain : (setting : Setting) (limits : Limits) (i now j later : Incoming) (bytes : List ℕ) (answer : Result (Option Difference) SameFault) → Capped limits → Kept limits i now bytes → ComparesChecked false setting limits bytes j answer later → FindsDifference setting limits i j answer now later
+finds_plain setting limits i now j later bytes answer capped kept compared = finds setting limits i now j later bytes answer capped kept (compared.plain refl)
+
 -- the first is a slice
 pub finds_in_bytes : (setting : Setting) (limits : Limits) (bytes : List ℕ) (i now j later : Incoming) (checked : Unit {0}) (answer : Result (Option Difference) SameFault) → Capped limits → i ≡ source_of bytes → now.failures ≡ 0
-    → ReadsWhole (λ (all : List ℕ) (_ : Unit {0}). (m : Marked) × SpellsInput limits all m) limits i (Ok checked) now → ComparesWith setting limits bytes j answer later → FindsInBytes setting limits bytes j answer later
+    → ReadsWhole (λ (all : List ℕ) (_ : Unit {0}). (m : Marked) × SpellsInput limits all m) limits i (Ok checked) now → ComparesChecked true setting limits bytes j answer later → FindsInBytes setting limits bytes j answer later
 finds_in_bytes setting limits bytes i now j later checked answer capped is never read compared =
     let whole = subst (λ (s : Incoming). ReadsWhole (λ (all : List ℕ) (_ : Unit {0}). (m : Marked) × SpellsInput limits all m) limits s (Ok checked) now) is read in
-    (now, never, finds setting limits (source_of bytes) now j later bytes answer capped (whole.0, λ tells. let found = whole.1 tells in ((refl, found.0), found.1)) compared)
+    let first = whole.1 refl in
+    (now, never, finds setting limits (source_of bytes) now j later bytes answer capped (whole.0, λ tells. let found = whole.1 tells in ((refl, found.0), found.1)) (compared.accepted first.0.0 first.0.1))
 
 misread_first : {A : Type 0} (Holds : List ℕ → A → Type 0) (setting : Setting) (limits : Limits) (i now j : Incoming) (fault : Fault) → ReadsWhole Holds limits i (Err fault) now → FindsDifference setting limits i j (Err (record { which = First; fault = fault })) now j
 misread_first Holds setting limits i now j (Refused reason bit) read = (read, refl)
@@ -235,12 +242,42 @@ reaches : (answer : Result (Option Difference) SameFault) (first : ℕ) (i j : I
 reaches (Ok found) first i j rest = rest
 reaches (Err e) first i j rest = reached e.which first i j rest
 
+-- the source between both, if its bytes were not known before
+known_before : {A : Type 0} (o : Option (List ℕ)) (f : List ℕ → A) → IsSome (option_map f o) → IsSome o
+known_before None f told = absurd cc
+known_before (Some bytes) f told = refl
+
+told_before : (o : Option (List ℕ)) (f : List ℕ → List ℕ) (all : List ℕ) → option_map f o ≡ Some all → IsSome o
+told_before None f all told = absurd cc
+told_before (Some bytes) f all told = refl
+
+kept_unknown : (limits : Limits) (first left pulls failures : ℕ) (i j : Incoming) (bytes : List ℕ) → (IsSome i.to_come → ⊥) → Kept limits (front_of first 0 0 i) (front_of left pulls failures j) bytes → Kept limits (front_of first 0 0 i) (front_of left pulls failures (unknown j)) bytes
+kept_unknown limits first left pulls failures i j bytes none kept = (
+  record {
+    pulls = kept.0.pulls;
+    failures = kept.0.failures;
+    tells = λ told. absurd (none (known_before i.to_come (take first) told));
+    bytes = λ told. absurd (none (known_before i.to_come (take first) told));
+    accounts = says_before (keeping true (option_map (drop first) i.to_come)) (keeping true (option_map (drop left) None)) (calling (calls_of first 0 0 i) ∷ i.accounts) (calling (calls_of left pulls failures j) ∷ j.accounts)
+        (λ all says. absurd (none (told_before i.to_come (drop first) all (says refl))))
+        (spared (keeping true (option_map (drop first) i.to_come)) (keeping true (option_map (drop left) j.to_come)) (calling (calls_of first 0 0 i) ∷ i.accounts) (calling (calls_of left pulls failures j) ∷ j.accounts) kept.0.accounts);
+  },
+  λ told. absurd (none (known_before i.to_come (take first) told)),
+)
+
 -- the first was accepted
-pub finds_in_parts : (setting : Setting) (limits : Limits) (first left pulls failures : ℕ) (i p q j later : Incoming) (bytes : List ℕ) (answer : Result (Option Difference) SameFault) → Capped limits → p ≡ front_of first 0 0 i → q ≡ front_of left pulls failures j → Kept limits p q bytes → ComparesWith setting limits bytes j answer later
+pub finds_in_parts : (setting : Setting) (limits : Limits) (first left pulls failures : ℕ) (i p q j later : Incoming) (bytes : List ℕ) (answer : Result (Option Difference) SameFault) → Capped limits → p ≡ front_of first 0 0 i → q ≡ front_of left pulls failures j → Kept limits p q bytes → ComparesChecked true setting limits bytes j answer later
     → FindsInParts setting limits first i answer later
 finds_in_parts setting limits first left pulls failures i p q j later bytes answer capped begun ended read compared =
     let kept = subst (λ (s : Incoming). Kept limits (front_of first 0 0 i) s bytes) ended (subst (λ (s : Incoming). Kept limits s q bytes) begun read) in
-    (left, pulls, failures, j, finds setting limits (front_of first 0 0 i) (front_of left pulls failures j) j later bytes answer capped kept compared, reaches answer first i j (rest_after limits first left pulls failures i j bytes kept))
+    elim (tells_or_not i.to_come) [
+      | inl tells ↦
+          let found = kept.1 (known_front i.to_come first tells) in
+          let spelled = subst (λ (bs : List ℕ). SpellsInput limits bs found.0.1.0) (sym found.0.0) found.0.1.1 in
+          (left, pulls, failures, j, finds setting limits (front_of first 0 0 i) (front_of left pulls failures j) j later bytes answer capped kept (compared.accepted found.0.1.0 spelled), reaches answer first i j (rest_after limits first left pulls failures i j bytes kept))
+      | inr none ↦
+          (left, pulls, failures, unknown j, finds setting limits (front_of first 0 0 i) (front_of left pulls failures (unknown j)) (unknown j) later bytes answer capped (kept_unknown limits first left pulls failures i j bytes none kept) compared.unknown, reaches answer first i (unknown j) (λ told. absurd (none told)))
+    ]
 
 -- it was not
 pub parts_misread : {A : Type 0} (Holds : List ℕ → A → Type 0) (setting : Setting) (limits : Limits) (first left pulls failures : ℕ) (i p q j : Incoming) (fault : Fault) → p ≡ front_of first 0 0 i → q ≡ front_of left pulls failures j → ReadsWhole Holds limits p (Err fault) q

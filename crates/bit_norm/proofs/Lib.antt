@@ -1,10 +1,13 @@
+pub mod AlikeBytes
 pub mod Apart
+pub mod CheckedBytes
 pub mod ChunkCounting
 pub mod Comparisons
 pub mod Ends
 pub mod EventEntries
 pub mod Falls
 pub mod Gains
+pub mod GivenAgain
 pub mod Going
 pub mod InStep
 pub mod OneDifference

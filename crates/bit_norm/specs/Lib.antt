@@ -1,4 +1,5 @@
 pub mod InStep
+pub mod Rejoined
 pub mod Whole
 pub mod Building
 pub mod Entries

@@ -2,8 +2,8 @@ ghost use Rattle.std.specs.Prelude.{◌≡◌, Some};
 ghost use Rattle.bit_grammar.specs.Setting.{setting_of};
 ghost use Rattle.bit_norm.specs.Whole.{FindsDifference, FindsInBytes, FindsInParts, SaysNone, Compares, ComparesBytes};
 
+use crate::alike::compare_checked;
 use crate::differences::Difference;
-use crate::in_step::compare_with;
 use bit_events::{check, check_keeping};
 use bit_fields::{Fault, FrontSource, Limits, SliceSource, Source};
 use bit_tree::Info;
@@ -53,7 +53,7 @@ pub(crate) fn faulty(which: Which, fault: Fault) -> SameFault
 /// difference. Only the bytes of the first, the open blocks of both and one record of each are held. A fault names its input, which
 /// breaks the rules, or whose source failed, or during whose reading an allocation failed. The sources are returned in their
 /// present state.
-#[tactic(auto, using(crate::proofs::Comparisons::finds))]
+#[tactic(auto, using(crate::proofs::Comparisons::finds_plain))]
 pub fn first_difference<A: Source, B: Source>(
     alloc: Global,
     a: A,
@@ -71,7 +71,7 @@ pub fn first_difference<A: Source, B: Source>(
         Ok(first) => first,
         Err(fault) => return (Err(faulty(Which::First, fault)), a, b),
     };
-    let (answer, b) = compare_with(alloc, &first, b, limits, info);
+    let (answer, b) = compare_checked(alloc, &first, b, limits, info, false);
     (answer, a, b)
 }
 
@@ -93,7 +93,7 @@ pub fn first_difference_in_parts<S: Source>(
     let (kept, front) = check_keeping(alloc, FrontSource::new(source, first), limits);
     let rest = front.into_inner();
     match kept {
-        Ok(bytes) => compare_with(alloc, &bytes, rest, limits, info),
+        Ok(bytes) => compare_checked(alloc, &bytes, rest, limits, info, true),
         Err(fault) => (Err(faulty(Which::First, fault)), rest),
     }
 }
@@ -113,7 +113,7 @@ pub fn first_difference_from<B: Source>(
     let _bytes = limits.bytes();
     let (checked, _) = check(alloc, SliceSource::new(first), limits);
     match checked {
-        Ok(()) => compare_with(alloc, first, b, limits, info),
+        Ok(()) => compare_checked(alloc, first, b, limits, info, true),
         Err(fault) => (Err(faulty(Which::First, fault)), b),
     }
 }

@@ -7,14 +7,17 @@
 //! as numbers and many as bits. Nothing is written before the input is accepted. `FormWriter` is the same builder for callers that
 //! have a tree.
 //!
-//! `first_difference` reads the first input alone and keeps its bytes, and then reads the second in step with them. Both may come
-//! from one source, one after the other (`first_difference_in_parts`), and the first may be in memory. The trees are
+//! `first_difference` reads the first input alone and keeps its bytes, and then compares the bytes that the second source lends with
+//! them (`alike`). If all are the same it is done. Else it reads the second in step with the first, by a source that gives the bytes
+//! that were taken again (`Rejoined`), in as many calls at least, so that its limit on calls is kept. Both may come from one source,
+//! one after the other (`first_difference_in_parts`), and the first may be in memory. The trees are
 //! compared as sequences of entries, each with a place, a sign (a block's id, a record's code and values, an end) and a bit.
 //! `Comparer` gathers the second's events and compares each sign with the next entry of the first; until the first difference both
 //! are at the same place, so one `Walk` serves both. A record of the first is read into `ExpectedValues` of the second's record, so
 //! its values are not held unless they differ. `same` is true if there is no first difference.
 #![tactic(auto)]
 
+mod alike;
 mod comparing;
 mod difference_laws;
 #[cfg(test)]
@@ -32,6 +35,9 @@ mod in_step;
 mod input_tests;
 mod lengths;
 mod normalising;
+mod rejoined;
+#[cfg(test)]
+mod rejoined_tests;
 #[cfg(test)]
 mod same_tests;
 mod sign;

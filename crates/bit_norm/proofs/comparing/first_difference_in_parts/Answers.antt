@@ -8,8 +8,8 @@ use Rattle.bit_norm.proofs.comparing.first_difference_in_parts.Goals as goal
 
 pub returns-in-Ok : goal.returns-in-Ok
 returns-in-Ok g c =
-    finds_in_parts (setting_of c.args.info) c.args.limits c.args.first c.into_inner-rest.ensures.0 c.into_inner-rest.ensures.1 c.into_inner-rest.ensures.2 (g.S.Source.incoming c.args.source) _ _ (g.S.Source.incoming c.into_inner-rest.result) (g.S.Source.incoming c.compare_with.result.1) c.in-Ok.bytes.items c.compare_with.result.0 c.bytes-bytes.ensures.capped c.new.ensures c.into_inner-rest.ensures.3
-    (rw c.in-Ok.is at c.check_keeping-kept.ensures) (rw c.deref.ensures.value at c.compare_with.ensures)
+    finds_in_parts (setting_of c.args.info) c.args.limits c.args.first c.into_inner-rest.ensures.0 c.into_inner-rest.ensures.1 c.into_inner-rest.ensures.2 (g.S.Source.incoming c.args.source) _ _ (g.S.Source.incoming c.into_inner-rest.result) (g.S.Source.incoming c.compare_checked.result.1) c.in-Ok.bytes.items c.compare_checked.result.0 c.bytes-bytes.ensures.capped c.new.ensures c.into_inner-rest.ensures.3
+    (rw c.in-Ok.is at c.check_keeping-kept.ensures) (rw c.deref.ensures.value at c.compare_checked.ensures)
 
 pub returns-in-Err : goal.returns-in-Err
 returns-in-Err g c =

@@ -1,0 +1,29 @@
+use Rattle.std.proofs.Common.{length}
+use Rattle.bit_norm.specs.Rejoined.{held_of}
+use Rattle.bit_norm.proofs.GivenAgain.{unseen_again, unseen_behind, none_behind}
+use Rattle.bit_norm.proofs.rejoined.RejoinedSource.pass.Goals as goal
+
+pub returns-then-not-is_over : goal.returns-then-not-is_over
+returns-then-not-is_over g c =
+    let began = c.in_ok-begin.ensures.began in
+    let given = c.take.result.now in
+    let held = rw (began.2) at c.take.ensures.held in
+    let some = rw (began.2) at c.take.ensures.some in
+    let goes_on = rw (began.2) at (c.is_over.ensures.goes_on c.if-not-is_over.true) in
+    let slow = rw (began.2) at c.take.ensures.slow in
+    let slower = rw (began.2) at c.take.ensures.slower in
+    rw (began.2, began.0) (unseen_again (held_of c.args.self.now.again) given (held_of c.take.new.self) (length c.args.self.now.again.slow.now) (length c.take.new.self.slow.now) c.args.self.now.pulls c.args.most (g.S.Source.incoming c.args.self.now.source) began.1 held slow slower (some c.requires goes_on) c.take.ensures.few)
+
+pub returns-in-Ok : goal.returns-in-Ok
+returns-in-Ok g c =
+    let began = c.in_ok-begin.ensures.began in
+    let over = rw (began.2) at (c.is_over.ensures.over c.if-not-is_over.false) in
+    let gave = rw (began.2) at c.in-Ok.ensures in
+    rw (began.2, began.0, over.0, over.1) (unseen_behind c.args.self.now.pulls c.args.most c.in-Ok.count (g.S.Source.incoming c.args.self.now.source) (g.S.Source.incoming c.pass.new.self) began.1 gave)
+
+pub returns-in-Err : goal.returns-in-Err
+returns-in-Err g c =
+    let began = c.in_ok-begin.ensures.began in
+    let over = rw (began.2) at (c.is_over.ensures.over c.if-not-is_over.false) in
+    let none = rw (began.2) at c.in-Err.ensures in
+    rw (began.2, began.0, over.0, over.1) (none_behind c.args.self.now.pulls (g.S.Source.incoming c.args.self.now.source) (g.S.Source.incoming c.pass.new.self) began.1 none)

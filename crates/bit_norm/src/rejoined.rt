@@ -1,0 +1,196 @@
+//! A source some of whose bytes were taken before, and are given again.
+
+ghost use Rattle.std.specs.Prelude.{◌≡◌, ◌<◌, ◌≤◌, ◌+◌, ◌-◌, ◌++◌, ◌^◌, ℕ, List, [], length, true, false, IfOk, OnErr};
+ghost use Rattle.bit_fields.specs.Devices.{GaveNone, IsFresh};
+ghost use Rattle.bit_norm.specs.Rejoined.{rejoined_of, held_of};
+
+use bit_fields::{Source, SourceFailed};
+
+/// Bytes that are given again: the first ones one at a call, so that there are as many calls as those that took all of them.
+#[derive(Clone, Copy)]
+pub(crate) struct Again<'a> {
+    slow: &'a [u8],
+    front: &'a [u8],
+    next: &'a [u8],
+}
+
+impl<'a> Again<'a> {
+    /// Gives bytes again that were taken in `calls` calls, and then others.
+    pub(crate) fn new(bytes: &'a [u8], next: &'a [u8], calls: usize) -> Again<'a>
+        requires { calls ≤ length bytes.now }
+        ensures held { held_of result ≡ bytes.now ++ next.now }
+        ensures slow { length result.slow.now ≡ calls }
+    {
+        let (slow, front) = bytes.split_at(calls);
+        Again { slow, front, next }
+    }
+
+    /// Whether all were given.
+    #[inline(always)]
+    fn is_over(&self) -> bool
+        ensures over { result ≡ true → (held_of self.now ≡ []) × (length self.now.slow.now ≡ 0) }
+        ensures goes_on { result ≡ false → 0 < length (held_of self.now) }
+    {
+        self.slow.is_empty() && self.front.is_empty() && self.next.is_empty()
+    }
+
+    /// Takes the next bytes, at most `most`; none only if there are none, or room for none.
+    fn take(&mut self, most: usize) -> &'a [u8]
+        ensures held { held_of self.old ≡ result.now ++ held_of self.new }
+        ensures few { length result.now ≤ most }
+        ensures some { 0 < most → 0 < length (held_of self.old) → 0 < length result.now }
+        ensures slow { length self.old.slow.now ≤ length self.new.slow.now + 1 }
+        ensures slower { length self.new.slow.now ≤ length self.old.slow.now }
+    {
+        if !self.slow.is_empty() {
+            let (given, rest) = self.slow.split_at(most.min(1));
+            self.slow = rest;
+            return given;
+        }
+        if self.front.is_empty() {
+            self.front = self.next;
+            self.next = &[];
+        }
+        let (given, rest) = self.front.split_at(most.min(self.front.len()));
+        self.front = rest;
+        given
+    }
+
+    /// The next bytes, as far as they stand in one place.
+    #[inline(always)]
+    fn shown(&self) -> &'a [u8]
+        ensures { (rest : List ℕ) × (held_of self.now ≡ result.now ++ rest) }
+    {
+        if !self.slow.is_empty() {
+            return self.slow;
+        }
+        self.front
+    }
+}
+
+/// A source that gives these bytes again, and then the bytes of another one. It asks the other one for nothing before, and for
+/// nothing once that one has failed.
+///
+/// Its counts are its own.
+#[derive(Drop)]
+pub(crate) struct Rejoined<'a, S> {
+    again: Again<'a>,
+    source: S,
+    pulls: u64,
+    failures: u64,
+}
+
+impl<'a, S: Source> Rejoined<'a, S> {
+    pub(crate) fn new(again: Again<'a>, source: S) -> Rejoined<'a, S>
+        ensures { ⟦<Rejoined<'a, S> as Source>⟧.incoming result
+            ≡ rejoined_of (held_of again.entry) (length again.entry.slow.now) 0 0 (S.incoming source) }
+    {
+        Rejoined {
+            again,
+            source,
+            pulls: 0,
+            failures: 0,
+        }
+    }
+
+    /// Returns the other source in its present state.
+    pub(crate) fn into_inner(self) -> S
+        ensures { (held : List ℕ) × (owed pulls failures : ℕ) × (⟦<Rejoined<'a, S> as Source>⟧.incoming self.entry
+            ≡ rejoined_of held owed pulls failures (S.incoming result)) }
+    {
+        self.source
+    }
+
+    /// Whether it has not failed, and is not exhausted.
+    #[inline(always)]
+    fn is_open(&self) -> bool
+        ensures { result ≡ true → (self.now.failures ≡ 0) × (self.now.pulls < 2 ^ 64 - 1) }
+    {
+        self.failures == 0 && self.pulls < u64::MAX
+    }
+
+    /// Counts a pull. After a failure each pull fails.
+    #[inline(always)]
+    fn begin(&mut self) -> Result<(), SourceFailed>
+        ensures began { IfOk result (λ _. (self.old.failures ≡ 0) × (self.old.pulls < 2 ^ 64 - 1)
+            × (self.new ≡ record self.old { pulls = self.old.pulls + 1 })) }
+        ensures failed { OnErr result (GaveNone (⟦<Rejoined<'a, S> as Source>⟧.incoming self.old)
+            (⟦<Rejoined<'a, S> as Source>⟧.incoming self.new)) }
+    {
+        if self.pulls == u64::MAX || self.failures == u64::MAX {
+            return Err(SourceFailed);
+        }
+        self.pulls += 1;
+        if self.failures > 0 {
+            self.failures += 1;
+            return Err(SourceFailed);
+        }
+        Ok(())
+    }
+}
+
+impl<'a, S: Source> Source for Rejoined<'a, S> {
+    ghost incoming = { λ s. rejoined_of (held_of s.again) (length s.again.slow.now) s.pulls s.failures
+        (S.incoming s.source) };
+
+    #[inline]
+    fn pull(&mut self, into: &mut [u8]) -> Result<usize, SourceFailed> {
+        self.begin()?;
+        if !self.again.is_over() {
+            let given = self.again.take(into.len());
+            into[..given.len()].copy_from_slice(given);
+            return Ok(given.len());
+        }
+        match self.source.pull(into) {
+            Ok(count) => Ok(count),
+            Err(SourceFailed) => {
+                self.failures = 1;
+                Err(SourceFailed)
+            }
+        }
+    }
+
+    #[inline(always)]
+    fn look(&mut self) -> Result<bool, SourceFailed> {
+        if !self.is_open() {
+            return Ok(false);
+        }
+        if !self.again.is_over() {
+            return Ok(true);
+        }
+        match self.source.look() {
+            Ok(some) => Ok(some),
+            Err(SourceFailed) => {
+                self.pulls += 1;
+                self.failures = 1;
+                Err(SourceFailed)
+            }
+        }
+    }
+
+    #[inline(always)]
+    fn lend(&mut self) -> &[u8] {
+        if !self.is_open() {
+            return &[];
+        }
+        if !self.again.is_over() {
+            return self.again.shown();
+        }
+        self.source.lend()
+    }
+
+    #[inline(always)]
+    fn pass(&mut self, most: usize) -> Result<usize, SourceFailed> {
+        self.begin()?;
+        if !self.again.is_over() {
+            return Ok(self.again.take(most).len());
+        }
+        match self.source.pass(most) {
+            Ok(count) => Ok(count),
+            Err(SourceFailed) => {
+                self.failures = 1;
+                Err(SourceFailed)
+            }
+        }
+    }
+}
