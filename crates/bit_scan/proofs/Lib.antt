@@ -20,3 +20,5 @@ pub mod Showings
 pub mod Parted
 pub mod Tellings
 pub mod Walks
+pub mod Noted
+pub mod Batches

@@ -66,6 +66,10 @@ abbrev pub comma : (place : ℕ) → List ℕ
 comma zero = []
 comma (suc place) = codes ","
 
+-- a number behind another one
+abbrev pub item_json : ℕ → List ℕ
+item_json number = 44 ∷ number_json number
+
 -- items from a place on
 abbrev pub joined_from : {A : Type 0} → (A → List ℕ) → (place : ℕ) → List A → List ℕ
 joined_from text place [] = []
@@ -90,6 +94,11 @@ abbrev pub noted_json : ValueDisplay → List Field → List ℕ → List ℕ
 noted_json Shown fields values = list_line (codes "record") fields (codes "values")
     (joined number_json values)
 noted_json LeftOut fields values = object_line (codes "record") fields
+
+-- the numbers of a record, as the code makes them
+abbrev pub noted_fields : (around first code abbreviation count : ℕ) → List Field
+noted_fields around first code abbreviation count = (codes "bit", first) ∷ (codes "depth", around)
+    ∷ (codes "code", code) ∷ (codes "abbreviation", abbreviation) ∷ (codes "count", count) ∷ []
 
 -- The line of an event, with `around` blocks open before it. It has the content of the line of text, and the number of open blocks.
 abbrev pub event_json : ValueDisplay → (around : ℕ) → Event → List ℕ

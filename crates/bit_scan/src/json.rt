@@ -4,7 +4,7 @@ ghost use Rattle.std.specs.Prelude.{◌≡◌, ◌++◌, OnOk, codes, decimal, f
 ghost use Rattle.bit_grammar.specs.Texts.{hex_text, magic_bytes};
 ghost use Rattle.bit_grammar.specs.Reasons.{name_of};
 ghost use Rattle.bit_fields.specs.Opening.{magic_number};
-ghost use Rattle.bit_scan.specs.Json.{number_json, field_json, fields_told, object_front, object, object_line, list_front, text_front, text_part, text_line, comma, op_json};
+ghost use Rattle.bit_scan.specs.Json.{number_json, field_json, fields_told, noted_fields, object_front, object, object_line, list_front, text_front, text_part, text_line, comma, op_json};
 
 use crate::lines::{push_magic_digits, push_number};
 use bit_fields::Reason;
@@ -15,7 +15,7 @@ use std::alloc::AllocError;
 pub type Field<'a> = (&'a str, u64);
 
 /// Numbers below this one are written as JSON numbers, because each reader of JSON keeps them exactly.
-const FIRST_QUOTED: u64 = 1 << 53;
+pub(crate) const FIRST_QUOTED: u64 = 1 << 53;
 
 /// Appends a number, from `FIRST_QUOTED` on as a string of its digits.
 pub(crate) fn push_json_number(text: &mut String, number: u64) -> Result<(), AllocError>
@@ -102,6 +102,68 @@ pub(crate) fn push_list_front(
 {
     push_front(text, kind, fields)?;
     push_key(text, key, "\":[")
+}
+
+/// Appends a text and a number after it.
+#[inline(always)]
+fn push_after(text: &mut String, before: &str, number: u64) -> Result<(), AllocError>
+    ensures { OnOk result (string_bytes text.new
+        ≡ string_bytes text.old ++ (before.now ++ number_json number)) }
+{
+    text.push_str(before)?;
+    push_json_number(text, number)
+}
+
+/// Appends the object of a record, up to its values. Each key is a constant text with what stands around it.
+fn push_noted_front(
+    text: &mut String,
+    around: u32,
+    first: u64,
+    code: u64,
+    abbreviation: u32,
+    count: u64,
+) -> Result<(), AllocError>
+    ensures { OnOk result (string_bytes text.new ≡ string_bytes text.old
+        ++ object_front (codes "record") (noted_fields around first code abbreviation count)) }
+{
+    push_after(text, "{\"kind\":\"record\",\"bit\":", first)?;
+    push_after(text, ",\"depth\":", around as u64)?;
+    push_after(text, ",\"code\":", code)?;
+    push_after(text, ",\"abbreviation\":", abbreviation as u64)?;
+    push_after(text, ",\"count\":", count)
+}
+
+/// Appends the line of a record, up to its values.
+pub(crate) fn push_noted_list(
+    text: &mut String,
+    around: u32,
+    first: u64,
+    code: u64,
+    abbreviation: u32,
+    count: u64,
+) -> Result<(), AllocError>
+    ensures { OnOk result (string_bytes text.new ≡ string_bytes text.old
+        ++ list_front (codes "record") (noted_fields around first code abbreviation count)
+        (codes "values")) }
+{
+    push_noted_front(text, around, first, code, abbreviation, count)?;
+    text.push_str(",\"values\":[")
+}
+
+/// Appends the line of a record without its values.
+pub(crate) fn push_noted_line(
+    text: &mut String,
+    around: u32,
+    first: u64,
+    code: u64,
+    abbreviation: u32,
+    count: u64,
+) -> Result<(), AllocError>
+    ensures { OnOk result (string_bytes text.new ≡ string_bytes text.old
+        ++ object_line (codes "record") (noted_fields around first code abbreviation count)) }
+{
+    push_noted_front(text, around, first, code, abbreviation, count)?;
+    text.push_str("}\n")
 }
 
 /// Appends a line that is an object with a text, up to the text.

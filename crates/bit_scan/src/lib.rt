@@ -11,6 +11,7 @@
 
 mod analysing;
 mod analysis;
+mod batch;
 mod counter;
 mod format;
 mod json;

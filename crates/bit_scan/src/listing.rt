@@ -19,8 +19,11 @@ use std::alloc::Global;
 fn write_bytes<K: Sink>(printer: &mut Printer<K>, bytes: &[u8]) -> Result<(), Fault>
     ensures { Prints (values_text bytes.now) printer.old result printer.new }
 {
-    for byte in bytes {
-        printer.value(u64::from(*byte))?;
+    let mut place = 0;
+    while place < bytes.len() {
+        let count = (bytes.len() - place).min(printer.most());
+        printer.byte_values(&bytes[place..place + count])?;
+        place += count;
     }
     Ok(())
 }
@@ -29,8 +32,11 @@ fn write_bytes<K: Sink>(printer: &mut Printer<K>, bytes: &[u8]) -> Result<(), Fa
 fn write_numbers<K: Sink>(printer: &mut Printer<K>, numbers: &[u64]) -> Result<(), Fault>
     ensures { Prints (values_text numbers.now) printer.old result printer.new }
 {
-    for number in numbers {
-        printer.value(*number)?;
+    let mut place = 0;
+    while place < numbers.len() {
+        let count = (numbers.len() - place).min(printer.most());
+        printer.values(&numbers[place..place + count])?;
+        place += count;
     }
     Ok(())
 }

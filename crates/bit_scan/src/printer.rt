@@ -1,16 +1,17 @@
-ghost use Rattle.std.specs.Prelude.{◌≡◌, ◌-◌, ◌∷◌, ◌++◌, [], OnOk, OnErr, codes, decimal, flat_map};
+ghost use Rattle.std.specs.Prelude.{◌≡◌, ◌<◌, ◌≤◌, ◌-◌, ◌∷◌, ◌++◌, [], OnOk, OnErr, codes, decimal, flat_map, length};
 ghost use Rattle.bit_grammar.specs.EventTexts.{line_at, op_text, opened_text};
 ghost use Rattle.bit_grammar.specs.Reasons.{name_of};
-ghost use Rattle.bit_grammar.specs.Texts.{hex_text, magic_bytes, magic_text, block_line};
+ghost use Rattle.bit_grammar.specs.Texts.{hex_text, magic_bytes, magic_text, block_line, values_text};
 ghost use Rattle.bit_fields.specs.Opening.{magic_number};
-ghost use Rattle.bit_scan.specs.Json.{comma, fields_told, list_front, number_json, object_line, op_json, text_line};
+ghost use Rattle.bit_scan.specs.Json.{comma, fields_told, joined_from, list_front, noted_fields, number_json, object_line, op_json, text_line};
 ghost use Rattle.bit_scan.specs.Lines.{report_head, listing_head, block_row_text, code_row_text, record_line_front, definition_head, noted_head};
 ghost use Rattle.bit_scan.specs.Printing.{PrintedAll, PrintedFront, Prints};
 ghost use Rattle.bit_scan.specs.Written.{HasFailed, TookFront, TookText};
 
+use crate::batch::{BATCH, BYTES, EMPTY, Room, push_byte_values, push_items, push_values};
 use crate::json::{
-    Field, push_list_front, push_magic_line, push_number_item, push_object_line, push_op_item,
-    push_reason_line,
+    Field, push_list_front, push_magic_line, push_noted_line, push_noted_list, push_number_item,
+    push_object_line, push_op_item, push_reason_line,
 };
 use crate::lines::{
     push_block_line, push_block_row, push_code_row, push_definition_head, push_end_line,
@@ -49,6 +50,7 @@ fn put_all<K: Sink>(sink: &mut K, bytes: &[u8]) -> Result<(), SinkFailed>
 pub(crate) struct Printer<K: Sink> {
     sink: K,
     held: String,
+    room: Room,
 }
 
 impl<K: Sink> Model for Printer<K> {
@@ -72,6 +74,7 @@ impl<K: Sink> Printer<K> {
         Printer {
             sink,
             held: String::new(alloc),
+            room: EMPTY,
         }
     }
 
@@ -184,6 +187,40 @@ impl<K: Sink> Printer<K> {
         ensures { Prints (32 ∷ decimal value) self.old result self.new }
     {
         match push_value(&mut self.held, value) {
+            Ok(()) => self.settle(),
+            Err(AllocError) => Err(Fault::Memory),
+        }
+    }
+
+    /// How many numbers may be written at once: a batch, or only one if the buffered text may be put after any of them.
+    #[inline(always)]
+    pub(crate) fn most(&self) -> usize
+        ensures { (0 < result) × (result ≤ 32) }
+    {
+        if self.held.len() < HELD - BYTES {
+            BATCH
+        } else {
+            1
+        }
+    }
+
+    /// At most a batch of values of a record in a listing.
+    pub(crate) fn values(&mut self, values: &[u64]) -> Result<(), Fault>
+        requires { length values.now ≤ 32 }
+        ensures { Prints (values_text values.now) self.old result self.new }
+    {
+        match push_values(&mut self.held, &mut self.room, values) {
+            Ok(()) => self.settle(),
+            Err(AllocError) => Err(Fault::Memory),
+        }
+    }
+
+    /// At most a batch of bytes as values of a record in a listing.
+    pub(crate) fn byte_values(&mut self, values: &[u8]) -> Result<(), Fault>
+        requires { length values.now ≤ 32 }
+        ensures { Prints (values_text values.now) self.old result self.new }
+    {
+        match push_byte_values(&mut self.held, &mut self.room, values) {
             Ok(()) => self.settle(),
             Err(AllocError) => Err(Fault::Memory),
         }
@@ -312,11 +349,59 @@ impl<K: Sink> Printer<K> {
         }
     }
 
+    /// The line of a record as JSON, up to its values.
+    pub(crate) fn noted_list(
+        &mut self,
+        around: u32,
+        first: u64,
+        code: u64,
+        abbreviation: u32,
+        count: u64,
+    ) -> Result<(), Fault>
+        ensures { Prints (list_front (codes "record")
+            (noted_fields around first code abbreviation count) (codes "values")) self.old result
+            self.new }
+    {
+        match push_noted_list(&mut self.held, around, first, code, abbreviation, count) {
+            Ok(()) => self.settle(),
+            Err(AllocError) => Err(Fault::Memory),
+        }
+    }
+
+    /// The line of a record as JSON, without its values.
+    pub(crate) fn noted_line(
+        &mut self,
+        around: u32,
+        first: u64,
+        code: u64,
+        abbreviation: u32,
+        count: u64,
+    ) -> Result<(), Fault>
+        ensures { Prints (object_line (codes "record")
+            (noted_fields around first code abbreviation count)) self.old result self.new }
+    {
+        match push_noted_line(&mut self.held, around, first, code, abbreviation, count) {
+            Ok(()) => self.settle(),
+            Err(AllocError) => Err(Fault::Memory),
+        }
+    }
+
     /// The number at a place of a JSON list.
     pub(crate) fn number_item(&mut self, place: u64, number: u64) -> Result<(), Fault>
         ensures { Prints (comma place ++ number_json number) self.old result self.new }
     {
         match push_number_item(&mut self.held, place, number) {
+            Ok(()) => self.settle(),
+            Err(AllocError) => Err(Fault::Memory),
+        }
+    }
+
+    /// At most a batch of numbers of a JSON list, the first of them at a place.
+    pub(crate) fn items(&mut self, place: usize, numbers: &[u64]) -> Result<(), Fault>
+        requires { length numbers.now ≤ 32 }
+        ensures { Prints (joined_from number_json place numbers.now) self.old result self.new }
+    {
+        match push_items(&mut self.held, &mut self.room, place, numbers) {
             Ok(()) => self.settle(),
             Err(AllocError) => Err(Fault::Memory),
         }

@@ -1,12 +1,12 @@
 //! The events of an input as lines, written as they are read.
 
-ghost use Rattle.std.specs.Prelude.{◌≡◌, ◌≤◌, ◌++◌, OnOk, [], codes, flat_map};
+ghost use Rattle.std.specs.Prelude.{◌≡◌, ◌≤◌, ◌++◌, OnOk, [], codes, flat_map, length};
 ghost use Rattle.bit_grammar.specs.EventTexts.{line_at, op_text, ops_text, shown_values, noted_text, event_line};
 ghost use Rattle.bit_grammar.specs.declared.op.Op.{Op};
 ghost use Rattle.bit_fields.specs.Opening.{head_told};
 ghost use Rattle.bit_events.specs.Coming.{going};
 ghost use Rattle.bit_events.specs.EventView.{event_shown};
-ghost use Rattle.bit_scan.specs.Json.{event_json, fields_told, joined, list_line, noted_json, number_json, op_json};
+ghost use Rattle.bit_scan.specs.Json.{event_json, fields_told, joined, list_line, noted_fields, noted_json, number_json, op_json};
 ghost use Rattle.bit_scan.specs.Printing.{Prints};
 ghost use Rattle.bit_scan.specs.Styles.{fault_as, head_as, refusal_as, styled_event};
 ghost use Rattle.bit_scan.specs.Telling.{PrintsLast, TellsNext, TellsRest, TellsAll, TellsInput};
@@ -169,8 +169,22 @@ fn write_json_definition<K: Sink>(
     printer.list_end()
 }
 
-/// Writes values as the items of a JSON list.
-fn write_json_items<K: Sink>(printer: &mut Printer<K>, values: &PackedValues) -> Result<(), Fault>
+/// Writes numbers as the items of a JSON list.
+fn write_json_numbers<K: Sink>(printer: &mut Printer<K>, numbers: &[u64]) -> Result<(), Fault>
+    ensures { Prints (joined number_json numbers.now) printer.old result printer.new }
+{
+    let mut place = 0;
+    while place < numbers.len() {
+        let count = (numbers.len() - place).min(printer.most());
+        printer.items(place, &numbers[place..place + count])?;
+        place += count;
+    }
+    Ok(())
+}
+
+/// Writes values, which may be in several parts, as the items of a JSON list.
+#[inline(never)]
+fn write_json_parts<K: Sink>(printer: &mut Printer<K>, values: &PackedValues) -> Result<(), Fault>
     ensures { Prints (joined number_json values.now) printer.old result printer.new }
 {
     for place in 0..values.len() {
@@ -179,16 +193,35 @@ fn write_json_items<K: Sink>(printer: &mut Printer<K>, values: &PackedValues) ->
     Ok(())
 }
 
+/// Writes values as the items of a JSON list. Those of most records are one part.
+fn write_json_items<K: Sink>(printer: &mut Printer<K>, values: &PackedValues) -> Result<(), Fault>
+    ensures { Prints (joined number_json values.now) printer.old result printer.new }
+{
+    let recent = values.parts().recent;
+    if recent.len() as u64 == values.len() {
+        return write_json_numbers(printer, recent);
+    }
+    write_json_parts(printer, values)
+}
+
 /// Writes the line of a record with its values as JSON.
 fn write_json_values<K: Sink>(
     printer: &mut Printer<K>,
-    fields: &[Field<'_>],
+    around: u32,
+    noted: Noted,
     values: &PackedValues,
 ) -> Result<(), Fault>
-    ensures { Prints (list_line (codes "record") (fields_told fields.now) (codes "values")
-        (joined number_json values.now)) printer.old result printer.new }
+    ensures { Prints (list_line (codes "record")
+        (noted_fields around noted.first noted.code noted.abbreviation (length values.now))
+        (codes "values") (joined number_json values.now)) printer.old result printer.new }
 {
-    printer.list_front("record", fields, "values")?;
+    printer.noted_list(
+        around,
+        noted.first,
+        noted.code,
+        noted.abbreviation,
+        values.len(),
+    )?;
     write_json_items(printer, values)?;
     printer.list_end()
 }
@@ -196,16 +229,24 @@ fn write_json_values<K: Sink>(
 /// Writes the line of a record as JSON.
 fn write_json_record<K: Sink>(
     printer: &mut Printer<K>,
-    fields: &[Field<'_>],
+    around: u32,
+    noted: Noted,
     values: ValueDisplay,
     listed: &PackedValues,
 ) -> Result<(), Fault>
-    ensures { Prints (noted_json values (fields_told fields.now) listed.now) printer.old result
-        printer.new }
+    ensures { Prints (noted_json values
+        (noted_fields around noted.first noted.code noted.abbreviation (length listed.now))
+        listed.now) printer.old result printer.new }
 {
     match values {
-        ValueDisplay::Shown => write_json_values(printer, fields, listed),
-        ValueDisplay::LeftOut => printer.object_line("record", fields),
+        ValueDisplay::Shown => write_json_values(printer, around, noted, listed),
+        ValueDisplay::LeftOut => printer.noted_line(
+            around,
+            noted.first,
+            noted.code,
+            noted.abbreviation,
+            listed.len(),
+        ),
     }
 }
 
@@ -246,14 +287,12 @@ fn write_json_line<K: Sink>(
             first,
             ..
         } => {
-            let fields = [
-                ("bit", first),
-                ("depth", around as u64),
-                ("code", code),
-                ("abbreviation", abbrev as u64),
-                ("count", listed.len()),
-            ];
-            write_json_record(printer, &fields, values, listed)
+            let noted = Noted {
+                first,
+                code,
+                abbreviation: abbrev,
+            };
+            write_json_record(printer, around, noted, values, listed)
         }
         Event::Leave { after } => {
             let depth = around.saturating_sub(1);

@@ -1,5 +1,6 @@
 ghost use Rattle.std.specs.Prelude.{Some};
 
+use crate::batch::{push_items, push_values};
 use crate::json::push_json_number;
 use crate::{Analysis, Format, analyse, push_magic, write_show};
 use bit_fields::{Fault, Limits, Reason, Sink, SinkFailed, SliceSource, VecSink};
@@ -224,6 +225,34 @@ fn numbers_as_json(rt: HostRuntime) -> Result<(), Fail> {
     push_json_number(&mut text, 9_007_199_254_740_991)?;
     push_json_number(&mut text, 9_007_199_254_740_992)?;
     assert!(rt; text.as_str() == "9007199254740991\"9007199254740992\"");
+    Ok(())
+}
+
+/// Numbers on both sides of each number of digits, as values and as items of a JSON list.
+#[test]
+fn numbers_in_batches(rt: HostRuntime) -> Result<(), Fail> {
+    let numbers = [
+        0,
+        9,
+        10,
+        99,
+        100,
+        999,
+        1_000,
+        9_999,
+        10_000,
+        4_294_967_296,
+        9_007_199_254_740_992,
+        18_446_744_073_709_551_615,
+    ];
+    let (mut text, mut room) = (String::new(rt.alloc()), [0; 736]);
+    push_values(&mut text, &mut room, &numbers)?;
+    text.push('\n')?;
+    push_items(&mut text, &mut room, 0, &numbers)?;
+    let wanted =
+        " 0 9 10 99 100 999 1000 9999 10000 4294967296 9007199254740992 18446744073709551615\n\
+        0,9,10,99,100,999,1000,9999,10000,4294967296,\"9007199254740992\",\"18446744073709551615\"";
+    assert!(rt; text.as_str() == wanted);
     Ok(())
 }
 

@@ -1,26 +1,29 @@
-use Rattle.std.proofs.Common.{◌+◌, get_or, drop}
+use Rattle.std.proofs.Common.{◌+◌, ◌-◌, take, drop, arith}
 use Rattle.std.proofs.lemmas.Result.{err_from_is_err_and}
 use Rattle.bit_grammar.specs.Texts.{values_text}
-use Rattle.bit_scan.proofs.Parted.{value_text, next_part, last_part}
+use Rattle.bit_scan.proofs.Batches.{next_values}
+use Rattle.bit_scan.proofs.Parted.{value_text, last_part}
 use Rattle.bit_scan.proofs.Prints.{goes_starts, goes_on, goes_wrong}
 use Rattle.bit_scan.proofs.listing.write_numbers.Goals as goal
 
-pub loop-number-init : goal.loop-number-init
-loop-number-init g c = goes_starts (values_text c.args.numbers.now) c.args.printer.now
+pub loop-place-init : goal.loop-place-init
+loop-place-init g c = (omega arith, goes_starts (values_text c.args.numbers.now) c.args.printer.now)
 
-pub returns-in_err-value : goal.returns-in_err-value
-returns-in_err-value g c =
+pub returns-in_err-values : goal.returns-in_err-values
+returns-in_err-values g c =
     let vs = c.args.numbers.now in
-    let i = c.loop-number.number-index in
+    let i = c.loop-place.place in
+    let j = i + c.min-count.result in
     let p = err_from_is_err_and c.from_residual.result c.from_residual.ensures.1 in
     rw (p.1, p.2)
-    (goes_wrong (values_text vs) c.args.printer.now (value_text (get_or vs i 0)) (values_text (drop (i + 1) vs)) c.loop-number.printer c.value.new.self c.in_err-value.field-0.0 (next_part value_text (values_text vs) c.args.printer.now c.loop-number.printer vs i 0 c.loop-number-test.true c.loop-number.invariant) c.in_err-value.ensures)
+    (goes_wrong (values_text vs) c.args.printer.now (values_text (take (j - i) (drop i vs))) (values_text (drop j vs)) c.loop-place.printer c.values.new.self c.in_err-values.field-0.0 (next_values (values_text vs) c.args.printer.now c.loop-place.printer vs i j (omega arith) c.loop-place.invariant.1) c.in_err-values.ensures)
 
-pub loop-number-preserved : goal.loop-number-preserved
-loop-number-preserved g c =
+pub loop-place-preserved : goal.loop-place-preserved
+loop-place-preserved g c =
     let vs = c.args.numbers.now in
-    let i = c.loop-number.number-index in
-    goes_on (values_text vs) c.args.printer.now (value_text (get_or vs i 0)) (values_text (drop (i + 1) vs)) c.loop-number.printer c.value.new.self (next_part value_text (values_text vs) c.args.printer.now c.loop-number.printer vs i 0 c.loop-number-test.true c.loop-number.invariant) c.in_ok-value.ensures
+    let i = c.loop-place.place in
+    let j = i + c.min-count.result in
+    (omega arith, goes_on (values_text vs) c.args.printer.now (values_text (take (j - i) (drop i vs))) (values_text (drop j vs)) c.loop-place.printer c.values.new.self (next_values (values_text vs) c.args.printer.now c.loop-place.printer vs i j (omega arith) c.loop-place.invariant.1) c.in_ok-values.ensures)
 
 pub returns : goal.returns
-returns g c = last_part value_text (values_text c.args.numbers.now) c.args.printer.now c.loop-number.printer c.args.numbers.now c.loop-number.number-index c.loop-number-test.false c.loop-number.invariant
+returns g c = last_part value_text (values_text c.args.numbers.now) c.args.printer.now c.loop-place.printer c.args.numbers.now c.loop-place.place (omega arith) c.loop-place.invariant.1

@@ -3,7 +3,7 @@ use Rattle.std.proofs.lemmas.Result.{err_from_is_err_and}
 use Rattle.bit_scan.specs.Json.{comma, joined, joined_from, number_json}
 use Rattle.bit_scan.proofs.Joined.{next_value, last_item}
 use Rattle.bit_scan.proofs.Prints.{goes_starts, goes_on, goes_wrong}
-use Rattle.bit_scan.proofs.telling.write_json_items.Goals as goal
+use Rattle.bit_scan.proofs.telling.write_json_parts.Goals as goal
 
 pub loop-place-init : goal.loop-place-init
 loop-place-init g c = goes_starts (joined number_json c.args.values.now) c.args.printer.now
