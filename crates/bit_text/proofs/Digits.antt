@@ -2,12 +2,13 @@
 use Rattle.std.proofs.Common.{◌≡◌, refl, ℕ, ◌+◌, ◌-◌, ◌*◌, ◌^◌, ◌<◌, ◌≤◌, Bool, true, false, nat_eq, nat_lt, List, [], ◌∷◌, ◌++◌, length, take, drop, get_or, None, Result, Ok, Err, if◌then◌else◌, ◌∙◌, ap, arith}
 use Rattle.std.specs.Prelude.{codes}
 use Rattle.std.specs.Char.{digit_value}
-use Rattle.std.proofs.lemmas.List.{length-drop, length-take-le}
+use Rattle.std.proofs.lemmas.List.{length-drop, length-take-le, at_drop_all}
 use Rattle.bit_text.specs.declared.reason.TextReason.{TextReason}
 use Rattle.bit_text.specs.declared.reason.TextReason.TheVariants.{BadLine, NumberTooLarge}
-use Rattle.bit_text.specs.Numbers.{and_then, behind, digits_after, hexadecimal_or_decimal, number, numbers_after, words}
+use Rattle.bit_text.specs.Numbers.{and_then, behind, digits_after, hexadecimal_or_decimal, number, numbers_after, parts_after, words}
+use Rattle.bit_text.specs.Places.{IsNumber, IsWord}
 use Rattle.bit_text.proofs.Decimals.{same_none}
-use Rattle.bit_text.proofs.Spelling.{NumbersFrom, other_byte, part_more, too_short, word_goes_on, word_read}
+use Rattle.bit_text.proofs.Spelling.{other_byte, part_ends, part_goes_on, part_more, too_short}
 
 -- ---- one number
 
@@ -45,36 +46,52 @@ plain (c ∷ d ∷ word) n some h =
     let bare : behind (codes "0x") (c ∷ d ∷ word) ≡ None = rw (other_byte d 120 (no_x c d word n h)) (same_none (nat_eq c 48)) in
     ap (λ f. hexadecimal_or_decimal f (c ∷ d ∷ word)) bare ∙ h
 
--- ---- the numbers of a text
+-- ---- the digits of a word
 
--- numbers of a text are read; the next word begins here, and its digits up to there spell n
-pub record Reading (text read : List ℕ) (n from i : ℕ) : Type 0 where
-  pub within : from ≤ i
-  pub rest : numbers_after [] (words text) ≡ numbers_after read (words (drop from text))
-  pub far : NumbersFrom [] text read from i
-  pub word : digits_after 10 0 (take (i - from) (drop from text)) ≡ Ok n
+pub no_digits : (text : List ℕ) (from : ℕ) → from ≤ length text → IsNumber text from from 0
+no_digits text from h = let none : from - from ≡ 0 = omega arith in record { low = omega arith; high = h; parts = rw none refl; digits = rw none refl }
 
-pub none_read : (text : List ℕ) → Reading text [] 0 0 0
-none_read text = record { within = omega arith; rest = refl; far = refl; word = refl }
-
-pub digit_read : (text read : List ℕ) (n more from i : ℕ) → i < length text → digits_after 10 n (get_or text i 0 ∷ []) ≡ Ok more → Reading text read n from i → Reading text read more from (i + 1)
-digit_read text read n more from i k digit r = record {
-  within = omega (arith, r.within);
-  rest = r.rest;
-  far = word_goes_on [] text read from i r.within k (no_space n (get_or text i 0) more digit) r.far;
-  word = ap (digits_after 10 0) (part_more text from i r.within k) ∙ one_more 10 0 n (get_or text i 0) (take (i - from) (drop from text)) r.word ∙ digit;
+pub digit_more : (text : List ℕ) (from i n more : ℕ) → i < length text → digits_after 10 n (get_or text i 0 ∷ []) ≡ Ok more → IsNumber text from i n → IsNumber text from (i + 1) more
+digit_more text from i n more k digit is = record {
+  low = omega (arith, is.low);
+  high = omega (arith, k);
+  parts = is.parts ∙ part_goes_on 32 text from i is.low k (no_space n (get_or text i 0) more digit);
+  digits = ap (digits_after 10 0) (part_more text from i is.low k) ∙ one_more 10 0 n (get_or text i 0) (take (i - from) (drop from text)) is.digits ∙ digit;
 }
 
-long_word : (text : List ℕ) (from i : ℕ) → from < i → i ≤ length text → 0 < length (take (i - from) (drop from text))
-long_word text from i h k =
-    let few : i - from ≤ length (drop from text) = simp length-drop (omega arith) in
-    rw (length-take-le (i - from) (drop from text) few) (omega arith)
+pub digit_next : (text : List ℕ) (from i j n more : ℕ) → j ≡ i + 1 → i < length text → digits_after 10 n (get_or text i 0 ∷ []) ≡ Ok more → IsNumber text from i n → IsNumber text from j more
+digit_next text from i j n more e k digit is = rw e (digit_more text from i n more k digit is)
 
-added : (text read : List ℕ) (n from i : ℕ) → from < i → i ≤ length text → Reading text read n from i → numbers_after read (take (i - from) (drop from text) ∷ []) ≡ Ok (read ++ n ∷ [])
-added text read n from i some k r = ap (λ w. and_then w (λ m. Ok (read ++ m ∷ []))) (plain (take (i - from) (drop from text)) n (long_word text from i some k) r.word)
+pub no_word : (text : List ℕ) (from : ℕ) → from ≤ length text → IsWord text from (from + 0) 0
+no_word text from h =
+    let e : from + 0 ≡ from = omega arith in
+    rw e (record { number = no_digits text from h; ends = λ a b. absurd (omega (arith, a)) })
 
-pub word_done : (text read : List ℕ) (n from i : ℕ) → i < length text → get_or text i 0 ≡ 32 → from < i → Reading text read n from i → Reading text (read ++ n ∷ []) 0 (i + 1) (i + 1)
-word_done text read n from i k same some r =
-    let none : i + 1 - (i + 1) ≡ 0 = omega arith in
-    let far = word_read [] text read (read ++ n ∷ []) from i k same (added text read n from i some (omega (arith, k)) r) r.far in
-    record { within = omega arith; rest = rw none at far; far = far; word = rw none refl }
+pub word_there : (text : List ℕ) (from to n : ℕ) → get_or text to 0 ≡ 32 → IsNumber text from to n → IsWord text from to n
+word_there text from to n same is = record { number = is; ends = λ a b. same }
+
+-- ---- the numbers of a text
+
+-- numbers of a text are read, and the next word begins here; or all are read, and this is behind its end
+pub record Reading (text read : List ℕ) (from : ℕ) : Type 0 where
+  pub within : from ≤ length text + 1
+  pub rest : from ≤ length text → numbers_after [] (words text) ≡ numbers_after read (words (drop from text))
+  pub done : length text < from → numbers_after [] (words text) ≡ Ok read
+
+pub none_read : (text : List ℕ) → Reading text [] 0
+none_read text = record { within = omega arith; rest = λ h. refl; done = λ h. absurd (omega (arith, h)) }
+
+added : (text read : List ℕ) (n from to : ℕ) (others : List (List ℕ)) → from < to → IsNumber text from to n → numbers_after read (take (to - from) (drop from text) ∷ others) ≡ numbers_after (read ++ n ∷ []) others
+added text read n from to others some is =
+    let few : to - from ≤ length (drop from text) = simp length-drop (omega (arith, is.high)) in
+    let long : 0 < length (take (to - from) (drop from text)) = rw (length-take-le (to - from) (drop from text) few) (omega (arith, some)) in
+    ap (λ w. and_then w (λ m. numbers_after (read ++ m ∷ []) others)) (plain (take (to - from) (drop from text)) n long is.digits)
+
+pub word_done : (text read : List ℕ) (n from to next : ℕ) → next ≡ to + 1 → from < to → IsWord text from to n → Reading text read from → Reading text (read ++ n ∷ []) next
+word_done text read n from to next e some is r =
+    let start = r.rest (omega (arith, some, is.number.high)) ∙ ap (numbers_after read) is.number.parts in
+    rw e (record {
+      within = omega (arith, is.number.high);
+      rest = λ h. start ∙ ap (numbers_after read) (part_ends 32 text (take (to - from) (drop from text)) to (omega (arith, h)) (is.ends some (omega (arith, h)))) ∙ added text read n from to (words (drop (to + 1) text)) some is.number;
+      done = λ h. start ∙ at_drop_all (λ (d : List ℕ). numbers_after read (parts_after 32 (take (to - from) (drop from text)) d)) text to (omega (arith, h)) ∙ added text read n from to [] some is.number;
+    })

@@ -5,6 +5,7 @@ pub mod Fitting
 pub mod Rows
 pub mod Sources
 pub mod InWords
+pub mod Places
 pub mod Spelled
 pub mod Spelling
 pub mod Takings

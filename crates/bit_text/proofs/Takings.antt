@@ -1,6 +1,7 @@
 -- A text that comes in pieces.
-use Rattle.std.proofs.Common.{◌≡◌, refl, ℕ, ◌+◌, ◌-◌, ◌<◌, ◌≤◌, List, [], ◌∷◌, ◌++◌, length, take, drop, get_or, Result, Ok, Err, if◌then◌else◌, sym, ◌∙◌, ap, arith, append_assoc, append-nil}
+use Rattle.std.proofs.Common.{◌≡◌, refl, ℕ, zero, suc, ◌+◌, ◌-◌, ◌<◌, ◌≤◌, false, nat_eq, List, [], ◌∷◌, ◌++◌, length, take, drop, get_or, Result, Ok, Err, if◌then◌else◌, sym, ◌∙◌, ap, subst, arith, append_assoc, append-nil}
 use Rattle.std.proofs.lemmas.List.{at_drop_more, at_drop_all}
+use Rattle.std.proofs.lemmas.Bool.Decides.{nat_tests}
 use Rattle.bit_grammar.specs.Blocks.{Limits}
 use Rattle.bit_text.specs.declared.reason.TextReason.{TextReason}
 use Rattle.bit_text.specs.declared.fault.AssembleFault.{AssembleFault}
@@ -8,6 +9,7 @@ use Rattle.bit_text.specs.declared.fault.AssembleFault.TheVariants.{Refused, Fau
 use Rattle.bit_text.specs.declared.assembler.Assembler.{Assembler}
 use Rattle.bit_text.specs.Numbers.{parts_after}
 use Rattle.bit_text.specs.Listings.{Standing, after_line, goes_on, lines_read, next_line}
+use Rattle.bit_text.specs.Places.{IsLineEnd}
 use Rattle.bit_text.specs.Stops.{IsAt}
 use Rattle.bit_text.specs.Assembling.{outlook, EndsLine, TakesBytes}
 use Rattle.bit_text.proofs.Spelling.{same_byte, other_byte, part_more}
@@ -69,6 +71,25 @@ far_line now bytes from i first a b k same ends far =
 
 pub far_byte : (now : Standing) (bytes : List ℕ) (from i : ℕ) (first a : Assembler) → from ≤ i → i < length bytes → (get_or bytes i 0 ≡ 10 → ⊥) → Far now bytes from i first a → Far now bytes from (i + 1) first a
 far_byte now bytes from i first a h k other far = (far.0, far.1, far.2, λ rest. far.3 rest ∙ ap (lines_read a.limits a.number far.0) (more_line a.line.items bytes rest from i h k other))
+
+no_byte : (b c : ℕ) → nat_eq b c ≡ false → b ≡ c → ⊥
+no_byte b c h e = absurd (grind (arith, nat_tests))
+
+far_more : (now : Standing) (bytes : List ℕ) (from i n : ℕ) (first a : Assembler) → from ≤ i → i + n ≤ length bytes → ((k : ℕ) → i ≤ k → k < i + n → nat_eq (get_or bytes k 0) 10 ≡ false) → Far now bytes from i first a → Far now bytes from (i + n) first a
+far_more now bytes from i zero first a h room none far = let e : i ≡ i + 0 = omega arith in subst (λ (j : ℕ). Far now bytes from j first a) e far
+far_more now bytes from i (suc n) first a h room none far =
+    let e : i + 1 + n ≡ i + suc n = omega arith in
+    let one = far_byte now bytes from i first a h (omega (arith, room)) (no_byte (get_or bytes i 0) 10 (none i (omega arith) (omega arith))) far in
+    subst (λ (j : ℕ). Far now bytes from j first a) e (far_more now bytes from (i + 1) n first a (omega (arith, h)) (omega (arith, room)) (λ k low high. none k (omega (arith, low)) (omega (arith, high))) one)
+
+pub feed_there : (bytes : List ℕ) (from to : ℕ) → to < length bytes → IsLineEnd bytes from (length bytes) to → get_or bytes to 0 ≡ 10
+feed_there bytes from to h is = let there = is.feed h in grind (arith, nat_tests)
+
+-- up to the end of a line
+pub far_bytes : (now : Standing) (bytes : List ℕ) (from to : ℕ) (first a : Assembler) → IsLineEnd bytes from (length bytes) to → Far now bytes from from first a → Far now bytes from to first a
+far_bytes now bytes from to first a is far =
+    let e : from + (to - from) ≡ to = omega (arith, is.low) in
+    subst (λ (i : ℕ). Far now bytes from i first a) e (far_more now bytes from from (to - from) first a (omega arith) (omega (arith, e, is.high)) (λ k low high. is.before k low (omega (arith, e, high))) far)
 
 pub far_stopped : (now : Standing) (bytes : List ℕ) (from i : ℕ) (first a b : Assembler) (fault : AssembleFault) → i < length bytes → get_or bytes i 0 ≡ 10
     → ((n : Standing) → IsAt a.limits n a.writer → EndsLine a (after_line a.limits n (a.line.items ++ take (i - from) (drop from bytes))) (Err fault) b) → Far now bytes from i first a → TakesBytes now bytes first (Err fault) b

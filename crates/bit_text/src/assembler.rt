@@ -5,6 +5,7 @@ ghost use Rattle.bit_text.specs.Listings.{after_line, at_start, told_all, Standi
 ghost use Rattle.bit_text.specs.Stops.{IsAt, IsTold};
 
 use crate::fault::AssembleFault;
+use crate::line_end::line_end;
 use crate::numbers::Stop;
 use crate::reason::TextReason;
 use crate::telling::{close, read_line};
@@ -90,6 +91,7 @@ impl Assembler {
     }
 
     /// Reads the line that ends with these bytes. A line that begins in an earlier piece is put together.
+    #[inline(always)]
     fn end_line(&mut self, rest: &[u8]) -> Result<(), AssembleFault>
         ensures { (now : Standing) → IsAt self.old.limits now self.old.writer
             → EndsLine self.old
@@ -111,11 +113,11 @@ impl Assembler {
             → TakesBytes now bytes.now self.old result self.new }
     {
         let mut from = 0;
-        for (i, b) in bytes.iter().enumerate() {
-            if *b == b'\n' {
-                self.end_line(&bytes[from..i])?;
-                from = i + 1;
-            }
+        let mut to = line_end(bytes, 0);
+        while to < bytes.len() {
+            self.end_line(&bytes[from..to])?;
+            from = to + 1;
+            to = line_end(bytes, from);
         }
         match self.line.extend_from_slice(&bytes[from..]) {
             Ok(()) => Ok(()),

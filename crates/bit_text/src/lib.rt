@@ -12,6 +12,7 @@ mod assembling;
 mod fault;
 mod laws;
 mod line;
+mod line_end;
 mod numbers;
 mod reason;
 mod telling;

@@ -1,6 +1,7 @@
-ghost use Rattle.std.specs.Prelude.{◌≡◌, ◌<◌, ◌≤◌, ◌-◌, ◌^◌, [], ◌∷◌, ℕ, codes, length, drop, MatchOption, None, Some, Ok, Err};
+ghost use Rattle.std.specs.Prelude.{◌≡◌, ◌+◌, ◌*◌, ◌<◌, ◌≤◌, ◌-◌, ◌^◌, [], ◌∷◌, ℕ, codes, length, drop, MatchOption, None, Some, Ok, Err};
 ghost use Rattle.std.specs.Char.{digit_value};
 ghost use Rattle.bit_text.specs.Numbers.{behind, digits, digits_after, number, numbers_after, words};
+ghost use Rattle.bit_text.specs.Places.{IsWord};
 ghost use Rattle.bit_text.specs.Stops.{ReadsNumbers};
 
 use crate::reason::TextReason;
@@ -85,9 +86,83 @@ fn with_digit(n: u64, b: u8) -> u64
     requires few { n ≤ TENTH }
     requires digit { 48 ≤ b }
     requires decimal { b ≤ 57 }
-    ensures { digits_after 10 n (b ∷ []) ≡ Ok result }
+    ensures digits { digits_after 10 n (b ∷ []) ≡ Ok result }
+    ensures bound { result ≤ n * 10 + 9 }
 {
     n * 10 + u64::from(b - b'0')
+}
+
+/// The number of one to four digits that begins here, if a space is behind it, and how many digits it has; or else no digit.
+#[inline(always)]
+fn short_word(text: &[u8], from: usize) -> (u64, usize)
+    requires { from + 5 ≤ length text.now }
+    ensures { IsWord text.now from (from + result.1) result.0 }
+{
+    let first = text[from];
+    if first < b'0' || first > b'9' {
+        return (0, 0);
+    }
+    let one = with_digit(0, first);
+    let second = text[from + 1];
+    if second == b' ' {
+        return (one, 1);
+    }
+    if second < b'0' || second > b'9' {
+        return (0, 0);
+    }
+    let two = with_digit(one, second);
+    let third = text[from + 2];
+    if third == b' ' {
+        return (two, 2);
+    }
+    if third < b'0' || third > b'9' {
+        return (0, 0);
+    }
+    let three = with_digit(two, third);
+    let fourth = text[from + 3];
+    if fourth == b' ' {
+        return (three, 3);
+    }
+    if fourth < b'0' || fourth > b'9' || text[from + 4] != b' ' {
+        return (0, 0);
+    }
+    (with_digit(three, fourth), 4)
+}
+
+/// The same of a number of any length, which may also end the text.
+fn long_word(text: &[u8], from: usize) -> (u64, usize)
+    requires { from ≤ length text.now }
+    ensures { IsWord text.now from (from + result.1) result.0 }
+{
+    let mut n = 0;
+    for i in from..text.len() {
+        match text[i] {
+            b'0'..=b'9' => {
+                if n > TENTH {
+                    return (0, 0);
+                }
+                n = with_digit(n, text[i]);
+            }
+            b' ' => return (n, i - from),
+            _ => return (0, 0),
+        }
+    }
+    (n, text.len() - from)
+}
+
+/// The decimal number that begins here, and how many digits it has; none, if it is not read so.
+#[inline(always)]
+fn next_word(text: &[u8], from: usize) -> (u64, usize)
+    requires { from ≤ length text.now }
+    ensures { IsWord text.now from (from + result.1) result.0 }
+{
+    if text.len() - from >= 5 {
+        let (n, count) = short_word(text, from);
+        if count > 0 {
+            return (n, count);
+        }
+    }
+    long_word(text, from)
 }
 
 /// Reads the numbers of a text, with one space between them.
@@ -96,32 +171,20 @@ pub(crate) fn read_numbers(text: &[u8], numbers: &mut Vec<u64>) -> Result<(), St
 {
     numbers.clear();
     let mut from = 0;
-    let mut n = 0;
-    for (i, b) in text.iter().enumerate() {
-        match *b {
-            b'0'..=b'9' => {
-                if n > TENTH {
-                    return read_words(&text[from..], numbers);
-                }
-                n = with_digit(n, *b);
-            }
-            b' ' if from < i => {
-                let Ok(()) = numbers.push(n) else {
-                    return Err(Stop::Memory);
-                };
-                n = 0;
-                from = i + 1;
-            }
-            _ => return read_words(&text[from..], numbers),
+    while from < text.len() {
+        let (n, count) = next_word(text, from);
+        if count == 0 {
+            return read_words(&text[from..], numbers);
         }
+        let Ok(()) = numbers.push(n) else {
+            return Err(Stop::Memory);
+        };
+        from += count + 1;
     }
-    if from == text.len() {
-        return read_words(&text[from..], numbers);
+    if from > text.len() {
+        return Ok(());
     }
-    match numbers.push(n) {
-        Ok(()) => Ok(()),
-        Err(_) => Err(Stop::Memory),
-    }
+    read_words(&text[from..], numbers)
 }
 
 /// Reads the numbers of a text, which may be of any form, behind those before them.

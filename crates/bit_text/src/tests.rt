@@ -1,3 +1,4 @@
+use crate::assembler::Assembler;
 use crate::{AssembleFault, TextReason, assemble};
 use bit_fields::{Fault, Limits, SliceSource, VecSink};
 use bit_norm::FormWriter;
@@ -193,4 +194,84 @@ fn shown(rt: HostRuntime) {
         Err(fault) => format!(in rt.alloc(); "{fault}").expect(&rt, "memory"),
     };
     assert!(rt; text.as_str() == "refused: BadLine at line 2");
+}
+
+/// Words of all lengths, each with its number.
+static WORDS: [(&str, u64); 22] = [
+    ("7", 7),
+    ("10", 10),
+    ("99", 99),
+    ("100", 100),
+    ("999", 999),
+    ("1000", 1000),
+    ("9999", 9999),
+    ("10000", 10000),
+    ("99999", 99999),
+    ("0", 0),
+    ("0000", 0),
+    ("00000", 0),
+    ("0007", 7),
+    ("00007", 7),
+    ("123456789012345678", 123456789012345678),
+    ("1234567890123456789", 1234567890123456789),
+    ("9999999999999999999", 9999999999999999999),
+    ("10000000000000000000", 10000000000000000000),
+    ("18446744073709551609", 18446744073709551609),
+    ("18446744073709551610", 18446744073709551610),
+    ("18446744073709551615", u64::MAX),
+    ("018446744073709551615", u64::MAX),
+];
+
+/// The form of a block with a record of a number twice.
+fn twice(rt: &impl Abort, alloc: Global, value: u64) -> VecSink {
+    let limits = Limits::new(100, 2, 3).expect(rt, "limits within their caps");
+    let magic = [0x42, 0x43, 0xC0, 0xDE];
+    let mut writer = FormWriter::new(alloc, magic, limits).expect(rt, "no wrapper");
+    let told = [
+        writer.enter(8),
+        writer.record(value, &[value]),
+        writer.leave(),
+    ];
+    let complete = writer.is_complete();
+    assert!(rt; told == [Ok(()); 3] && complete);
+    writer.finish(VecSink::new(alloc)).1
+}
+
+#[test]
+fn words(rt: HostRuntime) {
+    for (word, value) in WORDS.iter() {
+        let text = format!(in rt.alloc(); "magic 4243c0de\nblock 8\n  record {word} {word}").expect(
+            &rt, "memory",
+        );
+        let (answer, sink) = assembled(&rt, rt.alloc(), text.as_str(), 100);
+        let wanted = twice(&rt, rt.alloc(), *value);
+        assert!(rt; answer.is_ok() && sink.bytes() == wanted.bytes());
+    }
+}
+
+/// Lines of 7, 8, 9, 15, 16, 17, 31, 32 and 33 bytes, and others.
+const LONG: &str = "magic 4243c0de
+# 34567
+# 345678
+# 3456789
+# 3456789012345
+# 34567890123456
+# 345678901234567
+# 34567890123456789012345678901
+# 345678901234567890123456789012
+# 3456789012345678901234567890123
+block 8
+  record 1 30
+";
+
+#[test]
+fn cut_lines(rt: HostRuntime) {
+    let limits = Limits::new(100, 2, 3).expect(&rt, "limits within their caps");
+    for place in 0..LONG.len() {
+        let (first, second) = LONG.as_bytes().split_at(place);
+        let mut assembler = Assembler::new(rt.alloc(), limits);
+        let taken = [assembler.take(first), assembler.take(second)];
+        let (answer, sink) = assembler.finish(VecSink::new(rt.alloc()));
+        assert!(rt; taken == [Ok(()); 2] && answer == Ok(16) && sink.bytes() == FORM.as_slice());
+    }
 }

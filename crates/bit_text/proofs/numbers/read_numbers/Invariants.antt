@@ -1,5 +1,9 @@
+use Rattle.std.proofs.Common.{◌+◌, ◌-◌, length}
 use Rattle.bit_text.proofs.Digits.{Reading}
 use Rattle.bit_text.proofs.numbers.read_numbers.Given as goal
 
-abbrev pub invariant-loop-i : goal.invariant-loop-i
-invariant-loop-i l = Reading l.text l.numbers.items l.n l.from l.i
+abbrev pub invariant-loop-from : goal.invariant-loop-from
+invariant-loop-from l = Reading l.text l.numbers.items l.from
+
+abbrev pub decreases-loop-from : goal.decreases-loop-from
+decreases-loop-from l = length l.text + 1 - l.from
