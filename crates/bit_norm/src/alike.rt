@@ -16,6 +16,9 @@ use std::alloc::Global;
 /// How many bytes are compared at once where two slices are not the same.
 const CHUNK: usize = 64;
 
+/// How many bytes are compared before a source takes them. It may take few of those that it lends, and lend the others again.
+const STEP: usize = 1024;
+
 /// Whether two slices have the same bytes.
 #[inline(always)]
 fn are_equal(a: &[u8], b: &[u8]) -> bool
@@ -24,13 +27,13 @@ fn are_equal(a: &[u8], b: &[u8]) -> bool
     a == b
 }
 
-/// The length of a common front of two slices: all that they have in common, or some chunks of it.
+/// The length of a common front of two slices, at most `STEP`: all that they have in common up to there, or some chunks of it.
 fn common_front(a: &[u8], b: &[u8]) -> usize
     ensures same { take result a.now ≡ take result b.now }
     ensures first { result ≤ length a.now }
     ensures second { result ≤ length b.now }
 {
-    let least = a.len().min(b.len());
+    let least = a.len().min(b.len()).min(STEP);
     if are_equal(&a[..least], &b[..least]) {
         return least;
     }
