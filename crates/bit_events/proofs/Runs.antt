@@ -1,10 +1,12 @@
 -- Buffered records, gathered one after another.
-use Rattle.std.proofs.Common.{◌≡◌, ℕ, ◌+◌, ◌-◌, ◌<◌, ◌≤◌, Bool, List, [], ◌∷◌, ◌++◌, length, drop, None, Option, Result, Ok, Err, refl, sym, ap, subst, ◌∙◌, arith, append_assoc, length-append, vec_len, get_or, suc}
+use Rattle.std.proofs.Common.{◌≡◌, ℕ, ◌+◌, ◌-◌, ◌<◌, ◌≤◌, Bool, List, [], ◌∷◌, ◌++◌, length, drop, None, Some, Option, Result, Ok, Err, refl, sym, ap, subst, ◌∙◌, arith, append_assoc, length-append, vec_len, get_or, suc}
 use Rattle.std.proofs.lemmas.List.{drop_at}
 use Rattle.bit_grammar.specs.Grammar as grammar
 use Rattle.bit_grammar.specs.Grammar.{Grammar, gives, ◌>>=◌, reading}
 use Rattle.bit_grammar.specs.Input.{any_bits}
 use Rattle.bit_grammar.specs.Fields.{fixed}
+use Rattle.bit_grammar.specs.Record.{unabbreviated}
+use Rattle.bit_grammar.specs.declared.op.Op.{Op}
 use Rattle.bit_grammar.specs.Terms.{CodeAndValues}
 use Rattle.bit_grammar.specs.Blocks as blocks
 use Rattle.bit_grammar.specs.Terms as terms
@@ -18,17 +20,18 @@ use Rattle.bit_fields.specs.Short.{TookNothing}
 use Rattle.bit_fields.proofs.Composing.{same_reading, took_then, fault_then}
 use Rattle.bit_fields.proofs.Gap.{gap_whole}
 use Rattle.bit_fields.proofs.BitLaws.{drop_more}
-use Rattle.bit_fields.proofs.BufferedReads.{reads_forward, reads_passed, took_reads, seen_took, not_caught_up}
+use Rattle.bit_fields.proofs.BufferedReads.{reads_forward, reads_passed, reads_took, took_reads, seen_took, not_caught_up}
 use Rattle.bit_abbrev.specs.Values.{AddsWithin}
 use Rattle.bit_abbrev.proofs.Buffered.{took_at}
 use Rattle.bit_events.specs.declared.frame.Frame.{Frame}
+use Rattle.bit_events.specs.declared.gatherer.PlainRecord.{PlainRecord}
 use Rattle.bit_events.specs.declared.machine.Machine.{Machine}
 use Rattle.bit_events.specs.FrameView.{frame_shown, frames_shown, info_shown}
 use Rattle.bit_events.specs.Folding.{GathersSome, TakesRun}
 use Rattle.bit_events.specs.Next.{left_to_tell}
 use Rattle.bit_events.specs.Gathering.{Gathers}
 use Rattle.bit_events.specs.MachineView.{handed_shown, machine_shown, record_of, record_rule, LeavesMachine}
-use Rattle.bit_events.specs.Runs.{AddsBehind, ReadsTo, after_record, Passed, GathersTo, GathersRun}
+use Rattle.bit_events.specs.Runs.{AddsBehind, ReadsTo, after_record, Passed, GathersPlain, GathersOne, GathersTo, GathersRun}
 use Rattle.bit_events.proofs.Advancing.{finds_event, finds_fault}
 use Rattle.bit_events.proofs.Folds.{in_block, none_yet, one_event, some_then, none_found}
 use Rattle.bit_events.proofs.Framing.{none_described, plain_entry, short_entry}
@@ -74,6 +77,18 @@ record_seen limits f outer handed id code list a b c none most seen t =
     new : machine.Machine
     new = after_record f outer handed list
 
+-- a record that is not abbreviated, after its id
+plain_took : (room first : ℕ) (definitions : List (List Op)) (value : CodeAndValues) (a b : BufferedBits) → Reads (unabbreviated room) a value b → Took (entry room first 3 definitions) (reader_at a) value (reader_at b)
+unfolding entry
+plain_took room first definitions value a b seen = reads_took (entry room first 3 definitions) a value b seen (reads_forward (unabbreviated room) a value b seen)
+
+-- the same with its id
+pub plain_seen : (limits : Limits) (f : machine.Frame) (outer : List machine.Frame) (handed : Handed) (id room code : ℕ) (list : List ℕ) (a b c : BufferedBits) → f.info ≡ None → id ≡ 3 → limits.values - handed.used ≡ room → Reads (fixed f.head.width) a id b → Reads (unabbreviated room) b (record { code = code; values = list }) c
+    → Reads (step_of limits (f ∷ outer) handed) a (record_of id list a.position (code, c.position), after_record f outer handed list) c
+plain_seen limits f outer handed id room code list a b c none is left seen reads =
+    record_seen limits f outer handed id code list a b c none (omega (arith, is)) seen
+    (rw (left, is) (plain_took room a.position f.definitions (record { code = code; values = list }) b c reads))
+
 -- a record of the innermost block, as the machine holds it
 pub held_seen : (limit : ℕ) (m : Machine) (k : ℕ) (f : Frame) (shown : machine.Frame) (outer : List machine.Frame) (room first id code : ℕ) (list : List ℕ) (after used : ℕ) (a : BufferedBits) → length m.frames.items ≡ suc k → f ≡ get_or m.frames.items k f → frames_shown m.frames.items ≡ shown ∷ outer → f.info ≡ None → limit - m.used ≡ room → used ≡ m.used + length list → (reads : ReadsTo f.definitions room id first a code list after)
     → Reads (record_rule limit shown outer first id (handed_shown m)) a (record_of id list first (code, after), machine_shown (record m { used = used })) reads.0
@@ -91,6 +106,21 @@ nothing_missed rule a fault b w = same_reading (gives (tt {0}) >>= λ v. rule) r
 -- the values added come after the earlier ones
 pub added_behind : (rule : Grammar CodeAndValues) (room : ℕ) (a : Reader) (code : ℕ) (b : Reader) (before after : List ℕ) → AddsWithin rule room a (Ok code) b before after → AddsBehind (λ list. (length list ≤ room) × Took rule a (record { code = code; values = list }) b) before after
 added_behind rule room a code b before after h = (h.0.0, h.0.1, (omega (arith, h.1, ap length h.0.1, length-append before h.0.0), h.0.2))
+
+-- ---- one record, gathered
+
+-- a record that is not abbreviated, straight from the bits
+pub one_plain : {G : Type 0} (gathered : G → List Event → G → Type 0) (f : Frame) (room : ℕ) (a : BufferedBits) (g : G) (taken : PlainRecord) (h : G) → (frame_shown f).info ≡ None → GathersPlain gathered f.head.width room a g (Some taken) h → GathersOne gathered f room a g (Some taken.count) taken.after h
+one_plain gathered f room a g taken h none mark = (
+  3,
+  mark.0,
+  mark.1,
+  mark.3,
+  mark.4,
+  mark.5,
+  λ limits outer handed left. plain_seen limits (frame_shown f) outer handed 3 room mark.0 mark.1 a mark.2 taken.after none refl left mark.6 mark.7,
+  mark.8,
+)
 
 -- ---- several
 

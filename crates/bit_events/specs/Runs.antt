@@ -1,15 +1,19 @@
 -- Gathering records that are buffered, before a reader takes them.
-use Rattle.std.specs.Prelude.{◌≡◌, ℕ, ◌+◌, ◌-◌, ◌≤◌, List, ◌∷◌, ◌++◌, Bool, length}
+use Rattle.std.specs.Prelude.{◌≡◌, ℕ, ◌+◌, ◌-◌, ◌<◌, ◌≤◌, List, ◌∷◌, ◌++◌, Bool, Option, Some, None, length}
 use Rattle.bit_grammar.specs.declared.op.Op.{Op}
+use Rattle.bit_grammar.specs.Fields.{fixed}
+use Rattle.bit_grammar.specs.Record.{unabbreviated}
 use Rattle.bit_grammar.specs.Blocks.{Limits, Handed, entry}
 use Rattle.bit_grammar.specs.Machine as machine
 use Rattle.bit_grammar.specs.Machine.{Event, step_of}
 use Rattle.bit_fields.specs.Buffered.{BufferedBits, Reads, Sees, reader_further, reader_at}
 use Rattle.bit_fields.specs.Reader.{Reader, Took}
 use Rattle.bit_events.specs.declared.frame.Frame.{Frame}
+use Rattle.bit_events.specs.declared.gatherer.PlainRecord.{PlainRecord}
 use Rattle.bit_events.specs.declared.machine.Machine.{Machine}
 use Rattle.bit_events.specs.FrameView.{frame_shown, frames_shown}
 use Rattle.bit_events.specs.Folding.{GathersSome}
+use Rattle.bit_events.specs.Gathering.{Gathers}
 use Rattle.bit_events.specs.MachineView.{record_of}
 
 -- the values read come after the earlier ones
@@ -39,6 +43,26 @@ SeesRecord f room a read list b = (limits : Limits) (outer : List machine.Frame)
       after_record (frame_shown f) outer
           handed list,
     ) b
+
+-- A record that is not abbreviated was gathered from these bits, with its id of `width` bits and at most `room` values; or nothing
+-- was done.
+abbrev pub GathersPlain : {G : Type 0} → (G → List Event → G → Type 0) → (width room : ℕ)
+    → BufferedBits → G → Option PlainRecord → G → Type 0
+GathersPlain gathered width room a g None h = h ≡ g
+GathersPlain gathered width room a g (Some taken) h = (code : ℕ) × (list : List ℕ) × (b : BufferedBits)
+    × (length list ≡ taken.count) × (taken.count ≤ room) × (a.position < taken.after.position)
+    × Reads (fixed width) a 3 b
+    × Reads (unabbreviated room) b (record { code = code; values = list }) taken.after
+    × Gathers gathered g (record_of 3 list a.position (code, taken.after.position)) h
+
+-- A record of this block was gathered, with its id and at most `room` values; or nothing was done.
+abbrev pub GathersOne : {G : Type 0} → (G → List Event → G → Type 0) → Frame → (room : ℕ)
+    → BufferedBits → G → Option ℕ → BufferedBits → G → Type 0
+GathersOne gathered f room a g None b h = (h ≡ g) × (b ≡ a)
+GathersOne gathered f room a g (Some count) b h = (id code : ℕ) × (list : List ℕ)
+    × (length list ≡ count) × (count ≤ room) × (a.position < b.position)
+    × SeesRecord f room a (id, code) list b
+    × Gathers gathered g (record_of id list a.position (code, b.position)) h
 
 -- the later buffered bits are a suffix of the earlier ones
 abbrev pub Passed : BufferedBits → BufferedBits → Type 0

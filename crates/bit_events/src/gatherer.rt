@@ -1,11 +1,19 @@
-ghost use Rattle.std.specs.Prelude.{ℕ, List, [], OnOk};
+ghost use Rattle.std.specs.Prelude.{ℕ, List, [], OnOk, IfOk};
 ghost use Rattle.bit_grammar.specs.Machine.{enters, defines, notes, leaves};
 ghost use Rattle.bit_events.specs.Gathering.{Gathers};
 ghost use Rattle.bit_events.specs.MachineView.{TookSome};
+ghost use Rattle.bit_events.specs.Runs.{GathersPlain};
 
 use bit_abbrev::Abbrev;
-use bit_fields::ValueTaker;
+use bit_fields::{Buffered, FieldWidth, ValueTaker};
 use std::alloc::AllocError;
+
+/// A record that is not abbreviated, and was taken from buffered bits: how many values it has, and the bits after it.
+#[derive(Drop)]
+pub struct PlainRecord<'a> {
+    pub count: u64,
+    pub after: Buffered<'a>,
+}
 
 /// Gathers the events of a stream, one after another.
 pub trait Gatherer: Drop {
@@ -53,6 +61,21 @@ pub trait Gatherer: Drop {
             })) self.new) }
         ensures took { TookSome Self.Values.took values.old
             → TookSome Self.Values.took values.new };
+
+    /// Takes the next record straight from buffered bits, with its abbreviation id of `width` bits, if it is not abbreviated and has
+    /// at most `room` values. `None` takes nothing: the record is then read into a value sink.
+    #[inline(always)]
+    fn plain<'a>(
+        &mut self,
+        _buffered: &Buffered<'a>,
+        _width: FieldWidth,
+        _room: u64,
+    ) -> Result<Option<PlainRecord<'a>>, AllocError>
+        ensures { IfOk result (λ taken. GathersPlain gathered _width.bits _room _buffered.now
+            self.old taken self.new) }
+    {
+        Ok(None)
+    }
 
     /// Takes the end of the innermost block: the bit after it.
     fn leave(&mut self, after: u64) -> Result<(), AllocError>

@@ -45,6 +45,6 @@ pub use event::{Event, RecordHead};
 pub use events::Events;
 pub use finder::{EventFinder, PackedEvent, PackedEvents};
 pub use folding::{Folded, fold};
-pub use gatherer::Gatherer;
+pub use gatherer::{Gatherer, PlainRecord};
 pub use open_blocks::OpenBlocks;
 pub use slice_events::SliceEvents;

@@ -9,7 +9,7 @@ ghost use Rattle.bit_fields.specs.Buffered.{Reads};
 ghost use Rattle.bit_abbrev.specs.Values.{Gains, Has, Keeps};
 ghost use Rattle.bit_events.specs.FrameView.{frame_shown};
 ghost use Rattle.bit_events.specs.MachineView.{record_of, TookSome};
-ghost use Rattle.bit_events.specs.Runs.{AddsBehind, GathersRun, ReadsTo, SeesRecord};
+ghost use Rattle.bit_events.specs.Runs.{AddsBehind, GathersOne, GathersRun, ReadsTo, SeesRecord};
 
 use crate::entry::read_entry;
 use crate::frame::Frame;
@@ -81,6 +81,29 @@ pub(crate) fn buffered_item<U, D: Lookup, V: ValueTaker>(
     }
 }
 
+/// Gathers the next record straight from the buffered bits, and returns the number of its values. `None`, and nothing is changed,
+/// if the gatherer declines it.
+#[inline(always)]
+fn gather_plain<'a, G: Gatherer>(
+    buffered: &mut Buffered<'a>,
+    frame: &Frame,
+    room: u64,
+    gatherer: &mut G,
+) -> Result<Option<u64>, AllocError>
+    requires plain { frame.now.info ≡ None }
+    ensures { IfOk result (λ found. GathersOne G.gathered frame.now room buffered.old gatherer.old
+        found buffered.new gatherer.new) }
+{
+    match gatherer.plain(buffered, FieldWidth::of(frame.head.width), room) {
+        Ok(Some(taken)) => {
+            *buffered = taken.after;
+            Ok(Some(taken.count))
+        }
+        Ok(None) => Ok(None),
+        Err(error) => Err(error),
+    }
+}
+
 /// Gathers records of a block that is no BLOCKINFO block, as long as they are completely buffered, and returns the bit after the
 /// last one. Readers of all sources share it.
 #[inline(never)]
@@ -104,6 +127,16 @@ pub(crate) fn gather_records<G: Gatherer>(
     let mut room = limits.values().saturating_sub(spent);
     let definitions = frame.definitions.all();
     loop {
+        match gather_plain(&mut buffered, frame, room, gatherer) {
+            Ok(Some(count)) => {
+                spent += count;
+                room = room.saturating_sub(count);
+                first = buffered.position();
+                continue;
+            }
+            Ok(None) => {}
+            Err(error) => return Err(error),
+        }
         values.truncate(0);
         let Some((id, code)) = buffered_item::<G, Definitions<'_>, G::Values>(
             &mut buffered,

@@ -171,7 +171,7 @@ kept_is held word n s there few is =
     rw (one_shl n 64 few, and_mask word n) (bits_of-mod n word ∙ sym (take-bits_of n held word there) ∙ ap (take n) is)
 
 -- a mask of n bits
-low_mask : (n : ℕ) → 0 < n → n ≤ 64 → (2 ^ 64 - 1) / 2 ^ (64 - n) ≡ 2 ^ n - 1
+pub low_mask : (n : ℕ) → 0 < n → n ≤ 64 → (2 ^ 64 - 1) / 2 ^ (64 - n) ≡ 2 ^ n - 1
 low_mask n some few =
     let sum : n + (64 - n) ≡ 64 = omega arith in
     let whole : 2 ^ n * 2 ^ (64 - n) ≡ 2 ^ 64 = sym (pow-add 2 n (64 - n)) ∙ ap (λ (k : ℕ). 2 ^ k) sum in

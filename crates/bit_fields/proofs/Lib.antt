@@ -25,3 +25,8 @@ pub mod Unlike
 pub mod Standing
 pub mod Expecting
 pub mod Wides
+pub mod Loading
+pub mod SixBits
+pub mod SixBitSums
+pub mod SixBitForms
+pub mod PlainRecords

@@ -14,3 +14,4 @@ pub mod BufferedParts
 pub mod Packed
 pub mod Wide
 pub mod Expected
+pub mod SixBits

@@ -1,5 +1,5 @@
-ghost use Rattle.std.specs.Prelude.{ℕ, ◌≡◌, ◌+◌, ◌*◌, ◌-◌, ◌%◌, ◌<◌, ◌≤◌, ◌^◌, ◌++◌, length, drop, get_or, IfSome, OnSome, MatchOption, IfNone};
-ghost use Rattle.bit_grammar.specs.Bits.{bits_of_bytes};
+ghost use Rattle.std.specs.Prelude.{ℕ, ◌≡◌, ◌+◌, ◌*◌, ◌-◌, ◌%◌, ◌<◌, ◌≤◌, ◌^◌, ◌++◌, length, take, drop, get_or, IfSome, OnSome, MatchOption, IfNone};
+ghost use Rattle.bit_grammar.specs.Bits.{bits_of, number, bits_of_bytes};
 ghost use Rattle.bit_grammar.specs.Grammar.{repeat};
 ghost use Rattle.bit_grammar.specs.Fields.{fixed, vbr, char6, align32};
 ghost use Rattle.bit_fields.specs.Inside.{part_of, numbers};
@@ -9,7 +9,7 @@ ghost use Rattle.bit_fields.specs.BufferedParts.{bits_of_parts, AreParts};
 use crate::numbers::{MOST_SHORT, character, payload_of, worth_at};
 use crate::width::{ChunkWidth, FieldWidth};
 use crate::window::Window;
-use crate::word::four_of;
+use crate::word::{eight_of, four_of};
 use std::marker::Model;
 
 /// Buffered bits of a stream, as a reader lends them: the low bits of a word, how many they are, the bytes after them, and the
@@ -302,9 +302,43 @@ impl<'a> Buffered<'a> {
         bytes
     }
 
+    /// The next 54 bits as the low bits of a word, nine chunks of six bits, if eight bytes after the window are there.
+    #[inline(always)]
+    pub(crate) fn nine_chunks(&self) -> Option<u64>
+        ensures there { OnSome result (54 ≤ length self.now.bits) }
+        ensures front { IfSome result (λ word. bits_of 54 word ≡ take 54 self.now.bits) }
+    {
+        let held = self.window.len();
+        if self.bytes.len() < 8 || held > 63 {
+            return None;
+        }
+        let after = eight_of(self.bytes) & (u64::MAX >> held);
+        let mut front = self.window.copy();
+        front.push(after, 64 - held);
+        Some(front.parts().0)
+    }
+
+    /// Takes the number of the next n bits. 64 are there.
+    #[inline(always)]
+    pub(crate) fn take_bits(&mut self, n: u32) -> u64
+        requires few { n ≤ 32 }
+        requires there { 64 ≤ length self.old.bits }
+        ensures value { result ≡ number (take n self.old.bits) }
+        ensures rest { self.new ≡ beyond self.old n }
+        ensures below { result < 2 ^ n }
+    {
+        if self.window.len() < 32 {
+            match load(&mut self.window, self.bytes) {
+                Some(rest) => self.bytes = rest,
+                None => unreachable!(),
+            }
+        }
+        self.window.take(n)
+    }
+
     /// How many bits are buffered.
     #[inline(always)]
-    fn len(&self) -> u64
+    pub fn len(&self) -> u64
         ensures { result ≡ length self.now.bits }
     {
         self.end - self.position()
@@ -332,7 +366,7 @@ impl<'a> Buffered<'a> {
 
     /// Skips `bits` bits, which are buffered.
     #[inline(always)]
-    fn skip(&mut self, bits: u64)
+    pub(crate) fn skip(&mut self, bits: u64)
         requires { bits ≤ length self.old.bits }
         ensures skipped { self.new ≡ beyond self.old bits }
         ensures moves { self.new.position ≡ self.old.position + bits }
@@ -395,6 +429,7 @@ fn load<'a>(window: &mut Window, bytes: &'a [u8]) -> Option<&'a [u8]>
     ensures longer { OnSome result (length window.new ≡ length window.old + 32) }
     ensures fewer { IfSome result (λ rest. length bytes.now ≡ 4 + length rest.now) }
     ensures none { IfNone result (window.new ≡ window.old) }
+    ensures short { IfNone result (length bytes.now < 4) }
 {
     if bytes.len() < 4 {
         return None;

@@ -35,9 +35,13 @@ mod numbers;
 mod packed;
 #[cfg(test)]
 mod packed_tests;
+mod plain;
 mod reader;
 mod settled;
 mod sink;
+mod six_bits;
+#[cfg(test)]
+mod six_bits_tests;
 mod source;
 #[cfg(test)]
 mod tests;

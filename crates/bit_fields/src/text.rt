@@ -1,12 +1,13 @@
 //! Bits in memory.
 
-ghost use Rattle.std.specs.Prelude.{◌≡◌, ◌+◌, ◌*◌, ◌/◌, ◌%◌, ◌^◌, ◌<◌, ◌≤◌, ◌++◌, [], length, drop, true, IfOk, OnOk, OnErr};
+ghost use Rattle.std.specs.Prelude.{◌≡◌, ◌+◌, ◌*◌, ◌/◌, ◌%◌, ◌^◌, ◌<◌, ◌≤◌, ◌++◌, [], length, take, drop, true, IfOk, OnOk, OnErr};
 ghost use Rattle.bit_grammar.specs.Bits.{bits_of};
 ghost use Rattle.bit_grammar.specs.FormatFields.{shortest};
 ghost use Rattle.bit_grammar.specs.Normal.{entry_text, padding, values_bits};
 ghost use Rattle.bit_fields.specs.Texts.{bits_of_words, with_word};
 ghost use Rattle.bit_fields.specs.Writer.{Writes};
 
+use crate::buffered::Buffered;
 use crate::fault::Fault;
 use crate::sink::Sink;
 use crate::window::Window;
@@ -140,6 +141,21 @@ impl BitText {
         ensures { OnOk result (self.new ≡ self.old ++ values_bits values.now) }
     {
         if let Err(AllocError) = add_bytes(&mut self.words, &mut self.window, values) {
+            self.words.clear();
+            self.window = Window::new();
+            return Err(AllocError);
+        }
+        Ok(())
+    }
+
+    /// Appends the first `count` of buffered bits, of which 64 more are there.
+    #[inline]
+    pub fn copy(&mut self, from: Buffered<'_>, count: u64) -> Result<(), AllocError>
+        requires there { count + 64 ≤ length from.bits }
+        requires room { length self.old + count < 2 ^ 62 }
+        ensures { OnOk result (self.new ≡ self.old ++ take count from.entry.bits) }
+    {
+        if let Err(AllocError) = add_copy(&mut self.words, &mut self.window, from, count) {
             self.words.clear();
             self.window = Window::new();
             return Err(AllocError);
@@ -464,6 +480,30 @@ fn add_record(
     let mut pen = window.copy();
     add_front(words, &mut pen, code, values.len() as u64)?;
     add_values(words, &mut pen, values)?;
+    *window = pen;
+    Ok(())
+}
+
+/// Appends buffered bits to words and a window, which stays in registers meanwhile. If an allocation fails, the bits are undefined.
+fn add_copy(
+    words: &mut Words,
+    window: &mut Window,
+    from: Buffered<'_>,
+    count: u64,
+) -> Result<(), AllocError>
+    requires { count + 64 ≤ length from.bits }
+    ensures { OnOk result (bits_of_words words.new ++ window.new
+        ≡ (bits_of_words words.old ++ window.old) ++ take count from.entry.bits) }
+{
+    let mut pen = window.copy();
+    let mut from = from;
+    let mut left = count;
+    while left >= 32 {
+        add_field(words, &mut pen, 32, from.take_bits(32))?;
+        left -= 32;
+    }
+    let rest = left as u32;
+    add_field(words, &mut pen, rest, from.take_bits(rest))?;
     *window = pen;
     Ok(())
 }

@@ -26,3 +26,15 @@ pub fn four_of(bytes: &[u8]) -> u64
     let four = [bytes[0], bytes[1], bytes[2], bytes[3]];
     u64::from(u32::from_le_bytes(four))
 }
+
+/// The first eight bytes of a slice, which has them, as a word, the first one lowest. This is one load.
+#[inline(always)]
+pub fn eight_of(bytes: &[u8]) -> u64
+    requires { 8 ≤ length bytes.now }
+    ensures { bits_of 64 result ≡ bits_of_bytes (take 8 bytes.now) }
+{
+    let eight = [
+        bytes[0], bytes[1], bytes[2], bytes[3], bytes[4], bytes[5], bytes[6], bytes[7],
+    ];
+    word_of(eight, 8)
+}

@@ -1,5 +1,5 @@
 -- The normal form that a text becomes while it is built.
-use Rattle.std.proofs.Common.{◌≡◌, ℕ, suc, ◌+◌, ◌*◌, ◌/◌, ◌%◌, ◌^◌, ◌<◌, ◌≤◌, Bool, true, false, List, [], ◌∷◌, ◌++◌, length, vec_len, replicate, refl, sym, ap, subst, ◌∙◌, arith, append_assoc, length-append}
+use Rattle.std.proofs.Common.{◌≡◌, ℕ, suc, ◌+◌, ◌*◌, ◌/◌, ◌%◌, ◌<◌, ◌≤◌, Bool, true, false, List, [], ◌∷◌, ◌++◌, length, vec_len, replicate, refl, sym, ap, subst, ◌∙◌, arith, append_assoc, length-append}
 use Rattle.std.specs.Prelude.{◌&&◌, Result, Ok, Err, OnOk}
 use Rattle.std.specs.List.{list_all}
 use Rattle.std.proofs.lemmas.List.{append-nil}
@@ -23,9 +23,7 @@ use Rattle.bit_events.proofs.Standings.{left_as_many, left_closed, left_push}
 use Rattle.bit_events.proofs.Folds.{open_behind-push}
 use Rattle.bit_grammar.specs.Blocks.{Limits}
 use Rattle.bit_fields.specs.Texts.{with_word}
-use Rattle.bit_fields.proofs.BitLaws.{bits_of-above}
 use Rattle.bit_fields.proofs.Texts.{with_word_between}
-use Rattle.bit_fields.proofs.WriterChunks.{short_spelled}
 use Rattle.bit_norm.specs.Told.{told_at_level}
 use Rattle.bit_norm.specs.Building.{form_so_far, begins, length_and_body, whole_form, form_with, holes_of, AreWords, Builds, PassesLimit, Forms, HasForm, record_left, left_events, IsFormOf}
 use Rattle.bit_norm.specs.Writing.{record_front, record_text, enter_text}

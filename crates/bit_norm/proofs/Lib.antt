@@ -20,3 +20,4 @@ pub mod Forms
 pub mod Told
 pub mod Telling
 pub mod Calls
+pub mod PlainRecords

@@ -1,5 +1,5 @@
 -- A normal form that is being built, and the form after the events that follow.
-use Rattle.std.specs.Prelude.{◌≡◌, ℕ, suc, ◌+◌, ◌-◌, ◌/◌, ◌%◌, ◌^◌, ◌<◌, ◌≤◌, Bool, true, false, List, [], ◌∷◌, ◌++◌, length, min, take, ◌&&◌}
+use Rattle.std.specs.Prelude.{◌≡◌, ℕ, suc, ◌+◌, ◌-◌, ◌/◌, ◌%◌, ◌^◌, ◌<◌, ◌≤◌, Bool, true, false, List, [], ◌∷◌, ◌++◌, length, min, take, ◌&&◌, Option, Some, None}
 use Rattle.std.specs.List.{list_all}
 use Rattle.bit_grammar.specs.Setting.{keeps, keeps_record}
 use Rattle.bit_grammar.specs.Under.{ids_behind, innermost, events_under}
@@ -8,7 +8,10 @@ use Rattle.bit_grammar.specs.Forest.{Forest}
 use Rattle.bit_grammar.specs.Machine.{Event, Opened, enters, notes, leaves}
 use Rattle.bit_grammar.specs.Marks.{RecordMark}
 use Rattle.bit_grammar.specs.Normal.{values_bits, end_text, normal}
+use Rattle.bit_grammar.specs.Record.{unabbreviated}
 use Rattle.bit_grammar.specs.Size.{end_of}
+use Rattle.bit_fields.specs.Buffered.{BufferedBits, Reads}
+use Rattle.bit_events.specs.declared.gatherer.PlainRecord.{PlainRecord}
 use Rattle.bit_events.specs.Gathering.{left_open}
 use Rattle.bit_norm.specs.Told.{told_at_level}
 use Rattle.bit_events.specs.Standing.{OpenUnder}
@@ -142,6 +145,16 @@ pub record IsFormOf (first : FormBuilder) (events : List Event) (b : FormBuilder
     ids = ids_behind events [];
   }
   pub form : HasForm (left_events first events) b
+
+-- A record that is not abbreviated, with at most `room` values, was built from the bits after its id; or nothing was done.
+abbrev pub AddsPlain : (room : ℕ) → BufferedBits → FormBuilder → Option PlainRecord → FormBuilder → Type 0
+AddsPlain room a old None new = new ≡ old
+AddsPlain room a old (Some taken) new = (code : ℕ) × (list : List ℕ)
+    × (length list ≡ taken.count) × (taken.count ≤ room)
+    × Reads (unabbreviated room) a (record { code = code; values = list }) taken.after
+    × ((first : FormBuilder) (done : List Event) (mark : RecordMark) → mark.code ≡ code
+    → mark.values ≡ list → IsFormOf first done old → 0 < left_open done
+    → IsFormOf first (done ++ notes mark ∷ []) new)
 
 -- the normal form of the kept events, after the magic
 abbrev pub form_of : FormBuilder → List Event → List Bool

@@ -1,17 +1,18 @@
-ghost use Rattle.std.specs.Prelude.{◌≡◌, ◌+◌, ◌*◌, ◌/◌, ◌^◌, ◌<◌, ◌≤◌, ℕ, List, [], ◌++◌, length, true, false, IfSome, MatchOption, OnOk};
+ghost use Rattle.std.specs.Prelude.{◌≡◌, ◌+◌, ◌*◌, ◌/◌, ◌^◌, ◌<◌, ◌≤◌, ℕ, List, [], ◌++◌, length, take, true, false, IfSome, MatchOption, IfOk, OnOk};
+ghost use Rattle.bit_grammar.specs.Bits.{bits_of};
 ghost use Rattle.bit_grammar.specs.Machine.{Event};
 ghost use Rattle.bit_grammar.specs.Setting.{setting_of};
 ghost use Rattle.bit_grammar.specs.Normal.{most_bytes, values_bits, end_text};
 ghost use Rattle.bit_events.specs.Gathering.{left_open};
 ghost use Rattle.bit_fields.specs.Texts.{with_word};
 ghost use Rattle.bit_events.specs.MachineView.{TookSome};
-ghost use Rattle.bit_norm.specs.Building.{HasTaken, record_left, IsFormOf, StaysAs, BuildsBlock, BuildsEnd, BuildsRecord, IsTooLong, IsWholeForm};
+ghost use Rattle.bit_norm.specs.Building.{HasTaken, record_left, AddsPlain, IsFormOf, StaysAs, BuildsBlock, BuildsEnd, BuildsRecord, IsTooLong, IsWholeForm};
 ghost use Rattle.bit_norm.specs.Writing.{record_front, record_text, enter_text};
 
 use crate::form_values::{FormValues, is_long};
 use bit_abbrev::Abbrev;
-use bit_events::{Gatherer, OpenBlocks};
-use bit_fields::{BitText, Limits};
+use bit_events::{Gatherer, OpenBlocks, PlainRecord};
+use bit_fields::{BitText, Buffered, ChunkWidth, FieldWidth, Limits};
 use bit_tree::Info;
 use std::alloc::{AllocError, Global};
 
@@ -59,6 +60,18 @@ fn add_short_record(text: &mut BitText, code: u64, values: &[u64]) -> Result<(),
     ensures { OnOk result (text.new ≡ text.old ++ record_text code values.now (length text.old)) }
 {
     text.record(code, values)
+}
+
+/// Adds a record that has these bits after its id.
+#[inline(always)]
+fn add_copy(text: &mut BitText, from: Buffered<'_>, bits: u64) -> Result<(), AllocError>
+    requires few { length text.old < 2 ^ 38 }
+    requires small { bits < 2 ^ 32 }
+    requires there { bits + 64 ≤ length from.bits }
+    ensures { OnOk result (text.new ≡ text.old ++ (bits_of 2 3 ++ take bits from.entry.bits)) }
+{
+    text.fixed(2, 3)?;
+    text.copy(from, bits)
 }
 
 /// Adds a record whose values have these bits, and moves the bits out of `values`.
@@ -156,6 +169,16 @@ impl<'a> FormBuilder<'a> {
         !self.standing.leaves_record(code)
     }
 
+    /// Whether a record whose code comes next is not to be added, or its code is not buffered. It is asked before the record is read.
+    #[inline(always)]
+    fn passes_by(&self, buffered: &Buffered<'_>) -> bool {
+        let mut ahead = buffered.copy();
+        match ahead.vbr(ChunkWidth { bits: 6 }) {
+            Some(code) => self.is_idle(code),
+            None => true,
+        }
+    }
+
     /// Opens a block that is kept.
     fn open_block(&mut self, id: u32) -> Result<(), AllocError>
         ensures stays { OnOk result (StaysAs self.old self.new) }
@@ -224,6 +247,31 @@ impl<'a> FormBuilder<'a> {
         values.reset();
         added
     }
+
+    /// Adds a record that is not abbreviated, from the buffered bits after its id, if each of its numbers is in its shortest spelling
+    /// and it is kept. Returns the number of its values and the bits after it, or `None`, and then nothing is changed.
+    #[inline]
+    fn add_plain<'b>(
+        &mut self,
+        buffered: Buffered<'b>,
+        room: u64,
+    ) -> Result<Option<PlainRecord<'b>>, AllocError>
+        ensures { IfOk result (λ taken. AddsPlain room buffered.entry self.old taken self.new) }
+    {
+        if is_long(&self.text, self.limits) || self.passes_by(&buffered) {
+            return Ok(None);
+        }
+        let mut after = buffered.copy();
+        let Some((code, count)) = after.plain_record(room) else {
+            return Ok(None);
+        };
+        if after.len() < 64 || self.is_idle(code) {
+            return Ok(None);
+        }
+        let bits = after.position() - buffered.position();
+        add_copy(&mut self.text, buffered, bits)?;
+        Ok(Some(PlainRecord { count, after }))
+    }
 }
 
 impl<'a> Gatherer for FormBuilder<'a> {
@@ -264,6 +312,21 @@ impl<'a> Gatherer for FormBuilder<'a> {
             return Ok(());
         }
         self.add(code, values)
+    }
+
+    /// A record whose numbers are all in their shortest spelling has the same bits in the form.
+    #[inline(always)]
+    fn plain<'b>(
+        &mut self,
+        buffered: &Buffered<'b>,
+        width: FieldWidth,
+        room: u64,
+    ) -> Result<Option<PlainRecord<'b>>, AllocError> {
+        let mut behind = buffered.copy();
+        let Some(3) = behind.fixed(width) else {
+            return Ok(None);
+        };
+        self.add_plain(behind, room)
     }
 
     fn leave(&mut self, _after: u64) -> Result<(), AllocError> {

@@ -1,4 +1,4 @@
-use Rattle.std.proofs.Common.{Bool, List, ◌++◌, length, ap, arith, length-append}
+use Rattle.std.proofs.Common.{length, ap, arith, length-append}
 use Rattle.std.proofs.lemmas.Result.{on_ok_weaker}
 use Rattle.bit_norm.specs.Writing.{record_front}
 use Rattle.bit_norm.proofs.ValueTexts.{front_few}

@@ -1,0 +1,143 @@
+-- Records that are not abbreviated, as buffered bits show them.
+use Rattle.std.proofs.Common.{◌≡◌, ℕ, zero, suc, ◌+◌, ◌≤◌, Bool, List, [], ◌∷◌, ◌++◌, length, take, drop, Result, Ok, Err, refl, sym, ap, ◌∙◌, subst, arith, append_assoc, length-append}
+use Rattle.std.proofs.lemmas.Bool.{le-leb}
+use Rattle.std.proofs.lemmas.List.{take-append-drop, drop-append-le, length-take-le}
+use Rattle.std.proofs.Math.Seq.{take-add}
+use Rattle.bit_grammar.specs.Bits.{bits_of, number}
+use Rattle.bit_grammar.specs.FormatFields.{shortest}
+use Rattle.bit_grammar.specs.Grammar.{Grammar, Fault, repeat, reading}
+use Rattle.bit_grammar.specs.Fields.{vbr}
+use Rattle.bit_grammar.specs.Record.{value_count, unabbreviated}
+use Rattle.bit_grammar.specs.Normal.{values_bits, entry_text}
+use Rattle.bit_grammar.proofs.Bits.Numbers.{length-bits_of}
+use Rattle.bit_fields.specs.Buffered.{BufferedBits, Reads, beyond}
+use Rattle.bit_fields.specs.SixBits.{Begins, Shortest, TakesShortest, TakesPlain}
+use Rattle.bit_fields.proofs.BitLaws.{bits_of-number, drop_more}
+use Rattle.bit_fields.proofs.SixBitForms.{begun_bits}
+
+-- ---- one after another
+
+values-append : (a b : List ℕ) → values_bits (a ++ b) ≡ values_bits a ++ values_bits b
+values-append [] b = refl
+values-append (v ∷ a) b = ap (λ (s : List Bool). shortest 6 v ++ s) (values-append a b) ∙ sym (append_assoc (shortest 6 v) (values_bits a) (values_bits b))
+
+abbrev Read : {A : Type 0} → Grammar A → (p : ℕ) → List Bool → A → (q : ℕ) → List Bool → Type 0
+Read rule p s value q t = reading rule p s ≡ Ok (value, q, t)
+
+same_ok : {A E : Type 0} (x y : A) → ◌≡◌ {A = Result A E} (Ok x) (Ok y) → x ≡ y
+same_ok x y e = cc
+
+not_ok : {A E : Type 0} (x : A) (y : E) → ◌≡◌ {A = Result A E} (Err y) (Ok x) → ⊥
+not_ok x y e = cc
+
+repeat_both : {A : Type 0} (rule : Grammar A) (m n k p : ℕ) (s : List Bool) (xs ys : List A) (q : ℕ) (t : List Bool) (u : ℕ) (v : List Bool) → k ≡ m + n → Read (repeat m rule) p s xs q t → Read (repeat n rule) q t ys u v → Read (repeat k rule) p s (xs ++ ys) u v
+repeat_both {A} rule zero n k p s xs ys q t u v all e f =
+    let same = same_ok ([], p, s) (xs, q, t) e in
+    let count : n ≡ k = omega (arith, all) in
+    subst (λ (i : ℕ). Read (repeat i rule) p s (xs ++ ys) u v) count (subst (λ (x : List A × ℕ × List Bool). reading (repeat n rule) x.1 x.2 ≡ Ok (ys, u, v) → reading (repeat n rule) p s ≡ Ok (x.0 ++ ys, u, v)) same (λ r. r) f)
+repeat_both {A} rule (suc m) n k p s xs ys q t u v all e f = subst (λ (i : ℕ). Read (repeat i rule) p s (xs ++ ys) u v) count (first (reading rule p s) refl (λ (p : ℕ) (s : List Bool) (xs : List A) (q : ℕ) (t : List Bool). repeat_both rule m n (m + n) p s xs ys q t u v refl))
+  where
+    count : suc (m + n) ≡ k
+    count = omega (arith, all)
+
+    Later : Type 0
+    Later = (p : ℕ) (s : List Bool) (xs : List A) (q : ℕ) (t : List Bool) → Read (repeat m rule) p s xs q t → Read (repeat n rule) q t ys u v → Read (repeat (m + n) rule) p s (xs ++ ys) u v
+
+    last : (x : A × ℕ × List Bool) → reading rule p s ≡ Ok x → Later → (r : Result (List A × ℕ × List Bool) Fault) → reading (repeat m rule) x.1 x.2 ≡ r → Read (repeat (suc (m + n)) rule) p s (xs ++ ys) u v
+    last x is later (Err fault) read = absurd (not_ok (xs, q, t) fault (sym (rw (is, read) refl) ∙ e))
+    last x is later (Ok y) read =
+        let same = same_ok (x.0 ∷ y.0, y.1, y.2) (xs, q, t) (sym (rw (is, read) refl) ∙ e) in
+        let others = later x.1 x.2 y.0 y.1 y.2 read (subst (λ (z : List A × ℕ × List Bool). reading (repeat n rule) z.1 z.2 ≡ Ok (ys, u, v)) (sym same) f) in
+        rw (is, others) (ap (λ (z : List A × ℕ × List Bool). Ok (z.0 ++ ys, u, v)) same)
+
+    first : (r : Result (A × ℕ × List Bool) Fault) → reading rule p s ≡ r → Later → Read (repeat (suc (m + n)) rule) p s (xs ++ ys) u v
+    first (Err fault) is later = absurd (not_ok (xs, q, t) fault (sym (rw is refl) ∙ e))
+    first (Ok x) is later = last x is later (reading (repeat m rule) x.1 x.2) refl
+
+pub none_taken : (many : ℕ) (a : BufferedBits) → many ≡ 0 → TakesShortest many a a
+none_taken many a is = subst (λ (n : ℕ). TakesShortest n a a) (sym is) (record { values = []; count = refl; reads = refl; spelled = refl })
+
+then_taken : (m n : ℕ) (a b c : BufferedBits) → TakesShortest m a b → TakesShortest n b c → TakesShortest (m + n) a c
+then_taken m n a b c x y = record {
+  values = x.values ++ y.values;
+  count = length-append x.values y.values ∙ ap (λ (k : ℕ). k + length y.values) x.count ∙ ap (λ (k : ℕ). m + k) y.count;
+  reads = repeat_both (vbr 6) m n (m + n) a.position a.bits x.values y.values b.position b.bits c.position c.bits refl x.reads y.reads;
+  spelled = x.spelled ∙ ap (λ (s : List Bool). values_bits x.values ++ s) y.spelled ∙ sym (append_assoc (values_bits x.values) (values_bits y.values) c.bits) ∙ ap (λ (s : List Bool). s ++ c.bits) (sym (values-append x.values y.values));
+}
+
+-- the numbers at the front of a word
+word_taken : (n bits word : ℕ) (b : BufferedBits) → 54 ≤ length b.bits → bits_of 54 word ≡ take 54 b.bits → Begins word n bits → Shortest word bits → bits ≤ 54 → TakesShortest n b (beyond b bits)
+unfolding Begins
+word_taken n bits word b there front begins shortest most =
+    let rest : List Bool = drop 54 b.bits in
+    let run = begins b.position rest in
+    let all : b.bits ≡ bits_of 54 word ++ rest = sym (take-append-drop 54 b.bits) ∙ ap (λ (s : List Bool). s ++ rest) (sym front) in
+    let left : drop bits b.bits ≡ drop bits (bits_of 54 word) ++ rest = ap (drop bits) all ∙ drop-append-le bits (bits_of 54 word) rest (omega (arith, most, length-bits_of 54 word)) in
+    let spelled : values_bits run.0 ≡ take bits (bits_of 54 word) = begun_bits word n bits b.position rest run.0 most run.2 shortest in
+    record {
+      values = run.0;
+      count = run.1;
+      reads = ap (reading (repeat n (vbr 6)) b.position) all ∙ run.2 ∙ ap (λ (s : List Bool). Ok (run.0, b.position + bits, s)) (sym left);
+      spelled = all
+          ∙ ap (λ (s : List Bool). s ++ rest) (sym (take-append-drop bits (bits_of 54 word)))
+          ∙ append_assoc (take bits (bits_of 54 word)) (drop bits (bits_of 54 word)) rest
+          ∙ ap (λ (s : List Bool). s ++ (drop bits (bits_of 54 word) ++ rest)) (sym spelled)
+          ∙ ap (λ (s : List Bool). values_bits run.0 ++ s) (sym left);
+    }
+
+pub more_taken : (m n k bits word : ℕ) (a b : BufferedBits) → TakesShortest m a b → k ≡ m + n → 54 ≤ length b.bits → bits_of 54 word ≡ take 54 b.bits → Begins word n bits → Shortest word bits → bits ≤ 54 → TakesShortest k a (beyond b bits)
+more_taken m n k bits word a b taken all there front begins shortest most = subst (λ (i : ℕ). TakesShortest i a (beyond b bits)) (sym all) (then_taken m n a b (beyond b bits) taken (word_taken n bits word b there front begins shortest most))
+
+-- ---- a record
+
+record Parts (room : ℕ) (a : BufferedBits) (code many : ℕ) (d b : BufferedBits) (all : List ℕ) : Type 0 where
+  pub values : List ℕ
+  pub all_are : all ≡ code ∷ many ∷ values
+  pub reads : Reads (repeat many (vbr 6)) d values b
+
+parts_of : (room : ℕ) (a : BufferedBits) (code : ℕ) (c : BufferedBits) (many : ℕ) (d b : BufferedBits) (all : List ℕ) → Reads (vbr 6) a code c → Reads (vbr 6) c many d → Reads (repeat (suc (suc many)) (vbr 6)) a all b → Parts room a code many d b all
+parts_of room a code c many d b all first second e = go (reading (repeat many (vbr 6)) d.position d.bits) refl
+  where
+    go : (r : Result (List ℕ × ℕ × List Bool) Fault) → reading (repeat many (vbr 6)) d.position d.bits ≡ r → Parts room a code many d b all
+    go (Err fault) is = absurd (not_ok (all, b.position, b.bits) fault (sym (rw (first, second, is) refl) ∙ e))
+    go (Ok x) is =
+        let same = same_ok (code ∷ many ∷ x.0, x.1, x.2) (all, b.position, b.bits) (sym (rw (first, second, is) refl) ∙ e) in
+        record {
+          values = x.0;
+          all_are = ap (λ (z : List ℕ × ℕ × List Bool). z.0) (sym same);
+          reads = is ∙ ap (λ (z : List ℕ × ℕ × List Bool). Ok (x.0, z.1, z.2)) same;
+        }
+
+record_read : (room code many : ℕ) (values : List ℕ) (a c d b : BufferedBits) → many ≤ room → Reads (vbr 6) a code c → Reads (vbr 6) c many d → Reads (repeat many (vbr 6)) d values b → Reads (unabbreviated room) a (record { code = code; values = values }) b
+unfolding unabbreviated value_count
+record_read room code many values a c d b few first second third = let holds = le-leb many room few in rw (first, second, holds, third) refl
+
+pub plain_taken : (room code many : ℕ) (a c d b : BufferedBits) → many ≤ room → many ≤ 65536 → Reads (vbr 6) a code c → Reads (vbr 6) c many d → TakesShortest (many + 2) a b → TakesPlain room a code many b
+plain_taken room code many a c d b few small first second taken =
+    let two : many + 2 ≡ suc (suc many) = omega arith in
+    let parts = parts_of room a code c many d b taken.values first second (subst (λ (k : ℕ). Reads (repeat k (vbr 6)) a taken.values b) two taken.reads) in
+    let count : length parts.values ≡ many = omega (arith, ap length parts.all_are, taken.count) in
+    let text : values_bits taken.values ≡ entry_text code parts.values =
+    ap values_bits parts.all_are ∙ ap (λ (k : ℕ). shortest 6 code ++ (shortest 6 k ++ values_bits parts.values)) (sym count) in
+    record {
+      values = parts.values;
+      count = count;
+      few = few;
+      small = small;
+      reads = record_read room code many parts.values a c d b few first second parts.reads;
+      spelled = taken.spelled ∙ ap (λ (s : List Bool). s ++ b.bits) text;
+    }
+
+-- ---- a copy
+
+-- more bits were copied
+pub copy_on : (n k m : ℕ) (from b : BufferedBits) (old now new : List Bool) (value : ℕ) → now ≡ old ++ take k from.bits → b ≡ beyond from k → n ≤ length b.bits → value ≡ number (take n b.bits) → new ≡ now ++ bits_of n value → m ≡ k + n → new ≡ old ++ take m from.bits
+copy_on n k m from b old now new value now_is b_is there value_is new_is m_is =
+    let part : bits_of n value ≡ take n (drop k from.bits) =
+    ap (bits_of n) value_is ∙ ap (λ (i : ℕ). bits_of i (number (take n b.bits))) (sym (length-take-le n b.bits there)) ∙ bits_of-number (take n b.bits) ∙ ap (λ (x : BufferedBits). take n x.bits) b_is in
+    new_is ∙ ap (λ (s : List Bool). s ++ bits_of n value) now_is ∙ ap (λ (s : List Bool). (old ++ take k from.bits) ++ s) part ∙ append_assoc old (take k from.bits) (take n (drop k from.bits)) ∙ ap (λ (s : List Bool). old ++ s) (sym (take-add k n from.bits)) ∙ ap (λ (i : ℕ). old ++ take i from.bits) (sym m_is)
+
+pub beyond_on : (n k m : ℕ) (from b c : BufferedBits) → b ≡ beyond from k → c ≡ beyond b n → m ≡ k + n → c ≡ beyond from m
+beyond_on n k m from b c b_is c_is m_is =
+    let place : from.position + k + n ≡ from.position + m = omega (arith, m_is) in
+    c_is ∙ ap (λ (x : BufferedBits). beyond x n) b_is ∙ rw (place, drop_more k n from.bits, m_is) refl

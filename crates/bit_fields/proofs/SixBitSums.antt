@@ -1,0 +1,373 @@
+-- The numbers that end in each chunk of six bits of a word, counted by one product.
+use Rattle.std.proofs.Common.{◌≡◌, ℕ, zero, suc, ◌+◌, ◌*◌, ◌-◌, ◌/◌, ◌%◌, ◌^◌, ◌<◌, ◌≤◌, Bool, true, false, eqb, List, [], ◌∷◌, length, refl, sym, ap, ◌∙◌, subst, arith, bit_and, inl, inr}
+use Rattle.std.specs.Int.{w64, bit_at, trailing_zeros}
+use Rattle.std.proofs.lemmas.Bool.{cases_lt}
+use Rattle.std.proofs.lemmas.Nat.{shr-shr, pow-add, pow_pos, and_block, and-not, and_le_r, and_mask, mod_low, leading_length, shl-shr}
+use Rattle.std.specs.Int.Count.{count_leading_zeros}
+use Rattle.std.proofs.lemmas.Nat.Bits.{and_pow, bit_at-trailing_zeros}
+use Rattle.std.proofs.Math.Pow.{pow_mono, mod-mod-pow}
+use Rattle.bit_grammar.specs.Bits.{bit}
+use Rattle.bit_fields.specs.Short.{EndsChunks}
+use Rattle.bit_fields.specs.SixBits.{Begins, NoneFollows}
+use Rattle.bit_fields.proofs.SixBits.{lasts, Runs, length-lasts, runs_within, runs_many, runs_none, begins}
+
+-- the top bit of each of k chunks
+abbrev pub tops : ℕ → ℕ
+tops zero = 0
+tops (suc k) = tops k * 64 + 32
+
+-- the lowest bit of each of k chunks
+abbrev pub ones : ℕ → ℕ
+ones zero = 0
+ones (suc k) = 1 + 64 * ones k
+
+-- the lowest bit of each chunk that ends a number
+abbrev pub marked : List Bool → ℕ
+marked [] = 0
+marked (last ∷ ends) = bit last + 64 * marked ends
+
+-- how many numbers end
+abbrev pub ended : List Bool → ℕ
+ended [] = 0
+ended (last ∷ ends) = bit last + ended ends
+
+-- in each chunk, how many numbers end there or before, and `before` more
+abbrev pub sums : (before : ℕ) → List Bool → ℕ
+sums before [] = 0
+sums before (last ∷ ends) = before + bit last + 64 * sums (before + bit last) ends
+
+bit_most : (b : Bool) → bit b ≤ 1
+bit_most true = omega arith
+bit_most false = omega arith
+
+six_more : (n : ℕ) → 2 ^ (6 * suc n) ≡ 64 * 2 ^ (6 * n)
+six_more n = let e : 6 * suc n ≡ 6 + 6 * n = omega arith in ap (λ (k : ℕ). 2 ^ k) e ∙ pow-add 2 6 (6 * n)
+
+-- ---- the marks of a word
+
+-- the top bits of one chunk and of those above it
+tops_apart : (k high low : ℕ) → low < 64 → bit_and (high * 64 + low) (tops (suc k)) ≡ bit_and high (tops k) * 64 + (low / 32 % 2) * 32
+tops_apart k high low lt = and_block 6 high (tops k) low 32 lt (omega arith) ∙ ap (λ (x : ℕ). bit_and high (tops k) * 64 + x) (and_pow low 5)
+
+bit-eqb_none : (r : ℕ) → r < 2 → r + bit (eqb r 0) ≡ 1
+bit-eqb_none zero lt = refl
+bit-eqb_none (suc zero) lt = refl
+bit-eqb_none (suc (suc r)) lt = absurd (omega (arith, lt))
+
+-- each top bit is set, or marked
+tops_marked : (k word : ℕ) → bit_and word (tops k) + 32 * marked (lasts k word) ≡ tops k
+tops_marked zero word = none (bit_and word 0) (and_zero word)
+  where
+    none : (x : ℕ) → x ≡ 0 → x + 32 * 0 ≡ 0
+    none x is = omega (arith, is)
+
+    and_zero : (word : ℕ) → bit_and word 0 ≡ 0
+    and_zero word = let one : word % 1 ≡ 0 = omega arith in and_mask word 0 ∙ one
+tops_marked (suc k) word =
+    let parts : word ≡ word / 64 * 64 + word % 64 = omega arith in
+    let same : word % 64 / 32 % 2 ≡ word / 32 % 2 = omega arith in
+    let apart : bit_and word (tops (suc k)) ≡ bit_and (word / 64) (tops k) * 64 + (word % 64 / 32 % 2) * 32 = ap (λ (w : ℕ). bit_and w (tops (suc k))) parts ∙ tops_apart k (word / 64) (word % 64) (omega arith) in
+    omega (arith, apart, same, tops_marked k (word / 64), bit-eqb_none (word / 32 % 2) (omega arith))
+
+pub ends_marked : (word ends : ℕ) → word < 2 ^ 64 → ends ≡ bit_and (2 ^ 64 - 1 - word) (tops 9) → ends ≡ 32 * marked (lasts 9 word)
+ends_marked word ends fits is =
+    let both : bit_and (2 ^ 64 - 1 - word) (tops 9) + bit_and word (tops 9) ≡ tops 9 = and-not 64 word (tops 9) fits (omega arith) in
+    only ends (bit_and (2 ^ 64 - 1 - word) (tops 9)) (bit_and word (tops 9)) (32 * marked (lasts 9 word)) (tops 9) is both (tops_marked 9 word)
+  where
+    only : (ends not_there there marks all : ℕ) → ends ≡ not_there → not_there + there ≡ all → there + marks ≡ all → ends ≡ marks
+    only ends not_there there marks all is one other = omega (arith, is, one, other)
+
+-- ---- the product
+
+ones_next : (k : ℕ) → ones k + 2 ^ (6 * k) ≡ 1 + 64 * ones k
+ones_next zero = refl
+ones_next (suc k) = omega (arith, ones_next k, six_more k)
+
+product_step : (a e n p s q : ℕ) → n + p ≡ 1 + 64 * n → (a + e) * n ≡ s + p * q → (a + 64 * e) * (1 + 64 * n) ≡ a + 64 * s + 64 * p * (q + e)
+product_step a e n p s q next is =
+    let swapped : e * (n + p) ≡ e * (1 + 64 * n) = ap (λ (x : ℕ). e * x) next in
+    omega (arith, swapped, is)
+
+product_sums : (ends : List Bool) (before : ℕ) → (high : ℕ) × ((before + marked ends) * ones (length ends) ≡ sums before ends + 2 ^ (6 * length ends) * high)
+product_sums [] before = (0, omega arith)
+product_sums (last ∷ ends) before =
+    let later = product_sums ends (before + bit last) in
+    let step = product_step (before + bit last) (marked ends) (ones (length ends)) (2 ^ (6 * length ends)) (sums (before + bit last) ends) later.0 (ones_next (length ends)) later.1 in
+    (later.0 + marked ends, rw six_more (ap (λ (x : ℕ). x * ones (suc (length ends))) (let e : before + (bit last + 64 * marked ends) ≡ before + bit last + 64 * marked ends = omega arith in e) ∙ step))
+
+sums_below : (ends : List Bool) (before : ℕ) → before + length ends < 64 → sums before ends < 2 ^ (6 * length ends)
+sums_below [] before few = omega arith
+sums_below (last ∷ ends) before few = omega (arith, few, bit_most last, sums_below ends (before + bit last) (omega (arith, few, bit_most last)), six_more (length ends))
+
+pub sums_are : (word ends sum : ℕ) → ends ≡ 32 * marked (lasts 9 word) → sum ≡ bit_and (ends / 2 ^ 5 * ones 9 % 2 ^ 64) (2 ^ 54 - 1) → sum ≡ sums 0 (lasts 9 word)
+sums_are word ends sum ends_is sum_is =
+    let marks : List Bool = lasts 9 word in
+    let shifted : ends / 2 ^ 5 ≡ 0 + marked marks = shift (marked marks) ends ends_is in
+    let product = product_sums marks 0 in
+    let whole : (0 + marked marks) * ones 9 ≡ product.0 * 2 ^ 54 + sums 0 marks = turned (sums 0 marks) product.0 ((0 + marked marks) * ones 9) product.1 in
+    sum_is ∙ and_mask (ends / 2 ^ 5 * ones 9 % 2 ^ 64) 54 ∙ mod-mod-pow (ends / 2 ^ 5 * ones 9) 10 54 ∙ ap (λ (x : ℕ). x * ones 9 % 2 ^ 54) shifted ∙ ap (λ (x : ℕ). x % 2 ^ 54) whole ∙ mod_low product.0 54 (sums 0 marks) (sums_below marks 0 (omega arith))
+  where
+    shift : (marks ends : ℕ) → ends ≡ 32 * marks → ends / 2 ^ 5 ≡ 0 + marks
+    shift marks ends is = omega (arith, is)
+
+    turned : (low high all : ℕ) → all ≡ low + 2 ^ 54 * high → all ≡ high * 2 ^ 54 + low
+    turned low high all is = omega (arith, is)
+
+-- ---- all numbers
+
+last_sum : (n : ℕ) (ends : List Bool) (before : ℕ) → length ends ≡ suc n → before + length ends < 64 → sums before ends / 2 ^ (6 * n) ≡ before + ended ends
+last_sum n [] before many few = absurd (omega (arith, many))
+last_sum zero (last ∷ []) before many few = omega arith
+last_sum zero (last ∷ other ∷ ends) before many few = absurd (omega (arith, many))
+last_sum (suc n) (last ∷ ends) before many few =
+    let rest : ℕ = sums (before + bit last) ends in
+    let place : 6 + 6 * n ≡ 6 * suc n = omega arith in
+    let low : (before + bit last + 64 * rest) / 64 ≡ rest = above (before + bit last) rest (omega (arith, few, bit_most last)) in
+    let later = last_sum n ends (before + bit last) (omega (arith, many)) (omega (arith, few, bit_most last)) in
+    ap (λ (i : ℕ). (before + bit last + 64 * rest) / 2 ^ i) (sym place) ∙ sym (shr-shr (before + bit last + 64 * rest) 6 (6 * n)) ∙ ap (λ (x : ℕ). x / 2 ^ (6 * n)) low ∙ later ∙ omega arith
+  where
+    above : (low high : ℕ) → low < 64 → (low + 64 * high) / 64 ≡ high
+    above low high lt = omega (arith, lt)
+
+pub total_is : (word sum total : ℕ) → sum ≡ sums 0 (lasts 9 word) → total ≡ sum / 2 ^ 48 → total ≡ ended (lasts 9 word)
+total_is word sum total sum_is is = is ∙ ap (λ (x : ℕ). x / 2 ^ 48) sum_is ∙ last_sum 8 (lasts 9 word) 0 refl (omega arith) ∙ omega arith
+
+-- the chunks up to the last one that ends a number
+record Last (ends : List Bool) : Type 0 where
+  pub chunks : ℕ
+  pub runs : Runs ends (ended ends) chunks
+  pub below : 32 * marked ends < 2 ^ (6 * chunks)
+  pub some : 0 < chunks → 2 ^ (6 * chunks) ≤ 64 * marked ends
+
+last_one : (last : Bool) (ends : List Bool) (r : Last ends) → (chunks : ℕ) → r.chunks ≡ chunks → Last (last ∷ ends)
+last_one last ends r (suc chunks) is =
+    let later : Runs ends (ended ends) (suc chunks) = subst (Runs ends (ended ends)) is r.runs in
+    let power = ap (λ (k : ℕ). 2 ^ (6 * k)) is in
+    let most : 32 * marked ends < 2 ^ (6 * suc chunks) = subst (λ (x : ℕ). 32 * marked ends < x) power r.below in
+    let least : 2 ^ (6 * suc chunks) ≤ 64 * marked ends = subst (λ (x : ℕ). x ≤ 64 * marked ends) power (r.some (omega (arith, is))) in
+    record {
+      chunks = suc (suc chunks);
+      runs = longer last later;
+      below = omega (arith, most, bit_most last, six_more (suc chunks));
+      some = λ some. omega (arith, least, six_more (suc chunks));
+    }
+  where
+    longer : (last : Bool) → Runs ends (ended ends) (suc chunks) → Runs (last ∷ ends) (bit last + ended ends) (suc (suc chunks))
+    longer true h = (ended ends, omega arith, h)
+    longer false h = (omega arith, subst (λ (n : ℕ). Runs ends n (suc chunks)) (let e : ended ends ≡ 0 + ended ends = omega arith in e) h)
+last_one true ends r zero is =
+    let none : Runs ends (ended ends) 0 = subst (Runs ends (ended ends)) is r.runs in
+    let empty : 32 * marked ends < 1 = subst (λ (k : ℕ). 32 * marked ends < 2 ^ (6 * k)) is r.below in
+    record { chunks = 1; runs = (ended ends, omega arith, none); below = omega (arith, empty); some = λ some. omega arith }
+last_one false ends r zero is =
+    let none : ended ends ≡ 0 = subst (Runs ends (ended ends)) is r.runs in
+    let empty : 32 * marked ends < 1 = subst (λ (k : ℕ). 32 * marked ends < 2 ^ (6 * k)) is r.below in
+    record { chunks = 0; runs = omega (arith, none); below = omega (arith, empty); some = λ some. absurd (omega (arith, some)) }
+
+last_of : (ends : List Bool) → Last ends
+last_of [] = record { chunks = 0; runs = refl; below = omega arith; some = λ some. absurd (omega (arith, some)) }
+last_of (last ∷ ends) = let r = last_of ends in last_one last ends r r.chunks refl
+
+-- chunks of a number end one
+ended_some : (k chunks word : ℕ) → chunks ≤ k → EndsChunks 5 chunks word → 1 ≤ ended (lasts k word)
+ended_some k zero word few ends = absurd ends
+ended_some zero (suc chunks) word few ends = absurd (omega (arith, few))
+ended_some (suc k) (suc zero) word few ends = omega (arith, bit-eqb_none (word / 32 % 2) (omega arith), ends)
+ended_some (suc k) (suc (suc chunks)) word few ends = omega (arith, ended_some k (suc chunks) (word / 64) (omega (arith, few)) ends.1)
+
+ended_next : (last : Bool) (marks : List Bool) (count chunks after : ℕ) → ((others : ℕ) → Runs marks others chunks → ended marks ≡ others + after) → Runs (last ∷ marks) count (suc chunks) → ended (last ∷ marks) ≡ count + after
+ended_next true marks count chunks after later h = omega (arith, later h.0 h.2, h.1)
+ended_next false marks count chunks after later h = omega (arith, later count h.1)
+
+-- how many end after some numbers
+ended_after : (k count chunks more word : ℕ) → k ≡ chunks + more → Runs (lasts k word) count chunks → ended (lasts k word) ≡ count + ended (lasts more (word / 2 ^ (6 * chunks)))
+ended_after k count zero more word k_is h =
+    let same : k ≡ more = omega (arith, k_is) in
+    let here : word ≡ word / 2 ^ (6 * 0) = omega arith in
+    let all : ended (lasts k word) ≡ ended (lasts more (word / 2 ^ (6 * 0))) = ap (λ (n : ℕ). ended (lasts n word)) same ∙ ap (λ (w : ℕ). ended (lasts more w)) here in
+    omega (arith, all, h)
+ended_after zero count (suc chunks) more word k_is h = absurd h
+ended_after (suc k) count (suc chunks) more word k_is h =
+    let place : 6 + 6 * chunks ≡ 6 * suc chunks = omega arith in
+    let behind : word / 64 / 2 ^ (6 * chunks) ≡ word / 2 ^ (6 * suc chunks) = shr-shr word 6 (6 * chunks) ∙ ap (λ (i : ℕ). word / 2 ^ i) place in
+    ended_next (eqb (word / 32 % 2) 0) (lasts k (word / 64)) count chunks (ended (lasts more (word / 2 ^ (6 * suc chunks))))
+    (λ others runs. ended_after k others chunks more (word / 64) (omega (arith, k_is)) runs ∙ ap (λ (w : ℕ). others + ended (lasts more w)) behind) h
+
+none_follows : (word chunks bits : ℕ) → Runs (lasts 9 word) (ended (lasts 9 word)) chunks → bits ≡ 6 * chunks → NoneFollows word bits
+unfolding NoneFollows
+none_follows word chunks bits runs is = λ more within ends.
+    let nine : chunks ≤ 9 = runs_within (lasts 9 word) (ended (lasts 9 word)) chunks runs in
+    let after = ended_after 9 (ended (lasts 9 word)) chunks (9 - chunks) word (omega (arith, nine)) runs in
+    let moved : EndsChunks 5 more (word / 2 ^ (6 * chunks)) = subst (λ (n : ℕ). EndsChunks 5 more (word / 2 ^ n)) is ends in
+    contradicts (ended (lasts 9 word)) (ended (lasts (9 - chunks) (word / 2 ^ (6 * chunks)))) after (ended_some (9 - chunks) more (word / 2 ^ (6 * chunks)) (omega (arith, within, is)) moved)
+  where
+    contradicts : (count after : ℕ) → count ≡ count + after → 1 ≤ after → ⊥
+    contradicts count after same some = omega (arith, same, some)
+
+-- a number's length in bits lies between powers of two
+length_between : (m n x : ℕ) → x < 2 ^ m → 2 ^ m ≤ 2 * x + 1 → x < 2 ^ n → (0 < n → 2 ^ n ≤ 2 * x) → m ≡ n
+length_between m n x below some low high = elim (cases_lt m n) [
+  | inl lt ↦ let wide : 2 ^ suc m ≤ 2 ^ n = pow_mono {i = suc m} {j = n} lt in let twice : 2 ^ (1 + m) ≡ 2 * 2 ^ m = pow-add 2 1 m in let one : 2 ^ suc m ≡ 2 ^ (1 + m) = ap (λ (k : ℕ). 2 ^ k) (let e : suc m ≡ 1 + m = omega arith in e) in absurd (omega (arith, wide, twice, one, below, high (omega (arith, lt))))
+  | inr le ↦ elim (cases_lt n m) [
+    | inl lt ↦ let wide : 2 ^ suc n ≤ 2 ^ m = pow_mono {i = suc n} {j = m} lt in let twice : 2 ^ (1 + n) ≡ 2 * 2 ^ n = pow-add 2 1 n in let one : 2 ^ suc n ≡ 2 ^ (1 + n) = ap (λ (k : ℕ). 2 ^ k) (let e : suc n ≡ 1 + n = omega arith in e) in absurd (omega (arith, wide, twice, one, some, low))
+    | inr ge ↦ omega (arith, le, ge)
+  ]
+]
+
+-- ---- some of the numbers
+
+-- the chunks up to the one where enough numbers have ended: its top bit is the lowest that is set
+record Reached (k x : ℕ) (ends : List Bool) (count : ℕ) : Type 0 where
+  pub before : ℕ
+  pub high : ℕ
+  pub reached : bit_and x (tops k) ≡ 2 ^ (6 * before + 5) * (1 + 2 * high)
+  pub runs : Runs ends count (suc before)
+
+-- chunks above one where too few have ended
+reached_later : (k high low : ℕ) (last : Bool) (ends : List Bool) (count more : ℕ) → low < 32 → ((chunks : ℕ) → Runs ends count (suc chunks) → Runs (last ∷ ends) more (suc (suc chunks))) → Reached k high ends count → Reached (suc k) (high * 64 + low) (last ∷ ends) more
+reached_later k high low last ends count more lt longer r =
+    let none : low / 32 % 2 ≡ 0 = omega (arith, lt) in
+    let apart = tops_apart k high low (omega (arith, lt)) in
+    let e : 6 * suc r.before + 5 ≡ 6 + (6 * r.before + 5) = omega arith in
+    let power : 2 ^ (6 * suc r.before + 5) ≡ 64 * 2 ^ (6 * r.before + 5) = ap (λ (i : ℕ). 2 ^ i) e ∙ pow-add 2 6 (6 * r.before + 5) in
+    record { before = suc r.before; high = r.high; reached = apart ∙ rw (none, r.reached, power) (omega arith); runs = longer r.before r.runs }
+
+reached_here : (k high : ℕ) (ends : List Bool) → Reached (suc k) (high * 64 + 32) (true ∷ ends) 1
+reached_here k high ends = record {
+  before = 0;
+  high = bit_and high (tops k);
+  reached = tops_apart k high 32 (omega arith) ∙ turned (bit_and high (tops k));
+  runs = (0, refl, refl);
+}
+  where
+    turned : (x : ℕ) → x * 64 + (32 / 32 % 2) * 32 ≡ 2 ^ (6 * 0 + 5) * (1 + 2 * x)
+    turned x = omega arith
+
+raised_step : (sum rest n first : ℕ) → first + 64 * sum + rest * (1 + 64 * n) ≡ (sum + rest * n) * 64 + (first + rest)
+raised_step sum rest n first = omega arith
+
+-- the sums raised by `rest`, so that the top bit is set where `most` numbers have ended
+reach : (ends : List Bool) (before wanted most rest : ℕ) → most ≡ before + suc wanted → suc wanted ≤ ended ends → rest + most ≡ 32 → Reached (length ends) (sums before ends + rest * ones (length ends)) ends (suc wanted)
+reach [] before wanted most rest most_is there rest_is = absurd (omega (arith, there))
+reach (true ∷ ends) before zero most rest most_is there rest_is =
+    let x : ℕ = sums (before + 1) ends + rest * ones (length ends) in
+    let low : before + 1 + rest ≡ 32 = omega (arith, most_is, rest_is) in
+    let is : sums before (true ∷ ends) + rest * ones (suc (length ends)) ≡ x * 64 + 32 = raised_step (sums (before + 1) ends) rest (ones (length ends)) (before + 1) ∙ ap (λ (y : ℕ). x * 64 + y) low in
+    subst (λ (y : ℕ). Reached (suc (length ends)) y (true ∷ ends) 1) (sym is) (reached_here (length ends) x ends)
+reach (true ∷ ends) before (suc wanted) most rest most_is there rest_is =
+    let x : ℕ = sums (before + 1) ends + rest * ones (length ends) in
+    let later = reach ends (before + 1) wanted most rest (omega (arith, most_is)) (omega (arith, there)) rest_is in
+    subst (λ (y : ℕ). Reached (suc (length ends)) y (true ∷ ends) (suc (suc wanted))) (sym (raised_step (sums (before + 1) ends) rest (ones (length ends)) (before + 1)))
+    (reached_later (length ends) x (before + 1 + rest) true ends (suc wanted) (suc (suc wanted)) (omega (arith, most_is, rest_is)) (λ chunks h. (suc wanted, refl, h)) later)
+reach (false ∷ ends) before wanted most rest most_is there rest_is =
+    let x : ℕ = sums (before + 0) ends + rest * ones (length ends) in
+    let later = reach ends (before + 0) wanted most rest (omega (arith, most_is)) (omega (arith, there)) rest_is in
+    subst (λ (y : ℕ). Reached (suc (length ends)) y (false ∷ ends) (suc wanted)) (sym (raised_step (sums (before + 0) ends) rest (ones (length ends)) (before + 0)))
+    (reached_later (length ends) x (before + 0 + rest) false ends (suc wanted) (suc wanted) (omega (arith, most_is, rest_is)) (λ chunks h. (omega arith, h)) later)
+
+-- the lowest bit that is set
+lowest_is : (x t high : ℕ) → x < 2 ^ 64 → x ≡ 2 ^ t * (1 + 2 * high) → trailing_zeros w64 x ≡ t
+lowest_is x t high fits is =
+    let some : 0 < x = omega (arith, is, pow_pos t) in
+    let found : (trailing_zeros w64 x < 64) × (bit_at x (trailing_zeros w64 x) ≡ 1) × ((i : ℕ) → i < trailing_zeros w64 x → bit_at x i ≡ 0) = bit_at-trailing_zeros w64 x some fits in
+    only (trailing_zeros w64 x) found.1 found.2
+  where
+    at_place : bit_at x t ≡ 1
+    at_place =
+        let turned : x ≡ (1 + 2 * high) * 2 ^ t = omega (arith, is) in
+        let odd : (1 + 2 * high) % 2 ≡ 1 = omega arith in
+        ap (λ (y : ℕ). y / 2 ^ t % 2) turned ∙ ap (λ (y : ℕ). y % 2) (shl-shr (1 + 2 * high) t) ∙ odd
+
+    doubled : (y : ℕ) → 2 * y % 2 ≡ 0
+    doubled y = omega arith
+
+    below : (z more : ℕ) → t ≡ z + suc more → bit_at x z ≡ 0
+    below z more e =
+        let power : 2 ^ t ≡ 2 ^ z * (2 * 2 ^ more) = ap (λ (k : ℕ). 2 ^ k) (e ∙ (let e : z + suc more ≡ z + (1 + more) = omega arith in e)) ∙ pow-add 2 z (1 + more) ∙ ap (λ (y : ℕ). 2 ^ z * y) (pow-add 2 1 more) in
+        let turned : x ≡ (2 * (2 ^ more * (1 + 2 * high))) * 2 ^ z = is ∙ rw power (omega arith) in
+        let even : 2 * (2 ^ more * (1 + 2 * high)) % 2 ≡ 0 = doubled (2 ^ more * (1 + 2 * high)) in
+        ap (λ (y : ℕ). y / 2 ^ z % 2) turned ∙ ap (λ (y : ℕ). y % 2) (shl-shr (2 * (2 ^ more * (1 + 2 * high))) z) ∙ even
+
+    only : (z : ℕ) → bit_at x z ≡ 1 → ((i : ℕ) → i < z → bit_at x i ≡ 0) → z ≡ t
+    only z set none = elim (cases_lt z t) [
+      | inl lt ↦ let e : t ≡ z + suc (t - suc z) = omega (arith, lt) in absurd (omega (arith, set, below z (t - suc z) e))
+      | inr le ↦ elim (cases_lt t z) [ inl lt ↦ absurd (omega (arith, none t lt, at_place)) | inr ge ↦ omega (arith, le, ge) ]
+    ]
+
+-- ---- as the code finds them
+
+-- whole numbers at the front of a word's chunks
+pub record Ran (word count bits : ℕ) : Type 0 where
+  pub begins : Begins word count bits
+  pub within : bits ≤ 54
+  pub none : count ≡ 0 → bits ≡ 0
+  pub some : 6 * count ≤ bits
+
+ran : (word count bits chunks : ℕ) → Runs (lasts 9 word) count chunks → bits ≡ 6 * chunks → Ran word count bits
+ran word count bits chunks h is =
+    let nine : chunks ≤ 9 = runs_within (lasts 9 word) count chunks h in
+    let many : count ≤ chunks = runs_many (lasts 9 word) count chunks h in
+    record {
+      begins = subst (Begins word count) (sym is) (begins word count chunks h);
+      within = omega (arith, nine, is);
+      none = λ none. is ∙ ap (λ (n : ℕ). 6 * n) (runs_none (lasts 9 word) count chunks h none);
+      some = omega (arith, many, is);
+    }
+
+-- the sums of a word's chunks, as the code finds them
+pub record Summed (word ends sum total : ℕ) : Type 0 where
+  pub fits : word < 2 ^ 64
+  pub ends_are : ends ≡ bit_and (2 ^ 64 - 1 - word) (tops 9)
+  pub sum_is : sum ≡ bit_and (ends / 2 ^ 5 * ones 9 % 2 ^ 64) (2 ^ 54 - 1)
+  pub total_is : total ≡ sum / 2 ^ 48
+
+-- the code's terms
+abbrev pub ends_in : (word : ℕ) → ℕ
+ends_in word = bit_and (2 ^ 64 - 1 - word) (tops 9)
+
+abbrev pub sum_in : (word : ℕ) → ℕ
+sum_in word = bit_and (ends_in word / 2 ^ 5 * ones 9 % 2 ^ 64) (2 ^ 54 - 1)
+
+pub summed : (word : ℕ) → word < 2 ^ 64 → Summed word (ends_in word) (sum_in word) (sum_in word / 2 ^ 48)
+summed word fits = record { fits = fits; ends_are = refl; sum_is = refl; total_is = refl }
+
+marks_of : {word ends sum total : ℕ} → Summed word ends sum total → ends ≡ 32 * marked (lasts 9 word)
+marks_of {word} {ends} s = ends_marked word ends s.fits s.ends_are
+
+sums_of : {word ends sum total : ℕ} → Summed word ends sum total → sum ≡ sums 0 (lasts 9 word)
+sums_of {word} {ends} {sum} s = sums_are word ends sum (marks_of s) s.sum_is
+
+total_of : {word ends sum total : ℕ} → Summed word ends sum total → total ≡ ended (lasts 9 word)
+total_of {word} {ends} {sum} {total} s = total_is word sum total (sums_of s) s.total_is
+
+ended_most : (ends : List Bool) → ended ends ≤ length ends
+ended_most [] = omega arith
+ended_most (last ∷ ends) = omega (arith, bit_most last, ended_most ends)
+
+pub nine_at_most : {word ends sum total : ℕ} → Summed word ends sum total → total ≤ 9
+nine_at_most {word} s = omega (arith, total_of s, ended_most (lasts 9 word), length-lasts 9 word)
+
+pub all_ran : {word ends sum total : ℕ} → Summed word ends sum total → Ran word total (64 - count_leading_zeros 64 ends) × NoneFollows word (64 - count_leading_zeros 64 ends)
+all_ran {word} {ends} {sum} {total} s =
+    let last = last_of (lasts 9 word) in
+    let nine : last.chunks ≤ 9 = runs_within (lasts 9 word) (ended (lasts 9 word)) last.chunks last.runs in
+    let is : ends ≡ 32 * marked (lasts 9 word) = marks_of s in
+    let below : ends < 2 ^ (6 * last.chunks) = subst (λ (x : ℕ). x < 2 ^ (6 * last.chunks)) (sym is) last.below in
+    let wide : 2 ^ (6 * last.chunks) ≤ 2 ^ 64 = pow_mono {i = 6 * last.chunks} {j = 64} (omega (arith, nine)) in
+    let long = leading_length 64 ends (omega (arith, below, wide)) in
+    let same : long.0 ≡ 6 * last.chunks = length_between long.0 (6 * last.chunks) ends long.2 long.3 below (λ some. omega (arith, is, last.some (omega (arith, some)))) in
+    let bits : 64 - count_leading_zeros 64 ends ≡ 6 * last.chunks = omega (arith, long.1, same) in (
+      subst (λ (n : ℕ). Ran word n (64 - count_leading_zeros 64 ends)) (sym (total_of s)) (ran word (ended (lasts 9 word)) (64 - count_leading_zeros 64 ends) last.chunks last.runs bits),
+      none_follows word last.chunks (64 - count_leading_zeros 64 ends) last.runs bits,
+    )
+
+pub some_ran : {word ends sum total : ℕ} (most : ℕ) → Summed word ends sum total → 0 < most → most < total → Ran word most (trailing_zeros w64 (bit_and (sum + (32 - most) * ones 9) (tops 9)) + 1)
+some_ran {word} {ends} {sum} {total} most s some fewer =
+    let nine : total ≤ 9 = nine_at_most s in
+    let wanted : most ≡ suc (most - 1) = omega (arith, some) in
+    let found = reach (lasts 9 word) 0 (most - 1) most (32 - most) (omega (arith, wanted)) (omega (arith, wanted, fewer, total_of s)) (omega (arith, nine, fewer)) in
+    let x : ℕ = bit_and (sum + (32 - most) * ones 9) (tops 9) in
+    let x_is : x ≡ 2 ^ (6 * found.before + 5) * (1 + 2 * found.high) = ap (λ (y : ℕ). bit_and (y + (32 - most) * ones 9) (tops 9)) (sums_of s) ∙ found.reached in
+    let fits : x < 2 ^ 64 = omega (arith, and_le_r (sum + (32 - most) * ones 9) (tops 9)) in
+    let place : trailing_zeros w64 x ≡ 6 * found.before + 5 = lowest_is x (6 * found.before + 5) found.high fits x_is in
+    subst (λ (n : ℕ). Ran word n (trailing_zeros w64 x + 1)) (sym wanted) (ran word (suc (most - 1)) (trailing_zeros w64 x + 1) (suc found.before) found.runs (omega (arith, place)))

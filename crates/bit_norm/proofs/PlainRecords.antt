@@ -1,0 +1,71 @@
+-- Records that are not abbreviated, whose bits a form has as well.
+use Rattle.std.proofs.Common.{◌≡◌, ℕ, ◌+◌, ◌-◌, ◌^◌, ◌<◌, ◌≤◌, true, false, Bool, List, [], ◌∷◌, ◌++◌, length, take, Option, Some, None, Result, Ok, Err, IfOk, refl, sym, ap, ◌∙◌, arith, length-append}
+use Rattle.std.proofs.lemmas.List.{take_at}
+use Rattle.bit_grammar.specs.Bits.{bits_of}
+use Rattle.bit_grammar.specs.Machine.{notes}
+use Rattle.bit_grammar.specs.Normal.{entry_text}
+use Rattle.bit_grammar.specs.Fields.{fixed}
+use Rattle.bit_grammar.specs.Record.{unabbreviated}
+use Rattle.bit_grammar.proofs.Bits.Numbers.{length-bits_of}
+use Rattle.bit_fields.specs.Buffered.{BufferedBits, Reads}
+use Rattle.bit_fields.specs.SixBits.{TakesPlain}
+use Rattle.bit_fields.proofs.BufferedReads.{reads_passed, reads_forward}
+use Rattle.bit_events.specs.declared.gatherer.PlainRecord.{PlainRecord}
+use Rattle.bit_events.specs.Runs.{GathersPlain}
+use Rattle.bit_norm.specs.Building.{AddsPlain, IsFormOf, record_left, left_events}
+use Rattle.bit_norm.specs.Writing.{record_text}
+use Rattle.bit_norm.specs.declared.form_builder.FormBuilder.{FormBuilder}
+use Rattle.bit_norm.proofs.Building.{formed, builds_record, record_taken}
+use Rattle.bit_norm.proofs.ValueTexts.{entry_few}
+
+-- its bits are few, more follow them, and they are those of the form
+pub record Copied (code : ℕ) (values : List ℕ) (bits : ℕ) (a : BufferedBits) : Type 0 where
+  pub few : bits < 2 ^ 32
+  pub there : bits + 64 ≤ length a.bits
+  pub front : take bits a.bits ≡ entry_text code values
+
+pub copied : (room code many bits : ℕ) (a b : BufferedBits) (t : TakesPlain room a code many b) → 64 ≤ length b.bits → bits ≡ b.position - a.position → Copied code t.values bits a
+copied room code many bits a b t more is =
+    let text = entry_text code t.values in
+    let passed = reads_passed (unabbreviated room) a (record { code = code; values = t.values }) b t.reads in
+    let all : length a.bits ≡ length text + length b.bits = ap length t.spelled ∙ length-append text b.bits in
+    let same : length text ≡ bits = omega (arith, all, is, passed.2, ap length passed.1, length-append passed.0 b.bits) in
+    record {
+      few = omega (arith, same, entry_few code t.values, length-append (bits_of 2 3) text, length-bits_of 2 3, t.count, t.small);
+      there = omega (arith, all, same, more);
+      front = ap (take bits) t.spelled ∙ take_at text b.bits bits same;
+    }
+
+pub plain_added : (room code many bits : ℕ) (a b : BufferedBits) (old new : FormBuilder) (t : TakesPlain room a code many b) → Copied code t.values bits a → new.standing ≡ old.standing → new.limits ≡ old.limits → new.holes ≡ old.holes → new.long ≡ old.long → old.long ≡ false → record_left old.standing code ≡ true
+    → new.text ≡ old.text ++ (bits_of 2 3 ++ take bits a.bits) → AddsPlain room a old (Some (record { count = many; after = b })) new
+plain_added room code many bits a b old new t c standing limits holes long short left adds = (
+  code,
+  t.values,
+  t.count,
+  t.few,
+  t.reads,
+  λ begun done mark code_is values_are was stands.
+      let text : record_text code t.values 0 ≡ record_text mark.code mark.values 0 = ap (λ (n : ℕ). record_text n t.values 0) (sym code_is) ∙ ap (λ (vs : List ℕ). record_text mark.code vs 0) (sym values_are) in
+      record_taken begun old new done mark was short (ap (record_left old.standing) code_is ∙ left) stands (standing, limits)
+      (λ form short some. formed new.limits.bytes (left_events begun done ++ notes mark ∷ []) new.text new.holes.items new.long (long ∙ short)
+      (rw holes (builds_record (left_events begun done) old.text old.holes.items (form.builds short) mark new.text some (adds ∙ ap (λ (s : List Bool). old.text ++ (bits_of 2 3 ++ s)) c.front ∙ ap (λ (s : List Bool). old.text ++ s) text)))),
+)
+
+-- with its id
+plain_gathered : (width room : ℕ) (a b : BufferedBits) (old new : FormBuilder) (taken : PlainRecord) → 1 ≤ width → b.position ≡ a.position + width → Reads (fixed width) a 3 b → AddsPlain room b old (Some taken) new → GathersPlain IsFormOf width room a old (Some taken) new
+plain_gathered width room a b old new taken wide place seen added = (
+  added.0,
+  added.1,
+  b,
+  added.2,
+  added.3,
+  omega (arith, wide, place, reads_forward (unabbreviated room) b (record { code = added.0; values = added.1 }) taken.after added.4),
+  seen,
+  added.4,
+  λ begun done deepest was stands. added.5 begun done (record { abbreviation = 3; code = added.0; values = added.1; first = a.position; after = taken.after.position }) refl refl was stands,
+)
+
+pub any_gathered : {E : Type 0} (width room : ℕ) (a b : BufferedBits) (old new : FormBuilder) (r : Result (Option PlainRecord) E) → 1 ≤ width → b.position ≡ a.position + width → Reads (fixed width) a 3 b → IfOk r (λ taken. AddsPlain room b old taken new) → IfOk r (λ taken. GathersPlain IsFormOf width room a old taken new)
+any_gathered width room a b old new (Ok None) wide place seen added = added
+any_gathered width room a b old new (Ok (Some taken)) wide place seen added = plain_gathered width room a b old new taken wide place seen added
+any_gathered width room a b old new (Err error) wide place seen added = tt
