@@ -50,7 +50,7 @@ some_onto [] f outer e = cc
 some_onto (g ∷ frames) f outer e = some_onto frames (frame_shown g) (f ∷ outer) e
 
 -- no block is open
-none_shown : (frames : List Frame) → frames_shown frames ≡ [] → length frames ≡ 0
+pub none_shown : (frames : List Frame) → frames_shown frames ≡ [] → length frames ≡ 0
 none_shown [] e = refl
 none_shown (f ∷ frames) e = absurd (some_onto frames (frame_shown f) [] e)
 

@@ -42,7 +42,7 @@ for_each P Taken result holds = each_list Taken (λ _. P) result (λ list took. 
 
 -- ---- events, one after another
 
-stays_same : (a : Reader) → a.live ≡ true → Stays a a
+pub stays_same : (a : Reader) → a.live ≡ true → Stays a a
 stays_same a live = record { was_live = live; live = live; goes_on = Spends-refl a.incoming a.budget; position = refl; extent = λ _. refl; left = λ _. refl }
 
 -- a block is open

@@ -8,6 +8,7 @@ pub mod Faults
 pub mod WholeInputs
 pub mod Folds
 pub mod Runs
+pub mod Blocks
 pub mod InSlices
 pub mod Kept
 pub mod Standings

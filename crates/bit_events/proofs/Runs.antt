@@ -1,9 +1,6 @@
 -- Buffered records, gathered one after another.
-use Rattle.std.proofs.Common.{◌≡◌, ℕ, ◌+◌, ◌-◌, ◌<◌, ◌≤◌, Bool, List, [], ◌∷◌, ◌++◌, length, drop, None, Some, Option, Result, Ok, Err, refl, sym, ap, subst, ◌∙◌, arith, append_assoc, length-append, vec_len, get_or, suc}
-use Rattle.std.proofs.lemmas.List.{drop_at}
-use Rattle.bit_grammar.specs.Grammar as grammar
-use Rattle.bit_grammar.specs.Grammar.{Grammar, gives, ◌>>=◌, reading}
-use Rattle.bit_grammar.specs.Input.{any_bits}
+use Rattle.std.proofs.Common.{◌≡◌, ℕ, ◌+◌, ◌-◌, ◌<◌, ◌≤◌, Bool, List, [], ◌∷◌, ◌++◌, length, None, Some, Option, Ok, Err, refl, sym, ap, subst, ◌∙◌, arith, append_assoc, length-append, vec_len, get_or, suc}
+use Rattle.bit_grammar.specs.Grammar.{Grammar, gives, ◌>>=◌}
 use Rattle.bit_grammar.specs.Fields.{fixed}
 use Rattle.bit_grammar.specs.Record.{unabbreviated}
 use Rattle.bit_grammar.specs.declared.op.Op.{Op}
@@ -15,25 +12,22 @@ use Rattle.bit_grammar.specs.Machine as machine
 use Rattle.bit_grammar.specs.Machine.{Event, Told, scope_of, step, step_of}
 use Rattle.bit_fields.specs.Buffered.{BufferedBits, Reads, Sees, reader_further, reader_at}
 use Rattle.bit_fields.specs.declared.fault.Fault.{Fault}
-use Rattle.bit_fields.specs.Reader.{Reader, TellsBytes, Took, Takes, Why}
-use Rattle.bit_fields.specs.Short.{TookNothing}
-use Rattle.bit_fields.proofs.Composing.{same_reading, took_then, fault_then}
-use Rattle.bit_fields.proofs.Gap.{gap_whole}
+use Rattle.bit_fields.specs.Reader.{Reader, Took, Why}
+use Rattle.bit_fields.proofs.Composing.{same_reading, fault_then}
 use Rattle.bit_fields.proofs.BitLaws.{drop_more}
-use Rattle.bit_fields.proofs.BufferedReads.{reads_forward, reads_passed, reads_took, took_reads, seen_took, not_caught_up}
+use Rattle.bit_fields.proofs.BufferedReads.{reads_forward, reads_passed, reads_took, took_reads, seen_took}
 use Rattle.bit_abbrev.specs.Values.{AddsWithin}
 use Rattle.bit_abbrev.proofs.Buffered.{took_at}
 use Rattle.bit_events.specs.declared.frame.Frame.{Frame}
 use Rattle.bit_events.specs.declared.gatherer.PlainRecord.{PlainRecord}
 use Rattle.bit_events.specs.declared.machine.Machine.{Machine}
 use Rattle.bit_events.specs.FrameView.{frame_shown, frames_shown, info_shown}
-use Rattle.bit_events.specs.Folding.{GathersSome, TakesRun}
-use Rattle.bit_events.specs.Next.{left_to_tell}
+use Rattle.bit_events.specs.Folding.{GathersSome}
 use Rattle.bit_events.specs.Gathering.{Gathers}
 use Rattle.bit_events.specs.MachineView.{handed_shown, machine_shown, record_of, record_rule, LeavesMachine}
-use Rattle.bit_events.specs.Runs.{AddsBehind, ReadsTo, after_record, Passed, GathersPlain, GathersOne, GathersTo, GathersRun}
-use Rattle.bit_events.proofs.Advancing.{finds_event, finds_fault}
-use Rattle.bit_events.proofs.Folds.{in_block, none_yet, one_event, some_then, none_found}
+use Rattle.bit_events.specs.Runs.{AddsBehind, ReadsTo, after_record, Passed, GathersPlain, GathersOne, GathersTo}
+use Rattle.bit_events.proofs.Advancing.{finds_event}
+use Rattle.bit_events.proofs.Folds.{in_block, none_yet, one_event, some_then}
 use Rattle.bit_events.proofs.Framing.{none_described, plain_entry, short_entry}
 use Rattle.bit_events.proofs.Framing as framing
 use Rattle.bit_events.proofs.Stepping.{in_then, innermost, after_record as record_follows, record_took, other_than, length-frames}
@@ -129,10 +123,10 @@ advanced_both r n m k all =
     let place : r.position + n + m ≡ r.position + k = omega (arith, all) in
     rw (place, drop_more n m r.left, all) refl
 
-passed_forward : (a b : BufferedBits) → Passed a b → a.position ≤ b.position
+pub passed_forward : (a b : BufferedBits) → Passed a b → a.position ≤ b.position
 passed_forward a b p = omega (arith, p.2)
 
-passed_both : (a b c : BufferedBits) → Passed a b → Passed b c → Passed a c
+pub passed_both : (a b c : BufferedBits) → Passed a b → Passed b c → Passed a c
 passed_both a b c p q = (p.0 ++ q.0, p.1 ∙ ap (λ (s : List Bool). p.0 ++ s) q.1 ∙ sym (append_assoc p.0 q.0 c.bits), omega (arith, p.2, q.2, length-append p.0 q.0))
 
 -- no record
@@ -205,55 +199,3 @@ gathers_more {G = G} gathered limits f used a g now_used b h id code list c k mo
 
     forward : b.position ≤ c.position
     forward = reads_forward rule b value c seen
-
--- ---- a run
-
--- the skipped bits are some bits
-any_seen : (a b : BufferedBits) → Passed a b → Reads (any_bits (b.position - a.position)) a tt b
-unfolding any_bits
-any_seen a b p =
-    let n : ℕ = b.position - a.position in
-    let whole : length a.bits ≡ length p.0 + length b.bits = ap length p.1 ∙ length-append p.0 b.bits in
-    let place : a.position + n ≡ b.position = omega (arith, p.2) in
-    let left : drop n a.bits ≡ b.bits = ap (drop n) p.1 ∙ drop_at p.0 b.bits n (omega (arith, p.2)) in
-    gap_whole n a.position a.position a.bits (omega (arith, whole, p.2)) ∙ rw (place, left) refl
-
-same_answer : (x y : (Unit {0}) × ℕ × List Bool) (r : Result ((Unit {0}) × ℕ × List Bool) grammar.Fault) → r ≡ Ok x → r ≡ Ok y → (x.1 ≡ y.1) × (x.2 ≡ y.2)
-same_answer x y r p q = (let e = sym p ∙ q in (cc, cc))
-
-same_left : (limits : Limits) (m : Machine) (a b : Reader) → b.extent ≡ a.extent → a.position ≡ b.position → a.left ≡ b.left → left_to_tell limits m a ≡ left_to_tell limits m b
-same_left limits m a b extent position left = rw (extent, position, left) refl
-
--- a reader that caught up
-run_taken : {G : Type 0} (gathered : G → List Event → G → Type 0) (limits : Limits) (m : Machine) (r : Reader) (g : G) (n : Machine) (h : G) (a b : BufferedBits) (c : Reader) → 0 < vec_len n.frames → Passed a b → Sees r a → GathersSome gathered limits m r g n (reader_further r (b.position - a.position)) h → Took (any_bits (b.position - a.position)) r tt c → GathersSome gathered limits m r g n c h
-run_taken gathered limits m r g n h a b c some p sees all t = record {
-  events = all.events;
-  live = t.live;
-  pays = t.goes_on;
-  forward = t.forward;
-  aligned = λ none. absurd (omega (arith, some, none));
-  told = λ k. all.told k ∙ ap (λ (told : Told). (all.events ++ told.0, told.1)) (same_left limits n there c (t.extent k) (here k).0 (here k).1);
-  gathers = all.gathers;
-}
-  where
-    there : Reader
-    there = reader_further r (b.position - a.position)
-
-    here : TellsBytes r → (there.position ≡ c.position) × (there.left ≡ c.left)
-    here k = same_answer (tt, there.position, there.left) (tt, c.position, c.left) (reading (any_bits (b.position - a.position)) r.position r.left) ((seen_took (any_bits (b.position - a.position)) r a tt b sees (any_seen a b p)).0.reads k) (t.reads k)
-
--- a reader that took nothing before
-after_nothing : {A : Type 0} (rule : Grammar A) (a b : Reader) (result : Result A Fault) (c : Reader) → TookNothing a b → Takes rule b result c → Takes rule a result c
-after_nothing rule a b result c nothing t = same_reading (gives (tt {0}) >>= λ v. rule) rule a result c (λ p r. refl) (took_then (gives (tt {0})) (λ v. rule) a (tt {0}) b result c nothing t)
-
--- a run, by a reader that then catches up
-pub run_gathered : {G : Type 0} (gathered : G → List Event → G → Type 0) (limits : Limits) (f : Frame) (m : Machine) (outer : List machine.Frame) (a : Reader) (g : G) (b : Reader) (buffered_parts : BufferedBits) (used after : ℕ) (h : G) (result : Result (Unit {0}) Fault) (c : Reader) → frames_shown m.frames.items ≡ frame_shown f ∷ outer → TookNothing a b → Sees a buffered_parts
-    → GathersRun gathered limits f m.used buffered_parts g used after h → Takes (any_bits (after - buffered_parts.position)) b result c → TakesRun gathered limits m a g result (record m { used = used }) c h
-run_gathered gathered limits f m outer a g b buffered_parts used after h result c split nothing sees run t = go result (subst (λ (q : ℕ). Takes (any_bits (q - buffered_parts.position)) a result c) (sym run.1) (after_nothing (any_bits (after - buffered_parts.position)) a b result c nothing t))
-  where
-    some : 0 < vec_len m.frames
-    some = omega (arith, m.frames.ok.0, length-frames m.frames.items, ap length split)
-
-    go : (result : Result (Unit {0}) Fault) → Takes (any_bits (run.0.position - buffered_parts.position)) a result c → TakesRun gathered limits m a g result (record m { used = used }) c h
-    go (Ok x) t = run_taken gathered limits m a g (record m { used = used }) h buffered_parts run.0 c some run.2.passed sees (run.2.gathers m outer a split refl sees).0 t
-    go (Err fault) t = none_found limits m a fault c (finds_fault limits m a a fault c (in_block m a nothing.was_live some) (not_caught_up (any_bits (run.0.position - buffered_parts.position)) a buffered_parts tt run.0 fault c (step limits (machine_shown m)) sees (any_seen buffered_parts run.0 run.2.passed) t))

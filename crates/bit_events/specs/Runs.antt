@@ -1,5 +1,6 @@
--- Gathering records that are buffered, before a reader takes them.
+-- Gathering what is buffered, before a reader takes it.
 use Rattle.std.specs.Prelude.{◌≡◌, ℕ, ◌+◌, ◌-◌, ◌<◌, ◌≤◌, List, ◌∷◌, ◌++◌, Bool, Option, Some, None, length}
+use Rattle.bit_grammar.specs.Grammar.{Grammar}
 use Rattle.bit_grammar.specs.declared.op.Op.{Op}
 use Rattle.bit_grammar.specs.Fields.{fixed}
 use Rattle.bit_grammar.specs.Record.{unabbreviated}
@@ -11,10 +12,11 @@ use Rattle.bit_fields.specs.Reader.{Reader, Took}
 use Rattle.bit_events.specs.declared.frame.Frame.{Frame}
 use Rattle.bit_events.specs.declared.gatherer.PlainRecord.{PlainRecord}
 use Rattle.bit_events.specs.declared.machine.Machine.{Machine}
+use Rattle.bit_events.specs.declared.machine.Step.{Step}
 use Rattle.bit_events.specs.FrameView.{frame_shown, frames_shown}
 use Rattle.bit_events.specs.Folding.{GathersSome}
 use Rattle.bit_events.specs.Gathering.{Gathers}
-use Rattle.bit_events.specs.MachineView.{record_of}
+use Rattle.bit_events.specs.MachineView.{machine_shown, record_of, step_shown, LeavesMachine}
 
 -- the values read come after the earlier ones
 abbrev pub AddsBehind : (List ℕ → Type 0) → (before after : List ℕ) → Type 0
@@ -85,3 +87,32 @@ abbrev pub GathersRun : {G : Type 0} → (G → List Event → G → Type 0) →
     → BufferedBits → G → (now_used after : ℕ) → G → Type 0
 GathersRun gathered limits f used a g now_used after h = (b : BufferedBits) × (b.position ≡ after)
     × GathersTo gathered limits f used a g now_used b h
+
+-- ---- blocks
+
+-- by a rule this event was found in the buffered bits
+pub record FindsHere (rule : Grammar (Event × machine.Machine)) (deepest : ℕ) (m : Machine)
+    (a : BufferedBits) (event : Event) (n : Machine) (b : BufferedBits) : Type 0 where
+  pub reads : Reads rule a (event, machine_shown n) b
+  pub leaves : LeavesMachine deepest m (reader_at a) event n (reader_at b)
+
+-- By a rule a step was found in the buffered bits, with any values for a record; or the machine is as before.
+abbrev pub StepsHere : Grammar (Event × machine.Machine) → (deepest : ℕ) → Machine → BufferedBits
+    → Option Step → Machine → BufferedBits → Type 0
+StepsHere rule deepest m a None n b = n ≡ m
+StepsHere rule deepest m a (Some step) n b = (list : List ℕ)
+    → FindsHere rule deepest m a (step_shown n list step) n b
+
+-- For each reader before `a`: events were gathered up to `b`, and the reader is then before `b`.
+pub record GathersOn {G : Type 0} (gathered : G → List Event → G → Type 0) (limits : Limits)
+    (m : Machine) (a : BufferedBits) (g : G) (n : Machine) (b : BufferedBits) (h : G) : Type 0 where
+  pub passed : Passed a b
+  pub gathers : (r : Reader) → Sees r a
+      → GathersSome gathered limits m r g n (reader_further r (b.position - a.position)) h
+      × Sees (reader_further r (b.position - a.position)) b
+
+-- the same, up to a bit
+abbrev pub GathersUpTo : {G : Type 0} → (G → List Event → G → Type 0) → Limits → Machine
+    → BufferedBits → G → Machine → (after : ℕ) → G → Type 0
+GathersUpTo gathered limits m a g n after h = (b : BufferedBits) × (b.position ≡ after)
+    × GathersOn gathered limits m a g n b h

@@ -1,11 +1,12 @@
 //! Reading a whole input into a `Gatherer`.
 
-ghost use Rattle.std.specs.Prelude.{◌≡◌, ◌%◌, true, ℕ, List, [], OnOk, IfOk, vec_len};
+ghost use Rattle.std.specs.Prelude.{◌≡◌, ◌<◌, ◌%◌, true, ℕ, List, [], OnOk, IfOk, vec_len};
 ghost use Rattle.bit_fields.specs.Opening.{head_told};
 ghost use Rattle.bit_events.specs.Folding.{TakesRun, TakesNext, TakesAll, Gathered, GatheredSome};
 ghost use Rattle.bit_events.specs.Gathering.{Gathers};
 ghost use Rattle.bit_events.specs.MachineView.{step_shown, HoldsDefinition, TookSome};
 ghost use Rattle.bit_events.specs.Reading.{ReadsWhole};
+ghost use Rattle.bit_events.specs.Runs.{GathersOn, GathersUpTo};
 
 use crate::gatherer::Gatherer;
 use crate::heads::or_memory_fault;
@@ -32,6 +33,7 @@ struct Folding<S: Source, G: Gatherer> {
 }
 
 /// Gives the gatherer the event of a step, and the values of a record.
+#[inline(always)]
 fn hand_on<G: Gatherer>(
     gatherer: &mut G,
     machine: &Machine,
@@ -66,10 +68,70 @@ fn hand_on<G: Gatherer>(
     }
 }
 
+/// Gathers completely buffered records of the innermost block, possibly none.
+#[inline(always)]
+fn gather_innermost<G: Gatherer>(
+    buffered: &mut Buffered<'_>,
+    machine: &mut Machine,
+    limits: &Limits,
+    gatherer: &mut G,
+    values: &mut G::Values,
+) -> Result<(), AllocError>
+    requires took { TookSome G.Values.took values.old }
+    requires aligned { vec_len machine.old.frames ≡ 0 → buffered.old.position % 8 ≡ 0 }
+    ensures took { TookSome G.Values.took values.new }
+    ensures gathers { OnOk result (GathersOn G.gathered limits.now machine.old buffered.old
+        gatherer.old machine.new buffered.new gatherer.new) }
+{
+    let Some(frame) = machine.frames.last() else {
+        return Ok(());
+    };
+    if frame.info.is_some() {
+        return Ok(());
+    }
+    let used = &mut machine.used;
+    let after = gather_records(buffered.copy(), frame, limits, used, gatherer, values)?;
+    buffered.skip(after - buffered.position());
+    Ok(())
+}
+
+/// Gathers buffered records, and beginnings and ends of blocks, as long as they are complete, and returns the bit after the last
+/// one. Readers of all sources share it.
+#[inline(never)]
+fn gather_buffered<G: Gatherer>(
+    alloc: Global,
+    buffered: Buffered<'_>,
+    machine: &mut Machine,
+    limits: &Limits,
+    gatherer: &mut G,
+    values: &mut G::Values,
+) -> Result<u64, AllocError>
+    requires some { 0 < vec_len machine.old.frames }
+    requires took { TookSome G.Values.took values.old }
+    ensures took { TookSome G.Values.took values.new }
+    ensures gathers { IfOk result (λ after. GathersUpTo G.gathered limits.now machine.old
+        buffered.entry gatherer.old machine.new after gatherer.new) }
+{
+    let mut buffered = buffered;
+    loop {
+        gather_innermost(&mut buffered, machine, limits, gatherer, values)?;
+        let first = buffered.position();
+        let Some(step) = machine.step_buffered(alloc, &mut buffered, limits)? else {
+            return Ok(first);
+        };
+        hand_on(gatherer, machine, step, values)?;
+    }
+}
+
 impl<S: Source, G: Gatherer> Folding<S, G> {
-    /// Gathers completely buffered records of the innermost block, possibly none. Records of a BLOCKINFO block are left to
-    /// `gather_next`: each may set the described block.
-    fn gather_run(&mut self, limits: &Limits, values: &mut G::Values) -> Result<(), Fault>
+    /// Gathers what is buffered from the innermost block on, possibly nothing. A BLOCKINFO block and the top are left to
+    /// `gather_next`: each record of the one may set the described block, and at the other the source is asked whether it has ended.
+    fn gather_run(
+        &mut self,
+        alloc: Global,
+        limits: &Limits,
+        values: &mut G::Values,
+    ) -> Result<(), Fault>
         requires live { self.old.reader.live ≡ true }
         requires took { TookSome G.Values.took values.old }
         requires aligned { vec_len self.old.machine.frames ≡ 0 → self.old.reader.position % 8 ≡ 0 }
@@ -85,8 +147,8 @@ impl<S: Source, G: Gatherer> Folding<S, G> {
         }
         let buffered = Buffered::new(self.reader.buffered_parts()?);
         let start = buffered.position();
-        let used = &mut self.machine.used;
-        match gather_records(buffered, frame, limits, used, &mut self.gatherer, values) {
+        let machine = &mut self.machine;
+        match gather_buffered(alloc, buffered, machine, limits, &mut self.gatherer, values) {
             Ok(after) => self.reader.catch_up(after - start),
             Err(_) => Err(self.reader.fail(Fault::Memory)),
         }
@@ -129,7 +191,7 @@ impl<S: Source, G: Gatherer> Folding<S, G> {
             result self.new.reader self.new.gatherer }
     {
         'events: loop {
-            self.gather_run(limits, &mut values.taker)?;
+            self.gather_run(alloc, limits, &mut values.taker)?;
             // Positions are below 2^64 and rise, so the events end.
             let _position = self.reader.position();
             if !self.gather_next(alloc, limits, values)? {

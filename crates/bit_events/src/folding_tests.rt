@@ -3,9 +3,10 @@
 use crate::events_tests::{agrees, bytes_of, in_pieces, told_of_fault};
 use crate::{Event, Gatherer, check, fold};
 use bit_abbrev::Abbrev;
-use bit_fields::{Limits, Source};
+use bit_fields::{BufSource, Limits, Source};
 use std::alloc::{AllocError, Global};
 use std::fmt::Write;
+use std::io::BufReader;
 use std::process::Abort;
 
 /// The events so far, as text.
@@ -95,7 +96,7 @@ fn check_text<S: Source + Drop>(alloc: Global, source: S) -> Result<String, Allo
 }
 
 /// Inputs, what `check` returns, and what is gathered.
-static FOLDED: [(&str, &str, &str); 7] = [
+static FOLDED: [(&str, &str, &str); 14] = [
     (
         "M B U",
         "accepted",
@@ -129,13 +130,59 @@ static FOLDED: [(&str, &str, &str); 7] = [
         "refused: BadSetBid at bit 96",
     ),
     (
+        "M E 21 04 00 00 04 00 00 00 13 04 00 00 01 00 00 00 00 00 00 00 00 00 00 00 E",
+        "accepted",
+        "Enter { id: 8, width: 2, first: 32, body: 96 } Leave { after: 128 } \
+        Enter { id: 8, width: 1, first: 128, body: 192 } Enter { id: 9, width: 2, first: 192, body: 256 } \
+        Leave { after: 288 } Leave { after: 320 } \
+        Enter { id: 8, width: 2, first: 320, body: 384 } Leave { after: 416 } [66, 67, 192, 222] 416",
+    ),
+    (
+        "M 21 04 00 00 04 00 00 00 13 04 00 00 02 00 00 00 00 00 00 00 00 00 00 00",
+        "refused: BlockLength at bit 128",
+        "refused: BlockLength at bit 128",
+    ),
+    (
+        "M 21 04 00 00 04 00 00 00 13 00 00 00 01 00 00 00 00 00 00 00 00 00 00 00",
+        "refused: AbbrevWidth at bit 105",
+        "refused: AbbrevWidth at bit 105",
+    ),
+    (
+        "M 21 04 00 00 05 00 00 00 FF FF FF FF FF 04 00 00 01 00 00 00 00 00 00 00 00 00 00 00",
+        "refused: BlockId at bit 97",
+        "refused: BlockId at bit 97",
+    ),
+    (
+        "M 21 04 00 00 04 00 00 00 13 04 10 00 01 00 00 00 00 00 00 00 00 00 00 00",
+        "refused: DirtyPadding at bit 116",
+        "refused: DirtyPadding at bit 116",
+    ),
+    (
+        "M 21 04 00 00 04 00 00 00 13 04 00 00 01 00 00 00 04 00 00 00 00 00 00 00",
+        "refused: DirtyPadding at bit 162",
+        "refused: DirtyPadding at bit 162",
+    ),
+    (
+        "M B 01 08 00 00 01 00 00 00 05 00 00 00",
+        "refused: NestedInBlockInfo at bit 224",
+        "refused: NestedInBlockInfo at bit 224",
+    ),
+    (
         "H DE C0 17 0B",
         "refused: WrapperNested at bit 160",
         "refused: WrapperNested at bit 160",
     ),
 ];
 
-/// Checks what `check` returns for an input and what is gathered, in pieces of one byte and of 64.
+/// The events, the magic and the bit after an input, from a source that lends up to `room` bytes.
+fn lent_text(alloc: Global, bytes: &[u8], room: usize) -> Result<String, AllocError> {
+    match BufReader::with_capacity(alloc, room, bytes) {
+        Ok(reader) => fold_text(alloc, BufSource::new(reader)),
+        Err(_) => Err(AllocError),
+    }
+}
+
+/// Checks what `check` returns for an input and what is gathered, in pieces of one byte and of 64, and in lent pieces.
 fn are_folded(rt: &impl Abort, alloc: Global, text: &str, judged: &str, gathered: &str) {
     let bytes = bytes_of(alloc, text).expect(rt, "memory");
     for most in [1, 64] {
@@ -151,6 +198,9 @@ fn are_folded(rt: &impl Abort, alloc: Global, text: &str, judged: &str, gathered
             gathered,
             text,
         );
+    }
+    for room in 1..65 {
+        agrees(rt, lent_text(alloc, &bytes, room), gathered, text);
     }
 }
 

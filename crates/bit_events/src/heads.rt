@@ -1,11 +1,12 @@
-ghost use Rattle.std.specs.Prelude.{◌≡◌, ◌+◌, ◌*◌, ◌≤◌, ◌%◌, OnOk, IfOk, IfErr, ◌==◌, ◌&&◌, nat_le, true};
+ghost use Rattle.std.specs.Prelude.{◌≡◌, ◌+◌, ◌*◌, ◌≤◌, ◌%◌, OnOk, OnSome, IfOk, IfErr, IfSome, ◌==◌, ◌&&◌, nat_le, true};
 ghost use Rattle.bit_grammar.specs.Blocks.{block_id, new_width, block_head, end_of_block};
+ghost use Rattle.bit_fields.specs.Buffered.{Reads};
 ghost use Rattle.bit_fields.specs.Reader.{Takes, told_by, failed_reader};
 ghost use Rattle.bit_events.specs.Events.{Shuts};
 ghost use Rattle.bit_events.specs.HeadView.{head_shown};
 
 use crate::head::BlockHead;
-use bit_fields::{BitReader, Fault, Reason, Source};
+use bit_fields::{BitReader, Buffered, ChunkWidth, Fault, FieldWidth, Reason, Source};
 use std::alloc::AllocError;
 
 /// The value that was made; if an allocation for it failed, the reader fails.
@@ -71,6 +72,30 @@ pub(crate) fn block_head<S: Source>(reader: &mut BitReader<S>) -> Result<BlockHe
     })
 }
 
+/// Reads what comes between a block's abbreviation id and its items from buffered bits. `None` leaves it to the exact reader.
+#[tactic(auto, unfolding(bit_grammar::specs::Blocks::block_head, bit_grammar::specs::Blocks::block_id, bit_grammar::specs::Blocks::new_width))]
+#[inline(always)]
+pub(crate) fn buffered_head(buffered: &mut Buffered<'_>) -> Option<BlockHead>
+    ensures reads { IfSome result (λ head. Reads block_head buffered.old (head_shown head)
+        buffered.new) }
+{
+    let id = buffered.vbr(ChunkWidth::of(8))?;
+    let width = buffered.vbr(ChunkWidth::of(4))?;
+    if id >= 1 << 32 || !is_width(width) {
+        return None;
+    }
+    buffered.pad()?;
+    let length_at = buffered.position();
+    let words = buffered.fixed(FieldWidth::of(32))?;
+    Some(BlockHead {
+        id: id as u32,
+        width: width as u8,
+        length_at,
+        words: words as u32,
+        body: buffered.position(),
+    })
+}
+
 /// Whether a block that ends here has the right length.
 fn ends_at(head: BlockHead, after: u64) -> bool
     ensures { result ≡ (head.body + 32 * head.words == after) }
@@ -94,6 +119,23 @@ pub(crate) fn end_of_block<S: Source>(
     let after = reader.position();
     reader.judge(ends_at(head, after), Reason::BlockLength, head.length_at)?;
     Ok(after)
+}
+
+/// The same from buffered bits. `None` leaves it to the exact reader.
+#[tactic(auto, unfolding(bit_grammar::specs::Blocks::end_of_block))]
+#[inline(always)]
+pub(crate) fn buffered_end(buffered: &mut Buffered<'_>, head: BlockHead) -> Option<u64>
+    ensures reads { IfSome result (λ after. Reads (end_of_block (head_shown head)) buffered.old
+        after buffered.new) }
+    ensures aligned { OnSome result (buffered.new.position % 32 ≡ 0) }
+    ensures moves { OnSome result (buffered.old.position ≤ buffered.new.position) }
+{
+    buffered.pad()?;
+    let after = buffered.position();
+    if !ends_at(head, after) {
+        return None;
+    }
+    Some(after)
 }
 
 /// Outside of all blocks: returns whether the stream has no byte left and its whole input is accepted.

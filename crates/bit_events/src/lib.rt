@@ -6,8 +6,8 @@
 //! the frames, the position and the event. The exact reader reads BLOCKINFO blocks, fields without a width and what crosses the end
 //! of a buffer.
 //!
-//! `fold` stays in a block while records come. `gather_run` gathers the buffered records of a block, and the reader then catches up
-//! over all of them. `EventFinder` returns one event at a time over any `ValueKeeper`; `Events` is that over a vector,
+//! `fold` stays in the buffer while records, beginnings and ends of blocks come that are complete there: `gather_buffered` gathers
+//! them, and the reader then catches up over all of them. `EventFinder` returns one event at a time over any `ValueKeeper`; `Events` is that over a vector,
 //! `PackedEvents` over `PackedValues`. `SliceEvents` reads the records of a slice in place and keeps its lookahead from record to
 //! record.
 //!

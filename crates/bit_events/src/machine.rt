@@ -1,4 +1,4 @@
-ghost use Rattle.std.specs.Prelude.{◌≡◌, ◌<◌, ◌≤◌, ◌+◌, ◌-◌, ◌^◌, ◌%◌, true, [], ℕ, List, OnOk, IfOk, vec_len, is_none, IfSome, IfNone, OnSome, IsTrue, ◌↔◌};
+ghost use Rattle.std.specs.Prelude.{◌≡◌, ◌<◌, ◌≤◌, ◌+◌, ◌-◌, ◌^◌, ◌%◌, true, [], ℕ, List, OnOk, IfOk, vec_len, is_none, None, IfSome, IfNone, OnSome, IsTrue, ◌↔◌};
 ghost use Rattle.std.specs.Option.{option_copied, option_map};
 ghost use Rattle.bit_grammar.specs.Blocks.{enter, leave};
 ghost use Rattle.bit_grammar.specs.Terms.{info_for};
@@ -10,17 +10,17 @@ ghost use Rattle.bit_events.specs.Next.{FindsNext};
 ghost use Rattle.bit_events.specs.EventView.{shown_if_any};
 ghost use Rattle.bit_events.specs.HeadView.{head_shown};
 ghost use Rattle.bit_events.specs.FrameView.{info_shown, frames_shown};
-ghost use Rattle.bit_events.specs.Runs.{AddsBehind};
+ghost use Rattle.bit_events.specs.Runs.{AddsBehind, StepsHere};
 ghost use Rattle.bit_events.specs.MachineView.{handed_shown, machine_shown, newest, step_shown, step_lent, after_step, KeepsValues, record_of, innermost_head, LeavesMachine, TookSome, InBlock, end_rule, define_rule, record_rule};
 
 use crate::event::{Event, RecordHead};
 use crate::frame::{Describing, Frame, define, record_after};
 use crate::head::BlockHead;
-use crate::heads::{block_head, end_of_block, or_memory_fault, shuts};
+use crate::heads::{block_head, buffered_end, buffered_head, end_of_block, or_memory_fault, shuts};
 use crate::running::{buffered_item, buffered_record};
 use crate::with_first::WithFirst;
 use bit_abbrev::{Abbrev, InForce, InfoTable, SharedInfo};
-use bit_fields::{BitReader, Buffered, Fault, Limits, Reason, Source, ValueTaker};
+use bit_fields::{BitReader, Buffered, Fault, FieldWidth, Limits, Reason, Source, ValueTaker};
 use std::alloc::{AllocError, Global};
 
 /// How many values may come before those of a buffered record, so that all can be counted.
@@ -161,6 +161,35 @@ impl Machine {
         }
     }
 
+    /// Reads a block's beginning from buffered bits, after its id, which began at `first`. `None`, and nothing is changed, leaves it
+    /// to the exact reader.
+    #[inline(always)]
+    fn open_buffered(
+        &mut self,
+        alloc: Global,
+        buffered: &mut Buffered<'_>,
+        limits: &Limits,
+        first: u64,
+    ) -> Result<Option<Step>, AllocError>
+        ensures { IfOk result (λ found. StepsHere (open_block limits.now
+            (frames_shown self.old.frames.items) first (handed_shown self.old)) limits.now.depth
+            self.old buffered.old found self.new buffered.new) }
+    {
+        if self.frames.len() >= limits.depth() as usize {
+            return Ok(None);
+        }
+        let Some(head) = buffered_head(buffered) else {
+            return Ok(None);
+        };
+        self.enter(alloc, head)?;
+        Ok(Some(Step::Enter {
+            id: head.id,
+            width: head.width,
+            first,
+            body: head.body,
+        }))
+    }
+
     /// Reads the end of the innermost block, after its id. Source: "END_BLOCK Encoding".
     fn end_block<S: Source>(
         &mut self,
@@ -182,6 +211,74 @@ impl Machine {
         let after = end_of_block(reader, frame.head)?;
         or_memory_fault(reader, self.leave(alloc, frame.info))?;
         Ok(Step::Leave { after })
+    }
+
+    /// Reads the end of the innermost block, which is no BLOCKINFO block, from buffered bits, after its id. `None`, and nothing is
+    /// changed, leaves it to the exact reader.
+    #[inline(always)]
+    fn end_buffered(&mut self, buffered: &mut Buffered<'_>) -> Option<Step>
+        requires { 0 < vec_len self.old.frames }
+        ensures steps { (deepest : ℕ) → InBlock self.old (λ f outer. f.info ≡ None
+            → StepsHere (end_rule f outer (handed_shown self.old)) deepest self.old buffered.old
+            result self.new buffered.new) }
+        ensures moves { OnSome result (buffered.old.position ≤ buffered.new.position) }
+    {
+        let Some(frame) = self.frames.last() else {
+            unreachable!();
+        };
+        let after = buffered_end(buffered, frame.head)?;
+        let Some(_frame) = self.frames.pop() else {
+            unreachable!();
+        };
+        Some(Step::Leave { after })
+    }
+
+    /// The width of the abbreviation ids that may begin or end a block here: 2 at the top, and none in a BLOCKINFO block.
+    #[inline(always)]
+    fn id_width(&self) -> Option<FieldWidth>
+        ensures inside { IfSome result (λ width. InBlock self.now (λ f outer.
+            (f.info ≡ None) × (width.bits ≡ f.head.width))) }
+        ensures top { IfSome result (λ width. vec_len self.now.frames ≡ 0 → width.bits ≡ 2) }
+    {
+        match self.frames.last() {
+            None => Some(FieldWidth::of(2)),
+            Some(frame) => {
+                if frame.info.is_some() {
+                    return None;
+                }
+                Some(FieldWidth::of(frame.head.width))
+            }
+        }
+    }
+
+    /// Finds the beginning or the end of a block in buffered bits. `None`, and nothing is changed, leaves what comes to the exact
+    /// reader: another item, one in a BLOCKINFO block, and what is not complete or breaks a rule.
+    #[inline(always)]
+    pub(crate) fn step_buffered(
+        &mut self,
+        alloc: Global,
+        buffered: &mut Buffered<'_>,
+        limits: &Limits,
+    ) -> Result<Option<Step>, AllocError>
+        ensures steps { IfOk result (λ found. StepsHere (step limits.now (machine_shown self.old))
+            limits.now.depth self.old buffered.old found self.new buffered.new) }
+        ensures moves { IfOk result (λ found. OnSome found
+            (buffered.old.position < buffered.new.position)) }
+    {
+        let Some(width) = self.id_width() else {
+            return Ok(None);
+        };
+        let first = buffered.position();
+        let Some(id) = buffered.fixed(width) else {
+            return Ok(None);
+        };
+        if id == 1 {
+            return self.open_buffered(alloc, buffered, limits, first);
+        }
+        if id > 0 || self.is_outside() {
+            return Ok(None);
+        }
+        Ok(self.end_buffered(buffered))
     }
 
     /// Takes the table that a BLOCKINFO block made.

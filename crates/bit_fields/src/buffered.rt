@@ -366,7 +366,7 @@ impl<'a> Buffered<'a> {
 
     /// Skips `bits` bits, which are buffered.
     #[inline(always)]
-    pub(crate) fn skip(&mut self, bits: u64)
+    pub fn skip(&mut self, bits: u64)
         requires { bits ≤ length self.old.bits }
         ensures skipped { self.new ≡ beyond self.old bits }
         ensures moves { self.new.position ≡ self.old.position + bits }

@@ -4,8 +4,8 @@
 //!
 //! `normalise` is a fold into `FormBuilder`: the bits of the form so far and, for each open block, the word for its length. Closed
 //! by whatever events follow, these bits are the normal form of the tree of all events. `FormValues` holds few values of a record
-//! as numbers and many as bits. Nothing is written before the input is accepted. `FormWriter` is the same builder for callers that
-//! have a tree.
+//! as numbers and many as bits; a record that is not abbreviated is copied as its bits (`FormBuilder::plain`). Nothing is written
+//! before the input is accepted. `FormWriter` is the same builder for callers that have a tree.
 //!
 //! `first_difference` reads the first input alone and keeps its bytes, and then compares the bytes that the second source lends with
 //! them (`alike`). If all are the same it is done. Else it reads the second in step with the first, by a source that gives the bytes

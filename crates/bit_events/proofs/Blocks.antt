@@ -1,0 +1,278 @@
+-- Beginnings and ends of blocks that are buffered, and what is gathered with them.
+use Rattle.std.proofs.Common.{◌≡◌, ℕ, ◌+◌, ◌-◌, ◌%◌, ◌<◌, ◌≤◌, zero, suc, is_none, is_some, Bool, true, false, List, [], ◌∷◌, ◌++◌, length, length-append, get_or, vec_len, drop, None, Some, Option, Result, Ok, Err, refl, sym, ap, subst, ◌∙◌, arith, ltb}
+use Rattle.std.specs.Prelude.{IfOk, OnOk, OnSome}
+use Rattle.std.proofs.lemmas.List.{append-nil, drop_at}
+use Rattle.std.proofs.lemmas.Bool.{lt-ltb}
+use Rattle.bit_grammar.specs.declared.reason.Reason.TheVariants.{TooDeep, TopLevel, NestedInBlockInfo}
+use Rattle.bit_grammar.specs.Grammar as grammar
+use Rattle.bit_grammar.specs.Grammar.{Grammar, ◌>>=◌, at, gives, reading, test}
+use Rattle.bit_grammar.specs.Input.{any_bits}
+use Rattle.bit_grammar.specs.Fields.{fixed}
+use Rattle.bit_grammar.specs.Blocks.{Limits, block_head, end_of_block, enter, leave}
+use Rattle.bit_grammar.specs.Machine as machine
+use Rattle.bit_grammar.specs.Machine.{Event, Told, enters, leaves, inside, open_block, scope_of, step}
+use Rattle.bit_fields.specs.Buffered.{BufferedBits, Reads, Sees, beyond, reader_at, reader_further}
+use Rattle.bit_fields.specs.declared.fault.Fault.{Fault}
+use Rattle.bit_fields.specs.Reader.{Reader, TellsBytes, Took, Takes}
+use Rattle.bit_fields.specs.Short.{TookNothing}
+use Rattle.bit_fields.proofs.Gap.{gap_whole}
+use Rattle.bit_fields.proofs.Composing.{same_reading, took_nothing, took_then}
+use Rattle.bit_fields.proofs.BufferedReads.{not_caught_up, reads_forward, reads_passed, reads_there, reads_took, seen_took, took_reads}
+use Rattle.bit_events.specs.declared.frame.Frame.{Frame}
+use Rattle.bit_events.specs.declared.head.BlockHead.{BlockHead}
+use Rattle.bit_events.specs.declared.machine.Machine.{Machine}
+use Rattle.bit_events.specs.declared.machine.Step.{Step}
+use Rattle.bit_events.specs.FrameView.{info_shown, frame_shown, frames_shown}
+use Rattle.bit_events.specs.HeadView.{head_shown}
+use Rattle.bit_events.specs.MachineView.{handed_shown, machine_shown, step_shown, end_rule, InBlock, LeavesMachine}
+use Rattle.bit_events.specs.Folding.{GathersSome, TakesRun}
+use Rattle.bit_events.specs.Gathering.{Gathers}
+use Rattle.bit_events.specs.Next.{left_to_tell}
+use Rattle.bit_events.specs.Runs.{FindsHere, GathersOn, GathersRun, GathersUpTo, Passed, StepsHere}
+use Rattle.std.specs.declared.alloc.AllocError.{AllocError}
+use Rattle.bit_events.proofs.Advancing.{dead, finds_event, finds_fault, leaves_later, none_shown}
+use Rattle.bit_events.proofs.Folds.{in_block, none_found, none_yet, one_event, some_then, stays_same}
+use Rattle.bit_events.proofs.Runs.{advanced_both, passed_both, passed_forward}
+use Rattle.bit_events.proofs.Stepping.{innermost, frames-pop, length-frames, open_took, end_took, top_opens, nested_opens, in_then, after_end, after_nested}
+
+none_some : {A : Type 0} (o : Option A) → is_some o ≡ false → o ≡ None
+none_some None e = refl
+none_some (Some x) e = absurd cc
+
+-- the innermost block, which is no BLOCKINFO block, as its frame holds it
+pub plain_width : (m : Machine) (k : ℕ) (f : Frame) (width : ℕ) → length m.frames.items ≡ suc k → f ≡ get_or m.frames.items k f → is_some f.info ≡ false → width ≡ f.head.width → InBlock m (λ shown outer. (shown.info ≡ None) × (width ≡ shown.head.width))
+plain_width m k f width count is plain same = λ shown outer split.
+    let inner = innermost m.frames.items k f shown outer count is split in
+    (subst (λ (x : machine.Frame). x.info ≡ None) inner (ap info_shown (none_some f.info plain)), same ∙ ap (λ (x : machine.Frame). x.head.width) inner)
+
+-- a block is open
+pub some_block : (count : ℕ) (outside : Bool) → (count ≡ 0 → outside ≡ true) → outside ≡ false → 0 < count
+some_block zero outside is isnt = absurd (dead outside (is refl) isnt)
+some_block (suc count) outside is isnt = omega arith
+
+-- ---- a step by a part of its rule
+
+judged : (holds : Bool) (fault : grammar.Fault) (a : Reader) → holds ≡ true → a.live ≡ true → Took (test holds fault) a tt a
+judged holds fault a is live = same_reading (gives (tt {0})) (test holds fault) a (Ok (tt {0})) a (λ p r. rw is refl) (took_nothing (tt {0}) a live)
+
+-- a block begins
+pub opens_here : (limits : Limits) (m : Machine) (first : ℕ) (a : BufferedBits) (head : BlockHead) (b : BufferedBits) (n : Machine) → vec_len m.frames < limits.depth → Reads block_head a (head_shown head) b → machine_shown n ≡ inside (head_shown head) (frames_shown m.frames.items) (enter head.id (handed_shown m)) → vec_len n.frames ≡ vec_len m.frames + 1
+    → FindsHere (open_block limits (frames_shown m.frames.items) first (handed_shown m)) limits.depth m a (enters (record { id = head.id; width = head.width; first = first; body = head.body })) n b
+opens_here limits m first a head b n fits reads made more = record {
+  reads = took_reads (open_block limits (frames_shown m.frames.items) first (handed_shown m)) a (enters (record { id = head.id; width = head.width; first = first; body = head.body }), machine_shown n) b
+      (open_took limits (frames_shown m.frames.items) first (handed_shown m) (reader_at a) (reader_at a) (head_shown head) (reader_at b) (reader_at b) (machine_shown n) (judged (ltb (length (frames_shown m.frames.items)) limits.depth) (at TooDeep first) (reader_at a) (lt-ltb (length (frames_shown m.frames.items)) limits.depth (omega (arith, fits, length-frames m.frames.items, m.frames.ok.0))) refl)
+      (reads_took block_head a (head_shown head) b reads forward) refl made);
+  leaves = record { stands = fits; opens = omega (arith, more); forward = forward; aligned = λ none. absurd (omega (arith, more, none)); holds = tt };
+}
+  where
+    forward : a.position ≤ b.position
+    forward = reads_forward block_head a (head_shown head) b reads
+
+-- the innermost block ends, and it is no BLOCKINFO block
+pub ends_here : (deepest : ℕ) (m : Machine) (k : ℕ) (f popped : Frame) (shown : machine.Frame) (outer : List machine.Frame) (a : BufferedBits) (after : ℕ) (b : BufferedBits) (n : Machine) → length m.frames.items ≡ suc k → f ≡ get_or m.frames.items k f → frames_shown m.frames.items ≡ shown ∷ outer → shown.info ≡ None → Reads (end_of_block (head_shown f.head)) a after b → b.position % 32 ≡ 0 → m.frames.items ≡ n.frames.items ++ popped ∷ [] → handed_shown n ≡ handed_shown m
+    → FindsHere (end_rule shown outer (handed_shown m)) deepest m a (leaves after) n b
+ends_here deepest m k f popped shown outer a after b n count is split plain reads aligned items same = record {
+  reads = took_reads (end_rule shown outer (handed_shown m)) a (leaves after, machine_shown n) b (end_took shown outer (handed_shown m) (reader_at a) after (reader_at b) (reader_at b) (machine_shown n) (reads_took (end_of_block shown.head) a after b here (reads_forward (end_of_block shown.head) a after b here)) refl made);
+  leaves = record {
+    stands = omega (arith, count, m.frames.ok.0);
+    opens = omega (arith, ap length items, length-append n.frames.items (popped ∷ []), m.frames.ok.0, n.frames.ok.0);
+    forward = reads_forward (end_of_block shown.head) a after b here;
+    aligned = λ none. aligned;
+    holds = tt;
+  };
+}
+  where
+    inner : frame_shown f ≡ shown
+    inner = innermost m.frames.items k f shown outer count is split
+
+    here : Reads (end_of_block shown.head) a after b
+    here = subst (λ (x : machine.Frame). Reads (end_of_block x.head) a after b) inner reads
+
+    made : machine_shown n ≡ record { frames = outer; handed = leave shown.info (handed_shown m) }
+    made = rw (plain, same, (frames-pop m.frames.items n.frames.items popped shown outer items split).1) refl
+
+pub none_if : {A : Type 0} (o : Option A) → ((x : A) → o ≡ Some x → ⊥) → o ≡ None
+none_if None isnt = refl
+none_if (Some x) isnt = absurd (isnt x refl)
+
+-- what follows an id
+later : (rule whole : Grammar (Event × machine.Machine)) (deepest : ℕ) (m : Machine) (a b : BufferedBits) (found : Option Step) (n : Machine) (c : BufferedBits) → a.position ≤ b.position → ((value : Event × machine.Machine) → Took rule (reader_at b) value (reader_at c) → Took whole (reader_at a) value (reader_at c)) → StepsHere rule deepest m b found n c → StepsHere whole deepest m a found n c
+later rule whole deepest m a b None n c forward so same = same
+later rule whole deepest m a b (Some found) n c forward so steps = λ list.
+    let here = steps list in
+    let value : Event × machine.Machine = (step_shown n list found, machine_shown n) in
+    record {
+      reads = took_reads whole a value c (so value (reads_took rule b value c here.reads (reads_forward rule b value c here.reads)));
+      leaves = leaves_later (reader_at a) (reader_at b) (reader_at c) forward here.leaves;
+    }
+
+-- a block, at the top or in the innermost one, which is no BLOCKINFO block
+pub begin_here : (limits : Limits) (m : Machine) (width first : ℕ) (a b : BufferedBits) (found : Option Step) (n : Machine) (c : BufferedBits) → InBlock m (λ f outer. (f.info ≡ None) × (width ≡ f.head.width)) → (vec_len m.frames ≡ 0 → width ≡ 2) → first ≡ a.position → Reads (fixed width) a 1 b → StepsHere (open_block limits (frames_shown m.frames.items) first (handed_shown m)) limits.depth m b found n c → StepsHere (step limits (machine_shown m)) limits.depth m a found n c
+begin_here limits m width first a b found n c inside top is id steps = go (frames_shown m.frames.items) refl
+  where
+    forward : a.position ≤ b.position
+    forward = reads_forward (fixed width) a 1 b id
+
+    go : (frames : List machine.Frame) → frames_shown m.frames.items ≡ frames → StepsHere (step limits (machine_shown m)) limits.depth m a found n c
+    go [] none =
+        let two = subst (λ (w : ℕ). Reads (fixed w) a 1 b) (top (m.frames.ok.0 ∙ none_shown m.frames.items none)) id in
+        rw none (later (open_block limits [] first (handed_shown m)) (machine.step_top limits (handed_shown m)) limits.depth m a b found n c forward
+        (λ value took. top_opens limits (handed_shown m) (reader_at a) 1 (reader_at b) first (reader_at b) (Ok value) (reader_at c) is (reads_took (fixed 2) a 1 b two forward) (judged true (at TopLevel first) (reader_at b) refl refl) took)
+        (rw none at steps))
+    go (f ∷ outer) split =
+        let here = inside f outer split in
+        let scope = scope_of f (handed_shown m) in
+        let read = subst (λ (w : ℕ). Reads (fixed w) a 1 b) here.1 id in
+        rw split (later (open_block limits (f ∷ outer) first (handed_shown m)) (machine.step_in limits f.head outer scope) limits.depth m a b found n c forward
+        (λ value took. in_then limits f.head outer scope (reader_at a) 1 (reader_at b) first (Ok value) (reader_at c) is (reads_took (fixed f.head.width) a 1 b read forward)
+        (after_nested limits f outer first 1 (handed_shown m) (reader_at b) (Ok value) (reader_at c) refl refl
+        (nested_opens limits f.head outer first scope (reader_at b) (reader_at b) (Ok value) (reader_at c) (judged (is_none f.info) (at NestedInBlockInfo first) (reader_at b) (ap is_none here.0) refl) took)))
+        (rw split at steps))
+
+-- its end
+pub end_here : (limits : Limits) (m : Machine) (width : ℕ) (a b : BufferedBits) (found : Option Step) (n : Machine) (c : BufferedBits) → 0 < vec_len m.frames → InBlock m (λ f outer. (f.info ≡ None) × (width ≡ f.head.width)) → Reads (fixed width) a 0 b → InBlock m (λ f outer. f.info ≡ None → StepsHere (end_rule f outer (handed_shown m)) limits.depth m b found n c) → StepsHere (step limits (machine_shown m)) limits.depth m a found n c
+end_here limits m width a b found n c some inside id steps = go (frames_shown m.frames.items) refl
+  where
+    forward : a.position ≤ b.position
+    forward = reads_forward (fixed width) a 0 b id
+
+    go : (frames : List machine.Frame) → frames_shown m.frames.items ≡ frames → StepsHere (step limits (machine_shown m)) limits.depth m a found n c
+    go [] none = absurd (omega (arith, some, m.frames.ok.0, none_shown m.frames.items none))
+    go (f ∷ outer) split =
+        let here = inside f outer split in
+        let scope = scope_of f (handed_shown m) in
+        let read = subst (λ (w : ℕ). Reads (fixed w) a 0 b) here.1 id in
+        rw split (later (end_rule f outer (handed_shown m)) (machine.step_in limits f.head outer scope) limits.depth m a b found n c forward
+        (λ value took. in_then limits f.head outer scope (reader_at a) 0 (reader_at b) a.position (Ok value) (reader_at c) refl (reads_took (fixed f.head.width) a 0 b read forward)
+        (after_end limits f outer a.position 0 (handed_shown m) (reader_at b) (Ok value) (reader_at c) refl took))
+        (steps f outer split here.0))
+
+-- it reads at least the id
+pub moved_here : (rule : Grammar (Event × machine.Machine)) (deepest : ℕ) (m : Machine) (a b : BufferedBits) (found : Option Step) (n : Machine) (c : BufferedBits) → a.position < b.position → StepsHere rule deepest m b found n c → OnSome found (a.position < c.position)
+moved_here rule deepest m a b None n c moves steps = tt
+moved_here rule deepest m a b (Some found) n c moves steps = omega (arith, moves, (steps []).leaves.forward)
+
+pub if_ok : {X : Type 0} (P Q : X → Type 0) (result : Result X AllocError) → ((x : X) → P x → Q x) → IfOk result P → IfOk result Q
+if_ok P Q (Ok x) so p = so x p
+if_ok P Q (Err e) so p = tt
+
+-- ---- what is gathered
+
+sees_itself : (a : BufferedBits) → Sees (reader_at a) a
+sees_itself a = record { live = refl; position = refl; front = λ _. ([], sym (append-nil a.bits)) }
+
+-- outside of all blocks it stops at a whole byte
+pub on_aligned : {G : Type 0} (gathered : G → List Event → G → Type 0) (limits : Limits) (m : Machine) (a : BufferedBits) (g : G) (n : Machine) (b : BufferedBits) (h : G) → GathersOn gathered limits m a g n b h → vec_len n.frames ≡ 0 → b.position % 8 ≡ 0
+on_aligned gathered limits m a g n b h on none = omega (arith, (on.gathers (reader_at a) (sees_itself a)).0.aligned none, on.passed.2)
+
+-- nothing
+pub on_none : {G : Type 0} (gathered : G → List Event → G → Type 0) (limits : Limits) (m : Machine) (a : BufferedBits) (g : G) → (vec_len m.frames ≡ 0 → a.position % 8 ≡ 0) → GathersOn gathered limits m a g m a g
+on_none gathered limits m a g aligned = record {
+  passed = ([], refl, omega arith);
+  gathers = λ r sees.
+      let none : a.position - a.position ≡ 0 = omega arith in
+      let same : r.position + 0 ≡ r.position = omega arith in
+      rw (none, same) (none_yet gathered limits m r g sees.live (λ closed. omega (arith, aligned closed, sees.position)), sees);
+}
+
+-- some, and then more
+pub on_both : {G : Type 0} (gathered : G → List Event → G → Type 0) (limits : Limits) (m : Machine) (a : BufferedBits) (g : G) (n : Machine) (b : BufferedBits) (h : G) (o : Machine) (c : BufferedBits) (k : G) → GathersOn gathered limits m a g n b h → GathersOn gathered limits n b h o c k → GathersOn gathered limits m a g o c k
+on_both gathered limits m a g n b h o c k p q = record {
+  passed = passed_both a b c p.passed q.passed;
+  gathers = λ r sees.
+      let there : Reader = reader_further r (b.position - a.position) in
+      let one = p.gathers r sees in
+      let two = q.gathers there one.1 in
+      let e : reader_further there (c.position - b.position) ≡ reader_further r (c.position - a.position) = advanced_both r (b.position - a.position) (c.position - b.position) (c.position - a.position) (omega (arith, passed_forward a b p.passed, passed_forward b c q.passed)) in (
+        subst (λ (t : Reader). GathersSome gathered limits m r g o t k) e (some_then gathered limits m r g n there h o (reader_further there (c.position - b.position)) k one.0 two.0),
+        subst (λ (t : Reader). Sees t c) e two.1,
+      );
+}
+
+-- records of the innermost block
+pub on_run : {G : Type 0} (gathered : G → List Event → G → Type 0) (limits : Limits) (f : Frame) (m : Machine) (outer : List machine.Frame) (a : BufferedBits) (g : G) (used after : ℕ) (h : G) (b : BufferedBits) → frames_shown m.frames.items ≡ frame_shown f ∷ outer → GathersRun gathered limits f m.used a g used after h → b ≡ beyond a (after - a.position) → GathersOn gathered limits m a g (record m { used = used }) b h
+on_run gathered limits f m outer a g used after h b split run is =
+    let p = run.2.passed in
+    let place : a.position + (after - a.position) ≡ run.0.position = omega (arith, p.2, run.1) in
+    let left : drop (after - a.position) a.bits ≡ run.0.bits = ap (drop (after - a.position)) p.1 ∙ drop_at p.0 run.0.bits (after - a.position) (omega (arith, p.2, run.1)) in
+    let same : run.0 ≡ b = sym (is ∙ rw (place, left) refl) in
+    subst (λ (x : BufferedBits). GathersOn gathered limits m a g (record m { used = used }) x h) same (record { passed = p; gathers = λ r sees. run.2.gathers m outer r split refl sees })
+
+-- the beginning or the end of a block
+pub on_step : {G : Type 0} (gathered : G → List Event → G → Type 0) (limits : Limits) (m : Machine) (a : BufferedBits) (g : G) (event : Event) (n : Machine) (b : BufferedBits) (h : G) → FindsHere (step limits (machine_shown m)) limits.depth m a event n b → a.position < b.position → Gathers gathered g event h → GathersOn gathered limits m a g n b h
+on_step gathered limits m a g event n b h here moves gathers = record {
+  passed = (let q = reads_passed (step limits (machine_shown m)) a (event, machine_shown n) b here.reads in (q.0, q.1, q.2));
+  gathers = λ r sees.
+      let there : Reader = reader_further r (b.position - a.position) in
+      let took = seen_took (step limits (machine_shown m)) r a (event, machine_shown n) b sees here.reads in
+      let some : (k : TellsBytes r) → 0 < length r.left = λ k. omega (arith, moves, reads_there (step limits (machine_shown m)) a (event, machine_shown n) b here.reads, ap length (sees.front k).1, length-append a.bits (sees.front k).0) in
+      let left : LeavesMachine limits.depth m r event n there = record {
+        stands = here.leaves.stands;
+        opens = here.leaves.opens;
+        forward = omega arith;
+        aligned = λ none. omega (arith, here.leaves.aligned none, sees.position, moves);
+        holds = here.leaves.holds;
+      } in
+      (one_event gathered limits m r g event n there h (finds_event limits m n event r r there (stays_same r sees.live, λ none k. some k) took.0 left) gathers, took.1);
+}
+
+-- no more bits are left
+pub on_fewer : {G : Type 0} (gathered : G → List Event → G → Type 0) (limits : Limits) (m : Machine) (a : BufferedBits) (g : G) (n : Machine) (b : BufferedBits) (h : G) → GathersOn gathered limits m a g n b h → length b.bits ≤ length a.bits
+on_fewer gathered limits m a g n b h on = omega (arith, ap length on.passed.1, length-append on.passed.0 b.bits)
+
+-- fewer are
+pub step_fewer : (rule : Grammar (Event × machine.Machine)) (deepest : ℕ) (m : Machine) (a : BufferedBits) (event : Event) (n : Machine) (b : BufferedBits) → FindsHere rule deepest m a event n b → a.position < b.position → length b.bits < length a.bits
+step_fewer rule deepest m a event n b here moves = (let p = reads_passed rule a (event, machine_shown n) b here.reads in omega (arith, moves, p.2, ap length p.1, length-append p.0 b.bits))
+
+-- ---- a reader that catches up
+
+-- the skipped bits are some bits
+any_seen : (a b : BufferedBits) → Passed a b → Reads (any_bits (b.position - a.position)) a tt b
+unfolding any_bits
+any_seen a b p =
+    let n : ℕ = b.position - a.position in
+    let whole : length a.bits ≡ length p.0 + length b.bits = ap length p.1 ∙ length-append p.0 b.bits in
+    let place : a.position + n ≡ b.position = omega (arith, p.2) in
+    let left : drop n a.bits ≡ b.bits = ap (drop n) p.1 ∙ drop_at p.0 b.bits n (omega (arith, p.2)) in
+    gap_whole n a.position a.position a.bits (omega (arith, whole, p.2)) ∙ rw (place, left) refl
+
+same_answer : (x y : (Unit {0}) × ℕ × List Bool) (r : Result ((Unit {0}) × ℕ × List Bool) grammar.Fault) → r ≡ Ok x → r ≡ Ok y → (x.1 ≡ y.1) × (x.2 ≡ y.2)
+same_answer x y r p q = (let e = sym p ∙ q in (cc, cc))
+
+same_left : (limits : Limits) (m : Machine) (a b : Reader) → b.extent ≡ a.extent → a.position ≡ b.position → a.left ≡ b.left → left_to_tell limits m a ≡ left_to_tell limits m b
+same_left limits m a b extent position left = rw (extent, position, left) refl
+
+-- a reader that caught up
+run_taken : {G : Type 0} (gathered : G → List Event → G → Type 0) (limits : Limits) (m : Machine) (r : Reader) (g : G) (n : Machine) (h : G) (a b : BufferedBits) (c : Reader) → GathersOn gathered limits m a g n b h → Sees r a → Took (any_bits (b.position - a.position)) r tt c → c.position ≡ r.position + (b.position - a.position) → GathersSome gathered limits m r g n c h
+run_taken gathered limits m r g n h a b c on sees t place = record {
+  events = all.events;
+  live = t.live;
+  pays = t.goes_on;
+  forward = t.forward;
+  aligned = λ none. rw place (all.aligned none);
+  told = λ k. all.told k ∙ ap (λ (told : Told). (all.events ++ told.0, told.1)) (same_left limits n there c (t.extent k) (here k).0 (here k).1);
+  gathers = all.gathers;
+}
+  where
+    all : GathersSome gathered limits m r g n (reader_further r (b.position - a.position)) h
+    all = (on.gathers r sees).0
+
+    there : Reader
+    there = reader_further r (b.position - a.position)
+
+    here : TellsBytes r → (there.position ≡ c.position) × (there.left ≡ c.left)
+    here k = same_answer (tt, there.position, there.left) (tt, c.position, c.left) (reading (any_bits (b.position - a.position)) r.position r.left) ((seen_took (any_bits (b.position - a.position)) r a tt b sees (any_seen a b on.passed)).0.reads k) (t.reads k)
+
+-- a reader that took nothing before
+after_nothing : {A : Type 0} (rule : Grammar A) (a b : Reader) (result : Result A Fault) (c : Reader) → TookNothing a b → Takes rule b result c → Takes rule a result c
+after_nothing rule a b result c nothing t = same_reading (gives (tt {0}) >>= λ v. rule) rule a result c (λ p r. refl) (took_then (gives (tt {0})) (λ v. rule) a (tt {0}) b result c nothing t)
+
+-- what was gathered from a block on, by a reader that then catches up
+pub on_gathered : {G : Type 0} (gathered : G → List Event → G → Type 0) (limits : Limits) (m : Machine) (a : Reader) (g : G) (b : Reader) (buffered_parts : BufferedBits) (n : Machine) (after : ℕ) (h : G) (result : Result (Unit {0}) Fault) (c : Reader) → 0 < vec_len m.frames → TookNothing a b → b.position ≡ a.position → Sees a buffered_parts
+    → GathersUpTo gathered limits m buffered_parts g n after h → Takes (any_bits (after - buffered_parts.position)) b result c → OnOk result (c.position ≡ b.position + (after - buffered_parts.position)) → TakesRun gathered limits m a g result n c h
+on_gathered gathered limits m a g b buffered_parts n after h result c some nothing stays sees on t moves =
+    go result (subst (λ (q : ℕ). Takes (any_bits (q - buffered_parts.position)) a result c) (sym on.1) (after_nothing (any_bits (after - buffered_parts.position)) a b result c nothing t)) moves
+  where
+    go : (result : Result (Unit {0}) Fault) → Takes (any_bits (on.0.position - buffered_parts.position)) a result c → OnOk result (c.position ≡ b.position + (after - buffered_parts.position)) → TakesRun gathered limits m a g result n c h
+    go (Ok x) t moves = run_taken gathered limits m a g n h buffered_parts on.0 c on.2 sees t (omega (arith, moves, stays, on.1))
+    go (Err fault) t moves = none_found limits m a fault c (finds_fault limits m a a fault c (in_block m a nothing.was_live some) (not_caught_up (any_bits (on.0.position - buffered_parts.position)) a buffered_parts tt on.0 fault c (step limits (machine_shown m)) sees (any_seen buffered_parts on.0 on.2.passed) t))
