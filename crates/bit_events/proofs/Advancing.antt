@@ -5,7 +5,7 @@ use Rattle.bit_grammar.specs.Grammar as grammar
 use Rattle.bit_grammar.specs.Grammar.{at, reading}
 use Rattle.bit_grammar.specs.Blocks.{Limits}
 use Rattle.bit_grammar.specs.Machine as machine
-use Rattle.bit_grammar.specs.Machine.{Event, at_start, Ending, accepted, broke, Told, step, is_done, unless_done, told_of_step, to_come}
+use Rattle.bit_grammar.specs.Machine.{Event, at_start, Ending, accepted, broke, Told, step, is_done, told_of_step, to_come}
 use Rattle.bit_grammar.specs.Steps.{AreWide}
 use Rattle.bit_grammar.specs.Input.{front_of}
 use Rattle.bit_grammar.specs.Normal.{Capped}

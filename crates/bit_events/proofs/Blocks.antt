@@ -107,8 +107,8 @@ later rule whole deepest m a b (Some found) n c forward so steps = λ list.
     }
 
 -- a block, at the top or in the innermost one, which is no BLOCKINFO block
-pub begin_here : (limits : Limits) (m : Machine) (width first : ℕ) (a b : BufferedBits) (found : Option Step) (n : Machine) (c : BufferedBits) → InBlock m (λ f outer. (f.info ≡ None) × (width ≡ f.head.width)) → (vec_len m.frames ≡ 0 → width ≡ 2) → first ≡ a.position → Reads (fixed width) a 1 b → StepsHere (open_block limits (frames_shown m.frames.items) first (handed_shown m)) limits.depth m b found n c → StepsHere (step limits (machine_shown m)) limits.depth m a found n c
-begin_here limits m width first a b found n c inside top is id steps = go (frames_shown m.frames.items) refl
+pub step_opens : (limits : Limits) (m : Machine) (width first : ℕ) (a b : BufferedBits) (found : Option Step) (n : Machine) (c : BufferedBits) → InBlock m (λ f outer. (f.info ≡ None) × (width ≡ f.head.width)) → (vec_len m.frames ≡ 0 → width ≡ 2) → first ≡ a.position → Reads (fixed width) a 1 b → StepsHere (open_block limits (frames_shown m.frames.items) first (handed_shown m)) limits.depth m b found n c → StepsHere (step limits (machine_shown m)) limits.depth m a found n c
+step_opens limits m width first a b found n c inside top is id steps = go (frames_shown m.frames.items) refl
   where
     forward : a.position ≤ b.position
     forward = reads_forward (fixed width) a 1 b id
@@ -130,8 +130,8 @@ begin_here limits m width first a b found n c inside top is id steps = go (frame
         (rw split at steps))
 
 -- its end
-pub end_here : (limits : Limits) (m : Machine) (width : ℕ) (a b : BufferedBits) (found : Option Step) (n : Machine) (c : BufferedBits) → 0 < vec_len m.frames → InBlock m (λ f outer. (f.info ≡ None) × (width ≡ f.head.width)) → Reads (fixed width) a 0 b → InBlock m (λ f outer. f.info ≡ None → StepsHere (end_rule f outer (handed_shown m)) limits.depth m b found n c) → StepsHere (step limits (machine_shown m)) limits.depth m a found n c
-end_here limits m width a b found n c some inside id steps = go (frames_shown m.frames.items) refl
+pub step_ends : (limits : Limits) (m : Machine) (width : ℕ) (a b : BufferedBits) (found : Option Step) (n : Machine) (c : BufferedBits) → 0 < vec_len m.frames → InBlock m (λ f outer. (f.info ≡ None) × (width ≡ f.head.width)) → Reads (fixed width) a 0 b → InBlock m (λ f outer. f.info ≡ None → StepsHere (end_rule f outer (handed_shown m)) limits.depth m b found n c) → StepsHere (step limits (machine_shown m)) limits.depth m a found n c
+step_ends limits m width a b found n c some inside id steps = go (frames_shown m.frames.items) refl
   where
     forward : a.position ≤ b.position
     forward = reads_forward (fixed width) a 0 b id
@@ -220,7 +220,7 @@ on_step gathered limits m a g event n b h here moves gathers = record {
 pub on_fewer : {G : Type 0} (gathered : G → List Event → G → Type 0) (limits : Limits) (m : Machine) (a : BufferedBits) (g : G) (n : Machine) (b : BufferedBits) (h : G) → GathersOn gathered limits m a g n b h → length b.bits ≤ length a.bits
 on_fewer gathered limits m a g n b h on = omega (arith, ap length on.passed.1, length-append on.passed.0 b.bits)
 
--- fewer are
+-- after a step fewer bits are left
 pub step_fewer : (rule : Grammar (Event × machine.Machine)) (deepest : ℕ) (m : Machine) (a : BufferedBits) (event : Event) (n : Machine) (b : BufferedBits) → FindsHere rule deepest m a event n b → a.position < b.position → length b.bits < length a.bits
 step_fewer rule deepest m a event n b here moves = (let p = reads_passed rule a (event, machine_shown n) b here.reads in omega (arith, moves, p.2, ap length p.1, length-append p.0 b.bits))
 

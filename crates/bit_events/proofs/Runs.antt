@@ -9,7 +9,7 @@ use Rattle.bit_grammar.specs.Blocks as blocks
 use Rattle.bit_grammar.specs.Terms as terms
 use Rattle.bit_grammar.specs.Blocks.{Limits, Handed, Scope, entry}
 use Rattle.bit_grammar.specs.Machine as machine
-use Rattle.bit_grammar.specs.Machine.{Event, Told, scope_of, step, step_of}
+use Rattle.bit_grammar.specs.Machine.{Event, scope_of, step, step_of}
 use Rattle.bit_fields.specs.Buffered.{BufferedBits, Reads, Sees, reader_further, reader_at}
 use Rattle.bit_fields.specs.declared.fault.Fault.{Fault}
 use Rattle.bit_fields.specs.Reader.{Reader, Took, Why}
@@ -28,7 +28,7 @@ use Rattle.bit_events.specs.MachineView.{handed_shown, machine_shown, record_of,
 use Rattle.bit_events.specs.Runs.{AddsBehind, ReadsTo, after_record, Passed, GathersPlain, GathersOne, GathersTo}
 use Rattle.bit_events.proofs.Advancing.{finds_event}
 use Rattle.bit_events.proofs.Folds.{in_block, none_yet, one_event, some_then}
-use Rattle.bit_events.proofs.Framing.{none_described, plain_entry, short_entry}
+use Rattle.bit_events.proofs.Framing.{none_described}
 use Rattle.bit_events.proofs.Framing as framing
 use Rattle.bit_events.proofs.Stepping.{in_then, innermost, after_record as record_follows, record_took, other_than, length-frames}
 

@@ -49,7 +49,7 @@ MissesEvents limits m a Failed b = ⊥
 MissesEvents limits m a Write b = ⊥
 MissesEvents limits m a OutputTooLong b = ⊥
 
--- a run of records that were read and gathered, possibly none
+-- what is buffered was read and gathered, possibly nothing
 abbrev pub TakesRun : {G : Type 0} → (G → List Event → G → Type 0) → Limits → Machine → Reader → G
     → Result (Unit {0}) Fault → Machine → Reader → G → Type 0
 TakesRun gathered limits m a g (Ok _) n b h = GathersSome gathered limits m a g n b h

@@ -116,7 +116,7 @@ fn gather_buffered<G: Gatherer>(
     loop {
         gather_innermost(&mut buffered, machine, limits, gatherer, values)?;
         let first = buffered.position();
-        let Some(step) = machine.step_buffered(alloc, &mut buffered, limits)? else {
+        let Some(step) = machine.buffered_block(alloc, &mut buffered, limits)? else {
             return Ok(first);
         };
         hand_on(gatherer, machine, step, values)?;
@@ -124,8 +124,8 @@ fn gather_buffered<G: Gatherer>(
 }
 
 impl<S: Source, G: Gatherer> Folding<S, G> {
-    /// Gathers what is buffered from the innermost block on, possibly nothing. A BLOCKINFO block and the top are left to
-    /// `gather_next`: each record of the one may set the described block, and at the other the source is asked whether it has ended.
+    /// Gathers what is buffered from the innermost block on, possibly nothing. It does not begin in a BLOCKINFO block or at the top:
+    /// each record of the one may set the described block, and at the other the source is asked whether it has ended.
     fn gather_run(
         &mut self,
         alloc: Global,
@@ -177,7 +177,7 @@ impl<S: Source, G: Gatherer> Folding<S, G> {
         Ok(true)
     }
 
-    /// Gathers all events: runs of records, and the events between them one by one.
+    /// Gathers all events: what is buffered by runs, and the events between them one by one.
     fn gather(
         &mut self,
         alloc: Global,

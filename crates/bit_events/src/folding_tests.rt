@@ -96,7 +96,7 @@ fn check_text<S: Source + Drop>(alloc: Global, source: S) -> Result<String, Allo
 }
 
 /// Inputs, what `check` returns, and what is gathered.
-static FOLDED: [(&str, &str, &str); 14] = [
+static FOLDED: [(&str, &str, &str); 17] = [
     (
         "M B U",
         "accepted",
@@ -168,18 +168,41 @@ static FOLDED: [(&str, &str, &str); 14] = [
         "refused: NestedInBlockInfo at bit 224",
     ),
     (
+        "M E 01 08 00 00 01 00 00 00 05 00 00 00",
+        "refused: NestedInBlockInfo at bit 192",
+        "refused: NestedInBlockInfo at bit 192",
+    ),
+    (
+        "M E 00 00 00 00",
+        "refused: TopLevel at bit 128",
+        "refused: TopLevel at bit 128",
+    ),
+    (
+        "M E B U",
+        "accepted",
+        "Enter { id: 8, width: 2, first: 32, body: 96 } Leave { after: 128 } \
+        Enter { id: 0, width: 2, first: 128, body: 192 } \
+        Record { abbrev: 3, code: 1, values: [8], first: 192, after: 212 } \
+        Define { abbrev: Abbrev { ops: [Literal(1), Fixed(7)], usable: true, tail: Nothing }, first: 212, after: 237 } Leave { after: 256 } \
+        Enter { id: 8, width: 3, first: 256, body: 320 } \
+        Record { abbrev: 4, code: 1, values: [100], first: 320, after: 330 } Leave { after: 352 } \
+        [66, 67, 192, 222] 352",
+    ),
+    (
         "H DE C0 17 0B",
         "refused: WrapperNested at bit 160",
         "refused: WrapperNested at bit 160",
     ),
 ];
 
-/// The events, the magic and the bit after an input, from a source that lends up to `room` bytes.
-fn lent_text(alloc: Global, bytes: &[u8], room: usize) -> Result<String, AllocError> {
-    match BufReader::with_capacity(alloc, room, bytes) {
-        Ok(reader) => fold_text(alloc, BufSource::new(reader)),
-        Err(_) => Err(AllocError),
-    }
+/// A source that lends up to `room` of these bytes.
+fn lent<'a>(
+    rt: &impl Abort,
+    alloc: Global,
+    bytes: &'a [u8],
+    room: usize,
+) -> BufSource<BufReader<&'a [u8]>> {
+    BufSource::new(BufReader::with_capacity(alloc, room, bytes).expect(rt, "memory"))
 }
 
 /// Checks what `check` returns for an input and what is gathered, in pieces of one byte and of 64, and in lent pieces.
@@ -200,7 +223,10 @@ fn are_folded(rt: &impl Abort, alloc: Global, text: &str, judged: &str, gathered
         );
     }
     for room in 1..65 {
-        agrees(rt, lent_text(alloc, &bytes, room), gathered, text);
+        let source = lent(rt, alloc, &bytes, room);
+        agrees(rt, check_text(alloc, source), judged, text);
+        let source = lent(rt, alloc, &bytes, room);
+        agrees(rt, fold_text(alloc, source), gathered, text);
     }
 }
 
@@ -221,4 +247,24 @@ fn a_source_fails_in_a_fold(rt: HostRuntime) {
         let told = check_text(rt.alloc(), in_pieces(&bytes, 1, fails_at));
         agrees(&rt, told, failed, "checked");
     }
+}
+
+/// What `check` returns for a block with two blocks in it, one after the other, with this limit on depth.
+fn depth_told(rt: &impl Abort, alloc: Global, depth: u32) -> Result<String, AllocError> {
+    let text = "M 21 04 00 00 07 00 00 00 13 04 00 00 01 00 00 00 00 00 00 00 \
+        13 04 00 00 01 00 00 00 00 00 00 00 00 00 00 00";
+    let bytes = bytes_of(alloc, text)?;
+    let limits = Limits::new(1000, depth, 64).expect(rt, "limits within their caps");
+    let (answer, _) = check(alloc, lent(rt, alloc, &bytes, 64), limits);
+    match answer {
+        Ok(()) => String::from_str(alloc, "accepted"),
+        Err(fault) => told_of_fault(alloc, fault),
+    }
+}
+
+#[test]
+fn lent_blocks_have_a_depth(rt: HostRuntime) {
+    let told = depth_told(&rt, rt.alloc(), 1);
+    agrees(&rt, told, "refused: TooDeep at bit 96", "depth 1");
+    agrees(&rt, depth_told(&rt, rt.alloc(), 2), "accepted", "depth 2");
 }

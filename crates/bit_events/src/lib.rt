@@ -7,9 +7,9 @@
 //! of a buffer.
 //!
 //! `fold` stays in the buffer while records, beginnings and ends of blocks come that are complete there: `gather_buffered` gathers
-//! them, and the reader then catches up over all of them. `EventFinder` returns one event at a time over any `ValueKeeper`; `Events` is that over a vector,
-//! `PackedEvents` over `PackedValues`. `SliceEvents` reads the records of a slice in place and keeps its lookahead from record to
-//! record.
+//! them, and the reader then catches up over all of them. `EventFinder` returns one event at a time over any `ValueKeeper`; `Events`
+//! is that over a vector, `PackedEvents` over `PackedValues`. `SliceEvents` reads the records of a slice in place and keeps its
+//! lookahead from record to record.
 //!
 //! A setting acts only here: `OpenBlocks` holds the open blocks and returns for each event whether it is kept. The law
 //! `events_left` of `bit_grammar` says that the kept events are those of the tree that the setting leaves.

@@ -161,8 +161,8 @@ impl Machine {
         }
     }
 
-    /// Reads a block's beginning from buffered bits, after its id, which began at `first`. `None`, and nothing is changed, leaves it
-    /// to the exact reader.
+    /// Reads a block's beginning from buffered bits, after its id, which began at `first`. `None` leaves it to the exact reader, and
+    /// the machine as it was.
     #[inline(always)]
     fn open_buffered(
         &mut self,
@@ -213,8 +213,8 @@ impl Machine {
         Ok(Step::Leave { after })
     }
 
-    /// Reads the end of the innermost block, which is no BLOCKINFO block, from buffered bits, after its id. `None`, and nothing is
-    /// changed, leaves it to the exact reader.
+    /// Reads the end of the innermost block, which is no BLOCKINFO block, from buffered bits, after its id. `None` leaves it to the
+    /// exact reader, and the machine as it was.
     #[inline(always)]
     fn end_buffered(&mut self, buffered: &mut Buffered<'_>) -> Option<Step>
         requires { 0 < vec_len self.old.frames }
@@ -251,10 +251,10 @@ impl Machine {
         }
     }
 
-    /// Finds the beginning or the end of a block in buffered bits. `None`, and nothing is changed, leaves what comes to the exact
-    /// reader: another item, one in a BLOCKINFO block, and what is not complete or breaks a rule.
+    /// Finds the beginning or the end of a block in buffered bits. `None` leaves what comes to the exact reader, and the machine as
+    /// it was: another item, one in a BLOCKINFO block, and what is not complete or breaks a rule.
     #[inline(always)]
-    pub(crate) fn step_buffered(
+    pub(crate) fn buffered_block(
         &mut self,
         alloc: Global,
         buffered: &mut Buffered<'_>,
@@ -586,7 +586,7 @@ impl Machine {
         }
     }
 
-    /// Finds the next event, or `None` if the whole input is accepted. All ways over events go on by this call. After a record
+    /// Finds the next event, or `None` if the whole input is accepted. All ways over events go on by this call where the buffered bits do not suffice. After a record
     /// `values` has its values; another event leaves `values` as it is.
     pub(crate) fn next<S: Source, V: ValueTaker>(
         &mut self,

@@ -6,8 +6,8 @@
 //! saturate, and `numbers_fit` proves that no accepted input reaches the greatest number.
 //!
 //! `write_show` keeps the bytes that `check_keeping` accepts, reads them again, and prints items as they are read, without a tree.
-//! `write_events` prints each event of `PackedEvents` as it comes, as text or as a JSON object (`json`), in pieces of about 64 KiB. Numbers of
-//! a list are written to the text by batches (`batch`).
+//! `write_events` prints each event of `PackedEvents` as it comes, as text or as a JSON object (`json`), in pieces of about 64 KiB.
+//! Numbers of a list are written to the text by batches (`batch`).
 #![tactic(auto)]
 
 mod analysing;

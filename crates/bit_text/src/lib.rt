@@ -2,9 +2,9 @@
 //!
 //! A line is read by itself: `line` finds its item, whose numbers `numbers` reads into one vector that all lines share. `telling`
 //! ends the blocks that an item is not in and tells it to a `FormWriter`, which refuses what no tree has there. `Assembler` cuts a
-//! text into lines (`line_end`) in whatever pieces it comes, and `assemble` pulls the pieces from a source. The definition of a listing is in
-//! `FormatListing` of `bit_grammar`, in the words of the format; in `specs/` `Numbers`, `Lines` and `Listings`, with the reason of
-//! each refusal.
+//! text into lines (`line_end`) in whatever pieces it comes, and `assemble` pulls the pieces from a source. The definition of a
+//! listing is in `FormatListing` of `bit_grammar`, in the words of the format; in `specs/` `Numbers`, `Lines` and `Listings`, with
+//! the reason of each refusal.
 #![tactic(auto)]
 
 mod assembler;

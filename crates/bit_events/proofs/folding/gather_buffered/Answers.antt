@@ -21,7 +21,7 @@ returns-in_default-clause-gathers g c =
     let a = c.args in
     let s = c.loop-buffered in
     let t = c.gather_innermost.new in
-    let same = subst (λ (found : Option Step). StepsHere (step a.limits.now (machine_shown t.machine)) a.limits.now.depth t.machine t.buffered found c.step_buffered.new.self c.step_buffered.new.buffered) (none_if c.in_ok-step.field-0 c.in_default.not-Some) c.in_ok-step.ensures.steps in (
+    let same = subst (λ (found : Option Step). StepsHere (step a.limits.now (machine_shown t.machine)) a.limits.now.depth t.machine t.buffered found c.buffered_block.new.self c.buffered_block.new.buffered) (none_if c.in_ok-step.field-0 c.in_default.not-Some) c.in_ok-step.ensures.steps in (
       t.buffered,
       sym c.position-first.ensures,
       rw same (on_both g.G.Gatherer.gathered a.limits.now a.machine.now a.buffered a.gatherer.now s.machine s.buffered s.gatherer t.machine t.buffered t.gatherer s.invariant.on c.in_ok-gather_innermost.ensures.gathers),
@@ -32,7 +32,7 @@ loop-buffered-smaller g c =
     let a = c.args in
     let s = c.loop-buffered in
     let t = c.gather_innermost.new in
-    let u = c.step_buffered.new in
+    let u = c.buffered_block.new in
     let steps = subst (λ (found : Option Step). StepsHere (step a.limits.now (machine_shown t.machine)) a.limits.now.depth t.machine t.buffered found u.self u.buffered) c.in-Some.is c.in_ok-step.ensures.steps in
     let moves = subst (λ (found : Option Step). OnSome found (t.buffered.position < u.buffered.position)) c.in-Some.is c.in_ok-step.ensures.moves in
     omega (arith, on_fewer g.G.Gatherer.gathered a.limits.now s.machine s.buffered s.gatherer t.machine t.buffered t.gatherer c.in_ok-gather_innermost.ensures.gathers, step_fewer (step a.limits.now (machine_shown t.machine)) a.limits.now.depth t.machine t.buffered (step_shown u.self [] c.in-Some.step) u.self u.buffered (steps []) moves)
@@ -42,7 +42,7 @@ loop-buffered-preserved g c =
     let a = c.args in
     let s = c.loop-buffered in
     let t = c.gather_innermost.new in
-    let u = c.step_buffered.new in
+    let u = c.buffered_block.new in
     let h = c.hand_on.new.gatherer in
     let found = c.in-Some.step in
     let was = c.in_ok-gather_innermost.ensures.took in

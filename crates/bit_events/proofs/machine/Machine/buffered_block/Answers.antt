@@ -7,8 +7,8 @@ use Rattle.bit_events.specs.declared.machine.Step.{Step}
 use Rattle.bit_events.specs.FrameView.{frames_shown}
 use Rattle.bit_events.specs.MachineView.{handed_shown, machine_shown}
 use Rattle.bit_events.specs.Runs.{StepsHere}
-use Rattle.bit_events.proofs.Blocks.{begin_here, end_here, moved_here, if_ok, some_block}
-use Rattle.bit_events.proofs.machine.Machine.step_buffered.Goals as goal
+use Rattle.bit_events.proofs.Blocks.{step_opens, step_ends, moved_here, if_ok, some_block}
+use Rattle.bit_events.proofs.machine.Machine.buffered_block.Goals as goal
 
 pub returns-then-id-eq1-clause-steps : goal.returns-then-id-eq1-clause-steps
 returns-then-id-eq1-clause-steps c =
@@ -22,7 +22,7 @@ returns-then-id-eq1-clause-steps c =
     let first = c.position-first.result in
     let id : Reads (fixed width) a 1 b = subst (λ (n : ℕ). Reads (fixed width) a n b) c.if-id-eq1.true c.in-Some-fixed.ensures.reads in
     if_ok (λ (found : Option Step). StepsHere (open_block limits (frames_shown m.frames.items) first (handed_shown m)) limits.depth m b found n end) (λ (found : Option Step). StepsHere (step limits (machine_shown m)) limits.depth m a found n end) c.open_buffered.result
-    (λ found steps. begin_here limits m width first a b found n end c.in-Some.ensures.inside c.in-Some.ensures.top c.position-first.ensures id steps)
+    (λ found steps. step_opens limits m width first a b found n end c.in-Some.ensures.inside c.in-Some.ensures.top c.position-first.ensures id steps)
     c.open_buffered.ensures
 
 pub returns-then-id-eq1-clause-moves : goal.returns-then-id-eq1-clause-moves
@@ -44,4 +44,4 @@ returns-clause-steps c =
     let b = c.fixed.new.self in
     let width = c.in-Some.width.bits in
     let id : Reads (fixed width) a 0 b = subst (λ (n : ℕ). Reads (fixed width) a n b) (omega (arith, c.if-id-gt0.false)) c.in-Some-fixed.ensures.reads in
-    end_here c.args.limits.now m width a b c.end_buffered.result c.end_buffered.new.self c.end_buffered.new.buffered (some_block (vec_len m.frames) c.is_outside.result c.is_outside.ensures.1 c.if-is_outside.false) c.in-Some.ensures.inside id (c.end_buffered.ensures.steps c.args.limits.now.depth)
+    step_ends c.args.limits.now m width a b c.end_buffered.result c.end_buffered.new.self c.end_buffered.new.buffered (some_block (vec_len m.frames) c.is_outside.result c.is_outside.ensures.1 c.if-is_outside.false) c.in-Some.ensures.inside id (c.end_buffered.ensures.steps c.args.limits.now.depth)
