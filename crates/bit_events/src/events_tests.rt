@@ -35,14 +35,19 @@ impl<'a> Read for Pieces<'a> {
     }
 }
 
-/// A source over such a reader. It fails at no read if `fails_at` is 0.
-pub(crate) fn in_pieces(bytes: &[u8], most: usize, fails_at: u64) -> ReadSource<Pieces<'_>> {
-    ReadSource::new(Pieces {
+/// Such a reader. It fails at no read if `fails_at` is 0.
+pub(crate) fn pieces_of(bytes: &[u8], most: usize, fails_at: u64) -> Pieces<'_> {
+    Pieces {
         rest: bytes,
         most,
         reads: 0,
         fails_at,
-    })
+    }
+}
+
+/// A source over such a reader.
+pub(crate) fn in_pieces(bytes: &[u8], most: usize, fails_at: u64) -> ReadSource<Pieces<'_>> {
+    ReadSource::new(pieces_of(bytes, most, fails_at))
 }
 
 /// The value of a hexadecimal digit.
@@ -297,13 +302,7 @@ fn told_from_buffer(
     room: usize,
     limits: Limits,
 ) -> Result<String, AllocError> {
-    let pieces = Pieces {
-        rest: bytes,
-        most: room,
-        reads: 0,
-        fails_at: 0,
-    };
-    match BufReader::with_capacity(alloc, room, pieces) {
+    match BufReader::with_capacity(alloc, room, pieces_of(bytes, room, 0)) {
         Ok(reader) => events_text(rt, alloc, BufSource::new(reader), limits),
         Err(_) => Err(AllocError),
     }

@@ -1,6 +1,6 @@
 //! Inputs that are folded, and inputs that are checked.
 
-use crate::events_tests::{agrees, bytes_of, in_pieces, told_of_fault};
+use crate::events_tests::{agrees, bytes_of, in_pieces, pieces_of, told_of_fault};
 use crate::{Event, Gatherer, check, fold};
 use bit_abbrev::Abbrev;
 use bit_fields::{BufSource, Limits, Source};
@@ -246,6 +246,17 @@ fn a_source_fails_in_a_fold(rt: HostRuntime) {
         agrees(&rt, told, failed, "folded");
         let told = check_text(rt.alloc(), in_pieces(&bytes, 1, fails_at));
         agrees(&rt, told, failed, "checked");
+    }
+}
+
+#[test]
+fn a_lending_source_fails_in_a_fold(rt: HostRuntime) {
+    let bytes = bytes_of(rt.alloc(), "M E E E").expect(&rt, "memory");
+    for fails_at in 1..7 {
+        let pieces = pieces_of(&bytes, 8, fails_at);
+        let reader = BufReader::with_capacity(rt.alloc(), 8, pieces).expect(&rt, "memory");
+        let told = fold_text(rt.alloc(), BufSource::new(reader));
+        agrees(&rt, told, "the source failed", "folded");
     }
 }
 
