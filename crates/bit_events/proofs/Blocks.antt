@@ -13,7 +13,8 @@ use Rattle.bit_grammar.specs.Machine as machine
 use Rattle.bit_grammar.specs.Machine.{Event, Told, enters, leaves, inside, open_block, scope_of, step}
 use Rattle.bit_fields.specs.Buffered.{BufferedBits, Reads, Sees, beyond, reader_at, reader_further}
 use Rattle.bit_fields.specs.declared.fault.Fault.{Fault}
-use Rattle.bit_fields.specs.Reader.{Reader, TellsBytes, Took, Takes}
+use Rattle.bit_fields.specs.declared.fault.Fault.TheVariants.{Refused, Read, Write, Memory, OutputTooLong, Failed}
+use Rattle.bit_fields.specs.Reader.{Reader, TellsBytes, Took, Takes, Why}
 use Rattle.bit_fields.specs.Short.{TookNothing}
 use Rattle.bit_fields.proofs.Gap.{gap_whole}
 use Rattle.bit_fields.proofs.Composing.{same_reading, took_nothing, took_then}
@@ -25,7 +26,7 @@ use Rattle.bit_events.specs.declared.machine.Step.{Step}
 use Rattle.bit_events.specs.FrameView.{info_shown, frame_shown, frames_shown}
 use Rattle.bit_events.specs.HeadView.{head_shown}
 use Rattle.bit_events.specs.MachineView.{handed_shown, machine_shown, step_shown, end_rule, InBlock, LeavesMachine}
-use Rattle.bit_events.specs.Folding.{GathersSome, TakesRun}
+use Rattle.bit_events.specs.Folding.{GathersSome, MissesEvents, TakesRun}
 use Rattle.bit_events.specs.Gathering.{Gathers}
 use Rattle.bit_events.specs.Next.{left_to_tell}
 use Rattle.bit_events.specs.Runs.{FindsHere, GathersOn, GathersRun, GathersUpTo, Passed, StepsHere}
@@ -198,10 +199,14 @@ on_run gathered limits f m outer a g used after h b split run is =
     let same : run.0 ≡ b = sym (is ∙ rw (place, left) refl) in
     subst (λ (x : BufferedBits). GathersOn gathered limits m a g (record m { used = used }) x h) same (record { passed = p; gathers = λ r sees. run.2.gathers m outer r split refl sees })
 
+-- a step passes bits
+pub step_passed : (rule : Grammar (Event × machine.Machine)) (deepest : ℕ) (m : Machine) (a : BufferedBits) (event : Event) (n : Machine) (b : BufferedBits) → FindsHere rule deepest m a event n b → Passed a b
+step_passed rule deepest m a event n b here = (let q = reads_passed rule a (event, machine_shown n) b here.reads in (q.0, q.1, q.2))
+
 -- the beginning or the end of a block
 pub on_step : {G : Type 0} (gathered : G → List Event → G → Type 0) (limits : Limits) (m : Machine) (a : BufferedBits) (g : G) (event : Event) (n : Machine) (b : BufferedBits) (h : G) → FindsHere (step limits (machine_shown m)) limits.depth m a event n b → a.position < b.position → Gathers gathered g event h → GathersOn gathered limits m a g n b h
 on_step gathered limits m a g event n b h here moves gathers = record {
-  passed = (let q = reads_passed (step limits (machine_shown m)) a (event, machine_shown n) b here.reads in (q.0, q.1, q.2));
+  passed = step_passed (step limits (machine_shown m)) limits.depth m a event n b here;
   gathers = λ r sees.
       let there : Reader = reader_further r (b.position - a.position) in
       let took = seen_took (step limits (machine_shown m)) r a (event, machine_shown n) b sees here.reads in
@@ -276,3 +281,25 @@ on_gathered gathered limits m a g b buffered_parts n after h result c some nothi
     go : (result : Result (Unit {0}) Fault) → Takes (any_bits (on.0.position - buffered_parts.position)) a result c → OnOk result (c.position ≡ b.position + (after - buffered_parts.position)) → TakesRun gathered limits m a g result n c h
     go (Ok x) t moves = run_taken gathered limits m a g n h buffered_parts on.0 c on.2 sees t (omega (arith, moves, stays, on.1))
     go (Err fault) t moves = none_found limits m a fault c (finds_fault limits m a a fault c (in_block m a nothing.was_live some) (not_caught_up (any_bits (on.0.position - buffered_parts.position)) a buffered_parts tt on.0 fault c (step limits (machine_shown m)) sees (any_seen buffered_parts on.0 on.2.passed) t))
+
+-- a reader that took nothing before, and ran out of memory or lost its source
+pub lost_then : (limits : Limits) (m : Machine) (a b : Reader) (fault : Fault) (c : Reader) → TookNothing a b → Why (gives (tt {0})) b fault c → MissesEvents limits m a fault c
+lost_then limits m a b fault c nothing why = go fault (after_nothing (gives (tt {0})) a b (Err fault) c nothing why)
+  where
+    go : (fault : Fault) → Why (gives (tt {0})) a fault c → MissesEvents limits m a fault c
+    go (Refused reason bit) w = (w.0.goes_on, λ k. absurd (w.1 k))
+    go Read w = w.fails
+    go Memory w = w.goes_on
+    go Failed w = absurd (dead a.live nothing.was_live w.0)
+    go Write w = absurd w
+    go OutputTooLong w = absurd w
+
+-- the bits after those that were passed
+pub passed_beyond : (a b : BufferedBits) (n : ℕ) → Passed a b → n ≡ b.position - a.position → beyond a n ≡ b
+passed_beyond a b n p is =
+    let place : a.position + n ≡ b.position = omega (arith, is, p.2) in
+    let left : drop n a.bits ≡ b.bits = ap (drop n) p.1 ∙ drop_at p.0 b.bits n (omega (arith, is, p.2)) in
+    rw (place, left) refl
+
+pub passed_few : (a b : BufferedBits) → Passed a b → b.position - a.position ≤ length a.bits
+passed_few a b p = omega (arith, p.2, ap length p.1, length-append p.0 b.bits)

@@ -19,8 +19,13 @@ pub(crate) struct Pieces<'a> {
 
 impl<'a> Pieces<'a> {
     /// How many bytes it still has.
-    fn left(&self) -> usize {
+    pub(crate) fn left(&self) -> usize {
         self.rest.len()
+    }
+
+    /// How often it was read.
+    pub(crate) fn reads(&self) -> u64 {
+        self.reads
     }
 }
 

@@ -1,19 +1,25 @@
 //! Reading a whole input into a `Gatherer`.
 
-ghost use Rattle.std.specs.Prelude.{◌≡◌, ◌<◌, ◌%◌, true, ℕ, List, [], OnOk, IfOk, vec_len};
+ghost use Rattle.std.specs.Prelude.{◌≡◌, ◌<◌, ◌≤◌, ◌%◌, true, ℕ, List, [], OnOk, IfOk, vec_len};
+ghost use Rattle.bit_grammar.specs.Grammar.{gives};
+ghost use Rattle.bit_fields.specs.BufferedParts.{bits_of_parts, AreParts};
 ghost use Rattle.bit_fields.specs.Opening.{head_told};
+ghost use Rattle.bit_fields.specs.Reader.{Why};
 ghost use Rattle.bit_events.specs.Folding.{TakesRun, TakesNext, TakesAll, Gathered, GatheredSome};
 ghost use Rattle.bit_events.specs.Gathering.{Gathers};
 ghost use Rattle.bit_events.specs.MachineView.{step_shown, HoldsDefinition, TookSome};
 ghost use Rattle.bit_events.specs.Reading.{ReadsWhole};
 ghost use Rattle.bit_events.specs.Runs.{GathersOn, GathersUpTo};
 
+#[cfg(test)]
+mod asking_tests;
+
 use crate::gatherer::Gatherer;
 use crate::heads::or_memory_fault;
 use crate::machine::{Machine, Step};
 use crate::running::gather_records;
 use crate::with_first::WithFirst;
-use bit_fields::{BitReader, Buffered, Fault, Head, Limits, Source};
+use bit_fields::{BitReader, Buffered, BufferedParts, Fault, Head, Limits, Source};
 use std::alloc::{AllocError, Global};
 
 /// The result of reading a whole input: its head, the gatherer of its events, and the bit after its stream.
@@ -95,31 +101,87 @@ fn gather_innermost<G: Gatherer>(
     Ok(())
 }
 
+/// How many bits must be buffered for the beginning or the end of a block to be read from the buffer: more than 64 after the longest
+/// beginning, which has fields of 32, 8, 4, 31 and 32 bits.
+const MARGIN: u64 = 192;
+
+/// The bit up to which a reader has loaded bytes once it has caught up to `first`, if these were those up to `loaded` before. It
+/// passes whole bytes over, and asks for eight from the byte on in which `first` lies; there may be fewer.
+#[inline(always)]
+fn loaded_at(first: u64, loaded: u64) -> u64 {
+    if first <= loaded {
+        return loaded;
+    }
+    if first % 8 == 0 {
+        return first;
+    }
+    (first & !7).wrapping_add(64)
+}
+
 /// Gathers buffered records, and beginnings and ends of blocks, as long as they are complete, and returns the bit after the last
 /// one. Readers of all sources share it.
+///
+/// The exact reader then loads the same bytes as if it had read the blocks itself, so it asks its source at the same places: a source
+/// may fail, or wait. That holds for sources that lend the same bytes until they are taken, and take as many as they are asked. For this the bits are divided before each block as that reader has them, up to `loaded` in its window. If no
+/// memory is left, `loaded` is as at the event that needed it.
 #[inline(never)]
 fn gather_buffered<G: Gatherer>(
     alloc: Global,
-    buffered: Buffered<'_>,
+    parts: BufferedParts<'_>,
     machine: &mut Machine,
     limits: &Limits,
     gatherer: &mut G,
     values: &mut G::Values,
+    loaded: &mut u64,
 ) -> Result<u64, AllocError>
+    requires lawful { AreParts parts }
     requires some { 0 < vec_len machine.old.frames }
     requires took { TookSome G.Values.took values.old }
     ensures took { TookSome G.Values.took values.new }
     ensures gathers { IfOk result (λ after. GathersUpTo G.gathered limits.now machine.old
-        buffered.entry gatherer.old machine.new after gatherer.new) }
+        (bits_of_parts parts.entry) gatherer.old machine.new after gatherer.new) }
 {
-    let mut buffered = buffered;
+    let mut buffered = Buffered::new(parts);
+    *loaded = buffered.loaded();
     loop {
         gather_innermost(&mut buffered, machine, limits, gatherer, values)?;
         let first = buffered.position();
-        let Some(step) = machine.buffered_block(alloc, &mut buffered, limits)? else {
+        *loaded = loaded_at(first, *loaded);
+        if buffered.len() < MARGIN {
             return Ok(first);
-        };
-        hand_on(gatherer, machine, step, values)?;
+        }
+        buffered.divide(parts, *loaded);
+        match machine.buffered_block(alloc, &mut buffered, limits) {
+            Ok(None) => return Ok(first),
+            Ok(Some(step)) => {
+                *loaded = buffered.loaded();
+                hand_on(gatherer, machine, step, values)?;
+            }
+            Err(error) => {
+                *loaded = buffered.loaded();
+                return Err(error);
+            }
+        }
+    }
+}
+
+/// How many bits are loaded from a bit on, at most 64.
+#[inline(always)]
+fn held_from(position: u64, loaded: u64) -> u32
+    ensures { result ≤ 64 }
+{
+    loaded.saturating_sub(position).min(64) as u32
+}
+
+/// Fails because no memory was left, after the reader took some bits: those that an exact reader would have loaded. Only the state of
+/// the source depends on them.
+fn out_of_memory<S: Source>(reader: &mut BitReader<S>, bits: u64) -> Fault
+    requires live { reader.old.live ≡ true }
+    ensures fails { Why (gives (tt {0})) reader.old result reader.new }
+{
+    match reader.catch_up(bits) {
+        Err(Fault::Read) => Fault::Read,
+        _ => reader.fail(Fault::Memory),
     }
 }
 
@@ -145,12 +207,23 @@ impl<S: Source, G: Gatherer> Folding<S, G> {
         if frame.info.is_some() {
             return Ok(());
         }
-        let buffered = Buffered::new(self.reader.buffered_parts()?);
-        let start = buffered.position();
+        let parts = self.reader.buffered_parts()?;
+        let start = parts.position();
+        let mut loaded = start;
         let machine = &mut self.machine;
-        match gather_buffered(alloc, buffered, machine, limits, &mut self.gatherer, values) {
-            Ok(after) => self.reader.catch_up(after - start),
-            Err(_) => Err(self.reader.fail(Fault::Memory)),
+        match gather_buffered(
+            alloc,
+            parts,
+            machine,
+            limits,
+            &mut self.gatherer,
+            values,
+            &mut loaded,
+        ) {
+            Ok(after) => self
+                .reader
+                .catch_up_holding(after - start, held_from(after, loaded)),
+            Err(_) => Err(out_of_memory(&mut self.reader, loaded.saturating_sub(start))),
         }
     }
 

@@ -9,15 +9,17 @@ use std::fmt::Write;
 use std::io::BufReader;
 use std::process::Abort;
 
-/// The events so far, as text.
+/// The events so far, as text, and how many more it takes before it fails for want of memory.
 #[derive(Drop)]
-struct Text {
-    alloc: Global,
-    text: String,
+pub(crate) struct Text {
+    pub(crate) alloc: Global,
+    pub(crate) text: String,
+    pub(crate) room: u32,
 }
 
 impl Text {
     fn add(&mut self, event: Event<'_>) -> Result<(), AllocError> {
+        self.room = self.room.checked_sub(1).ok_or(AllocError)?;
         write!(self.text, "{event:?} ").map_err(|_| AllocError)
     }
 }
@@ -75,6 +77,7 @@ fn fold_text<S: Source + Drop>(alloc: Global, source: S) -> Result<String, Alloc
     let gatherer = Text {
         alloc,
         text: String::new(alloc),
+        room: u32::MAX,
     };
     let (answer, _) = fold(alloc, source, Limits::usual(), gatherer);
     match answer {

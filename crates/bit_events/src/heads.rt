@@ -72,21 +72,22 @@ pub(crate) fn block_head<S: Source>(reader: &mut BitReader<S>) -> Result<BlockHe
     })
 }
 
-/// Reads what comes between a block's abbreviation id and its items from buffered bits. `None` leaves it to the exact reader.
+/// Reads what comes between a block's abbreviation id and its items from buffered bits. `None` leaves it to the exact reader: also an
+/// id or a width of more than one chunk, which is rare.
 #[tactic(auto, unfolding(bit_grammar::specs::Blocks::block_head, bit_grammar::specs::Blocks::block_id, bit_grammar::specs::Blocks::new_width))]
 #[inline(always)]
 pub(crate) fn buffered_head(buffered: &mut Buffered<'_>) -> Option<BlockHead>
     ensures reads { IfSome result (λ head. Reads block_head buffered.old (head_shown head)
         buffered.new) }
 {
-    let id = buffered.vbr(ChunkWidth::of(8))?;
-    let width = buffered.vbr(ChunkWidth::of(4))?;
+    let id = buffered.chunk_as_reader(ChunkWidth::of(8))?;
+    let width = buffered.chunk_as_reader(ChunkWidth::of(4))?;
     if id >= 1 << 32 || !is_width(width) {
         return None;
     }
-    buffered.pad()?;
+    buffered.pad_as_reader()?;
     let length_at = buffered.position();
-    let words = buffered.fixed(FieldWidth::of(32))?;
+    let words = buffered.fixed_as_reader(FieldWidth::of(32))?;
     Some(BlockHead {
         id: id as u32,
         width: width as u8,
@@ -130,7 +131,7 @@ pub(crate) fn buffered_end(buffered: &mut Buffered<'_>, head: BlockHead) -> Opti
     ensures aligned { OnSome result (buffered.new.position % 32 ≡ 0) }
     ensures moves { OnSome result (buffered.old.position ≤ buffered.new.position) }
 {
-    buffered.pad()?;
+    buffered.pad_as_reader()?;
     let after = buffered.position();
     if !ends_at(head, after) {
         return None;

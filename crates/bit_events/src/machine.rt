@@ -252,7 +252,11 @@ impl Machine {
     }
 
     /// Finds the beginning or the end of a block in buffered bits. `None` leaves what comes to the exact reader, and the machine as
-    /// it was: another item, one in a BLOCKINFO block, and what is not complete or breaks a rule.
+    /// it was: another item, one in a BLOCKINFO block, a block whose id or width takes more than one chunk, and what is not complete or breaks
+    /// a rule.
+    ///
+    /// If its window has the bits that an exact reader has in its own, it has them after the step too, as long as 64 bits more are
+    /// buffered.
     #[inline(always)]
     pub(crate) fn buffered_block(
         &mut self,
@@ -269,7 +273,7 @@ impl Machine {
             return Ok(None);
         };
         let first = buffered.position();
-        let Some(id) = buffered.fixed(width) else {
+        let Some(id) = buffered.fixed_as_reader(width) else {
             return Ok(None);
         };
         if id == 1 {

@@ -25,14 +25,14 @@ four_first (a ∷ b ∷ c ∷ d ∷ s) long = refl
 pub four_bits : (n : ℕ) (four bytes : List ℕ) → to_le_bytes w32 n ≡ four → four ≡ take 4 bytes → bits_of 32 n ≡ bits_of_bytes (take 4 bytes)
 four_bits n four bytes is front = sym (le_bytes_bits_32 n) ∙ ap bits_of_bytes (is ∙ front)
 
--- the first four bytes are appended to a window, and the bits stay the same
-pub four_moved : (window new : List Bool) (word : ℕ) (bytes : List ℕ) → new ≡ window ++ bits_of 32 word → bits_of 32 word ≡ bits_of_bytes (take 4 bytes) → new ++ bits_of_bytes (take (length bytes - 4) (drop 4 bytes)) ≡ window ++ bits_of_bytes bytes
-four_moved window new word bytes is bits =
-    let whole : take (length bytes - 4) (drop 4 bytes) ≡ drop 4 bytes = take_all (length bytes - 4) (drop 4 bytes) (omega (arith, length-drop 4 bytes)) in
-    let parts : bits_of_bytes (take 4 bytes) ++ bits_of_bytes (drop 4 bytes) ≡ bits_of_bytes bytes = sym (bits_of_bytes-append (take 4 bytes) (drop 4 bytes)) ∙ ap bits_of_bytes (take-append-drop 4 bytes) in
-    ap (λ (s : List Bool). s ++ bits_of_bytes (take (length bytes - 4) (drop 4 bytes))) (is ∙ ap (λ (s : List Bool). window ++ s) bits)
-    ∙ ap (λ (s : List ℕ). (window ++ bits_of_bytes (take 4 bytes)) ++ bits_of_bytes s) whole
-    ∙ append_assoc window (bits_of_bytes (take 4 bytes)) (bits_of_bytes (drop 4 bytes))
+-- the first bytes are appended to a window, and the bits stay the same
+pub some_moved : (count : ℕ) (window new : List Bool) (word : ℕ) (bytes : List ℕ) → new ≡ window ++ bits_of (8 * count) word → bits_of (8 * count) word ≡ bits_of_bytes (take count bytes) → new ++ bits_of_bytes (take (length bytes - count) (drop count bytes)) ≡ window ++ bits_of_bytes bytes
+some_moved count window new word bytes is bits =
+    let whole : take (length bytes - count) (drop count bytes) ≡ drop count bytes = take_all (length bytes - count) (drop count bytes) (omega (arith, length-drop count bytes)) in
+    let parts : bits_of_bytes (take count bytes) ++ bits_of_bytes (drop count bytes) ≡ bits_of_bytes bytes = sym (bits_of_bytes-append (take count bytes) (drop count bytes)) ∙ ap bits_of_bytes (take-append-drop count bytes) in
+    ap (λ (s : List Bool). s ++ bits_of_bytes (take (length bytes - count) (drop count bytes))) (is ∙ ap (λ (s : List Bool). window ++ s) bits)
+    ∙ ap (λ (s : List ℕ). (window ++ bits_of_bytes (take count bytes)) ++ bits_of_bytes s) whole
+    ∙ append_assoc window (bits_of_bytes (take count bytes)) (bits_of_bytes (drop count bytes))
     ∙ ap (λ (s : List Bool). window ++ s) parts
 
 -- ---- bytes that are skipped

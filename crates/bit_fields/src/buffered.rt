@@ -9,7 +9,7 @@ ghost use Rattle.bit_fields.specs.BufferedParts.{bits_of_parts, AreParts};
 use crate::numbers::{MOST_SHORT, character, payload_of, worth_at};
 use crate::width::{ChunkWidth, FieldWidth};
 use crate::window::Window;
-use crate::word::{eight_of, four_of};
+use crate::word::{eight_of, four_of, word_of};
 use std::marker::Model;
 
 /// Buffered bits of a stream, as a reader lends them: the low bits of a word, how many they are, the bytes after them, and the
@@ -20,6 +20,16 @@ pub struct BufferedParts<'a> {
     pub(crate) held: u32,
     pub(crate) bytes: &'a [u8],
     pub(crate) position: u64,
+}
+
+impl<'a> BufferedParts<'a> {
+    /// The position of the first bit.
+    #[inline(always)]
+    pub fn position(&self) -> u64
+        ensures { result ≡ (bits_of_parts self.now).position }
+    {
+        self.position
+    }
 }
 
 /// Buffered bits of a stream, from the reader's position on. The reader has not taken them yet. A field is read from here in a few
@@ -67,12 +77,93 @@ impl<'a> Buffered<'a> {
         }
     }
 
+    /// Moves the border between the window and the bytes after it to `loaded`, where a reader has it that has loaded the bytes before.
+    /// It is at most 64 bits away, and 64 more bits are there; else the border may lie elsewhere.
+    #[inline(always)]
+    pub fn divide(&mut self, buffered_parts: BufferedParts<'a>, loaded: u64)
+        requires lawful { AreParts buffered_parts }
+        requires few { self.old.position - buffered_parts.position
+            ≤ length (bits_of_parts buffered_parts).bits }
+        requires here { self.old ≡ beyond (bits_of_parts buffered_parts)
+            (self.old.position - buffered_parts.position) }
+        ensures { self.new ≡ self.old }
+    {
+        if self.loaded() == loaded {
+            return;
+        }
+        let first = self.position();
+        let bits = first.saturating_sub(buffered_parts.position);
+        *self = Buffered::after(buffered_parts, bits, loaded.wrapping_sub(first));
+    }
+
+    /// The bits after the first `bits`, with `held` of them in the window.
+    #[inline(always)]
+    fn after(buffered_parts: BufferedParts<'a>, bits: u64, held: u64) -> Buffered<'a>
+        requires lawful { AreParts buffered_parts }
+        requires there { bits ≤ length (bits_of_parts buffered_parts).bits }
+        ensures { result ≡ beyond (bits_of_parts buffered_parts.entry) bits }
+    {
+        let mut buffered = Buffered::new(buffered_parts);
+        buffered.skip(bits);
+        buffered.hold(held);
+        buffered
+    }
+
+    /// The position after the bits in the window. What is read does not depend on it, so no clause says more.
+    #[inline(always)]
+    pub fn loaded(&self) -> u64
+        ensures least { self.now.position ≤ result }
+        ensures most { result ≤ self.now.position + 64 }
+    {
+        // The window has at most 64 bits.
+        let _held = self.window.len();
+        self.end - 8 * self.bytes.len() as u64
+    }
+
+    /// Moves whole bytes into the window until it has `held` bits, at most 64, if eight bytes are there.
+    #[inline(always)]
+    fn hold(&mut self, held: u64)
+        ensures { self.new ≡ self.old }
+    {
+        let len = u64::from(self.window.len());
+        if len < held && held <= 64 && self.bytes.len() >= 8 {
+            let count = ((held - len) / 8) as usize;
+            self.bytes = load_some(&mut self.window, self.bytes, count);
+        }
+    }
+
     /// The bit at which the unread buffered bits begin, counted from the first bit of the input.
     #[inline(always)]
     pub fn position(&self) -> u64
         ensures { result ≡ self.now.position }
     {
         self.end - (u64::from(self.window.len()) + 8 * self.bytes.len() as u64)
+    }
+
+    /// Skips up to 32 bits, if they are there, as reading them at once does.
+    #[inline(always)]
+    fn skip_part(&mut self, n: u32) -> Option<()>
+        requires { n ≤ 32 }
+        ensures { OnSome result (self.new ≡ beyond self.old n) }
+    {
+        self.fill();
+        if self.window.len() < n {
+            return None;
+        }
+        self.window.take(n);
+        Some(())
+    }
+
+    /// Skips up to 64 bits, if they are there. Bytes move into the window four at a time, as where fields are read: so it has the same
+    /// bits before the next field as if these bits had been read.
+    #[inline(always)]
+    pub(crate) fn skip_parts(&mut self, bits: u32) -> Option<()>
+        requires { bits ≤ 64 }
+        ensures { OnSome result (self.new ≡ beyond self.old bits) }
+    {
+        let first = bits.min(32);
+        self.skip_part(first)?;
+        self.skip_part(bits - first)
     }
 
     /// Moves four bytes into the window, if it has fewer than 32 bits and the bytes are there.
@@ -273,6 +364,59 @@ impl<'a> Buffered<'a> {
         Some(())
     }
 
+    /// Moves bytes into the window if it has fewer than n bits: as many as it has room for, as an exact reader loads them.
+    #[inline(always)]
+    fn load_for(&mut self, n: u32)
+        ensures { self.new ≡ self.old }
+    {
+        let len = self.window.len();
+        if len < n {
+            self.hold(64 - u64::from(64 - len) % 8);
+        }
+    }
+
+    /// Reads a number of n bits, as `fixed` does. The window then has the bits that an exact reader has in its own.
+    #[inline(always)]
+    pub fn fixed_as_reader(&mut self, n: FieldWidth) -> Option<u64>
+        ensures reads { IfSome result (λ value. Reads (fixed n.bits) self.old value self.new) }
+        ensures below { IfSome result (λ value. value < 2 ^ n.bits) }
+        ensures moves { OnSome result (self.new.position ≡ self.old.position + n.bits) }
+        ensures stays { IfNone result (self.new ≡ self.old) }
+    {
+        self.load_for(n.bits);
+        let value = self.held_part(n.bits)?;
+        Some(value)
+    }
+
+    /// Reads a number of one chunk of n bits, in the same way.
+    #[inline(always)]
+    pub fn chunk_as_reader(&mut self, n: ChunkWidth) -> Option<u64>
+        ensures reads { IfSome result (λ value. Reads (vbr n.bits) self.old value self.new) }
+        ensures moves { OnSome result (self.new.position ≡ self.old.position + n.bits) }
+        ensures stays { IfNone result (self.new ≡ self.old) }
+    {
+        self.load_for(n.bits);
+        let value = self.one_chunk(n)?;
+        Some(value)
+    }
+
+    /// Reads zeros up to the next position that is a multiple of 32, in the same way: an exact reader takes those that it has, and
+    /// then loads eight bytes.
+    #[inline(always)]
+    pub fn pad_as_reader(&mut self) -> Option<()>
+        ensures reads { OnSome result (Reads align32 self.old tt self.new) }
+        ensures aligned { OnSome result (self.new.position % 32 ≡ 0) }
+        ensures moves { OnSome result (self.old.position ≤ self.new.position) }
+    {
+        let loaded = self.loaded();
+        self.pad()?;
+        let after = self.position();
+        if after > loaded {
+            self.hold(loaded.wrapping_sub(after).wrapping_add(64));
+        }
+        Some(())
+    }
+
     /// Reads a number of 8 bits, if they are in the window. The window is not refilled.
     #[inline(always)]
     pub fn held_byte(&mut self) -> Option<u64>
@@ -436,4 +580,22 @@ fn load<'a>(window: &mut Window, bytes: &'a [u8]) -> Option<&'a [u8]>
     }
     window.push(four_of(bytes), 32);
     Some(&bytes[4..])
+}
+
+/// Moves up to eight bytes of a slice, which has eight, into a window, and returns the bytes after them.
+#[inline(always)]
+fn load_some<'a>(window: &mut Window, bytes: &'a [u8], count: usize) -> &'a [u8]
+    requires few { count ≤ 8 }
+    requires there { 8 ≤ length bytes.now }
+    requires room { length window.old + 8 * count ≤ 64 }
+    requires shift { length window.old < 64 }
+    ensures same { window.new ++ bits_of_bytes result.now ≡ window.old ++ bits_of_bytes bytes.now }
+    ensures longer { length window.new ≡ length window.old + 8 * count }
+    ensures fewer { length bytes.now ≡ count + length result.now }
+{
+    let eight = [
+        bytes[0], bytes[1], bytes[2], bytes[3], bytes[4], bytes[5], bytes[6], bytes[7],
+    ];
+    window.push(word_of(eight, count), 8 * count as u32);
+    &bytes[count..]
 }

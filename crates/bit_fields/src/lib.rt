@@ -36,6 +36,8 @@ mod packed;
 #[cfg(test)]
 mod packed_tests;
 mod plain;
+#[cfg(test)]
+mod plain_tests;
 mod reader;
 mod settled;
 mod sink;

@@ -4,7 +4,7 @@ ghost use Rattle.std.specs.Prelude.{◌≡◌, OnSome, IfSome};
 ghost use Rattle.bit_fields.specs.SixBits.{TakesShortest, TakesPlain};
 
 use crate::buffered::Buffered;
-use crate::six_bits::{is_shortest, numbers_in};
+use crate::six_bits::{are_short, is_shortest, numbers_in};
 use crate::width::ChunkWidth;
 
 /// The chunks of the numbers.
@@ -14,7 +14,7 @@ const SIX: ChunkWidth = ChunkWidth { bits: 6 };
 const MOST_PLAIN: u64 = 65536;
 
 impl<'a> Buffered<'a> {
-    /// Takes numbers in chunks of six bits, if each is in its shortest spelling, has at most nine chunks, and is complete here.
+    /// Takes numbers in chunks of six bits, if each is in its shortest spelling, has at most four chunks, and is complete here.
     #[inline(always)]
     fn shortest_numbers(&mut self, count: u64) -> Option<()>
         ensures { OnSome result (TakesShortest count self.old self.new) }
@@ -26,7 +26,10 @@ impl<'a> Buffered<'a> {
             if found == 0 || !is_shortest(word, bits) {
                 return None;
             }
-            self.skip(u64::from(bits));
+            if !are_short(word, bits) {
+                return None;
+            }
+            self.skip_parts(bits)?;
             left -= found;
         }
         Some(())

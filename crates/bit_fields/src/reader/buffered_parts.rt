@@ -14,6 +14,7 @@ ghost use Rattle.bit_fields.specs.Inside.{gap_of, TookGap};
 
 use crate::buffered::BufferedParts;
 use crate::fault::Fault;
+use crate::inflow::Missing;
 use crate::reader::BitReader;
 use crate::source::{SliceSource, Source, SourceFailed};
 
@@ -110,6 +111,70 @@ impl<S: Source> BitReader<S> {
             left -= count;
         }
         Ok(())
+    }
+
+    /// Skips `bits` bits as `catch_up` does. The window then has `held` bits, up to 64, if they are there: as many as after reading
+    /// these bits field by field, so that the source is asked for more bytes no earlier and no later.
+    pub fn catch_up_holding(&mut self, bits: u64, held: u32) -> Result<(), Fault>
+        requires { held ≤ 64 }
+        ensures takes { Takes (any_bits bits) self.old result self.new }
+        ensures memory { NeedsNoMemory result }
+        ensures stays { OnErr result (self.new.position ≡ self.old.position) }
+        ensures moves { OnOk result (self.new.position ≡ self.old.position + bits) }
+    {
+        if held == 0 {
+            return self.catch_up(bits);
+        }
+        if !self.live {
+            return Err(Fault::Failed);
+        }
+        let first = self.position;
+        let mut left = bits;
+        while left > 0 {
+            let count = self.skip_holding(first, left, held)?;
+            left -= count;
+        }
+        Ok(())
+    }
+
+    /// Skips bits of what began at `first`, at least one and at most `left`, and returns how many. The window is loaded where 64 bits
+    /// from there are as far as `held` bits after the last one of `left`.
+    fn skip_holding(&mut self, first: u64, left: u64, held: u32) -> Result<u64, Fault>
+        requires live { self.old.live ≡ true }
+        requires first { first ≤ self.old.position }
+        requires some { 0 < left }
+        requires held { held ≤ 64 }
+        ensures takes { IfOk result (λ count. TookGap first left count self.old self.new) }
+        ensures misses { IfErr result (λ fault. Why (gap_of first 1) self.old fault self.new) }
+        ensures memory { NeedsNoMemory result }
+        ensures stays { OnErr result (self.new.position ≡ first) }
+    {
+        let late = 64 - u64::from(held);
+        if left > late {
+            return self.skip_some(first, first, left - late);
+        }
+        self.load(first, left as u32 + held)?;
+        self.skip_some(first, first, left)
+    }
+
+    /// Asks once for bytes to load into the window, as many as it has room for, unless it has n bits. It is a part of a call that began
+    /// at `first`, and fails only if the source does.
+    fn load(&mut self, first: u64, n: u32) -> Result<(), Fault>
+        requires live { self.old.live ≡ true }
+        ensures loads { OnOk result (TookNothing self.old self.new) }
+        ensures missed { IfErr result (λ fault. Why (gap_of first 1) self.old fault self.new) }
+        ensures memory { NeedsNoMemory result }
+        ensures place { OnOk result (self.new.position ≡ self.old.position) }
+        ensures stays { OnErr result (self.new.position ≡ first) }
+    {
+        let held = self.inflow.bits_held();
+        if held >= n || held > 56 {
+            return Ok(());
+        }
+        match self.inflow.fill(held + 1) {
+            Err(Missing::Read) => Err(self.miss(Missing::Read, first)),
+            Ok(()) | Err(Missing::End) | Err(Missing::Limit) => Ok(()),
+        }
     }
 
     /// Skips bits, at least one and at most `most`, of what began at `first`, and returns how many. If no bit is left it fails, at

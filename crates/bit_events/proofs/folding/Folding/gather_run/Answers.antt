@@ -1,6 +1,7 @@
 use Rattle.std.proofs.Common.{◌<◌, length, vec_len, sym, arith, ltb-true}
+use Rattle.bit_fields.specs.BufferedParts.{bits_of_parts}
 use Rattle.bit_events.proofs.Folds.{none_yet}
-use Rattle.bit_events.proofs.Blocks.{on_gathered}
+use Rattle.bit_events.proofs.Blocks.{lost_then, on_gathered}
 use Rattle.bit_events.proofs.folding.Folding.gather_run.Goals as goal
 
 pub returns-in_default-clause-takes : goal.returns-in_default-clause-takes
@@ -13,6 +14,11 @@ pub returns-in-Ok-clause-takes : goal.returns-in-Ok-clause-takes
 returns-in-Ok-clause-takes g c =
     let m = c.args.self.now.machine in
     let b = c.buffered_parts.follows.lender-at-none in
-    let shows = rw c.in_ok-buffered_parts.was at c.buffered_parts.follows.holds-at-none in
+    let shows = rw c.in_ok-parts.was at c.buffered_parts.follows.holds-at-none in
     let some : 0 < vec_len m.frames = omega (arith, m.frames.ok.0, ltb-true 0 (length m.frames.items) (sym (rw c.deref.ensures.value at c.in-Some.ensures.item.0))) in
-    on_gathered g.G.Gatherer.gathered c.args.limits.now m c.args.self.now.reader c.args.self.now.gatherer b c.new-buffered.result c.gather_buffered.new.machine c.in-Ok.after c.gather_buffered.new.gatherer c.catch_up.result c.catch_up.new.self some shows.nothing shows.stays (rw c.new-buffered.ensures shows.sees) c.in-Ok.ensures.gathers (rw (sym c.position-start.ensures) c.catch_up.ensures.takes) (rw (sym c.position-start.ensures) c.catch_up.ensures.moves)
+    on_gathered g.G.Gatherer.gathered c.args.limits.now m c.args.self.now.reader c.args.self.now.gatherer b (bits_of_parts c.in_ok-parts.parts) c.gather_buffered.new.machine c.in-Ok.after c.gather_buffered.new.gatherer c.catch_up_holding.result c.catch_up_holding.new.self some shows.nothing shows.stays shows.sees c.in-Ok.ensures.gathers (rw (sym c.position-start.ensures) c.catch_up_holding.ensures.takes) (rw (sym c.position-start.ensures) c.catch_up_holding.ensures.moves)
+
+pub returns-in-Err-clause-takes : goal.returns-in-Err-clause-takes
+returns-in-Err-clause-takes g c =
+    let shows = rw c.in_ok-parts.was at c.buffered_parts.follows.holds-at-none in
+    lost_then c.args.limits.now c.args.self.now.machine c.args.self.now.reader c.buffered_parts.follows.lender-at-none c.out_of_memory.result c.out_of_memory.new.reader shows.nothing c.out_of_memory.ensures.fails
