@@ -1,7 +1,7 @@
 -- Records that are not abbreviated, as buffered bits show them.
-use Rattle.std.proofs.Common.{◌≡◌, ℕ, zero, suc, ◌+◌, ◌≤◌, Bool, List, [], ◌∷◌, ◌++◌, length, take, drop, Result, Ok, Err, refl, sym, ap, ◌∙◌, subst, arith, append_assoc, length-append}
+use Rattle.std.proofs.Common.{◌≡◌, ℕ, zero, suc, ◌+◌, ◌-◌, ◌≤◌, Bool, List, [], ◌∷◌, ◌++◌, length, take, drop, Result, Ok, Err, refl, sym, ap, ◌∙◌, subst, arith, append_assoc, length-append}
 use Rattle.std.proofs.lemmas.Bool.{le-leb}
-use Rattle.std.proofs.lemmas.List.{take-append-drop, drop-append-le, length-take-le}
+use Rattle.std.proofs.lemmas.List.{take-append-drop, drop-append-le, drop_at, length-take-le}
 use Rattle.std.proofs.Math.Seq.{take-add}
 use Rattle.bit_grammar.specs.Bits.{bits_of, number}
 use Rattle.bit_grammar.specs.FormatFields.{shortest}
@@ -13,6 +13,7 @@ use Rattle.bit_grammar.proofs.Bits.Numbers.{length-bits_of}
 use Rattle.bit_fields.specs.Buffered.{BufferedBits, Reads, beyond}
 use Rattle.bit_fields.specs.SixBits.{Begins, Shortest, TakesShortest, TakesPlain}
 use Rattle.bit_fields.proofs.BitLaws.{bits_of-number, drop_more}
+use Rattle.bit_fields.proofs.BufferedReads.{reads_passed}
 use Rattle.bit_fields.proofs.SixBitForms.{begun_bits}
 
 -- ---- one after another
@@ -141,3 +142,20 @@ pub beyond_on : (n k m : ℕ) (from b c : BufferedBits) → b ≡ beyond from k 
 beyond_on n k m from b c b_is c_is m_is =
     let place : from.position + k + n ≡ from.position + m = omega (arith, m_is) in
     c_is ∙ ap (λ (x : BufferedBits). beyond x n) b_is ∙ rw (place, drop_more k n from.bits, m_is) refl
+
+-- ---- numbers that are read over
+
+-- the later bits are those after the bits in between
+pub record Over (a b : BufferedBits) : Type 0 where
+  pub forward : a.position ≤ b.position
+  pub bits : b.bits ≡ drop (b.position - a.position) a.bits
+
+pub over_more : {A : Type 0} (rule : Grammar A) (a b : BufferedBits) (value : A) (c : BufferedBits) → Over a b → Reads rule b value c → Over a c
+over_more rule a b value c over seen =
+    let q = reads_passed rule b value c seen in
+    let all : b.position - a.position + length q.0 ≡ c.position - a.position = omega (arith, over.forward, q.2) in
+    let left : drop (length q.0) b.bits ≡ c.bits = ap (drop (length q.0)) q.1 ∙ drop_at q.0 c.bits (length q.0) refl in
+    record {
+      forward = omega (arith, over.forward, q.2);
+      bits = sym left ∙ ap (drop (length q.0)) over.bits ∙ drop_more (b.position - a.position) (length q.0) a.bits ∙ ap (λ (n : ℕ). drop n a.bits) all;
+    }

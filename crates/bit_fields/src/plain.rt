@@ -1,6 +1,7 @@
 //! Records that are not abbreviated: nothing but numbers in chunks of six bits.
 
-ghost use Rattle.std.specs.Prelude.{◌≡◌, OnSome, IfSome};
+ghost use Rattle.std.specs.Prelude.{◌≡◌, ◌≤◌, OnSome, IfSome};
+ghost use Rattle.bit_fields.specs.Buffered.{beyond};
 ghost use Rattle.bit_fields.specs.SixBits.{TakesShortest, TakesPlain};
 
 use crate::buffered::Buffered;
@@ -14,7 +15,38 @@ const SIX: ChunkWidth = ChunkWidth { bits: 6 };
 const MOST_PLAIN: u64 = 65536;
 
 impl<'a> Buffered<'a> {
-    /// Takes numbers in chunks of six bits, if each is in its shortest spelling, has at most four chunks, and is complete here.
+    /// Skips numbers in chunks of six bits, of `bits` bits in all, as reading them does. It is kept out of its caller, since few numbers
+    /// have more than four chunks.
+    #[cold]
+    #[inline(never)]
+    fn read_over(self, count: u64, bits: u32) -> Option<Buffered<'a>>
+        ensures { IfSome result (λ after. after ≡ beyond self.entry bits) }
+    {
+        let mut after = self.copy();
+        for _ in 0..count {
+            after.vbr(SIX)?;
+        }
+        if after.position().wrapping_sub(self.position()) != u64::from(bits) {
+            return None;
+        }
+        Some(after)
+    }
+
+    /// Skips the first `count` numbers of the next nine chunks, which have `bits` bits. The window then has the same bits, once the next
+    /// field is read, as if they had been read.
+    #[inline(always)]
+    fn pass_numbers(&mut self, word: u64, count: u64, bits: u32) -> Option<()>
+        requires { bits ≤ 54 }
+        ensures { OnSome result (self.new ≡ beyond self.old bits) }
+    {
+        if are_short(word, bits) {
+            return self.skip_parts(bits);
+        }
+        *self = self.copy().read_over(count, bits)?;
+        Some(())
+    }
+
+    /// Takes numbers in chunks of six bits, if each is in its shortest spelling and complete here.
     #[inline(always)]
     fn shortest_numbers(&mut self, count: u64) -> Option<()>
         ensures { OnSome result (TakesShortest count self.old self.new) }
@@ -26,10 +58,7 @@ impl<'a> Buffered<'a> {
             if found == 0 || !is_shortest(word, bits) {
                 return None;
             }
-            if !are_short(word, bits) {
-                return None;
-            }
-            self.skip_parts(bits)?;
+            self.pass_numbers(word, found, bits)?;
             left -= found;
         }
         Some(())

@@ -11,7 +11,7 @@ loop-left-preserved c =
     let bits = c.numbers_in-found.result.1 in
     let all : c.args.count - (l.left - found) ≡ c.args.count - l.left + found = omega (arith, c.numbers_in-found.ensures.most, l.invariant.few) in
     let taken = more_taken (c.args.count - l.left) found (c.args.count - (l.left - found)) bits c.in_ok-word.word c.args.self.now l.self l.invariant.taken all c.in_ok-word.ensures.there c.in_ok-word.ensures.front c.numbers_in-found.ensures.reads (c.if-not-is_shortest.ensures refl) c.numbers_in-found.ensures.bits in
-    let moved : beyond l.self bits ≡ c.skip_parts.new.self = sym c.in_ok-skip_parts.ensures in
+    let moved : beyond l.self bits ≡ c.pass_numbers.new.self = sym c.in_ok-pass_numbers.ensures in
     record {
       taken = subst (TakesShortest (c.args.count - (l.left - found)) c.args.self.now) moved taken;
       few = omega (arith, l.invariant.few);
