@@ -12,6 +12,8 @@ ghost use Rattle.bit_events.specs.Reading.{ReadsWhole};
 ghost use Rattle.bit_events.specs.Runs.{GathersOn, GathersUpTo};
 
 #[cfg(test)]
+mod asking_inputs;
+#[cfg(test)]
 mod asking_tests;
 
 use crate::gatherer::Gatherer;

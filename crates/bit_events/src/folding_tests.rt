@@ -282,3 +282,58 @@ fn lent_blocks_have_a_depth(rt: HostRuntime) {
     agrees(&rt, told, "refused: TooDeep at bit 96", "depth 1");
     agrees(&rt, depth_told(&rt, rt.alloc(), 2), "accepted", "depth 2");
 }
+
+/// What `check` returns for a block with a record, a block in it and two more records, of five values, and then three blocks.
+fn values_told(
+    rt: &impl Abort,
+    alloc: Global,
+    room: usize,
+    most: u64,
+) -> Result<String, AllocError> {
+    let text = "M 21 08 00 00 06 00 00 00 07 42 61 94 20 00 00 00 01 00 00 00 00 00 00 00 \
+        07 C2 81 1C 04 09 00 00 E E E";
+    let bytes = bytes_of(alloc, text)?;
+    let limits = Limits::new(1000, 64, most).expect(rt, "limits within their caps");
+    let (answer, _) = check(alloc, lent(rt, alloc, &bytes, room), limits);
+    match answer {
+        Ok(()) => String::from_str(alloc, "accepted"),
+        Err(fault) => told_of_fault(alloc, fault),
+    }
+}
+
+/// Limits on values, and what is returned for that block.
+static VALUES: [(u64, &str); 6] = [
+    (0, "refused: TooManyValues at bit 104"),
+    (1, "refused: TooManyValues at bit 104"),
+    // here the records after the inner block have too many
+    (2, "refused: TooManyValues at bit 232"),
+    (3, "refused: TooManyValues at bit 232"),
+    (4, "refused: TooManyValues at bit 258"),
+    (5, "accepted"),
+];
+
+#[test]
+fn lent_records_after_a_block_have_a_limit(rt: HostRuntime) {
+    for (most, wanted) in &VALUES {
+        for room in 1..100 {
+            let told = values_told(&rt, rt.alloc(), room, *most);
+            agrees(&rt, told, wanted, "values");
+        }
+    }
+}
+
+#[test]
+fn a_wrapper_ends_in_a_lent_piece(rt: HostRuntime) {
+    let text = "DE C0 17 0B 00 00 00 00 14 00 00 00 34 00 00 00 07 00 00 01 M E E E E E E E";
+    let bytes = bytes_of(rt.alloc(), text).expect(&rt, "memory");
+    let wanted = "Enter { id: 8, width: 2, first: 192, body: 256 } Leave { after: 288 } \
+        Enter { id: 8, width: 2, first: 288, body: 352 } Leave { after: 384 } \
+        Enter { id: 8, width: 2, first: 384, body: 448 } Leave { after: 480 } \
+        Enter { id: 8, width: 2, first: 480, body: 544 } Leave { after: 576 } [66, 67, 192, 222] 576";
+    for room in [20, 24, 64, 72, 100, 108, 400] {
+        let source = lent(&rt, rt.alloc(), &bytes, room);
+        agrees(&rt, check_text(rt.alloc(), source), "accepted", text);
+        let source = lent(&rt, rt.alloc(), &bytes, room);
+        agrees(&rt, fold_text(rt.alloc(), source), wanted, text);
+    }
+}

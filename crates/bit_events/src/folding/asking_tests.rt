@@ -1,8 +1,8 @@
 //! A fold asks its source for bytes where a fold did that read blocks with the exact reader alone, also where the source fails.
 
-ghost use Rattle.std.specs.Prelude.{◌<◌};
 ghost use Rattle.bit_events.specs.MachineView.{TookSome};
 
+use super::asking_inputs::{made, wide};
 use super::{Folding, hand_on};
 use crate::events_tests::{Pieces, pieces_of};
 use crate::folding_tests::Text;
@@ -10,7 +10,10 @@ use crate::machine::Machine;
 use crate::running::gather_records;
 use crate::with_first::WithFirst;
 use crate::{Gatherer, fold};
-use bit_fields::{BitReader, BufSource, Buffered, Fault, Limits, Source};
+use bit_abbrev::Abbrev;
+use bit_fields::{
+    BitReader, BufSource, Buffered, Fault, Limits, SliceSource, Source, ValueCount, ValueTaker,
+};
 use std::alloc::{AllocError, Global};
 use std::io::BufReader;
 use std::process::Abort;
@@ -63,13 +66,13 @@ impl<S: Source, G: Gatherer> Folding<S, G> {
     }
 }
 
-/// Why an input is refused, if it is, the text that was gathered, and the source.
-fn fold_by_records<S: Source>(
+/// Why an input is refused, if it is, the gatherer, and the source.
+fn fold_by_records<S: Source, G: Gatherer>(
     alloc: Global,
     source: S,
     limits: Limits,
-    gatherer: Text,
-) -> (Result<(), Fault>, Text, S) {
+    gatherer: G,
+) -> (Result<(), Fault>, G, S) {
     let (reader, _) = match BitReader::start(source, limits) {
         Ok(begun) => begun,
         Err((fault, source)) => return (Err(fault), gatherer, source),
@@ -86,166 +89,6 @@ fn fold_by_records<S: Source>(
         machine: _,
     } = folding;
     (done, gatherer, reader.into_source())
-}
-
-// ---- made inputs
-
-/// The bytes of an input that is made, how many bits they are, and for each open block the byte at which it has its length, and the
-/// width of its abbreviation ids.
-#[derive(Drop)]
-struct Maker {
-    bytes: Vec<u8>,
-    bits: u64,
-    open: Vec<(usize, u32)>,
-    random: u64,
-}
-
-impl Maker {
-    /// A number below n, from a generator by shifts ("Xorshift RNGs", Marsaglia).
-    fn below(&mut self, n: u64) -> u64
-        requires { 0 < n }
-        ensures { result < n }
-    {
-        self.random ^= self.random << 13;
-        self.random ^= self.random >> 7;
-        self.random ^= self.random << 17;
-        self.random % n
-    }
-
-    /// Appends the low n bits of a number.
-    fn push(&mut self, value: u64, n: u32) -> Result<(), AllocError> {
-        for place in 0..n {
-            if self.bits % 8 == 0 {
-                self.bytes.push(0)?;
-            }
-            let bit = value.checked_shr(place).unwrap_or(0) & 1;
-            if let Some(last) = self.bytes.last_mut() {
-                *last |= (bit as u8) << (self.bits % 8) as u32;
-            }
-            self.bits = self.bits.wrapping_add(1);
-        }
-        Ok(())
-    }
-
-    /// Appends zeros up to a multiple of 32 bits.
-    fn align(&mut self) -> Result<(), AllocError> {
-        let zeros = (32 - self.bits % 32) % 32;
-        self.push(0, zeros as u32)
-    }
-
-    /// The width of abbreviation ids here.
-    fn width(&self) -> u32 {
-        match self.open.last() {
-            Some((_, width)) => *width,
-            None => 2,
-        }
-    }
-
-    /// Appends the beginning of a block, whose id has one chunk or, seldom, two.
-    fn enter(&mut self) -> Result<(), AllocError> {
-        let outer = self.width();
-        let width = 2 + self.below(4);
-        self.push(1, outer)?;
-        match self.below(16) {
-            0 => self.push(0x0188, 16)?,
-            _ => self.push(8, 8)?,
-        }
-        self.push(width, 4)?;
-        self.align()?;
-        self.open.push((self.bytes.len(), width as u32))?;
-        self.push(0, 32)
-    }
-
-    /// Appends a record, if a block is open.
-    fn record(&mut self) -> Result<(), AllocError> {
-        if self.open.is_empty() {
-            return Ok(());
-        }
-        let width = self.width();
-        let most = 1 + self.below(24);
-        let count = self.below(most);
-        self.push(3, width)?;
-        self.push(1, 6)?;
-        self.push(count, 6)?;
-        for _ in 0..count {
-            let value = self.value();
-            self.number(value)?;
-        }
-        Ok(())
-    }
-
-    /// A number that takes one chunk of six bits, or seldom up to thirteen.
-    fn value(&mut self) -> u64 {
-        match self.below(4) {
-            0 => {
-                let bits = self.below(64);
-                self.random >> bits
-            }
-            _ => self.below(32),
-        }
-    }
-
-    /// Appends a number in chunks of six bits.
-    fn number(&mut self, value: u64) -> Result<(), AllocError> {
-        let mut left = value;
-        for _ in 0..12 {
-            if left < 32 {
-                break;
-            }
-            self.push(left % 32 + 32, 6)?;
-            left /= 32;
-        }
-        self.push(left, 6)
-    }
-
-    /// Appends the end of the innermost block, if there is one, and fills in its length.
-    fn leave(&mut self) -> Result<(), AllocError> {
-        let width = self.width();
-        let Some((place, _)) = self.open.pop() else {
-            return Ok(());
-        };
-        self.push(0, width)?;
-        self.align()?;
-        let words = (self.bytes.len().saturating_sub(place) / 4).saturating_sub(1);
-        if let Some(length) = self.bytes.get_mut(place) {
-            *length = u8::try_from(words).unwrap_or(0);
-        }
-        Ok(())
-    }
-
-    /// Appends the next item: often a record, and the beginning or the end of a block.
-    fn item(&mut self) -> Result<(), AllocError> {
-        match self.below(4) {
-            0 => self.enter(),
-            1 => self.leave(),
-            _ => self.record(),
-        }
-    }
-}
-
-/// An input of some items, with the usual magic. Every second one has one bit changed.
-fn made(alloc: Global, seed: u64) -> Result<Vec<u8>, AllocError> {
-    let mut made = Maker {
-        bytes: Vec::new(alloc),
-        bits: 0,
-        open: Vec::new(alloc),
-        random: seed.wrapping_mul(0x9E37_79B9_7F4A_7C15) | 1,
-    };
-    made.push(0xDEC0_4342, 32)?;
-    for _ in 0..40 {
-        made.item()?;
-    }
-    for _ in 0..40 {
-        made.leave()?;
-    }
-    let place = made.below(1024) as usize;
-    let bit = made.below(8) as u32;
-    if seed % 2 == 0 {
-        if let Some(byte) = made.bytes.get_mut(place) {
-            *byte ^= 1 << bit;
-        }
-    }
-    Ok(made.bytes)
 }
 
 // ---- the comparison
@@ -271,42 +114,133 @@ fn state_of(source: Lender<'_>) -> (u64, usize, usize) {
     (pieces.reads(), reader.buffer().len(), pieces.left())
 }
 
-/// Checks that both folds return the same and leave the source in the same state, if the source fails at a read, and the gatherer
-/// after so many events.
-fn asks_alike(
-    rt: &impl Abort,
-    alloc: Global,
-    bytes: &[u8],
+/// The limits of two folds, the room of the buffer of their source, the read at which that fails, if it is not 0, and the number of
+/// events after which the gatherer fails.
+#[derive(Clone, Copy, Debug)]
+struct Case {
     limits: Limits,
     room: usize,
     fails_at: u64,
     events: u32,
-) {
+}
+
+/// Checks that both folds return the same text and leave the source in the same state.
+fn asks_alike(rt: &impl Abort, alloc: Global, bytes: &[u8], case: &Case) {
+    let Case {
+        limits,
+        room,
+        fails_at,
+        events,
+    } = *case;
     let text = || Text {
         alloc,
         text: String::new(alloc),
         room: events,
     };
-    let (new, source) = fold(
-        alloc,
-        lender(rt, alloc, bytes, room, fails_at),
-        limits,
-        text(),
-    );
+    let source = lender(rt, alloc, bytes, room, fails_at);
+    let (new, source) = fold(alloc, source, limits, text());
     let state = state_of(source);
     let source = lender(rt, alloc, bytes, room, fails_at);
     let (old, gathered, source) = fold_by_records(alloc, source, limits, text());
     let was = state_of(source);
-    assert!(rt;
-        state == was,
-        "room {room}, fails at {fails_at}: {state:?}, not {was:?}"
-    );
+    assert!(rt; state == was, "{case:?}: {state:?}, not {was:?}");
     match (new, old) {
         (Ok(new), Ok(())) => assert!(rt; new.gatherer.text.as_str() == gathered.text.as_str()),
-        (Err(new), Err(old)) => assert!(rt; new == old, "room {room}, fails at {fails_at}"),
-        _ => assert!(rt; false, "room {room}, fails at {fails_at}"),
+        (Err(new), Err(old)) => assert!(rt; new == old, "{case:?}"),
+        _ => assert!(rt; false, "{case:?}"),
     }
 }
+
+/// Checks the same of a gatherer that counts the values.
+fn counts_alike(rt: &impl Abort, alloc: Global, bytes: &[u8], case: &Case) {
+    let Case {
+        limits,
+        room,
+        fails_at,
+        events,
+    } = *case;
+    let none = Counted::failing_after(events);
+    let source = lender(rt, alloc, bytes, room, fails_at);
+    let (new, source) = fold(alloc, source, limits, none);
+    let state = state_of(source);
+    let source = lender(rt, alloc, bytes, room, fails_at);
+    let (old, counted, source) = fold_by_records(alloc, source, limits, none);
+    let was = state_of(source);
+    assert!(rt; state == was, "{case:?}: {state:?}, not {was:?}");
+    match (new, old) {
+        (Ok(new), Ok(())) => assert!(rt; new.gatherer == counted, "{case:?}"),
+        (Err(new), Err(old)) => assert!(rt; new == old, "{case:?}"),
+        _ => assert!(rt; false, "{case:?}"),
+    }
+}
+
+// ---- a gatherer that counts
+
+/// How many values there were, a number that depends on the kinds and places of all events, and how many more events it takes
+/// before it fails for want of memory.
+#[derive(Clone, Copy, Debug, PartialEq, Eq)]
+struct Counted {
+    values: u64,
+    trace: u64,
+    room: u32,
+}
+
+impl Counted {
+    /// No values and no events. It fails after so many events, or earlier.
+    fn failing_after(events: u32) -> Counted {
+        Counted {
+            values: 0,
+            trace: 0,
+            room: events,
+        }
+    }
+
+    fn add(&mut self, kind: u64, place: u64) -> Result<(), AllocError> {
+        self.room = self.room.checked_sub(1).ok_or(AllocError)?;
+        let event = place.wrapping_mul(256).wrapping_add(kind);
+        self.trace = self.trace.wrapping_mul(31).wrapping_add(event);
+        Ok(())
+    }
+}
+
+impl Gatherer for Counted {
+    type Values = ValueCount;
+
+    ghost gathered = { λ first events last. Unit {0} };
+
+    fn values(&self) -> ValueCount {
+        ValueCount::new()
+    }
+
+    fn enter(&mut self, id: u32, width: u8, first: u64, body: u64) -> Result<(), AllocError> {
+        self.add(u64::from(id), first)?;
+        self.add(u64::from(width), body)
+    }
+
+    fn define(&mut self, _abbrev: &Abbrev, first: u64, after: u64) -> Result<(), AllocError> {
+        self.add(2, first)?;
+        self.add(2, after)
+    }
+
+    fn record(
+        &mut self,
+        id: u32,
+        code: u64,
+        values: &mut ValueCount,
+        first: u64,
+        after: u64,
+    ) -> Result<(), AllocError> {
+        self.values = self.values.saturating_add(values.count());
+        self.add(u64::from(id), first)?;
+        self.add(code, after)
+    }
+
+    fn leave(&mut self, after: u64) -> Result<(), AllocError> {
+        self.add(0, after)
+    }
+}
+
+// ---- the tests
 
 /// The usual limits, or for every third input a limit on bytes at which it goes on.
 fn limits_of(rt: &impl Abort, seed: u64, bytes: &[u8]) -> Limits {
@@ -323,10 +257,106 @@ fn a_fold_asks_as_it_did(rt: HostRuntime) {
         let limits = limits_of(&rt, seed, &bytes);
         for room in [24, 31, 40, 64, 100, 400] {
             for fails_at in 0..6 {
-                asks_alike(&rt, rt.alloc(), &bytes, limits, room, fails_at, u32::MAX);
+                let case = Case {
+                    limits,
+                    room,
+                    fails_at,
+                    events: u32::MAX,
+                };
+                asks_alike(&rt, rt.alloc(), &bytes, &case);
             }
-            let events = (seed % 40) as u32;
-            asks_alike(&rt, rt.alloc(), &bytes, limits, room, 0, events);
+            let case = Case {
+                limits,
+                room,
+                fails_at: 0,
+                events: (seed % 40) as u32,
+            };
+            asks_alike(&rt, rt.alloc(), &bytes, &case);
+        }
+    }
+}
+
+/// How many values an input has, or 20 if it is refused.
+fn values_in(alloc: Global, bytes: &[u8]) -> u64 {
+    let none = Counted::failing_after(u32::MAX);
+    match fold(alloc, SliceSource::new(bytes), Limits::usual(), none) {
+        (Ok(folded), _) => folded.gatherer.values,
+        (Err(_), _) => 20,
+    }
+}
+
+/// Limits for an input: the usual ones, or one on bytes, values or depth at which it goes on.
+fn narrow(rt: &impl Abort, alloc: Global, seed: u64, bytes: &[u8]) -> Limits {
+    let (most, depth, values) = match seed % 5 {
+        0 => (bytes.len() as u64 * 2 / 3, 64, 100_000),
+        1 => (100_000, 1 + (seed % 3) as u32, 100_000),
+        2 | 3 => {
+            let values = values_in(alloc, bytes).saturating_mul(seed % 7) / 7;
+            (100_000, 64, values.min(100_000))
+        }
+        _ => (100_000, 64, 100_000),
+    };
+    Limits::new(most.min(100_000), depth, values).expect(rt, "limits within their caps")
+}
+
+/// Compares the folds of an input with a gatherer that counts, and perhaps with the text of all events.
+fn both_alike(rt: &impl Abort, alloc: Global, bytes: &[u8], case: &Case, with_text: bool) {
+    counts_alike(rt, alloc, bytes, case);
+    if with_text {
+        asks_alike(rt, alloc, bytes, case);
+    }
+}
+
+/// Compares the folds of an input over a buffer of some room, with a failure at each of the reads, and with a gatherer that fails.
+/// The text of all events is compared at every eighth of these.
+fn all_reads_alike(
+    rt: &impl Abort,
+    alloc: Global,
+    bytes: &[u8],
+    limits: Limits,
+    room: usize,
+    events: u32,
+) {
+    let reads = bytes.len().checked_div(room).unwrap_or(0).saturating_add(3);
+    for fails_at in 0..reads {
+        let case = Case {
+            limits,
+            room,
+            fails_at: fails_at as u64,
+            events: u32::MAX,
+        };
+        both_alike(rt, alloc, bytes, &case, fails_at % 8 == 0);
+    }
+    let case = Case {
+        limits,
+        room,
+        fails_at: 0,
+        events,
+    };
+    both_alike(rt, alloc, bytes, &case, true);
+}
+
+#[test]
+fn a_fold_of_definitions_asks_as_it_did(rt: HostRuntime) {
+    for seed in 0..30 {
+        let bytes = wide(rt.alloc(), seed, 40).expect(&rt, "memory");
+        let limits = narrow(&rt, rt.alloc(), seed, &bytes);
+        let events = (seed % 40) as u32;
+        for room in [24, 31, 40, 64, 100, 400, 4096] {
+            all_reads_alike(&rt, rt.alloc(), &bytes, limits, room, events);
+        }
+    }
+}
+
+#[test]
+fn a_limit_on_values_asks_as_it_did(rt: HostRuntime) {
+    for seed in [1, 3, 5] {
+        let bytes = wide(rt.alloc(), seed, 40).expect(&rt, "memory");
+        for values in 0..40 {
+            let limits = Limits::new(100_000, 64, values).expect(&rt, "limits within their caps");
+            for room in [100, 4096] {
+                all_reads_alike(&rt, rt.alloc(), &bytes, limits, room, 9);
+            }
         }
     }
 }
