@@ -1,5 +1,5 @@
 -- The bytes of an input that are those of another one.
-use Rattle.std.proofs.Common.{◌≡◌, ℕ, ◌+◌, ◌-◌, ◌^◌, ◌≤◌, List, [], ◌∷◌, ◌++◌, length, take, drop, Option, Some, None, refl, sym, ap, subst, ◌∙◌, arith, inl, inr, length-append, take-take, length-drop}
+use Rattle.std.proofs.Common.{◌≡◌, ℕ, ◌+◌, ◌-◌, ◌*◌, ◌^◌, ◌<◌, ◌≤◌, List, [], ◌∷◌, ◌++◌, length, take, drop, Option, Some, None, Ok, Err, append-nil, refl, sym, ap, subst, ◌∙◌, arith, inl, inr, length-append, take-take, length-drop, length-take}
 use Rattle.std.specs.Prelude.{IsSome, max}
 use Rattle.std.specs.Io.KnownBytes.{Consumes, Keeps}
 use Rattle.std.proofs.KnownBytes.{Consumes-nil, Consumes-trans, Keeps-trans}
@@ -9,7 +9,11 @@ use lib.Seq.{take-append_seam}
 use Rattle.std.proofs.Math.Seq.{take-add}
 use Rattle.bit_fields.specs.Devices.{Incoming, Begins, IsWorn, Gave, GaveNone, GaveUnseen, Looked, Spends, Fails, known_bytes}
 use Rattle.bit_fields.proofs.Words.{looked_consumed}
-use Rattle.bit_norm.specs.Rejoined.{Takes}
+use Rattle.bit_norm.specs.declared.alike.Stop.{Stop}
+use Rattle.bit_norm.specs.declared.alike.Stop.TheVariants.{Silent, Other, End}
+use Rattle.bit_norm.specs.Rejoined.{slices_of, Takes, TakesSlice, StopsAt, TakesSlices}
+use Rattle.bit_norm.proofs.Slices.{slices_least}
+use Rattle.std.proofs.lemmas.Nat.{mul-le}
 
 -- two lists have a common front, and what comes next is the same
 pub joined : (s t : ℕ) (a b : List ℕ) → s ≤ t → take s a ≡ take s b → take (t - s) (drop s a) ≡ take (t - s) (drop s b) → take t a ≡ take t b
@@ -148,3 +152,88 @@ tail_whole n xs = take-all (length xs - n) (drop n xs) (sym (length-drop n xs))
 pub takes_more : (i j k : Incoming) (calls count more : ℕ) (first : List ℕ) → Takes i calls (take count first) j → Takes j 1 (take more (take (length first - count) (drop count first))) k → Takes i (calls + 1) (take (count + more) first) k
 takes_more i j k calls count more first before next =
     subst (λ (s : List ℕ). Takes i (calls + 1) s k) (ap (λ (s : List ℕ). take count first ++ take more s) (tail_whole count first) ∙ sym (take-add count more first)) (takes_then i j k calls 1 (take count first) (take more (take (length first - count) (drop count first))) before next)
+
+-- ---- slices of one width
+
+-- the first bytes of these were taken in whole slices
+pub record WholeSlices (first : List ℕ) (count width : ℕ) (old new : Incoming) : Type 0 where
+  pub few : count ≤ length first
+  pub some : 0 < width
+  pub calls : ℕ
+  pub whole : count ≡ calls * width
+  pub takes : Takes old calls (take count first) new
+
+pub no_slices : (first : List ℕ) (width : ℕ) (i : Incoming) → 0 < width → WholeSlices first 0 width i i
+no_slices first width i some = record {
+  few = omega arith;
+  some = some;
+  calls = 0;
+  whole = omega arith;
+  takes = takes_nothing i;
+}
+
+-- so many bytes of the next slice were taken
+module _ (first : List ℕ) (count width taken : ℕ) (i j k : Incoming) (before : WholeSlices first count width i j) (next : TakesSlice (take (length first - count) (drop count first)) width j (Ok (Ok taken)) k) where
+  within : count + taken ≤ length first
+  within = omega (arith, next.0, length-take (length first - count) (drop count first), before.few)
+
+  taken_too : Takes i (before.calls + 1) (take (count + taken) first) k
+  taken_too = takes_more i j k before.calls count taken first before.takes next.3
+
+  -- the first slice has any width
+  pub slice_first : count ≡ 0 → WholeSlices first (count + taken) taken i k
+  slice_first none =
+      let calls : before.calls ≡ 0 = elim (cases_lt 0 before.calls) [
+        | inl more ↦ absurd (omega (arith, before.whole, none, mul-le 1 1 before.calls width more before.some))
+        | inr zero ↦ omega (arith, zero)
+      ] in
+      record {
+        few = within;
+        some = next.2;
+        calls = before.calls + 1;
+        whole = omega (arith, none, calls, ap (λ (n : ℕ). (n + 1) * taken) calls);
+        takes = taken_too;
+      }
+
+  pub slice_whole : width ≤ taken → WholeSlices first (count + taken) width i k
+  slice_whole all = record {
+    few = within;
+    some = before.some;
+    calls = before.calls + 1;
+    whole = omega (arith, before.whole, all, next.1);
+    takes = taken_too;
+  }
+
+  pub slice_short : TakesSlices first i (record { count = count + taken; width = width; stop = Other }) k
+  slice_short = record {
+    few = within;
+    some = before.some;
+    calls = before.calls + 1;
+    stops = slices_least width (before.calls + 1) (count + taken) before.some (omega (arith, before.whole, next.2));
+    takes = taken_too;
+  }
+
+takes_no_more : (i j k : Incoming) (calls more : ℕ) (gone : List ℕ) → Takes i calls gone j → Takes j more [] k → Takes i (calls + more) gone k
+takes_no_more i j k calls more gone before next = subst (λ (s : List ℕ). Takes i (calls + more) s k) (append-nil gone) (takes_then i j k calls more gone [] before next)
+
+-- no more were taken
+module _ (first rest : List ℕ) (count width most : ℕ) (i j k : Incoming) (before : WholeSlices first count width i j) where
+  each : before.calls ≤ slices_of width count
+  each = slices_least width before.calls count before.some (omega (arith, before.whole, before.some))
+
+  pub slices_all : TakesSlices first i (record { count = count; width = width; stop = Other }) j
+  slices_all = record { few = before.few; some = before.some; calls = before.calls; stops = each; takes = before.takes }
+
+  stopped : (stop : Stop) (more : ℕ) → Takes j more [] k → StopsAt stop (slices_of width count) (before.calls + more) k → TakesSlices first i (record { count = count; width = width; stop = stop }) k
+  stopped stop more next stops = record {
+    few = before.few;
+    some = before.some;
+    calls = before.calls + more;
+    stops = stops;
+    takes = takes_no_more i j k before.calls more (take count first) before.takes next;
+  }
+
+  pub slices_stopped : (stop : Stop) → TakesSlice rest most j (Ok (Err stop)) k → TakesSlices first i (record { count = count; width = width; stop = stop }) k
+  slices_stopped Silent next = stopped Silent 0 next (omega (arith, each))
+  slices_stopped Other next = stopped Other 0 next (omega (arith, each))
+  slices_stopped End next = stopped End 1 next.1 (omega (arith, each), next.0)

@@ -1,6 +1,6 @@
 -- An input that was read after its bytes were compared with accepted ones.
 use Rattle.std.proofs.Common.{◌≡◌, ℕ, zero, suc, ◌+◌, ◌-◌, ◌^◌, ◌<◌, ◌≤◌, Bool, true, List, [], ◌∷◌, ◌++◌, length, take, Option, Some, None, Result, Ok, Err, refl, sym, ap, subst, ◌∙◌, arith, inl, inr, append-nil, length-append, length-take}
-use Rattle.std.specs.Prelude.{IsSome}
+use Rattle.std.specs.Prelude.{IsSome, min}
 use Rattle.std.specs.Io.KnownBytes.{Consumes, IsAtEnd, prepend_known}
 use Rattle.bit_grammar.specs.Setting.{Setting}
 use Rattle.bit_grammar.specs.Under.{under}
@@ -22,7 +22,10 @@ use Rattle.bit_norm.specs.declared.comparing.Which.TheVariants.{First, Second}
 use Rattle.bit_norm.specs.declared.comparing.SameFault.{SameFault}
 use Rattle.bit_norm.specs.Whole.{ReadsTree, source_of}
 use Rattle.bit_norm.specs.InStep.{ReadBeside, NotRead, ComparesWith}
-use Rattle.bit_norm.specs.Rejoined.{calls_with, has_some, is_more, rejoined_of, unknown, Takes, TakesFront, TakesSame, TakesEnd, OfSecond, Confirms, ComparesChecked}
+use Rattle.bit_norm.specs.declared.alike.Front.{Front}
+use Rattle.bit_norm.proofs.Slices.{slices_most}
+use Rattle.std.proofs.lemmas.List.{length-take-le}
+use Rattle.bit_norm.specs.Rejoined.{calls_with, has_some, is_more, slices_of, rejoined_of, unknown, Takes, TakesFront, TakesSame, TakesEnd, OfSecond, Confirms, ComparesChecked}
 
 -- ---- a source that gave bytes again, in the end
 
@@ -39,65 +42,65 @@ counted (Some xs) (Some ys) (Some zs) h (x ∷ k) n took few tells bytes stays k
     (refl, omega (arith, ap length took, length-append h ys, ap length list, few))
 
 -- `b` is the source before these bytes were taken, and `i` the one after them
-module _ (h k : List ℕ) (calls d q g : ℕ) (b i j : Incoming) (n : ℕ) where
+module _ (h k : List ℕ) (calls o d q g : ℕ) (b i j : Incoming) (n : ℕ) where
   abbrev Carries : Type 0
-  Carries = (m : ℕ) (all : List ℕ) → SaysOf (rejoined_of h calls 0 0 i).accounts m all → SaysOf (rejoined_of k d q g j).accounts m all
+  Carries = (m : ℕ) (all : List ℕ) → SaysOf (rejoined_of h o 0 0 i).accounts m all → SaysOf (rejoined_of k d q g j).accounts m all
 
   bytes_stay : Carries → (all : List ℕ) → i.to_come ≡ Some all → has_some k ≡ true → j.to_come ≡ Some all
   bytes_stay more all told =
-      says_first (keeping (has_some h) i.to_come) (keeping (has_some k) j.to_come) (keeping (is_more calls) (Some (i.pulls ∷ [])) ∷ calling (calls_with calls 0 0 i) ∷ i.accounts) (keeping (is_more d) (Some (j.pulls ∷ [])) ∷ calling (calls_with d q g j) ∷ j.accounts) all more (λ _. told)
+      says_first (keeping (has_some h) i.to_come) (keeping (has_some k) j.to_come) (keeping (is_more o) (Some (i.pulls ∷ [])) ∷ calling (calls_with o 0 0 i) ∷ i.accounts) (keeping (is_more d) (Some (j.pulls ∷ [])) ∷ calling (calls_with d q g j) ∷ j.accounts) all more (λ _. told)
 
-  behind_first : Carries → (m : ℕ) (all : List ℕ) → SaysOf (keeping (is_more calls) (Some (i.pulls ∷ [])) ∷ calling (calls_with calls 0 0 i) ∷ i.accounts) m all → SaysOf (keeping (is_more d) (Some (j.pulls ∷ [])) ∷ calling (calls_with d q g j) ∷ j.accounts) m all
+  behind_first : Carries → (m : ℕ) (all : List ℕ) → SaysOf (keeping (is_more o) (Some (i.pulls ∷ [])) ∷ calling (calls_with o 0 0 i) ∷ i.accounts) m all → SaysOf (keeping (is_more d) (Some (j.pulls ∷ [])) ∷ calling (calls_with d q g j) ∷ j.accounts) m all
   behind_first more =
-      spared (keeping (has_some h) i.to_come) (keeping (has_some k) j.to_come) (keeping (is_more calls) (Some (i.pulls ∷ [])) ∷ calling (calls_with calls 0 0 i) ∷ i.accounts) (keeping (is_more d) (Some (j.pulls ∷ [])) ∷ calling (calls_with d q g j) ∷ j.accounts) more
+      spared (keeping (has_some h) i.to_come) (keeping (has_some k) j.to_come) (keeping (is_more o) (Some (i.pulls ∷ [])) ∷ calling (calls_with o 0 0 i) ∷ i.accounts) (keeping (is_more d) (Some (j.pulls ∷ [])) ∷ calling (calls_with d q g j) ∷ j.accounts) more
 
   pulls_stay : Carries → is_more d ≡ true → j.pulls ≡ i.pulls
   pulls_stay more is =
-      let same : Some (j.pulls ∷ []) ≡ Some (i.pulls ∷ []) = says_first (keeping (is_more calls) (Some (i.pulls ∷ []))) (keeping (is_more d) (Some (j.pulls ∷ []))) (calling (calls_with calls 0 0 i) ∷ i.accounts) (calling (calls_with d q g j) ∷ j.accounts) (i.pulls ∷ []) (behind_first more) (λ _. refl) is in
+      let same : Some (j.pulls ∷ []) ≡ Some (i.pulls ∷ []) = says_first (keeping (is_more o) (Some (i.pulls ∷ []))) (keeping (is_more d) (Some (j.pulls ∷ []))) (calling (calls_with o 0 0 i) ∷ i.accounts) (calling (calls_with d q g j) ∷ j.accounts) (i.pulls ∷ []) (behind_first more) (λ _. refl) is in
       cc
 
-  calls_carried : Carries → (m : ℕ) (all : List ℕ) → SaysOf (calling (calls_with calls 0 0 i) ∷ i.accounts) m all → SaysOf (calling (calls_with d q g j) ∷ j.accounts) m all
-  calls_carried more = spared (keeping (is_more calls) (Some (i.pulls ∷ []))) (keeping (is_more d) (Some (j.pulls ∷ []))) (calling (calls_with calls 0 0 i) ∷ i.accounts) (calling (calls_with d q g j) ∷ j.accounts) (behind_first more)
+  calls_carried : Carries → (m : ℕ) (all : List ℕ) → SaysOf (calling (calls_with o 0 0 i) ∷ i.accounts) m all → SaysOf (calling (calls_with d q g j) ∷ j.accounts) m all
+  calls_carried more = spared (keeping (is_more o) (Some (i.pulls ∷ []))) (keeping (is_more d) (Some (j.pulls ∷ []))) (calling (calls_with o 0 0 i) ∷ i.accounts) (calling (calls_with d q g j) ∷ j.accounts) (behind_first more)
 
   others_carried : Carries → (m : ℕ) (all : List ℕ) → SaysOf i.accounts m all → SaysOf j.accounts m all
-  others_carried more = spared (calling (calls_with calls 0 0 i)) (calling (calls_with d q g j)) i.accounts j.accounts (calls_carried more)
+  others_carried more = spared (calling (calls_with o 0 0 i)) (calling (calls_with d q g j)) i.accounts j.accounts (calls_carried more)
 
-  called_first : Takes b calls h i → CalledFrom (calls_with calls 0 0 i) b.pulls b.failures (calls + 2 ^ 64)
-  called_first took = record { each = omega (arith, took.pulls); well = λ _. (omega (arith, took.pulls), took.failures); lost = λ failed. absurd (omega (arith, failed)) }
+  called_first : Takes b calls h i → calls ≤ o → CalledFrom (calls_with o 0 0 i) b.pulls b.failures (calls + 2 ^ 64)
+  called_first took enough = record { each = omega (arith, took.pulls, enough); well = λ _. (omega (arith, took.pulls), took.failures); lost = λ failed. absurd (omega (arith, failed)) }
 
-  called_last : Carries → Takes b calls h i → CalledFrom (calls_with d q g j) b.pulls b.failures (calls + 2 ^ 64)
-  called_last more took = says_first (calling (calls_with calls 0 0 i)) (calling (calls_with d q g j)) i.accounts j.accounts (b.pulls ∷ b.failures ∷ (calls + 2 ^ 64) ∷ []) (calls_carried more) (called_first took)
+  called_last : Carries → Takes b calls h i → calls ≤ o → CalledFrom (calls_with d q g j) b.pulls b.failures (calls + 2 ^ 64)
+  called_last more took enough = says_first (calling (calls_with o 0 0 i)) (calling (calls_with d q g j)) i.accounts j.accounts (b.pulls ∷ b.failures ∷ (calls + 2 ^ 64) ∷ []) (calls_carried more) (called_first took enough)
 
-  paid : Carries → Takes b calls h i → calls ≤ n → q + 0 ≤ 0 + n → j.pulls + 0 ≤ b.pulls + n
-  paid more took few each = by_owed d (called_last more took).each (pulls_stay more)
+  paid : Carries → Takes b calls h i → calls ≤ o → calls ≤ n → q + 0 ≤ 0 + n → j.pulls + 0 ≤ b.pulls + n
+  paid more took enough few each = by_owed d (called_last more took enough).each (pulls_stay more)
     where
       by_owed : (e : ℕ) → j.pulls ≤ b.pulls + (q + e) → (is_more e ≡ true → j.pulls ≡ i.pulls) → j.pulls + 0 ≤ b.pulls + n
       by_owed zero all stays = omega (arith, all, each)
       by_owed (suc e) all stays = omega (arith, stays refl, took.pulls, few)
 
-  pub spends_again : Takes b calls h i → calls ≤ n → length h ≤ n → Spends (rejoined_of h calls 0 0 i) n (rejoined_of k d q g j) 0 → Spends b n j 0
-  spends_again took few short p =
+  pub spends_again : Takes b calls h i → calls ≤ o → calls ≤ n → length h ≤ n → Spends (rejoined_of h o 0 0 i) n (rejoined_of k d q g j) 0 → Spends b n j 0
+  spends_again took enough few short p =
       let known : IsSome b.to_come → _ = counted b.to_come i.to_come j.to_come h k n took.bytes short p.tells p.bytes (bytes_stay p.accounts) in
       record {
-        pulls = paid p.accounts took few p.pulls;
-        failures = ((called_last p.accounts took).well p.failures).1;
+        pulls = paid p.accounts took enough few p.pulls;
+        failures = ((called_last p.accounts took enough).well p.failures).1;
         tells = λ t. (known t).0;
         bytes = λ t. (known t).1;
         accounts = λ m all says. others_carried p.accounts m all (took.accounts m all says);
       }
 
-  has_failed : n < 2 ^ 64 - 1 → Fails (rejoined_of h calls 0 0 i) n (rejoined_of k d q g j) 0 → 0 < g
+  has_failed : n < 2 ^ 64 - 1 → Fails (rejoined_of h o 0 0 i) n (rejoined_of k d q g j) 0 → 0 < g
   has_failed small p = elim p.failed [
     | inl one ↦ omega (arith, one)
     | inr worn ↦ absurd (omega (arith, worn.0, worn.1, p.pulls, small))
   ]
 
-  pub fails_again : n < 2 ^ 64 - 1 → Takes b calls h i → calls ≤ n → length h ≤ n → Fails (rejoined_of h calls 0 0 i) n (rejoined_of k d q g j) 0 → Fails b n j 0
-  fails_again small took few short p =
+  pub fails_again : n < 2 ^ 64 - 1 → Takes b calls h i → calls ≤ o → calls ≤ n → length h ≤ n → Fails (rejoined_of h o 0 0 i) n (rejoined_of k d q g j) 0 → Fails b n j 0
+  fails_again small took enough few short p =
       let known : IsSome b.to_come → _ = counted b.to_come i.to_come j.to_come h k n took.bytes short p.tells p.bytes (bytes_stay p.accounts) in
       record {
-        pulls = paid p.accounts took few p.pulls;
-        failed = ((called_last p.accounts took).lost (has_failed small p)).1;
+        pulls = paid p.accounts took enough few p.pulls;
+        failed = ((called_last p.accounts took enough).lost (has_failed small p)).1;
         tells = λ t. (known t).0;
         bytes = λ t. (known t).1;
         accounts = λ m all says. others_carried p.accounts m all (took.accounts m all says);
@@ -186,25 +189,25 @@ checked_fault judged setting limits first b j fault result tree is = subst (λ (
 })
 
 -- the input was read after these bytes of it were taken
-module _ (setting : Setting) (limits : Limits) (first h k : List ℕ) (calls d q g : ℕ) (b i j : Incoming) (small : limits.bytes + 1 < 2 ^ 64 - 1) (took : Takes b calls h i) (few : calls ≤ limits.bytes + 1) (short : length h ≤ limits.bytes + 1) where
-  spent_again : Spent limits (rejoined_of h calls 0 0 i) (rejoined_of k d q g j) → Spent limits b j
-  spent_again = spends_again h k calls d q g b i j (limits.bytes + 1) took few short
+module _ (setting : Setting) (limits : Limits) (first h k : List ℕ) (calls o d q g : ℕ) (b i j : Incoming) (small : limits.bytes + 1 < 2 ^ 64 - 1) (took : Takes b calls h i) (enough : calls ≤ o) (few : calls ≤ limits.bytes + 1) (short : length h ≤ limits.bytes + 1) where
+  spent_again : Spent limits (rejoined_of h o 0 0 i) (rejoined_of k d q g j) → Spent limits b j
+  spent_again = spends_again h k calls o d q g b i j (limits.bytes + 1) took enough few short
 
-  tree_again : (fault : Fault) → ReadsTree setting limits (rejoined_of h calls 0 0 i) (Err fault) (rejoined_of k d q g j) → ReadsTree setting limits b (Err fault) j
+  tree_again : (fault : Fault) → ReadsTree setting limits (rejoined_of h o 0 0 i) (Err fault) (rejoined_of k d q g j) → ReadsTree setting limits b (Err fault) j
   tree_again (Refused reason bit) read = (
     spent_again read.0,
     λ known. let same = same_bytes b.to_come i.to_come h took.bytes known in
         subst (λ (o : Option (List ℕ)). BreaksInput limits (known_bytes o) (at reason bit)) same (read.1 (subst IsSome (sym same) known)),
   )
-  tree_again Read read = fails_again h k calls d q g b i j (limits.bytes + 1) small took few short read
+  tree_again Read read = fails_again h k calls o d q g b i j (limits.bytes + 1) small took enough few short read
   tree_again Memory read = spent_again read
   tree_again Write read = absurd read
   tree_again OutputTooLong read = absurd read
   tree_again Failed read = absurd read
 
   -- nothing was called
-  same_spent : rejoined_of k d q g j ≡ rejoined_of h calls 0 0 i → Spent limits b j
-  same_spent same = spent_again (subst (λ (s : Incoming). Spent limits (rejoined_of h calls 0 0 i) s) (sym same) (record {
+  same_spent : rejoined_of k d q g j ≡ rejoined_of h o 0 0 i → Spent limits b j
+  same_spent same = spent_again (subst (λ (s : Incoming). Spent limits (rejoined_of h o 0 0 i) s) (sym same) (record {
     pulls = omega arith;
     failures = refl;
     tells = λ known. known;
@@ -212,11 +215,11 @@ module _ (setting : Setting) (limits : Limits) (first h k : List ℕ) (calls d q
     accounts = λ n all says. says;
   }))
 
-  second_tree : (which : Which) (fault : Fault) → NotRead setting limits which fault (rejoined_of h calls 0 0 i) (rejoined_of k d q g j) → ReadsTree setting limits b (Err fault) j
+  second_tree : (which : Which) (fault : Fault) → NotRead setting limits which fault (rejoined_of h o 0 0 i) (rejoined_of k d q g j) → ReadsTree setting limits b (Err fault) j
   second_tree First fault none = subst (λ (f : Fault). ReadsTree setting limits b (Err f) j) (sym none.0) (same_spent none.1)
   second_tree Second fault none = tree_again fault none
 
-  pub checked_again : (judged : Bool) (answer result : Result (Option Difference) SameFault) → ComparesWith setting limits first (rejoined_of h calls 0 0 i) answer (rejoined_of k d q g j) → OfSecond answer result → ComparesChecked judged setting limits first b result j
+  pub checked_again : (judged : Bool) (answer result : Result (Option Difference) SameFault) → ComparesWith setting limits first (rejoined_of h o 0 0 i) answer (rejoined_of k d q g j) → OfSecond answer result → ComparesChecked judged setting limits first b result j
   checked_again judged (Ok found) result read is = checked_found judged setting limits first b j found result (
     spent_again read.0,
     λ known.
@@ -226,80 +229,19 @@ module _ (setting : Setting) (limits : Limits) (first h k : List ℕ) (calls d q
   ) is
   checked_again judged (Err e) result none is = checked_fault judged setting limits first b j e.fault result (second_tree e.which e.fault none) is
 
-pub checked_front : (judged : Bool) (setting : Setting) (limits : Limits) (first next : List ℕ) (count more calls : ℕ) (b i r j s : Incoming) (k : List ℕ) (d q g : ℕ) (answer result : Result (Option Difference) SameFault) → Capped limits → length next ≡ 1 → TakesFront limits first next b count more calls i
-    → r ≡ rejoined_of (take count first ++ take more next) calls 0 0 i → s ≡ rejoined_of k d q g j → ComparesWith setting limits first r answer s → OfSecond answer result → ComparesChecked judged setting limits first b result j
-checked_front judged setting limits first next count more calls b i r j s k d q g answer result capped one front begun ended read is =
-    let h = take count first ++ take more next in
-    let held : length h ≡ length (take count first) + length (take more next) = length-append (take count first) (take more next) in
-    let short : length h ≤ limits.bytes + 1 = omega (arith, held, length-take count first, length-take more next, front.within, front.one, one) in
+pub checked_front : (judged : Bool) (setting : Setting) (limits : Limits) (first next : List ℕ) (f : Front) (b i r j s : Incoming) (k : List ℕ) (o d q g : ℕ) (answer result : Result (Option Difference) SameFault) → Capped limits → length next ≡ 1 → TakesFront limits first next b f i
+    → o ≡ slices_of f.width (length (take f.count first)) + min 1 (length (take f.next next)) → r ≡ rejoined_of (take f.count first ++ take f.next next) o 0 0 i → s ≡ rejoined_of k d q g j → ComparesWith setting limits first r answer s → OfSecond answer result → ComparesChecked judged setting limits first b result j
+checked_front judged setting limits first next f b i r j s k o d q g answer result capped one front owed begun ended read is =
+    let h = take f.count first ++ take f.next next in
+    let held : length h ≡ length (take f.count first) + length (take f.next next) = length-append (take f.count first) (take f.next next) in
+    let count : length (take f.count first) ≡ f.count = length-take-le f.count first front.few in
+    let more : length (take f.next next) ≡ f.next = length-take-le f.next next front.one in
+    let short : length h ≤ limits.bytes + 1 = omega (arith, held, count, more, front.within, front.one, one) in
     let small : limits.bytes + 1 < 2 ^ 64 - 1 = omega (arith, capped.bytes) in
-    let few : calls ≤ limits.bytes + 1 = omega (arith, front.each, front.within) in
-    let after = subst (λ (u : Incoming). ComparesWith setting limits first (rejoined_of h calls 0 0 i) answer u) ended (subst (λ (u : Incoming). ComparesWith setting limits first u answer s) begun read) in
-    checked_again setting limits first h k calls d q g b i j small front.takes few short judged answer result after is
-
--- ---- nothing was taken
-
-still_known : (b i : Option (List ℕ)) → Consumes b i [] → IsSome b → i ≡ b
-still_known None i took known = absurd cc
-still_known (Some xs) None took known = absurd took
-still_known (Some xs) (Some ys) took known = ap Some (sym took)
-
--- `b` is the source before it was looked at, and `i` the one after it
-module _ (b i j : Incoming) (took : Takes b 0 [] i) (n : ℕ) where
-  known_left : ((IsSome i.to_come) → IsSome j.to_come) → (IsSome i.to_come → length (known_bytes i.to_come) + 0 ≤ length (known_bytes j.to_come) + n) → IsSome b.to_come → IsSome j.to_come × (length (known_bytes b.to_come) + 0 ≤ length (known_bytes j.to_come) + n)
-  known_left tells bytes known =
-      let same = still_known b.to_come i.to_come took.bytes known in
-      let told = subst IsSome (sym same) known in
-      (tells told, subst (λ (o : Option (List ℕ)). length (known_bytes o) + 0 ≤ length (known_bytes j.to_come) + n) same (bytes told))
-
-  looked_spends : Spends i n j 0 → Spends b n j 0
-  looked_spends p = record {
-    pulls = omega (arith, p.pulls, took.pulls);
-    failures = p.failures ∙ took.failures;
-    tells = λ known. (known_left p.tells p.bytes known).0;
-    bytes = λ known. (known_left p.tells p.bytes known).1;
-    accounts = λ m all says. p.accounts m all (took.accounts m all says);
-  }
-
-  looked_fails : Fails i n j 0 → Fails b n j 0
-  looked_fails p = record {
-    pulls = omega (arith, p.pulls, took.pulls);
-    failed = elim p.failed [
-      | inl one ↦ inl (one ∙ ap (λ (k : ℕ). k + 1) took.failures)
-      | inr worn ↦ inr (worn.0 ∙ took.failures, worn.1)
-    ];
-    tells = λ known. (known_left p.tells p.bytes known).0;
-    bytes = λ known. (known_left p.tells p.bytes known).1;
-    accounts = λ m all says. p.accounts m all (took.accounts m all says);
-  }
-
-looked_tree : (setting : Setting) (limits : Limits) (b i j : Incoming) (fault : Fault) → Takes b 0 [] i → ReadsTree setting limits i (Err fault) j → ReadsTree setting limits b (Err fault) j
-looked_tree setting limits b i j (Refused reason bit) took read = (
-  looked_spends b i j took (limits.bytes + 1) read.0,
-  λ known.
-      let same = still_known b.to_come i.to_come took.bytes known in
-      subst (λ (o : Option (List ℕ)). BreaksInput limits (known_bytes o) (at reason bit)) same (read.1 (subst IsSome (sym same) known)),
-)
-looked_tree setting limits b i j Read took read = looked_fails b i j took (limits.bytes + 1) read
-looked_tree setting limits b i j Memory took read = looked_spends b i j took (limits.bytes + 1) read
-looked_tree setting limits b i j Write took read = absurd read
-looked_tree setting limits b i j OutputTooLong took read = absurd read
-looked_tree setting limits b i j Failed took read = absurd read
-
-looked_second : (setting : Setting) (limits : Limits) (b i j : Incoming) (which : Which) (fault : Fault) → Takes b 0 [] i → NotRead setting limits which fault i j → ReadsTree setting limits b (Err fault) j
-looked_second setting limits b i j First fault took none =
-    subst (λ (f : Fault). ReadsTree setting limits b (Err f) j) (sym none.0) (subst (λ (s : Incoming). Spent limits b s) (sym none.1) (spends_taken b i 0 (limits.bytes + 1) [] took (omega arith) (omega arith)))
-looked_second setting limits b i j Second fault took none = looked_tree setting limits b i j fault took none
-
-pub checked_looked : (judged : Bool) (setting : Setting) (limits : Limits) (first : List ℕ) (b i j : Incoming) (answer result : Result (Option Difference) SameFault) → Takes b 0 [] i → ComparesWith setting limits first i answer j → OfSecond answer result → ComparesChecked judged setting limits first b result j
-checked_looked judged setting limits first b i j (Ok found) result took read is = checked_found judged setting limits first b j found result (
-  looked_spends b i j took (limits.bytes + 1) read.0,
-  λ known.
-      let same = still_known b.to_come i.to_come took.bytes known in
-      let told = read.1 (subst IsSome (sym same) known) in
-      (told.0, subst (λ (o : Option (List ℕ)). SpellsInput limits (known_bytes o) told.0) same told.1, told.2, told.3),
-) is
-checked_looked judged setting limits first b i j (Err e) result took none is = checked_fault judged setting limits first b j e.fault result (looked_second setting limits b i j e.which e.fault took none) is
+    let few : front.calls ≤ limits.bytes + 1 = omega (arith, front.each, slices_most f.width f.count front.some, front.within, front.one, one) in
+    let enough : front.calls ≤ o = omega (arith, front.each, owed, ap (slices_of f.width) count, more, front.one, one) in
+    let after = subst (λ (u : Incoming). ComparesWith setting limits first (rejoined_of h o 0 0 i) answer u) ended (subst (λ (u : Incoming). ComparesWith setting limits first u answer s) begun read) in
+    checked_again setting limits first h k front.calls o d q g b i j small front.takes enough few short judged answer result after is
 
 -- ---- the input ended
 

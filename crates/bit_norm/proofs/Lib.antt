@@ -1,5 +1,6 @@
 pub mod AlikeBytes
 pub mod Apart
+pub mod Beginnings
 pub mod CheckedBytes
 pub mod ChunkCounting
 pub mod Comparisons
@@ -18,6 +19,7 @@ pub mod ValueTexts
 pub mod Building
 pub mod Forms
 pub mod Told
+pub mod Slices
 pub mod Telling
 pub mod Calls
 pub mod PlainRecords

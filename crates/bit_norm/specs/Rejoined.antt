@@ -1,5 +1,5 @@
 -- The effect of comparing the bytes of an input with those of another one before it is read.
-use Rattle.std.specs.Prelude.{◌≡◌, ◌≤◌, ◌+◌, ◌-◌, ◌^◌, ℕ, zero, suc, Bool, true, false, List, [], ◌∷◌, ◌++◌, length, take, Option, Some, None, Result, Ok, Err}
+use Rattle.std.specs.Prelude.{◌≡◌, ◌<◌, ◌≤◌, ◌+◌, ◌/◌, min, ◌-◌, ◌^◌, ℕ, zero, suc, Bool, true, false, List, [], ◌∷◌, ◌++◌, length, take, Option, Some, None, Result, Ok, Err}
 use Rattle.std.specs.Io.KnownBytes.{Consumes, IsAtEnd, prepend_known}
 use Rattle.bit_grammar.specs.Setting.{Setting}
 use Rattle.bit_grammar.specs.Blocks.{Limits}
@@ -13,16 +13,27 @@ use Rattle.bit_norm.specs.InStep.{ComparesWith}
 use Rattle.bit_norm.specs.declared.differences.Difference.{Difference}
 use Rattle.bit_norm.specs.declared.comparing.Which.TheVariants.{Second}
 use Rattle.bit_norm.specs.declared.comparing.SameFault.{SameFault}
-use Rattle.bit_norm.specs.declared.rejoined.Again.{Again}
+use Rattle.bit_norm.specs.declared.again.Again.{Again}
 use Rattle.bit_norm.specs.declared.alike.Common.{Common}
 use Rattle.bit_norm.specs.declared.alike.Beginning.{Beginning}
-use Rattle.bit_norm.specs.declared.alike.Beginning.TheVariants.{Nothing, Same, Ended, Front}
+use Rattle.bit_norm.specs.declared.alike.Stop.{Stop}
+use Rattle.bit_norm.specs.declared.alike.Stop.TheVariants.{Silent, Other, End}
+use Rattle.bit_norm.specs.declared.alike.Front.{Front}
+use Rattle.bit_norm.specs.declared.alike.Beginning.TheVariants.{Same, Ended, Taken}
 
 -- ---- a source that gives bytes again
 
 -- all bytes that are given again
 abbrev pub held_of : Again → List ℕ
-held_of a = a.slow.now ++ (a.front.now ++ a.next.now)
+held_of a = a.slice.now ++ (a.rest.now ++ a.next.now)
+
+-- in how many slices of this width so many bytes come
+abbrev pub slices_of : (width count : ℕ) → ℕ
+slices_of width count = (count + (width - 1)) / width
+
+-- in how many slices, and so in how many calls at least, all these bytes are given
+abbrev pub owed_of : Again → ℕ
+owed_of a = min 1 (length a.slice.now) + (slices_of a.width (length a.rest.now) + min 1 (length a.next.now))
 
 -- the list has an element
 abbrev pub has_some : List ℕ → Bool
@@ -65,12 +76,14 @@ pub record Takes (old : Incoming) (calls : ℕ) (gone : List ℕ) (new : Incomin
   pub failures : new.failures ≡ old.failures
   pub accounts : (n : ℕ) (all : List ℕ) → SaysOf old.accounts n all → SaysOf new.accounts n all
 
--- the next bytes were taken, and are the first of these
-abbrev pub TakesNext : (rest : List ℕ) → Incoming → Result (Option ℕ) SourceFailed → Incoming → Type 0
-TakesNext rest old (Ok None) new = Takes old 0 [] new
-TakesNext rest old (Ok (Some count)) new = (count ≤ length rest) × (count ≡ 0 → IsAtEnd new.to_come)
+-- the next slice was taken, and is the first of these bytes
+abbrev pub TakesSlice : (rest : List ℕ) (most : ℕ) → Incoming → Result (Result ℕ Stop) SourceFailed → Incoming → Type 0
+TakesSlice rest most old (Ok (Ok count)) new = (count ≤ length rest) × (count ≤ most) × (0 < count)
     × Takes old 1 (take count rest) new
-TakesNext rest old (Err e) new = GaveNone old new
+TakesSlice rest most old (Ok (Err End)) new = IsAtEnd new.to_come × Takes old 1 [] new
+TakesSlice rest most old (Ok (Err Silent)) new = Takes old 0 [] new
+TakesSlice rest most old (Ok (Err Other)) new = Takes old 0 [] new
+TakesSlice rest most old (Err e) new = GaveNone old new
 
 -- some first bytes of these were taken, and then the source failed
 pub record Breaks (first : List ℕ) (old new : Incoming) : Type 0 where
@@ -82,25 +95,42 @@ pub record Breaks (first : List ℕ) (old new : Incoming) : Type 0 where
   pub takes : Takes old calls (take count first) mid
   pub none : GaveNone mid new
 
--- there were no more calls than bytes, or one more, if the source then ended
-abbrev pub StopsAt : (ended : Bool) → (count calls : ℕ) → Incoming → Type 0
-StopsAt false count calls new = calls ≤ count
-StopsAt true count calls new = (calls ≤ count + 1) × IsAtEnd new.to_come
+-- there were no more calls than slices, or one more, if the source then ended
+abbrev pub StopsAt : Stop → (slices calls : ℕ) → Incoming → Type 0
+StopsAt Silent slices calls new = calls ≤ slices
+StopsAt Other slices calls new = calls ≤ slices
+StopsAt End slices calls new = (calls ≤ slices + 1) × IsAtEnd new.to_come
+
+-- some first bytes of these were taken, in slices of this width
+pub record TakesSlices (first : List ℕ) (old : Incoming) (c : Common) (new : Incoming) : Type 0 where
+  pub few : c.count ≤ length first
+  pub some : 0 < c.width
+  pub calls : ℕ
+  pub stops : StopsAt c.stop (slices_of c.width c.count) calls new
+  pub takes : Takes old calls (take c.count first) new
 
 -- some first bytes of these were taken
 abbrev pub TakesCommon : (first : List ℕ) → Incoming → Result Common SourceFailed → Incoming → Type 0
-TakesCommon first old (Ok c) new = (c.count ≤ length first) × StopsAt c.ended c.count c.calls new
-    × Takes old c.calls (take c.count first) new
+TakesCommon first old (Ok c) new = TakesSlices first old c new
 TakesCommon first old (Err e) new = Breaks first old new
 
--- these bytes of an input were taken: some of another one, and `more` after them
-pub record TakesFront (limits : Limits) (first next : List ℕ) (old : Incoming)
-    (count more calls : ℕ) (new : Incoming) : Type 0 where
-  pub few : count ≤ length first
-  pub within : count ≤ limits.bytes
-  pub one : more ≤ length next
-  pub each : calls ≤ count
-  pub takes : Takes old calls (take count first ++ take more next) new
+-- the next bytes were taken, or the source was looked at
+abbrev pub TakesNext : (next : List ℕ) → Incoming → Result (Option ℕ) SourceFailed → Incoming → Type 0
+TakesNext next old (Ok None) new = Takes old 0 [] new
+TakesNext next old (Ok (Some count)) new = (count ≤ length next) × (count ≡ 0 → IsAtEnd new.to_come)
+    × Takes old 1 (take count next) new
+TakesNext next old (Err e) new = GaveNone old new
+
+-- these bytes of an input were taken: some of another one, and others after them
+pub record TakesFront (limits : Limits) (first next : List ℕ) (old : Incoming) (f : Front) (new : Incoming)
+    : Type 0 where
+  pub few : f.count ≤ length first
+  pub within : f.count ≤ limits.bytes
+  pub one : f.next ≤ length next
+  pub some : 0 < f.width
+  pub calls : ℕ
+  pub each : calls ≤ slices_of f.width f.count + f.next
+  pub takes : Takes old calls (take f.count first ++ take f.next next) new
 
 -- all bytes of an input were taken, and are these
 pub record TakesSame (limits : Limits) (first : List ℕ) (old new : Incoming) : Type 0 where
@@ -120,11 +150,9 @@ pub record TakesEnd (limits : Limits) (first : List ℕ) (old : Incoming) (count
 
 -- the effect of taking the bytes of an input that begin as these
 abbrev pub Begins : Limits → (first next : List ℕ) → Incoming → Result Beginning SourceFailed → Incoming → Type 0
-Begins limits first next old (Ok Nothing) new = Takes old 0 [] new
 Begins limits first next old (Ok Same) new = TakesSame limits first old new
 Begins limits first next old (Ok (Ended count)) new = TakesEnd limits first old count new
-Begins limits first next old (Ok (Front count more calls)) new =
-    TakesFront limits first next old count more calls new
+Begins limits first next old (Ok (Taken front)) new = TakesFront limits first next old front new
 Begins limits first next old (Err e) new = LostInput limits old new
 
 -- ---- the comparison

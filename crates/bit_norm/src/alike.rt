@@ -2,22 +2,21 @@
 
 ghost use Rattle.std.specs.Prelude.{◌≡◌, ◌≤◌, length, take, true};
 ghost use Rattle.bit_grammar.specs.Setting.{setting_of};
-ghost use Rattle.bit_norm.specs.Rejoined.{Begins, ComparesChecked, Confirms, OfSecond, TakesCommon, TakesNext};
+ghost use Rattle.bit_norm.specs.Rejoined.{Begins, ComparesChecked, Confirms, OfSecond, TakesCommon, TakesNext, TakesSlice};
 
+use crate::again::Again;
 use crate::comparing::{SameFault, Which, faulty};
 use crate::differences::Difference;
 use crate::in_step::compare_with;
-use crate::rejoined::{Again, Rejoined};
+use crate::rejoined::Rejoined;
 use bit_events::check;
 use bit_fields::{Fault, Limits, SliceSource, Source, SourceFailed};
+use bit_grammar::WRAPPER_MAGIC;
 use bit_tree::Info;
 use std::alloc::Global;
 
-/// How many bytes are compared at once where two slices are not the same.
-const CHUNK: usize = 64;
-
-/// How many bytes are compared before a source takes them. It may take few of those that it lends, and lend the others again.
-const STEP: usize = 1024;
+#[cfg(test)]
+mod asking_tests;
 
 /// Whether two slices have the same bytes.
 #[inline(always)]
@@ -27,98 +26,132 @@ fn are_equal(a: &[u8], b: &[u8]) -> bool
     a == b
 }
 
-/// The length of a common front of two slices, at most `STEP`: all that they have in common up to there, or some chunks of it.
-fn common_front(a: &[u8], b: &[u8]) -> usize
-    ensures same { take result a.now ≡ take result b.now }
-    ensures first { result ≤ length a.now }
-    ensures second { result ≤ length b.now }
+/// The length of a slice that has at most `most` bytes and is a front of these, or else 0.
+fn whole_front(slice: &[u8], rest: &[u8], most: usize) -> usize
+    ensures same { take result slice.now ≡ take result rest.now }
+    ensures first { result ≤ length slice.now }
+    ensures second { result ≤ length rest.now }
+    ensures most { result ≤ most }
 {
-    let least = a.len().min(b.len()).min(STEP);
-    if are_equal(&a[..least], &b[..least]) {
-        return least;
+    let count = slice.len();
+    if count <= most && count <= rest.len() && are_equal(slice, &rest[..count]) {
+        return count;
     }
-    let mut same = 0;
-    while least - same >= CHUNK {
-        let end = same + CHUNK;
-        if !are_equal(&a[same..end], &b[same..end]) {
-            return same;
-        }
-        same = end;
-    }
-    same
+    0
 }
 
-/// Takes the next bytes of a source that are buffered and are the next of these, and returns how many. `None`: it was not called.
-fn take_next<S: Source>(rest: &[u8], source: &mut S) -> Result<Option<usize>, SourceFailed>
-    ensures { TakesNext rest.now (S.incoming source.old) result (S.incoming source.new) }
+/// Why no more bytes are taken.
+#[derive(Clone, Copy)]
+pub(crate) enum Stop {
+    /// The source lends nothing.
+    Silent,
+    /// The next slice is another one, or too long.
+    Other,
+    /// The source ended.
+    End,
+}
+
+/// Takes the slice that a source lends next, if it has at most `most` bytes and is a front of these, and returns how many bytes were
+/// taken of it.
+fn take_slice<S: Source>(
+    rest: &[u8],
+    most: usize,
+    source: &mut S,
+) -> Result<Result<usize, Stop>, SourceFailed>
+    ensures { TakesSlice rest.now most (S.incoming source.old) result (S.incoming source.new) }
 {
     if !source.look()? {
-        return Ok(None);
+        return Ok(Err(Stop::Silent));
     }
-    let count = common_front(source.lend(), rest);
+    let count = whole_front(source.lend(), rest, most);
     if count == 0 {
-        return Ok(None);
+        return Ok(Err(Stop::Other));
     }
-    Ok(Some(source.pass(count)?))
+    match source.pass(count)? {
+        0 => Ok(Err(Stop::End)),
+        taken => Ok(Ok(taken)),
+    }
 }
 
-/// How many bytes of an input are the first ones of another, in how many calls they were taken, and whether the input then ended.
+/// How many bytes of an input are the first ones of another, and why no more were taken. They came in slices of `width` bytes, the
+/// last of them perhaps shorter.
 #[derive(Clone, Copy)]
 pub(crate) struct Common {
     count: usize,
-    calls: usize,
-    ended: bool,
+    width: usize,
+    stop: Stop,
 }
 
-/// Takes bytes of a source as long as they are buffered and are the next of these. There are no more calls than bytes, or one more
-/// if the source lent bytes and then had none.
+/// Takes slices of a source as long as they are lent, are the next of these bytes and have the same length; after a shorter one it
+/// takes no more.
 fn take_common<S: Source>(first: &[u8], source: &mut S) -> Result<Common, SourceFailed>
     ensures { TakesCommon first.now (S.incoming source.old) result (S.incoming source.new) }
 {
     let mut count = 0;
-    let mut calls = 0;
+    let mut width = usize::MAX;
     while count < first.len() {
-        match take_next(&first[count..], source)? {
-            None => break,
-            Some(more) => {
-                calls += 1;
-                if more == 0 {
-                    return Ok(Common {
-                        count,
-                        calls,
-                        ended: true,
-                    });
+        match take_slice(&first[count..], width, source)? {
+            Err(stop) => return Ok(Common { count, width, stop }),
+            Ok(taken) => {
+                if count == 0 {
+                    width = taken;
                 }
-                count += more;
+                count += taken;
+                if taken < width {
+                    break;
+                }
             }
         }
     }
     Ok(Common {
         count,
-        calls,
-        ended: false,
+        width,
+        stop: Stop::Other,
     })
+}
+
+/// Whether a reader of these bytes looks at its source before it asks for the end: it is not at the limit, nor behind a wrapper.
+fn is_looked_for(first: &[u8], limits: Limits) -> bool {
+    let magic = (WRAPPER_MAGIC as u32).to_le_bytes();
+    (first.len() as u64) < limits.bytes() && !first.starts_with(&magic)
+}
+
+/// Bytes of an input that were taken: `count` of another one in slices of `width` bytes, and `next` after them. If the input is
+/// `silent`, it was then looked at and lent nothing.
+#[derive(Clone, Copy)]
+pub(crate) struct Front {
+    count: usize,
+    width: usize,
+    next: usize,
+    silent: bool,
+}
+
+/// Takes the next byte of a source, and returns how many there are. `None`: it was only looked at, and lends more.
+fn take_next<S: Source>(
+    source: &mut S,
+    looks: bool,
+    next: &mut [u8; 1],
+) -> Result<Option<usize>, SourceFailed>
+    ensures { TakesNext next.new (S.incoming source.old) result (S.incoming source.new) }
+{
+    if looks && source.look()? {
+        return Ok(None);
+    }
+    Ok(Some(source.pull(next)?))
 }
 
 /// How an input begins, compared with another one.
 pub(crate) enum Beginning {
-    /// Nothing was taken of it, and it was at most looked at.
-    Nothing,
     /// It has the same bytes, and no more.
     Same,
     /// It has the first `count` bytes, and no more.
-    Ended {
-        count: usize,
-    },
-    /// These bytes were taken in some calls: `count` of the other one, and `next` after them.
-    Front {
-        count: usize,
-        next: usize,
-        calls: usize,
-    },
+    Ended { count: usize },
+    /// These bytes were taken.
+    Taken(Front),
 }
 
-/// Takes the bytes of a source that begin as these, as far as they are buffered. If they are all, it asks for the next one.
+/// Takes the bytes of a source that begin as these, as far as they are lent. If they are all, it asks for the next one, as a reader
+/// does.
 ///
 /// A source that lends bytes and then gives none is at its end, and is not called again.
 fn take_beginning<S: Source>(
@@ -129,34 +162,32 @@ fn take_beginning<S: Source>(
 ) -> Result<Beginning, SourceFailed>
     ensures { Begins limits first.now next.new (S.incoming source.old) result (S.incoming source.new) }
 {
+    let mut front = Front {
+        count: 0,
+        width: 1,
+        next: 0,
+        silent: false,
+    };
     if first.len() as u64 > limits.bytes() {
-        return Ok(Beginning::Nothing);
+        return Ok(Beginning::Taken(front));
     }
-    let Common {
-        count,
-        calls,
-        ended,
-    } = take_common(first, source)?;
-    if ended {
+    let Common { count, width, stop } = take_common(first, source)?;
+    if let Stop::End = stop {
         return Ok(Beginning::Ended { count });
     }
-    if count == 0 {
-        return Ok(Beginning::Nothing);
+    front.count = count;
+    front.width = width;
+    if count < first.len() {
+        front.silent = matches!(stop, Stop::Silent);
+        return Ok(Beginning::Taken(front));
     }
-    if count < first.len() || calls == count {
-        return Ok(Beginning::Front {
-            count,
-            next: 0,
-            calls,
-        });
-    }
-    match source.pull(next)? {
-        0 => Ok(Beginning::Same),
-        next => Ok(Beginning::Front {
-            count,
-            next,
-            calls: calls + 1,
-        }),
+    match take_next(source, is_looked_for(first, limits), next)? {
+        None => Ok(Beginning::Taken(front)),
+        Some(0) => Ok(Beginning::Same),
+        Some(more) => {
+            front.next = more;
+            Ok(Beginning::Taken(front))
+        }
     }
 }
 
@@ -196,7 +227,7 @@ fn confirm(
 /// is returned in its present state.
 ///
 /// The bytes of both are compared first, and if they are all the same the input is read no further. Else it is read in step with
-/// the other bytes. If these are not known to be accepted, unless their source was known, say that they are not `judged`.
+/// the other bytes, from a source that lends the slices that were taken again: it is asked where the input itself would be. If these are not known to be accepted, unless their source was known, say that they are not `judged`.
 pub(crate) fn compare_checked<S: Source>(
     alloc: Global,
     first: &[u8],
@@ -213,25 +244,16 @@ pub(crate) fn compare_checked<S: Source>(
     let mut source = source;
     let mut next = [0];
     match take_beginning(first, &mut source, limits, &mut next) {
-        Ok(Beginning::Nothing) => {
-            let (answer, source) = compare_with(alloc, first, source, limits, info);
-            (of_second(answer), source)
-        }
         Ok(Beginning::Same) => (confirm(alloc, first, limits, judged), source),
         Ok(Beginning::Ended { count }) => {
             let all = SliceSource::new(&first[..count]);
             let (answer, _) = compare_with(alloc, first, all, limits, info);
             (of_second(answer), source)
         }
-        Ok(
-            Beginning::Front {
-                count,
-                next: more,
-                calls,
-            },
-        ) => {
-            let again = Again::new(&first[..count], &next[..more], calls);
-            let rejoined = Rejoined::new(again, source);
+        Ok(Beginning::Taken(front)) => {
+            let bytes = &first[..front.count];
+            let again = Again::new(bytes, front.width, &next[..front.next]);
+            let rejoined = Rejoined::new(again, source, front.silent);
             let (answer, rejoined) = compare_with(alloc, first, rejoined, limits, info);
             (of_second(answer), rejoined.into_inner())
         }

@@ -1,70 +1,83 @@
 //! A source some of whose bytes were taken before, and are given again.
 
-ghost use Rattle.std.specs.Prelude.{◌≡◌, ◌<◌, ◌≤◌, ◌+◌, ◌-◌, ◌++◌, ◌^◌, ℕ, List, [], length, true, false, IfOk, OnErr};
+ghost use Rattle.std.specs.Prelude.{◌≡◌, ◌<◌, ◌≤◌, ◌+◌, ◌-◌, ◌++◌, ◌^◌, ℕ, List, [], length, min, true, false, IfOk, OnErr};
 ghost use Rattle.bit_fields.specs.Devices.{GaveNone, IsFresh};
-ghost use Rattle.bit_norm.specs.Rejoined.{rejoined_of, held_of};
+ghost use Rattle.bit_norm.specs.Rejoined.{rejoined_of, held_of, owed_of, slices_of};
 
+use crate::again::Again;
 use bit_fields::{Source, SourceFailed};
 
-/// Bytes that are given again: the first ones one at a call, so that there are as many calls as those that took all of them.
-#[derive(Clone, Copy)]
-pub(crate) struct Again<'a> {
-    slow: &'a [u8],
-    front: &'a [u8],
-    next: &'a [u8],
-}
-
 impl<'a> Again<'a> {
-    /// Gives bytes again that were taken in `calls` calls, and then others.
-    pub(crate) fn new(bytes: &'a [u8], next: &'a [u8], calls: usize) -> Again<'a>
-        requires { calls ≤ length bytes.now }
+    /// Gives bytes again that were taken in slices of `width` bytes, and then others.
+    pub(crate) fn new(bytes: &'a [u8], width: usize, next: &'a [u8]) -> Again<'a>
+        requires { 0 < width }
         ensures held { held_of result ≡ bytes.now ++ next.now }
-        ensures slow { length result.slow.now ≡ calls }
+        ensures owed { owed_of result ≡ slices_of width (length bytes.now) + min 1 (length next.now) }
     {
-        let (slow, front) = bytes.split_at(calls);
-        Again { slow, front, next }
+        Again::behind(&[], bytes, width, next)
+    }
+
+    /// Gives the rest of a slice again, and what is behind it.
+    #[inline(always)]
+    fn behind(slice: &'a [u8], rest: &'a [u8], width: usize, next: &'a [u8]) -> Again<'a>
+        requires { 0 < width }
+        ensures held { held_of result ≡ slice.now ++ (rest.now ++ next.now) }
+        ensures owed { owed_of result ≡ min 1 (length slice.now)
+            + (slices_of width (length rest.now) + min 1 (length next.now)) }
+    {
+        if !slice.is_empty() {
+            return Again {
+                slice,
+                rest,
+                width,
+                next,
+            };
+        }
+        if rest.is_empty() {
+            return Again {
+                slice: next,
+                rest,
+                width,
+                next: &[],
+            };
+        }
+        let (slice, rest) = rest.split_at(width.min(rest.len()));
+        Again {
+            slice,
+            rest,
+            width,
+            next,
+        }
     }
 
     /// Whether all were given.
     #[inline(always)]
     fn is_over(&self) -> bool
-        ensures over { result ≡ true → (held_of self.now ≡ []) × (length self.now.slow.now ≡ 0) }
+        ensures over { result ≡ true → (held_of self.now ≡ []) × (owed_of self.now ≡ 0) }
         ensures goes_on { result ≡ false → 0 < length (held_of self.now) }
     {
-        self.slow.is_empty() && self.front.is_empty() && self.next.is_empty()
+        self.slice.is_empty()
     }
 
-    /// Takes the next bytes, at most `most`; none only if there are none, or room for none.
+    /// Takes the next bytes of a slice, at most `most`; none only if there are none, or room for none.
     fn take(&mut self, most: usize) -> &'a [u8]
         ensures held { held_of self.old ≡ result.now ++ held_of self.new }
         ensures few { length result.now ≤ most }
         ensures some { 0 < most → 0 < length (held_of self.old) → 0 < length result.now }
-        ensures slow { length self.old.slow.now ≤ length self.new.slow.now + 1 }
-        ensures slower { length self.new.slow.now ≤ length self.old.slow.now }
+        ensures owed { owed_of self.old ≤ owed_of self.new + 1 }
+        ensures fewer { owed_of self.new ≤ owed_of self.old }
     {
-        if !self.slow.is_empty() {
-            let (given, rest) = self.slow.split_at(most.min(1));
-            self.slow = rest;
-            return given;
-        }
-        if self.front.is_empty() {
-            self.front = self.next;
-            self.next = &[];
-        }
-        let (given, rest) = self.front.split_at(most.min(self.front.len()));
-        self.front = rest;
+        let (given, left) = self.slice.split_at(most.min(self.slice.len()));
+        *self = Again::behind(left, self.rest, self.width, self.next);
         given
     }
 
-    /// The next bytes, as far as they stand in one place.
+    /// The slice that is given next.
     #[inline(always)]
     fn shown(&self) -> &'a [u8]
         ensures { (rest : List ℕ) × (held_of self.now ≡ result.now ++ rest) }
     {
-        if !self.slow.is_empty() {
-            return self.slow;
-        }
-        self.front
+        self.slice
     }
 }
 
@@ -76,18 +89,21 @@ impl<'a> Again<'a> {
 pub(crate) struct Rejoined<'a, S> {
     again: Again<'a>,
     source: S,
+    /// The other source was just looked at, and lends nothing.
+    silent: bool,
     pulls: u64,
     failures: u64,
 }
 
 impl<'a, S: Source> Rejoined<'a, S> {
-    pub(crate) fn new(again: Again<'a>, source: S) -> Rejoined<'a, S>
+    pub(crate) fn new(again: Again<'a>, source: S, silent: bool) -> Rejoined<'a, S>
         ensures { ⟦<Rejoined<'a, S> as Source>⟧.incoming result
-            ≡ rejoined_of (held_of again.entry) (length again.entry.slow.now) 0 0 (S.incoming source) }
+            ≡ rejoined_of (held_of again.entry) (owed_of again.entry) 0 0 (S.incoming source) }
     {
         Rejoined {
             again,
             source,
+            silent,
             pulls: 0,
             failures: 0,
         }
@@ -130,7 +146,7 @@ impl<'a, S: Source> Rejoined<'a, S> {
 }
 
 impl<'a, S: Source> Source for Rejoined<'a, S> {
-    ghost incoming = { λ s. rejoined_of (held_of s.again) (length s.again.slow.now) s.pulls s.failures
+    ghost incoming = { λ s. rejoined_of (held_of s.again) (owed_of s.again) s.pulls s.failures
         (S.incoming s.source) };
 
     #[inline]
@@ -157,6 +173,10 @@ impl<'a, S: Source> Source for Rejoined<'a, S> {
         }
         if !self.again.is_over() {
             return Ok(true);
+        }
+        if self.silent {
+            self.silent = false;
+            return Ok(false);
         }
         match self.source.look() {
             Ok(some) => Ok(some),

@@ -1,11 +1,9 @@
 //! Inputs whose bytes begin alike.
 
-ghost use Rattle.std.specs.Prelude.{None, []};
-
 use crate::fault_tests::agrees;
 use crate::input_tests::{Cuts, bytes_of};
 use crate::{Info, first_difference, first_difference_from, first_difference_in_parts};
-use bit_fields::{BufSource, Limits, SliceSource, Source, SourceFailed};
+use bit_fields::{BufSource, Limits, SliceSource, Source};
 use std::alloc::{AllocError, Global};
 use std::io;
 use std::io::BufReader;
@@ -123,54 +121,5 @@ fn equal_inputs_are_told(rt: HostRuntime) {
         let source = buffered(rt.alloc(), &first, room, 9).expect(&rt, "memory");
         let wanted = "Err(SameFault { which: Second, fault: Read })";
         agrees(&rt, told(rt.alloc(), &first, source), wanted, "no end");
-    }
-}
-
-/// A source that ends before the end of the bytes that it lends.
-#[derive(Drop)]
-struct EndsEarly<'a> {
-    lent: &'a [u8],
-    left: usize,
-    pulls: u64,
-}
-
-impl<'a> Source for EndsEarly<'a> {
-    ghost incoming = { λ s. record { to_come = None; pulls = s.pulls; failures = 0; accounts = [] } };
-
-    fn pull(&mut self, into: &mut [u8]) -> Result<usize, SourceFailed> {
-        if self.pulls == u64::MAX {
-            return Err(SourceFailed);
-        }
-        self.pulls += 1;
-        let count = into.len().min(self.left).min(self.lent.len());
-        let (given, rest) = self.lent.split_at(count);
-        into[..count].copy_from_slice(given);
-        self.lent = rest;
-        self.left -= count;
-        Ok(count)
-    }
-
-    fn look(&mut self) -> Result<bool, SourceFailed> {
-        Ok(!self.lent.is_empty() && self.pulls < u64::MAX)
-    }
-
-    fn lend(&mut self) -> &[u8] {
-        self.lent
-    }
-}
-
-#[test]
-fn an_end_before_lent_bytes(rt: HostRuntime) {
-    let first = bytes_of(rt.alloc(), "M E S E").expect(&rt, "memory");
-    let bytes = first.as_slice();
-    for count in 0..bytes.len() {
-        let source = SliceSource::new(&bytes[..count]);
-        let wanted = told(rt.alloc(), bytes, source).expect(&rt, "memory");
-        let source = EndsEarly {
-            lent: bytes,
-            left: count,
-            pulls: 0,
-        };
-        agrees(&rt, told(rt.alloc(), bytes, source), &wanted, "an end");
     }
 }

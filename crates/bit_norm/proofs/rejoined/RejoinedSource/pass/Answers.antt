@@ -1,5 +1,4 @@
-use Rattle.std.proofs.Common.{length}
-use Rattle.bit_norm.specs.Rejoined.{held_of}
+use Rattle.bit_norm.specs.Rejoined.{held_of, owed_of}
 use Rattle.bit_norm.proofs.GivenAgain.{unseen_again, unseen_behind, none_behind}
 use Rattle.bit_norm.proofs.rejoined.RejoinedSource.pass.Goals as goal
 
@@ -10,9 +9,9 @@ returns-then-not-is_over g c =
     let held = rw (began.2) at c.take.ensures.held in
     let some = rw (began.2) at c.take.ensures.some in
     let goes_on = rw (began.2) at (c.is_over.ensures.goes_on c.if-not-is_over.true) in
-    let slow = rw (began.2) at c.take.ensures.slow in
-    let slower = rw (began.2) at c.take.ensures.slower in
-    rw (began.2, began.0) (unseen_again (held_of c.args.self.now.again) given (held_of c.take.new.self) (length c.args.self.now.again.slow.now) (length c.take.new.self.slow.now) c.args.self.now.pulls c.args.most (g.S.Source.incoming c.args.self.now.source) began.1 held slow slower (some c.requires goes_on) c.take.ensures.few)
+    let owed = rw (began.2) at c.take.ensures.owed in
+    let fewer = rw (began.2) at c.take.ensures.fewer in
+    rw (began.2, began.0) (unseen_again (held_of c.args.self.now.again) given (held_of c.take.new.self) (owed_of c.args.self.now.again) (owed_of c.take.new.self) c.args.self.now.pulls c.args.most (g.S.Source.incoming c.args.self.now.source) began.1 held owed fewer (some c.requires goes_on) c.take.ensures.few)
 
 pub returns-in-Ok : goal.returns-in-Ok
 returns-in-Ok g c =

@@ -1,5 +1,5 @@
 use Rattle.std.proofs.Common.{◌≡◌, ◌∙◌, ◌+◌, ◌-◌, ◌++◌, List, ℕ, arith, ap, take, drop, length, length-append, length-drop}
-use Rattle.bit_norm.specs.Rejoined.{held_of}
+use Rattle.bit_norm.specs.Rejoined.{held_of, owed_of}
 use lib.Seq.{take-append_seam}
 use Rattle.bit_norm.proofs.GivenAgain.{gave_again, gave_behind, none_behind}
 use Rattle.bit_norm.proofs.rejoined.RejoinedSource.pull.Goals as goal
@@ -17,9 +17,9 @@ returns-then-not-is_over g c =
     let held = rw (began.2) at c.take-given.ensures.held in
     let some = rw (began.2) at c.take-given.ensures.some in
     let goes_on = rw (began.2) at (c.is_over.ensures.goes_on c.if-not-is_over.true) in
-    let slow = rw (began.2) at c.take-given.ensures.slow in
-    let slower = rw (began.2) at c.take-given.ensures.slower in
-    rw (began.2, began.0) (gave_again (held_of c.args.self.now.again) given (held_of c.take-given.new.self) (length c.args.self.now.again.slow.now) (length c.take-given.new.self.slow.now) c.args.self.now.pulls (length given) (g.S.Source.incoming c.args.self.now.source) whole began.1 held slow slower taken (omega (arith, long)) (λ room. some (omega (arith, long, left, room, c.take-given.ensures.few)) goes_on))
+    let owed = rw (began.2) at c.take-given.ensures.owed in
+    let fewer = rw (began.2) at c.take-given.ensures.fewer in
+    rw (began.2, began.0) (gave_again (held_of c.args.self.now.again) given (held_of c.take-given.new.self) (owed_of c.args.self.now.again) (owed_of c.take-given.new.self) c.args.self.now.pulls (length given) (g.S.Source.incoming c.args.self.now.source) whole began.1 held owed fewer taken (omega (arith, long)) (λ room. some (omega (arith, long, left, room, c.take-given.ensures.few)) goes_on))
 
 pub returns-in-Ok : goal.returns-in-Ok
 returns-in-Ok g c =
