@@ -2,16 +2,17 @@
 use Rattle.std.proofs.Common.{◌≡◌, ℕ, ◌+◌, ◌-◌, ◌*◌, ◌^◌, ◌<◌, ◌≤◌, List, [], ◌∷◌, ◌++◌, length, take, drop, Option, Some, None, Ok, Err, append-nil, refl, sym, ap, subst, ◌∙◌, arith, inl, inr, length-append, take-take, length-drop, length-take}
 use Rattle.std.specs.Prelude.{IsSome, max}
 use Rattle.std.specs.Io.KnownBytes.{Consumes, Keeps}
-use Rattle.std.proofs.KnownBytes.{Consumes-nil, Consumes-trans, Keeps-trans}
+use Rattle.std.proofs.KnownBytes.{Consumes-nil, Consumes-trans}
 use Rattle.std.proofs.lemmas.Bool.{cases_lt}
 use Rattle.std.proofs.lemmas.List.{length-take-le}
 use lib.Seq.{take-append_seam}
 use Rattle.std.proofs.Math.Seq.{take-add}
-use Rattle.bit_fields.specs.Devices.{Incoming, Begins, IsWorn, Gave, GaveNone, GaveUnseen, Looked, Spends, Fails, known_bytes}
+use Rattle.bit_fields.specs.Devices.{Incoming, Begins, IsWorn, GaveNone, GaveUnseen, Looked, Spends, Fails, known_bytes}
 use Rattle.bit_fields.proofs.Words.{looked_consumed}
 use Rattle.bit_norm.specs.declared.alike.Stop.{Stop}
+use Rattle.bit_norm.specs.declared.alike.Common.{Common}
 use Rattle.bit_norm.specs.declared.alike.Stop.TheVariants.{Silent, Other, End}
-use Rattle.bit_norm.specs.Rejoined.{slices_of, Takes, TakesSlice, StopsAt, TakesSlices}
+use Rattle.bit_norm.specs.Rejoined.{slices_of, Takes, TakesSlice, StopsAt, TakesSlices, TakesSome, Breaks}
 use Rattle.bit_norm.proofs.Slices.{slices_least}
 use Rattle.std.proofs.lemmas.Nat.{mul-le}
 
@@ -45,29 +46,12 @@ takes_looked i j looked = record {
   accounts = looked.accounts;
 }
 
-pub looked_on : (i j k : Incoming) → Looked i j → Looked j k → Looked i k
-looked_on i j k first second = record {
-  bytes = Keeps-trans i.to_come j.to_come k.to_come first.bytes second.bytes;
-  pulls = second.pulls ∙ first.pulls;
-  failures = second.failures ∙ first.failures;
-  worn = λ worn. let same = first.worn worn in second.worn (subst IsWorn (sym same) worn) ∙ same;
-  accounts = λ n all says. second.accounts n all (first.accounts n all says);
-}
-
 pub takes_then : (i j k : Incoming) (n m : ℕ) (xs ys : List ℕ) → Takes i n xs j → Takes j m ys k → Takes i (n + m) (xs ++ ys) k
 takes_then i j k n m xs ys first second = record {
   bytes = Consumes-trans i.to_come j.to_come k.to_come xs ys first.bytes second.bytes;
   pulls = omega (arith, first.pulls, second.pulls);
   failures = second.failures ∙ first.failures;
   accounts = λ k all says. second.accounts k all (first.accounts k all says);
-}
-
-pub takes_gave : (i j : Incoming) (count : ℕ) (into : List ℕ) → Gave i j count into → Takes i 1 (take count into) j
-takes_gave i j count into gave = record {
-  bytes = gave.bytes;
-  pulls = gave.pulls;
-  failures = gave.failures;
-  accounts = gave.accounts;
 }
 
 -- the bytes that were passed are the shown ones
@@ -149,9 +133,9 @@ take-all n xs is = ap (λ (k : ℕ). take k xs) is ∙ whole xs
 pub tail_whole : (n : ℕ) (xs : List ℕ) → take (length xs - n) (drop n xs) ≡ drop n xs
 tail_whole n xs = take-all (length xs - n) (drop n xs) (sym (length-drop n xs))
 
-pub takes_more : (i j k : Incoming) (calls count more : ℕ) (first : List ℕ) → Takes i calls (take count first) j → Takes j 1 (take more (take (length first - count) (drop count first))) k → Takes i (calls + 1) (take (count + more) first) k
-takes_more i j k calls count more first before next =
-    subst (λ (s : List ℕ). Takes i (calls + 1) s k) (ap (λ (s : List ℕ). take count first ++ take more s) (tail_whole count first) ∙ sym (take-add count more first)) (takes_then i j k calls 1 (take count first) (take more (take (length first - count) (drop count first))) before next)
+pub takes_more : (i j k : Incoming) (calls again count more : ℕ) (first : List ℕ) → Takes i calls (take count first) j → Takes j again (take more (take (length first - count) (drop count first))) k → Takes i (calls + again) (take (count + more) first) k
+takes_more i j k calls again count more first before next =
+    subst (λ (s : List ℕ). Takes i (calls + again) s k) (ap (λ (s : List ℕ). take count first ++ take more s) (tail_whole count first) ∙ sym (take-add count more first)) (takes_then i j k calls again (take count first) (take more (take (length first - count) (drop count first))) before next)
 
 -- ---- slices of one width
 
@@ -163,22 +147,13 @@ pub record WholeSlices (first : List ℕ) (count width : ℕ) (old new : Incomin
   pub whole : count ≡ calls * width
   pub takes : Takes old calls (take count first) new
 
-pub no_slices : (first : List ℕ) (width : ℕ) (i : Incoming) → 0 < width → WholeSlices first 0 width i i
-no_slices first width i some = record {
-  few = omega arith;
-  some = some;
-  calls = 0;
-  whole = omega arith;
-  takes = takes_nothing i;
-}
-
 -- so many bytes of the next slice were taken
 module _ (first : List ℕ) (count width taken : ℕ) (i j k : Incoming) (before : WholeSlices first count width i j) (next : TakesSlice (take (length first - count) (drop count first)) width j (Ok (Ok taken)) k) where
   within : count + taken ≤ length first
   within = omega (arith, next.0, length-take (length first - count) (drop count first), before.few)
 
   taken_too : Takes i (before.calls + 1) (take (count + taken) first) k
-  taken_too = takes_more i j k before.calls count taken first before.takes next.3
+  taken_too = takes_more i j k before.calls 1 count taken first before.takes next.3
 
   -- the first slice has any width
   pub slice_first : count ≡ 0 → WholeSlices first (count + taken) taken i k
@@ -237,3 +212,35 @@ module _ (first rest : List ℕ) (count width most : ℕ) (i j k : Incoming) (be
   slices_stopped Silent next = stopped Silent 0 next (omega (arith, each))
   slices_stopped Other next = stopped Other 0 next (omega (arith, each))
   slices_stopped End next = stopped End 1 next.1 (omega (arith, each), next.0)
+
+-- ---- a first slice of any width
+
+more_stops : (stop : Stop) (slices calls : ℕ) (j : Incoming) → StopsAt stop slices calls j → StopsAt stop (1 + slices) (1 + calls) j
+more_stops Silent slices calls j stops = omega (arith, stops)
+more_stops Other slices calls j stops = omega (arith, stops)
+more_stops End slices calls j stops = (omega (arith, stops.0), stops.1)
+
+-- the first slice was taken
+module _ (first : List ℕ) (head : ℕ) (i j k : Incoming) (lead : head ≤ length first) (some : 0 < head) (took : Takes i 1 (take head first) j) where
+  behind_head : length (take (length first - head) (drop head first)) ≤ length first - head
+  behind_head = omega (arith, length-take (length first - head) (drop head first))
+
+  pub slices_headed : (c : Common) → TakesSlices (take (length first - head) (drop head first)) j c k → TakesSome first i (record { head = head; common = c }) k
+  slices_headed c behind = record {
+    few = omega (arith, lead, behind_head, behind.few);
+    some = behind.some;
+    calls = 1 + behind.calls;
+    stops = subst (λ (n : ℕ). StopsAt c.stop (n + slices_of c.width c.count) (1 + behind.calls) k) (omega (arith, some)) (more_stops c.stop (slices_of c.width c.count) behind.calls k behind.stops);
+    takes = takes_more i j k 1 behind.calls head c.count first took behind.takes;
+  }
+
+  pub breaks_headed : Breaks (take (length first - head) (drop head first)) j k → Breaks first i k
+  breaks_headed broke = record {
+    count = head + broke.count;
+    calls = 1 + broke.calls;
+    mid = broke.mid;
+    few = omega (arith, lead, behind_head, broke.few);
+    each = omega (arith, broke.each, some);
+    takes = takes_more i j broke.mid 1 broke.calls head broke.count first took broke.takes;
+    none = broke.none;
+  }

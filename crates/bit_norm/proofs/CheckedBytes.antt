@@ -230,7 +230,7 @@ module _ (setting : Setting) (limits : Limits) (first h k : List ℕ) (calls o d
   checked_again judged (Err e) result none is = checked_fault judged setting limits first b j e.fault result (second_tree e.which e.fault none) is
 
 pub checked_front : (judged : Bool) (setting : Setting) (limits : Limits) (first next : List ℕ) (f : Front) (b i r j s : Incoming) (k : List ℕ) (o d q g : ℕ) (answer result : Result (Option Difference) SameFault) → Capped limits → length next ≡ 1 → TakesFront limits first next b f i
-    → o ≡ slices_of f.width (length (take f.count first)) + min 1 (length (take f.next next)) → r ≡ rejoined_of (take f.count first ++ take f.next next) o 0 0 i → s ≡ rejoined_of k d q g j → ComparesWith setting limits first r answer s → OfSecond answer result → ComparesChecked judged setting limits first b result j
+    → o ≡ min 1 f.head + (slices_of f.width (length (take f.count first) - f.head) + min 1 (length (take f.next next))) → r ≡ rejoined_of (take f.count first ++ take f.next next) o 0 0 i → s ≡ rejoined_of k d q g j → ComparesWith setting limits first r answer s → OfSecond answer result → ComparesChecked judged setting limits first b result j
 checked_front judged setting limits first next f b i r j s k o d q g answer result capped one front owed begun ended read is =
     let h = take f.count first ++ take f.next next in
     let held : length h ≡ length (take f.count first) + length (take f.next next) = length-append (take f.count first) (take f.next next) in
@@ -238,8 +238,8 @@ checked_front judged setting limits first next f b i r j s k o d q g answer resu
     let more : length (take f.next next) ≡ f.next = length-take-le f.next next front.one in
     let short : length h ≤ limits.bytes + 1 = omega (arith, held, count, more, front.within, front.one, one) in
     let small : limits.bytes + 1 < 2 ^ 64 - 1 = omega (arith, capped.bytes) in
-    let few : front.calls ≤ limits.bytes + 1 = omega (arith, front.each, slices_most f.width f.count front.some, front.within, front.one, one) in
-    let enough : front.calls ≤ o = omega (arith, front.each, owed, ap (slices_of f.width) count, more, front.one, one) in
+    let few : front.calls ≤ limits.bytes + 1 = omega (arith, front.each, slices_most f.width (f.count - f.head) front.some, front.lead, front.within, front.one, one) in
+    let enough : front.calls ≤ o = omega (arith, front.each, owed, ap (λ (n : ℕ). slices_of f.width (n - f.head)) count, more, front.one, one) in
     let after = subst (λ (u : Incoming). ComparesWith setting limits first (rejoined_of h o 0 0 i) answer u) ended (subst (λ (u : Incoming). ComparesWith setting limits first u answer s) begun read) in
     checked_again setting limits first h k front.calls o d q g b i j small front.takes enough few short judged answer result after is
 

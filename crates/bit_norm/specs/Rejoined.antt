@@ -18,6 +18,7 @@ use Rattle.bit_norm.specs.declared.alike.Common.{Common}
 use Rattle.bit_norm.specs.declared.alike.Beginning.{Beginning}
 use Rattle.bit_norm.specs.declared.alike.Stop.{Stop}
 use Rattle.bit_norm.specs.declared.alike.Stop.TheVariants.{Silent, Other, End}
+use Rattle.bit_norm.specs.declared.alike.Headed.{Headed}
 use Rattle.bit_norm.specs.declared.alike.Front.{Front}
 use Rattle.bit_norm.specs.declared.alike.Beginning.TheVariants.{Same, Ended, Taken}
 
@@ -114,6 +115,19 @@ abbrev pub TakesCommon : (first : List ℕ) → Incoming → Result Common Sourc
 TakesCommon first old (Ok c) new = TakesSlices first old c new
 TakesCommon first old (Err e) new = Breaks first old new
 
+-- the same, in a first slice of any width and slices of one width behind it
+pub record TakesSome (first : List ℕ) (old : Incoming) (h : Headed) (new : Incoming) : Type 0 where
+  pub few : h.head + h.common.count ≤ length first
+  pub some : 0 < h.common.width
+  pub calls : ℕ
+  pub stops : StopsAt h.common.stop (min 1 h.head + slices_of h.common.width h.common.count) calls new
+  pub takes : Takes old calls (take (h.head + h.common.count) first) new
+
+-- some first bytes of these were taken, in such slices
+abbrev pub TakesHeaded : (first : List ℕ) → Incoming → Result Headed SourceFailed → Incoming → Type 0
+TakesHeaded first old (Ok h) new = TakesSome first old h new
+TakesHeaded first old (Err e) new = Breaks first old new
+
 -- the next bytes were taken, or the source was looked at
 abbrev pub TakesNext : (next : List ℕ) → Incoming → Result (Option ℕ) SourceFailed → Incoming → Type 0
 TakesNext next old (Ok None) new = Takes old 0 [] new
@@ -125,11 +139,12 @@ TakesNext next old (Err e) new = GaveNone old new
 pub record TakesFront (limits : Limits) (first next : List ℕ) (old : Incoming) (f : Front) (new : Incoming)
     : Type 0 where
   pub few : f.count ≤ length first
+  pub lead : f.head ≤ f.count
   pub within : f.count ≤ limits.bytes
   pub one : f.next ≤ length next
   pub some : 0 < f.width
   pub calls : ℕ
-  pub each : calls ≤ slices_of f.width f.count + f.next
+  pub each : calls ≤ min 1 f.head + slices_of f.width (f.count - f.head) + f.next
   pub takes : Takes old calls (take f.count first ++ take f.next next) new
 
 -- all bytes of an input were taken, and are these

@@ -2,7 +2,7 @@
 
 ghost use Rattle.std.specs.Prelude.{◌≡◌, ◌≤◌, length, take, true};
 ghost use Rattle.bit_grammar.specs.Setting.{setting_of};
-ghost use Rattle.bit_norm.specs.Rejoined.{Begins, ComparesChecked, Confirms, OfSecond, TakesCommon, TakesNext, TakesSlice};
+ghost use Rattle.bit_norm.specs.Rejoined.{Begins, ComparesChecked, Confirms, OfSecond, TakesCommon, TakesHeaded, TakesNext, TakesSlice};
 
 use crate::again::Again;
 use crate::comparing::{SameFault, Which, faulty};
@@ -11,7 +11,6 @@ use crate::in_step::compare_with;
 use crate::rejoined::Rejoined;
 use bit_events::check;
 use bit_fields::{Fault, Limits, SliceSource, Source, SourceFailed};
-use bit_grammar::WRAPPER_MAGIC;
 use bit_tree::Info;
 use std::alloc::Global;
 
@@ -26,7 +25,7 @@ fn are_equal(a: &[u8], b: &[u8]) -> bool
     a == b
 }
 
-/// The length of a slice that has at most `most` bytes and is a front of these, or else 0.
+/// The length of `slice` if that is at most `most` and `rest` begins with it, or else 0.
 fn whole_front(slice: &[u8], rest: &[u8], most: usize) -> usize
     ensures same { take result slice.now ≡ take result rest.now }
     ensures first { result ≤ length slice.now }
@@ -45,7 +44,7 @@ fn whole_front(slice: &[u8], rest: &[u8], most: usize) -> usize
 pub(crate) enum Stop {
     /// The source lends nothing.
     Silent,
-    /// The next slice is another one, or too long.
+    /// The next slice has other bytes or is too long, or none is looked for.
     Other,
     /// The source ended.
     End,
@@ -73,8 +72,8 @@ fn take_slice<S: Source>(
     }
 }
 
-/// How many bytes of an input are the first ones of another, and why no more were taken. They came in slices of `width` bytes, the
-/// last of them perhaps shorter.
+/// How many bytes of an input are the first of these, and why no more were taken. They came in slices of `width` bytes, the last of
+/// them perhaps shorter.
 #[derive(Clone, Copy)]
 pub(crate) struct Common {
     count: usize,
@@ -110,16 +109,39 @@ fn take_common<S: Source>(first: &[u8], source: &mut S) -> Result<Common, Source
     })
 }
 
-/// Whether a reader of these bytes looks at its source before it asks for the end: it is not at the limit, nor behind a wrapper.
-fn is_looked_for(first: &[u8], limits: Limits) -> bool {
-    let magic = (WRAPPER_MAGIC as u32).to_le_bytes();
-    (first.len() as u64) < limits.bytes() && !first.starts_with(&magic)
+/// Bytes that came in a slice of `head` bytes, and those in `common` behind it. What a source lends first may be the rest of what it
+/// lent before.
+#[derive(Clone, Copy)]
+pub(crate) struct Headed {
+    head: usize,
+    common: Common,
 }
 
-/// Bytes of an input that were taken: `count` of another one in slices of `width` bytes, and `next` after them. If the input is
-/// `silent`, it was then looked at and lent nothing.
+/// Takes a slice of a source if it is the first of these bytes, and then slices of one width.
+fn take_headed<S: Source>(first: &[u8], source: &mut S) -> Result<Headed, SourceFailed>
+    ensures { TakesHeaded first.now (S.incoming source.old) result (S.incoming source.new) }
+{
+    match take_slice(first, first.len(), source)? {
+        Err(stop) => Ok(Headed {
+            head: 0,
+            common: Common {
+                count: 0,
+                width: 1,
+                stop,
+            },
+        }),
+        Ok(head) => Ok(Headed {
+            head,
+            common: take_common(&first[head..], source)?,
+        }),
+    }
+}
+
+/// What was taken of an input: the first `count` bytes of another one, in a slice of `head` bytes and slices of `width` bytes, and
+/// `next` more. `silent`: it was then looked at and lent nothing.
 #[derive(Clone, Copy)]
 pub(crate) struct Front {
+    head: usize,
     count: usize,
     width: usize,
     next: usize,
@@ -150,8 +172,8 @@ pub(crate) enum Beginning {
     Taken(Front),
 }
 
-/// Takes the bytes of a source that begin as these, as far as they are lent. If they are all, it asks for the next one, as a reader
-/// does.
+/// Takes the bytes of a source that begin as these, as far as they are lent. If they are all, it asks for one more byte, after a
+/// look if a reader would look there: not at the limit on bytes.
 ///
 /// A source that lends bytes and then gives none is at its end, and is not called again.
 fn take_beginning<S: Source>(
@@ -163,6 +185,7 @@ fn take_beginning<S: Source>(
     ensures { Begins limits first.now next.new (S.incoming source.old) result (S.incoming source.new) }
 {
     let mut front = Front {
+        head: 0,
         count: 0,
         width: 1,
         next: 0,
@@ -171,17 +194,19 @@ fn take_beginning<S: Source>(
     if first.len() as u64 > limits.bytes() {
         return Ok(Beginning::Taken(front));
     }
-    let Common { count, width, stop } = take_common(first, source)?;
-    if let Stop::End = stop {
+    let Headed { head, common } = take_headed(first, source)?;
+    let count = head + common.count;
+    if let Stop::End = common.stop {
         return Ok(Beginning::Ended { count });
     }
+    front.head = head;
     front.count = count;
-    front.width = width;
+    front.width = common.width;
     if count < first.len() {
-        front.silent = matches!(stop, Stop::Silent);
+        front.silent = matches!(common.stop, Stop::Silent);
         return Ok(Beginning::Taken(front));
     }
-    match take_next(source, is_looked_for(first, limits), next)? {
+    match take_next(source, (first.len() as u64) < limits.bytes(), next)? {
         None => Ok(Beginning::Taken(front)),
         Some(0) => Ok(Beginning::Same),
         Some(more) => {
@@ -227,7 +252,9 @@ fn confirm(
 /// is returned in its present state.
 ///
 /// The bytes of both are compared first, and if they are all the same the input is read no further. Else it is read in step with
-/// the other bytes, from a source that lends the slices that were taken again: it is asked where the input itself would be. If these are not known to be accepted, unless their source was known, say that they are not `judged`.
+/// the other bytes. The bytes that were taken are given again in the slices in which the source lent them, so that the source is
+/// asked where it would be without the comparison. `judged`: the other bytes are known to be accepted even if their source is not
+/// known.
 pub(crate) fn compare_checked<S: Source>(
     alloc: Global,
     first: &[u8],
@@ -252,7 +279,7 @@ pub(crate) fn compare_checked<S: Source>(
         }
         Ok(Beginning::Taken(front)) => {
             let bytes = &first[..front.count];
-            let again = Again::new(bytes, front.width, &next[..front.next]);
+            let again = Again::new(bytes, front.head, front.width, &next[..front.next]);
             let rejoined = Rejoined::new(again, source, front.silent);
             let (answer, rejoined) = compare_with(alloc, first, rejoined, limits, info);
             (of_second(answer), rejoined.into_inner())

@@ -100,11 +100,6 @@ impl<'a> Cuts<'a> {
     pub(crate) fn reads(&self) -> u64 {
         self.reads
     }
-
-    /// How many bytes it has not given.
-    pub(crate) fn left(&self) -> usize {
-        self.rest.len()
-    }
 }
 
 impl<'a> Read for Cuts<'a> {

@@ -1,20 +1,23 @@
 //! A source some of whose bytes were taken before, and are given again.
 
 ghost use Rattle.std.specs.Prelude.{◌≡◌, ◌<◌, ◌≤◌, ◌+◌, ◌-◌, ◌++◌, ◌^◌, ℕ, List, [], length, min, true, false, IfOk, OnErr};
-ghost use Rattle.bit_fields.specs.Devices.{GaveNone, IsFresh};
+ghost use Rattle.bit_fields.specs.Devices.{GaveNone, IsFresh, PullsUnseen};
 ghost use Rattle.bit_norm.specs.Rejoined.{rejoined_of, held_of, owed_of, slices_of};
 
 use crate::again::Again;
 use bit_fields::{Source, SourceFailed};
 
 impl<'a> Again<'a> {
-    /// Gives bytes again that were taken in slices of `width` bytes, and then others.
-    pub(crate) fn new(bytes: &'a [u8], width: usize, next: &'a [u8]) -> Again<'a>
-        requires { 0 < width }
+    /// Gives bytes again that were taken in a slice of `head` bytes and slices of `width` bytes, and then others.
+    pub(crate) fn new(bytes: &'a [u8], head: usize, width: usize, next: &'a [u8]) -> Again<'a>
+        requires some { 0 < width }
+        requires within { head ≤ length bytes.now }
         ensures held { held_of result ≡ bytes.now ++ next.now }
-        ensures owed { owed_of result ≡ slices_of width (length bytes.now) + min 1 (length next.now) }
+        ensures owed { owed_of result ≡ min 1 head
+            + (slices_of width (length bytes.now - head) + min 1 (length next.now)) }
     {
-        Again::behind(&[], bytes, width, next)
+        let (slice, rest) = bytes.split_at(head);
+        Again::behind(slice, rest, width, next)
     }
 
     /// Gives the rest of a slice again, and what is behind it.
@@ -89,7 +92,7 @@ impl<'a> Again<'a> {
 pub(crate) struct Rejoined<'a, S> {
     again: Again<'a>,
     source: S,
-    /// The other source was just looked at, and lends nothing.
+    /// The last call of the other source was a look that found nothing.
     silent: bool,
     pulls: u64,
     failures: u64,
@@ -125,6 +128,19 @@ impl<'a, S: Source> Rejoined<'a, S> {
         self.failures == 0 && self.pulls < u64::MAX
     }
 
+    /// Skips the next bytes of the other source. A source that has just lent nothing is not looked at again: it is pulled.
+    fn pass_behind(&mut self, most: usize) -> Result<usize, SourceFailed>
+        requires { 0 < most }
+        ensures passed { PullsUnseen most (S.incoming self.old.source) (S.incoming self.new.source) result }
+        ensures others { self.new ≡ record self.old { source = self.new.source; silent = self.new.silent } }
+    {
+        if !self.silent {
+            return self.source.pass(most);
+        }
+        self.silent = false;
+        self.source.pull(&mut [0])
+    }
+
     /// Counts a pull. After a failure each pull fails.
     #[inline(always)]
     fn begin(&mut self) -> Result<(), SourceFailed>
@@ -157,6 +173,7 @@ impl<'a, S: Source> Source for Rejoined<'a, S> {
             into[..given.len()].copy_from_slice(given);
             return Ok(given.len());
         }
+        self.silent = false;
         match self.source.pull(into) {
             Ok(count) => Ok(count),
             Err(SourceFailed) => {
@@ -205,7 +222,7 @@ impl<'a, S: Source> Source for Rejoined<'a, S> {
         if !self.again.is_over() {
             return Ok(self.again.take(most).len());
         }
-        match self.source.pass(most) {
+        match self.pass_behind(most) {
             Ok(count) => Ok(count),
             Err(SourceFailed) => {
                 self.failures = 1;

@@ -5,27 +5,59 @@ ghost use Rattle.std.specs.Prelude.{None, []};
 use super::{compare_checked, of_second};
 use crate::Info;
 use crate::in_step::compare_with;
-use crate::input_tests::{Cuts, bytes_of};
-use bit_fields::{BufSource, Limits, SliceSource, Source, SourceFailed};
+use crate::input_tests::bytes_of;
+use bit_events::check_keeping;
+use bit_fields::{BufSource, FrontSource, Limits, SliceSource, Source, SourceFailed};
 use std::alloc::{AllocError, Global};
-use std::io::BufReader;
+use std::io;
+use std::io::{BufReader, Error, ErrorKind, Read};
 use std::process::Abort;
 
-/// A source with a buffer over a reader.
-type Lender<'a> = BufSource<BufReader<Cuts<'a>>>;
-
-/// How a source lends bytes: it has a buffer of `room` bytes, and its reader gives at most `most` at a read and fails at one, if
+/// A reader that gives at most so many bytes at its reads, by turns; 0 means that it is interrupted. It fails at one read, if
 /// `fails_at` is not 0.
+#[derive(Drop)]
+struct Uneven<'a> {
+    rest: &'a [u8],
+    sizes: &'static [usize],
+    reads: u64,
+    fails_at: u64,
+}
+
+impl<'a> Read for Uneven<'a> {
+    fn read(&mut self, buf: &mut [u8]) -> io::Result<usize> {
+        let turn = self.reads.checked_rem(self.sizes.len() as u64).unwrap_or(0) as usize;
+        let most = self.sizes.get(turn).copied().unwrap_or(1);
+        self.reads = self.reads.saturating_add(1);
+        if self.reads == self.fails_at {
+            return Err(Error::from(ErrorKind::Other));
+        }
+        if most == 0 {
+            return Err(Error::from(ErrorKind::Interrupted));
+        }
+        let most = buf.len().min(most);
+        self.rest.read(&mut buf[..most])
+    }
+}
+
+/// A source with a buffer over a reader.
+type Lender<'a> = BufSource<BufReader<Uneven<'a>>>;
+
+/// How a source lends bytes: it has a buffer of `room` bytes, and its reader gives `sizes` by turns and fails at one read.
 #[derive(Clone, Copy, Debug)]
 struct Lending {
     room: usize,
-    most: usize,
+    sizes: &'static [usize],
     fails_at: u64,
 }
 
 impl Lending {
     fn source<'a>(&self, rt: &impl Abort, alloc: Global, bytes: &'a [u8]) -> Lender<'a> {
-        let reader = Cuts::source(bytes, self.most, self.fails_at).into_inner();
+        let reader = Uneven {
+            rest: bytes,
+            sizes: self.sizes,
+            reads: 0,
+            fails_at: self.fails_at,
+        };
         BufSource::new(BufReader::with_capacity(alloc, self.room, reader).expect(rt, "memory"))
     }
 }
@@ -33,142 +65,222 @@ impl Lending {
 /// How often a source was read, and how many bytes it still has: in its buffer, and behind.
 fn state_of(source: Lender<'_>) -> (u64, usize, usize) {
     let reader = source.into_inner();
-    let cuts = reader.get_ref();
-    (cuts.reads(), reader.buffer().len(), cuts.left())
+    let uneven = reader.get_ref();
+    (uneven.reads, reader.buffer().len(), uneven.rest.len())
 }
 
-/// What is told of a second input, and how its source was asked: if its bytes are compared first, and if not.
-fn asked(
+/// Two inputs, and the limits.
+#[derive(Clone, Copy)]
+struct Pair<'a> {
+    first: &'a [u8],
+    second: &'a [u8],
+    limits: Limits,
+}
+
+/// An answer as text, and the state of the source.
+type Told = (String, (u64, usize, usize));
+
+/// What is told of the second input that a source gives, if its bytes are compared first, and if not.
+fn told_of(
+    alloc: Global,
+    pair: &Pair<'_>,
+    compared: Lender<'_>,
+    read: Lender<'_>,
+) -> Result<[Told; 2], AllocError> {
+    let Pair { first, limits, .. } = *pair;
+    let (new, source) = compare_checked(alloc, first, compared, limits, Info::Keep, true);
+    let new = (format!(in alloc; "{new:?}")?, state_of(source));
+    let (old, source) = compare_with(alloc, first, read, limits, Info::Keep);
+    let old = (format!(in alloc; "{:?}", of_second(old))?, state_of(source));
+    Ok([new, old])
+}
+
+/// The same, if the source has the second input alone.
+fn asked(rt: &impl Abort, alloc: Global, pair: &Pair<'_>, lending: Lending) -> [Told; 2] {
+    let compared = lending.source(rt, alloc, pair.second);
+    let read = lending.source(rt, alloc, pair.second);
+    told_of(alloc, pair, compared, read).expect(rt, "memory")
+}
+
+/// The source after the first of two inputs that it has.
+fn rest_of<'a>(
     rt: &impl Abort,
     alloc: Global,
-    first: &[u8],
-    second: &[u8],
-    limits: Limits,
+    both: &'a [u8],
+    pair: &Pair<'_>,
     lending: Lending,
-) -> [(String, (u64, usize, usize)); 2] {
-    let source = lending.source(rt, alloc, second);
-    let (new, source) = compare_checked(alloc, first, source, limits, Info::Keep, true);
-    let new = format!(in alloc; "{new:?}").expect(rt, "memory");
-    let state = state_of(source);
-    let source = lending.source(rt, alloc, second);
-    let (old, source) = compare_with(alloc, first, source, limits, Info::Keep);
-    let old = format!(in alloc; "{:?}", of_second(old)).expect(rt, "memory");
-    [(new, state), (old, state_of(source))]
+) -> Lender<'a> {
+    let source = lending.source(rt, alloc, both);
+    let front = FrontSource::new(source, pair.first.len() as u64);
+    let (_, front) = check_keeping(alloc, front, pair.limits);
+    front.into_inner()
 }
 
-/// Checks that another input is told and asked alike with some buffers and reads, and for a failure at each of the first reads.
+/// The same, if the source has both inputs.
+fn asked_in_parts(rt: &impl Abort, alloc: Global, pair: &Pair<'_>, lending: Lending) -> [Told; 2] {
+    let mut both = Vec::from_slice(alloc, pair.first).expect(rt, "memory");
+    both.extend_from_slice(pair.second).expect(rt, "memory");
+    let compared = rest_of(rt, alloc, &both, pair, lending);
+    let read = rest_of(rt, alloc, &both, pair, lending);
+    told_of(alloc, pair, compared, read).expect(rt, "memory")
+}
+
+/// Buffers, and what their readers give.
+static LENDINGS: [(usize, &[usize]); 12] = [
+    (1, &[1]),
+    (3, &[3]),
+    (8, &[8]),
+    (13, &[13]),
+    (24, &[24]),
+    (64, &[64]),
+    (40, &[7]),
+    (32, &[7, 32, 32]),
+    (32, &[16, 16, 9]),
+    (32, &[16, 30]),
+    (24, &[24, 24, 0]),
+    (100, &[100]),
+];
+
+/// Checks that the second input is asked alike and the same is told of it, also if one of the first twelve reads fails.
 fn ask_alike(rt: &impl Abort, alloc: Global, first: &[u8], second: &[u8], limits: Limits) {
-    for (room, most) in &[(8, 8), (13, 13), (24, 24), (64, 64), (40, 7), (24, 23)] {
-        for fails_at in 0..6 {
+    let pair = Pair {
+        first,
+        second,
+        limits,
+    };
+    for (room, sizes) in &LENDINGS {
+        for fails_at in 0..13 {
             let lending = Lending {
                 room: *room,
-                most: *most,
+                sizes,
                 fails_at,
             };
-            let [new, old] = asked(rt, alloc, first, second, limits, lending);
-            assert!(rt;
-                new.0.as_str() == old.0.as_str() && new.1 == old.1,
-                "{lending:?}, {second:?}: {new:?}, not {old:?}"
-            );
+            let [new, old] = asked(rt, alloc, &pair, lending);
+            assert!(rt; new == old, "{lending:?}, {second:?}: {new:?}, not {old:?}");
         }
+        let lending = Lending {
+            room: *room,
+            sizes,
+            fails_at: 0,
+        };
+        let [new, old] = asked_in_parts(rt, alloc, &pair, lending);
+        assert!(rt;
+            new == old,
+            "parts: {lending:?}, {second:?}: {new:?}, not {old:?}"
+        );
     }
 }
 
-/// The first inputs: blocks, records, definitions, a blob, and a wrapper with bytes behind its stream.
+/// The first inputs: blocks, records, definitions, a blob, and a wrapper with a gap and with bytes behind its stream.
 static FIRSTS: [&str; 5] = [
     "M E T W S T E",
     "M D N S E T T W",
     "M T A T E A W",
     "M T B W B T",
-    "DE C0 17 0B 00 00 00 00 14 00 00 00 28 00 00 00 07 00 00 00 M T E W Z",
+    "DE C0 17 0B 00 00 00 00 1C 00 00 00 28 00 00 00 07 00 00 00 01 02 03 04 05 06 07 08 M T E W Z",
 ];
 
-/// The first inputs, with the limit on bytes at their end or not.
-fn for_each_first(rt: &impl Abort, alloc: Global, ask: impl Fn(&[u8], Limits)) {
-    for text in &FIRSTS {
-        let first = bytes_of(alloc, text).expect(rt, "memory");
-        ask(&first, Limits::usual());
-        ask(
-            &first,
-            Limits::new(first.len() as u64, 64, 1000).expect(rt, "limits"),
-        );
+/// The usual limits, or those with one on bytes at the end of an input.
+fn limits_for(rt: &impl Abort, first: &[u8], is_tight: bool) -> Limits {
+    if !is_tight {
+        return Limits::usual();
     }
+    Limits::new(first.len() as u64, 64, 1000).expect(rt, "limits within their caps")
 }
 
-/// Bytes with one bit changed.
-fn changed(alloc: Global, bytes: &[u8], bit: usize) -> Result<Vec<u8>, AllocError> {
+/// Bytes with a bit changed in one of them.
+fn changed(alloc: Global, bytes: &[u8], place: usize) -> Result<Vec<u8>, AllocError> {
     let mut bytes = Vec::from_slice(alloc, bytes)?;
-    if let Some(byte) = bytes.get_mut(bit / 8) {
-        *byte ^= 1 << (bit % 8) as u32;
+    if let Some(byte) = bytes.get_mut(place) {
+        *byte ^= 1 << (place % 8) as u32;
     }
     Ok(bytes)
 }
 
-#[test]
-fn a_changed_bit(rt: HostRuntime) {
-    for_each_first(&rt, rt.alloc(), |first, limits| {
-        for bit in (0..8 * first.len()).step_by(29) {
-            let second = changed(rt.alloc(), first, bit).expect(&rt, "memory");
-            ask_alike(&rt, rt.alloc(), first, &second, limits);
+/// Checks it for a first input with a bit changed, cut, and with zeros behind it.
+fn others_alike(rt: &impl Abort, alloc: Global, first: &[u8], limits: Limits, place: usize) {
+    let second = changed(alloc, first, place).expect(rt, "memory");
+    ask_alike(rt, alloc, first, &second, limits);
+    let cut = place.min(first.len());
+    ask_alike(rt, alloc, first, &first[..cut], limits);
+    let mut second = Vec::from_slice(alloc, first).expect(rt, "memory");
+    let count = 1 + place / 2;
+    second
+        .extend_from_slice(&[0; 50][..count.min(50)])
+        .expect(rt, "memory");
+    ask_alike(rt, alloc, first, &second, limits);
+}
+
+/// Checks it for changes at every seventh byte of one of the first inputs.
+fn all_alike(rt: &impl Abort, alloc: Global, text: &str) {
+    let first = bytes_of(alloc, text).expect(rt, "memory");
+    for is_tight in [false, true] {
+        let limits = limits_for(rt, &first, is_tight);
+        for place in (0..first.len()).step_by(7) {
+            others_alike(rt, alloc, &first, limits, place);
         }
-    });
+    }
 }
 
 #[test]
-fn a_front(rt: HostRuntime) {
-    for_each_first(&rt, rt.alloc(), |first, limits| {
-        for count in (0..first.len().min(48)).step_by(3) {
-            ask_alike(&rt, rt.alloc(), first, &first[..count], limits);
-        }
-    });
+fn other_bytes(rt: HostRuntime) {
+    for text in &FIRSTS[..2] {
+        all_alike(&rt, rt.alloc(), text);
+    }
 }
 
 #[test]
-fn more_bytes(rt: HostRuntime) {
-    for_each_first(&rt, rt.alloc(), |first, limits| {
-        for count in (1..40).step_by(3) {
-            let mut second = Vec::from_slice(rt.alloc(), first).expect(&rt, "memory");
-            second
-                .extend_from_slice(&[0; 40][..count])
-                .expect(&rt, "memory");
-            ask_alike(&rt, rt.alloc(), first, &second, limits);
-        }
-    });
+fn other_bytes_around_arrays_and_blobs(rt: HostRuntime) {
+    for text in &FIRSTS[2..4] {
+        all_alike(&rt, rt.alloc(), text);
+    }
 }
 
-/// At the end of the same bytes, fewer reads may be made.
 #[test]
-fn the_same_bytes(rt: HostRuntime) {
-    for_each_first(&rt, rt.alloc(), |first, limits| {
-        for room in (8..80).step_by(3) {
-            let [new, old] = lent(&rt, rt.alloc(), first, limits, room, 0);
-            assert!(rt; new.0.as_str() == "Ok(None)" && old.0.as_str() == "Ok(None)");
-            let reads = new.1.0;
-            assert!(rt; reads <= old.1.0 && reads >= first.len() as u64 / room as u64, "{room}");
-            for fails_at in 1..20.min(reads) {
-                let [new, old] = lent(&rt, rt.alloc(), first, limits, room, fails_at);
-                let alike = new.0.as_str() == old.0.as_str() && new.1 == old.1;
-                assert!(rt; alike, "{room}, {fails_at}");
-            }
-        }
-    });
+fn other_bytes_in_a_wrapper(rt: HostRuntime) {
+    all_alike(&rt, rt.alloc(), FIRSTS[4]);
 }
 
-/// What is told of the same bytes.
-fn lent(
+/// Checks that the same bytes are told to be so; at their end, fewer reads may be made.
+fn same_bytes(
     rt: &impl Abort,
     alloc: Global,
-    first: &[u8],
-    limits: Limits,
+    pair: &Pair<'_>,
     room: usize,
-    fails_at: u64,
-) -> [(String, (u64, usize, usize)); 2] {
-    let lending = Lending {
+    sizes: &'static [usize],
+) {
+    let lending = |fails_at| Lending {
         room,
-        most: room,
+        sizes,
         fails_at,
     };
-    asked(rt, alloc, first, first, limits, lending)
+    let [new, old] = asked(rt, alloc, pair, lending(0));
+    assert!(rt; new.0.as_str() == "Ok(None)" && old.0.as_str() == "Ok(None)");
+    let reads = new.1.0;
+    assert!(rt; reads <= old.1.0 && new.1.1 == old.1.1 && new.1.2 == old.1.2, "{room}");
+    for fails_at in 1..30.min(reads) + 1 {
+        let [new, old] = asked(rt, alloc, pair, lending(fails_at));
+        assert!(rt; new == old, "{room}, {fails_at}: {new:?}, not {old:?}");
+    }
+    let [new, old] = asked_in_parts(rt, alloc, pair, lending(0));
+    assert!(rt; new.0.as_str() == "Ok(None)" && old.0.as_str() == "Ok(None)");
+}
+
+#[test]
+fn the_same_bytes(rt: HostRuntime) {
+    for text in &FIRSTS {
+        let first = bytes_of(rt.alloc(), text).expect(&rt, "memory");
+        for is_tight in [false, true] {
+            let pair = Pair {
+                first: &first,
+                second: &first,
+                limits: limits_for(&rt, &first, is_tight),
+            };
+            for (room, sizes) in &LENDINGS {
+                same_bytes(&rt, rt.alloc(), &pair, *room, sizes);
+            }
+        }
+    }
 }
 
 /// A source that ends before the end of the bytes that it lends.
@@ -204,36 +316,32 @@ impl<'a> Source for EndsEarly<'a> {
     }
 }
 
-/// What is told of a source, if its bytes are compared first, and if not.
-fn told<S: Source + Drop>(
-    alloc: Global,
-    first: &[u8],
-    source: impl Fn() -> S,
-) -> Result<[String; 2], AllocError> {
-    let (new, _) = compare_checked(alloc, first, source(), Limits::usual(), Info::Keep, true);
-    let (old, _) = compare_with(alloc, first, source(), Limits::usual(), Info::Keep);
+/// What is told of an input that ends after `count` of the bytes that it lends, if its bytes are compared first, and if not.
+fn told_early(alloc: Global, bytes: &[u8], count: usize) -> Result<[String; 2], AllocError> {
+    let early = || EndsEarly {
+        lent: bytes,
+        left: count,
+        pulls: 0,
+    };
+    let (new, _) = compare_checked(alloc, bytes, early(), Limits::usual(), Info::Keep, true);
+    let (old, _) = compare_with(alloc, bytes, early(), Limits::usual(), Info::Keep);
     Ok([
         format!(in alloc; "{new:?}")?,
         format!(in alloc; "{:?}", of_second(old))?,
     ])
 }
 
+/// Checks that such an input is told as it is in step with the other bytes, or as if it had lent no more than it gave.
 #[test]
 fn an_end_before_lent_bytes(rt: HostRuntime) {
     let first = bytes_of(rt.alloc(), "M E S E").expect(&rt, "memory");
     let bytes = first.as_slice();
     for count in 0..bytes.len() {
-        let given = || SliceSource::new(&bytes[..count]);
-        let [given, _] = told(rt.alloc(), bytes, given).expect(&rt, "memory");
-        let early = || EndsEarly {
-            lent: bytes,
-            left: count,
-            pulls: 0,
-        };
-        let [new, old] = told(rt.alloc(), bytes, early).expect(&rt, "memory");
-        assert!(rt;
-            new.as_str() == old.as_str() || new.as_str() == given.as_str(),
-            "{count}: {new}"
-        );
+        let given = SliceSource::new(&bytes[..count]);
+        let (given, _) = compare_with(rt.alloc(), bytes, given, Limits::usual(), Info::Keep);
+        let given = format!(in rt.alloc(); "{:?}", of_second(given)).expect(&rt, "memory");
+        let [new, old] = told_early(rt.alloc(), bytes, count).expect(&rt, "memory");
+        let agree = new.as_str() == old.as_str() || new.as_str() == given.as_str();
+        assert!(rt; agree, "{count}: {new}");
     }
 }

@@ -18,11 +18,11 @@ returns-in-Ok g c =
     let began = c.in_ok-begin.ensures.began in
     let over = rw (began.2) at (c.is_over.ensures.over c.if-not-is_over.false) in
     let gave = rw (began.2) at c.in-Ok.ensures in
-    rw (began.2, began.0, over.0, over.1) (unseen_behind c.args.self.now.pulls c.args.most c.in-Ok.count (g.S.Source.incoming c.args.self.now.source) (g.S.Source.incoming c.pass.new.self) began.1 gave)
+    rw (c.pass_behind.ensures.others, began.2, began.0, over.0, over.1) (unseen_behind c.args.self.now.pulls c.args.most c.in-Ok.count (g.S.Source.incoming c.args.self.now.source) (g.S.Source.incoming c.pass_behind.new.self.source) began.1 gave.passed)
 
 pub returns-in-Err : goal.returns-in-Err
 returns-in-Err g c =
     let began = c.in_ok-begin.ensures.began in
     let over = rw (began.2) at (c.is_over.ensures.over c.if-not-is_over.false) in
     let none = rw (began.2) at c.in-Err.ensures in
-    rw (began.2, began.0, over.0, over.1) (none_behind c.args.self.now.pulls (g.S.Source.incoming c.args.self.now.source) (g.S.Source.incoming c.pass.new.self) began.1 none)
+    rw (c.pass_behind.ensures.others, began.2, began.0, over.0, over.1) (none_behind c.args.self.now.pulls (g.S.Source.incoming c.args.self.now.source) (g.S.Source.incoming c.pass_behind.new.self.source) began.1 none.passed)
