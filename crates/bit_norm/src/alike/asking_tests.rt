@@ -141,7 +141,7 @@ static LENDINGS: [(usize, &[usize]); 12] = [
     (100, &[100]),
 ];
 
-/// Checks that the second input is asked alike and the same is told of it, also if one of the first twelve reads fails.
+/// Checks that the second input is asked alike and the same is told of it, also if one of the first ten reads fails.
 fn ask_alike(rt: &impl Abort, alloc: Global, first: &[u8], second: &[u8], limits: Limits) {
     let pair = Pair {
         first,
@@ -149,7 +149,7 @@ fn ask_alike(rt: &impl Abort, alloc: Global, first: &[u8], second: &[u8], limits
         limits,
     };
     for (room, sizes) in &LENDINGS {
-        for fails_at in 0..13 {
+        for fails_at in 0..11 {
             let lending = Lending {
                 room: *room,
                 sizes,
@@ -211,12 +211,12 @@ fn others_alike(rt: &impl Abort, alloc: Global, first: &[u8], limits: Limits, pl
     ask_alike(rt, alloc, first, &second, limits);
 }
 
-/// Checks it for changes at every seventh byte of one of the first inputs.
+/// Checks it for changes at some places of one of the first inputs.
 fn all_alike(rt: &impl Abort, alloc: Global, text: &str) {
     let first = bytes_of(alloc, text).expect(rt, "memory");
     for is_tight in [false, true] {
         let limits = limits_for(rt, &first, is_tight);
-        for place in (0..first.len()).step_by(7) {
+        for place in (0..first.len()).step_by(17) {
             others_alike(rt, alloc, &first, limits, place);
         }
     }
