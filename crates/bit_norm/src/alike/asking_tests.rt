@@ -126,7 +126,7 @@ fn asked_in_parts(rt: &impl Abort, alloc: Global, pair: &Pair<'_>, lending: Lend
 }
 
 /// Buffers, and what their readers give.
-static LENDINGS: [(usize, &[usize]); 12] = [
+static LENDINGS: [(usize, &[usize]); 14] = [
     (1, &[1]),
     (3, &[3]),
     (8, &[8]),
@@ -137,6 +137,8 @@ static LENDINGS: [(usize, &[usize]); 12] = [
     (32, &[7, 32, 32]),
     (32, &[16, 16, 9]),
     (32, &[16, 30]),
+    (8, &[8, 8, 8, 0]),
+    (13, &[13, 13, 0]),
     (24, &[24, 24, 0]),
     (100, &[100]),
 ];
@@ -177,7 +179,7 @@ static FIRSTS: [&str; 5] = [
     "M D N S E T T W",
     "M T A T E A W",
     "M T B W B T",
-    "DE C0 17 0B 00 00 00 00 1C 00 00 00 28 00 00 00 07 00 00 00 01 02 03 04 05 06 07 08 M T E W Z",
+    "DE C0 17 0B 00 00 00 00 24 00 00 00 28 00 00 00 07 00 00 00 Z 01 02 03 04 M T E W Z",
 ];
 
 /// The usual limits, or those with one on bytes at the end of an input.
