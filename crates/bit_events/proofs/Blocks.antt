@@ -282,6 +282,19 @@ on_gathered gathered limits m a g b buffered_parts n after h result c some nothi
     go (Ok x) t moves = run_taken gathered limits m a g n h buffered_parts on.0 c on.2 sees t (omega (arith, moves, stays, on.1))
     go (Err fault) t moves = none_found limits m a fault c (finds_fault limits m a a fault c (in_block m a nothing.was_live some) (not_caught_up (any_bits (on.0.position - buffered_parts.position)) a buffered_parts tt on.0 fault c (step limits (machine_shown m)) sees (any_seen buffered_parts on.0 on.2.passed) t))
 
+-- a reader that only looked at what is buffered
+pub nothing_gathered : {G : Type 0} (gathered : G → List Event → G → Type 0) (limits : Limits) (m : Machine) (a : Reader) (g : G) (b : Reader) (buffered_parts : BufferedBits) → 0 < vec_len m.frames → TookNothing a b → b.position ≡ a.position → Sees a buffered_parts → GathersSome gathered limits m a g m b g
+nothing_gathered gathered limits m a g b buffered_parts some nothing stays sees =
+    let none : buffered_parts.position - buffered_parts.position ≡ 0 = omega arith in
+    run_taken gathered limits m a g m g buffered_parts buffered_parts b (on_none gathered limits m buffered_parts g (λ closed. absurd (omega (arith, some, closed)))) sees
+    (rw none (same_reading (gives (tt {0})) (any_bits 0) a (Ok (tt {0})) b no_bits nothing)) (omega (arith, stays))
+  where
+    no_bits : (p : ℕ) (r : List Bool) → reading (gives (tt {0})) p r ≡ reading (any_bits 0) p r
+    no_bits p r =
+        let here : BufferedBits = record { position = p; bits = r } in
+        let zero : p - p ≡ 0 = omega arith in
+        sym (subst (λ (n : ℕ). reading (any_bits n) p r ≡ Ok (tt, p, r)) zero (any_seen here here ([], refl, omega arith)))
+
 -- a reader that took nothing before, and ran out of memory or lost its source
 pub lost_then : (limits : Limits) (m : Machine) (a b : Reader) (fault : Fault) (c : Reader) → TookNothing a b → Why (gives (tt {0})) b fault c → MissesEvents limits m a fault c
 lost_then limits m a b fault c nothing why = go fault (after_nothing (gives (tt {0})) a b (Err fault) c nothing why)

@@ -1,5 +1,5 @@
 -- Buffered records, gathered one after another.
-use Rattle.std.proofs.Common.{◌≡◌, ℕ, ◌+◌, ◌-◌, ◌<◌, ◌≤◌, Bool, List, [], ◌∷◌, ◌++◌, length, None, Some, Option, Ok, Err, refl, sym, ap, subst, ◌∙◌, arith, append_assoc, length-append, vec_len, get_or, suc}
+use Rattle.std.proofs.Common.{◌≡◌, ℕ, ◌+◌, ◌-◌, ◌<◌, ◌≤◌, Bool, List, [], ◌∷◌, ◌++◌, length, drop, None, Some, Option, Ok, Err, refl, sym, ap, subst, ◌∙◌, arith, append_assoc, length-append, vec_len, get_or, suc}
 use Rattle.bit_grammar.specs.Grammar.{Grammar, gives, ◌>>=◌}
 use Rattle.bit_grammar.specs.Fields.{fixed}
 use Rattle.bit_grammar.specs.Record.{unabbreviated}
@@ -10,7 +10,8 @@ use Rattle.bit_grammar.specs.Terms as terms
 use Rattle.bit_grammar.specs.Blocks.{Limits, Handed, Scope, entry}
 use Rattle.bit_grammar.specs.Machine as machine
 use Rattle.bit_grammar.specs.Machine.{Event, scope_of, step, step_of}
-use Rattle.bit_fields.specs.Buffered.{BufferedBits, Reads, Sees, reader_further, reader_at}
+use Rattle.std.proofs.lemmas.List.{drop_at}
+use Rattle.bit_fields.specs.Buffered.{BufferedBits, Reads, Sees, beyond, reader_further, reader_at}
 use Rattle.bit_fields.specs.declared.fault.Fault.{Fault}
 use Rattle.bit_fields.specs.Reader.{Reader, Took, Why}
 use Rattle.bit_fields.proofs.Composing.{same_reading, fault_then}
@@ -25,7 +26,7 @@ use Rattle.bit_events.specs.FrameView.{frame_shown, frames_shown, info_shown}
 use Rattle.bit_events.specs.Folding.{GathersSome}
 use Rattle.bit_events.specs.Gathering.{Gathers}
 use Rattle.bit_events.specs.MachineView.{handed_shown, machine_shown, record_of, record_rule, LeavesMachine}
-use Rattle.bit_events.specs.Runs.{AddsBehind, ReadsTo, after_record, Passed, GathersPlain, GathersOne, GathersTo}
+use Rattle.bit_events.specs.Runs.{AddsBehind, ReadsTo, after_record, Passed, GathersPlain, GathersTo, StaysGathered}
 use Rattle.bit_events.proofs.Advancing.{finds_event}
 use Rattle.bit_events.proofs.Folds.{in_block, none_yet, one_event, some_then}
 use Rattle.bit_events.proofs.Framing.{none_described}
@@ -100,21 +101,6 @@ nothing_missed rule a fault b w = same_reading (gives (tt {0}) >>= λ v. rule) r
 -- the values added come after the earlier ones
 pub added_behind : (rule : Grammar CodeAndValues) (room : ℕ) (a : Reader) (code : ℕ) (b : Reader) (before after : List ℕ) → AddsWithin rule room a (Ok code) b before after → AddsBehind (λ list. (length list ≤ room) × Took rule a (record { code = code; values = list }) b) before after
 added_behind rule room a code b before after h = (h.0.0, h.0.1, (omega (arith, h.1, ap length h.0.1, length-append before h.0.0), h.0.2))
-
--- ---- one record, gathered
-
--- a record that is not abbreviated, straight from the bits
-pub one_plain : {G : Type 0} (gathered : G → List Event → G → Type 0) (f : Frame) (room : ℕ) (a : BufferedBits) (g : G) (taken : PlainRecord) (h : G) → (frame_shown f).info ≡ None → GathersPlain gathered f.head.width room a g (Some taken) h → GathersOne gathered f room a g (Some taken.count) taken.after h
-one_plain gathered f room a g taken h none mark = (
-  3,
-  mark.0,
-  mark.1,
-  mark.3,
-  mark.4,
-  mark.5,
-  λ limits outer handed left. plain_seen limits (frame_shown f) outer handed 3 room mark.0 mark.1 a mark.2 taken.after none refl left mark.6 mark.7,
-  mark.8,
-)
 
 -- ---- several
 
@@ -199,3 +185,55 @@ gathers_more {G = G} gathered limits f used a g now_used b h id code list c k mo
 
     forward : b.position ≤ c.position
     forward = reads_forward rule b value c seen
+
+-- one more, straight from the bits after its id
+pub plain_more : {G : Type 0} (gathered : G → List Event → G → Type 0) (limits : Limits) (f : Frame) (used : ℕ) (a : BufferedBits) (g : G) (now_used : ℕ) (b : BufferedBits) (h : G) (room : ℕ) (c : BufferedBits) (taken : PlainRecord) (k : G) → (frame_shown f).info ≡ None → GathersTo gathered limits f used a g now_used b h → room ≡ limits.values - now_used → Reads (fixed f.head.width) b 3 c → GathersPlain gathered room c h (Some taken) k
+    → GathersTo gathered limits f used a g (now_used + taken.count) taken.after k
+plain_more gathered limits f used a g now_used b h room c taken k none so left seen one =
+    gathers_more gathered limits f used a g now_used b h 3 one.0 one.1 taken.after k (now_used + taken.count) so (ap (λ (n : ℕ). now_used + n) (sym one.2))
+    (λ outer handed same. plain_seen limits (frame_shown f) outer handed 3 room one.0 one.1 b c taken.after none refl (ap (λ (u : ℕ). limits.values - u) same ∙ sym left) seen one.4) (one.5 b.position)
+
+-- by a gatherer that changed without gathering anything
+pub gathers_still : {G : Type 0} (gathered : G → List Event → G → Type 0) (limits : Limits) (f : Frame) (used : ℕ) (a : BufferedBits) (g : G) (now_used : ℕ) (b : BufferedBits) (h k : G) → GathersTo gathered limits f used a g now_used b h → StaysGathered gathered h k → GathersTo gathered limits f used a g now_used b k
+gathers_still gathered limits f used a g now_used b h k so stays = record {
+  passed = so.passed;
+  gathers = λ m outer r split same sees.
+      let before = so.gathers m outer r split same sees in
+      let some = before.0 in (
+        record {
+          events = some.events;
+          live = some.live;
+          pays = some.pays;
+          forward = some.forward;
+          aligned = some.aligned;
+          told = some.told;
+          gathers = λ first done was levels. (let all = some.gathers first done was levels in (stays first (done ++ some.events) all.0, all.1));
+        },
+        before.1,
+      );
+}
+
+-- a run after another one
+pub gathers_then : {G : Type 0} (gathered : G → List Event → G → Type 0) (limits : Limits) (f : Frame) (used : ℕ) (a : BufferedBits) (g : G) (now_used : ℕ) (b : BufferedBits) (h : G) (more_used : ℕ) (c : BufferedBits) (k : G) → GathersTo gathered limits f used a g now_used b h → GathersTo gathered limits f now_used b h more_used c k → GathersTo gathered limits f used a g more_used c k
+gathers_then gathered limits f used a g now_used b h more_used c k one two = record {
+  passed = passed_both a b c one.passed two.passed;
+  gathers = λ m outer r split same sees.
+      let before = one.gathers m outer r split same sees in
+      let n : Machine = record m { used = now_used } in
+      let there : Reader = reader_further r (b.position - a.position) in
+      let later = two.gathers n outer there split refl before.1 in
+      let e : reader_further there (c.position - b.position) ≡ reader_further r (c.position - a.position) = advanced_both r (b.position - a.position) (c.position - b.position) (c.position - a.position) (omega (arith, passed_forward a b one.passed, passed_forward b c two.passed)) in (
+        subst (λ (t : Reader). GathersSome gathered limits m r g (record m { used = more_used }) t k) e (some_then gathered limits m r g n there h (record m { used = more_used }) (reader_further there (c.position - b.position)) k before.0 later.0),
+        subst (λ (t : Reader). Sees t c) e later.1,
+      );
+}
+
+-- the later bits, reached from bits that were read on the way
+pub reached : {A : Type 0} (rule : Grammar A) (a : BufferedBits) (value : A) (b c : BufferedBits) → Reads rule a value b → Passed a c → b.position ≤ c.position → (c.position - b.position ≤ length b.bits) × (c ≡ beyond b (c.position - b.position))
+reached rule a value b c seen p forward =
+    let q = reads_passed rule a value b seen in
+    let n : ℕ = c.position - b.position in
+    let all : length q.0 + n ≡ length p.0 = omega (arith, q.2, p.2, forward) in
+    let left : drop n b.bits ≡ c.bits = ap (drop n) (sym (ap (drop (length q.0)) q.1 ∙ drop_at q.0 b.bits (length q.0) refl)) ∙ drop_more (length q.0) n a.bits ∙ ap (λ (k : ℕ). drop k a.bits) all ∙ ap (drop (length p.0)) p.1 ∙ drop_at p.0 c.bits (length p.0) refl in
+    let place : b.position + n ≡ c.position = omega (arith, forward) in
+    (omega (arith, all, ap length q.1, ap length p.1, length-append q.0 b.bits, length-append p.0 c.bits), sym (rw (place, left) refl))

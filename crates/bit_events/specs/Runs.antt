@@ -1,5 +1,5 @@
 -- Gathering what is buffered, before a reader takes it.
-use Rattle.std.specs.Prelude.{◌≡◌, ℕ, ◌+◌, ◌-◌, ◌<◌, ◌≤◌, List, ◌∷◌, ◌++◌, Bool, Option, Some, None, length}
+use Rattle.std.specs.Prelude.{◌≡◌, ℕ, ◌+◌, ◌-◌, ◌≤◌, List, ◌∷◌, ◌++◌, Bool, Option, Some, None, length}
 use Rattle.bit_grammar.specs.Grammar.{Grammar}
 use Rattle.bit_grammar.specs.declared.op.Op.{Op}
 use Rattle.bit_grammar.specs.Fields.{fixed}
@@ -46,25 +46,20 @@ SeesRecord f room a read list b = (limits : Limits) (outer : List machine.Frame)
           handed list,
     ) b
 
--- A record that is not abbreviated was gathered from these bits, with its id of `width` bits and at most `room` values; or nothing
--- was done.
-abbrev pub GathersPlain : {G : Type 0} → (G → List Event → G → Type 0) → (width room : ℕ)
-    → BufferedBits → G → Option PlainRecord → G → Type 0
-GathersPlain gathered width room a g None h = h ≡ g
-GathersPlain gathered width room a g (Some taken) h = (code : ℕ) × (list : List ℕ) × (b : BufferedBits)
-    × (length list ≡ taken.count) × (taken.count ≤ room) × (a.position < taken.after.position)
-    × Reads (fixed width) a 3 b
-    × Reads (unabbreviated room) b (record { code = code; values = list }) taken.after
-    × Gathers gathered g (record_of 3 list a.position (code, taken.after.position)) h
+-- whatever events were gathered still are
+abbrev pub StaysGathered : {G : Type 0} → (G → List Event → G → Type 0) → G → G → Type 0
+StaysGathered {G} gathered g h = (first : G) (events : List Event) → gathered first events g
+    → gathered first events h
 
--- A record of this block was gathered, with its id and at most `room` values; or nothing was done.
-abbrev pub GathersOne : {G : Type 0} → (G → List Event → G → Type 0) → Frame → (room : ℕ)
-    → BufferedBits → G → Option ℕ → BufferedBits → G → Type 0
-GathersOne gathered f room a g None b h = (h ≡ g) × (b ≡ a)
-GathersOne gathered f room a g (Some count) b h = (id code : ℕ) × (list : List ℕ)
-    × (length list ≡ count) × (count ≤ room) × (a.position < b.position)
-    × SeesRecord f room a (id, code) list b
-    × Gathers gathered g (record_of id list a.position (code, b.position)) h
+-- A record that is not abbreviated was gathered from the bits after its id, wherever the id began, with at most `room` values; or
+-- nothing was gathered.
+abbrev pub GathersPlain : {G : Type 0} → (G → List Event → G → Type 0) → (room : ℕ)
+    → BufferedBits → G → Option PlainRecord → G → Type 0
+GathersPlain gathered room a g None h = StaysGathered gathered g h
+GathersPlain gathered room a g (Some taken) h = (code : ℕ) × (list : List ℕ)
+    × (length list ≡ taken.count) × (taken.count ≤ room)
+    × Reads (unabbreviated room) a (record { code = code; values = list }) taken.after
+    × ((first : ℕ) → Gathers gathered g (record_of 3 list first (code, taken.after.position)) h)
 
 -- the later buffered bits are a suffix of the earlier ones
 abbrev pub Passed : BufferedBits → BufferedBits → Type 0
@@ -87,6 +82,15 @@ abbrev pub GathersRun : {G : Type 0} → (G → List Event → G → Type 0) →
     → BufferedBits → G → (now_used after : ℕ) → G → Type 0
 GathersRun gathered limits f used a g now_used after h = (b : BufferedBits) × (b.position ≡ after)
     × GathersTo gathered limits f used a g now_used b h
+
+-- the same from the bits after an id, which began at `first` and is 3, beyond them; or nothing was gathered
+abbrev pub GathersFrom : {G : Type 0} → (G → List Event → G → Type 0) → Limits → Frame → (used id first : ℕ)
+    → BufferedBits → G → (now_used : ℕ) → Option ℕ → G → Type 0
+GathersFrom gathered limits f used id first b g now_used None h = (now_used ≡ used)
+    × StaysGathered gathered g h
+GathersFrom gathered limits f used id first b g now_used (Some after) h = (b.position ≤ after)
+    × ((a : BufferedBits) → a.position ≡ first → Reads (fixed f.head.width) a id b
+    → GathersRun gathered limits f used a g now_used after h)
 
 -- ---- blocks
 

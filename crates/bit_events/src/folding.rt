@@ -21,7 +21,7 @@ use crate::heads::or_memory_fault;
 use crate::machine::{Machine, Step};
 use crate::running::gather_records;
 use crate::with_first::WithFirst;
-use bit_fields::{BitReader, Buffered, BufferedParts, Fault, Head, Limits, Source};
+use bit_fields::{BitReader, Buffered, BufferedParts, Fault, FieldWidth, Head, Limits, Source};
 use std::alloc::{AllocError, Global};
 
 /// The result of reading a whole input: its head, the gatherer of its events, and the bit after its stream.
@@ -210,6 +210,10 @@ impl<S: Source, G: Gatherer> Folding<S, G> {
             return Ok(());
         }
         let parts = self.reader.buffered_parts()?;
+        // A definition: nothing is gathered before it.
+        if parts.starts_with(FieldWidth::of(frame.head.width), 2) {
+            return Ok(());
+        }
         let start = parts.position();
         let mut loaded = start;
         let machine = &mut self.machine;

@@ -5,7 +5,7 @@ ghost use Rattle.bit_events.specs.MachineView.{TookSome};
 ghost use Rattle.bit_events.specs.Runs.{GathersPlain};
 
 use bit_abbrev::Abbrev;
-use bit_fields::{Buffered, FieldWidth, ValueTaker};
+use bit_fields::{Buffered, ValueTaker};
 use std::alloc::AllocError;
 
 /// A record that is not abbreviated, and was taken from buffered bits: how many values it has, and the bits after it.
@@ -62,16 +62,22 @@ pub trait Gatherer: Drop {
         ensures took { TookSome Self.Values.took values.old
             → TookSome Self.Values.took values.new };
 
-    /// Takes the next record straight from buffered bits, with its abbreviation id of `width` bits, if it is not abbreviated and has
-    /// at most `room` values. `None` takes nothing: the record is then read into a value sink.
+    /// Whether `plain` may take the next record, which is not abbreviated and comes next in the buffered bits, after its abbreviation
+    /// id. If not, `plain` is not called.
+    #[inline(always)]
+    fn takes_plain(&self, _buffered: &Buffered<'_>) -> bool {
+        false
+    }
+
+    /// Takes the next record, which is not abbreviated, straight from the buffered bits after its abbreviation id, if it has at most
+    /// `room` values. `None` takes nothing: the record is then read into a value sink.
     #[inline(always)]
     fn plain<'a>(
         &mut self,
         _buffered: &Buffered<'a>,
-        _width: FieldWidth,
         _room: u64,
     ) -> Result<Option<PlainRecord<'a>>, AllocError>
-        ensures { IfOk result (λ taken. GathersPlain gathered _width.bits _room _buffered.now
+        ensures { IfOk result (λ taken. GathersPlain gathered _room _buffered.now
             self.old taken self.new) }
     {
         Ok(None)

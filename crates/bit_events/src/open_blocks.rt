@@ -96,6 +96,16 @@ impl<'a> OpenBlocks<'a> {
         self.inner.is_left
     }
 
+    /// Whether the innermost block is kept with all its records. It may be, with names that none of them has, if this is false.
+    #[inline(always)]
+    #[tactic(auto, using(crate::proofs::Standings::whole_left))]
+    pub fn is_whole(&self) -> bool
+        ensures { result ≡ true → (code : ℕ) → (list_all (keeps self.now.setting) self.now.ids
+            && keeps_record self.now.setting (innermost self.now.ids) code) ≡ true }
+    {
+        self.inner.is_whole
+    }
+
     /// Whether a record with this code is kept directly in the innermost block.
     #[inline(always)]
     #[tactic(auto, using(crate::proofs::Standings::whole_left, crate::proofs::Standings::record_left, crate::proofs::Standings::none_left))]

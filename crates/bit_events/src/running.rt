@@ -1,6 +1,7 @@
 //! Records that are completely buffered, before a reader takes them.
 
 ghost use Rattle.std.specs.Prelude.{◌≡◌, ◌<◌, ◌≤◌, ◌-◌, ◌+◌, ℕ, List, [], ◌∷◌, None, IfSome, OnSome, IfOk, length};
+ghost use Rattle.bit_grammar.specs.Fields.{fixed};
 ghost use Rattle.bit_grammar.specs.Blocks as blocks;
 ghost use Rattle.bit_grammar.specs.Blocks.{Handed};
 ghost use Rattle.bit_grammar.specs.Machine as machine;
@@ -9,7 +10,7 @@ ghost use Rattle.bit_fields.specs.Buffered.{Reads};
 ghost use Rattle.bit_abbrev.specs.Values.{Gains, Has, Keeps};
 ghost use Rattle.bit_events.specs.FrameView.{frame_shown};
 ghost use Rattle.bit_events.specs.MachineView.{record_of, TookSome};
-ghost use Rattle.bit_events.specs.Runs.{AddsBehind, GathersOne, GathersRun, ReadsTo, SeesRecord};
+ghost use Rattle.bit_events.specs.Runs.{AddsBehind, GathersFrom, GathersRun, ReadsTo, SeesRecord};
 
 use crate::entry::read_entry;
 use crate::frame::Frame;
@@ -50,6 +51,20 @@ pub(crate) fn buffered_record<V: ValueTaker>(
     }
 }
 
+/// Reads the id of a buffered record. `None` if the next item is no record, or its id is not buffered.
+#[inline(always)]
+fn record_id(buffered: &mut Buffered<'_>, frame: &Frame) -> Option<u32>
+    ensures three { IfSome result (λ id. 3 ≤ id) }
+    ensures reads { IfSome result (λ id. Reads (fixed frame.now.head.width) buffered.old id buffered.new) }
+    ensures moves { OnSome result (buffered.old.position < buffered.new.position) }
+{
+    let id = buffered.fixed(FieldWidth::of(frame.head.width))?;
+    if id < 3 {
+        return None;
+    }
+    Some(id as u32)
+}
+
 /// Reads a buffered record and its id, in a block that is no BLOCKINFO block, and returns the id and the code. If the item is no
 /// record, the values stay. For `U` see `read_record`.
 #[inline(always)]
@@ -70,38 +85,70 @@ pub(crate) fn buffered_item<U, D: Lookup, V: ValueTaker>(
     ensures moves { OnSome result (buffered.old.position < buffered.new.position) }
 {
     let first = buffered.position();
-    let id = buffered.fixed(FieldWidth::of(frame.head.width))?;
-    if id < 3 {
-        return None;
-    }
-    let id = id as u32;
+    let id = record_id(buffered, frame)?;
     match read_entry::<U, Buffered<'_>, D, V>(buffered, definitions, room, id, first, values) {
         Ok(code) => Some((id, code)),
         Err(_) => None,
     }
 }
 
-/// Gathers the next record straight from the buffered bits, and returns the number of its values. `None`, and nothing is changed,
-/// if the gatherer declines it.
-#[inline(always)]
-fn gather_plain<'a, G: Gatherer>(
-    buffered: &mut Buffered<'a>,
+/// Gathers records that are not abbreviated straight from the buffered bits, as long as the gatherer takes them, and returns the bit
+/// after the last one, if there is one. The first begins at `first`; the bits are those after its abbreviation id. It is a loop of its
+/// own: what it needs would not fit into the loop over all records.
+#[inline(never)]
+fn gather_plain<G: Gatherer>(
+    buffered: Buffered<'_>,
+    first: u64,
     frame: &Frame,
-    room: u64,
+    limits: &Limits,
+    used: &mut u64,
     gatherer: &mut G,
 ) -> Result<Option<u64>, AllocError>
     requires plain { frame.now.info ≡ None }
-    ensures { IfOk result (λ found. GathersOne G.gathered frame.now room buffered.old gatherer.old
-        found buffered.new gatherer.new) }
+    ensures { IfOk result (λ after. GathersFrom G.gathered limits.now frame.now used.old 3 first
+        buffered.entry gatherer.old used.new after gatherer.new) }
 {
-    match gatherer.plain(buffered, FieldWidth::of(frame.head.width), room) {
-        Ok(Some(taken)) => {
-            *buffered = taken.after;
-            Ok(Some(taken.count))
-        }
-        Ok(None) => Ok(None),
-        Err(error) => Err(error),
+    let mut buffered = buffered;
+    let mut first = first;
+    let mut some = false;
+    let mut spent = *used;
+    let mut room = limits.values().saturating_sub(spent);
+    loop {
+        let Some(taken) = gatherer.plain(&buffered, room)? else {
+            *used = spent;
+            return Ok(if some { Some(first) } else { None });
+        };
+        some = true;
+        buffered = taken.after;
+        spent += taken.count;
+        room = room.saturating_sub(taken.count);
+        first = buffered.position();
+        let Some(3) = record_id(&mut buffered, frame) else {
+            *used = spent;
+            return Ok(Some(first));
+        };
     }
+}
+
+/// The same, if the next record is not abbreviated and the gatherer takes such records.
+#[inline(always)]
+fn gather_as_bits<G: Gatherer>(
+    buffered: &Buffered<'_>,
+    id: u32,
+    first: u64,
+    frame: &Frame,
+    limits: &Limits,
+    used: &mut u64,
+    gatherer: &mut G,
+) -> Result<Option<u64>, AllocError>
+    requires plain { frame.now.info ≡ None }
+    ensures { IfOk result (λ after. GathersFrom G.gathered limits.now frame.now used.old id first
+        buffered.now gatherer.old used.new after gatherer.new) }
+{
+    if id != 3 || !gatherer.takes_plain(buffered) {
+        return Ok(None);
+    }
+    gather_plain(buffered.copy(), first, frame, limits, used, gatherer)
 }
 
 /// Gathers records of a block that is no BLOCKINFO block, as long as they are completely buffered, and returns the bit after the
@@ -127,22 +174,25 @@ pub(crate) fn gather_records<G: Gatherer>(
     let mut room = limits.values().saturating_sub(spent);
     let definitions = frame.definitions.all();
     loop {
-        match gather_plain(&mut buffered, frame, room, gatherer) {
-            Ok(Some(count)) => {
-                spent += count;
-                room = room.saturating_sub(count);
-                first = buffered.position();
-                continue;
-            }
-            Ok(None) => {}
-            Err(error) => return Err(error),
-        }
         values.truncate(0);
-        let Some((id, code)) = buffered_item::<G, Definitions<'_>, G::Values>(
+        let Some(id) = record_id(&mut buffered, frame) else {
+            *used = spent;
+            return Ok(first);
+        };
+        if let Some(after) = gather_as_bits(
+            &buffered, id, first, frame, limits, &mut spent, gatherer,
+        )? {
+            buffered.skip(after - buffered.position());
+            room = limits.values().saturating_sub(spent);
+            first = after;
+            continue;
+        }
+        let Ok(code) = read_entry::<G, Buffered<'_>, Definitions<'_>, G::Values>(
             &mut buffered,
-            frame,
             &definitions,
             room,
+            id,
+            first,
             values,
         ) else {
             *used = spent;

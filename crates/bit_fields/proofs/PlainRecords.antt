@@ -1,7 +1,7 @@
 -- Records that are not abbreviated, as buffered bits show them.
 use Rattle.std.proofs.Common.{◌≡◌, ℕ, zero, suc, ◌+◌, ◌-◌, ◌≤◌, Bool, List, [], ◌∷◌, ◌++◌, length, take, drop, Result, Ok, Err, refl, sym, ap, ◌∙◌, subst, arith, append_assoc, length-append}
 use Rattle.std.proofs.lemmas.Bool.{le-leb}
-use Rattle.std.proofs.lemmas.List.{take-append-drop, drop-append-le, drop_at, length-take-le}
+use Rattle.std.proofs.lemmas.List.{append-nil, take-append-drop, drop-append-le, drop_at, length-take-le}
 use Rattle.std.proofs.Math.Seq.{take-add}
 use Rattle.bit_grammar.specs.Bits.{bits_of, number}
 use Rattle.bit_grammar.specs.FormatFields.{shortest}
@@ -11,10 +11,10 @@ use Rattle.bit_grammar.specs.Record.{value_count, unabbreviated}
 use Rattle.bit_grammar.specs.Normal.{values_bits, entry_text}
 use Rattle.bit_grammar.proofs.Bits.Numbers.{length-bits_of}
 use Rattle.bit_fields.specs.Buffered.{BufferedBits, Reads, beyond}
-use Rattle.bit_fields.specs.SixBits.{Begins, Shortest, TakesShortest, TakesPlain}
+use Rattle.bit_fields.specs.SixBits.{Begins, NeedsAll, Shortest, TakesShortest, TakesPlain}
 use Rattle.bit_fields.proofs.BitLaws.{bits_of-number, drop_more}
-use Rattle.bit_fields.proofs.BufferedReads.{reads_passed}
-use Rattle.bit_fields.proofs.SixBitForms.{begun_bits}
+use Rattle.bit_fields.proofs.BufferedReads.{reads_beyond, reads_passed}
+use Rattle.bit_fields.proofs.SixBitForms.{begun_bits, needs_shortest}
 
 -- ---- one after another
 
@@ -58,7 +58,7 @@ repeat_both {A} rule (suc m) n k p s xs ys q t u v all e f = subst (λ (i : ℕ)
 pub none_taken : (many : ℕ) (a : BufferedBits) → many ≡ 0 → TakesShortest many a a
 none_taken many a is = subst (λ (n : ℕ). TakesShortest n a a) (sym is) (record { values = []; count = refl; reads = refl; spelled = refl })
 
-then_taken : (m n : ℕ) (a b c : BufferedBits) → TakesShortest m a b → TakesShortest n b c → TakesShortest (m + n) a c
+pub then_taken : (m n : ℕ) (a b c : BufferedBits) → TakesShortest m a b → TakesShortest n b c → TakesShortest (m + n) a c
 then_taken m n a b c x y = record {
   values = x.values ++ y.values;
   count = length-append x.values y.values ∙ ap (λ (k : ℕ). k + length y.values) x.count ∙ ap (λ (k : ℕ). m + k) y.count;
@@ -67,7 +67,7 @@ then_taken m n a b c x y = record {
 }
 
 -- the numbers at the front of a word
-word_taken : (n bits word : ℕ) (b : BufferedBits) → 54 ≤ length b.bits → bits_of 54 word ≡ take 54 b.bits → Begins word n bits → Shortest word bits → bits ≤ 54 → TakesShortest n b (beyond b bits)
+pub word_taken : (n bits word : ℕ) (b : BufferedBits) → 54 ≤ length b.bits → bits_of 54 word ≡ take 54 b.bits → Begins word n bits → Shortest word bits → bits ≤ 54 → TakesShortest n b (beyond b bits)
 unfolding Begins
 word_taken n bits word b there front begins shortest most =
     let rest : List Bool = drop 54 b.bits in
@@ -86,8 +86,19 @@ word_taken n bits word b there front begins shortest most =
           ∙ ap (λ (s : List Bool). values_bits run.0 ++ s) (sym left);
     }
 
-pub more_taken : (m n k bits word : ℕ) (a b : BufferedBits) → TakesShortest m a b → k ≡ m + n → 54 ≤ length b.bits → bits_of 54 word ≡ take 54 b.bits → Begins word n bits → Shortest word bits → bits ≤ 54 → TakesShortest k a (beyond b bits)
-more_taken m n k bits word a b taken all there front begins shortest most = subst (λ (i : ℕ). TakesShortest i a (beyond b bits)) (sym all) (then_taken m n a b (beyond b bits) taken (word_taken n bits word b there front begins shortest most))
+-- a number that was read from these bits, and needs all of its chunks
+pub number_taken : (v bits : ℕ) (a b : BufferedBits) → Reads (vbr 6) a v b → bits ≡ b.position - a.position → NeedsAll v bits → TakesShortest 1 a (beyond a bits)
+number_taken v bits a b seen bits_is needs =
+    let reads : Reads (vbr 6) a v (beyond a bits) = reads_beyond (vbr 6) a v b bits seen bits_is in
+    let q = reads_passed (vbr 6) a v b seen in
+    let len : length q.0 ≡ bits = omega (arith, bits_is, q.2) in
+    let text = needs_shortest a.position v bits q.0 q.3 len needs in
+    record {
+      values = v ∷ [];
+      count = refl;
+      reads = rw reads refl;
+      spelled = q.1 ∙ ap (λ (s : List Bool). s ++ b.bits) (sym text) ∙ ap (λ (s : List Bool). s ++ b.bits) (sym (append-nil (shortest 6 v))) ∙ ap (λ (s : List Bool). values_bits (v ∷ []) ++ s) (sym (ap (drop bits) q.1 ∙ drop_at q.0 b.bits bits len));
+    }
 
 -- ---- a record
 
@@ -131,31 +142,20 @@ plain_taken room code many a c d b few small first second taken =
 
 -- ---- a copy
 
+-- bits that were read as a number
+pub taken_bits : (n value : ℕ) (b : BufferedBits) → n ≤ length b.bits → value ≡ number (take n b.bits) → bits_of n value ≡ take n b.bits
+taken_bits n value b there value_is = ap (bits_of n) value_is ∙ ap (λ (i : ℕ). bits_of i (number (take n b.bits))) (sym (length-take-le n b.bits there)) ∙ bits_of-number (take n b.bits)
+
+-- the last bits were copied
+pub copy_end : (n k m : ℕ) (from b : BufferedBits) (old now new : List Bool) → now ≡ old ++ take k from.bits → b ≡ beyond from k → new ≡ now ++ take n b.bits → m ≡ k + n → new ≡ old ++ take m from.bits
+copy_end n k m from b old now new now_is b_is new_is m_is =
+    new_is ∙ ap (λ (s : List Bool). s ++ take n b.bits) now_is ∙ ap (λ (x : BufferedBits). (old ++ take k from.bits) ++ take n x.bits) b_is ∙ append_assoc old (take k from.bits) (take n (drop k from.bits)) ∙ ap (λ (s : List Bool). old ++ s) (sym (take-add k n from.bits)) ∙ ap (λ (i : ℕ). old ++ take i from.bits) (sym m_is)
+
 -- more bits were copied
 pub copy_on : (n k m : ℕ) (from b : BufferedBits) (old now new : List Bool) (value : ℕ) → now ≡ old ++ take k from.bits → b ≡ beyond from k → n ≤ length b.bits → value ≡ number (take n b.bits) → new ≡ now ++ bits_of n value → m ≡ k + n → new ≡ old ++ take m from.bits
-copy_on n k m from b old now new value now_is b_is there value_is new_is m_is =
-    let part : bits_of n value ≡ take n (drop k from.bits) =
-    ap (bits_of n) value_is ∙ ap (λ (i : ℕ). bits_of i (number (take n b.bits))) (sym (length-take-le n b.bits there)) ∙ bits_of-number (take n b.bits) ∙ ap (λ (x : BufferedBits). take n x.bits) b_is in
-    new_is ∙ ap (λ (s : List Bool). s ++ bits_of n value) now_is ∙ ap (λ (s : List Bool). (old ++ take k from.bits) ++ s) part ∙ append_assoc old (take k from.bits) (take n (drop k from.bits)) ∙ ap (λ (s : List Bool). old ++ s) (sym (take-add k n from.bits)) ∙ ap (λ (i : ℕ). old ++ take i from.bits) (sym m_is)
+copy_on n k m from b old now new value now_is b_is there value_is new_is m_is = copy_end n k m from b old now new now_is b_is (new_is ∙ ap (λ (s : List Bool). now ++ s) (taken_bits n value b there value_is)) m_is
 
 pub beyond_on : (n k m : ℕ) (from b c : BufferedBits) → b ≡ beyond from k → c ≡ beyond b n → m ≡ k + n → c ≡ beyond from m
 beyond_on n k m from b c b_is c_is m_is =
     let place : from.position + k + n ≡ from.position + m = omega (arith, m_is) in
     c_is ∙ ap (λ (x : BufferedBits). beyond x n) b_is ∙ rw (place, drop_more k n from.bits, m_is) refl
-
--- ---- numbers that are read over
-
--- the later bits are those after the bits in between
-pub record Over (a b : BufferedBits) : Type 0 where
-  pub forward : a.position ≤ b.position
-  pub bits : b.bits ≡ drop (b.position - a.position) a.bits
-
-pub over_more : {A : Type 0} (rule : Grammar A) (a b : BufferedBits) (value : A) (c : BufferedBits) → Over a b → Reads rule b value c → Over a c
-over_more rule a b value c over seen =
-    let q = reads_passed rule b value c seen in
-    let all : b.position - a.position + length q.0 ≡ c.position - a.position = omega (arith, over.forward, q.2) in
-    let left : drop (length q.0) b.bits ≡ c.bits = ap (drop (length q.0)) q.1 ∙ drop_at q.0 c.bits (length q.0) refl in
-    record {
-      forward = omega (arith, over.forward, q.2);
-      bits = sym left ∙ ap (drop (length q.0)) over.bits ∙ drop_more (b.position - a.position) (length q.0) a.bits ∙ ap (λ (n : ℕ). drop n a.bits) all;
-    }

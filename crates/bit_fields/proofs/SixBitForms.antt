@@ -4,7 +4,7 @@ use Rattle.std.specs.List.{AllByRecursion}
 use Rattle.std.specs.Int.{w64, bit_at}
 use Rattle.std.proofs.lemmas.Bool.{lt-ltb, le-ltb}
 use Rattle.std.proofs.lemmas.List.{take_at, drop_at, append-nil, length-append}
-use Rattle.std.proofs.lemmas.Nat.{shr-shr, and_block, and_mask, and_le_r, or_lt, one_shl, shl_whole}
+use Rattle.std.proofs.lemmas.Nat.{pow-add, shr-shr, and_block, and_mask, and_le_r, or_lt, one_shl, shl_whole}
 use Rattle.std.proofs.lemmas.Nat.Bits.{bit_at_and, bit_at_or, bit_at_not, bit_at_ones, bit_at_cat_low, bit_at_cat_high, bit_at-zero}
 use Rattle.bit_grammar.specs.Bits.{bit, number, bits_of}
 use Rattle.bit_grammar.specs.Grammar.{repeat, Spells, reading}
@@ -15,7 +15,7 @@ use Rattle.bit_grammar.proofs.Bits.Numbers.{number_below, length-bits_of}
 use Rattle.bit_grammar.proofs.Readings.Deciding.{is_spelled, position-first}
 use Rattle.bit_grammar.proofs.Readings.Sequences.{made}
 use Rattle.bit_grammar.proofs.Words.Fields.{AreChunks, chunks_are, joined, length-chunked}
-use Rattle.bit_fields.specs.SixBits.{Shortest}
+use Rattle.bit_fields.specs.SixBits.{NeedsAll, Shortest}
 use Rattle.bit_fields.proofs.BitLaws.{number-bits_mod, take-bits_of, bits_of-split, bits_of-number, bits_of-mod}
 use Rattle.bit_fields.proofs.SixBits.{any_after, word_apart, length-front}
 use Rattle.bit_fields.proofs.SixBitSums.{tops}
@@ -139,6 +139,29 @@ chunks_of_number p s v h = chunks_are 5 p 13 64 p s v (position-first (λ start.
 
 number_is : (v : ℕ) (s : List Bool) (c : AreChunks 5 13 64 v s) → Needed c.payloads → shortest 6 v ≡ s
 number_is v s c needed = ap chunk_spelling (payloads_are 13 v c.payloads c.wide c.some c.few c.value needed) ∙ sym c.bits
+
+-- the number is at least the worth of its last chunk, which is not 0 then
+needed_great : (xs : List (List Bool)) → AllByRecursion (λ x. length x ≡ 5) xs → (2 ≤ length xs → 2 ^ (5 * (length xs - 1)) ≤ joined 5 xs) → Needed xs
+needed_great [] wide great = tt
+needed_great (x ∷ []) wide great = tt
+needed_great (x ∷ y ∷ []) wide great = λ none. (
+    let below : number x < 2 ^ 5 = subst (λ (k : ℕ). number x < 2 ^ k) wide.0 (number_below x) in
+    omega (arith, great (omega arith), below, none)
+    )
+needed_great (x ∷ y ∷ z ∷ xs) wide great = needed_great (y ∷ z ∷ xs) wide.1 (λ two. (
+    let below : number x < 2 ^ 5 = subst (λ (k : ℕ). number x < 2 ^ k) wide.0 (number_below x) in
+    let places : 5 * (length (x ∷ y ∷ z ∷ xs) - 1) ≡ 5 + 5 * (length (y ∷ z ∷ xs) - 1) = omega arith in
+    let power = ap (λ (k : ℕ). 2 ^ k) places ∙ pow-add 2 5 (5 * (length (y ∷ z ∷ xs) - 1)) in
+    omega (arith, great (omega arith), power, below)
+    ))
+
+-- a number that needs all of its chunks is in its shortest spelling
+pub needs_shortest : (p v bits : ℕ) (s : List Bool) → Spells (vbr 6) p s v → length s ≡ bits → NeedsAll v bits → shortest 6 v ≡ s
+needs_shortest p v bits s h len needs =
+    let c = chunks_of_number p s v h in
+    let long : bits ≡ 6 * length c.payloads = sym len ∙ ap length c.bits ∙ length-chunked 5 c.payloads c.wide in
+    let last : bits / 6 - 1 ≡ length c.payloads - 1 = omega (arith, long) in
+    number_is v s c (needed_great c.payloads c.wide (λ two. subst (λ (n : ℕ). 2 ^ (5 * n) ≤ joined 5 c.payloads) last (subst (λ (n : ℕ). 2 ^ (5 * (bits / 6 - 1)) ≤ n) c.value (needs (omega (arith, long, two))))))
 
 values_are : (count p n word : ℕ) (s : List Bool) (vs : List ℕ) → Spells (repeat count (vbr 6)) p s vs → bits_of n word ≡ s → Full word n → values_bits vs ≡ s
 values_are zero p n word s vs h is full = ap values_bits h.1 ∙ sym h.0

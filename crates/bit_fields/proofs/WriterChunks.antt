@@ -300,6 +300,19 @@ short_spelled value more word few more_is word_is = elim (cases_lt value 32) [ i
         ∙ ap (λ (k : ℕ). bits_of 6 k ++ bits_of 6 (value / 32)) (sym first)
         ∙ spelling_ends 6 value [] (bits_of 6 (chunk 6 value)) (value / 32) (omega arith) (omega (arith, few)) goes
 
+-- what comes in a record before its values, of a code and a count in one chunk each
+pub front_spelled : (code count word : ℕ) → code < 32 → count < 32 → word ≡ 3 + 4 * (code + 64 * count) → bits_of 14 word ≡ bits_of 2 3 ++ (shortest 6 code ++ shortest 6 count)
+front_spelled code count word few also is =
+    let all : word ≡ 3 + (code + 64 * count) * 2 ^ 2 = omega (arith, is) in
+    let both : code + 64 * count ≡ code + count * 2 ^ 6 = omega arith in
+    ap (bits_of 14) all
+    ∙ bits_of-above 2 12 3 (code + 64 * count) (omega arith)
+    ∙ ap (λ (k : ℕ). bits_of 2 3 ++ bits_of 12 k) both
+    ∙ ap (λ (s : List Bool). bits_of 2 3 ++ s) (bits_of-above 6 6 code count (omega (arith, few)) ∙ ap (λ (s : List Bool). s ++ bits_of 6 count) (alone code few) ∙ ap (λ (s : List Bool). shortest 6 code ++ s) (alone count also))
+  where
+    alone : (v : ℕ) → v < 32 → bits_of 6 v ≡ shortest 6 v
+    alone v lt = short_spelled v 0 v (omega (arith, lt)) (omega (arith, lt)) (omega (arith, lt))
+
 -- ---- numbers of more than two chunks of six bits
 
 one_more : (payload rest : ℕ) → rest < 2 ^ (payload * 1) → rest < 2 ^ payload

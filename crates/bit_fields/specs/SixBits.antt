@@ -1,5 +1,5 @@
 -- Numbers in chunks of six bits, in the low 54 bits of a word: nine whole chunks.
-use Rattle.std.specs.Prelude.{◌≡◌, ℕ, ◌+◌, ◌*◌, ◌/◌, ◌^◌, ◌≤◌, Bool, List, [], ◌++◌, length, take, drop, Ok}
+use Rattle.std.specs.Prelude.{◌≡◌, ℕ, ◌+◌, ◌*◌, ◌/◌, ◌^◌, ◌-◌, ◌<◌, ◌≤◌, Bool, List, [], ◌++◌, length, take, drop, Ok}
 use Rattle.bit_grammar.specs.Bits.{bits_of}
 use Rattle.bit_grammar.specs.Grammar.{repeat, reading}
 use Rattle.bit_grammar.specs.Fields.{vbr}
@@ -30,6 +30,18 @@ pub record TakesShortest (many : ℕ) (old new : BufferedBits) : Type 0 where
   pub count : length values ≡ many
   pub reads : Reads (repeat many (vbr 6)) old values new
   pub spelled : old.bits ≡ values_bits values ++ new.bits
+
+-- some numbers were taken so, at most this many
+abbrev pub TakesSome : (most count : ℕ) → (old new : BufferedBits) → Type 0
+TakesSome most count old new = (0 < count) × (count ≤ most) × TakesShortest count old new
+
+-- a number in chunks of six bits that was read from this many bits is in its shortest spelling: it needs its last chunk
+abbrev pub NeedsAll : (value bits : ℕ) → Type 0
+NeedsAll value bits = 6 < bits → 2 ^ (5 * (bits / 6 - 1)) ≤ value
+
+-- two numbers in chunks of six bits come next, the second is this one
+abbrev pub HasCount : BufferedBits → ℕ → Type 0
+HasCount a count = (code : ℕ) × (b c : BufferedBits) × Reads (vbr 6) a code b × Reads (vbr 6) b count c
 
 -- A record that is not abbreviated was taken, after its abbreviation id, with at most `room` values. Its bits are those that a
 -- normal form has for it.

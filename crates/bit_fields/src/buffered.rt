@@ -30,6 +30,12 @@ impl<'a> BufferedParts<'a> {
     {
         self.position
     }
+
+    /// Whether this number is in the first n bits; `false` also if fewer are in the word. Only speed depends on it.
+    #[inline(always)]
+    pub fn starts_with(&self, n: FieldWidth, number: u64) -> bool {
+        self.held >= n.bits && self.word & ((1 << n.bits) - 1) == number
+    }
 }
 
 /// Buffered bits of a stream, from the reader's position on. The reader has not taken them yet. A field is read from here in a few
@@ -163,7 +169,28 @@ impl<'a> Buffered<'a> {
     {
         let first = bits.min(32);
         self.skip_part(first)?;
+        if first == bits {
+            return Some(());
+        }
         self.skip_part(bits - first)
+    }
+
+    /// Skips a number of up to 64 bits in chunks of six, if it is there, as reading it does: one of more than four chunks is skipped at
+    /// once, and the window then has a part of a byte at most.
+    #[inline(always)]
+    pub(crate) fn skip_number(&mut self, bits: u32) -> Option<()>
+        requires { bits ≤ 64 }
+        ensures { OnSome result (self.new ≡ beyond self.old bits) }
+    {
+        if bits <= 24 {
+            return self.skip_part(bits);
+        }
+        self.fill();
+        if self.len() < u64::from(bits) {
+            return None;
+        }
+        self.skip(u64::from(bits));
+        Some(())
     }
 
     /// Moves four bytes into the window, if it has fewer than 32 bits and the bytes are there.
@@ -273,6 +300,14 @@ impl<'a> Buffered<'a> {
         }
         self.skip(bits);
         Some(value)
+    }
+
+    /// Whether the window has n bits, and none of those in the mask is set.
+    #[inline(always)]
+    pub(crate) fn window_has_none(&self, n: u32, mask: u64) -> bool
+        requires { n ≤ 32 }
+    {
+        self.window.len() >= n && self.window.peek(n) & mask == 0
     }
 
     /// Takes a number of one chunk of n bits, if it is in the window. Most numbers are such.

@@ -1,8 +1,9 @@
 //! Records that are not abbreviated: nothing but numbers in chunks of six bits.
 
-ghost use Rattle.std.specs.Prelude.{◌≡◌, ◌≤◌, OnSome, IfSome};
+ghost use Rattle.std.specs.Prelude.{◌≡◌, ◌<◌, ◌≤◌, ℕ, true, take, length, OnOk, IfOk, IfSome};
+ghost use Rattle.bit_grammar.specs.Bits.{bits_of};
 ghost use Rattle.bit_fields.specs.Buffered.{beyond};
-ghost use Rattle.bit_fields.specs.SixBits.{TakesShortest, TakesPlain};
+ghost use Rattle.bit_fields.specs.SixBits.{HasCount, NeedsAll, TakesShortest, TakesSome, TakesPlain};
 
 use crate::buffered::Buffered;
 use crate::six_bits::{are_short, is_shortest, numbers_in};
@@ -15,69 +16,130 @@ const SIX: ChunkWidth = ChunkWidth { bits: 6 };
 const MOST_PLAIN: u64 = 65536;
 
 impl<'a> Buffered<'a> {
-    /// Skips numbers in chunks of six bits, of `bits` bits in all, as reading them does. It is kept out of its caller, since few numbers
-    /// have more than four chunks.
+    /// How many bits the next number has, if it is in its shortest spelling and complete here, and else 0. It is kept out of its
+    /// caller, since few numbers have more than nine chunks. Its result fits a register.
     #[cold]
     #[inline(never)]
-    fn read_over(self, count: u64, bits: u32) -> Option<Buffered<'a>>
-        ensures { IfSome result (λ after. after ≡ beyond self.entry bits) }
+    fn long_number(self) -> u64
+        ensures taken { 0 < result → TakesShortest 1 self.entry (beyond self.entry result) }
+        ensures there { result ≤ length self.entry.bits }
     {
         let mut after = self.copy();
-        for _ in 0..count {
-            after.vbr(SIX)?;
+        let Some(value) = after.vbr(SIX) else {
+            return 0;
+        };
+        let bits = after.position() - self.position();
+        if !has_all_chunks(value, bits) {
+            return 0;
         }
-        if after.position().wrapping_sub(self.position()) != u64::from(bits) {
+        bits
+    }
+
+    /// Takes a number of more than nine chunks, if it is in its shortest spelling and complete here.
+    #[inline(always)]
+    fn one_long(&mut self) -> Option<u64>
+        ensures { IfSome result (λ count. (count ≡ 1) × TakesShortest 1 self.old self.new) }
+    {
+        let bits = self.copy().long_number();
+        if bits == 0 {
             return None;
         }
-        Some(after)
+        self.skip(bits);
+        Some(1)
     }
 
-    /// Skips the first `count` numbers of the next nine chunks, which have `bits` bits. The window then has the same bits, once the next
-    /// field is read, as if they had been read.
+    /// Takes the first number of the next nine chunks, as reading it does, if it is in its shortest spelling.
     #[inline(always)]
-    fn pass_numbers(&mut self, word: u64, count: u64, bits: u32) -> Option<()>
-        requires { bits ≤ 54 }
-        ensures { OnSome result (self.new ≡ beyond self.old bits) }
+    fn one_of(&mut self, word: u64) -> Option<u64>
+        requires there { 54 ≤ length self.old.bits }
+        requires front { bits_of 54 word ≡ take 54 self.old.bits }
+        ensures { IfSome result (λ count. TakesSome 1 count self.old self.new) }
     {
-        if are_short(word, bits) {
-            return self.skip_parts(bits);
+        let (count, bits) = numbers_in(word, 1);
+        if count == 0 || !is_shortest(word, bits) {
+            return None;
         }
-        *self = self.copy().read_over(count, bits)?;
-        Some(())
+        self.skip_number(bits)?;
+        Some(count)
     }
 
-    /// Takes numbers in chunks of six bits, if each is in its shortest spelling and complete here.
+    /// Takes some of the next numbers, at most `most`, if each of them is in its shortest spelling and complete here, and returns how
+    /// many. The window then has the same bits, once the next field is read, as if they had been read.
     #[inline(always)]
-    fn shortest_numbers(&mut self, count: u64) -> Option<()>
-        ensures { OnSome result (TakesShortest count self.old self.new) }
+    fn some_shortest(&mut self, most: u64) -> Option<u64>
+        requires { 0 < most }
+        ensures { IfSome result (λ count. TakesSome most count self.old self.new) }
+    {
+        let word = self.nine_chunks()?;
+        let (count, bits) = numbers_in(word, most);
+        if count == 0 {
+            return self.one_long();
+        }
+        if !are_short(word, bits) {
+            return self.one_of(word);
+        }
+        if !is_shortest(word, bits) {
+            return None;
+        }
+        self.skip_parts(bits)?;
+        Some(count)
+    }
+
+    /// Takes numbers in chunks of six bits, if each is in its shortest spelling and complete here. If not, it returns how many it went
+    /// over.
+    #[inline(always)]
+    fn shortest_numbers(&mut self, count: u64) -> Result<(), u64>
+        ensures { OnOk result (TakesShortest count self.old self.new) }
     {
         let mut left = count;
         while left > 0 {
-            let word = self.nine_chunks()?;
-            let (found, bits) = numbers_in(word, left);
-            if found == 0 || !is_shortest(word, bits) {
-                return None;
+            match self.some_shortest(left) {
+                Some(found) => left -= found,
+                None => return Err(count - left),
             }
-            self.pass_numbers(word, found, bits)?;
-            left -= found;
         }
-        Some(())
+        Ok(())
     }
 
-    /// Takes a record that is not abbreviated, after its abbreviation id, if each of its numbers is in its shortest spelling, and
-    /// returns its code and the number of its values, at most `room`. So its bits are those that a normal form has for it. Source:
-    /// "UNABBREV_RECORD Encoding".
+    /// The number of values of a record that is not abbreviated, whose code comes next.
     #[inline(always)]
-    pub fn plain_record(&mut self, room: u64) -> Option<(u64, u64)>
-        ensures { IfSome result (λ head. TakesPlain room self.old head.0 head.1 self.new) }
+    fn plain_count(&self) -> Option<u64>
+        ensures { IfSome result (HasCount self.now) }
     {
         let mut front = self.copy();
-        let code = front.vbr(SIX)?;
-        let count = front.vbr(SIX)?;
-        if count > room || count > MOST_PLAIN {
-            return None;
+        front.vbr(SIX)?;
+        front.vbr(SIX)
+    }
+
+    /// Whether a record that is not abbreviated comes next, after its abbreviation id, with a code in one chunk and at most one value;
+    /// `false` also if the window has fewer bits. Only speed depends on it.
+    #[inline(always)]
+    pub fn is_tiny_record(&self) -> bool {
+        self.window_has_none(12, 0o76_40)
+    }
+
+    /// Takes a record that is not abbreviated, after its abbreviation id, if each of its numbers is in its shortest spelling and they
+    /// are at most `most`, and returns the number of its values, at most `room`. So its bits are those that a normal form has for it.
+    /// If not, it returns how many numbers it went over. Source: "UNABBREV_RECORD Encoding".
+    #[inline(always)]
+    pub fn plain_record(&mut self, room: u64, most: u64) -> Result<u64, u64>
+        ensures { IfOk result (λ count. (code : ℕ) × TakesPlain room self.old code count self.new) }
+    {
+        let Some(count) = self.plain_count() else {
+            return Err(0);
+        };
+        if count > room || count > MOST_PLAIN || count >= most {
+            return Err(0);
         }
         self.shortest_numbers(count + 2)?;
-        Some((code, count))
+        Ok(count)
     }
+}
+
+/// Whether a number that was read from `bits` bits has no chunks that its shortest spelling does not have.
+#[inline(always)]
+fn has_all_chunks(value: u64, bits: u64) -> bool
+    ensures { result ≡ true → NeedsAll value bits }
+{
+    bits <= 6 || (bits <= 78 && value >= 1 << (5 * (bits / 6 - 1)))
 }

@@ -444,6 +444,23 @@ fn add_numbers(words: &mut Words, window: &mut Window, values: &[u64]) -> Result
     Ok(())
 }
 
+/// What comes in a record before its values, of a code and a count of ten bits.
+#[inline(always)]
+fn short_front(code: u64, count: u64) -> Window
+    requires code { code < 1024 }
+    requires count { count < 1024 }
+    ensures spelled { result ≡ bits_of 2 3 ++ (shortest 6 code ++ shortest 6 count) }
+    ensures few { length result ≤ 26 }
+{
+    if code < 32 && count < 32 {
+        return Window::of(3 + 4 * (code + 64 * count), 14);
+    }
+    let mut front = Window::of(3, 2);
+    front.append(short_chunks(code));
+    front.append(short_chunks(count));
+    front
+}
+
 /// Appends what comes in a record before its values to words and a window.
 #[inline(always)]
 fn add_front(
@@ -457,12 +474,11 @@ fn add_front(
         ++ (bits_of 2 3 ++ (shortest 6 code ++ shortest 6 count))) }
 {
     make_room(words, window)?;
-    window.push(3, 2);
     if code < 1024 && count < 1024 {
-        window.append(short_chunks(code));
-        window.append(short_chunks(count));
+        window.append(short_front(code, count));
         return Ok(());
     }
+    window.push(3, 2);
     add_number(words, window, code)?;
     add_number(words, window, count)
 }
@@ -502,9 +518,31 @@ fn add_copy(
         add_field(words, &mut pen, 32, from.take_bits(32))?;
         left -= 32;
     }
-    let rest = left as u32;
-    add_field(words, &mut pen, rest, from.take_bits(rest))?;
+    add_last(words, &mut pen, left as u32, from)?;
     *window = pen;
+    Ok(())
+}
+
+/// Appends the first n of buffered bits to words and a window. No word moves to the words if there is room without that, so that no
+/// memory is asked for before it is needed.
+#[inline(always)]
+fn add_last(
+    words: &mut Words,
+    window: &mut Window,
+    n: u32,
+    from: Buffered<'_>,
+) -> Result<(), AllocError>
+    requires few { n ≤ 32 }
+    requires there { 64 ≤ length from.bits }
+    ensures { OnOk result (bits_of_words words.new ++ window.new
+        ≡ (bits_of_words words.old ++ window.old) ++ take n from.entry.bits) }
+{
+    let mut from = from;
+    let value = from.take_bits(n);
+    if window.len() + n >= 64 {
+        return add_field(words, window, n, value);
+    }
+    window.push(value, n);
     Ok(())
 }
 

@@ -4,14 +4,13 @@ use Rattle.std.proofs.lemmas.List.{take_at}
 use Rattle.bit_grammar.specs.Bits.{bits_of}
 use Rattle.bit_grammar.specs.Machine.{notes}
 use Rattle.bit_grammar.specs.Normal.{entry_text}
-use Rattle.bit_grammar.specs.Fields.{fixed}
 use Rattle.bit_grammar.specs.Record.{unabbreviated}
 use Rattle.bit_grammar.proofs.Bits.Numbers.{length-bits_of}
-use Rattle.bit_fields.specs.Buffered.{BufferedBits, Reads}
+use Rattle.bit_fields.specs.Buffered.{BufferedBits}
 use Rattle.bit_fields.specs.SixBits.{TakesPlain}
-use Rattle.bit_fields.proofs.BufferedReads.{reads_passed, reads_forward}
+use Rattle.bit_fields.proofs.BufferedReads.{reads_passed}
 use Rattle.bit_events.specs.declared.gatherer.PlainRecord.{PlainRecord}
-use Rattle.bit_events.specs.Runs.{GathersPlain}
+use Rattle.bit_events.specs.Runs.{GathersPlain, StaysGathered}
 use Rattle.bit_norm.specs.Building.{AddsPlain, IsFormOf, record_left, left_events}
 use Rattle.bit_norm.specs.Writing.{record_text}
 use Rattle.bit_norm.specs.declared.form_builder.FormBuilder.{FormBuilder}
@@ -51,21 +50,22 @@ plain_added room code many bits a b old new t c standing limits holes long short
       (rw holes (builds_record (left_events begun done) old.text old.holes.items (form.builds short) mark new.text some (adds ∙ ap (λ (s : List Bool). old.text ++ (bits_of 2 3 ++ s)) c.front ∙ ap (λ (s : List Bool). old.text ++ s) text)))),
 )
 
--- with its id
-plain_gathered : (width room : ℕ) (a b : BufferedBits) (old new : FormBuilder) (taken : PlainRecord) → 1 ≤ width → b.position ≡ a.position + width → Reads (fixed width) a 3 b → AddsPlain room b old (Some taken) new → GathersPlain IsFormOf width room a old (Some taken) new
-plain_gathered width room a b old new taken wide place seen added = (
+-- as the gatherer of any event at that place
+plain_gathered : (room : ℕ) (a : BufferedBits) (old new : FormBuilder) (taken : Option PlainRecord) → AddsPlain room a old taken new → GathersPlain IsFormOf room a old taken new
+plain_gathered room a old new None added = added
+plain_gathered room a old new (Some taken) added = (
   added.0,
   added.1,
-  b,
   added.2,
   added.3,
-  omega (arith, wide, place, reads_forward (unabbreviated room) b (record { code = added.0; values = added.1 }) taken.after added.4),
-  seen,
   added.4,
-  λ begun done deepest was stands. added.5 begun done (record { abbreviation = 3; code = added.0; values = added.1; first = a.position; after = taken.after.position }) refl refl was stands,
+  λ first begun done deepest was stands. added.5 begun done (record { abbreviation = 3; code = added.0; values = added.1; first = first; after = taken.after.position }) refl refl was stands,
 )
 
-pub any_gathered : {E : Type 0} (width room : ℕ) (a b : BufferedBits) (old new : FormBuilder) (r : Result (Option PlainRecord) E) → 1 ≤ width → b.position ≡ a.position + width → Reads (fixed width) a 3 b → IfOk r (λ taken. AddsPlain room b old taken new) → IfOk r (λ taken. GathersPlain IsFormOf width room a old taken new)
-any_gathered width room a b old new (Ok None) wide place seen added = added
-any_gathered width room a b old new (Ok (Some taken)) wide place seen added = plain_gathered width room a b old new taken wide place seen added
-any_gathered width room a b old new (Err error) wide place seen added = tt
+pub any_gathered : {E : Type 0} (room : ℕ) (a : BufferedBits) (old new : FormBuilder) (r : Result (Option PlainRecord) E) → IfOk r (λ taken. AddsPlain room a old taken new) → IfOk r (λ taken. GathersPlain IsFormOf room a old taken new)
+any_gathered room a old new (Ok taken) added = plain_gathered room a old new taken added
+any_gathered room a old new (Err error) added = tt
+
+-- numbers that were gone over do not belong to what is built
+pub vain_stays : (old : FormBuilder) (vain : ℕ) → StaysGathered IsFormOf old (record old { vain = vain })
+vain_stays old vain = λ first done was. record { limits = was.limits; stands = was.stands; form = was.form }

@@ -11,6 +11,7 @@ use Rattle.bit_grammar.specs.Normal.{values_bits, end_text, normal}
 use Rattle.bit_grammar.specs.Record.{unabbreviated}
 use Rattle.bit_grammar.specs.Size.{end_of}
 use Rattle.bit_fields.specs.Buffered.{BufferedBits, Reads}
+use Rattle.bit_events.specs.Runs.{StaysGathered}
 use Rattle.bit_events.specs.declared.gatherer.PlainRecord.{PlainRecord}
 use Rattle.bit_events.specs.Gathering.{left_open}
 use Rattle.bit_norm.specs.Told.{told_at_level}
@@ -146,9 +147,9 @@ pub record IsFormOf (first : FormBuilder) (events : List Event) (b : FormBuilder
   }
   pub form : HasForm (left_events first events) b
 
--- A record that is not abbreviated, with at most `room` values, was built from the bits after its id; or nothing was done.
+-- A record that is not abbreviated, with at most `room` values, was built from the bits after its id; or nothing was built.
 abbrev pub AddsPlain : (room : ℕ) → BufferedBits → FormBuilder → Option PlainRecord → FormBuilder → Type 0
-AddsPlain room a old None new = new ≡ old
+AddsPlain room a old None new = StaysGathered IsFormOf old new
 AddsPlain room a old (Some taken) new = (code : ℕ) × (list : List ℕ)
     × (length list ≡ taken.count) × (taken.count ≤ room)
     × Reads (unabbreviated room) a (record { code = code; values = list }) taken.after

@@ -12,9 +12,15 @@ ghost use Rattle.bit_norm.specs.Writing.{record_front, record_text, enter_text};
 use crate::form_values::{FormValues, is_long};
 use bit_abbrev::Abbrev;
 use bit_events::{Gatherer, OpenBlocks, PlainRecord};
-use bit_fields::{BitText, Buffered, ChunkWidth, FieldWidth, Limits};
+use bit_fields::{BitText, Buffered, Limits};
 use bit_tree::Info;
 use std::alloc::{AllocError, Global};
+
+/// How many numbers may be gone over in vain before anything is in the form.
+const FEW_IN_VAIN: u64 = 64;
+
+/// For how many bits of the form one number more may be gone over in vain.
+const BITS_FOR_ONE_IN_VAIN: u64 = 512;
 
 /// Adds what comes in a block before its length.
 fn add_head(text: &mut BitText, id: u32) -> Result<(), AllocError>
@@ -100,6 +106,8 @@ pub(crate) struct FormBuilder<'a> {
     text: BitText,
     holes: Vec<u64>,
     long: bool,
+    /// How many numbers of records were gone over that were then read one by one.
+    vain: u64,
 }
 
 impl<'a> FormBuilder<'a> {
@@ -116,6 +124,7 @@ impl<'a> FormBuilder<'a> {
             text: BitText::new(alloc),
             holes: Vec::new(alloc),
             long: false,
+            vain: 0,
         }
     }
 
@@ -145,6 +154,7 @@ impl<'a> FormBuilder<'a> {
             alloc: _,
             standing: _,
             holes: _,
+            vain: _,
         } = self;
         if long {
             return None;
@@ -169,14 +179,11 @@ impl<'a> FormBuilder<'a> {
         !self.standing.leaves_record(code)
     }
 
-    /// Whether a record whose code comes next is not to be added, or its code is not buffered. It is asked before the record is read.
+    /// How many numbers of the next record may be gone over in vain. All those gone over so are few beside the bits of the form, so that
+    /// they take little time beside what made these bits.
     #[inline(always)]
-    fn passes_by(&self, buffered: &Buffered<'_>) -> bool {
-        let mut ahead = buffered.copy();
-        match ahead.vbr(ChunkWidth { bits: 6 }) {
-            Some(code) => self.is_idle(code),
-            None => true,
-        }
+    fn most_in_vain(&self) -> u64 {
+        (FEW_IN_VAIN + self.text.len() / BITS_FOR_ONE_IN_VAIN).saturating_sub(self.vain)
     }
 
     /// Opens a block that is kept.
@@ -230,7 +237,7 @@ impl<'a> FormBuilder<'a> {
     }
 
     /// Adds a record that is kept. It may move the values out.
-    #[inline]
+    #[inline(never)]
     fn add(&mut self, code: u64, values: &mut FormValues) -> Result<(), AllocError>
         ensures stays { OnOk result (StaysAs self.old self.new) }
         ensures form { OnOk result (BuildsRecord code values.old self.old self.new) }
@@ -249,8 +256,9 @@ impl<'a> FormBuilder<'a> {
     }
 
     /// Adds a record that is not abbreviated, from the buffered bits after its id, if each of its numbers is in its shortest spelling
-    /// and it is kept. Returns the number of its values and the bits after it, or `None`, and then nothing is changed.
-    #[inline]
+    /// and all records of its block are kept. Returns the number of its values and the bits after it, or `None`, and then nothing is
+    /// added.
+    #[inline(always)]
     fn add_plain<'b>(
         &mut self,
         buffered: Buffered<'b>,
@@ -258,14 +266,18 @@ impl<'a> FormBuilder<'a> {
     ) -> Result<Option<PlainRecord<'b>>, AllocError>
         ensures { IfOk result (λ taken. AddsPlain room buffered.entry self.old taken self.new) }
     {
-        if is_long(&self.text, self.limits) || self.passes_by(&buffered) {
+        if self.long || !self.standing.is_whole() || is_long(&self.text, self.limits) {
             return Ok(None);
         }
         let mut after = buffered.copy();
-        let Some((code, count)) = after.plain_record(room) else {
-            return Ok(None);
+        let count = match after.plain_record(room, self.most_in_vain()) {
+            Ok(count) => count,
+            Err(numbers) => {
+                self.vain = self.vain.saturating_add(numbers);
+                return Ok(None);
+            }
         };
-        if after.len() < 64 || self.is_idle(code) {
+        if after.len() < 64 {
             return Ok(None);
         }
         let bits = after.position() - buffered.position();
@@ -314,19 +326,22 @@ impl<'a> Gatherer for FormBuilder<'a> {
         self.add(code, values)
     }
 
+    #[inline(always)]
+    fn takes_plain(&self, buffered: &Buffered<'_>) -> bool {
+        !buffered.is_tiny_record()
+            && !self.long
+            && self.standing.is_whole()
+            && self.most_in_vain() >= FEW_IN_VAIN
+    }
+
     /// A record whose numbers are all in their shortest spelling has the same bits in the form.
     #[inline(always)]
     fn plain<'b>(
         &mut self,
         buffered: &Buffered<'b>,
-        width: FieldWidth,
         room: u64,
     ) -> Result<Option<PlainRecord<'b>>, AllocError> {
-        let mut behind = buffered.copy();
-        let Some(3) = behind.fixed(width) else {
-            return Ok(None);
-        };
-        self.add_plain(behind, room)
+        self.add_plain(buffered.copy(), room)
     }
 
     fn leave(&mut self, _after: u64) -> Result<(), AllocError> {

@@ -1,91 +1,122 @@
 use Rattle.std.proofs.Common.{◌≡◌, ℕ, ◌+◌, ◌-◌, List, [], Option, refl, sym, ap, ◌∙◌, subst, arith, length}
+use Rattle.bit_grammar.specs.Fields.{fixed}
+use Rattle.bit_grammar.specs.Terms.{CodeAndValues}
+use Rattle.bit_grammar.specs.Blocks.{entry}
+use Rattle.bit_fields.specs.Buffered.{BufferedBits, beyond, reader_at}
+use Rattle.bit_fields.proofs.BufferedReads.{reads_forward, took_reads}
+use Rattle.bit_events.specs.FrameView.{frame_shown, info_shown}
 use Rattle.bit_events.specs.Gathering.{Gathers}
 use Rattle.bit_events.specs.MachineView.{record_of}
-use Rattle.bit_fields.specs.Buffered.{BufferedBits}
-use Rattle.bit_events.specs.Runs.{GathersOne, GathersTo}
-use Rattle.bit_events.proofs.Runs.{gathers_none, gathers_more}
+use Rattle.bit_events.specs.Runs.{GathersFrom, GathersTo}
+use Rattle.bit_events.proofs.Runs.{added_behind, gathers_none, gathers_more, gathers_still, gathers_then, reached, record_seen}
 use Rattle.bit_events.proofs.running.gather_records.Goals as goal
 
-pub loop-count-init : goal.loop-count-init
-loop-count-init g c = record {
+pub loop-id-init : goal.loop-id-init
+loop-id-init g c = record {
   gathers = gathers_none g.G.Gatherer.gathered c.args.limits.now c.args.frame.now c.args.used.now c.args.buffered c.args.gatherer.now;
   room = omega (arith, c.saturating_sub-room.ensures, c.values.ensures.values);
   first = c.position-first.ensures;
   took = c.requires.took;
 }
 
-pub buffered_item-requires-clause-took : goal.buffered_item-requires-clause-took
-buffered_item-requires-clause-took g c = (let was = c.loop-count.invariant.took in ([], c.truncate.ensures [] was.0 was.1 refl))
-
 pub returns-in_default-clause-took : goal.returns-in_default-clause-took
-returns-in_default-clause-took g c = (let was = c.loop-count.invariant.took in c.in_default.ensures.keeps [] (c.truncate.ensures [] was.0 was.1 refl))
+returns-in_default-clause-took g c = (let was = c.loop-id.invariant.took in ([], c.truncate.ensures [] was.0 was.1 refl))
 
-pub overflow_add-spent-in-loop-count : goal.overflow_add-spent-in-loop-count
-overflow_add-spent-in-loop-count g c =
-    let was = c.loop-count.invariant.took in
-    let h = c.in-Some.ensures.sees [] (c.truncate.ensures [] was.0 was.1 refl) in
-    let taken = subst (g.G.Values.ValueTaker.took c.buffered_item.new.values) h.2.1 h.1 in
-    omega (arith, c.count-count.ensures h.2.0 taken, h.2.2.0, c.loop-count.invariant.room, c.values.ensures.capped, c.loop-count.auto.spent-fits)
+pub returns-in_err-after-clause-took : goal.returns-in_err-after-clause-took
+returns-in_err-after-clause-took g c = (let was = c.loop-id.invariant.took in ([], c.truncate.ensures [] was.0 was.1 refl))
 
-pub returns-in_err-record-clause-took : goal.returns-in_err-record-clause-took
-returns-in_err-record-clause-took g c =
-    let was = c.loop-count.invariant.took in
-    let h = c.in-Some.ensures.sees [] (c.truncate.ensures [] was.0 was.1 refl) in
-    c.in_err-record.ensures.took (h.2.0, subst (g.G.Values.ValueTaker.took c.buffered_item.new.values) h.2.1 h.1)
+pub returns-in_default-read_entry-clause-took : goal.returns-in_default-read_entry-clause-took
+returns-in_default-read_entry-clause-took g c = (let was = c.loop-id.invariant.took in c.in_default-read_entry.ensures.keeps [] (c.truncate.ensures [] was.0 was.1 refl))
 
-pub loop-count-preserved : goal.loop-count-preserved
-loop-count-preserved g c =
-    let l = c.loop-count in
-    let b = c.gather_plain.new.buffered in
-    let left = subst (λ (found : Option ℕ). GathersOne g.G.Gatherer.gathered c.args.frame.now l.room l.buffered l.gatherer found b c.gather_plain.new.gatherer) c.in-Ok-None.field-0-is c.in-Ok-None.ensures in
-    let before = subst (λ (x : BufferedBits). GathersTo g.G.Gatherer.gathered c.args.limits.now c.args.frame.now c.args.used.now c.args.buffered c.args.gatherer.now l.spent x c.gather_plain.new.gatherer) (sym left.1)
-    (subst (λ (x : g.row.G.Denot). GathersTo g.G.Gatherer.gathered c.args.limits.now c.args.frame.now c.args.used.now c.args.buffered c.args.gatherer.now l.spent l.buffered x) (sym left.0) l.invariant.gathers) in
-    let was = l.invariant.took in
-    let h = c.in-Some.ensures.sees [] (c.truncate.ensures [] was.0 was.1 refl) in
-    let list : List ℕ = h.2.0 in
-    let taken = subst (g.G.Values.ValueTaker.took c.buffered_item.new.values) h.2.1 h.1 in
-    let seen = h.2.2 in
-    let d = c.buffered_item.new.buffered in
-    let more : l.spent + c.count-count.result ≡ l.spent + length list = omega (arith, c.count-count.ensures list taken, seen.0, c.values.ensures.capped) in
-    let first : l.first ≡ b.position = l.invariant.first ∙ ap (λ (x : BufferedBits). x.position) (sym left.1) in
+pub skip-requires : goal.skip-requires
+skip-requires g c =
+    let l = c.loop-id in
+    let b = c.record_id.new.buffered in
+    let h = subst (λ (found : Option ℕ). GathersFrom g.G.Gatherer.gathered c.args.limits.now c.args.frame.now l.spent c.in-Some.id l.first b l.gatherer c.gather_as_bits.new.used found c.gather_as_bits.new.gatherer) c.in-Some-2.is c.in_ok-after.ensures in
+    let run = h.1 l.buffered (sym l.invariant.first) c.in-Some.ensures.reads in
+    let r = reached (fixed c.args.frame.now.head.width) l.buffered c.in-Some.id b run.0 c.in-Some.ensures.reads run.2.passed (omega (arith, h.0, run.1)) in
+    omega (arith, c.position.ensures, run.1, r.0)
+
+pub loop-id-preserved-in-Some-2 : goal.loop-id-preserved-in-Some-2
+loop-id-preserved-in-Some-2 g c =
+    let l = c.loop-id in
+    let b = c.record_id.new.buffered in
+    let h = subst (λ (found : Option ℕ). GathersFrom g.G.Gatherer.gathered c.args.limits.now c.args.frame.now l.spent c.in-Some.id l.first b l.gatherer c.gather_as_bits.new.used found c.gather_as_bits.new.gatherer) c.in-Some-2.is c.in_ok-after.ensures in
+    let run = h.1 l.buffered (sym l.invariant.first) c.in-Some.ensures.reads in
+    let r = reached (fixed c.args.frame.now.head.width) l.buffered c.in-Some.id b run.0 c.in-Some.ensures.reads run.2.passed (omega (arith, h.0, run.1)) in
+    let bits : c.in-Some-2.after - c.position.result ≡ run.0.position - b.position = omega (arith, c.position.ensures, run.1) in
+    let there : run.0 ≡ c.skip.new.self = r.1 ∙ ap (λ (n : ℕ). beyond b n) (sym bits) ∙ sym c.skip.ensures.skipped in
     record {
-      gathers = gathers_more g.G.Gatherer.gathered c.args.limits.now c.args.frame.now c.args.used.now c.args.buffered c.args.gatherer.now l.spent b c.gather_plain.new.gatherer c.in-Some.id c.in-Some.code list d c.record.new.self (l.spent + c.count-count.result) before more
-          (λ outer handed same. seen.1 c.args.limits.now outer handed (ap (λ (u : ℕ). c.args.limits.now.values - u) same ∙ sym l.invariant.room))
-          (subst (λ (n : ℕ). Gathers g.G.Gatherer.gathered c.gather_plain.new.gatherer (record_of c.in-Some.id list b.position (c.in-Some.code, n)) c.record.new.self) c.position-after.ensures (subst (λ (n : ℕ). Gathers g.G.Gatherer.gathered c.gather_plain.new.gatherer (record_of c.in-Some.id list n (c.in-Some.code, c.position-after.result)) c.record.new.self) first (c.in_ok-record.ensures.gathers list taken)));
-      room = omega (arith, c.saturating_sub-room-in-loop-count.ensures, l.invariant.room);
-      first = c.position-after.ensures;
-      took = c.in_ok-record.ensures.took (list, taken);
-    }
-
-pub loop-count-preserved-in-Ok-Some : goal.loop-count-preserved-in-Ok-Some
-loop-count-preserved-in-Ok-Some g c =
-    let l = c.loop-count in
-    let h = subst (λ (found : Option ℕ). GathersOne g.G.Gatherer.gathered c.args.frame.now l.room l.buffered l.gatherer found c.gather_plain.new.buffered c.gather_plain.new.gatherer) c.in-Ok-Some.field-0-is c.in-Ok-Some.ensures in
-    let more : l.spent + c.in-Ok-Some.count ≡ l.spent + length h.2 = ap (λ (n : ℕ). l.spent + n) (sym h.3) in
-    record {
-      gathers = gathers_more g.G.Gatherer.gathered c.args.limits.now c.args.frame.now c.args.used.now c.args.buffered c.args.gatherer.now l.spent l.buffered l.gatherer h.0 h.1 h.2 c.gather_plain.new.buffered c.gather_plain.new.gatherer (l.spent + c.in-Ok-Some.count) l.invariant.gathers more
-          (λ outer handed same. h.6 c.args.limits.now outer handed (ap (λ (u : ℕ). c.args.limits.now.values - u) same ∙ sym l.invariant.room))
-          h.7;
-      room = omega (arith, c.saturating_sub-room-in-Ok-Some.ensures, l.invariant.room);
-      first = c.position-first-in-Ok-Some.ensures;
-      took = l.invariant.took;
+      gathers = subst (λ (x : BufferedBits). GathersTo g.G.Gatherer.gathered c.args.limits.now c.args.frame.now c.args.used.now c.args.buffered c.args.gatherer.now c.gather_as_bits.new.used x c.gather_as_bits.new.gatherer) there
+          (gathers_then g.G.Gatherer.gathered c.args.limits.now c.args.frame.now c.args.used.now c.args.buffered c.args.gatherer.now l.spent l.buffered l.gatherer c.gather_as_bits.new.used run.0 c.gather_as_bits.new.gatherer l.invariant.gathers run.2);
+      room = omega (arith, c.saturating_sub-room-in-Some-2.ensures, c.values-in-Some-2.ensures.values);
+      first = sym run.1 ∙ ap (λ (x : BufferedBits). x.position) there;
+      took = ([], c.truncate.ensures [] l.invariant.took.0 l.invariant.took.1 refl);
     }
 
 pub overflow_add-spent : goal.overflow_add-spent
 overflow_add-spent g c =
-    let l = c.loop-count in
-    let h = subst (λ (found : Option ℕ). GathersOne g.G.Gatherer.gathered c.args.frame.now l.room l.buffered l.gatherer found c.gather_plain.new.buffered c.gather_plain.new.gatherer) c.in-Ok-Some.field-0-is c.in-Ok-Some.ensures in
-    omega (arith, h.4, l.invariant.room, c.values.ensures.capped, l.auto.spent-fits)
+    let l = c.loop-id in
+    let f = c.args.frame.now in
+    let b = c.record_id.new.buffered in
+    let left = subst (λ (found : Option ℕ). GathersFrom g.G.Gatherer.gathered c.args.limits.now f l.spent c.in-Some.id l.first b l.gatherer c.gather_as_bits.new.used found c.gather_as_bits.new.gatherer) c.in_default-2.is c.in_ok-after.ensures in
+    let added = rw (c.all-definitions.ensures, l.invariant.first) at (c.in-Ok.ensures.adds [] (c.truncate.ensures [] l.invariant.took.0 l.invariant.took.1 refl)) in
+    let read = added_behind (entry l.room l.buffered.position c.in-Some.id f.definitions) l.room (reader_at b) c.in-Ok.code (reader_at c.read_entry.new.bits) [] added.0 added.2 in
+    let taken = subst (g.G.Values.ValueTaker.took c.read_entry.new.values) read.1 added.1 in
+    omega (arith, c.count-count.ensures read.0 taken, read.2.0, left.0, l.invariant.room, c.values.ensures.capped, l.auto.spent-fits)
 
-pub loop-count-smaller-in-Ok-Some : goal.loop-count-smaller-in-Ok-Some
-loop-count-smaller-in-Ok-Some g c =
-    let l = c.loop-count in
-    let h = subst (λ (found : Option ℕ). GathersOne g.G.Gatherer.gathered c.args.frame.now l.room l.buffered l.gatherer found c.gather_plain.new.buffered c.gather_plain.new.gatherer) c.in-Ok-Some.field-0-is c.in-Ok-Some.ensures in
-    omega (arith, c.position-first-in-Ok-Some.ensures, l.invariant.first, h.5)
+pub returns-in_err-record-clause-took : goal.returns-in_err-record-clause-took
+returns-in_err-record-clause-took g c =
+    let added = c.in-Ok.ensures.adds [] (c.truncate.ensures [] c.loop-id.invariant.took.0 c.loop-id.invariant.took.1 refl) in
+    c.in_err-record.ensures.took (added.0, added.1)
 
-pub loop-count-smaller : goal.loop-count-smaller
-loop-count-smaller g c =
-    let l = c.loop-count in
-    let left = subst (λ (found : Option ℕ). GathersOne g.G.Gatherer.gathered c.args.frame.now l.room l.buffered l.gatherer found c.gather_plain.new.buffered c.gather_plain.new.gatherer) c.in-Ok-None.field-0-is c.in-Ok-None.ensures in
-    let place = ap (λ (x : BufferedBits). x.position) left.1 in
-    omega (arith, c.position-after.ensures, l.invariant.first, place, c.in-Some.ensures.moves)
+pub loop-id-smaller : goal.loop-id-smaller
+loop-id-smaller g c =
+    let l = c.loop-id in
+    let f = c.args.frame.now in
+    let b = c.record_id.new.buffered in
+    let d = c.read_entry.new.bits in
+    let added = rw (c.all-definitions.ensures, l.invariant.first) at (c.in-Ok.ensures.adds [] (c.truncate.ensures [] l.invariant.took.0 l.invariant.took.1 refl)) in
+    let read = added_behind (entry l.room l.buffered.position c.in-Some.id f.definitions) l.room (reader_at b) c.in-Ok.code (reader_at d) [] added.0 added.2 in
+    let value : CodeAndValues = record { code = c.in-Ok.code; values = read.0 } in
+    let rule = entry l.room l.buffered.position c.in-Some.id f.definitions in
+    let forward = reads_forward rule b value d (took_reads rule b value d read.2.1) in
+    omega (arith, c.position-after.ensures, l.invariant.first, c.in-Some.ensures.moves, forward)
+
+pub loop-id-preserved : goal.loop-id-preserved
+loop-id-preserved g c =
+    let l = c.loop-id in
+    let f = c.args.frame.now in
+    let b = c.record_id.new.buffered in
+    let d = c.read_entry.new.bits in
+    let id = c.in-Some.id in
+    let code = c.in-Ok.code in
+    let h = c.gather_as_bits.new.gatherer in
+    let left = subst (λ (found : Option ℕ). GathersFrom g.G.Gatherer.gathered c.args.limits.now f l.spent id l.first b l.gatherer c.gather_as_bits.new.used found h) c.in_default-2.is c.in_ok-after.ensures in
+    let before = gathers_still g.G.Gatherer.gathered c.args.limits.now f c.args.used.now c.args.buffered c.args.gatherer.now l.spent l.buffered l.gatherer h l.invariant.gathers left.1 in
+    let added = rw (c.all-definitions.ensures, l.invariant.first) at (c.in-Ok.ensures.adds [] (c.truncate.ensures [] l.invariant.took.0 l.invariant.took.1 refl)) in
+    let read = added_behind (entry l.room l.buffered.position id f.definitions) l.room (reader_at b) code (reader_at d) [] added.0 added.2 in
+    let list : List ℕ = read.0 in
+    let taken = subst (g.G.Values.ValueTaker.took c.read_entry.new.values) read.1 added.1 in
+    let more : c.gather_as_bits.new.used + c.count-count.result ≡ l.spent + length list = omega (arith, left.0, c.count-count.ensures list taken, read.2.0, c.values.ensures.capped, l.invariant.room) in
+    record {
+      gathers = gathers_more g.G.Gatherer.gathered c.args.limits.now f c.args.used.now c.args.buffered c.args.gatherer.now l.spent l.buffered h id code list d c.record.new.self (c.gather_as_bits.new.used + c.count-count.result) before more
+          (λ outer handed same.
+          let room = ap (λ (u : ℕ). c.args.limits.now.values - u) same ∙ sym l.invariant.room in
+          record_seen c.args.limits.now (frame_shown f) outer handed id code list l.buffered b d (ap info_shown c.requires.plain) c.in-Some.ensures.three c.in-Some.ensures.reads (rw room read.2.1))
+          (subst (λ (n : ℕ). Gathers g.G.Gatherer.gathered h (record_of id list l.buffered.position (code, n)) c.record.new.self) c.position-after.ensures (subst (λ (n : ℕ). Gathers g.G.Gatherer.gathered h (record_of id list n (code, c.position-after.result)) c.record.new.self) l.invariant.first (c.in_ok-record.ensures.gathers list taken)));
+      room = omega (arith, c.saturating_sub-room-in-loop-id.ensures, l.invariant.room, left.0);
+      first = c.position-after.ensures;
+      took = c.in_ok-record.ensures.took (list, taken);
+    }
+
+pub returns-in_default-read_entry-clause-gathers : goal.returns-in_default-read_entry-clause-gathers
+returns-in_default-read_entry-clause-gathers g c =
+    let l = c.loop-id in
+    let f = c.args.frame.now in
+    let h = c.gather_as_bits.new.gatherer in
+    let left = subst (λ (found : Option ℕ). GathersFrom g.G.Gatherer.gathered c.args.limits.now f l.spent c.in-Some.id l.first c.record_id.new.buffered l.gatherer c.gather_as_bits.new.used found h) c.in_default-2.is c.in_ok-after.ensures in (
+      l.buffered,
+      sym l.invariant.first,
+      subst (λ (n : ℕ). GathersTo g.G.Gatherer.gathered c.args.limits.now f c.args.used.now c.args.buffered c.args.gatherer.now n l.buffered h) (sym left.0) (gathers_still g.G.Gatherer.gathered c.args.limits.now f c.args.used.now c.args.buffered c.args.gatherer.now l.spent l.buffered l.gatherer h l.invariant.gathers left.1),
+    )

@@ -1,7 +1,7 @@
 use Rattle.std.proofs.Common.{◌-◌, ◌+◌, ◌≡◌, ◌++◌, ◌∙◌, ap, length, arith, length-drop}
 use Rattle.bit_fields.specs.Buffered.{BufferedBits}
 use Rattle.bit_fields.specs.Texts.{bits_of_words}
-use Rattle.bit_fields.proofs.PlainRecords.{copy_on, beyond_on}
+use Rattle.bit_fields.proofs.PlainRecords.{copy_end, copy_on, beyond_on}
 use Rattle.bit_fields.proofs.text.add_copy.Goals as goal
 
 pub loop-left-preserved : goal.loop-left-preserved
@@ -21,5 +21,4 @@ returns c =
     let l = c.loop-left in
     let k = c.args.count - l.left in
     let all : c.args.count ≡ k + l.left = omega (arith, l.invariant.few) in
-    let left : length l.from.bits ≡ length c.args.from.bits - k = ap (λ (a : BufferedBits). length a.bits) l.invariant.from ∙ length-drop k c.args.from.bits in
-    copy_on l.left k c.args.count c.args.from l.from (bits_of_words c.args.words.now ++ c.args.window.now) (bits_of_words l.words ++ l.pen) (bits_of_words c.add_field-2.new.words ++ c.add_field-2.new.window) c.take_bits-2.result l.invariant.copied l.invariant.from (omega (arith, left, c.requires, l.invariant.few)) c.take_bits-2.ensures.value c.in_ok-add_field-2.ensures.ok all
+    copy_end l.left k c.args.count c.args.from l.from (bits_of_words c.args.words.now ++ c.args.window.now) (bits_of_words l.words ++ l.pen) (bits_of_words c.add_last.new.words ++ c.add_last.new.window) l.invariant.copied l.invariant.from c.in_ok-add_last.ensures all

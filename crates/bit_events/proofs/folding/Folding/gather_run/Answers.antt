@@ -1,7 +1,7 @@
 use Rattle.std.proofs.Common.{◌<◌, length, vec_len, sym, arith, ltb-true}
 use Rattle.bit_fields.specs.BufferedParts.{bits_of_parts}
 use Rattle.bit_events.proofs.Folds.{none_yet}
-use Rattle.bit_events.proofs.Blocks.{lost_then, on_gathered}
+use Rattle.bit_events.proofs.Blocks.{lost_then, nothing_gathered, on_gathered}
 use Rattle.bit_events.proofs.folding.Folding.gather_run.Goals as goal
 
 pub returns-in_default-clause-takes : goal.returns-in_default-clause-takes
@@ -9,6 +9,13 @@ returns-in_default-clause-takes g c = none_yet g.G.Gatherer.gathered c.args.limi
 
 pub returns-then-is_some-clause-takes : goal.returns-then-is_some-clause-takes
 returns-then-is_some-clause-takes g c = none_yet g.G.Gatherer.gathered c.args.limits.now c.args.self.now.machine c.args.self.now.reader c.args.self.now.gatherer c.requires.live c.requires.aligned
+
+pub returns-then-starts_with-clause-takes : goal.returns-then-starts_with-clause-takes
+returns-then-starts_with-clause-takes g c =
+    let m = c.args.self.now.machine in
+    let shows = rw c.in_ok-parts.was at c.buffered_parts.follows.holds-at-none in
+    let some : 0 < vec_len m.frames = omega (arith, m.frames.ok.0, ltb-true 0 (length m.frames.items) (sym (rw c.deref.ensures.value at c.in-Some.ensures.item.0))) in
+    nothing_gathered g.G.Gatherer.gathered c.args.limits.now m c.args.self.now.reader c.args.self.now.gatherer c.buffered_parts.follows.lender-at-none (bits_of_parts c.in_ok-parts.parts) some shows.nothing shows.stays shows.sees
 
 pub returns-in-Ok-clause-takes : goal.returns-in-Ok-clause-takes
 returns-in-Ok-clause-takes g c =
