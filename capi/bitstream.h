@@ -386,9 +386,8 @@ uint32_t bs_fed_analyse(struct bs_handle *handle, const struct bs_limits *limits
                         struct bs_fault *fault);
 
 /* bs_same and bs_first_difference for two inputs in pieces. Both stay. Or BS_CLOSED if one of the handles holds something else, and
-   then the difference is all zeros, and the room is unchanged. One handle may not be passed for both,
-   as for any arguments that are not const; an input is the same as itself if bs_fed_check returns BS_DONE. They read and hold what
-   those calls do. */
+   then the difference is all zeros, and the room is unchanged. One handle may not be passed for both, as for any arguments that are
+   not const; an input is the same as itself if bs_fed_check returns BS_DONE. They read and hold what those calls do. */
 uint32_t bs_fed_same(struct bs_handle *first, struct bs_handle *second, const struct bs_limits *limits,
                      const struct bs_left_out *left_out, struct bs_fault *fault);
 uint32_t bs_fed_first_difference(struct bs_handle *first, struct bs_handle *second, const struct bs_limits *limits,
