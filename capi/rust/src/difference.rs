@@ -1,6 +1,6 @@
 //! Where two inputs first differ.
 use crate::calls::{self, Fault, OpenBlock};
-use crate::{ended, Error, LeftOut, Limits};
+use crate::{compared, Error, LeftOut, Limits};
 
 /// The item at a place of an input.
 #[derive(Clone, Copy, Debug, PartialEq, Eq)]
@@ -43,7 +43,7 @@ pub fn first_difference(one: &[u8], two: &[u8], limits: &Limits, left_out: &Left
     let status = unsafe {
         calls::bs_first_difference(one.as_ptr(), one.len(), two.as_ptr(), two.len(), limits, &names, &mut told, at, 255, &mut fault)
     };
-    if ended(status, &fault)? {
+    if compared(status, &fault)? {
         return Ok(None);
     }
     let values = &told.values;

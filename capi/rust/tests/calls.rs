@@ -1,5 +1,5 @@
 //! Each call, on a stream of one record that is abbreviated in no way, and on a broken one.
-use bitstream::{assemble, check, first_difference, normal, report, same, show, Error, Event, Events, Input, LeftOut, Limits, Operand, RecordName, Standing, Text, Writer};
+use bitstream::{assemble, check, first_difference, normal, report, same, show, Error, Event, Events, Input, LeftOut, Limits, Operand, RecordName, Standing, Text, Which, Writer};
 use std::io::{BufReader, Read, Write};
 
 /// A block with id 8 whose ids are 3 bits wide, and in it record 1 with the value `value`.
@@ -64,9 +64,14 @@ fn events_and_errors() {
     let events: Vec<_> = Events::new(&given, &limits).unwrap().collect::<Result<_, _>>().unwrap();
     assert!(matches!(events[0], Event::Enter { id: 8, first: 32, .. }));
     assert!(matches!(events.last(), Some(Event::Leave { after: 128 })));
-    let refused = Error::Refused { reason: "Truncated", bit: 0, input: 0 };
+    let refused = Error::Refused { reason: "Truncated", bit: 0, input: Which::Only };
     assert_eq!(check(b"", &limits), Err(refused));
     assert_eq!(refused.to_string(), "Truncated at bit 0");
+    let whole = LeftOut::default();
+    for (one, two, text) in [(&b""[..], &given[..], "first: Truncated at bit 0"), (&given, b"DI", "second: Truncated at bit 0")] {
+        assert_eq!(same(one, two, &limits, &whole).unwrap_err().to_string(), text);
+        assert_eq!(first_difference(one, two, &limits, &whole).unwrap_err().to_string(), text);
+    }
     let last = Events::new(&given[..12], &limits).unwrap().last();
     assert!(matches!(last, Some(Err(Error::Refused { .. }))));
     assert_eq!(check(&given, &Limits { depth: 256, ..limits }), Err(Error::Limits));
