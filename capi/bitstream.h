@@ -108,7 +108,7 @@ struct bs_bytes {
 
 /* The version of these calls, structures and numbers, and that of a library. They are the same if a program was built for the
    library that it runs with. An added call does not change the version. */
-#define BS_VERSION 3
+#define BS_VERSION 4
 uint32_t bs_version(void);
 
 /* Sets limits that suit most inputs: 1073741824 bytes, depth 64, 134217728 values, and shapes not judged at their use. */
@@ -159,8 +159,8 @@ uint32_t bs_assemble(const uint8_t *text, size_t text_len, const struct bs_limit
 /* Whether two inputs have the same magic and the same blocks and records, whole or without what is left out: BS_DONE if they
    have, BS_DIFFERENT, or BS_REFUSED, BS_MEMORY, BS_LIMITS, BS_NAMES. The second is refused only if the first is accepted.
 
-   Reads the first twice, the second time in step with the second, which it reads once. Holds D of both, V of one record of each,
-   and N. */
+   Reads the first once. If the second has the same bytes, they are only compared with those of the first; if not, it is read once,
+   and the first once more in step with it. Holds D of both, V of one record of each, and N. */
 uint32_t bs_same(const uint8_t *first, size_t first_len, const uint8_t *second, size_t second_len, const struct bs_limits *limits,
                  const struct bs_left_out *left_out, struct bs_fault *fault);
 
@@ -370,31 +370,42 @@ uint32_t bs_operands(struct bs_handle *handle, struct bs_operand *room, size_t r
 uint32_t bs_magic(struct bs_handle *handle, struct bs_magic_bytes *magic, struct bs_fault *fault);
 
 /* An input in pieces. A handle gathers the pieces passed to bs_feed, so a caller who reads a stream needs no buffer for all of it.
-   The calls on it return what those on bytes return for all pieces together, for any cut into pieces. No piece is judged before
-   such a call, and the handle holds all n bytes. With a handle that holds something else, the calls return BS_CLOSED and change
-   nothing. */
+   The calls on it return what those on bytes return for all pieces together, for any cut into pieces. A closed handle is an input
+   of no bytes. No piece is judged before such a call, and the handle holds all n bytes. With a handle that holds something else, the
+   calls return BS_CLOSED and change nothing. */
 
 /* Adds a piece to the input: BS_DONE. A closed handle begins an input with it. Or BS_MEMORY, and then the input is unchanged, and a
    closed handle stays closed. Or BS_CLOSED. Copies the piece. Holds at most 2 n bytes, and 3 n while the buffer grows. */
 uint32_t bs_feed(struct bs_handle *handle, const uint8_t *piece, size_t piece_len, struct bs_fault *fault);
 
-/* bs_check and bs_analyse for the input. It stays, so calls can be repeated, and more pieces can be fed. Or BS_CLOSED, also for a
-   closed handle, and then the tally is all zeros. They read and hold what those calls do. */
+/* bs_check and bs_analyse for the input. It stays, so calls can be repeated, and more pieces can be fed. Or BS_CLOSED, and then the
+   tally is all zeros. They read and hold what those calls do. */
 uint32_t bs_fed_check(struct bs_handle *handle, const struct bs_limits *limits, struct bs_fault *fault);
 uint32_t bs_fed_analyse(struct bs_handle *handle, const struct bs_limits *limits, struct bs_tally *tally,
                         struct bs_block_row *block_room, size_t block_room_len, struct bs_code_row *code_room, size_t code_room_len,
                         struct bs_fault *fault);
 
-/* bs_hold_normal and bs_hold_show for the input: BS_DONE, and then the handle holds the text instead of the input. On each other
-   status the input stays. Or BS_CLOSED, also for a closed handle. They read and hold what those calls do, beside the input. */
+/* bs_same and bs_first_difference for two inputs in pieces. Both stay. Or BS_CLOSED if one of the handles holds something else, and
+   then the difference is all zeros, and the room is unchanged. One handle may not be passed for both,
+   as for any arguments that are not const; an input is the same as itself if bs_fed_check returns BS_DONE. They read and hold what
+   those calls do. */
+uint32_t bs_fed_same(struct bs_handle *first, struct bs_handle *second, const struct bs_limits *limits,
+                     const struct bs_left_out *left_out, struct bs_fault *fault);
+uint32_t bs_fed_first_difference(struct bs_handle *first, struct bs_handle *second, const struct bs_limits *limits,
+                                 const struct bs_left_out *left_out, struct bs_difference *difference,
+                                 struct bs_open_block *open_room, size_t open_room_len, struct bs_fault *fault);
+
+/* bs_hold_normal, bs_hold_report and bs_hold_show for the input: BS_DONE, and then the handle holds the text instead of the input.
+   On each other status the input stays. Or BS_CLOSED. They read and hold what those calls do, beside the input. */
 uint32_t bs_fed_normal(struct bs_handle *handle, const struct bs_limits *limits, const struct bs_left_out *left_out,
                        struct bs_fault *fault);
+uint32_t bs_fed_report(struct bs_handle *handle, const struct bs_limits *limits, struct bs_fault *fault);
 uint32_t bs_fed_show(struct bs_handle *handle, const struct bs_limits *limits, const struct bs_left_out *left_out,
                      struct bs_fault *fault);
 
 /* bs_open for the input: BS_DONE, and then the handle holds the events instead of the input, for bs_next, bs_values, bs_operands
    and bs_magic. Or BS_REFUSED, BS_MEMORY, BS_LIMITS, and then the input stays: if its magic was not complete, more pieces can be
-   fed. Or BS_CLOSED, also for a closed handle.
+   fed. Or BS_CLOSED.
 
    Reads the magic, and a wrapper if there is one; it copies nothing, and makes no allocation. The handle holds what one from
    bs_open holds, and all pieces. */

@@ -15,7 +15,7 @@ import os
 from ctypes import POINTER, Structure, byref, c_bool, c_size_t, c_ssize_t, c_uint8, c_uint32, c_uint64, c_void_p
 from typing import List, NamedTuple, Optional, Tuple
 
-VERSION = 3
+VERSION = 4
 _FILE = "libbitstream.so.%d" % VERSION
 _DONE, _DIFFERENT, _REFUSED, _MEMORY, _TOO_LONG, _LIMITS, _ROOM, _CLOSED, _NAMES, _UNFIT = range(10)
 _TEXTS = {_TOO_LONG: "normal form longer than the limit", _LIMITS: "limits: a limit is past its cap",

@@ -9,9 +9,9 @@ use bit_text::TextReason;
 /// The version of these calls, structures and numbers: `BS_VERSION` of `capi/bitstream.h`.
 #[unsafe(no_mangle)]
 pub extern "C" fn bs_version() -> u32
-    ensures { result ≡ 3 }
+    ensures { result ≡ 4 }
 {
-    3
+    4
 }
 
 /// The reason with this number.
