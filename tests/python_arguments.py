@@ -122,7 +122,8 @@ class Arguments:
         return [("normal", lambda it: module.normal(one, it)), ("show", lambda it: module.show(one, it)),
                 ("same", lambda it: module.same(one, two, it)), ("first_difference", lambda it: module.first_difference(one, two, it)),
                 ("pieces", lambda it: list(module.pieces("normal", one, 8, it))), ("Input.normal", lambda it: self.fed(one).normal(it)),
-                ("Input.show", lambda it: self.fed(one).show(it))]
+                ("Input.show", lambda it: self.fed(one).show(it)), ("Input.same", lambda it: self.fed(one).same(self.fed(two), it)),
+                ("Input.first_difference", lambda it: self.fed(one).first_difference(self.fed(two), it))]
 
     def limits_calls(self):
         """Each call that takes limits."""
@@ -134,6 +135,8 @@ class Arguments:
                 ("first_difference", lambda it: module.first_difference(one, two, limits=it)),
                 ("events", lambda it: list(module.events(one, it))), ("assemble", lambda it: module.assemble("magic 44494147\n", it)),
                 ("Writer", lambda it: module.Writer(limits=it)), ("Input.check", lambda it: self.fed(one).check(it)),
+                ("Input.report", lambda it: self.fed(one).report(it)), ("Input.same", lambda it: self.fed(one).same(self.fed(two), limits=it)),
+                ("Input.first_difference", lambda it: self.fed(one).first_difference(self.fed(two), limits=it)),
                 ("Input.normal", lambda it: self.fed(one).normal(limits=it)), ("Input.show", lambda it: self.fed(one).show(limits=it)),
                 ("Input.events", lambda it: list(self.fed(one).events(it)))]
 
@@ -194,6 +197,11 @@ class Arguments:
             self.refuses(f"text {wrong!r}", TypeError, "text", lambda: module.pieces(wrong, one))
         for wrong in (b"magic 44494147\n", 8, None, [], bytearray(4)):
             self.refuses(f"assemble {wrong!r}", TypeError, "text", lambda: module.assemble(wrong))
+        source = self.fed(one)
+        for call in (source.same, source.first_difference):
+            for wrong in (one, None, module.Writer(), module.Input):
+                self.refuses(f"an input in pieces and {wrong!r}", TypeError, "other", lambda: call(wrong))
+            self.refuses("an input in pieces and itself", ValueError, "other", lambda: call(source))
         self.refuses("a listing with half a character", module.RefusedLine, "BadLine at line 2", lambda: module.assemble("magic 44494147\n\ud800"))
 
     def check_writer(self):
@@ -295,6 +303,25 @@ class Arguments:
                 given.close()
                 self.refuses("a closed mmap", ValueError, "closed", lambda: module.check(given))
 
+    def check_closed(self):
+        """A closed input in pieces is not an empty one: each call on it raises an error that is no refusal."""
+        module, one = self.module, self.thirty
+        ends = [lambda it: it.close(), lambda it: it.normal(), lambda it: it.show(), lambda it: it.report(), lambda it: list(it.events()),
+                lambda it: it.events(), lambda it: it.events().close()]
+        calls = [lambda it: it.feed(one), lambda it: it.check(), lambda it: it.normal(), lambda it: it.show(), lambda it: it.report(),
+                 lambda it: it.events(), lambda it: it.same(self.fed(one)), lambda it: self.fed(one).same(it),
+                 lambda it: it.first_difference(self.fed(one)), lambda it: self.fed(one).first_difference(it)]
+        for number, end in enumerate(ends):
+            for which, call in enumerate(calls):
+                source = self.fed(one)
+                kept = end(source)
+                error = raised(lambda: call(source))
+                self.equal(f"closed by {number}, then {which}", (type(error), str(error)), (module.Error, "the handle is closed"))
+        for size in range(5):
+            error = raised(self.fed(b"BC\xc0\xde"[:size]).check)
+            wanted = None if size == 4 else "Truncated at bit 0"
+            self.equal(f"an input of {size} bytes", error and str(error), wanted)
+
     def check_memory(self):
         """No call copies its input: it allocates less than a tenth of it."""
         data = octets("magic") + octets("empty") * (1 << 19)
@@ -310,5 +337,5 @@ class Arguments:
 def check_arguments(checks, module):
     it = Arguments(checks, module)
     for check in (it.check_edges, it.check_left_out, it.check_read_once, it.check_cut_names, it.check_limits, it.check_others,
-                  it.check_writer, it.check_inputs, it.check_exports, it.check_memory):
+                  it.check_writer, it.check_inputs, it.check_exports, it.check_closed, it.check_memory):
         check()

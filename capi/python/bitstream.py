@@ -387,11 +387,13 @@ def _standing(it):
 
 def first_difference(first, second, left_out=LeftOut(), limits=None):
     """Returns where two inputs first differ, or None."""
-    difference, room = _Difference(), (_OpenBlock * _DEPTH)()
     with _View("first", first) as one, _View("second", second) as two:
-        status = _ask("bs_first_difference", *one, *two, _limits(limits), _left_out(left_out), byref(difference), room,
-                      c_size_t(_DEPTH))
-    if status == _DONE:
+        return _first_difference("bs_first_difference", *one, *two, _limits(limits), _left_out(left_out))
+
+
+def _first_difference(name, *given):
+    difference, room = _Difference(), (_OpenBlock * _DEPTH)()
+    if _ask(name, *given, byref(difference), room, c_size_t(_DEPTH)) == _DONE:
         return None
     values = difference.values
     return Difference([(it.id, it.items) for it in room[: difference.depth]], difference.items, _standing(difference.first),
@@ -496,13 +498,25 @@ class Input(_Open):
         """Returns if the input is accepted, and raises Refused if not."""
         _ask("bs_fed_check", self._held(), _limits(limits))
 
+    def same(self, other, left_out=LeftOut(), limits=None):
+        """Whether this input and another one in pieces have the same magic, blocks and records. Both stay."""
+        return _ask("bs_fed_same", *self._and(other), _limits(limits), _left_out(left_out)) == _DONE
+
+    def first_difference(self, other, left_out=LeftOut(), limits=None):
+        """Returns where this input and another one in pieces first differ, or None. Both stay."""
+        return _first_difference("bs_fed_first_difference", *self._and(other), _limits(limits), _left_out(left_out))
+
     def normal(self, left_out=LeftOut(), limits=None):
         """The normal form, as bytes. The input is closed."""
-        return self._text("bs_fed_normal", left_out, limits)
+        return self._text("bs_fed_normal", limits, _left_out(left_out))
 
     def show(self, left_out=LeftOut(), limits=None):
         """The listing. The input is closed."""
-        return self._text("bs_fed_show", left_out, limits).decode()
+        return self._text("bs_fed_show", limits, _left_out(left_out)).decode()
+
+    def report(self, limits=None):
+        """The report. The input is closed."""
+        return self._text("bs_fed_report", limits).decode()
 
     def events(self, limits=None):
         """Yields the events, and closes the input. If it is refused, it yields those before the fault, and then raises Refused. If
@@ -522,9 +536,15 @@ class Input(_Open):
         _ask("bs_magic", self._held(), byref(found))
         return bytes(found.bytes)
 
-    def _text(self, name, left_out, limits):
-        _ask(name, self._held(), _limits(limits), _left_out(left_out))
+    def _text(self, name, limits, *left_out):
+        _ask(name, self._held(), _limits(limits), *left_out)
         return self._taken()
+
+    def _and(self, other):
+        """The arguments of a call for two inputs. The library takes no handle twice."""
+        if _of(Input, "other", other) is self:
+            raise ValueError("other must be another input")
+        return self._held(), other._held()
 
 
 class Writer(_Open):

@@ -106,10 +106,30 @@ fn pieces() {
         assert_eq!(input.check(&limits), Ok(()));
         input.normal(&limits, &whole).unwrap().read_to_end(&mut form).unwrap();
         assert_eq!(Ok(form), normal(&given, &limits, &whole));
+        let (mut input, mut report) = (Input::new().unwrap(), Vec::new());
+        std::io::copy(&mut &given[..], &mut input).unwrap();
+        input.report(&limits).unwrap().read_to_end(&mut report).unwrap();
+        assert_eq!(Ok(report), bitstream::report(&given, &limits));
         let mut input = Input::new().unwrap();
         std::io::copy(&mut &given[..], &mut input).unwrap();
         input.show(&limits, &whole).unwrap().read_to_end(&mut listing).unwrap();
         assert_eq!(Ok(listing), show(&given, &limits, &whole));
+    }
+}
+
+/// The same of two inputs in pieces as of their bytes. They stay.
+#[test]
+fn comparison_of_pieces() {
+    let (limits, whole) = (Limits::default(), LeftOut::default());
+    let inputs = [stream(30), stream(31), b"DIAG".to_vec(), b"DI".to_vec(), Vec::new()];
+    for (one, two) in inputs.iter().flat_map(|one| inputs.iter().map(move |two| (one, two))) {
+        let (mut first, mut second) = (Input::new().unwrap(), Input::new().unwrap());
+        one.chunks(3).for_each(|piece| first.feed(piece).unwrap());
+        two.chunks(5).for_each(|piece| second.feed(piece).unwrap());
+        for _ in 0..2 {
+            assert_eq!(first.same(&mut second, &limits, &whole), same(one, two, &limits, &whole));
+            assert_eq!(first.first_difference(&mut second, &limits, &whole), first_difference(one, two, &limits, &whole));
+        }
     }
 }
 
