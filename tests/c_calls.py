@@ -327,9 +327,11 @@ class Library:
         return self.as_run(Told(status, 0, 0, 0), limits, form)
 
     def same(self, first, second, options=(), setting=WHOLE):
+        return self.same_of("bs_same", (first, c_size_t(len(first)), second, c_size_t(len(second))), options, setting)
+
+    def same_of(self, call, inputs, options, setting):
         limits = self.limits(options)
-        told = self.ask("bs_same", first, c_size_t(len(first)), second, c_size_t(len(second)), byref(limits), *self.left_out(setting))
-        return self.as_comparison(told, limits)
+        return self.as_comparison(self.ask(call, *inputs, byref(limits), *self.left_out(setting)), limits)
 
     def as_comparison(self, told, limits, lines=b""):
         """The run of `same` with the same result, with these lines after `different`."""
@@ -337,32 +339,45 @@ class Library:
             return DIFFERENT._replace(output=DIFFERENT.output + lines)
         return SAME if told.status == DONE else self.as_run(told, limits, b"", ("first: ", "second: ")[told.input])
 
-    def told_difference(self, first, second, limits, setting, room):
+    def told_difference(self, call, inputs, limits, setting, room):
         """A call for a difference with this much room: its result, the difference, and the contents of the room."""
         difference, held = Difference(), room_of(OpenBlock, room)
         for place in (difference, held):
             ctypes.memset(byref(place), 0xA5, ctypes.sizeof(place))
-        told = self.ask("bs_first_difference", first, c_size_t(len(first)), second, c_size_t(len(second)), byref(limits), *self.left_out(setting),
-                        byref(difference), held, c_size_t(room))
+        told = self.ask(call, *inputs, byref(limits), *self.left_out(setting), byref(difference), held, c_size_t(room))
         return told, difference, held
 
     def where(self, first, second, options=(), setting=WHOLE):
+        return self.where_of("bs_first_difference", (first, c_size_t(len(first)), second, c_size_t(len(second))), options, setting)
+
+    def where_of(self, call, inputs, options, setting):
         """Where two inputs first differ, with no room for the open blocks, with one place too few, and with one more."""
         limits = self.limits(options)
-        told, difference, _ = self.told_difference(first, second, limits, setting, 0)
+        told, difference, _ = self.told_difference(call, inputs, limits, setting, 0)
         if told.status not in (DIFFERS, ROOM):
             return self.as_comparison(told, limits) if not any(bytes_of(difference)) else Answer("a difference of none", b"", "")
         depth = difference.depth
         if depth > limits.depth or (told.status == ROOM) != (depth > 0):
             return Answer(f"status {told.status} at depth {depth}", b"", "")
         if depth:
-            few, again, held = self.told_difference(first, second, limits, setting, depth - 1)
+            few, again, held = self.told_difference(call, inputs, limits, setting, depth - 1)
             if few != told or bytes_of(again) != bytes_of(difference) or set(bytes_of(held)) != {0xA5}:
                 return Answer("a room that is too small was written to", b"", "")
-        told, again, held = self.told_difference(first, second, limits, setting, depth + 1)
+        told, again, held = self.told_difference(call, inputs, limits, setting, depth + 1)
         if bytes_of(again) != bytes_of(difference) or set(bytes_of(held[depth])) != {0xA5}:
             return Answer("places after the blocks were written", b"", "")
         return self.as_comparison(told, limits, lines_of(difference, held[:depth]).encode())
+
+    def fed_pair(self, first, second, size, options=(), setting=WHOLE):
+        """Whether two inputs in pieces are the same, and where they first differ; and whether both inputs stay."""
+        handles, limits = [self.fed(first, size), self.fed(second, size + 1)], byref(self.limits(options))
+        inputs = [byref(it) for it in handles]
+        found = [self.same_of("bs_fed_same", inputs, options, setting), self.where_of("bs_fed_first_difference", inputs, options, setting)]
+        stays = [self.ask("bs_fed_check", it, limits) == self.ask("bs_check", given, c_size_t(len(given)), limits)
+                 for it, given in zip(inputs, (first, second))]
+        for handle in inputs:
+            self.calls.bs_close(handle)
+        return found, stays
 
     def rows(self, given, options=()):
         """The report of the rows of an analysis."""

@@ -245,6 +245,36 @@ static uint64_t ask_fed(const struct file *file, const struct bs_limits *limits,
     return sum;
 }
 
+/* A file beside itself with one bit turned, both in pieces; and the report of the second. */
+static uint64_t ask_fed_pair(const struct file *file, const struct bs_limits *limits, uint64_t sum) {
+    struct bs_left_out left_out = some_names(1);
+    struct bs_open_block room[255];
+    struct bs_difference difference;
+    struct bs_handle handle = {0}, other = {0};
+    struct bs_fault fault;
+    struct file turned = {room_for(file->len), file->len};
+    memset(&difference, 0, sizeof difference);
+    memset(room, 0, sizeof room);
+    memcpy(turned.at, file->at, file->len);
+    turned.at[file->len / 2] ^= 1;
+    count_memory(1);
+    uint32_t status = feed(&handle, file, 4095), compared = BS_DONE;
+    if (status == BS_DONE) status = feed(&other, &turned, 4095);
+    if (status == BS_DONE) compared = noted(bs_fed_same(&handle, &other, limits, &left_out, &fault));
+    if (status == BS_DONE) status = noted(bs_fed_first_difference(&handle, &other, limits, &left_out, &difference, room, 255, &fault));
+    sum = mixed(mixed(mixed(sum, compared), status), difference.depth);
+    sum = mixed(sum, noted(bs_fed_report(&handle, limits, &fault)));
+    count_memory(0);
+    for (size_t i = 0; i < difference.depth; i++) sum = mixed(sum, room[i].items);
+    sum = mixed_pieces(sum, &handle);
+    count_memory(1);
+    bs_close(&handle);
+    bs_close(&other);
+    count_memory(0);
+    free(turned.at);
+    return sum;
+}
+
 /* The events of a file, whole and in pieces: the same, unless memory lacks. */
 static uint64_t ask_fed_events(const struct file *file, const struct bs_limits *limits, uint64_t sum) {
     static const size_t sizes[] = {1, 2, 3, 7, 4095};
@@ -313,7 +343,7 @@ static uint64_t ask(const struct file *file) {
     sum = mixed(sum, noted(bs_same(file->at, file->len, file->at, file->len, &limits, &left_out, &fault)));
     count_memory(0);
     sum = ask_assembled(file, &limits, ask_differences(file, &limits, sum));
-    sum = ask_fed(file, &limits, ask_writer(file, &limits, sum));
+    sum = ask_fed_pair(file, &limits, ask_fed(file, &limits, ask_writer(file, &limits, sum)));
     return ask_held(file, &limits, ask_rows(file, &limits, ask_texts(file, &limits, ask_fed_events(file, &limits, sum))));
 }
 

@@ -9,3 +9,4 @@ pub mod Written
 pub mod Told
 pub mod Fed
 pub mod Sources
+pub mod Deep

@@ -1,5 +1,5 @@
 -- Whether two inputs hold the same.
-use Rattle.std.specs.Prelude.{◌≡◌, ◌≢◌, ◌⊎◌, ⊤, ℕ, List}
+use Rattle.std.specs.Prelude.{◌≡◌, ◌≢◌, ◌⊎◌, ⊤, ℕ, List, Option, Some}
 use Rattle.bit_grammar.specs.Setting.{Setting}
 use Rattle.bit_grammar.specs.Grammar.{at}
 use Rattle.bit_grammar.specs.Forest.{Tree}
@@ -9,7 +9,9 @@ use Rattle.bit_grammar.specs.Normal.{HasTree}
 use Rattle.bit_norm.specs.declared.comparing.Which.{Which}
 use Rattle.bit_norm.specs.declared.comparing.Which.TheVariants.{First, Second}
 use Rattle.bit_c.specs.declared.outcome.Outcome.{Outcome}
-use Rattle.bit_c.specs.declared.outcome.Outcome.TheVariants.{Done, Different, Refused, Memory}
+use Rattle.bit_c.specs.declared.outcome.Outcome.TheVariants.{Done, Different, Refused, Memory, Closed}
+use Rattle.bit_c.specs.declared.left_out.BsLeftOut.{BsLeftOut}
+use Rattle.bit_c.specs.Limiting.{AsksWithin, setting_told}
 
 -- the number of an input
 abbrev pub input_of : Which → ℕ
@@ -31,3 +33,10 @@ Sames setting limits first second Done = (tree : Tree) × HasTree setting limits
 Sames setting limits first second Different = (a : Tree) × (b : Tree)
     × HasTree setting limits first a × HasTree setting limits second b × (a ≢ b)
 Sames setting limits first second outcome = Unread limits first second outcome
+
+-- The inputs that two handles gather were compared; or one of them gathers none, and the outcome reports that.
+abbrev pub SamesFed : blocks.Limits → BsLeftOut → (first second : Option (List ℕ)) → Outcome
+    → Type 0
+SamesFed limits out (Some first) (Some second) outcome = AsksWithin limits out ⊤
+    (Sames (setting_told out) limits first second) outcome
+SamesFed limits out first second outcome = outcome ≡ Closed

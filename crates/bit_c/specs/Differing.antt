@@ -14,7 +14,9 @@ use Rattle.bit_c.specs.declared.difference.BsOpenBlock.{BsOpenBlock}
 use Rattle.bit_c.specs.declared.difference.BsStanding.{BsStanding}
 use Rattle.bit_c.specs.declared.difference.BsValueDifference.{BsValueDifference}
 use Rattle.bit_c.specs.declared.outcome.Outcome.{Outcome}
-use Rattle.bit_c.specs.declared.outcome.Outcome.TheVariants.{Done, Different, Memory, Room}
+use Rattle.bit_c.specs.declared.outcome.Outcome.TheVariants.{Done, Different, Memory, Room, Closed}
+use Rattle.bit_c.specs.declared.left_out.BsLeftOut.{BsLeftOut}
+use Rattle.bit_c.specs.Limiting.{AsksWithin, setting_told}
 use Rattle.bit_c.specs.Comparing.{Unread}
 use Rattle.bit_c.specs.Handing.{FillsRoom}
 
@@ -114,4 +116,13 @@ Differences setting limits first second told old new Different = DifferSo settin
 Differences setting limits first second told old new Room = DifferSo setting limits first second
     told old new Room
 Differences setting limits first second told old new outcome = Unread limits first second outcome
+    × (told ≡ no_difference) × (new ≡ old)
+
+-- The same for the inputs that two handles gather; or one of them gathers none, the outcome reports that, and nothing is set.
+abbrev pub DiffersFed : blocks.Limits → BsLeftOut → (first second : Option (List ℕ))
+    → BsDifference → (old new : List BsOpenBlock) → Outcome → Type 0
+DiffersFed limits out (Some first) (Some second) told old new outcome = AsksWithin limits out
+    ((told ≡ no_difference) × (new ≡ old))
+    (Differences (setting_told out) limits first second told old new) outcome
+DiffersFed limits out first second told old new outcome = (outcome ≡ Closed)
     × (told ≡ no_difference) × (new ≡ old)

@@ -1,9 +1,10 @@
 -- An input that C passes in pieces.
-use Rattle.std.specs.Prelude.{◌≡◌, ◌⊎◌, ⊤, ◌++◌, false, ℕ, List, Option, Some, None, Result, Ok, Err}
+use Rattle.std.specs.Prelude.{◌≡◌, ◌⊎◌, ⊤, ◌++◌, false, ℕ, List, [], Option, Some, None, Result, Ok, Err}
 use Rattle.std.specs.Global.{Vec}
 use Rattle.bit_grammar.specs.Blocks as blocks
 use Rattle.bit_grammar.specs.Normal.{Capped}
-use Rattle.bit_grammar.specs.Setting.{Setting}
+use Rattle.bit_grammar.specs.Setting.{Setting, keep}
+use Rattle.bit_fields.specs.Opening.{PassCaps}
 use Rattle.bit_c.specs.declared.analysing.BsBlockRow.{BsBlockRow}
 use Rattle.bit_c.specs.declared.analysing.BsCodeRow.{BsCodeRow}
 use Rattle.bit_c.specs.declared.analysing.BsTally.{BsTally}
@@ -11,10 +12,12 @@ use Rattle.bit_c.specs.declared.home.Home.{Home}
 use Rattle.bit_c.specs.declared.home.Home.TheVariants as home
 use Rattle.bit_c.specs.declared.left_out.BsLeftOut.{BsLeftOut}
 use Rattle.bit_c.specs.declared.outcome.Outcome.{Outcome}
-use Rattle.bit_c.specs.declared.outcome.Outcome.TheVariants.{Done, Memory, Closed}
+use Rattle.bit_c.specs.declared.outcome.Outcome.TheVariants.{Done, Limits, Memory, Closed}
 use Rattle.bit_c.specs.declared.texts.Text.{Text}
+use Rattle.bit_c.specs.declared.texts.Text.TheVariants.{Report}
 use Rattle.bit_c.specs.Calls.{Checks}
-use Rattle.bit_c.specs.Limiting.{DeclinesCall, Within, names_info, setting_told}
+use Rattle.bit_c.specs.Holding.{Holds}
+use Rattle.bit_c.specs.Limiting.{AsksWithin, DeclinesCall, Within, names_info, setting_told}
 use Rattle.bit_c.specs.Rows.{Analyses, LeavesRows, no_tally}
 use Rattle.bit_c.specs.Texts.{FailsText, IsTextOf}
 
@@ -41,19 +44,24 @@ Feeds piece (Some old) None outcome = ⊥
 
 -- ---- the gathered input
 
--- The input that a handle gathers was judged; or it gathers none, and the outcome reports that.
+-- The input that a handle gathers, of no bytes if it is closed, was judged; or it gathers none, and the outcome reports that.
 abbrev pub ChecksFed : blocks.Limits → Option Home → Outcome → Type 0
 ChecksFed limits (Some (home.Input bytes)) outcome = Within limits ⊤ (Checks limits bytes.items)
     outcome
+ChecksFed limits None outcome = Within limits ⊤ (Checks limits []) outcome
 ChecksFed limits other outcome = outcome ≡ Closed
 
--- The input that a handle gathers was analysed; or it gathers none, the outcome reports that, and nothing was set.
+-- The input that a handle gathers, of no bytes if it is closed, was analysed; or it gathers none, the outcome reports that, and
+-- nothing was set.
 abbrev pub AnalysesFed : blocks.Limits → Option Home → BsTally
     → (old_blocks new_blocks : List BsBlockRow) → (old_codes new_codes : List BsCodeRow) → Outcome
     → Type 0
 AnalysesFed limits (Some (home.Input bytes)) told old_blocks new_blocks old_codes new_codes outcome =
     Within limits ((told ≡ no_tally) × LeavesRows old_blocks new_blocks old_codes new_codes)
     (Analyses limits bytes.items told old_blocks new_blocks old_codes new_codes) outcome
+AnalysesFed limits None told old_blocks new_blocks old_codes new_codes outcome =
+    Within limits ((told ≡ no_tally) × LeavesRows old_blocks new_blocks old_codes new_codes)
+    (Analyses limits [] told old_blocks new_blocks old_codes new_codes) outcome
 AnalysesFed limits other told old_blocks new_blocks old_codes new_codes outcome = (outcome ≡ Closed)
     × (told ≡ no_tally) × LeavesRows old_blocks new_blocks old_codes new_codes
 
@@ -87,9 +95,31 @@ KeepsMade old (Ok text) new outcome = (outcome ≡ Done)
 KeepsMade old (Err why) new outcome = (outcome ≡ why) × (new ≡ old)
 
 -- A text of the input that a handle gathered was made, and replaced the input; or not, for this reason, and the handle's object is
--- unchanged.
+-- unchanged. A closed handle has an input of no bytes, and stays closed if no text was made of it.
 abbrev pub HoldsFed : Text → blocks.Limits → BsLeftOut → Option Home → Option Home → Outcome → Type 0
 HoldsFed text limits out (Some old) (Some new) outcome = (made : Result (Vec ℕ) Outcome)
     × MakesFed text limits out old made × KeepsMade old made new outcome
-HoldsFed text limits out None None outcome = outcome ≡ Closed
-HoldsFed text limits out old new outcome = ⊥
+HoldsFed text limits out (Some old) None outcome = ⊥
+HoldsFed text limits out None new outcome = AsksWithin limits out (new ≡ None)
+    (Holds text (setting_told out) limits [] new) outcome
+
+-- ---- the report
+
+-- the report of bytes was made, with limits that may be past their caps; or not, for this reason
+abbrev pub MakesReport : blocks.Limits → (bytes : List ℕ) → Result (Vec ℕ) Outcome → Type 0
+MakesReport limits bytes made = ((made ≡ Err Limits) × PassCaps limits)
+    ⊎ (Capped limits × MakesUnder Report keep limits bytes made)
+
+-- the same for the input that a handle gathers, which may gather none
+abbrev pub ReportsIn : blocks.Limits → Home → Result (Vec ℕ) Outcome → Type 0
+ReportsIn limits (home.Input bytes) made = MakesReport limits bytes.items made
+ReportsIn limits other made = made ≡ Err Closed
+
+-- The report of the input that a handle gathered was made, and replaced the input; or not, for this reason, and the handle's object
+-- is unchanged. A closed handle has an input of no bytes, and stays closed if no report was made of it.
+abbrev pub ReportsFed : blocks.Limits → Option Home → Option Home → Outcome → Type 0
+ReportsFed limits (Some old) (Some new) outcome = (made : Result (Vec ℕ) Outcome)
+    × ReportsIn limits old made × KeepsMade old made new outcome
+ReportsFed limits (Some old) None outcome = ⊥
+ReportsFed limits None new outcome = Within limits (new ≡ None)
+    (Holds Report keep limits [] new) outcome

@@ -24,6 +24,7 @@ use Rattle.bit_c.specs.Calls.{FailsCall}
 use Rattle.bit_c.specs.Ending.{ended_by}
 use Rattle.bit_c.specs.Handing.{HandsOut, LeavesRoom}
 use Rattle.bit_c.specs.Limiting.{Within}
+use Rattle.bit_c.specs.Opened.{reading_of}
 
 -- an event as C sees it, or that none remains; fields that its kind does not have are 0
 abbrev pub event_told : Option Event → BsEvent
@@ -113,6 +114,10 @@ OpensHandle limits bytes (Some new) Done = IsBegun limits bytes new
 OpensHandle limits bytes (Some new) outcome = ⊥
 OpensHandle limits bytes None outcome = FailsCall limits bytes outcome
 
+-- a handle holds events or nothing
+abbrev pub HoldsNoOther : Option Home → Type 0
+HoldsNoOther new = reading_of new ≡ None → new ≡ None
+
 -- the events of the bytes replaced the input; or not, for this reason, and the input has the same bytes
 abbrev pub ReplacesInput : blocks.Limits → List ℕ → Home → Outcome → Type 0
 ReplacesInput limits bytes (home.Reading new) Done = IsBegun limits bytes new
@@ -132,11 +137,13 @@ BeginsWithin limits (home.Input bytes) new outcome = Within limits (new ≡ home
 BeginsWithin limits old new outcome = (outcome ≡ Closed) × (new ≡ old)
 
 -- The events of the input that a handle gathers were begun, and replaced the input; or not, for this reason, and the input has the
--- same bytes; or the handle gathers none, the outcome reports that, and the handle is unchanged.
+-- same bytes; or the handle gathers none, the outcome reports that, and the handle is unchanged. A closed handle has an input of no
+-- bytes, and stays closed if its events were not begun.
 abbrev pub BeginsFed : blocks.Limits → Option Home → Option Home → Outcome → Type 0
 BeginsFed limits (Some old) (Some new) outcome = BeginsWithin limits old new outcome
-BeginsFed limits None None outcome = outcome ≡ Closed
-BeginsFed limits old new outcome = ⊥
+BeginsFed limits (Some old) None outcome = ⊥
+BeginsFed limits None new outcome = Within limits (new ≡ None)
+    (OpensHandle limits [] (reading_of new)) outcome × HoldsNoOther new
 
 -- the result of a call for the next event was set, and a fault is kept
 abbrev pub KeepsAnswer : (old : Reading) → (before : BsEvent) → Result BsEvent Fault → Reading
@@ -169,17 +176,16 @@ Nexts None before (Some new) after outcome = ⊥
 Nexts (Some old) before None after outcome = ⊥
 Nexts (Some old) before (Some new) after outcome = StepsReading old before new after outcome
 
+-- what a handle holds that is no events is unchanged
+abbrev pub KeepsOther : Option Home → Option Home → Type 0
+KeepsOther old new = reading_of old ≡ None → new ≡ old
+
 -- the same for the object of an open handle
 abbrev pub NextsIn : Home → BsEvent → Home → BsEvent → Outcome → Type 0
 NextsIn (home.Reading old) before (home.Reading new) after outcome = StepsReading old before new
     after outcome
-NextsIn (home.Text old) before (home.Text new) after outcome = (outcome ≡ Closed) × (after ≡ before)
-    × (new ≡ old)
-NextsIn (home.Writing old) before (home.Writing new) after outcome = (outcome ≡ Closed)
-    × (after ≡ before) × (new ≡ old)
-NextsIn (home.Input old) before (home.Input new) after outcome = (outcome ≡ Closed)
-    × (after ≡ before) × (new ≡ old)
-NextsIn old before new after outcome = ⊥
+NextsIn (home.Reading old) before new after outcome = ⊥
+NextsIn old before new after outcome = (outcome ≡ Closed) × (after ≡ before) × (new ≡ old)
 
 -- ---- queries between two events
 

@@ -1,6 +1,6 @@
 //! Whether two inputs hold the same, and where they first differ.
 
-ghost use Rattle.std.specs.Prelude.{◌≡◌, ⊤};
+ghost use Rattle.std.specs.Prelude.{◌≡◌, ◌≤◌, ⊤};
 ghost use Rattle.bit_grammar.specs.Setting.{setting_of};
 ghost use Rattle.bit_c.specs.Comparing.{Sames, input_of};
 ghost use Rattle.bit_c.specs.Differing.{Differences, no_difference};
@@ -38,7 +38,7 @@ fn compare(alloc: Global, first: &[u8], second: &[u8], limits: Limits, info: Inf
 }
 
 /// The same with limits and names that may be unfit.
-fn compare_asked(
+pub(crate) fn compare_asked(
     alloc: Global,
     first: &[u8],
     second: &[u8],
@@ -93,7 +93,7 @@ fn find(
 }
 
 /// The same with limits and names that may be unfit.
-fn find_asked(
+pub(crate) fn find_asked(
     alloc: Global,
     first: &[u8],
     second: &[u8],
@@ -128,7 +128,7 @@ fn find_asked(
 }
 
 /// Compares two inputs as `bs_same` does, and reports where they first differ. The blocks that are open there, the outermost first,
-/// go into the caller's room, all of them or none.
+/// go into the caller's room, all of them or none; there are at most as many as the limit on depth.
 #[unsafe(no_mangle)]
 pub extern "C" fn bs_first_difference(
     alloc: Global,
@@ -140,7 +140,8 @@ pub extern "C" fn bs_first_difference(
     open_room: &mut [BsOpenBlock],
     fault: &mut BsFault,
 ) -> u32
-    ensures { let l = limits_told limits.now in EndsCall result fault.new
+    ensures depth { difference.new.depth ≤ limits.now.depth }
+    ensures tells { let l = limits_told limits.now in EndsCall result fault.new
         (AsksWithin l left_out.now ((difference.new ≡ no_difference)
         × (open_room.new ≡ open_room.old)) (Differences (setting_told left_out.now) l first.now
         second.now difference.new open_room.old open_room.new)) }

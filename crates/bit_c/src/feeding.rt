@@ -3,13 +3,14 @@
 ghost use Rattle.std.specs.Prelude.{◌≡◌, None, Some};
 ghost use Rattle.bit_grammar.specs.Setting.{setting_of};
 ghost use Rattle.bit_c.specs.Ending.{EndsCall};
-ghost use Rattle.bit_c.specs.Feeding.{AnalysesFed, BeginsInput, ChecksFed, Feeds, FeedsIn, HoldsFed, KeepsMade, MakesFed, MakesText, MakesUnder};
+ghost use Rattle.bit_c.specs.Feeding.{AnalysesFed, BeginsInput, ChecksFed, Feeds, FeedsIn, HoldsFed, KeepsMade, MakesFed, MakesReport, MakesText, MakesUnder, ReportsFed, ReportsIn};
 ghost use Rattle.bit_c.specs.Limiting.{limits_told};
 ghost use Rattle.bit_c.specs.declared.texts.Text.{Text as TextTold};
 
 use crate::analysing::{BsBlockRow, BsCodeRow, BsTally, NO_TALLY, analyse_within};
 use crate::checking::judge_within;
 use crate::handle::{BsHandle, handle_of, take_out};
+use crate::holding::{hold_asked, hold_report_within};
 use crate::home::{HeldText, Home};
 use crate::left_out::{BsLeftOut, asked_of};
 use crate::limits::BsLimits;
@@ -99,7 +100,7 @@ fn check_of(alloc: Global, handle: &mut BsHandle, limits: &BsLimits) -> Outcome
             *handle = handle_of(home);
             outcome
         }
-        None => Outcome::Closed,
+        None => judge_within(alloc, &[], limits),
     }
 }
 
@@ -167,10 +168,7 @@ fn analyse_of(
             *handle = handle_of(home);
             outcome
         }
-        None => {
-            *tally = NO_TALLY;
-            Outcome::Closed
-        }
+        None => analyse_within(alloc, &[], limits, tally, block_room, code_room),
     }
 }
 
@@ -273,7 +271,7 @@ fn hold_of(
             *handle = handle_of(home);
             outcome
         }
-        None => Outcome::Closed,
+        None => hold_asked(alloc, &[], limits, left_out, text, handle),
     }
 }
 
@@ -293,7 +291,56 @@ pub extern "C" fn bs_fed_normal(
     hold_of(alloc, handle, limits, left_out, Text::Form).tell(fault)
 }
 
-/// The same for the listing.
+/// Makes the report of some bytes, with limits that may be past their caps.
+fn report_within(alloc: Global, bytes: &[u8], limits: &BsLimits) -> Result<Vec<u8>, Outcome>
+    ensures { MakesReport (limits_told limits.now) bytes.now result }
+{
+    match limits.to_limits() {
+        Some(limits) => make_under(alloc, bytes, limits, Text::Report, Info::Keep),
+        None => Err(Outcome::Limits),
+    }
+}
+
+/// The same for the input of a handle's object.
+fn report_in(alloc: Global, home: &Home, limits: &BsLimits) -> Result<Vec<u8>, Outcome>
+    ensures { ReportsIn (limits_told limits.now) home.now result }
+{
+    match home {
+        Home::Input(bytes) => report_within(alloc, bytes.as_slice(), limits),
+        Home::Reading(_) | Home::Text(_) | Home::Writing(_) => Err(Outcome::Closed),
+    }
+}
+
+/// Makes the report of the input of a handle. It replaces the input.
+fn hold_report_of(alloc: Global, handle: &mut BsHandle, limits: &BsLimits) -> Outcome
+    ensures { ReportsFed (limits_told limits.now) handle.old.inner.home handle.new.inner.home result }
+{
+    match take_out(alloc, handle) {
+        Some(mut home) => {
+            let made = report_in(alloc, &home, limits);
+            let outcome = keep_made(&mut home, made);
+            *handle = handle_of(home);
+            outcome
+        }
+        None => hold_report_within(alloc, &[], limits, handle),
+    }
+}
+
+/// The same for the report of an analysis.
+#[unsafe(no_mangle)]
+pub extern "C" fn bs_fed_report(
+    alloc: Global,
+    handle: &mut BsHandle,
+    limits: &BsLimits,
+    fault: &mut BsFault,
+) -> u32
+    ensures { EndsCall result fault.new
+        (ReportsFed (limits_told limits.now) handle.old.inner.home handle.new.inner.home) }
+{
+    hold_report_of(alloc, handle, limits).tell(fault)
+}
+
+/// The same for the listing, whole or without what is left out.
 #[unsafe(no_mangle)]
 pub extern "C" fn bs_fed_show(
     alloc: Global,

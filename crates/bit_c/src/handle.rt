@@ -1,6 +1,7 @@
 //! Handles: what C holds for the events of bytes, for a text, for the writer of a tree, or for an input in pieces.
 
 ghost use Rattle.std.specs.Prelude.{◌≡◌, Option, Some, None, MatchOption, is_some};
+ghost use Rattle.bit_c.specs.Opened.{home_in};
 
 use crate::home::Home;
 use crate::inner::Inner;
@@ -59,4 +60,14 @@ pub(crate) fn take_out(alloc: Global, handle: &mut BsHandle) -> Option<Box<Home>
 {
     let (none, _) = closed_handle(alloc);
     home_of(mem::replace(handle, none))
+}
+
+/// Puts an object that was taken out back into its handle.
+pub(crate) fn put_back(handle: &mut BsHandle, home: Option<Box<Home>>)
+    requires { handle.old.inner.home ≡ None }
+    ensures { handle.new.inner.home ≡ home_in home }
+{
+    if let Some(home) = home {
+        *handle = handle_of(home);
+    }
 }

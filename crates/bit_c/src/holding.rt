@@ -66,7 +66,7 @@ fn hold(
 }
 
 /// The report, with limits that may be past their caps, and with a handle that may be open.
-fn hold_report_within(
+pub(crate) fn hold_report_within(
     alloc: Global,
     bytes: &[u8],
     limits: &BsLimits,
@@ -83,7 +83,7 @@ fn hold_report_within(
 }
 
 /// A text of what is not left out, with limits and names that may be unfit, and with a handle that may be open.
-fn hold_asked(
+pub(crate) fn hold_asked(
     alloc: Global,
     bytes: &[u8],
     limits: &BsLimits,

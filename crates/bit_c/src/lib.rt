@@ -19,6 +19,7 @@ mod comparing;
 mod difference;
 mod event;
 mod feeding;
+mod feeding_two;
 mod handle;
 mod holding;
 mod home;
@@ -47,7 +48,10 @@ pub use checking::bs_check;
 pub use comparing::{bs_first_difference, bs_same};
 pub use difference::{BsDifference, BsOpenBlock, BsStanding, BsValueDifference};
 pub use event::BsEvent;
-pub use feeding::{bs_fed_analyse, bs_fed_check, bs_fed_normal, bs_fed_show, bs_feed};
+pub use feeding::{
+    bs_fed_analyse, bs_fed_check, bs_fed_normal, bs_fed_report, bs_fed_show, bs_feed,
+};
+pub use feeding_two::{bs_fed_first_difference, bs_fed_same};
 pub use handle::BsHandle;
 pub use holding::{bs_hold_normal, bs_hold_report, bs_hold_show, bs_text};
 pub use left_out::{BsLeftOut, BsRecordName};

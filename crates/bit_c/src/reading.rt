@@ -4,7 +4,7 @@ ghost use Rattle.std.specs.Prelude.{◌≡◌, None};
 ghost use Rattle.bit_c.specs.Ending.{EndsCall};
 ghost use Rattle.bit_c.specs.Limiting.{Within, limits_told};
 ghost use Rattle.bit_c.specs.Opened.{reading_of};
-ghost use Rattle.bit_c.specs.Stepping.{BeginsFed, BeginsIn, BeginsReading, BeginsWithin, Nexts, NextsIn, OpensHandle, StepsReading};
+ghost use Rattle.bit_c.specs.Stepping.{BeginsFed, BeginsIn, BeginsReading, BeginsWithin, HoldsNoOther, KeepsOther, Nexts, NextsIn, OpensHandle, StepsReading};
 
 use crate::event::{BsEvent, next_of};
 use crate::handle::{BsHandle, handle_of, take_out};
@@ -34,7 +34,8 @@ fn begin(alloc: Global, bytes: Bytes, limits: Limits) -> Result<Reading, (Outcom
 /// Begins the events of bytes in a closed handle.
 fn open_at(alloc: Global, bytes: &'static [u8], limits: Limits, handle: &mut BsHandle) -> Outcome
     requires { handle.old.inner.home ≡ None }
-    ensures { OpensHandle limits bytes.now (reading_of handle.new.inner.home) result }
+    ensures opens { OpensHandle limits bytes.now (reading_of handle.new.inner.home) result }
+    ensures no_other { HoldsNoOther handle.new.inner.home }
 {
     let reading = match begin(alloc, Bytes::Lent(bytes), limits) {
         Ok(reading) => reading,
@@ -56,8 +57,9 @@ fn open_within(
     limits: &BsLimits,
     handle: &mut BsHandle,
 ) -> Outcome
-    ensures { let l = limits_told limits.now in let new = reading_of handle.new.inner.home
+    ensures opens { let l = limits_told limits.now in let new = reading_of handle.new.inner.home
         in Within l (new ≡ None) (OpensHandle l bytes.now new) result }
+    ensures no_other { HoldsNoOther handle.new.inner.home }
 {
     let _ = take_out(alloc, handle);
     match limits.to_limits() {
@@ -76,8 +78,9 @@ pub extern "C" fn bs_open(
     handle: &mut BsHandle,
     fault: &mut BsFault,
 ) -> u32
-    ensures { let l = limits_told limits.now in let new = reading_of handle.new.inner.home
+    ensures opens { let l = limits_told limits.now in let new = reading_of handle.new.inner.home
         in EndsCall result fault.new (Within l (new ≡ None) (OpensHandle l bytes.now new)) }
+    ensures no_other { HoldsNoOther handle.new.inner.home }
 {
     open_within(alloc, bytes, limits, handle).tell(fault)
 }
@@ -129,7 +132,7 @@ fn begin_of(alloc: Global, handle: &mut BsHandle, limits: &BsLimits) -> Outcome
             *handle = handle_of(home);
             outcome
         }
-        None => Outcome::Closed,
+        None => open_within(alloc, &[], limits, handle),
     }
 }
 
@@ -179,8 +182,9 @@ fn step_in(home: &mut Home, event: &mut BsEvent) -> Outcome
 
 /// The next event of a handle.
 fn step_of(alloc: Global, handle: &mut BsHandle, event: &mut BsEvent) -> Outcome
-    ensures { Nexts (reading_of handle.old.inner.home) event.old (reading_of handle.new.inner.home)
-        event.new result }
+    ensures steps { Nexts (reading_of handle.old.inner.home) event.old
+        (reading_of handle.new.inner.home) event.new result }
+    ensures kept { KeepsOther handle.old.inner.home handle.new.inner.home }
 {
     match take_out(alloc, handle) {
         Some(mut home) => {
@@ -200,8 +204,9 @@ pub extern "C" fn bs_next(
     event: &mut BsEvent,
     fault: &mut BsFault,
 ) -> u32
-    ensures { EndsCall result fault.new (Nexts (reading_of handle.old.inner.home) event.old
+    ensures steps { EndsCall result fault.new (Nexts (reading_of handle.old.inner.home) event.old
         (reading_of handle.new.inner.home) event.new) }
+    ensures kept { KeepsOther handle.old.inner.home handle.new.inner.home }
 {
     step_of(alloc, handle, event).tell(fault)
 }

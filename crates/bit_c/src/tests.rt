@@ -6,11 +6,11 @@ use crate::handle::closed_handle;
 use crate::{
     BsBlockRow, BsCodeRow, BsEvent, BsFault, BsHandle, BsLeftOut, BsLimits, BsMagicBytes,
     BsOpenBlock, BsOperand, BsRecordName, BsTally, bs_analyse, bs_assemble, bs_check, bs_close,
-    bs_fed_analyse, bs_fed_check, bs_fed_events, bs_fed_normal, bs_fed_show, bs_feed,
-    bs_first_difference, bs_hold_normal, bs_hold_report, bs_hold_show, bs_magic, bs_next,
-    bs_normal, bs_open, bs_operands, bs_report, bs_same, bs_show, bs_take, bs_text,
-    bs_usual_limits, bs_values, bs_write_enter, bs_write_finish, bs_write_leave, bs_write_open,
-    bs_write_record,
+    bs_fed_analyse, bs_fed_check, bs_fed_events, bs_fed_first_difference, bs_fed_normal,
+    bs_fed_report, bs_fed_same, bs_fed_show, bs_feed, bs_first_difference, bs_hold_normal,
+    bs_hold_report, bs_hold_show, bs_magic, bs_next, bs_normal, bs_open, bs_operands, bs_report,
+    bs_same, bs_show, bs_take, bs_text, bs_usual_limits, bs_values, bs_write_enter,
+    bs_write_finish, bs_write_leave, bs_write_open, bs_write_record,
 };
 use std::alloc::Global;
 
@@ -336,4 +336,40 @@ fn what_is_read_of_pieces(rt: HostRuntime) {
     let values = bs_values(rt.alloc(), &mut handle, &mut room, &mut needed, &mut fault);
     assert!(rt; first == [(0, 1, 0), (0, 3, 1)] && values == 0 && room == [30]);
     bs_close(rt.alloc(), &mut handle);
+}
+
+/// The statuses of comparing two inputs in pieces, and of the report of the second; and the depth of their difference.
+fn fed_pair(alloc: Global, first: &mut BsHandle, second: &mut BsHandle) -> ([u32; 6], usize) {
+    let (limits, mut fault, mut difference) = (usual(), NO_FAULT, NO_DIFFERENCE);
+    let mut room = [BsOpenBlock { id: 0, items: 0 }; 1];
+    let statuses = [
+        bs_fed_same(alloc, first, second, &limits, &WHOLE, &mut fault),
+        bs_feed(alloc, first, &THIRTY, &mut fault),
+        bs_feed(alloc, second, &THIRTY_ONE, &mut fault),
+        bs_fed_same(alloc, first, second, &limits, &WHOLE, &mut fault),
+        bs_fed_first_difference(
+            alloc,
+            first,
+            second,
+            &limits,
+            &WHOLE,
+            &mut difference,
+            &mut room,
+            &mut fault,
+        ),
+        bs_fed_report(alloc, second, &limits, &mut fault),
+    ];
+    (statuses, difference.depth)
+}
+
+#[test]
+fn what_differs_in_pieces(rt: HostRuntime) {
+    let (mut first, _) = closed_handle(rt.alloc());
+    let (mut second, _) = closed_handle(rt.alloc());
+    assert!(rt; fed_pair(rt.alloc(), &mut first, &mut second) == ([2, 0, 0, 1, 1, 0], 1));
+    let (mut fault, mut room, mut needed) = (NO_FAULT, [0; 128], 0);
+    let text = bs_text(rt.alloc(), &mut second, &mut room, &mut needed, &mut fault);
+    assert!(rt; text == 0 && room.starts_with(b"magic 4243c0de bits 128\n"));
+    bs_close(rt.alloc(), &mut first);
+    bs_close(rt.alloc(), &mut second);
 }
