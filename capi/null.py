@@ -1,6 +1,7 @@
 #!/usr/bin/env python3
-"""Writes C for the calls of bitstream.h that take pointers with lengths: each replaces a null pointer by one to an aligned word,
-and calls the proved call, which takes no null pointer, not even with length 0.
+"""Writes C for the calls of bitstream.h that take pointers with lengths: each replaces a null pointer of length 0 by one to an
+aligned word, and calls the proved call, which takes no null pointer. One with a length is passed on, so that reading it ends the
+program; a word in its place would be read as an input.
 Usage: null.py HEADER NAMES > SOURCE, where NAMES is a file to write: each call, and the name that its proved one is given."""
 import re
 import sys
@@ -8,11 +9,11 @@ import sys
 START = """#include "bitstream.h"
 /* Aligned for every element; never read or written. */
 static uint64_t nothing;
-#define SOME(at) ((at) ? (at) : (void *)&nothing)
+#define SOME(at, len) ((at) || (len) ? (at) : (void *)&nothing)
 """
 LEFT_OUT = """    struct bs_left_out named = *left_out;
-    named.blocks = SOME(named.blocks);
-    named.records = SOME(named.records);
+    named.blocks = SOME(named.blocks, named.blocks_len);
+    named.records = SOME(named.records, named.records_len);
 """
 BYTES = "    *name = (struct bs_bytes){(const uint8_t *)&nothing, 0};\n"
 
@@ -29,7 +30,7 @@ def passed(parameter, all_of_them):
     name = re.search(r"\w+$", parameter)[0]
     if name == "left_out":
         return "&named"
-    return f"SOME({name})" if f"size_t {name}_len" in all_of_them else name
+    return f"SOME({name}, {name}_len)" if f"size_t {name}_len" in all_of_them else name
 
 
 def main():

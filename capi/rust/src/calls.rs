@@ -121,6 +121,10 @@ extern "C" {
     pub fn bs_magic(handle: &mut Handle, magic: &mut Magic, fault: &mut Fault) -> u32;
     pub fn bs_feed(handle: &mut Handle, piece: *const u8, piece_len: usize, fault: &mut Fault) -> u32;
     pub fn bs_fed_check(handle: &mut Handle, limits: &Limits, fault: &mut Fault) -> u32;
+    pub fn bs_fed_same(first: &mut Handle, second: &mut Handle, limits: &Limits, left_out: &LeftOut, fault: &mut Fault) -> u32;
+    pub fn bs_fed_first_difference(first: &mut Handle, second: &mut Handle, limits: &Limits, left_out: &LeftOut,
+                                   difference: &mut Difference, room: *mut OpenBlock, room_len: usize, fault: &mut Fault) -> u32;
+    pub fn bs_fed_report(handle: &mut Handle, limits: &Limits, fault: &mut Fault) -> u32;
     pub fn bs_fed_normal(handle: &mut Handle, limits: &Limits, left_out: &LeftOut, fault: &mut Fault) -> u32;
     pub fn bs_fed_show(handle: &mut Handle, limits: &Limits, left_out: &LeftOut, fault: &mut Fault) -> u32;
     pub fn bs_fed_events(handle: &mut Handle, limits: &Limits, fault: &mut Fault) -> u32;

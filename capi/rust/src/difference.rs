@@ -1,6 +1,6 @@
 //! Where two inputs first differ.
 use crate::calls::{self, Fault, OpenBlock};
-use crate::{ended, Error, LeftOut, Limits};
+use crate::{compared, Error, LeftOut, Limits};
 
 /// The item at a place of an input.
 #[derive(Clone, Copy, Debug, PartialEq, Eq)]
@@ -37,13 +37,20 @@ fn standing(it: &calls::Standing) -> (u64, Standing) {
 
 /// Where two inputs first differ, if they do.
 pub fn first_difference(one: &[u8], two: &[u8], limits: &Limits, left_out: &LeftOut<'_>) -> Result<Option<Difference>, Error> {
-    let (mut told, mut room, mut fault) = (calls::Difference::default(), [OpenBlock::default(); 255], Fault::default());
-    let (names, at) = (left_out.passed(), room.as_mut_ptr());
+    let names = left_out.passed();
     // SAFETY: each pointer and its length are those of one slice or array; the room is initialised, and borrowed alone.
-    let status = unsafe {
-        calls::bs_first_difference(one.as_ptr(), one.len(), two.as_ptr(), two.len(), limits, &names, &mut told, at, 255, &mut fault)
-    };
-    if ended(status, &fault)? {
+    found(|told, room, fault| unsafe {
+        calls::bs_first_difference(one.as_ptr(), one.len(), two.as_ptr(), two.len(), limits, &names, told, room.as_mut_ptr(), room.len(), fault)
+    })
+}
+
+/// What a call finds that compares.
+pub(crate) fn found(
+    call: impl FnOnce(&mut calls::Difference, &mut [OpenBlock], &mut Fault) -> u32,
+) -> Result<Option<Difference>, Error> {
+    let (mut told, mut room, mut fault) = (calls::Difference::default(), [OpenBlock::default(); 255], Fault::default());
+    let status = call(&mut told, &mut room, &mut fault);
+    if compared(status, &fault)? {
         return Ok(None);
     }
     let values = &told.values;

@@ -1,6 +1,6 @@
 //! An input in pieces.
 use crate::calls::{self, Fault};
-use crate::{ended, Error, Events, Held, LeftOut, Limits, Text};
+use crate::{compared, difference, ended, Difference, Error, Events, Held, LeftOut, Limits, Text};
 use std::io;
 
 /// An input that comes in pieces, as by `std::io::copy`. All of it is kept.
@@ -28,6 +28,32 @@ impl Input {
         // SAFETY: each argument is borrowed for the call alone; so below.
         let status = unsafe { calls::bs_fed_check(&mut self.0 .0, limits, &mut fault) };
         ended(status, &fault).map(drop)
+    }
+
+    /// Whether this input and another one have the same magic, blocks and records.
+    pub fn same(&mut self, other: &mut Input, limits: &Limits, left_out: &LeftOut<'_>) -> Result<bool, Error> {
+        let mut fault = Fault::default();
+        // SAFETY: as in `check`; two mutable borrows are of two handles.
+        let status = unsafe { calls::bs_fed_same(&mut self.0 .0, &mut other.0 .0, limits, &left_out.passed(), &mut fault) };
+        compared(status, &fault)
+    }
+
+    /// Where this input and another one first differ, if they do.
+    pub fn first_difference(&mut self, other: &mut Input, limits: &Limits, left_out: &LeftOut<'_>) -> Result<Option<Difference>, Error> {
+        let (one, two, names) = (&mut self.0 .0, &mut other.0 .0, left_out.passed());
+        // SAFETY: as in `same`; the room is initialised, and borrowed alone.
+        difference::found(|told, room, fault| unsafe {
+            calls::bs_fed_first_difference(one, two, limits, &names, told, room.as_mut_ptr(), room.len(), fault)
+        })
+    }
+
+    /// The report, as `bitstool analyse` prints it.
+    pub fn report(mut self, limits: &Limits) -> Result<Text, Error> {
+        let mut fault = Fault::default();
+        // SAFETY: as in `check`.
+        let status = unsafe { calls::bs_fed_report(&mut self.0 .0, limits, &mut fault) };
+        ended(status, &fault)?;
+        Ok(Text(self.0))
     }
 
     /// The normal form.

@@ -1,4 +1,15 @@
 //! Streams in the LLVM bitstream container: safe calls over the C library. Begin with [`check`] and [`normal`].
+//!
+//! A program depends on this crate by its folder, in `Cargo.toml`, with the PREFIX of `make install`:
+//!
+//! ```toml
+//! [dependencies]
+//! bitstream = { path = "PREFIX/share/bitstream/rust" }
+//! ```
+//!
+//! The archive `libbitstream.a` is linked in. It is in `PREFIX/lib`, or in the folder that the variable `BITSTREAM_LIBRARY` names, by
+//! itself or by a file in it; a relative name begins in the folder of this crate's `Cargo.toml`. In the source tree that variable is
+//! needed: `BITSTREAM_LIBRARY=../out cargo test`, after `make lib`. A build fails if the archive has another version than this crate.
 mod calls;
 mod difference;
 mod events;
@@ -60,11 +71,19 @@ impl LeftOut<'_> {
     }
 }
 
+/// Which of its inputs a call refuses.
+#[derive(Clone, Copy, Debug, PartialEq, Eq)]
+pub enum Which {
+    Only,
+    First,
+    Second,
+}
+
 /// Why a call failed.
 #[derive(Clone, Copy, Debug, PartialEq, Eq)]
 pub enum Error {
-    /// An input breaks a rule: its name, the bit, and 0 for the only or the first input, 1 for the second.
-    Refused { reason: &'static str, bit: u64, input: u32 },
+    /// An input breaks a rule: its name, the bit, and the input.
+    Refused { reason: &'static str, bit: u64, input: Which },
     /// A listing is refused: the name of the reason, and the number of the line, counted from 1.
     RefusedLine { reason: &'static str, line: u64 },
     Memory,
@@ -83,7 +102,9 @@ pub enum Error {
 impl fmt::Display for Error {
     fn fmt(&self, to: &mut fmt::Formatter<'_>) -> fmt::Result {
         match self {
-            Error::Refused { reason, bit, .. } => write!(to, "{reason} at bit {bit}"),
+            Error::Refused { reason, bit, input: Which::Only } => write!(to, "{reason} at bit {bit}"),
+            Error::Refused { reason, bit, input: Which::First } => write!(to, "first: {reason} at bit {bit}"),
+            Error::Refused { reason, bit, input: Which::Second } => write!(to, "second: {reason} at bit {bit}"),
             Error::RefusedLine { reason, line } => write!(to, "{reason} at line {line}"),
             Error::Memory => to.write_str("out of memory"),
             Error::TooLong => to.write_str("normal form longer than the limit"),
@@ -111,7 +132,7 @@ fn reason_name(number: u32) -> &'static str {
 fn ended(status: u32, fault: &Fault) -> Result<bool, Error> {
     match status {
         2 if fault.reason > 100 => Err(Error::RefusedLine { reason: reason_name(fault.reason), line: fault.bit }),
-        2 => Err(Error::Refused { reason: reason_name(fault.reason), bit: fault.bit, input: fault.input }),
+        2 => Err(Error::Refused { reason: reason_name(fault.reason), bit: fault.bit, input: Which::Only }),
         3 => Err(Error::Memory),
         4 => Err(Error::TooLong),
         5 => Err(Error::Limits),
@@ -120,6 +141,16 @@ fn ended(status: u32, fault: &Fault) -> Result<bool, Error> {
         9 => Err(Error::Unfit),
         status => Ok(status == 0),
     }
+}
+
+/// The same for a call with two inputs.
+fn compared(status: u32, fault: &Fault) -> Result<bool, Error> {
+    ended(status, fault).map_err(|error| match error {
+        Error::Refused { reason, bit, .. } => {
+            Error::Refused { reason, bit, input: if fault.input == 0 { Which::First } else { Which::Second } }
+        }
+        error => error,
+    })
 }
 
 /// An open handle, which is closed when it is dropped.
@@ -235,5 +266,5 @@ pub fn same(first: &[u8], second: &[u8], limits: &Limits, left_out: &LeftOut<'_>
     let (one, two) = (first.as_ptr(), second.as_ptr());
     // SAFETY: as in `check`; what is left out is borrowed for the whole call.
     let status = unsafe { calls::bs_same(one, first.len(), two, second.len(), limits, &left_out.passed(), &mut fault) };
-    ended(status, &fault)
+    compared(status, &fault)
 }

@@ -1,5 +1,5 @@
 //! Each call, on a stream of one record that is abbreviated in no way, and on a broken one.
-use bitstream::{assemble, check, first_difference, normal, report, same, show, Error, Event, Events, Input, LeftOut, Limits, Operand, RecordName, Standing, Text, Writer};
+use bitstream::{assemble, check, first_difference, normal, report, same, show, Error, Event, Events, Input, LeftOut, Limits, Operand, RecordName, Standing, Text, Which, Writer};
 use std::io::{BufReader, Read, Write};
 
 /// A block with id 8 whose ids are 3 bits wide, and in it record 1 with the value `value`.
@@ -64,9 +64,14 @@ fn events_and_errors() {
     let events: Vec<_> = Events::new(&given, &limits).unwrap().collect::<Result<_, _>>().unwrap();
     assert!(matches!(events[0], Event::Enter { id: 8, first: 32, .. }));
     assert!(matches!(events.last(), Some(Event::Leave { after: 128 })));
-    let refused = Error::Refused { reason: "Truncated", bit: 0, input: 0 };
+    let refused = Error::Refused { reason: "Truncated", bit: 0, input: Which::Only };
     assert_eq!(check(b"", &limits), Err(refused));
     assert_eq!(refused.to_string(), "Truncated at bit 0");
+    let whole = LeftOut::default();
+    for (one, two, text) in [(&b""[..], &given[..], "first: Truncated at bit 0"), (&given, b"DI", "second: Truncated at bit 0")] {
+        assert_eq!(same(one, two, &limits, &whole).unwrap_err().to_string(), text);
+        assert_eq!(first_difference(one, two, &limits, &whole).unwrap_err().to_string(), text);
+    }
     let last = Events::new(&given[..12], &limits).unwrap().last();
     assert!(matches!(last, Some(Err(Error::Refused { .. }))));
     assert_eq!(check(&given, &Limits { depth: 256, ..limits }), Err(Error::Limits));
@@ -101,10 +106,30 @@ fn pieces() {
         assert_eq!(input.check(&limits), Ok(()));
         input.normal(&limits, &whole).unwrap().read_to_end(&mut form).unwrap();
         assert_eq!(Ok(form), normal(&given, &limits, &whole));
+        let (mut input, mut report) = (Input::new().unwrap(), Vec::new());
+        std::io::copy(&mut &given[..], &mut input).unwrap();
+        input.report(&limits).unwrap().read_to_end(&mut report).unwrap();
+        assert_eq!(Ok(report), bitstream::report(&given, &limits));
         let mut input = Input::new().unwrap();
         std::io::copy(&mut &given[..], &mut input).unwrap();
         input.show(&limits, &whole).unwrap().read_to_end(&mut listing).unwrap();
         assert_eq!(Ok(listing), show(&given, &limits, &whole));
+    }
+}
+
+/// The same of two inputs in pieces as of their bytes. They stay.
+#[test]
+fn comparison_of_pieces() {
+    let (limits, whole) = (Limits::default(), LeftOut::default());
+    let inputs = [stream(30), stream(31), b"DIAG".to_vec(), b"DI".to_vec(), Vec::new()];
+    for (one, two) in inputs.iter().flat_map(|one| inputs.iter().map(move |two| (one, two))) {
+        let (mut first, mut second) = (Input::new().unwrap(), Input::new().unwrap());
+        one.chunks(3).for_each(|piece| first.feed(piece).unwrap());
+        two.chunks(5).for_each(|piece| second.feed(piece).unwrap());
+        for _ in 0..2 {
+            assert_eq!(first.same(&mut second, &limits, &whole), same(one, two, &limits, &whole));
+            assert_eq!(first.first_difference(&mut second, &limits, &whole), first_difference(one, two, &limits, &whole));
+        }
     }
 }
 
