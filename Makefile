@@ -1,14 +1,16 @@
 # make              builds the program to one file, which needs nothing of the toolchain: crates/bitstool/out/bitstool
 # make run < FILE   writes the normal form of a file; make run ARGS="check" < FILE gives the program these arguments
 # make lib          proves the C library and builds it: capi/out/libbitstream.a and libbitstream.so
-# make install      puts the program, its man page and completions, the C library, its header, its pkg-config and CMake files, the
-#                   Python module, the Rust crate and the examples below PREFIX
+# make install      puts the program, bitsame, their man page, completions and pages, the C library, its header, its pkg-config
+#                   and CMake files, the Python module, the Rust crate and the examples below PREFIX
 # make dist         packs what make install puts there into out/bitstool-VERSION-x86_64-linux.tar.gz, the same bytes on each
 #                   run; OUT names another folder than out
 # make bench        the program beside other tools; bench/tool says on which files
 # make test         the gate: every proof from nothing, the edits that must be refused, and the scripts of tests/
 # make test-program  builds the program and the C library, and runs the scripts of tests/, which test both
 PREFIX ?= /usr/local
+# The pages of docs/ for users, which are installed. The others are for those who change the project.
+PAGES := FORMAT RECIPES PROMISES COSTS
 # Where the Python module goes below PREFIX.
 PYTHON_FOLDER ?= lib/python3/dist-packages
 JOBS ?= $(shell nproc)
@@ -83,7 +85,12 @@ run: $(PROGRAM)
 place = $(DESTDIR)$(PREFIX)
 install: $(PROGRAM) lib
 	install -D $(PROGRAM) $(place)/bin/bitstool
+	install -D contrib/bitsame $(place)/bin/bitsame
+	install -D contrib/treemap $(place)/share/bitstream/contrib/treemap
 	install -D -m 644 man/bitstool.1 $(place)/share/man/man1/bitstool.1
+	ln -sf bitstool.1 $(place)/share/man/man1/bitsame.1
+	install -D -m 644 -t $(place)/share/doc/bitstool README.md CHANGELOG.md
+	install -D -m 644 -t $(place)/share/doc/bitstool/docs $(PAGES:%=docs/%.md)
 	install -D -m 644 completions/bitstool.bash $(place)/share/bash-completion/completions/bitstool
 	install -D -m 644 completions/_bitstool $(place)/share/zsh/site-functions/_bitstool
 	install -D -m 644 completions/bitstool.fish $(place)/share/fish/vendor_completions.d/bitstool.fish

@@ -1,8 +1,8 @@
 /* Calls on streams in the LLVM bitstream container: check, normal form, comparison, analysis, listing, assembly and events.
 
-   Each call is a function of Rattle whose contract is proved: docs/PROMISES.md lists them. Before it, a few lines of C replace null
-   pointers that have the length 0. The caller's obligations are not checked. If one is not kept, the behaviour of a call is
-   undefined:
+   Each call is a function of Rattle whose contract is proved: docs/PROMISES.md lists them (docs/ of the repository, and below
+   PREFIX/share/doc/bitstool where this header is PREFIX/include/bitstream.h). Before it, a few lines of C replace null pointers
+   that have the length 0. The caller's obligations are not checked. If one is not kept, the behaviour of a call is undefined:
 
    - A pointer points to an aligned object of its type, and is not null. A pointer with a length points to an array of that length,
      and may be null if the length is 0. Lengths are below 2^63 bytes. Objects that are not const are initialised. No argument that

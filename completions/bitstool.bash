@@ -1,9 +1,11 @@
 # Completion of bitstool's arguments for bash.
 _bitstool() {
     local limits="--bytes --depth --values --shapes-at-use --help"
-    local names="--drop-block --drop-record"
+    local names="--drop-block --drop-record --drop-info"
     local before=${COMP_WORDS[COMP_CWORD - 1]} now=${COMP_WORDS[COMP_CWORD]} words
     case $before in
+        # A file name, by the default of bash.
+        *[\<\>]) return ;;
         --bytes | --depth | --values | --first | --drop-block | --drop-record) return ;;
     esac
     if [ "$COMP_CWORD" -eq 1 ]; then
@@ -12,9 +14,8 @@ _bitstool() {
         case ${COMP_WORDS[1]} in
             check) words=$limits ;;
             analyse) words="$limits --json" ;;
-            show) words="$limits $names" ;;
-            normal) words="$limits $names --drop-info" ;;
-            same) words="$limits $names --drop-info --first --where --json" ;;
+            normal | show) words="$limits $names" ;;
+            same) words="$limits $names --first --where --json" ;;
             events) words="$limits --no-values --json" ;;
             assemble) words="--bytes --depth --values --help" ;;
         esac

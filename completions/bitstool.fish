@@ -17,7 +17,7 @@ complete -c bitstool -n "$some $commands" -l values -x -d "The most values of al
 complete -c bitstool -n "$some check normal same analyse show events" -l shapes-at-use -d "Judge the shape of a definition when a record uses it"
 complete -c bitstool -n "$some normal same show" -l drop-block -x -d "Leave out the blocks with this id"
 complete -c bitstool -n "$some normal same show" -l drop-record -x -d "Leave out the records with this code in blocks with this id, as ID:CODE"
-complete -c bitstool -n "$some normal same" -l drop-info -d "Leave out the BLOCKINFO blocks"
+complete -c bitstool -n "$some normal same show" -l drop-info -d "Leave out the BLOCKINFO blocks"
 complete -c bitstool -n "$some same" -l first -x -d "The number of bytes of the first input"
 complete -c bitstool -n "$some same" -l where -d "Report where they first differ"
 complete -c bitstool -n "$some events" -l no-values -d "Leave out the values of records"

@@ -85,7 +85,7 @@ class Setting(NamedTuple):
     records: tuple = ()
 
     def words(self, command):
-        """The options of a command for it: `show` has no `--drop-info`, which means the same as `--drop-block 0`."""
+        """The options of a command for it; `show` gets `--drop-block 0`, which means the same as `--drop-info`."""
         words = (["--drop-block", "0"] if command == "show" else ["--drop-info"]) if self.info else []
         for block in self.blocks:
             words += ["--drop-block", str(block)]

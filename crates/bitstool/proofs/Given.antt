@@ -19,7 +19,7 @@ use Rattle.clap.specs.declared.error.kind.ErrorKind.{ErrorKind}
 use Rattle.clap.specs.declared.parser.matches.ValueSource.{ValueSource}
 use Rattle.clap.specs.declared.parser.matches.ValueSource.TheVariants.{DefaultValue}
 use Rattle.clap.proofs.ValueTestLemmas.{accepts-Accepts}
-use Rattle.bitstool.specs.Words.{HasAllLimits, HasWithin, IsComplete, checks, normalises, compares, analyses, lists, tells, assembles, FindsAll, bitstool, with_json, with_limits, with_numbers, leaving, dropping, comparing, telling, faults_of, named_by, bytes_rule, depth_rule, values_rule, first_rule}
+use Rattle.bitstool.specs.Words.{HasAllLimits, HasWithin, IsComplete, checks, normalises, compares, analyses, lists, tells, assembles, FindsAll, bitstool, with_json, with_limits, with_numbers, leaving, comparing, telling, faults_of, named_by, bytes_rule, depth_rule, values_rule, first_rule}
 use Rattle.bitstool.proofs.Walked.{GoodRow, GoodRows, IsNumeric, IsOnly, defaults_good, first_none, settle_good, then_none, walk_good}
 
 -- ---- rows
@@ -217,9 +217,6 @@ json_within name words passes = numbers_within (leaf (with_json name)) _ refl (r
 leaving_within : (name : Text) (words : List Text) → level_fault (leaf (leaving name)) [] nothing_held words false [] ≡ [] → HasAllLimits (AfterWords (leaf (leaving name)) words)
 leaving_within name words passes = numbers_within (leaf (leaving name)) _ refl (refl, refl, refl) words passes
 
-dropping_within : (name : Text) (words : List Text) → level_fault (leaf (dropping name)) [] nothing_held words false [] ≡ [] → HasAllLimits (AfterWords (leaf (dropping name)) words)
-dropping_within name words passes = numbers_within (leaf (dropping name)) _ refl (refl, refl, refl) words passes
-
 comparing_within : (words : List Text) → level_fault (leaf comparing) [] nothing_held words false [] ≡ [] → HasAllLimits (AfterWords (leaf comparing) words)
 comparing_within words passes = numbers_within (leaf comparing) _ refl (refl, refl, refl) words passes
 
@@ -240,7 +237,7 @@ commands : AreCommands (built bitstool).subs
 commands = (
   λ words passes. checks (limits_within (codes "check") words passes),
   (
-    λ words passes. normalises (dropping_within (codes "normal") words passes),
+    λ words passes. normalises (leaving_within (codes "normal") words passes),
     (
       λ words passes. compares (comparing_within words passes) (first_within words passes),
       (

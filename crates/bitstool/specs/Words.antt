@@ -1,14 +1,15 @@
 -- The task that the words of a command line ask for: the options that the program declares to `clap`, and how a task is read from
 -- what `clap` finds. The names `App`, `Rule`, `Shape`, `subcommand_of` and `fault_of` are clap's own. They define what a command
 -- is, and what a parse of words finds or why it fails.
-use Rattle.std.specs.Prelude.{◌≡◌, ◌⊎◌, ◌↔◌, ⊤, ℕ, ◌≤◌, Bool, IsTrue, List, [], ◌∷◌, ◌++◌, true, Option, Some, None, IfSome, unwrap_or, codes, string_bytes}
+use Rattle.std.specs.Prelude.{◌≡◌, ◌⊎◌, ⊤, ℕ, ◌≤◌, nat_eq, if◌then◌else◌, List, [], ◌∷◌, ◌++◌, true, Option, Some, None, IfSome, unwrap_or, codes, string_bytes}
+use Rattle.std.specs.List.{starts_with}
 use Rattle.clap.specs.Words.{App, Row, Rule, Text, all_of, new_app, new_rule, one_of, subcommand_of, with_rule, with_subcommand}
 use Rattle.clap.specs.Kinds.{Kinds, IsAmong}
 use Rattle.clap.specs.Faults.{fault_of}
 use Rattle.clap.specs.declared.builder.action.ArgAction.TheVariants.{Append, SetTrue}
 use Rattle.clap.specs.declared.builder.value_parser.ValueParser.TheVariants.{Unsigned}
 use Rattle.clap.specs.declared.error.kind.ErrorKind.{ErrorKind}
-use Rattle.clap.specs.declared.error.kind.ErrorKind.TheVariants.{DisplayHelp, DisplayVersion, OutOfMemory}
+use Rattle.clap.specs.declared.error.kind.ErrorKind.TheVariants.{DisplayHelp, DisplayVersion, InvalidSubcommand, OutOfMemory, UnknownArgument}
 use Rattle.bit_grammar.specs.declared.info.RecordName.{RecordName}
 use Rattle.bit_grammar.specs.declared.shapes.Shapes.{Shapes}
 use Rattle.bit_grammar.specs.declared.shapes.Shapes.TheVariants.{AtDefinition, AtUse}
@@ -72,17 +73,13 @@ with_numbers name = with_rule (with_rule (with_rule (new_app name) bytes_rule) d
 abbrev pub with_limits : Text → App
 with_limits name = with_rule (with_numbers name) (flag_rule (codes "shapes-at-use"))
 
--- a command that may leave out blocks and records too
+-- a command that may leave out blocks and records too, with a flag for BLOCKINFO blocks
 abbrev pub leaving : Text → App
-leaving name = with_rule (with_rule (with_limits name) (name_rule (codes "drop-block")))
-    (name_rule (codes "drop-record"))
-
--- and has a flag for BLOCKINFO blocks
-abbrev pub dropping : Text → App
-dropping name = with_rule (leaving name) (flag_rule (codes "drop-info"))
+leaving name = with_rule (with_rule (with_rule (with_limits name) (name_rule (codes "drop-block")))
+    (name_rule (codes "drop-record"))) (flag_rule (codes "drop-info"))
 
 abbrev pub comparing : App
-comparing = with_rule (with_rule (with_rule (dropping (codes "same")) first_rule)
+comparing = with_rule (with_rule (with_rule (leaving (codes "same")) first_rule)
     (flag_rule (codes "where"))) (flag_rule (codes "json"))
 
 -- a command that may write JSON lines
@@ -109,7 +106,7 @@ for_all_commands = record {
 abbrev pub bitstool : App
 bitstool = with_subcommand (with_subcommand (with_subcommand (with_subcommand (with_subcommand
     (with_subcommand (with_subcommand for_all_commands (with_limits (codes "check")).top)
-    (dropping (codes "normal")).top) comparing.top) (with_json (codes "analyse")).top)
+    (leaving (codes "normal")).top) comparing.top) (with_json (codes "analyse")).top)
     (leaving (codes "show")).top) telling.top) (with_numbers (codes "assemble")).top
 
 -- ---- the result of a parse
@@ -286,10 +283,20 @@ GivesNoTask words kind = (kind ≡ OutOfMemory) ⊎ IsAmong kind (faults_of word
 abbrev pub EndsLine : Text → Type 0
 EndsLine text = (front : Text) × (text ≡ front ++ 10 ∷ [])
 
--- The text is the displayed text, if that is known, with the tip after it, to the end of a line.
-abbrev pub Shows : Option Text → (tip text : Text) → Type 0
-Shows output tip text = EndsLine text × ((displayed : Text) × IfSome output (λ bytes. displayed ≡ bytes)
-    × ((text ≡ displayed ++ tip) ⊎ (text ≡ (displayed ++ tip) ++ 10 ∷ [])))
+-- where the input is read from
+abbrev pub input_tip : Text
+input_tip = codes "\n  tip: the input is read from standard input, as in 'bitstool check < FILE'; no file is opened,\n  so no input can make the program touch one; 'bitsame FILE OTHER' compares two files\n"
+
+-- The tip after the displayed text of a fault: `input_tip`, if the fault is a word that may be the name of a file.
+abbrev pub tip_of : ErrorKind → Text → Text
+tip_of InvalidSubcommand displayed = input_tip
+tip_of UnknownArgument displayed = if starts_with nat_eq displayed (codes "error: unexpected argument '--") then [] else input_tip
+tip_of kind displayed = []
+
+-- The text is the displayed text, if that is known, with its tip after it, to the end of a line.
+abbrev pub Shows : Option Text → ErrorKind → (text : Text) → Type 0
+Shows output kind text = EndsLine text × ((displayed : Text) × IfSome output (λ bytes. displayed ≡ bytes)
+    × ((text ≡ displayed ++ tip_of kind displayed) ⊎ (text ≡ (displayed ++ tip_of kind displayed) ++ 10 ∷ [])))
 
 -- the text of a usage fault
 abbrev pub IsFaultText : Text → Type 0

@@ -4,7 +4,7 @@ ghost use Rattle.std.specs.Prelude.{◌≡◌, ◌<◌, ◌^◌, ◌↔◌, ℕ,
 ghost use Rattle.bitstool.specs.declared.task.Parsed.{Parsed as ParsedValue};
 ghost use Rattle.clap.specs.Words.{app_of, found_of, kind_of, rows_of, rule_of, subcommand_rows_of};
 ghost use Rattle.bitstool.specs.Words.{with_numbers, FindsAll, HasAllLimits, HasExplain, HasFormat, HasLimits, HasLeftOut, HasNumber, HasShapes, HasStyle, HasValues, IsGiven, IsNormal, IsSame, IsShow, Means, Misnamed, MisnamedIn, MisnamesIn, Says, GivesNoTask, Shows, ShowsError, TellsOf, NamesBlocks, NamesRecords};
-ghost use Rattle.bitstool.specs.Words.{for_all_commands, bitstool, flag_rule, leaving, limit_rule, with_json, with_limits, name_rule, number_rule, dropping, comparing, telling, wrong_value};
+ghost use Rattle.bitstool.specs.Words.{for_all_commands, bitstool, flag_rule, leaving, limit_rule, with_json, with_limits, name_rule, number_rule, comparing, telling, tip_of, wrong_value};
 
 use crate::names::{Unnamed, blocks_named, records_named};
 use crate::task::{Explain, LeftOut, Parsed, Task};
@@ -97,7 +97,8 @@ const FIRST: &str = "Number of bytes of the first input; the rest is the second;
 at most 17179869180";
 
 const TIP: &str = "
-  tip: the input is read from standard input, as in 'bitstool < FILE'
+  tip: the input is read from standard input, as in 'bitstool check < FILE'; no file is opened,
+  so no input can make the program touch one; 'bitsame FILE OTHER' compares two files
 ";
 
 /// An option with a number from 0 to `most`.
@@ -178,15 +179,11 @@ fn leaving<'a>(alloc: Global, name: &'a str, about: &'a str) -> Result<Command<'
 {
     let blocks = name_option(alloc, "drop-block", "ID", BLOCKS);
     let records = name_option(alloc, "drop-record", "ID:CODE", RECORDS);
-    with_limits(alloc, name, about)?.arg(blocks)?.arg(records)
-}
-
-/// The same with the flag for BLOCKINFO blocks.
-fn dropping<'a>(alloc: Global, name: &'a str, about: &'a str) -> Result<Command<'a>, AllocError>
-    ensures { IfOk result (λ command. app_of command ≡ (dropping name.entry.now)) }
-{
     let info = flag(alloc, "drop-info", INFO);
-    leaving(alloc, name, about)?.arg(info)
+    with_limits(alloc, name, about)?
+        .arg(blocks)?
+        .arg(records)?
+        .arg(info)
 }
 
 /// The command that compares two inputs.
@@ -198,7 +195,7 @@ fn comparing<'a>(alloc: Global) -> Result<Command<'a>, AllocError>
         .help(FIRST);
     let place = flag(alloc, "where", "Print also where they first differ");
     let json = flag(alloc, "json", SAME_JSON);
-    dropping(alloc, "same", SAME)?
+    leaving(alloc, "same", SAME)?
         .arg(first)?
         .arg(place)?
         .arg(json)
@@ -240,7 +237,7 @@ fn command<'a>(alloc: Global) -> Result<Command<'a>, AllocError>
     ensures { IfOk result (λ command. app_of command ≡ bitstool) }
 {
     let check = with_limits(alloc, "check", CHECK)?;
-    let normal = dropping(alloc, "normal", NORMAL)?;
+    let normal = leaving(alloc, "normal", NORMAL)?;
     let same = comparing(alloc)?;
     let analyse = with_json(alloc, "analyse", ANALYSE)?;
     let show = leaving(alloc, "show", SHOW)?;
@@ -499,11 +496,30 @@ fn fault_of_names(alloc: Global, why: Unnamed<'_>) -> Parsed
     }
 }
 
-/// The text that an error displays, then this text, and the end of the line if it is missing.
-fn shown<E: Display>(alloc: Global, error: &E, tip: &str) -> Result<String, AllocError>
-    ensures { IfOk result (λ text. Shows (E.output error.now) tip.now (string_bytes text)) }
+/// The tip after the text of an error of this kind: where the input is read from, if a word may be the name of a file. An unknown
+/// option is none, and only the text of the error says which word it is about.
+fn tip_of(kind: ErrorKind, text: &str) -> &'static str
+    ensures { result.now ≡ tip_of kind text.now }
+{
+    match kind {
+        ErrorKind::InvalidSubcommand => TIP,
+        ErrorKind::UnknownArgument => {
+            if text.starts_with("error: unexpected argument '--") {
+                ""
+            } else {
+                TIP
+            }
+        }
+        _ => "",
+    }
+}
+
+/// The text that an error displays, then its tip, and the end of the line if it is missing.
+fn shown<E: Display>(alloc: Global, error: &E, kind: ErrorKind) -> Result<String, AllocError>
+    ensures { IfOk result (λ text. Shows (E.output error.now) kind (string_bytes text)) }
 {
     let mut text = error.to_string(alloc)?;
+    let tip = tip_of(kind, &text);
     text.push_str(tip)?;
     if text.ends_with('\n') {
         return Ok(text);
@@ -516,11 +532,7 @@ fn shown<E: Display>(alloc: Global, error: &E, tip: &str) -> Result<String, Allo
 fn text_of_error(alloc: Global, error: &Error) -> Result<Parsed, AllocError>
     ensures { IfOk result (λ parsed. ShowsError (kind_of error.now) parsed) }
 {
-    let tip = match error.kind() {
-        ErrorKind::InvalidSubcommand => TIP,
-        _ => "",
-    };
-    let text = shown(alloc, error, tip)?;
+    let text = shown(alloc, error, error.kind())?;
     if !error.use_stderr() {
         return Ok(Parsed::Help(text));
     }

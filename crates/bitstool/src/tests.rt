@@ -369,8 +369,13 @@ fn where_inputs_first_differ(rt: HostRuntime) -> Result<(), Fail> {
 }
 
 /// The part of `INFO` that is kept under names.
-static LEFT: [Row; 6] = [
+static LEFT: [Row; 7] = [
     ("normal --drop-block 0", (&INFO, &[]), (0, &DROPPED, "")),
+    (
+        "show --drop-info",
+        (&INFO, &[]),
+        (0, b"magic 4243c0de\nblock 8\n  record 1 100\n", ""),
+    ),
     (
         "normal --drop-block=8 --drop-block 0",
         (&INFO, &[]),
@@ -638,7 +643,6 @@ fn all_tell(
 static NO_COMMANDS: &str = "analyse --drop-info
 events --drop-info
 show --no-values
-show --drop-info
 show --first 4
 show analyse
 --bytes 4
@@ -689,7 +693,7 @@ fn events_before_a_fault_and_the_version(rt: HostRuntime) -> Result<(), Fail> {
 
 #[test]
 fn words_that_are_no_command_and_help(rt: HostRuntime) -> Result<(), Fail> {
-    all_tell(&rt, rt.alloc(), NO_COMMANDS, 24, (2, false, true))?;
+    all_tell(&rt, rt.alloc(), NO_COMMANDS, 23, (2, false, true))?;
     all_tell(&rt, rt.alloc(), HELP, 8, (0, true, false))?;
     Ok(())
 }
