@@ -1,5 +1,5 @@
 -- What is read of a text is what it lists, in the words of the format.
-use Rattle.std.proofs.Common.{◌≡◌, refl, ℕ, suc, ◌+◌, ◌*◌, ◌/◌, ◌%◌, ◌^◌, ◌<◌, ◌⊎◌, inl, inr, Bool, true, false, nat_eq, nat_lt, List, [], ◌∷◌, ◌++◌, ◌&&◌, length, drop, replicate, Option, Some, None, Result, Ok, Err, if◌then◌else◌, sym, ◌∙◌, ap, subst, arith, append_assoc, append-nil}
+use Rattle.std.proofs.Common.{◌≡◌, refl, ℕ, suc, ◌+◌, ◌*◌, ◌/◌, ◌%◌, ◌^◌, ◌<◌, ◌≤◌, ◌⊎◌, inl, inr, Bool, true, false, nat_eq, nat_lt, List, [], ◌∷◌, ◌++◌, ◌&&◌, length, drop, replicate, Option, Some, None, Result, Ok, Err, if◌then◌else◌, sym, ◌∙◌, ap, subst, arith, append_assoc, append-nil}
 use Rattle.std.specs.Prelude.{codes, flat_map, slice_index}
 use Rattle.std.specs.List.{AllByRecursion}
 use Rattle.std.specs.Fmt.{digit_glyph}
@@ -9,22 +9,23 @@ use Rattle.std.proofs.lemmas.Bool.Decides.{nat_tests}
 use Rattle.bit_grammar.specs.Blocks.{Limits}
 use Rattle.bit_grammar.specs.Forest.{Tree, wrapper_magic}
 use Rattle.bit_grammar.specs.Texts.{hex_text}
+use Rattle.bit_grammar.specs.Normal.{Capped}
 use Rattle.bit_fields.specs.Opening.{magic_number}
 use Rattle.bit_grammar.specs.FormatListing.{AreParts, AreDigits, IsNumber, SpellEach, SpellsNumbers, Item, of_block, of_record, IsItem, Entry, IsEntry, IsFree, IsFreeLine, HaveEntries, IsMagicLine, AreListing}
-use Rattle.bit_norm.specs.Telling.{Call, begins, holds, at_top, fits, where_after}
+use Rattle.bit_norm.specs.Telling.{Call, begins, holds, Where, at_top, fits, where_after, AreFit}
 use Rattle.bit_text.specs.declared.reason.TextReason.{TextReason}
 use Rattle.bit_text.specs.declared.reason.TextReason.TheVariants.{WrapperMagic, BadLine, NumberTooLarge, BadIndentation}
 use Rattle.bit_text.specs.Numbers.{and_then, behind, digits, digits_after, hexadecimal_or_decimal, number, numbers_after, parts_after, lines, words}
 use Rattle.bit_text.specs.Lines.{spaces, content, is_free, is_low_digit, byte_of, four, four_bytes, magic_of, item_of, record_of, block_of, record_or_block}
 use Rattle.bit_text.specs.Listings.{Standing, at_start, behind_magic, begun, misfit, ends_before, item_calls, said, after_line, goes_on, told_all, lines_read, next_line, reading_of}
-use Rattle.bit_text.specs.Entries.{called, told_with, calls_with, Lists}
+use Rattle.bit_text.specs.Entries.{entries_of, Lists}
 use Rattle.bit_text.proofs.Decimals.{Lacks, lacks_append}
+use Rattle.bit_text.proofs.Entries.{called, open_after, told_with, entries_told, entry_told, entries_of_told}
+use Rattle.bit_text.proofs.Fitting.{is_lower, is_other, Good, line_good, read_fit}
+use Rattle.bit_text.proofs.FromWords.{behind_each}
 
-is_lower : (a b : ℕ) → nat_lt a b ≡ true → a < b
-is_lower a b h = grind (arith, nat_tests)
-
-is_other : (a b : ℕ) → nat_eq a b ≡ false → a ≡ b → ⊥
-is_other a b h e = grind (arith, nat_tests)
+at_most : (a b : ℕ) → nat_lt a b ≡ false → b ≤ a
+at_most a b h = grind (arith, nat_tests)
 
 is_same : (a b : ℕ) → nat_eq a b ≡ true → a ≡ b
 is_same a b h = grind (arith, nat_tests)
@@ -81,10 +82,6 @@ words_are before all (word ∷ parts) h =
     word_then (number word) word before all parts (λ n e. number_is (behind (codes "0x") word) word n (λ text is. behind_of (codes "0x") word text is) e)
     (λ n k. words_are (before ++ n ∷ []) all parts k) h
 
--- parts with a separator before each
-abbrev behind_each : (separator : ℕ) → List (List ℕ) → List ℕ
-behind_each separator parts = flat_map (λ part. separator ∷ part) parts
-
 part_joined : (t : Bool) (separator : ℕ) (front : List ℕ) (b : ℕ) (text : List ℕ) → nat_eq b separator ≡ t → behind_each separator (parts_after separator [] text) ≡ separator ∷ text
     → behind_each separator (parts_after separator (front ++ b ∷ []) text) ≡ separator ∷ ((front ++ b ∷ []) ++ text)
     → behind_each separator (if t then front ∷ parts_after separator [] text else parts_after separator (front ++ b ∷ []) text) ≡ separator ∷ (front ++ b ∷ text)
@@ -105,10 +102,10 @@ parts_apart : (separator : ℕ) (front text : List ℕ) → Lacks separator fron
 parts_apart separator front [] lacks = (lacks, tt)
 parts_apart separator front (b ∷ text) lacks = part_apart (nat_eq b separator) separator front b text refl lacks (parts_apart separator [] text tt) (parts_apart separator (front ++ b ∷ []) text)
 
-parts_are : (separator : ℕ) (text : List ℕ) → AreParts separator text (parts_after separator [] text)
+pub parts_are : (separator : ℕ) (text : List ℕ) → AreParts separator text (parts_after separator [] text)
 parts_are separator text = record { joined = sym (parts_joined separator [] text); apart = parts_apart separator [] text tt }
 
-numbers_are : (text all : List ℕ) → numbers_after [] (words text) ≡ Ok all → SpellsNumbers text all
+pub numbers_are : (text all : List ℕ) → numbers_after [] (words text) ≡ Ok all → SpellsNumbers text all
 numbers_are text all h =
     let p = words_are [] all (words text) h in
     (words text, parts_are 32 text, subst (SpellEach (words text)) (sym p.1) p.2)
@@ -166,17 +163,17 @@ says_nothing : (text : List ℕ) → is_free text ≡ true → IsFree text
 says_nothing [] h = tt
 says_nothing (b ∷ text) h = is_same b 35 h
 
-calls_by : (deep even fit : Bool) (n : ℕ) (calls more : List Call) (reason : TextReason) → nat_eq (n % 2) 0 ≡ even
-    → (if deep then Err BadIndentation else (if even then (if fit then Ok calls else Err reason) else Err BadIndentation)) ≡ Ok more → (n % 2 ≡ 0) × (calls ≡ more)
-calls_by false true true n calls more reason is h = (is_same (n % 2) 0 is, cc)
-calls_by false true false n calls more reason is h = absurd cc
-calls_by false false fit n calls more reason is h = absurd cc
-calls_by true even fit n calls more reason is h = absurd cc
+still_open : (deep even fit : Bool) (n : ℕ) (w : Where) (calls more : List Call) (reason : TextReason) → nat_lt w.depth (n / 2) ≡ deep → nat_eq (n % 2) 0 ≡ even
+    → (if deep then Err BadIndentation else (if even then (if fit then Ok calls else Err reason) else Err BadIndentation)) ≡ Ok more → (n / 2 ≤ w.depth) × (n % 2 ≡ 0) × (calls ≡ more)
+still_open false true true n w calls more reason here is h = (at_most w.depth (n / 2) here, is_same (n % 2) 0 is, cc)
+still_open false true false n w calls more reason here is h = absurd cc
+still_open false false fit n w calls more reason here is h = absurd cc
+still_open true even fit n w calls more reason here is h = absurd cc
 
 -- a line says nothing, or has an entry
 abbrev LineIs : (magic : List ℕ) → List Call → (line : List ℕ) → Standing → Type 0
 LineIs magic calls line later = (IsFreeLine line × (later ≡ behind_magic magic calls))
-    ⊎ ((e : Entry) × (later ≡ behind_magic magic (told_with calls e)) × IsEntry line e)
+    ⊎ ((e : Entry) × (later ≡ behind_magic magic (told_with calls e)) × (e.around ≤ open_after calls) × IsEntry line e)
 
 entry_is : (limits : Limits) (magic : List ℕ) (calls more : List Call) (line : List ℕ) (call : Call) (later : Standing) → item_of (content line) ≡ Ok call
     → item_calls limits (where_after calls at_top) (spaces line) call ≡ Ok more → behind_magic magic (calls ++ more) ≡ later → LineIs magic calls line later
@@ -184,11 +181,14 @@ entry_is limits magic calls more line call later item read same =
     let w = where_after calls at_top in
     let closing = ends_before w (spaces line) in
     let p = item_is (content line) call item in
-    let q = calls_by (nat_lt w.depth (spaces line / 2)) (nat_eq (spaces line % 2) 0) (fits limits (where_after closing w) call) (spaces line) (closing ++ call ∷ []) more (misfit limits (where_after closing w) call) refl read in
+    let q = still_open (nat_lt w.depth (spaces line / 2)) (nat_eq (spaces line % 2) 0) (fits limits (where_after closing w) call) (spaces line) w (closing ++ call ∷ []) more (misfit limits (where_after closing w) call) refl refl read in
     let e : Entry = record { around = spaces line / 2; item = p.0 } in
-    let twice : spaces line ≡ 2 * (spaces line / 2) = omega (arith, q.0) in
-    let told : later ≡ behind_magic magic (told_with calls e) = sym same ∙ ap (λ (m : List Call). behind_magic magic (calls ++ m)) (sym q.1 ∙ ap (λ (c : Call). closing ++ c ∷ []) p.1) in
-    inr (e, told, (content line, spaces_are line ∙ ap (λ (n : ℕ). replicate n 32 ++ content line) twice, p.2))
+    let twice : spaces line ≡ 2 * (spaces line / 2) = omega (arith, q.1) in
+    let told : later ≡ behind_magic magic (told_with calls e) =
+    sym same
+    ∙ ap (λ (m : List Call). behind_magic magic (calls ++ m)) (sym q.2 ∙ ap (λ (c : Call). closing ++ c ∷ []) p.1)
+    ∙ ap (λ (cs : List Call). behind_magic magic cs) (sym (append_assoc calls closing (called p.0 ∷ []))) in
+    inr (e, told, q.0, (content line, spaces_are line ∙ ap (λ (n : ℕ). replicate n 32 ++ content line) twice, p.2))
 
 more_then : (r : Result (List Call) TextReason) (magic : List ℕ) (calls : List Call) (line : List ℕ) (later : Standing) → ((more : List Call) → r ≡ Ok more → behind_magic magic (calls ++ more) ≡ later → LineIs magic calls line later)
     → and_then r (λ more. Ok (behind_magic magic (calls ++ more))) ≡ Ok later → LineIs magic calls line later
@@ -208,30 +208,47 @@ free_or_said limits true magic calls line later free h =
     inl ((spaces line, content line, spaces_are line, says_nothing (content line) free), e)
 free_or_said limits false magic calls line later free h = item_then limits (item_of (content line)) magic calls line later refl h
 
--- lines have entries, which tell a tree
-abbrev TreeOf : (magic : List ℕ) → List Call → (lines : List (List ℕ)) → Tree → Type 0
-TreeOf magic calls lines tree = (entries : List Entry) × HaveEntries lines entries × (tree ≡ told_all magic (calls_with calls entries))
+-- lines have entries, which calls tell with those before them, and so a tree
+record TreeOf (limits : Limits) (magic : List ℕ) (calls : List Call) (lines : List (List ℕ)) (tree : Tree) : Type 0 where
+  pub all : List Call
+  pub entries : List Entry
+  pub have : HaveEntries lines entries
+  pub told : entries_told 0 all ≡ entries_told 0 calls ++ entries
+  pub fit : AreFit limits at_top all
+  pub is : tree ≡ told_all magic all
 
-line_and_others : (magic : List ℕ) (calls : List Call) (line : List ℕ) (others : List (List ℕ)) (later : Standing) (tree : Tree) (read : Standing → Result Tree (TextReason × ℕ)) → LineIs magic calls line later
-    → ((told : List Call) → read (behind_magic magic told) ≡ Ok tree → TreeOf magic told others tree) → read later ≡ Ok tree → TreeOf magic calls (line ∷ others) tree
-line_and_others magic calls line others later tree read (inl (free, same)) more h =
-    let p = more calls (ap read (sym same) ∙ h) in
-    (p.0, inl (free, p.1), p.2)
-line_and_others magic calls line others later tree read (inr (e, same, is)) more h =
-    let p = more (told_with calls e) (ap read (sym same) ∙ h) in
-    (e ∷ p.0, inr (e, p.0, refl, is, p.1), p.2)
+line_and_others : (limits : Limits) (magic : List ℕ) (calls : List Call) (line : List ℕ) (others : List (List ℕ)) (later : Standing) (tree : Tree) (read : Standing → Result Tree (TextReason × ℕ)) → LineIs magic calls line later → Good limits later
+    → ((told : List Call) → Good limits (behind_magic magic told) → read (behind_magic magic told) ≡ Ok tree → TreeOf limits magic told others tree) → read later ≡ Ok tree → TreeOf limits magic calls (line ∷ others) tree
+line_and_others limits magic calls line others later tree read (inl (free, same)) good more h =
+    let p = more calls (subst (Good limits) same good) (ap read (sym same) ∙ h) in
+    record { all = p.all; entries = p.entries; have = inl (free, p.have); told = p.told; fit = p.fit; is = p.is }
+line_and_others limits magic calls line others later tree read (inr (e, same, deep, is)) good more h =
+    let p = more (told_with calls e) (subst (Good limits) same good) (ap read (sym same) ∙ h) in
+    record {
+      all = p.all;
+      entries = e ∷ p.entries;
+      have = inr (e, p.entries, refl, is, p.have);
+      told = p.told ∙ ap (λ (es : List Entry). es ++ p.entries) (entry_told calls e deep) ∙ append_assoc (entries_told 0 calls) (e ∷ []) p.entries;
+      fit = p.fit;
+      is = p.is;
+    }
 
-line_then : (number : ℕ) (r : Result Standing TextReason) (magic : List ℕ) (calls : List Call) (line : List ℕ) (others : List (List ℕ)) (tree : Tree) (read : Standing → Result Tree (TextReason × ℕ)) → ((later : Standing) → r ≡ Ok later → LineIs magic calls line later)
-    → ((told : List Call) → read (behind_magic magic told) ≡ Ok tree → TreeOf magic told others tree) → goes_on number r read ≡ Ok tree → TreeOf magic calls (line ∷ others) tree
-line_then number (Ok later) magic calls line others tree read is more h = line_and_others magic calls line others later tree read (is later refl) more h
-line_then number (Err reason) magic calls line others tree read is more h = absurd cc
+line_then : (limits : Limits) (number : ℕ) (r : Result Standing TextReason) (magic : List ℕ) (calls : List Call) (line : List ℕ) (others : List (List ℕ)) (tree : Tree) (read : Standing → Result Tree (TextReason × ℕ))
+    → ((later : Standing) → r ≡ Ok later → LineIs magic calls line later × Good limits later)
+    → ((told : List Call) → Good limits (behind_magic magic told) → read (behind_magic magic told) ≡ Ok tree → TreeOf limits magic told others tree) → goes_on number r read ≡ Ok tree → TreeOf limits magic calls (line ∷ others) tree
+line_then limits number (Ok later) magic calls line others tree read is more h = let p = is later refl in line_and_others limits magic calls line others later tree read p.0 p.1 more h
+line_then limits number (Err reason) magic calls line others tree read is more h = absurd cc
 
-pub lines_are : (limits : Limits) (number : ℕ) (magic : List ℕ) (calls : List Call) (lines : List (List ℕ)) (tree : Tree) → lines_read limits number (behind_magic magic calls) lines ≡ Ok tree → TreeOf magic calls lines tree
-lines_are limits number magic calls [] tree h = let e : tree ≡ told_all magic calls = cc in ([], refl, e)
-lines_are limits number magic calls (line ∷ lines) tree h =
+lines_are : (limits : Limits) (number : ℕ) (magic : List ℕ) (calls : List Call) (lines : List (List ℕ)) (tree : Tree) → Good limits (behind_magic magic calls) → lines_read limits number (behind_magic magic calls) lines ≡ Ok tree → TreeOf limits magic calls lines tree
+lines_are limits number magic calls [] tree good h =
+    let e : tree ≡ told_all magic calls = cc in
+    record { all = calls; entries = []; have = refl; told = sym (append-nil (entries_told 0 calls)); fit = good.2; is = e }
+lines_are limits number magic calls (line ∷ lines) tree good h =
     let next = next_line number in
-    line_then next (after_line limits (behind_magic magic calls) line) magic calls line lines tree (λ later. lines_read limits next later lines) (λ later e. free_or_said limits (is_free (content line)) magic calls line later refl e)
-    (λ told k. lines_are limits next magic told lines tree k) h
+    let now = behind_magic magic calls in
+    line_then limits next (after_line limits now line) magic calls line lines tree (λ later. lines_read limits next later lines)
+    (λ later e. (free_or_said limits (is_free (content line)) magic calls line later refl e, line_good limits now line later good e))
+    (λ told g k. lines_are limits next magic told lines tree g k) h
 
 -- ---- the magic
 
@@ -322,32 +339,42 @@ first_is : (limits : Limits) (t : Bool) (line : List ℕ) (later : Standing) →
 first_is limits true line later free h = let e : later ≡ at_start = cc in inl ((spaces line, content line, spaces_are line, says_nothing (content line) free), e)
 first_is limits false line later free h = begun_is (magic_of line) line later (λ magic e. magic_is line magic e) h
 
--- lines list a tree
-abbrev ListTree : (lines : List (List ℕ)) → Tree → Type 0
-ListTree lines tree = (magic : List ℕ) × (entries : List Entry) × AreListing lines magic entries × (tree ≡ told_all magic (calls_with [] entries))
+-- lines have a magic, and then entries that tell a tree
+record ListTree (limits : Limits) (lines : List (List ℕ)) (tree : Tree) : Type 0 where
+  pub magic : List ℕ
+  pub all : List Call
+  pub are : AreListing lines magic (entries_told 0 all)
+  pub fit : AreFit limits at_top all
+  pub is : tree ≡ told_all magic all
 
-first_and_others : (line : List ℕ) (others : List (List ℕ)) (later : Standing) (tree : Tree) (read : Standing → Result Tree (TextReason × ℕ)) → FirstIs line later → (read at_start ≡ Ok tree → ListTree others tree)
-    → ((magic : List ℕ) → read (behind_magic magic []) ≡ Ok tree → TreeOf magic [] others tree) → read later ≡ Ok tree → ListTree (line ∷ others) tree
-first_and_others line others later tree read (inl (free, same)) more items h =
+first_and_others : (limits : Limits) (line : List ℕ) (others : List (List ℕ)) (later : Standing) (tree : Tree) (read : Standing → Result Tree (TextReason × ℕ)) → FirstIs line later → Good limits later → (read at_start ≡ Ok tree → ListTree limits others tree)
+    → ((magic : List ℕ) → Good limits (behind_magic magic []) → read (behind_magic magic []) ≡ Ok tree → TreeOf limits magic [] others tree) → read later ≡ Ok tree → ListTree limits (line ∷ others) tree
+first_and_others limits line others later tree read (inl (free, same)) good more items h =
     let p = more (ap read (sym same) ∙ h) in
-    (p.0, p.1, inl (free, p.2), p.3)
-first_and_others line others later tree read (inr (magic, same, is)) more items h =
-    let p = items magic (ap read (sym same) ∙ h) in
-    (magic, p.0, inr (is, p.1), p.2)
+    record { magic = p.magic; all = p.all; are = inl (free, p.are); fit = p.fit; is = p.is }
+first_and_others limits line others later tree read (inr (magic, same, is)) good more items h =
+    let p = items magic (subst (Good limits) same good) (ap read (sym same) ∙ h) in
+    record { magic = magic; all = p.all; are = inr (is, subst (HaveEntries others) (sym p.told) p.have); fit = p.fit; is = p.is }
 
-first_then : (number : ℕ) (r : Result Standing TextReason) (line : List ℕ) (others : List (List ℕ)) (tree : Tree) (read : Standing → Result Tree (TextReason × ℕ)) → ((later : Standing) → r ≡ Ok later → FirstIs line later) → (read at_start ≡ Ok tree → ListTree others tree)
-    → ((magic : List ℕ) → read (behind_magic magic []) ≡ Ok tree → TreeOf magic [] others tree) → goes_on number r read ≡ Ok tree → ListTree (line ∷ others) tree
-first_then number (Ok later) line others tree read is more items h = first_and_others line others later tree read (is later refl) more items h
-first_then number (Err reason) line others tree read is more items h = absurd cc
+first_then : (limits : Limits) (number : ℕ) (r : Result Standing TextReason) (line : List ℕ) (others : List (List ℕ)) (tree : Tree) (read : Standing → Result Tree (TextReason × ℕ))
+    → ((later : Standing) → r ≡ Ok later → FirstIs line later × Good limits later) → (read at_start ≡ Ok tree → ListTree limits others tree)
+    → ((magic : List ℕ) → Good limits (behind_magic magic []) → read (behind_magic magic []) ≡ Ok tree → TreeOf limits magic [] others tree) → goes_on number r read ≡ Ok tree → ListTree limits (line ∷ others) tree
+first_then limits number (Ok later) line others tree read is more items h = let p = is later refl in first_and_others limits line others later tree read p.0 p.1 more items h
+first_then limits number (Err reason) line others tree read is more items h = absurd cc
 
-all_lines_are : (limits : Limits) (number : ℕ) (lines : List (List ℕ)) (tree : Tree) → lines_read limits number at_start lines ≡ Ok tree → ListTree lines tree
+all_lines_are : (limits : Limits) (number : ℕ) (lines : List (List ℕ)) (tree : Tree) → lines_read limits number at_start lines ≡ Ok tree → ListTree limits lines tree
 all_lines_are limits number [] tree h = absurd cc
 all_lines_are limits number (line ∷ lines) tree h =
     let next = next_line number in
-    first_then next (after_line limits at_start line) line lines tree (λ later. lines_read limits next later lines) (λ later e. first_is limits (is_free (content line)) line later refl e)
-    (λ k. all_lines_are limits next lines tree k) (λ magic k. lines_are limits next magic [] lines tree k) h
+    first_then limits next (after_line limits at_start line) line lines tree (λ later. lines_read limits next later lines)
+    (λ later e. (first_is limits (is_free (content line)) line later refl e, line_good limits at_start line later tt e))
+    (λ k. all_lines_are limits next lines tree k) (λ magic good k. lines_are limits next magic [] lines tree good k) h
 
-pub text_lists : (limits : Limits) (text : List ℕ) (tree : Tree) → reading_of limits text ≡ Ok tree → Lists text tree
-text_lists limits text tree h =
-    let p = all_lines_are limits 0 (lines text) tree h in
-    (p.0, p.1, (lines text, parts_are 10 text, p.2), p.3)
+pub text_lists : (limits : Limits) (text : List ℕ) (tree : Tree) → Capped limits → reading_of limits text ≡ Ok tree → Lists limits text tree
+text_lists limits text tree capped h =
+    let p = all_lines_are limits 0 (lines text) tree h in (
+      p.magic,
+      entries_told 0 p.all,
+      (lines text, parts_are 10 text, p.are),
+      record { number = sym (ap (λ (t : Tree). t.magic) p.is); items = entries_of_told limits p.all p.fit ∙ ap (λ (t : Tree). entries_of 0 t.blocks) (sym p.is); fit = read_fit limits text tree capped h },
+    )

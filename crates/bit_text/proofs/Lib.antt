@@ -1,7 +1,9 @@
 pub mod Decimals
 pub mod Digits
+pub mod Entries
 pub mod Finishing
 pub mod Fitting
+pub mod FromWords
 pub mod Rows
 pub mod Sources
 pub mod InWords
