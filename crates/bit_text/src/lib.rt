@@ -21,5 +21,5 @@ mod tests;
 
 pub use assembling::assemble;
 pub use fault::AssembleFault;
-pub use laws::{listing_exact, listing_spells};
+pub use laws::{listing_exact, listing_spells, shown_assembled};
 pub use reason::TextReason;
