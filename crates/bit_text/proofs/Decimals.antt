@@ -39,7 +39,7 @@ pub same_none : (t : Bool) → let none : Option (List ℕ) = None in (if t then
 same_none true = refl
 same_none false = refl
 
-no_x : (d : ℕ) → digit_value d < 10 → d ≡ 120 → ⊥
+pub no_x : (d : ℕ) → digit_value d < 10 → d ≡ 120 → ⊥
 no_x d h e = let k : digit_value 120 < 10 = rw e at h in absurd (omega (arith, k))
 
 pub not_hexadecimal : (ds : List ℕ) → AllDigits 10 ds → behind (codes "0x") ds ≡ None

@@ -1,13 +1,14 @@
 -- The items of a tree are those that its calls tell.
-use Rattle.std.proofs.Common.{◌≡◌, refl, ℕ, zero, suc, ◌+◌, ◌-◌, ◌≤◌, List, [], ◌∷◌, ◌++◌, replicate, true, sym, ◌∙◌, ap, subst, arith, append_assoc, append-nil}
+use Rattle.std.proofs.Common.{◌≡◌, refl, ℕ, zero, suc, ◌+◌, ◌-◌, ◌≤◌, List, [], ◌∷◌, ◌++◌, length, replicate, true, sym, ◌∙◌, ap, subst, arith, append_assoc, append-nil}
 use Rattle.std.proofs.lemmas.List.{replicate_more}
 use Rattle.bit_grammar.specs.Blocks.{Limits}
-use Rattle.bit_grammar.specs.Forest.{Forest, empty, a_block, a_record, Tree}
+use Rattle.bit_grammar.specs.Forest.{Forest, empty, a_block, a_record, Tree, forest_values}
 use Rattle.bit_grammar.specs.FormatListing.{Item, of_block, of_record, Entry}
 use Rattle.bit_norm.specs.Calls.{calls_of}
 use Rattle.bit_norm.specs.Telling.{Call, begins, holds, ends, Where, at_top, fits, after_call, where_after, told, AreFit, IsFit}
 use Rattle.bit_norm.proofs.Calls.{only_trees, tell_tree, fit_tree}
 use Rattle.bit_text.specs.Entries.{entries_of}
+use Rattle.bit_text.specs.Refusals.{open_with, blocks_open}
 use Rattle.bit_text.proofs.Fitting.{ends_fit, fit_append}
 use Rattle.bit_text.proofs.Tellings.{where_append, depth_ended}
 
@@ -205,12 +206,74 @@ forest_fits limits (a_block id inner others) around calls after deep fit =
           ∙ append_assoc (closed calls around) (call ∷ []) (calls_of inner (ends ∷ calls_of others [])),
     )
 
--- the entries of a tree fit, and tell it
-pub tree_entries : (limits : Limits) (tree : Tree) → IsFit limits tree → FitEntries limits [] (entries_of 0 tree.blocks)
-    × (told (calls_with [] (entries_of 0 tree.blocks) ++ replicate (open_after (calls_with [] (entries_of 0 tree.blocks))) ends) 0 ≡ tree.blocks)
-tree_entries limits tree h =
+-- the calls of the items of a tree, with no ends after the last one
+abbrev pub calls_in : Tree → List Call
+calls_in tree = calls_with [] (entries_of 0 tree.blocks)
+
+-- the entries of a tree fit, and their calls are those of the tree but for the last ends
+tree_calls : (limits : Limits) (tree : Tree) → IsFit limits tree → FitEntries limits [] (entries_of 0 tree.blocks) × (calls_in tree ++ replicate (open_after (calls_in tree)) ends ≡ calls_of tree.blocks [])
+tree_calls limits tree h =
     let i = forest_fits limits tree.blocks 0 [] [] (omega arith) (fit_tree limits tree h) in
-    let calls = calls_with [] (entries_of 0 tree.blocks) in
-    let all : calls ++ replicate (open_after calls) ends ≡ calls_of tree.blocks [] =
-    ap (λ (n : ℕ). calls ++ replicate n ends) (let same : open_after calls ≡ open_after calls - 0 = omega arith in same) ∙ i.2 in
-    (i.0, ap (λ (cs : List Call). told cs 0) all ∙ tell_tree tree)
+    let calls = calls_in tree in
+    (i.0, ap (λ (n : ℕ). calls ++ replicate n ends) (let same : open_after calls ≡ open_after calls - 0 = omega arith in same) ∙ i.2)
+
+pub tree_entries : (limits : Limits) (tree : Tree) → IsFit limits tree → FitEntries limits [] (entries_of 0 tree.blocks) × (told (calls_in tree ++ replicate (open_after (calls_in tree)) ends) 0 ≡ tree.blocks)
+tree_entries limits tree h =
+    let p = tree_calls limits tree h in
+    (p.0, ap (λ (cs : List Call). told cs 0) p.1 ∙ tell_tree tree)
+
+-- ---- where an item comes after those of a tree
+
+open_told : (calls : List Call) (around : ℕ) (item : Item) → around ≤ open_after calls → open_after (closed calls around ++ called item ∷ []) ≡ open_with around item
+open_told calls around (of_block id) h = ap (λ (p : Where). p.depth) (where_next (closed calls around) (begins id)) ∙ ap suc (depth_closed calls around h)
+open_told calls around (of_record code values) h = ap (λ (p : Where). p.depth) (where_next (closed calls around) (holds code values)) ∙ depth_closed calls around h
+
+open_is : (limits : Limits) (calls : List Call) (entries : List Entry) → FitEntries limits calls entries → open_after (calls_with calls entries) ≡ blocks_open (open_after calls) entries
+open_is limits calls [] fit = refl
+open_is limits calls (e ∷ entries) fit = open_is limits (told_with calls e) entries fit.2 ∙ ap (λ (n : ℕ). blocks_open n entries) (open_told calls e.around e.item fit.0)
+
+pub open_in_tree : (limits : Limits) (tree : Tree) → IsFit limits tree → open_after (calls_in tree) ≡ blocks_open 0 (entries_of 0 tree.blocks)
+open_in_tree limits tree h = open_is limits [] (entries_of 0 tree.blocks) (tree_calls limits tree h).0
+
+values_ended : (k : ℕ) (w : Where) → (where_after (replicate k ends) w).values ≡ w.values
+values_ended zero w = refl
+values_ended (suc k) w = values_ended k (after_call ends w)
+
+-- the values of all records that calls tell
+abbrev told_values : List Call → ℕ
+told_values [] = 0
+told_values (begins id ∷ calls) = told_values calls
+told_values (holds code values ∷ calls) = length values + told_values calls
+told_values (ends ∷ calls) = told_values calls
+
+values_after : (calls : List Call) (w : Where) → (where_after calls w).values ≡ w.values + told_values calls
+values_after [] w = omega arith
+values_after (begins id ∷ calls) w = values_after calls (after_call (begins id) w)
+values_after (holds code values ∷ calls) w = omega (arith, values_after calls (after_call (holds code values) w))
+values_after (ends ∷ calls) w = values_after calls (after_call ends w)
+
+values_of : (f : Forest) (after : List Call) → told_values (calls_of f after) ≡ forest_values f + told_values after
+values_of empty after = omega arith
+values_of (a_block id inner others) after = omega (arith, values_of inner (ends ∷ calls_of others after), values_of others after)
+values_of (a_record code values others) after = omega (arith, values_of others after)
+
+values_closed : (calls : List Call) (k : ℕ) → (where_after (calls ++ replicate k ends) at_top).values ≡ (where_after calls at_top).values
+values_closed calls k = ap (λ (p : Where). p.values) (where_append calls (replicate k ends) at_top) ∙ values_ended k (where_after calls at_top)
+
+pub values_in_tree : (limits : Limits) (tree : Tree) (around : ℕ) → IsFit limits tree → (where_after (closed (calls_in tree) around) at_top).values ≡ forest_values tree.blocks
+values_in_tree limits tree around h =
+    let calls = calls_in tree in
+    values_closed calls (open_after calls - around)
+    ∙ sym (values_closed calls (open_after calls))
+    ∙ ap (λ (cs : List Call). (where_after cs at_top).values) (tree_calls limits tree h).1
+    ∙ values_after (calls_of tree.blocks []) at_top
+    ∙ (let sum : 0 + told_values (calls_of tree.blocks []) ≡ forest_values tree.blocks = omega (arith, values_of tree.blocks []) in sum)
+
+fit_after : (limits : Limits) (calls : List Call) (entries more : List Entry) → FitEntries limits calls (entries ++ more) → FitEntries limits (calls_with calls entries) more
+fit_after limits calls [] more fit = fit
+fit_after limits calls (e ∷ entries) more fit = fit_after limits (told_with calls e) entries more fit.2
+
+-- the last of the items of a tree fits after the others
+pub last_fits : (limits : Limits) (tree other : Tree) (e : Entry) → IsFit limits other → entries_of 0 other.blocks ≡ entries_of 0 tree.blocks ++ e ∷ [] → fits limits (where_after (closed (calls_in tree) e.around) at_top) (called e.item) ≡ true
+last_fits limits tree other e h same =
+    (fit_after limits [] (entries_of 0 tree.blocks) (e ∷ []) (subst (FitEntries limits []) same (tree_calls limits other h).0)).1

@@ -186,7 +186,7 @@ next_fit : (limits : Limits) (number : ℕ) (r : Result Standing TextReason) (ne
 next_fit limits number (Ok later) next tree good fit h = fit later (good later refl) h
 next_fit limits number (Err reason) next tree good fit h = absurd cc
 
-lines_fit : (limits : Limits) (number : ℕ) (now : Standing) (lines : List (List ℕ)) (tree : Tree) → Capped limits → Good limits now → lines_read limits number now lines ≡ Ok tree → IsFit limits tree
+pub lines_fit : (limits : Limits) (number : ℕ) (now : Standing) (lines : List (List ℕ)) (tree : Tree) → Capped limits → Good limits now → lines_read limits number now lines ≡ Ok tree → IsFit limits tree
 lines_fit limits number now [] tree capped good h = end_fit limits number now tree capped good h
 lines_fit limits number now (line ∷ lines) tree capped good h =
     next_fit limits (next_line number) (after_line limits now line) (λ later. lines_read limits (next_line number) later lines) tree (λ later e. line_good limits now line later good e)

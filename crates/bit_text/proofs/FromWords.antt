@@ -1,10 +1,12 @@
 -- What the words of the format say of a line is read there.
-use Rattle.std.proofs.Common.{◌≡◌, refl, ℕ, zero, suc, ◌^◌, ◌<◌, Bool, true, false, nat_eq, List, [], ◌∷◌, ◌++◌, length, drop, replicate, Option, Some, Ok, inl, inr, if◌then◌else◌, sym, ◌∙◌, ap, arith, append_assoc, append-nil}
+use Rattle.std.proofs.Common.{◌≡◌, refl, ℕ, zero, suc, ◌^◌, ◌<◌, Bool, true, false, nat_eq, List, [], ◌∷◌, ◌++◌, length, drop, replicate, Option, Some, Result, Ok, inl, inr, if◌then◌else◌, sym, ◌∙◌, ap, arith, append_assoc, append-nil}
 use Rattle.std.specs.Prelude.{codes, flat_map}
 use Rattle.std.specs.List.{AllByRecursion}
 use Rattle.std.specs.Str.Parse.{digits_value_after}
 use Rattle.bit_grammar.specs.Texts.{hex_text}
 use Rattle.bit_grammar.specs.FormatListing.{AreParts, IsNumber, SpellEach, SpellsNumbers, Item, of_block, of_record, IsItem, IsFree, IsFreeLine, IsMagicLine}
+use Rattle.bit_norm.specs.Telling.{Call}
+use Rattle.bit_text.specs.declared.reason.TextReason.{TextReason}
 use Rattle.bit_text.specs.Numbers.{and_then, hexadecimal_or_decimal, number, numbers_after, parts_after, words}
 use Rattle.bit_text.specs.Lines.{spaces, content, is_free, magic_of, item_of, record_of, block_of}
 use Rattle.bit_text.specs.Listings.{Standing, said, after_line}
@@ -39,7 +41,7 @@ only_parts separator text (part ∷ parts) is =
 
 -- ---- numbers
 
-number_read : (word : List ℕ) (n : ℕ) → IsNumber word n → number word ≡ Ok n
+pub number_read : (word : List ℕ) (n : ℕ) → IsNumber word n → number word ≡ Ok n
 number_read word n (inl is, small) =
     let below : digits_value_after 10 0 word < 2 ^ 64 = rw is.value small in
     ap (λ (f : Option (List ℕ)). hexadecimal_or_decimal f word) (not_hexadecimal word is.digits)
@@ -60,21 +62,21 @@ each_read before (word ∷ parts) ns (n, others, same, first, rest) =
     ∙ each_read (before ++ n ∷ []) parts others rest
     ∙ ap Ok (append_assoc before (n ∷ []) others ∙ ap (λ (ms : List ℕ). before ++ ms) (sym same))
 
-numbers_read : (text ns : List ℕ) → SpellsNumbers text ns → numbers_after [] (words text) ≡ Ok ns
+pub numbers_read : (text ns : List ℕ) → SpellsNumbers text ns → numbers_after [] (words text) ≡ Ok ns
 numbers_read text ns (parts, are, is) = ap (numbers_after []) (only_parts 32 text parts are) ∙ each_read [] parts ns is
 
 -- ---- items
 
--- a text that is read as an item, and begins neither with a space nor as a comment
-pub record BeginsItem (text : List ℕ) (item : Item) : Type 0 where
+-- this is read of a text, which begins neither with a space nor as a comment
+pub record BeginsItem (text : List ℕ) (found : Result Call TextReason) : Type 0 where
   pub first : ℕ
   pub rest : List ℕ
   pub same : text ≡ first ∷ rest
   pub no_space : nat_eq first 32 ≡ false
   pub no_comment : nat_eq first 35 ≡ false
-  pub read : item_of (first ∷ rest) ≡ Ok (called item)
+  pub read : item_of (first ∷ rest) ≡ found
 
-pub item_read : (text : List ℕ) (item : Item) → IsItem text item → BeginsItem text item
+pub item_read : (text : List ℕ) (item : Item) → IsItem text item → BeginsItem text (Ok (called item))
 item_read text (of_block id) (numbers, same, is, small) = record {
   first = 98;
   rest = 108 ∷ 111 ∷ 99 ∷ 107 ∷ 32 ∷ numbers;

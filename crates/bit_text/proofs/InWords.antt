@@ -18,16 +18,17 @@ use Rattle.bit_text.specs.declared.reason.TextReason.TheVariants.{WrapperMagic, 
 use Rattle.bit_text.specs.Numbers.{and_then, behind, digits, digits_after, hexadecimal_or_decimal, number, numbers_after, parts_after, lines, words}
 use Rattle.bit_text.specs.Lines.{spaces, content, is_free, is_low_digit, byte_of, four, four_bytes, magic_of, item_of, record_of, block_of, record_or_block}
 use Rattle.bit_text.specs.Listings.{Standing, at_start, behind_magic, begun, misfit, ends_before, item_calls, said, after_line, goes_on, told_all, lines_read, next_line, reading_of}
+use Rattle.bit_text.specs.Refusals.{LinesList}
 use Rattle.bit_text.specs.Entries.{entries_of, Lists}
 use Rattle.bit_text.proofs.Decimals.{Lacks, lacks_append}
 use Rattle.bit_text.proofs.Entries.{called, open_after, told_with, entries_told, entry_told, entries_of_told}
-use Rattle.bit_text.proofs.Fitting.{is_lower, is_other, Good, line_good, read_fit}
+use Rattle.bit_text.proofs.Fitting.{is_lower, is_other, Good, line_good, lines_fit}
 use Rattle.bit_text.proofs.FromWords.{behind_each}
 
-at_most : (a b : ℕ) → nat_lt a b ≡ false → b ≤ a
+pub at_most : (a b : ℕ) → nat_lt a b ≡ false → b ≤ a
 at_most a b h = grind (arith, nat_tests)
 
-is_same : (a b : ℕ) → nat_eq a b ≡ true → a ≡ b
+pub is_same : (a b : ℕ) → nat_eq a b ≡ true → a ≡ b
 is_same a b h = grind (arith, nat_tests)
 
 -- ---- numbers
@@ -59,12 +60,12 @@ front_same true b c text front rest r same more h =
     cc
 front_same false b c text front rest r same more h = absurd cc
 
-behind_of : (front text rest : List ℕ) → behind front text ≡ Some rest → text ≡ front ++ rest
+pub behind_of : (front text rest : List ℕ) → behind front text ≡ Some rest → text ≡ front ++ rest
 behind_of [] text rest h = let e : text ≡ rest = cc in e
 behind_of (c ∷ front) [] rest h = absurd cc
 behind_of (c ∷ front) (b ∷ text) rest h = front_same (nat_eq b c) b c text front rest (behind front text) refl (behind_of front text rest) h
 
-number_is : (front : Option (List ℕ)) (word : List ℕ) (n : ℕ) → ((text : List ℕ) → front ≡ Some text → word ≡ codes "0x" ++ text) → hexadecimal_or_decimal front word ≡ Ok n → IsNumber word n
+pub number_is : (front : Option (List ℕ)) (word : List ℕ) (n : ℕ) → ((text : List ℕ) → front ≡ Some text → word ≡ codes "0x" ++ text) → hexadecimal_or_decimal front word ≡ Ok n → IsNumber word n
 number_is (Some text) word n is h = let p = some_digits 16 text n h in (inr (text, is text refl, p.0), p.1)
 number_is None word n is h = let p = some_digits 10 word n h in (inl p.0, p.1)
 
@@ -113,7 +114,7 @@ numbers_are text all h =
 -- ---- items
 
 -- a text is an item with this call
-abbrev ReadAs : (text : List ℕ) → Call → Type 0
+abbrev pub ReadAs : (text : List ℕ) → Call → Type 0
 ReadAs text call = (item : Item) × (call ≡ called item) × IsItem text item
 
 record_is : (text numbers all : List ℕ) (call : Call) → text ≡ codes "record " ++ numbers → numbers_after [] (words numbers) ≡ Ok all → record_of all ≡ Ok call → ReadAs text call
@@ -144,7 +145,7 @@ either_is (Some n) id text call of one h = numbers_then (numbers_after [] (words
 either_is None (Some n) text call of one h = numbers_then (numbers_after [] (words n)) block_of text call (λ all e i. block_is text n all call (one n refl) e i) h
 either_is None None text call of one h = absurd cc
 
-item_is : (text : List ℕ) (call : Call) → item_of text ≡ Ok call → ReadAs text call
+pub item_is : (text : List ℕ) (call : Call) → item_of text ≡ Ok call → ReadAs text call
 item_is text call h =
     either_is (behind (codes "record ") text) (behind (codes "block ") text) text call (λ n e. behind_of (codes "record ") text n e) (λ n e. behind_of (codes "block ") text n e) h
 
@@ -155,11 +156,11 @@ space_is : (t : Bool) (b : ℕ) (line : List ℕ) → nat_eq b 32 ≡ t → line
 space_is true b line same more = ap (λ (l : List ℕ). b ∷ l) more ∙ ap (λ (c : ℕ). c ∷ (replicate (spaces line) 32 ++ drop (spaces line) line)) (is_same b 32 same)
 space_is false b line same more = refl
 
-spaces_are : (line : List ℕ) → line ≡ replicate (spaces line) 32 ++ content line
+pub spaces_are : (line : List ℕ) → line ≡ replicate (spaces line) 32 ++ content line
 spaces_are [] = refl
 spaces_are (b ∷ line) = space_is (nat_eq b 32) b line refl (spaces_are line)
 
-says_nothing : (text : List ℕ) → is_free text ≡ true → IsFree text
+pub says_nothing : (text : List ℕ) → is_free text ≡ true → IsFree text
 says_nothing [] h = tt
 says_nothing (b ∷ text) h = is_same b 35 h
 
@@ -171,7 +172,7 @@ still_open false false fit n w calls more reason here is h = absurd cc
 still_open true even fit n w calls more reason here is h = absurd cc
 
 -- a line says nothing, or has an entry
-abbrev LineIs : (magic : List ℕ) → List Call → (line : List ℕ) → Standing → Type 0
+abbrev pub LineIs : (magic : List ℕ) → List Call → (line : List ℕ) → Standing → Type 0
 LineIs magic calls line later = (IsFreeLine line × (later ≡ behind_magic magic calls))
     ⊎ ((e : Entry) × (later ≡ behind_magic magic (told_with calls e)) × (e.around ≤ open_after calls) × IsEntry line e)
 
@@ -201,7 +202,7 @@ item_then limits (Ok call) magic calls line later item h =
     more_then (item_calls limits (where_after calls at_top) (spaces line) call) magic calls line later (λ more read same. entry_is limits magic calls more line call later item read same) h
 item_then limits (Err reason) magic calls line later item h = absurd cc
 
-free_or_said : (limits : Limits) (t : Bool) (magic : List ℕ) (calls : List Call) (line : List ℕ) (later : Standing) → is_free (content line) ≡ t
+pub free_or_said : (limits : Limits) (t : Bool) (magic : List ℕ) (calls : List Call) (line : List ℕ) (later : Standing) → is_free (content line) ≡ t
     → (if t then Ok (behind_magic magic calls) else said limits (behind_magic magic calls) line) ≡ Ok later → LineIs magic calls line later
 free_or_said limits true magic calls line later free h =
     let e : later ≡ behind_magic magic calls = cc in
@@ -318,13 +319,13 @@ magic_then : (front : Option (List ℕ)) (line magic : List ℕ) → ((text : Li
 magic_then (Some text) line magic is h = magic_by (nat_eq (length text) 8) line text magic refl (is text refl) h
 magic_then None line magic is h = absurd cc
 
-magic_is : (line magic : List ℕ) → magic_of line ≡ Some magic → IsMagicLine line magic
+pub magic_is : (line magic : List ℕ) → magic_of line ≡ Some magic → IsMagicLine line magic
 magic_is line magic h = magic_then (behind (codes "magic ") line) line magic (λ text e. behind_of (codes "magic ") line text e) h
 
 -- ---- the whole
 
 -- a line before the items says nothing, or has the magic
-abbrev FirstIs : (line : List ℕ) → Standing → Type 0
+abbrev pub FirstIs : (line : List ℕ) → Standing → Type 0
 FirstIs line later = (IsFreeLine line × (later ≡ at_start)) ⊎ ((magic : List ℕ) × (later ≡ behind_magic magic []) × IsMagicLine line magic)
 
 begun_by : (t : Bool) (line magic : List ℕ) (later : Standing) → IsMagicLine line magic → (if t then Err WrapperMagic else Ok (behind_magic magic [])) ≡ Ok later → FirstIs line later
@@ -335,7 +336,7 @@ begun_is : (r : Option (List ℕ)) (line : List ℕ) (later : Standing) → ((ma
 begun_is None line later is h = absurd cc
 begun_is (Some magic) line later is h = begun_by (nat_eq (magic_number magic) wrapper_magic) line magic later (is magic refl) h
 
-first_is : (limits : Limits) (t : Bool) (line : List ℕ) (later : Standing) → is_free (content line) ≡ t → (if t then Ok at_start else said limits at_start line) ≡ Ok later → FirstIs line later
+pub first_is : (limits : Limits) (t : Bool) (line : List ℕ) (later : Standing) → is_free (content line) ≡ t → (if t then Ok at_start else said limits at_start line) ≡ Ok later → FirstIs line later
 first_is limits true line later free h = let e : later ≡ at_start = cc in inl ((spaces line, content line, spaces_are line, says_nothing (content line) free), e)
 first_is limits false line later free h = begun_is (magic_of line) line later (λ magic e. magic_is line magic e) h
 
@@ -370,11 +371,20 @@ all_lines_are limits number (line ∷ lines) tree h =
     (λ later e. (first_is limits (is_free (content line)) line later refl e, line_good limits at_start line later tt e))
     (λ k. all_lines_are limits next lines tree k) (λ magic good k. lines_are limits next magic [] lines tree good k) h
 
-pub text_lists : (limits : Limits) (text : List ℕ) (tree : Tree) → Capped limits → reading_of limits text ≡ Ok tree → Lists limits text tree
-text_lists limits text tree capped h =
-    let p = all_lines_are limits 0 (lines text) tree h in (
+pub lines_list : (limits : Limits) (lines : List (List ℕ)) (tree : Tree) → Capped limits → lines_read limits 0 at_start lines ≡ Ok tree → LinesList limits lines tree
+lines_list limits lines tree capped h =
+    let p = all_lines_are limits 0 lines tree h in (
       p.magic,
       entries_told 0 p.all,
-      (lines text, parts_are 10 text, p.are),
-      record { number = sym (ap (λ (t : Tree). t.magic) p.is); items = entries_of_told limits p.all p.fit ∙ ap (λ (t : Tree). entries_of 0 t.blocks) (sym p.is); fit = read_fit limits text tree capped h },
+      p.are,
+      record {
+        number = sym (ap (λ (t : Tree). t.magic) p.is);
+        items = entries_of_told limits p.all p.fit ∙ ap (λ (t : Tree). entries_of 0 t.blocks) (sym p.is);
+        fit = lines_fit limits 0 at_start lines tree capped tt h;
+      },
     )
+
+pub text_lists : (limits : Limits) (text : List ℕ) (tree : Tree) → Capped limits → reading_of limits text ≡ Ok tree → Lists limits text tree
+text_lists limits text tree capped h =
+    let p = lines_list limits (lines text) tree capped h in
+    (p.0, p.1, (lines text, parts_are 10 text, p.2), p.3)

@@ -9,8 +9,11 @@ pub mod Shown
 pub mod Sources
 pub mod InWords
 pub mod Places
+pub mod Refused
 pub mod Spelled
 pub mod Spelling
+pub mod Standings
 pub mod Takings
 pub mod Tellings
+pub mod TooLarge
 pub mod Written

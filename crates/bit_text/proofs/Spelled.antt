@@ -1,5 +1,5 @@
 -- What lists a tree is read as that tree, and the listing of a fit tree lists it.
-use Rattle.std.proofs.Common.{◌≡◌, ◌≢◌, refl, ℕ, zero, suc, ◌+◌, ◌-◌, ◌*◌, ◌/◌, ◌%◌, ◌^◌, ◌<◌, ◌≤◌, false, true, nat_eq, List, [], ◌∷◌, ◌++◌, get_or, replicate, inl, inr, Result, Ok, Err, if◌then◌else◌, sym, ◌∙◌, ap, subst, arith, append_assoc, append-nil}
+use Rattle.std.proofs.Common.{◌≡◌, ◌≢◌, refl, ℕ, zero, suc, ◌+◌, ◌-◌, ◌*◌, ◌/◌, ◌%◌, ◌^◌, ◌<◌, ◌≤◌, Bool, false, true, List, [], ◌∷◌, ◌++◌, get_or, replicate, inl, inr, Result, Ok, Err, if◌then◌else◌, sym, ◌∙◌, ap, subst, arith, append_assoc, append-nil}
 use Rattle.std.specs.Prelude.{codes, decimal}
 use Rattle.std.specs.Int.{w32, from_le_bytes}
 use Rattle.bit_grammar.specs.Blocks.{Limits}
@@ -14,51 +14,68 @@ use Rattle.bit_text.specs.declared.reason.TextReason.{TextReason}
 use Rattle.bit_text.specs.declared.reason.TextReason.TheVariants.{WrapperMagic}
 use Rattle.bit_text.specs.Numbers.{and_then, lines, parts_after}
 use Rattle.bit_text.specs.Lines.{spaces, content, item_of}
-use Rattle.bit_text.specs.Listings.{Standing, at_start, behind_magic, begun, misfit, item_calls, after_line, told_all, lines_read, next_line, reading_of}
+use Rattle.bit_text.specs.Listings.{Standing, at_start, behind_magic, begun, misfit, item_calls, after_line, told_all, lines_read, reading_of}
+use Rattle.bit_text.specs.Refusals.{LinesList}
 use Rattle.bit_text.specs.Entries.{entries_of, Lists}
 use Rattle.bit_text.proofs.Decimals.{Lacks}
-use Rattle.bit_text.proofs.Entries.{called, open_after, closed, told_with, calls_with, FitEntries, tree_entries}
-use Rattle.bit_text.proofs.FromWords.{only_parts, item_read, free_read, magic_read_of, magic_not_free}
+use Rattle.bit_text.proofs.Entries.{called, open_after, closed, told_with, calls_with, FitEntries, calls_in, tree_entries}
+use Rattle.bit_text.proofs.FromWords.{only_parts, BeginsItem, item_read, free_read, magic_read_of, magic_not_free}
 use Rattle.bit_text.proofs.InWords.{numbers_are, parts_are}
+use Rattle.bit_text.proofs.Standings.{ReadsAll, reads_all}
 use Rattle.bit_text.proofs.Spelling.{other_byte}
-use Rattle.bit_text.proofs.Takings.{line_read}
 use Rattle.bit_text.proofs.Tellings.{where_append, at_level, says}
 use Rattle.bit_text.proofs.Written.{spaces_of, content_of, magic_lacks, record_numbers, record_lacks, block_numbers, block_lacks, line_over}
 
 -- ---- one line
 
-item_line : (limits : Limits) (magic : List ℕ) (calls : List Call) (around b : ℕ) (text : List ℕ) (call : Call) → nat_eq b 32 ≡ false → nat_eq b 35 ≡ false → item_of (b ∷ text) ≡ Ok call
-    → around ≤ open_after calls → fits limits (where_after (closed calls around) at_top) call ≡ true
-    → after_line limits (behind_magic magic calls) (replicate (2 * around) 32 ++ b ∷ text) ≡ Ok (behind_magic magic (closed calls around ++ call ∷ []))
-item_line limits magic calls around b text call no_space no_comment item deep there =
+-- what a line says that has this after its spaces
+pub spaced_line : (limits : Limits) (magic : List ℕ) (calls : List Call) (line : List ℕ) (n : ℕ) (text : List ℕ) (found : Result Call TextReason) → line ≡ replicate n 32 ++ text → BeginsItem text found
+    → after_line limits (behind_magic magic calls) line ≡ and_then found (λ c. and_then (item_calls limits (where_after calls at_top) n c) (λ more. Ok (behind_magic magic (calls ++ more))))
+spaced_line limits magic calls line n text found same begins =
     let w = where_after calls at_top in
-    let whole = replicate (2 * around) 32 ++ b ∷ text in
+    let b = begins.first in
+    let whole = replicate n 32 ++ b ∷ begins.rest in
     let now = behind_magic magic calls in
+    let add : Result (List Call) TextReason → Result Standing TextReason = λ r. and_then r (λ more. Ok (behind_magic magic (calls ++ more))) in
+    ap (after_line limits now) (same ∙ ap (λ (t : List ℕ). replicate n 32 ++ t) begins.same)
+    ∙ says limits now whole (b ∷ begins.rest) (sym (content_of n b begins.rest begins.no_space)) begins.no_comment
+    ∙ ap (λ (t : List ℕ). and_then (item_of t) (λ c. add (item_calls limits w (spaces whole) c))) (content_of n b begins.rest begins.no_space)
+    ∙ ap (λ (i : Result Call TextReason). and_then i (λ c. add (item_calls limits w (spaces whole) c))) begins.read
+    ∙ ap (λ (k : ℕ). and_then found (λ c. add (item_calls limits w k c))) (spaces_of n b begins.rest begins.no_space)
+
+placed : (limits : Limits) (magic : List ℕ) (calls : List Call) (around : ℕ) (call : Call) → around ≤ open_after calls
+    → and_then (item_calls limits (where_after calls at_top) (2 * around) call) (λ more. Ok (behind_magic magic (calls ++ more)))
+    ≡ (if fits limits (where_after (closed calls around) at_top) call then Ok (behind_magic magic (closed calls around ++ call ∷ [])) else Err (misfit limits (where_after (closed calls around) at_top) call))
+placed limits magic calls around call deep =
+    let w = where_after calls at_top in
+    let there = where_after (closed calls around) at_top in
     let half : 2 * around / 2 ≡ around = omega arith in
     let even : 2 * around % 2 ≡ 0 = omega arith in
     let closing = replicate (w.depth - around) ends in
-    let fits_there : fits limits (where_after closing w) call ≡ true = ap (λ (p : Where). fits limits p call) (sym (where_append calls closing at_top)) ∙ there in
     let level : 2 * around / 2 ≤ w.depth = rw half deep in
-    let found : item_calls limits w (2 * around) call ≡ Ok (closing ++ call ∷ []) =
-    at_level limits w (2 * around) call level even
-    ∙ ap (λ (n : ℕ). if fits limits (where_after (replicate (w.depth - n) ends) w) call then Ok (replicate (w.depth - n) ends ++ call ∷ []) else Err (misfit limits (where_after (replicate (w.depth - n) ends) w) call)) half
-    ∙ ap (λ t. if t then Ok (closing ++ call ∷ []) else Err (misfit limits (where_after closing w) call)) fits_there in
     let add : Result (List Call) TextReason → Result Standing TextReason = λ r. and_then r (λ more. Ok (behind_magic magic (calls ++ more))) in
-    says limits now whole (b ∷ text) (sym (content_of (2 * around) b text no_space)) no_comment
-    ∙ ap (λ (t : List ℕ). and_then (item_of t) (λ c. add (item_calls limits w (spaces whole) c))) (content_of (2 * around) b text no_space)
-    ∙ ap (λ (i : Result Call TextReason). and_then i (λ c. add (item_calls limits w (spaces whole) c))) item
-    ∙ ap (λ (n : ℕ). add (item_calls limits w n call)) (spaces_of (2 * around) b text no_space)
-    ∙ ap add found
-    ∙ ap (λ (cs : List Call). Ok (behind_magic magic cs)) (sym (append_assoc calls closing (call ∷ [])))
+    ap add (at_level limits w (2 * around) call level even)
+    ∙ ap (λ (n : ℕ). add (if fits limits (where_after (replicate (w.depth - n) ends) w) call then Ok (replicate (w.depth - n) ends ++ call ∷ []) else Err (misfit limits (where_after (replicate (w.depth - n) ends) w) call))) half
+    ∙ ap (λ (p : Where). add (if fits limits p call then Ok (closing ++ call ∷ []) else Err (misfit limits p call))) (sym (where_append calls closing at_top))
+    ∙ by (fits limits there call) closing (misfit limits there call)
+  where
+    by : (t : Bool) (closing : List Call) (reason : TextReason) → and_then (if t then Ok (closing ++ call ∷ []) else Err reason) (λ more. Ok (behind_magic magic (calls ++ more))) ≡ (if t then Ok (behind_magic magic ((calls ++ closing) ++ call ∷ [])) else Err reason)
+    by true closing reason = ap (λ (cs : List Call). Ok (behind_magic magic cs)) (sym (append_assoc calls closing (call ∷ [])))
+    by false closing reason = refl
+
+-- what the line of an entry says in blocks that are open
+pub entry_said : (limits : Limits) (magic : List ℕ) (calls : List Call) (line : List ℕ) (e : Entry) → IsEntry line e → e.around ≤ open_after calls
+    → after_line limits (behind_magic magic calls) line ≡ (if fits limits (where_after (closed calls e.around) at_top) (called e.item) then Ok (behind_magic magic (told_with calls e)) else Err (misfit limits (where_after (closed calls e.around) at_top) (called e.item)))
+entry_said limits magic calls line e (text, same, is) deep =
+    spaced_line limits magic calls line (2 * e.around) text (Ok (called e.item)) same (item_read text e.item is) ∙ placed limits magic calls e.around (called e.item) deep
 
 entry_line : (limits : Limits) (magic : List ℕ) (calls : List Call) (line : List ℕ) (e : Entry) → IsEntry line e → e.around ≤ open_after calls → fits limits (where_after (closed calls e.around) at_top) (called e.item) ≡ true
     → after_line limits (behind_magic magic calls) line ≡ Ok (behind_magic magic (told_with calls e))
-entry_line limits magic calls line e (text, same, is) deep there =
-    let begins = item_read text e.item is in
-    ap (after_line limits (behind_magic magic calls)) (same ∙ ap (λ (t : List ℕ). replicate (2 * e.around) 32 ++ t) begins.same)
-    ∙ item_line limits magic calls e.around begins.first begins.rest (called e.item) begins.no_space begins.no_comment begins.read deep there
+entry_line limits magic calls line e is deep there =
+    entry_said limits magic calls line e is deep
+    ∙ ap (λ (t : Bool). if t then Ok (behind_magic magic (told_with calls e)) else Err (misfit limits (where_after (closed calls e.around) at_top) (called e.item))) there
 
-magic_line : (limits : Limits) (line magic : List ℕ) → IsMagicLine line magic → magic_number magic ≢ wrapper_magic → after_line limits at_start line ≡ Ok (behind_magic magic [])
+pub magic_line : (limits : Limits) (line magic : List ℕ) → IsMagicLine line magic → magic_number magic ≢ wrapper_magic → after_line limits at_start line ≡ Ok (behind_magic magic [])
 magic_line limits line magic is bare =
     says limits at_start line (content line) refl (magic_not_free line magic is)
     ∙ ap begun (magic_read_of line magic is)
@@ -66,35 +83,43 @@ magic_line limits line magic is bare =
 
 -- ---- lines
 
-pub entries_read : (limits : Limits) (number : ℕ) (magic : List ℕ) (calls : List Call) (lines : List (List ℕ)) (entries : List Entry) → HaveEntries lines entries → FitEntries limits calls entries
-    → lines_read limits number (behind_magic magic calls) lines ≡ Ok (told_all magic (calls_with calls entries))
-entries_read limits number magic calls [] entries same fit = ap (λ (es : List Entry). Ok (told_all magic (calls_with calls es))) (sym same)
-entries_read limits number magic calls (line ∷ lines) entries (inl (free, more)) fit =
-    let now = behind_magic magic calls in
-    line_read limits number now now line lines (free_read limits now line free) ∙ entries_read limits (next_line number) magic calls lines entries more fit
-entries_read limits number magic calls (line ∷ lines) entries (inr (e, others, same, is, more)) fit =
+entries_read : (limits : Limits) (magic : List ℕ) (calls : List Call) (lines : List (List ℕ)) (entries : List Entry) → HaveEntries lines entries → FitEntries limits calls entries → ReadsAll limits (behind_magic magic calls) lines (behind_magic magic (calls_with calls entries))
+entries_read limits magic calls [] entries same fit = ap (λ (es : List Entry). behind_magic magic (calls_with calls es)) same
+entries_read limits magic calls (line ∷ lines) entries (inl (free, more)) fit = (behind_magic magic calls, free_read limits (behind_magic magic calls) line free, entries_read limits magic calls lines entries more fit)
+entries_read limits magic calls (line ∷ lines) entries (inr (e, others, same, is, more)) fit =
+    let now = behind_magic magic (told_with calls e) in
     let fit_all = subst (FitEntries limits calls) same fit in
-    line_read limits number (behind_magic magic calls) (behind_magic magic (told_with calls e)) line lines (entry_line limits magic calls line e is fit_all.0 fit_all.1)
-    ∙ entries_read limits (next_line number) magic (told_with calls e) lines others more fit_all.2
-    ∙ ap (λ (es : List Entry). Ok (told_all magic (calls_with calls es))) (sym same)
+    let read = entries_read limits magic (told_with calls e) lines others more fit_all.2 in
+    (now, entry_line limits magic calls line e is fit_all.0 fit_all.1, subst (λ (es : List Entry). ReadsAll limits now lines (behind_magic magic (calls_with calls es))) (sym same) read)
 
-listing_read : (limits : Limits) (number : ℕ) (magic : List ℕ) (lines : List (List ℕ)) (entries : List Entry) → AreListing lines magic entries → magic_number magic ≢ wrapper_magic → FitEntries limits [] entries
-    → lines_read limits number at_start lines ≡ Ok (told_all magic (calls_with [] entries))
-listing_read limits number magic [] entries are bare fit = absurd are
-listing_read limits number magic (line ∷ lines) entries (inl (free, more)) bare fit =
-    line_read limits number at_start at_start line lines (free_read limits at_start line free) ∙ listing_read limits (next_line number) magic lines entries more bare fit
-listing_read limits number magic (line ∷ lines) entries (inr (is, more)) bare fit =
-    line_read limits number at_start (behind_magic magic []) line lines (magic_line limits line magic is bare) ∙ entries_read limits (next_line number) magic [] lines entries more fit
+listing_read : (limits : Limits) (magic : List ℕ) (lines : List (List ℕ)) (entries : List Entry) → AreListing lines magic entries → magic_number magic ≢ wrapper_magic → FitEntries limits [] entries → ReadsAll limits at_start lines (behind_magic magic (calls_with [] entries))
+listing_read limits magic [] entries are bare fit = absurd are
+listing_read limits magic (line ∷ lines) entries (inl (free, more)) bare fit = (at_start, free_read limits at_start line free, listing_read limits magic lines entries more bare fit)
+listing_read limits magic (line ∷ lines) entries (inr (is, more)) bare fit = (behind_magic magic [], magic_line limits line magic is bare, entries_read limits magic [] lines entries more fit)
+
+-- what is read of lines that list a tree
+pub record Stands (limits : Limits) (lines : List (List ℕ)) (tree : Tree) : Type 0 where
+  pub magic : List ℕ
+  pub number : magic_number magic ≡ tree.magic
+  pub read : ReadsAll limits at_start lines (behind_magic magic (calls_in tree))
+  pub fit : IsFit limits tree
+  pub listing : AreListing lines magic (entries_of 0 tree.blocks)
+
+pub stands : (limits : Limits) (lines : List (List ℕ)) (tree : Tree) → LinesList limits lines tree → Stands limits lines tree
+stands limits lines tree (magic, entries, are, of) =
+    let bare : magic_number magic ≢ wrapper_magic = λ e. of.fit.fit.bare (sym of.number ∙ e) in
+    let listing = subst (AreListing lines magic) of.items are in
+    record { magic = magic; number = of.number; read = listing_read limits magic lines (entries_of 0 tree.blocks) listing bare (tree_entries limits tree of.fit).0; fit = of.fit; listing = listing }
+
+pub lines_listed : (limits : Limits) (lines : List (List ℕ)) (tree : Tree) → LinesList limits lines tree → lines_read limits 0 at_start lines ≡ Ok tree
+lines_listed limits lines tree is =
+    let s = stands limits lines tree is in
+    let same : told_all s.magic (calls_in tree) ≡ tree = rw (s.number, (tree_entries limits tree s.fit).1) refl in
+    reads_all limits 0 at_start (behind_magic s.magic (calls_in tree)) lines s.read ∙ ap Ok same
 
 pub listed_read : (limits : Limits) (text : List ℕ) (tree : Tree) → Lists limits text tree → reading_of limits text ≡ Ok tree
 listed_read limits text tree (magic, entries, (parts, are_parts, are), of) =
-    let bare : magic_number magic ≢ wrapper_magic = λ e. of.fit.fit.bare (sym of.number ∙ e) in
-    let found = tree_entries limits tree of.fit in
-    let fit : FitEntries limits [] entries = subst (FitEntries limits []) (sym of.items) found.0 in
-    let same : told_all magic (calls_with [] entries) ≡ tree =
-    ap (λ (es : List Entry). told_all magic (calls_with [] es)) of.items
-    ∙ rw (of.number, found.1) refl in
-    ap (lines_read limits 0 at_start) (only_parts 10 text parts are_parts) ∙ listing_read limits 0 magic parts entries are bare fit ∙ ap Ok same
+    ap (lines_read limits 0 at_start) (only_parts 10 text parts are_parts) ∙ lines_listed limits parts tree (magic, entries, are, of)
 
 -- ---- the listing of a tree
 

@@ -1,6 +1,7 @@
-ghost use Rattle.std.specs.Prelude.{◌≡◌, ◌↔◌, ℕ, List, Some, Ok, Err};
+ghost use Rattle.std.specs.Prelude.{◌≡◌, ◌↔◌, ◌⊎◌, ◌∷◌, ◌++◌, ℕ, List, Some, Ok, Err};
 ghost use Rattle.bit_grammar.specs.Blocks.{Limits};
 ghost use Rattle.bit_grammar.specs.Forest.{Fit, Tree};
+ghost use Rattle.bit_grammar.specs.FormatListing.{AreParts};
 ghost use Rattle.bit_grammar.specs.Normal.{Capped};
 ghost use Rattle.bit_grammar.specs.Texts.{listing_of};
 ghost use Rattle.bit_grammar.specs.Input.{tree_of, SpellsInput};
@@ -11,6 +12,8 @@ ghost use Rattle.bit_fields.specs.Devices.{Incoming, Outgoing};
 ghost use Rattle.bit_norm.specs.Telling.{IsFit};
 ghost use Rattle.bit_norm.specs.Writing.{WritesForm};
 ghost use Rattle.bit_text.specs.declared.reason.TextReason.{TextReason};
+ghost use Rattle.bit_text.specs.declared.reason.TextReason.TheVariants.{NoMagic};
+ghost use Rattle.bit_text.specs.Refusals.{Breaks, HasNoMagic, IsRefused};
 ghost use Rattle.bit_text.specs.declared.fault.AssembleFault.TheVariants.{Refused};
 ghost use Rattle.bit_text.specs.Assembling.{Assembles};
 ghost use Rattle.bit_text.specs.Entries.{Lists};
@@ -23,6 +26,20 @@ pub fn listing_exact()
         → (reading_of limits text ≡ Ok tree ↔ Lists limits text tree) }
     ensures one { (limits other : Limits) (text : List ℕ) (a b : Tree) → Lists limits text a
         → Lists other text b → a ≡ b }
+{}
+
+/// A text is refused for a reason at a line exactly if the line breaks so, in the words of the format, after lines that list a tree
+/// or say nothing; or if it has no magic, with its last line. No text with the same lines up to one that breaks lists a tree within
+/// the limits.
+pub fn refused_exact()
+    ensures exact { (limits : Limits) (text : List ℕ) (reason : TextReason) (number : ℕ)
+        → Capped limits → (reading_of limits text ≡ Err (reason, number)
+        ↔ (IsRefused limits text reason number
+        ⊎ ((reason ≡ NoMagic) × HasNoMagic text number))) }
+    ensures never { (limits : Limits) (before after : List (List ℕ)) (line : List ℕ)
+        (reason : TextReason) (text : List ℕ) (tree : Tree)
+        → Capped limits → Breaks limits before line reason
+        → AreParts 10 text (before ++ line ∷ after) → Lists limits text tree → ⊥ }
 {}
 
 /// The listing of a fit tree within the limits spells it, so trees with the same listing are equal. What is read is a fit tree
