@@ -20,7 +20,7 @@ use Rattle.bit_text.proofs.Entries.{called, open_after, closed, told_with, entri
 use Rattle.bit_text.proofs.Fitting.{is_lower, is_other, Good, line_good, lines_fit}
 use Rattle.bit_text.proofs.FromWords.{only_parts, BeginsItem, item_read, free_read, magic_read_of, magic_not_free}
 use Rattle.bit_text.proofs.InWords.{item_is, spaces_are, says_nothing, free_or_said, first_is, magic_is, is_same, at_most, lines_list, parts_are}
-use Rattle.bit_text.proofs.Spelled.{stands, spaced_line, entry_said, listed_read}
+use Rattle.bit_text.proofs.Spelled.{stands, spaced_line, entry_said, listed_read, not_both}
 use Rattle.bit_text.proofs.Spelling.{same_byte}
 use Rattle.bit_text.proofs.Standings.{ReadsAll, counted, next_number, last_number, reads_on, reads_all, reads_same, stops, refused_same}
 use Rattle.bit_text.proofs.Takings.{line_refused}
@@ -35,9 +35,6 @@ never_both r a reason h k = cc
 
 content_same : (line : List ℕ) (n : ℕ) (text : List ℕ) (found : Result Call TextReason) → line ≡ replicate n 32 ++ text → BeginsItem text found → item_of (content line) ≡ found
 content_same line n text found same is = ap (λ (l : List ℕ). item_of (content l)) (same ∙ ap (λ (t : List ℕ). replicate n 32 ++ t) is.same) ∙ ap item_of (content_of n is.first is.rest is.no_space) ∙ is.read
-
-not_both_found : (r : Result Call TextReason) (call : Call) (a b : TextReason) → r ≡ Err a → r ≡ Ok call → ⊥
-not_both_found r call a b h k = cc
 
 large_is_other : (r : Result Call TextReason) → r ≡ Err BadLine → r ≡ Err NumberTooLarge → ⊥
 large_is_other r h k = cc
@@ -423,11 +420,8 @@ so_ended limits text number is =
     ∙ reads_all limits 0 at_start at_start is.lines (free_reads limits is.lines is.free)
     ∙ ap (λ (n : ℕ). Err (NoMagic, n)) (last_number is.lines ∙ sym is.numbered)
 
-not_both_read : (r : Result Tree (TextReason × ℕ)) (tree : Tree) (refusal : TextReason × ℕ) → r ≡ Ok tree → r ≡ Err refusal → ⊥
-not_both_read r tree refusal h k = cc
-
 -- no text with these lines lists a tree
 pub never_listed : (limits : Limits) (before after : List (List ℕ)) (line : List ℕ) (reason : TextReason) (text : List ℕ) (tree : Tree) → Capped limits → Breaks limits before line reason → AreParts 10 text (before ++ line ∷ after) → Lists limits text tree → ⊥
 never_listed limits before after line reason text tree capped breaks parts lists =
-    not_both_read (reading_of limits text) tree (reason, number_after (length before)) (listed_read limits text tree lists)
+    not_both (reading_of limits text) tree (reason, number_after (length before)) (listed_read limits text tree lists)
     (so_refused limits text reason (number_after (length before)) capped (record { before = before; line = line; after = after; parts = parts; breaks = breaks; numbered = refl }))

@@ -20,7 +20,7 @@ use Rattle.bit_text.specs.declared.fault.AssembleFault.TheVariants.{Refused}
 use Rattle.bit_text.specs.declared.reason.TextReason.{TextReason}
 use Rattle.bit_text.specs.Assembling.{Assembles, IsRead, TookAll}
 use Rattle.bit_text.specs.Listings.{reading_of}
-use Rattle.bit_text.proofs.Spelled.{listing_spells}
+use Rattle.bit_text.proofs.Spelled.{listing_spells, same_tree, not_both}
 
 -- ---- the text of a source
 
@@ -58,12 +58,6 @@ kept_fit setting limits bytes m capped spelled =
 pub shown_read : (setting : Setting) (limits : Limits) (bytes : List ℕ) (m : Marked) → Capped limits → SpellsInput limits bytes m → reading_of limits (listing_of (under setting (tree_of m))) ≡ Ok (under setting (tree_of m))
 shown_read setting limits bytes m capped spelled = listing_spells limits (under setting (tree_of m)) (kept_fit setting limits bytes m capped spelled)
 
-same_tree : (r : Result Tree (TextReason × ℕ)) (a b : Tree) → r ≡ Ok a → r ≡ Ok b → a ≡ b
-same_tree r a b h k = cc
-
-never_both : (r : Result Tree (TextReason × ℕ)) (tree : Tree) (refusal : TextReason × ℕ) → r ≡ Ok tree → r ≡ Err refusal → ⊥
-never_both r tree refusal h k = cc
-
 pub shown_form : (setting : Setting) (limits : Limits) (bytes : List ℕ) (m : Marked) (i later : Incoming) (old new : Outgoing) (count : ℕ) → Capped limits → SpellsInput limits bytes m
     → i.to_come ≡ Some (listing_of (under setting (tree_of m))) → Assembles limits i old (Ok count) later new → WritesForm (under setting (tree_of m)) limits.bytes old (Ok count) new
 shown_form setting limits bytes m i later old new count capped spelled is (text, took, done) =
@@ -75,4 +69,4 @@ pub shown_never_refused : (setting : Setting) (limits : Limits) (bytes : List �
     → i.to_come ≡ Some (listing_of (under setting (tree_of m))) → Assembles limits i old (Err (Refused reason line)) later new → ⊥
 shown_never_refused setting limits bytes m i later old new reason line capped spelled is h =
     let listing = listing_of (under setting (tree_of m)) in
-    never_both (reading_of limits listing) (under setting (tree_of m)) (reason, line) (shown_read setting limits bytes m capped spelled) (read_so limits i later listing (Err (reason, line)) is h.0)
+    not_both (reading_of limits listing) (under setting (tree_of m)) (reason, line) (shown_read setting limits bytes m capped spelled) (read_so limits i later listing (Err (reason, line)) is h.0)

@@ -183,8 +183,11 @@ listing_lists limits tree h =
 pub listing_spells : (limits : Limits) (tree : Tree) → IsFit limits tree → reading_of limits (listing_of tree) ≡ Ok tree
 listing_spells limits tree h = listed_read limits (listing_of tree) tree (listing_lists limits tree h)
 
-same_tree : (r : Result Tree (TextReason × ℕ)) (a b : Tree) → r ≡ Ok a → r ≡ Ok b → a ≡ b
+pub same_tree : (r : Result Tree (TextReason × ℕ)) (a b : Tree) → r ≡ Ok a → r ≡ Ok b → a ≡ b
 same_tree r a b h k = cc
+
+pub not_both : (r : Result Tree (TextReason × ℕ)) (tree : Tree) (refusal : TextReason × ℕ) → r ≡ Ok tree → r ≡ Err refusal → ⊥
+not_both r tree refusal h k = cc
 
 -- limits that both trees keep to
 abbrev both_within : (a b : Tree) → Limits
