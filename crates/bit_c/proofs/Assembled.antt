@@ -1,43 +1,21 @@
 -- Listings that were assembled or not.
-use Rattle.std.proofs.Common.{◌≡◌, ℕ, List, [], ◌++◌, Option, Some, None, Result, Ok, Err, sym, ap, subst, ◌∙◌, inl, inr, append-nil}
-use Rattle.std.specs.Io.KnownBytes.{Consumes, IsAtEnd}
+use Rattle.std.proofs.Common.{◌≡◌, ℕ, List, [], Option, Some, Result, Ok, Err, sym, ap, subst, ◌∙◌}
 use Rattle.bit_grammar.specs.Blocks.{Limits}
 use Rattle.bit_grammar.specs.Forest.{Tree}
 use Rattle.bit_grammar.specs.Normal.{Capped}
 use Rattle.bit_fields.specs.Devices.{Incoming, Outgoing}
 use Rattle.bit_fields.specs.declared.fault.Fault.TheVariants as fault
-use Rattle.bit_text.specs.Assembling.{Assembles, IsRead, TookAll}
+use Rattle.bit_text.specs.Assembling.{Assembles}
 use Rattle.bit_text.specs.Listings.{reading_of}
 use Rattle.bit_text.specs.declared.reason.TextReason.{TextReason}
 use Rattle.bit_text.specs.declared.fault.AssembleFault.{AssembleFault}
 use Rattle.bit_text.specs.declared.fault.AssembleFault.TheVariants.{Refused, Fault as FaultOf}
+use Rattle.bit_text.proofs.Shown.{took_all, read_so}
 use Rattle.bit_c.specs.Assembling.{FailsListing, IsFormOf}
 use Rattle.bit_c.specs.Ending.{ended_by_listing}
 use Rattle.bit_c.specs.Handing.{Makes}
 use Rattle.bit_c.specs.declared.outcome.Outcome.{Outcome}
 use Rattle.bit_c.proofs.Written.{form_taken}
-
--- ---- the text of a source
-
--- the bytes of a source begin with those that it gave
-begins : (before after : Option (List ℕ)) (bytes gave : List ℕ) → before ≡ Some bytes → Consumes before after gave → (rest : List ℕ) × (bytes ≡ gave ++ rest)
-begins before None bytes gave is took = absurd (subst (λ (o : Option (List ℕ)). Consumes o None gave) is took)
-begins before (Some rest) bytes gave is took = (rest, subst (λ (o : Option (List ℕ)). Consumes o (Some rest) gave) is took)
-
--- a source that is at its end gave all
-gave_all : (before after : Option (List ℕ)) (bytes gave : List ℕ) → before ≡ Some bytes → Consumes before after gave → IsAtEnd after → bytes ≡ gave
-gave_all before None bytes gave is took end = absurd (subst (λ (o : Option (List ℕ)). Consumes o None gave) is took)
-gave_all before (Some rest) bytes gave is took end = subst (λ (o : Option (List ℕ)). Consumes o (Some rest) gave) is took ∙ ap (λ (r : List ℕ). gave ++ r) end ∙ append-nil gave
-
-took_all : (i later : Incoming) (listing text : List ℕ) → i.to_come ≡ Some listing → TookAll text i later → listing ≡ text
-took_all i later listing text is all = gave_all i.to_come later.to_come listing text is all.took.bytes all.end
-
--- the listing is read as the text that was taken is
-read_so : (limits : Limits) (i later : Incoming) (listing : List ℕ) (answer : Result Tree (TextReason × ℕ)) → i.to_come ≡ Some listing → IsRead limits i answer later → reading_of limits listing ≡ answer
-read_so limits i later listing answer is h = elim h.1 [
-  | inl all ↦ ap (reading_of limits) (took_all i later listing h.0 is all.0) ∙ all.1
-  | inr front ↦ (let more = begins i.to_come later.to_come listing h.0 is front.0.bytes in ap (reading_of limits) more.1 ∙ front.1 more.0)
-]
 
 -- ---- the form
 

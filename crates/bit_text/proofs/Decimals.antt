@@ -15,30 +15,34 @@ use Rattle.bit_text.proofs.Spelling.{other_byte}
 pub is_below : (a b : ℕ) → a < b → nat_lt a b ≡ true
 is_below a b h = grind (arith, nat_tests)
 
-after_ge : (n : ℕ) (ds : List ℕ) → n ≤ digits_value_after 10 n ds
-after_ge n [] = omega arith
-after_ge n (c ∷ ds) = omega (arith, after_ge (n * 10 + digit_value c) ds)
+-- a digit more makes no number of this base smaller
+abbrev pub Grows : (base : ℕ) → Type 0
+Grows base = (n d : ℕ) → n ≤ n * base + d
 
-digits_some : (base : ℕ) (text : List ℕ) → 0 < length text → digits base text ≡ digits_after base 0 text
+pub after_ge : (base : ℕ) → Grows base → (n : ℕ) (ds : List ℕ) → n ≤ digits_value_after base n ds
+after_ge base grows n [] = omega arith
+after_ge base grows n (c ∷ ds) = omega (arith, grows n (digit_value c), after_ge base grows (n * base + digit_value c) ds)
+
+pub digits_some : (base : ℕ) (text : List ℕ) → 0 < length text → digits base text ≡ digits_after base 0 text
 digits_some base [] h = absurd (omega arith)
 digits_some base (b ∷ text) h = refl
 
-digits_read : (n : ℕ) (ds : List ℕ) → AllDigits 10 ds → digits_value_after 10 n ds < 2 ^ 64 → digits_after 10 n ds ≡ Ok (digits_value_after 10 n ds)
-digits_read n [] all small = refl
-digits_read n (c ∷ ds) all small =
-    let more = after_ge (n * 10 + digit_value c) ds in
-    let digit : nat_lt (digit_value c) 10 ≡ true = is_below (digit_value c) 10 all.0 in
-    let fits : nat_lt (n * 10 + digit_value c) (2 ^ 64) ≡ true = is_below (n * 10 + digit_value c) (2 ^ 64) (omega (arith, more, small)) in
-    rw (digit, fits) (digits_read (n * 10 + digit_value c) ds all.1 small)
+pub digits_read : (base : ℕ) → Grows base → (n : ℕ) (ds : List ℕ) → AllDigits base ds → digits_value_after base n ds < 2 ^ 64 → digits_after base n ds ≡ Ok (digits_value_after base n ds)
+digits_read base grows n [] all small = refl
+digits_read base grows n (c ∷ ds) all small =
+    let more = after_ge base grows (n * base + digit_value c) ds in
+    let digit : nat_lt (digit_value c) base ≡ true = is_below (digit_value c) base all.0 in
+    let fits : nat_lt (n * base + digit_value c) (2 ^ 64) ≡ true = is_below (n * base + digit_value c) (2 ^ 64) (omega (arith, more, small)) in
+    rw (digit, fits) (digits_read base grows (n * base + digit_value c) ds all.1 small)
 
 pub same_none : (t : Bool) → let none : Option (List ℕ) = None in (if t then none else none) ≡ none
 same_none true = refl
 same_none false = refl
 
-no_x : (d : ℕ) → digit_value d < 10 → d ≡ 120 → ⊥
+pub no_x : (d : ℕ) → digit_value d < 10 → d ≡ 120 → ⊥
 no_x d h e = let k : digit_value 120 < 10 = rw e at h in absurd (omega (arith, k))
 
-not_hexadecimal : (ds : List ℕ) → AllDigits 10 ds → behind (codes "0x") ds ≡ None
+pub not_hexadecimal : (ds : List ℕ) → AllDigits 10 ds → behind (codes "0x") ds ≡ None
 not_hexadecimal [] all = refl
 not_hexadecimal (c ∷ []) all = same_none (nat_eq c 48)
 not_hexadecimal (c ∷ d ∷ ds) all = rw (other_byte d 120 (no_x d all.1.0)) (same_none (nat_eq c 48))
@@ -49,7 +53,7 @@ decimal_read n h =
     let small : digits_value 10 (decimal n) < 2 ^ 64 = rw is.1 h in
     ap (λ f. hexadecimal_or_decimal f (decimal n)) (not_hexadecimal (decimal n) is.0.1)
     ∙ digits_some 10 (decimal n) is.0.0
-    ∙ digits_read 0 (decimal n) is.0.1 small
+    ∙ digits_read 10 (λ n d. omega arith) 0 (decimal n) is.0.1 small
     ∙ ap Ok is.1
 
 -- ---- the numbers of a record

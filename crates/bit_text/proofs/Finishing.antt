@@ -1,8 +1,11 @@
 -- The end of a text.
-use Rattle.std.proofs.Common.{◌≡◌, refl, ℕ, false, IfOk, List, [], ◌++◌, replicate, Option, Some, None, Result, Ok, Err, sym, ◌∙◌, ap, subst, append-nil}
+use Rattle.std.proofs.Common.{◌≡◌, refl, ℕ, ◌≤◌, length, false, IfOk, List, [], ◌++◌, replicate, Option, Some, None, Result, Ok, Err, sym, ◌∙◌, ap, subst, append-nil}
 use Rattle.std.specs.Result.{is_err}
 use Rattle.bit_grammar.specs.Blocks.{Limits}
 use Rattle.bit_grammar.specs.Forest.{Tree}
+use Rattle.bit_grammar.specs.Normal.{Capped}
+use Rattle.bit_grammar.proofs.NormalForms.Normals.{normal_spelled}
+use Rattle.bit_grammar.proofs.NormalForms.Sizes.{form_size}
 use Rattle.bit_fields.specs.Devices.{Outgoing}
 use Rattle.bit_fields.specs.declared.fault.Fault.{Fault}
 use Rattle.bit_fields.specs.declared.fault.Fault.TheVariants.{Read, Write, Memory, OutputTooLong, Failed, Refused as RefusedBits}
@@ -17,20 +20,26 @@ use Rattle.bit_text.specs.declared.numbers.Stop.{Stop}
 use Rattle.bit_text.specs.declared.assembler.Assembler.{Assembler}
 use Rattle.bit_text.specs.Listings.{Standing, at_start, behind_magic, after_line, at_end, told_all, next_line}
 use Rattle.bit_text.specs.Stops.{IsAt, IsTold}
-use Rattle.bit_text.specs.Assembling.{outlook, EndsLine, Writes, Finishes}
+use Rattle.bit_text.specs.Assembling.{outlook, EndsLine, TookTree, Writes, Finishes}
 use Rattle.bit_text.proofs.Takings.{line_read, line_refused}
+
+took_tree : (limits : Limits) (tree : Tree) (old new : Outgoing) (r : Result ℕ Fault) → Capped limits → IsFit limits tree → WritesForm tree limits.bytes old r new → TookTree limits tree old r new
+took_tree limits tree old new (Ok count) capped fit wrote = λ known.
+    let gained = wrote.2.bytes known in
+    let few : length gained.0 ≤ limits.bytes = subst (λ (n : ℕ). n ≤ limits.bytes) (sym (form_size tree gained.0 gained.2)) wrote.0 in
+    (gained.0, gained.1, normal_spelled limits tree gained.0 capped fit.fit gained.2 few fit.depth fit.values)
+took_tree limits tree old new (Err fault) capped fit wrote = tt
 
 -- the form was used
 pub form_used : (limits : Limits) (magic : List ℕ) (calls : List Call) (w : FormWriter) (old new : Outgoing) (r : Result ℕ Fault) → IsTold limits magic (calls ++ replicate (where_after calls at_top).depth ends) w
     → ((calls : List Call) → HasTold calls w → WritesForm (tree_told w.magic calls) w.limits.bytes old r new) → ((calls : List Call) → HasTold calls w → IsFit w.limits (tree_told w.magic calls)) → Writes (Ok (told_all magic calls)) limits old r new
 form_used limits magic calls w old new r was form fit =
     let all = calls ++ replicate (where_after calls at_top).depth ends in
-    record {
-      tree = told_all magic calls;
-      spells = refl;
-      fit = subst (λ (l : Limits). IsFit l (tree_told magic all)) was.under (subst (λ (m : List ℕ). IsFit w.limits (tree_told m all)) was.of_magic (fit all was.told));
-      writes = subst (λ (l : Limits). WritesForm (tree_told magic all) l.bytes old r new) was.under (subst (λ (m : List ℕ). WritesForm (tree_told m all) w.limits.bytes old r new) was.of_magic (form all was.told));
-    }
+    let tree = told_all magic calls in
+    let kept : IsFit limits tree = subst (λ (l : Limits). IsFit l tree) was.under (subst (λ (m : List ℕ). IsFit w.limits (tree_told m all)) was.of_magic (fit all was.told)) in
+    let wrote : WritesForm tree limits.bytes old r new = subst (λ (l : Limits). WritesForm tree l.bytes old r new) was.under (subst (λ (m : List ℕ). WritesForm (tree_told m all) w.limits.bytes old r new) was.of_magic (form all was.told)) in
+    let capped : Capped limits = subst Capped was.under was.told.capped in
+    record { tree = tree; spells = refl; fit = kept; writes = wrote; accepted = took_tree limits tree old new r capped kept wrote }
 
 pub fault_used : (wanted : Result Tree (TextReason × ℕ)) (limits : Limits) (old new : Outgoing) (fault : Fault) → Writes wanted limits old (Err fault) new → Finishes wanted limits old (Err (FaultOf fault)) new
 fault_used wanted limits old new Write h = h

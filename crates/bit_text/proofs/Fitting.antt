@@ -19,10 +19,10 @@ use Rattle.bit_text.specs.Lines.{content, spaces, is_free, byte_of, four, four_b
 use Rattle.bit_text.specs.Listings.{Standing, at_start, behind_magic, begun, misfit, ends_before, if_last_fits, item_calls, said, after_line, at_end, goes_on, told_all, lines_read, next_line, reading_of}
 use Rattle.bit_text.proofs.Decimals.{is_below}
 
-is_lower : (a b : ℕ) → nat_lt a b ≡ true → a < b
+pub is_lower : (a b : ℕ) → nat_lt a b ≡ true → a < b
 is_lower a b h = grind (arith, nat_tests)
 
-is_other : (a b : ℕ) → nat_eq a b ≡ false → a ≡ b → ⊥
+pub is_other : (a b : ℕ) → nat_eq a b ≡ false → a ≡ b → ⊥
 is_other a b h e = grind (arith, nat_tests)
 
 -- ---- numbers
@@ -92,11 +92,11 @@ either_in_range None None call h = absurd cc
 
 -- ---- calls
 
-ends_fit : (limits : Limits) (k : ℕ) (w : Where) (rest : List Call) → k ≤ w.depth → AreFit limits (where_after (replicate k ends) w) rest → AreFit limits w (replicate k ends ++ rest)
+pub ends_fit : (limits : Limits) (k : ℕ) (w : Where) (rest : List Call) → k ≤ w.depth → AreFit limits (where_after (replicate k ends) w) rest → AreFit limits w (replicate k ends ++ rest)
 ends_fit limits zero w rest h fit = fit
 ends_fit limits (suc k) w rest h fit = (is_below 0 w.depth (omega (arith, h)), tt, ends_fit limits k (after_call ends w) rest (omega (arith, h)) fit)
 
-fit_append : (limits : Limits) (calls more : List Call) (w : Where) → AreFit limits w calls → AreFit limits (where_after calls w) more → AreFit limits w (calls ++ more)
+pub fit_append : (limits : Limits) (calls more : List Call) (w : Where) → AreFit limits w calls → AreFit limits (where_after calls w) more → AreFit limits w (calls ++ more)
 fit_append limits [] more w fit rest = rest
 fit_append limits (call ∷ calls) more w fit rest = (fit.0, fit.1, fit_append limits calls more (after_call call w) fit.2 rest)
 
@@ -114,7 +114,7 @@ item_fits limits w spaces call more false false range h = absurd cc
 -- ---- lines
 
 -- what is read so far is fit
-abbrev Good : Limits → Standing → Type 0
+abbrev pub Good : Limits → Standing → Type 0
 Good limits at_start = Unit {0}
 Good limits (behind_magic magic calls) = (magic_number magic < 2 ^ 32) × (magic_number magic ≢ wrapper_magic) × AreFit limits at_top calls
 
@@ -136,7 +136,7 @@ magic_small (Some text) magic h =
     by_length true a b c d magic h = four_small a b c d magic h
     by_length false a b c d magic h = absurd cc
 
-begun_good : (limits : Limits) (found : Option (List ℕ)) (later : Standing) → ((magic : List ℕ) → found ≡ Some magic → magic_number magic < 2 ^ 32) → begun found ≡ Ok later → Good limits later
+pub begun_good : (limits : Limits) (found : Option (List ℕ)) (later : Standing) → ((magic : List ℕ) → found ≡ Some magic → magic_number magic < 2 ^ 32) → begun found ≡ Ok later → Good limits later
 begun_good limits None later small h = absurd cc
 begun_good limits (Some magic) later small h = bare (nat_eq (magic_number magic) wrapper_magic) refl h
   where
@@ -163,7 +163,7 @@ said_good limits at_start line later good h = begun_good limits (magic_of line) 
 said_good limits (behind_magic magic calls) line later good h =
     item_good limits magic calls (spaces line) (item_of (content line)) later good (λ call e. either_in_range (behind (codes "record ") (content line)) (behind (codes "block ") (content line)) call e) h
 
-line_good : (limits : Limits) (now : Standing) (line : List ℕ) (later : Standing) → Good limits now → after_line limits now line ≡ Ok later → Good limits later
+pub line_good : (limits : Limits) (now : Standing) (line : List ℕ) (later : Standing) → Good limits now → after_line limits now line ≡ Ok later → Good limits later
 line_good limits now line later good h = by_free (is_free (content line)) h
   where
     by_free : (t : Bool) → (if t then Ok now else said limits now line) ≡ Ok later → Good limits later
@@ -186,7 +186,7 @@ next_fit : (limits : Limits) (number : ℕ) (r : Result Standing TextReason) (ne
 next_fit limits number (Ok later) next tree good fit h = fit later (good later refl) h
 next_fit limits number (Err reason) next tree good fit h = absurd cc
 
-lines_fit : (limits : Limits) (number : ℕ) (now : Standing) (lines : List (List ℕ)) (tree : Tree) → Capped limits → Good limits now → lines_read limits number now lines ≡ Ok tree → IsFit limits tree
+pub lines_fit : (limits : Limits) (number : ℕ) (now : Standing) (lines : List (List ℕ)) (tree : Tree) → Capped limits → Good limits now → lines_read limits number now lines ≡ Ok tree → IsFit limits tree
 lines_fit limits number now [] tree capped good h = end_fit limits number now tree capped good h
 lines_fit limits number now (line ∷ lines) tree capped good h =
     next_fit limits (next_line number) (after_line limits now line) (λ later. lines_read limits (next_line number) later lines) tree (λ later e. line_good limits now line later good e)

@@ -19,7 +19,7 @@ use Rattle.bit_text.specs.Stops.{IsTold, TellsItem, IsAt, ReadsItem, ReadsLine}
 use Rattle.bit_text.proofs.Spelling.{other_byte, same_byte}
 use Rattle.bit_text.proofs.Decimals.{is_below}
 
-not_below : (a b : ℕ) → b ≤ a → nat_lt a b ≡ false
+pub not_below : (a b : ℕ) → b ≤ a → nat_lt a b ≡ false
 not_below a b h = grind (arith, nat_tests)
 
 pub where_append : (calls more : List Call) (w : Where) → where_after (calls ++ more) w ≡ where_after more (where_after calls w)

@@ -6,10 +6,9 @@ use Rattle.std.specs.Char.{digit_value}
 use Rattle.std.specs.List.{AllByRecursion, list_all}
 use Rattle.std.proofs.lemmas.Bool.Decides.{nat_tests}
 use Rattle.bit_grammar.specs.Texts.{line, hex_text, magic_bytes, magic_text, values_text}
-use Rattle.bit_norm.specs.Telling.{begins, holds}
-use Rattle.bit_text.specs.Numbers.{and_then, numbers_after, parts_after}
-use Rattle.bit_text.specs.Lines.{spaces, content, is_low_digit, byte_of, magic_of, item_of, record_of, block_of}
-use Rattle.bit_text.proofs.Decimals.{Lacks, lacks_append, decimal_lacks, numbers_read, parts_over, is_below}
+use Rattle.bit_text.specs.Numbers.{numbers_after, parts_after}
+use Rattle.bit_text.specs.Lines.{spaces, content, is_low_digit, byte_of, magic_of}
+use Rattle.bit_text.proofs.Decimals.{Lacks, lacks_append, decimal_lacks, numbers_read, parts_over}
 use Rattle.bit_text.proofs.Spelling.{same_byte}
 
 -- ---- the magic
@@ -37,7 +36,7 @@ pub spaces_of : (n b : ℕ) (text : List ℕ) → nat_eq b 32 ≡ false → spac
 spaces_of zero b text other = rw other refl
 spaces_of (suc n) b text other = ap suc (spaces_of n b text other)
 
-dropped : (n : ℕ) (text : List ℕ) → drop n (replicate n 32 ++ text) ≡ text
+pub dropped : (n : ℕ) (text : List ℕ) → drop n (replicate n 32 ++ text) ≡ text
 dropped zero text = refl
 dropped (suc n) text = dropped n text
 
@@ -46,18 +45,13 @@ content_of n b text other = rw (spaces_of n b text other) (dropped n (b ∷ text
 
 -- ---- items
 
-pub record_read : (code : ℕ) (values : List ℕ) → code < 2 ^ 64 → AllByRecursion (λ v. v < 2 ^ 64) values → item_of (codes "record " ++ decimal code ++ values_text values) ≡ Ok (holds code values)
-record_read code values h all =
-    ap (λ p. and_then (numbers_after [] p) record_of) (parts_over 32 [] (decimal code) (values_text values) (decimal_lacks 32 code (omega arith) h))
-    ∙ ap (λ r. and_then r record_of) (numbers_read [] code values h all)
+pub record_numbers : (code : ℕ) (values : List ℕ) → code < 2 ^ 64 → AllByRecursion (λ v. v < 2 ^ 64) values → numbers_after [] (parts_after 32 [] (decimal code ++ values_text values)) ≡ Ok (code ∷ values)
+record_numbers code values h all = ap (numbers_after []) (parts_over 32 [] (decimal code) (values_text values) (decimal_lacks 32 code (omega arith) h)) ∙ numbers_read [] code values h all
 
-pub block_read : (id : ℕ) → id < 2 ^ 32 → item_of (codes "block " ++ decimal id) ≡ Ok (begins id)
-block_read id h =
+pub block_numbers : (id : ℕ) → id < 2 ^ 32 → numbers_after [] (parts_after 32 [] (decimal id)) ≡ Ok (id ∷ [])
+block_numbers id h =
     let h64 : id < 2 ^ 64 = omega (arith, h) in
-    ap (λ t. and_then (numbers_after [] (parts_after 32 [] t)) block_of) (sym (append-nil (decimal id)))
-    ∙ ap (λ p. and_then (numbers_after [] p) block_of) (parts_over 32 [] (decimal id) [] (decimal_lacks 32 id (omega arith) h64))
-    ∙ ap (λ r. and_then r block_of) (numbers_read [] id [] h64 tt)
-    ∙ rw (is_below id (2 ^ 32) h) refl
+    ap (λ t. numbers_after [] (parts_after 32 [] t)) (sym (append-nil (decimal id))) ∙ record_numbers id [] h64 tt
 
 -- ---- lines
 

@@ -1,9 +1,11 @@
 -- The effect of assembling a text.
-use Rattle.std.specs.Prelude.{◌≡◌, ℕ, ◌+◌, ◌⊎◌, List, [], ◌++◌, Result, Ok, Err}
+use Rattle.std.specs.Prelude.{◌≡◌, ℕ, ◌+◌, ◌⊎◌, List, [], ◌++◌, IsSome, Result, Ok, Err}
 use Rattle.std.specs.Io.KnownBytes.{Consumes, IsAtEnd}
 use Rattle.bit_grammar.specs.Blocks.{Limits}
 use Rattle.bit_grammar.specs.Forest.{Tree}
-use Rattle.bit_fields.specs.Devices.{Incoming, Outgoing, IsWorn}
+use Rattle.bit_grammar.specs.Normal.{HasTree}
+use Rattle.bit_grammar.specs.Setting.{keep}
+use Rattle.bit_fields.specs.Devices.{Incoming, Outgoing, IsWorn, known_bytes}
 use Rattle.bit_fields.specs.declared.fault.Fault.{Fault}
 use Rattle.bit_fields.specs.declared.fault.Fault.TheVariants.{Read, Write, Memory, OutputTooLong, Failed, Refused as RefusedBits}
 use Rattle.bit_norm.specs.Telling.{IsFit}
@@ -40,6 +42,12 @@ TakesBytes now bytes old (Err (Refused reason line)) new = (rest : List ℕ)
     → outlook now old (bytes ++ rest) ≡ Err (reason, line)
 TakesBytes now bytes old (Err (FaultOf fault)) new = fault ≡ Memory
 
+-- the bytes that a sink took, if they are known, are accepted with this tree
+abbrev pub TookTree : Limits → Tree → Outgoing → Result ℕ Fault → Outgoing → Type 0
+TookTree limits tree old (Ok count) new = IsSome old.bytes → (more : List ℕ)
+    × (known_bytes new.bytes ≡ known_bytes old.bytes ++ more) × HasTree keep limits more tree
+TookTree limits tree old (Err fault) new = Unit {0}
+
 -- a text spells a tree that keeps to the limits, and its normal form was used in this way
 pub record Writes (wanted : Result Tree (TextReason × ℕ)) (limits : Limits) (old : Outgoing)
     (answer : Result ℕ Fault) (new : Outgoing) : Type 0 where
@@ -47,6 +55,7 @@ pub record Writes (wanted : Result Tree (TextReason × ℕ)) (limits : Limits) (
   pub spells : wanted ≡ Ok tree
   pub fit : IsFit limits tree
   pub writes : WritesForm tree limits.bytes old answer new
+  pub accepted : TookTree limits tree old answer new
 
 -- The sink took the normal form of the tree that a text spells, or a prefix of it, or nothing because it is too long; or the text
 -- is refused, or an allocation failed, and the sink took nothing.
@@ -106,9 +115,9 @@ abbrev pub ReadsAndFinishes : Limits → Incoming → Outgoing → Result ℕ As
 ReadsAndFinishes limits i old answer later new = (text : List ℕ) × TookAll text i later
     × Finishes (reading_of limits text) limits old answer new
 
--- The sink took the normal form of the tree that the text spells, and the result is its length in bytes; or a prefix of it; or
--- nothing, because it has more bytes than the limit; or the text is refused at its first line that no listing has there, or was
--- not read, and the sink took nothing.
+-- The sink took the normal form of the tree that the text spells, the bytes of which are accepted with that tree, and the result is
+-- its length in bytes; or a prefix of it; or nothing, because it has more bytes than the limit; or the text is refused at its first
+-- line that no listing has there, or was not read, and the sink took nothing.
 abbrev pub Assembles : Limits → Incoming → Outgoing → Result ℕ AssembleFault → Incoming → Outgoing
     → Type 0
 Assembles limits i old (Ok count) later new = ReadsAndFinishes limits i old (Ok count) later new

@@ -1,26 +1,28 @@
--- How the items that a text lists become the calls of a writer.
-use Rattle.std.specs.Prelude.{◌≡◌, ℕ, ◌-◌, List, [], ◌∷◌, ◌++◌, replicate}
-use Rattle.bit_grammar.specs.Forest.{Tree}
-use Rattle.bit_norm.specs.Telling.{Call, begins, holds, ends, at_top, where_after}
-use Rattle.bit_grammar.specs.FormatListing.{Item, of_block, of_record, Entry, IsListing}
-use Rattle.bit_text.specs.Listings.{told_all}
+-- Which text lists which tree, in the words of the format.
+use Rattle.std.specs.Prelude.{◌≡◌, ℕ, suc, List, [], ◌∷◌, ◌++◌}
+use Rattle.bit_grammar.specs.Blocks.{Limits}
+use Rattle.bit_grammar.specs.Forest.{Forest, empty, a_block, a_record, Tree}
+use Rattle.bit_grammar.specs.FormatListing.{of_block, of_record, Entry, IsListing}
+use Rattle.bit_fields.specs.Opening.{magic_number}
+use Rattle.bit_norm.specs.Telling.{IsFit}
 
--- the call of an item
-abbrev pub called : Item → Call
-called (of_block id) = begins id
-called (of_record code values) = holds code values
+-- the items of a forest in order, with `around` blocks around it
+abbrev pub entries_of : (around : ℕ) → Forest → List Entry
+entries_of around empty = []
+entries_of around (a_block id inner others) = record { around = around; item = of_block id }
+    ∷ (entries_of (suc around) inner ++ entries_of around others)
+entries_of around (a_record code values others) = record {
+  around = around;
+  item = of_record code values;
+} ∷ entries_of around others
 
--- calls, the ends of the blocks that an entry is not in, and its own call
-abbrev pub told_with : List Call → Entry → List Call
-told_with calls e = calls ++ (replicate ((where_after calls at_top).depth - e.around) ends
-    ++ called e.item ∷ [])
+-- a magic and items are those of a tree within the limits
+pub record AreOfTree (limits : Limits) (magic : List ℕ) (entries : List Entry) (tree : Tree) : Type 0 where
+  pub number : magic_number magic ≡ tree.magic
+  pub items : entries ≡ entries_of 0 tree.blocks
+  pub fit : IsFit limits tree
 
--- calls, and those of entries
-abbrev pub calls_with : List Call → List Entry → List Call
-calls_with calls [] = calls
-calls_with calls (e ∷ entries) = calls_with (told_with calls e) entries
-
--- a text lists items, and these tell a tree
-abbrev pub Lists : (text : List ℕ) → Tree → Type 0
-Lists text tree = (magic : List ℕ) × (entries : List Entry) × IsListing text magic entries
-    × (tree ≡ told_all magic (calls_with [] entries))
+-- a text lists a tree within the limits
+abbrev pub Lists : Limits → (text : List ℕ) → Tree → Type 0
+Lists limits text tree = (magic : List ℕ) × (entries : List Entry) × IsListing text magic entries
+    × AreOfTree limits magic entries tree

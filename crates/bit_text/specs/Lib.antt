@@ -5,4 +5,5 @@ pub mod Listings
 pub mod Numbers
 pub mod Places
 pub mod Reasons
+pub mod Refusals
 pub mod Stops

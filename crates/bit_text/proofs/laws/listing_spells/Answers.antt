@@ -1,5 +1,4 @@
 use Rattle.bit_text.proofs.Fitting.{read_fit}
-use Rattle.bit_text.proofs.InWords.{text_lists}
 use Rattle.bit_text.proofs.Spelled.{listing_spells, listing_determines}
 use Rattle.bit_text.proofs.laws.listing_spells.Goals as goal
 
@@ -11,6 +10,3 @@ returns-clause-determines c = listing_determines
 
 pub returns-clause-fit : goal.returns-clause-fit
 returns-clause-fit c = read_fit
-
-pub returns-clause-lists : goal.returns-clause-lists
-returns-clause-lists c = text_lists
