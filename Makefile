@@ -6,8 +6,8 @@
 # make dist         packs what make install puts there into out/bitstool-VERSION-x86_64-linux.tar.gz, the same bytes on each
 #                   run; OUT names another folder than out
 # make bench        the program beside other tools; bench/tool says on which files
-# make test         the gate: every proof from nothing, the edits that must be refused, and the scripts of tests/
-# make test-program  builds the program and the C library, and runs the scripts of tests/, which test both
+# make test         the gate: every proof from nothing, the edits that must be refused, the scripts of tests/, and bench/counts
+# make test-program  builds the program, its tools and the C library, and runs the scripts of tests/ and bench/counts
 PREFIX ?= /usr/local
 # The pages of docs/ for users, which are installed. The others are for those who change the project.
 PAGES := FORMAT RECIPES PROMISES COSTS
@@ -15,8 +15,8 @@ PAGES := FORMAT RECIPES PROMISES COSTS
 PYTHON_FOLDER ?= lib/python3/dist-packages
 JOBS ?= $(shell nproc)
 PROGRAM := crates/bitstool/out/bitstool
-# A program that makes calls of the libraries, for tests/refused_memory.
-ASKING := crates/refused_calls/out/refused_calls
+# Programs for tests/refused_memory and bench/counts.
+TOOLS := refused_calls workloads
 LIBRARIES := $(filter-out bit_c,$(patsubst crates/%/src/lib.rt,%,$(wildcard crates/*/src/lib.rt)))
 sources = $(shell find crates/$(1) -path '*/out' -prune -o \( -name '*.rt' -o -name '*.antt' \) -print)
 below = $(filter $(LIBRARIES),$(shell sed -n 's/^$(1)[^:]*://p' crates.txt))
@@ -41,11 +41,14 @@ $(PROGRAM): crates.txt $(foreach name,$(LIBRARIES) bitstool,$(call sources,$(nam
 	@touch $(PROGRAM)
 	@echo "built $(PROGRAM)" >&2
 
-$(ASKING): $(PROGRAM) $(call sources,refused_calls)
-	@echo "proving refused_calls" >&2
-	@mkdir -p crates/refused_calls/out
-	@cd crates/refused_calls && rt run --jobs $(JOBS) < stdin 2> out/make.log | cmp - stdout || { cat out/make.log; exit 1; }
-	@touch $@
+define tool
+crates/$(1)/out/$(1): $(PROGRAM) $(call sources,$(1))
+	@echo "proving $(1)" >&2
+	@mkdir -p crates/$(1)/out
+	@cd crates/$(1) && rt run --jobs $(JOBS) -- $$$$(cat args 2> /dev/null) < stdin 2> out/make.log | cmp - stdout || { cat out/make.log; exit 1; }
+	@touch $$@
+endef
+$(foreach name,$(TOOLS),$(eval $(call tool,$(name))))
 
 # Libraries that do not need each other are proved side by side.
 libraries: $(LIBRARIES:%=crates/%/out/built)
@@ -126,5 +129,5 @@ bench: $(PROGRAM)
 test:
 	@tests/run --gate
 
-test-program: $(PROGRAM) $(ASKING) lib
+test-program: $(PROGRAM) $(foreach name,$(TOOLS),crates/$(name)/out/$(name)) lib
 	@tests/run

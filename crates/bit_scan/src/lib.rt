@@ -21,6 +21,8 @@ mod lines;
 mod links;
 mod listing;
 mod printer;
+#[cfg(test)]
+mod puts_tests;
 mod reporting;
 mod rows;
 mod showing;

@@ -1,6 +1,4 @@
-//! A digest of results, whatever the pieces in which they come.
-
-use bit_fields::Fault;
+//! A digest of numbers and texts, in order.
 
 /// A state and a number, mixed.
 fn mixed(state: u64, number: u64) -> u64 {
@@ -27,11 +25,33 @@ impl Digest {
         self.state = mixed(self.state, number);
     }
 
-    /// Takes the length and the bytes of a text. Four lanes of words make it quick beside the work.
+    /// Takes numbers in order, without how many there are.
+    pub fn fields(&mut self, numbers: &[u64]) {
+        for number in numbers {
+            self.number(*number);
+        }
+    }
+
+    /// Takes how many numbers there are, and the numbers. Four lanes make it quick beside the work.
+    pub fn list(&mut self, numbers: &[u64]) {
+        self.number(numbers.len() as u64);
+        let (blocks, rest) = numbers.as_chunks::<4>();
+        let (mut a, mut b, mut c, mut d) = (1, 2, 3, 4);
+        for [first, second, third, fourth] in blocks {
+            a = mixed(a, *first);
+            b = mixed(b, *second);
+            c = mixed(c, *third);
+            d = mixed(d, *fourth);
+        }
+        self.fields(&[a, b, c, d]);
+        self.fields(rest);
+    }
+
+    /// Takes the length and the bytes of a text, also in four lanes.
     pub fn text(&mut self, bytes: &[u8]) {
         self.number(bytes.len() as u64);
         let (blocks, rest) = bytes.as_chunks::<32>();
-        let (mut a, mut b, mut c, mut d) = (self.state, 1, 2, 3);
+        let (mut a, mut b, mut c, mut d) = (1, 2, 3, 4);
         for block in blocks {
             let (words, _) = block.as_slice().as_chunks::<8>();
             if let [first, second, third, fourth] = words {
@@ -41,26 +61,9 @@ impl Digest {
                 d = mixed(d, u64::from_le_bytes(*fourth));
             }
         }
-        for number in [a, b, c, d] {
-            self.number(number);
-        }
+        self.fields(&[a, b, c, d]);
         for byte in rest {
             self.number(u64::from(*byte));
-        }
-    }
-
-    /// Takes a fault.
-    pub fn fault(&mut self, fault: Fault) {
-        match fault {
-            Fault::Refused { reason, bit } => {
-                self.text(reason.name().as_bytes());
-                self.number(bit);
-            }
-            Fault::Read => self.number(1),
-            Fault::Write => self.number(2),
-            Fault::Memory => self.number(3),
-            Fault::OutputTooLong => self.number(4),
-            Fault::Failed => self.number(5),
         }
     }
 

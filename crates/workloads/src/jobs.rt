@@ -1,15 +1,39 @@
-//! The jobs.
+//! The jobs. Each digests what the calls return.
 
 use crate::digest::Digest;
 use crate::maker::{Input, Maker};
-use crate::pieces::{Pieces, buffered};
+use crate::pieces::{Flow, Pieces, Pipe, buffered, left_in};
 use crate::unit::limits_for;
-use bit_events::{Event, Events, check};
+use bit_events::{Events, check};
 use bit_fields::{Fault, Limits, ReadSource, SliceSource, VecSink};
-use bit_norm::{Difference, Info, first_difference, first_difference_from, normalise};
+use bit_norm::{
+    Difference, Info, SameFault, first_difference, first_difference_from,
+    first_difference_in_parts, normalise,
+};
 use bit_scan::{EventStyle, Format, ValueDisplay, write_events, write_report, write_show};
-use bit_text::{AssembleFault, assemble};
+use bit_text::assemble;
 use std::alloc::Global;
+use std::mem;
+
+/// What an input is compared with.
+#[derive(Clone, Copy)]
+pub enum Other {
+    /// The same bytes.
+    Itself,
+    /// One with a unit more in its middle.
+    Longer,
+    /// One with another value in its middle.
+    Altered,
+    /// Its normal form.
+    Form,
+}
+
+impl Other {
+    /// Whether its tree differs.
+    fn differs(self) -> bool {
+        matches!(self, Other::Longer | Other::Altered)
+    }
+}
 
 /// Does jobs, and digests their results.
 #[derive(Drop)]
@@ -45,20 +69,16 @@ impl Worker {
             .map_err(|_| Fault::Memory)
     }
 
-    /// Digests how a call ended.
-    fn ended(&mut self, answer: Result<(), Fault>) {
-        match answer {
-            Ok(()) => self.digest.number(7),
-            Err(fault) => self.digest.fault(fault),
+    /// Judges an input, which may be damaged near its end.
+    pub fn check(&mut self, least: usize, damaged: bool) -> Result<(), Fault> {
+        let mut input = self.input(least, false)?;
+        if damaged {
+            self.maker.damage(&mut input);
         }
-    }
-
-    /// Judges an input.
-    pub fn check(&mut self, least: usize) -> Result<(), Fault> {
-        let input = self.input(least, false)?;
         let source = buffered(self.alloc, input.bytes.as_slice())?;
-        let (answer, _) = check(self.alloc, source, limits_for(input.magic));
-        self.ended(answer);
+        let (answer, source) = check(self.alloc, source, limits_for(input.magic));
+        self.digest.ended(answer);
+        self.digest.number(left_in(source) as u64);
         Ok(())
     }
 
@@ -75,7 +95,7 @@ impl Worker {
             Info::Keep,
         );
         self.digest.text(form.bytes());
-        self.ended(written.map(|_| ()));
+        self.digest.counted(written);
         Ok(())
     }
 
@@ -86,64 +106,74 @@ impl Worker {
         let sink = VecSink::new(self.alloc);
         let (written, _, report) = write_report(self.alloc, source, sink, limits_for(input.magic));
         self.digest.text(report.bytes());
-        self.ended(written);
+        self.digest.ended(written);
         Ok(())
     }
 
-    /// Digests a difference.
-    fn differs(&mut self, difference: &Option<Difference>) {
-        match difference {
-            Some(found) => {
-                self.digest.number(found.first.bit);
-                self.digest.number(found.second.bit);
-                if let Some(value) = found.value {
-                    self.digest.number(value.index);
-                    self.digest.number(value.first ^ value.second);
-                }
-            }
-            None => self.digest.number(8),
-        }
-    }
-
-    /// Compares an input with another one, which is in memory.
-    fn compare(&mut self, first: &[u8], second: &[u8], limits: Limits) -> Result<(), Fault> {
-        let source = buffered(self.alloc, second)?;
-        let (answer, _) = first_difference_from(self.alloc, first, source, limits, Info::Keep);
+    /// Digests how a comparison ended. It has to find what the pair was made for.
+    fn compared(
+        &mut self,
+        answer: &Result<Option<Difference>, SameFault>,
+        other: Other,
+    ) -> Result<(), Fault> {
+        self.digest.compared(answer);
         match answer {
-            Ok(difference) => self.differs(&difference),
-            Err(misread) => self.digest.fault(misread.fault),
+            Ok(found) if found.is_some() == other.differs() => Ok(()),
+            _ => Err(Fault::Failed),
         }
-        Ok(())
     }
 
-    /// Compares an input with one of the same bytes, both read.
-    fn compare_twins(&mut self, bytes: &[u8], limits: Limits) -> Result<(), Fault> {
-        let first = buffered(self.alloc, bytes)?;
-        let second = buffered(self.alloc, bytes)?;
-        let (answer, _, _) = first_difference(self.alloc, first, second, limits, Info::Keep);
-        match answer {
-            Ok(difference) => self.differs(&difference),
-            Err(misread) => self.digest.fault(misread.fault),
+    /// The next input, of at least so many bytes, and what it is compared with.
+    fn pair(&mut self, least: usize, other: Other) -> Result<(Input, Vec<u8>), Fault> {
+        let mut input = self.input(least, matches!(other, Other::Form))?;
+        let second = match other {
+            Other::Itself => input.bytes.as_slice().to_vec(self.alloc),
+            Other::Longer => self.maker.longer(&input),
+            Other::Altered => self.maker.altered(&input),
+            Other::Form => Ok(mem::replace(&mut input.form, Vec::new(self.alloc))),
+        };
+        match second {
+            Ok(second) => Ok((input, second)),
+            Err(_) => Err(Fault::Memory),
         }
-        Ok(())
     }
 
-    /// Compares an input with itself, with a longer one, with one of other values, or with its normal form.
-    pub fn same(&mut self, least: usize, way: u64) -> Result<(), Fault> {
-        let input = self.input(least, way == 3)?;
+    /// Compares an input in memory with another one, or both if they have the same bytes, from buffers.
+    pub fn same(&mut self, least: usize, other: Other) -> Result<(), Fault> {
+        let (input, second) = self.pair(least, other)?;
         let limits = limits_for(input.magic);
-        match way {
-            0 => self.compare_twins(input.bytes.as_slice(), limits),
-            1 => {
-                let longer = self.maker.longer(&input).map_err(|_| Fault::Memory)?;
-                self.compare(input.bytes.as_slice(), longer.as_slice(), limits)
+        let first = input.bytes.as_slice();
+        let source = buffered(self.alloc, second.as_slice())?;
+        let answer = match other {
+            Other::Itself => {
+                let first = buffered(self.alloc, first)?;
+                first_difference(self.alloc, first, source, limits, Info::Keep).0
             }
-            2 => {
-                let altered = self.maker.altered(&input).map_err(|_| Fault::Memory)?;
-                self.compare(input.bytes.as_slice(), altered.as_slice(), limits)
-            }
-            _ => self.compare(input.bytes.as_slice(), input.form.as_slice(), limits),
+            _ => first_difference_from(self.alloc, first, source, limits, Info::Keep).0,
+        };
+        self.compared(&answer, other)
+    }
+
+    /// Compares two inputs that come from one pipe, one after the other, as the program does.
+    pub fn pipes(&mut self, least: usize, other: Other, flow: Flow) -> Result<(), Fault> {
+        let (input, second) = self.pair(least, other)?;
+        let limits = limits_for(input.magic);
+        let first = input.bytes.len() as u64;
+        let mut both = input.bytes;
+        if both.extend_from_slice(second.as_slice()).is_err() {
+            return Err(Fault::Memory);
         }
+        let pipe = Pipe::new(both.as_slice(), flow, self.maker.number());
+        let source = buffered(self.alloc, pipe)?;
+        let (answer, source) = first_difference_in_parts(
+            self.alloc,
+            source,
+            first,
+            limits,
+            Info::Keep,
+        );
+        self.digest.number(left_in(source) as u64);
+        self.compared(&answer, other)
     }
 
     /// Reads a listing back.
@@ -151,11 +181,7 @@ impl Worker {
         let source = buffered(self.alloc, listing)?;
         let (answer, _, form) = assemble(self.alloc, source, VecSink::new(self.alloc), limits);
         self.digest.text(form.bytes());
-        match answer {
-            Ok(length) => self.digest.number(length),
-            Err(AssembleFault::Fault(fault)) => self.digest.fault(fault),
-            Err(AssembleFault::Refused { line, .. }) => self.digest.number(line),
-        }
+        self.digest.assembled(answer);
         Ok(())
     }
 
@@ -167,7 +193,7 @@ impl Worker {
         let sink = VecSink::new(self.alloc);
         let (written, _, listing) = write_show(self.alloc, source, sink, limits, Info::Keep);
         self.digest.text(listing.bytes());
-        self.ended(written);
+        self.digest.ended(written);
         if back {
             self.back(listing.bytes(), limits)
         } else {
@@ -187,27 +213,8 @@ impl Worker {
         let limits = limits_for(input.magic);
         let (written, _, text) = write_events(self.alloc, source, sink, limits, style);
         self.digest.text(text.bytes());
-        self.ended(written);
+        self.digest.ended(written);
         Ok(())
-    }
-
-    /// Digests an event.
-    fn event(&mut self, event: Event<'_>) {
-        match event {
-            Event::Enter { id, body, .. } => self.digest.number(body ^ u64::from(id)),
-            Event::Define { after, .. } => self.digest.number(after),
-            Event::Record {
-                code,
-                values,
-                after,
-                ..
-            } => {
-                self.digest.number(code ^ after);
-                self.digest.number(values.len() as u64);
-                self.digest.number(values.last().copied().unwrap_or(0));
-            }
-            Event::Leave { after } => self.digest.number(after),
-        }
     }
 
     /// Walks through the events of an input that comes in small pieces.
@@ -219,7 +226,7 @@ impl Worker {
             _,
         )| fault)?;
         while let Some(event) = events.next()? {
-            self.event(event);
+            self.digest.event(event);
         }
         Ok(())
     }
@@ -243,7 +250,7 @@ impl Worker {
         }
         let source = ReadSource::new(Pieces::new(wrapped.as_slice()));
         let (answer, _) = check(self.alloc, source, limits_for(input.magic));
-        self.ended(answer);
+        self.digest.ended(answer);
         let (answer, _, _) = normalise(
             self.alloc,
             SliceSource::new(wrapped.as_slice()),
@@ -251,7 +258,7 @@ impl Worker {
             limits_for(input.magic),
             Info::Drop,
         );
-        self.ended(answer.map(|_| ()));
+        self.digest.counted(answer);
         Ok(())
     }
 }

@@ -2,7 +2,7 @@
 //!
 //! `workloads JOB SEED ROUNDS [FILE..]` does a job in so many rounds, each on an input of its own, and writes a digest of all
 //! results. Inputs are made of the blocks of the files, which are samples of what compilers write, in an order and with values that
-//! the seed gives; without files, of blocks that no compiler writes (`awkward`).
+//! the seed gives; without files, of blocks that no compiler writes (`awkward`). With ROUNDS/PART their sizes are divided by PART.
 #![tactic(auto)]
 
 mod awkward;
@@ -11,10 +11,15 @@ mod jobs;
 mod maker;
 mod pieces;
 mod random;
+mod results;
+#[cfg(test)]
+mod results_tests;
+mod tails;
 mod unit;
 
-use crate::jobs::Worker;
+use crate::jobs::{Other, Worker};
 use crate::maker::Maker;
+use crate::pieces::Flow;
 use crate::unit::Unit;
 use anyhow::{Context, Result, bail};
 use bit_fields::Fault;
@@ -39,6 +44,12 @@ const TEXTS: [usize; 8] = [
     100_000, 800_000, 20_000, 400_000, 2_000_000, 200_000, 1_000_000, 50_000,
 ];
 
+/// What inputs are compared with, by turns.
+const OTHERS: [Other; 4] = [Other::Itself, Other::Longer, Other::Altered, Other::Form];
+
+/// How the bytes of pipes come, by turns.
+const FLOWS: [Flow; 3] = [Flow::Whole, Flow::Pages, Flow::Some];
+
 /// Writes the events of an input, in one of two formats.
 fn tell(worker: &mut Worker, way: u64, least: usize) -> Result<(), Fault> {
     let format = if way % 2 == 0 {
@@ -61,10 +72,10 @@ fn write(worker: &mut Worker, way: u64, least: usize) -> Result<(), Fault> {
 /// A round of all jobs by turns.
 fn mix(worker: &mut Worker, kind: u64, way: u64, least: usize) -> Result<(), Fault> {
     match kind {
-        0 => worker.check(least),
+        0 => worker.check(least, way % 2 == 1),
         1 => worker.normal(least),
         2 => worker.analyse(least),
-        3 => worker.same(least, way),
+        3 => worker.same(least, OTHERS[(way % 4) as usize]),
         4 => worker.walk(least),
         5 => worker.show(least, true),
         6 => worker.refuse(least),
@@ -81,11 +92,13 @@ fn round(worker: &mut Worker, job: &str, round: u64) -> Option<Result<(), Fault>
     let artefact = ARTEFACTS[kind as usize];
     let object = OBJECTS[kind as usize];
     let text = TEXTS[kind as usize];
+    let other = OTHERS[way as usize];
     Some(match job {
-        "check" => worker.check(artefact),
+        "check" => worker.check(artefact, way % 2 == 1),
         "analyse" => worker.analyse(artefact),
         "normal" => worker.normal(object),
-        "same" => worker.same(object, way),
+        "same" => worker.same(object, other),
+        "pipes" => worker.pipes(object, other, FLOWS[(round % 3) as usize]),
         "text" => write(worker, way, text),
         "mix" => mix(worker, kind, way, text),
         _ => return None,
@@ -105,10 +118,17 @@ fn units_of(rt: &HostRuntime, files: &[String], seed: u64) -> Result<Vec<Unit>> 
     Ok(units)
 }
 
-/// Does a job in so many rounds, and returns the digest.
-fn work(rt: &HostRuntime, job: &str, seed: u64, rounds: u64, files: &[String]) -> Result<u64> {
+/// Does a job in so many rounds, on inputs of a part of the size, and returns the digest.
+fn work(
+    rt: &HostRuntime,
+    job: &str,
+    seed: u64,
+    (rounds, part): (u64, usize),
+    files: &[String],
+) -> Result<u64> {
     let units = units_of(rt, files, seed)?;
-    let mut worker = Worker::new(rt.alloc(), Maker::new(rt.alloc(), units, seed));
+    let maker = Maker::new(rt.alloc(), units, seed, part);
+    let mut worker = Worker::new(rt.alloc(), maker);
     for turn in 0..rounds {
         match round(&mut worker, job, turn) {
             Some(done) => done?,
@@ -126,17 +146,14 @@ fn run(rt: &HostRuntime) -> Result<()> {
     }
     match words.as_slice() {
         [job, seed, rounds, files @ ..] => {
-            let digest = work(
-                rt,
-                job.as_str(),
-                seed.parse::<u64>()?,
-                rounds.parse::<u64>()?,
-                files,
-            )?;
+            let (rounds, part) = rounds.split_once("/").unwrap_or((rounds.as_str(), "1"));
+            let amount = (rounds.parse::<u64>()?, part.parse::<usize>()?);
+            let seed = seed.parse::<u64>()?;
+            let digest = work(rt, job.as_str(), seed, amount, files)?;
             println!(rt; "{job} {digest:016x}")?;
             Ok(())
         }
-        _ => bail!("words: JOB SEED ROUNDS [FILE..]"),
+        _ => bail!("words: JOB SEED ROUNDS[/PART] [FILE..]"),
     }
 }
 

@@ -7,7 +7,10 @@ use std::alloc::{AllocError, Global};
 /// In how many of the chunks that may be changed one is changed.
 const CHANGED: usize = 16;
 
-/// An input: a magic and units.
+/// The first bytes of a block that is its own normal form, with a record of eight numbers of five bits each.
+const SALT: [u8; 8] = [0x91, 0x09, 0, 0, 2, 0, 0, 0];
+
+/// An input: a magic, a block with numbers of the seed, so that no other input is the same, and units.
 #[derive(Drop)]
 pub struct Input {
     pub magic: [u8; 4],
@@ -19,18 +22,23 @@ pub struct Input {
     place: usize,
 }
 
-/// A payload for the last chunk of a number: not 0, and of four bits at most, as the last chunk of a number of 64 bits has.
+/// A number for five bits of a value: not 0, and of four bits at most, as the last chunk of a number of 64 bits has.
 fn payload(random: &mut Random) -> u16 {
     ((random.next() & 15) as u16).max(1)
 }
 
-/// Sets the five payload bits of a chunk of six bits, whose first bit is counted from a byte.
+/// Sets five bits, whose first bit is counted from a byte, to a number of 1 to 15, or to another one if they are that number.
 fn set_chunk(bytes: &mut [u8], at: usize, bit: usize, payload: u16) {
     let place = at.saturating_add(bit / 8);
     let shift = (bit % 8) as u32;
     if place < bytes.len() && bytes.len() - place >= 2 {
         let mask = 31u16 << shift;
         let pair = u16::from_le_bytes([bytes[place], bytes[place + 1]]);
+        let payload = if (pair & mask) >> shift == payload {
+            payload % 15 + 1
+        } else {
+            payload
+        };
         let set = (pair & !mask) | ((payload << shift) & mask);
         let [low, high] = set.to_le_bytes();
         bytes[place] = low;
@@ -53,21 +61,30 @@ fn change(random: &mut Random, input: &mut Input, at: usize, at_form: usize, chu
     }
 }
 
+/// The record of a salt and the end of its block: eight numbers of one chunk each.
+fn salt(random: &mut Random) -> [u8; 8] {
+    let numbers = random.next() & 0x1F7D_F7DF_7DF7_C000;
+    (numbers | 0x0807).to_le_bytes()
+}
+
 /// Makes inputs.
 #[derive(Drop)]
 pub struct Maker {
     alloc: Global,
     random: Random,
     units: Vec<Unit>,
+    /// By how much the sizes of inputs are divided.
+    part: usize,
 }
 
 impl Maker {
-    /// A maker of inputs of units by a seed.
-    pub fn new(alloc: Global, units: Vec<Unit>, seed: u64) -> Maker {
+    /// A maker of inputs of units by a seed, of a part of the sizes that are asked for.
+    pub fn new(alloc: Global, units: Vec<Unit>, seed: u64, part: usize) -> Maker {
         Maker {
             alloc,
             random: Random::new(seed),
             units,
+            part,
         }
     }
 
@@ -80,6 +97,11 @@ impl Maker {
             Some(unit) => unit.magic,
             None => [0; 4],
         }
+    }
+
+    /// A number by the seed.
+    pub fn number(&mut self) -> u64 {
+        self.random.next()
     }
 
     /// Appends a unit to an input, and to its form if that is asked for, with some of its values changed.
@@ -96,6 +118,20 @@ impl Maker {
         Ok(())
     }
 
+    /// An input with a magic and no units.
+    fn begun(&mut self, magic: [u8; 4]) -> Result<Input, AllocError> {
+        let mut bytes = magic.to_vec(self.alloc)?;
+        bytes.extend_from_slice(&SALT)?;
+        bytes.extend_from_slice(&salt(&mut self.random))?;
+        Ok(Input {
+            magic,
+            form: bytes.as_slice().to_vec(self.alloc)?,
+            middle: bytes.len(),
+            place: 0,
+            bytes,
+        })
+    }
+
     /// An input with a magic and at least so many bytes, of units with this magic, with its form if that is asked for.
     pub fn make(
         &mut self,
@@ -103,13 +139,8 @@ impl Maker {
         least: usize,
         formed: bool,
     ) -> Result<Input, AllocError> {
-        let mut input = Input {
-            magic,
-            bytes: magic.to_vec(self.alloc)?,
-            form: magic.to_vec(self.alloc)?,
-            middle: 4,
-            place: 0,
-        };
+        let least = least / self.part.max(1);
+        let mut input = self.begun(magic)?;
         for _ in 0..least {
             let place = self.random.below(self.units.len());
             if matches!(self.units.get(place), Some(unit) if unit.magic == magic) {
@@ -126,17 +157,37 @@ impl Maker {
         Ok(input)
     }
 
-    /// The bytes of an input with one value changed in the unit in its middle.
-    pub fn altered(&mut self, input: &Input) -> Result<Vec<u8>, AllocError> {
-        let mut bytes = input.bytes.as_slice().to_vec(self.alloc)?;
-        let payload = payload(&mut self.random);
+    /// Where a value of the unit in an input's middle may be changed, or else one of its salt.
+    fn changeable(&mut self, input: &Input) -> (usize, usize) {
         if let Some(unit) = self.units.get(input.place) {
             let chunk = self.random.below(unit.chunks.len());
             if let Some(chunk) = unit.chunks.get(chunk) {
-                set_chunk(bytes.as_mut_slice(), input.middle, chunk.bit, payload);
+                return (input.middle, chunk.bit);
             }
         }
+        (4 + SALT.len(), 14)
+    }
+
+    /// The bytes of an input with one value changed in the unit in its middle, or in its salt if that has none.
+    pub fn altered(&mut self, input: &Input) -> Result<Vec<u8>, AllocError> {
+        let mut bytes = input.bytes.as_slice().to_vec(self.alloc)?;
+        let (at, bit) = self.changeable(input);
+        let payload = payload(&mut self.random);
+        set_chunk(bytes.as_mut_slice(), at, bit, payload);
         Ok(bytes)
+    }
+
+    /// Changes a bit near the end of an input.
+    pub fn damage(&mut self, input: &mut Input) {
+        let length = input.bytes.len();
+        let back = self.random.below(length / 16);
+        let bit = (self.random.next() % 8) as u32;
+        if let Some(byte) = input
+            .bytes
+            .get_mut(length.saturating_sub(1).saturating_sub(back))
+        {
+            *byte ^= 1 << bit;
+        }
     }
 
     /// The bytes of an input with a unit more in its middle.

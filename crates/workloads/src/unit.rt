@@ -1,6 +1,7 @@
 //! What inputs are made of: the blocks of a sample.
 
-use bit_events::{Event, Events};
+use crate::tails::{Tail, Tails};
+use bit_events::Events;
 use bit_fields::{Fault, Limits, SliceSource, VecSink};
 use bit_norm::{Info, normalise};
 use std::alloc::Global;
@@ -17,7 +18,7 @@ pub fn limits_for(magic: [u8; 4]) -> Limits {
     }
 }
 
-/// The first bits of the last chunk of a value, in the blocks of a sample and in those of its normal form.
+/// The first of five bits of a value that may be changed, in the blocks of a sample and in those of its normal form.
 #[derive(Clone, Copy)]
 pub struct Chunk {
     pub bit: usize,
@@ -31,15 +32,8 @@ pub struct Unit {
     pub blocks: Vec<u8>,
     /// The blocks of the normal form.
     pub form: Vec<u8>,
-    /// Of the last values of the records without a definition, but for those of BLOCKINFO blocks.
+    /// Of the last values of records, but for those of BLOCKINFO blocks.
     pub chunks: Vec<Chunk>,
-}
-
-/// The bit of the last chunk of a record, after the magic, and whether its value may be changed.
-#[derive(Clone, Copy)]
-struct Tail {
-    bit: u64,
-    changes: bool,
 }
 
 /// The tails of the records of an input, in order.
@@ -48,40 +42,28 @@ fn tails_of(alloc: Global, bytes: &[u8], limits: Limits) -> Result<Vec<Tail>, Fa
         fault,
         _,
     )| fault)?;
-    let mut tails = Vec::new(alloc);
-    let mut in_info = false;
+    let mut tails = Tails::new(alloc);
     while let Some(event) = events.next()? {
-        match event {
-            Event::Enter { id, .. } => in_info = id == 0,
-            Event::Leave { .. } => in_info = false,
-            Event::Record {
-                abbrev,
-                values,
-                after,
-                ..
-            } => {
-                let tail = Tail {
-                    bit: after.saturating_sub(38),
-                    changes: abbrev == 3 && !values.is_empty() && !in_info,
-                };
-                if tails.push(tail).is_err() {
-                    return Err(Fault::Memory);
-                }
-            }
-            Event::Define { .. } => {}
+        if tails.take(event).is_err() {
+            return Err(Fault::Memory);
         }
     }
-    Ok(tails)
+    Ok(tails.into_tails())
 }
 
-/// The chunks of values that may be changed, of the tails in a sample and in its form.
+/// The bit so many bits before the end of a record, counted from the end of the magic.
+fn bit_before(after: u64, back: u64) -> usize {
+    after.saturating_sub(32).saturating_sub(back) as usize
+}
+
+/// The values that may be changed, by the tails in a sample and in its form.
 fn chunks_of(alloc: Global, tails: &[Tail], in_form: &[Tail]) -> Result<Vec<Chunk>, Fault> {
     let mut chunks = Vec::new(alloc);
     for (tail, formed) in tails.iter().zip(in_form) {
-        if tail.changes {
+        if let Some(back) = tail.back {
             let chunk = Chunk {
-                bit: tail.bit as usize,
-                in_form: formed.bit as usize,
+                bit: bit_before(tail.after, back.here),
+                in_form: bit_before(formed.after, back.in_form),
             };
             if chunks.push(chunk).is_err() {
                 return Err(Fault::Memory);

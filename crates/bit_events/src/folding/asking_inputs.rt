@@ -310,19 +310,21 @@ impl Maker {
         }
     }
 
-    /// The id of a block: seldom one of two chunks.
+    /// The id of a block: seldom one of two chunks, or of 32 bits.
     fn block_id(&mut self) -> u64 {
         match self.below(16) {
             0 => 136,
-            1..=5 => 9,
+            1 => 0xFFFF_FFFF,
+            2..=5 => 9,
             _ => 8,
         }
     }
 
-    /// The width of the ids in a block: seldom one of two chunks.
+    /// The width of the ids in a block: seldom one of two chunks, or 32.
     fn inner_width(&mut self) -> u32 {
         match self.below(16) {
             0 => 9,
+            1 => 32,
             _ => 2 + self.below(4) as u32,
         }
     }

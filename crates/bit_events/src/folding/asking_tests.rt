@@ -12,10 +12,12 @@ use crate::with_first::WithFirst;
 use crate::{Gatherer, fold};
 use bit_abbrev::Abbrev;
 use bit_fields::{
-    BitReader, BufSource, Buffered, Fault, Limits, SliceSource, Source, ValueCount, ValueTaker,
+    BitReader, BufSource, Buffered, Fault, FrontSource, KeptSource, Limits, SliceSource, Source,
+    ValueCount, ValueTaker,
 };
 use std::alloc::{AllocError, Global};
-use std::io::BufReader;
+use std::io;
+use std::io::{BufReader, Error, ErrorKind, Read};
 use std::process::Abort;
 
 /// More events than an input here has.
@@ -93,57 +95,76 @@ fn fold_by_records<S: Source, G: Gatherer>(
 
 // ---- the comparison
 
-/// A source that lends up to `room` of these bytes, and fails at a read, if `fails_at` is not 0.
-type Lender<'a> = BufSource<BufReader<Pieces<'a>>>;
+/// A reader that gives at most so many bytes at its reads, by turns; 0 means that it is interrupted.
+#[derive(Drop)]
+struct Uneven<'a> {
+    pieces: Pieces<'a>,
+    sizes: &'static [usize],
+}
 
-fn lender<'a>(
-    rt: &impl Abort,
-    alloc: Global,
-    bytes: &'a [u8],
-    room: usize,
-    fails_at: u64,
-) -> Lender<'a> {
-    let pieces = pieces_of(bytes, room, fails_at);
-    BufSource::new(BufReader::with_capacity(alloc, room, pieces).expect(rt, "memory"))
+impl<'a> Read for Uneven<'a> {
+    fn read(&mut self, buf: &mut [u8]) -> io::Result<usize> {
+        let reads = self.pieces.reads();
+        let turn = reads.checked_rem(self.sizes.len() as u64).unwrap_or(0) as usize;
+        let most = self.sizes.get(turn).copied().unwrap_or(1).min(buf.len());
+        let count = self.pieces.read(&mut buf[..most])?;
+        if most == 0 && !buf.is_empty() {
+            return Err(Error::from(ErrorKind::Interrupted));
+        }
+        Ok(count)
+    }
+}
+
+/// As many bytes as are asked for.
+static WHOLE: [usize; 1] = [usize::MAX];
+
+/// A source with a buffer over a reader.
+type Lender<'a> = BufSource<BufReader<Uneven<'a>>>;
+
+fn lender<'a>(rt: &impl Abort, alloc: Global, bytes: &'a [u8], case: &Case) -> Lender<'a> {
+    let reader = Uneven {
+        pieces: pieces_of(bytes, case.room, case.fails_at),
+        sizes: case.sizes,
+    };
+    BufSource::new(BufReader::with_capacity(alloc, case.room, reader).expect(rt, "memory"))
 }
 
 /// How often a source was read, and how many bytes it still has: in its buffer, and behind.
 fn state_of(source: Lender<'_>) -> (u64, usize, usize) {
     let reader = source.into_inner();
-    let pieces = reader.get_ref();
+    let pieces = &reader.get_ref().pieces;
     (pieces.reads(), reader.buffer().len(), pieces.left())
 }
 
-/// The limits of two folds, the room of the buffer of their source, the read at which that fails, if it is not 0, and the number of
-/// events after which the gatherer fails.
+/// The limits of two folds, the room of the buffer of their source, what its reader gives by turns, the read at which that fails, if
+/// it is not 0, and the number of events after which the gatherer fails.
 #[derive(Clone, Copy, Debug)]
 struct Case {
     limits: Limits,
     room: usize,
+    sizes: &'static [usize],
     fails_at: u64,
     events: u32,
 }
 
+/// Checks that two sources are in the same state.
+fn same_state(rt: &impl Abort, case: &Case, new: Lender<'_>, old: Lender<'_>) {
+    let (state, was) = (state_of(new), state_of(old));
+    assert!(rt; state == was, "{case:?}: {state:?}, not {was:?}");
+}
+
 /// Checks that both folds return the same text and leave the source in the same state.
 fn asks_alike(rt: &impl Abort, alloc: Global, bytes: &[u8], case: &Case) {
-    let Case {
-        limits,
-        room,
-        fails_at,
-        events,
-    } = *case;
     let text = || Text {
         alloc,
         text: String::new(alloc),
-        room: events,
+        room: case.events,
     };
-    let source = lender(rt, alloc, bytes, room, fails_at);
-    let (new, source) = fold(alloc, source, limits, text());
-    let state = state_of(source);
-    let source = lender(rt, alloc, bytes, room, fails_at);
-    let (old, gathered, source) = fold_by_records(alloc, source, limits, text());
-    let was = state_of(source);
-    assert!(rt; state == was, "{case:?}: {state:?}, not {was:?}");
+    let source = lender(rt, alloc, bytes, case);
+    let (new, source) = fold(alloc, source, case.limits, text());
+    let read = lender(rt, alloc, bytes, case);
+    let (old, gathered, read) = fold_by_records(alloc, read, case.limits, text());
+    same_state(rt, case, source, read);
     match (new, old) {
         (Ok(new), Ok(())) => assert!(rt; new.gatherer.text.as_str() == gathered.text.as_str()),
         (Err(new), Err(old)) => assert!(rt; new == old, "{case:?}"),
@@ -151,27 +172,49 @@ fn asks_alike(rt: &impl Abort, alloc: Global, bytes: &[u8], case: &Case) {
     }
 }
 
-/// Checks the same of a gatherer that counts the values.
-fn counts_alike(rt: &impl Abort, alloc: Global, bytes: &[u8], case: &Case) {
-    let Case {
-        limits,
-        room,
-        fails_at,
-        events,
-    } = *case;
-    let none = Counted::failing_after(events);
-    let source = lender(rt, alloc, bytes, room, fails_at);
-    let (new, source) = fold(alloc, source, limits, none);
-    let state = state_of(source);
-    let source = lender(rt, alloc, bytes, room, fails_at);
-    let (old, counted, source) = fold_by_records(alloc, source, limits, none);
-    let was = state_of(source);
-    assert!(rt; state == was, "{case:?}: {state:?}, not {was:?}");
+/// Checks that both folds return the same from sources of the same bytes, to a gatherer that counts the values, and returns the
+/// sources.
+fn counts_alike<S: Source>(
+    rt: &impl Abort,
+    alloc: Global,
+    case: &Case,
+    source: S,
+    read: S,
+) -> (S, S) {
+    let none = Counted::failing_after(case.events);
+    let (new, source) = fold(alloc, source, case.limits, none);
+    let (old, counted, read) = fold_by_records(alloc, read, case.limits, none);
     match (new, old) {
         (Ok(new), Ok(())) => assert!(rt; new.gatherer == counted, "{case:?}"),
         (Err(new), Err(old)) => assert!(rt; new == old, "{case:?}"),
         _ => assert!(rt; false, "{case:?}"),
     }
+    (source, read)
+}
+
+/// Checks the same of sources that lend, which are then in the same state.
+fn lends_alike(rt: &impl Abort, alloc: Global, bytes: &[u8], case: &Case) {
+    let source = || lender(rt, alloc, bytes, case);
+    let (new, old) = counts_alike(rt, alloc, case, source(), source());
+    same_state(rt, case, new, old);
+}
+
+/// Checks the same of the first bytes of sources.
+fn front_alike(rt: &impl Abort, alloc: Global, bytes: &[u8], case: &Case) {
+    let count = bytes.len() as u64 / 4 * 3;
+    let front = || FrontSource::new(lender(rt, alloc, bytes, case), count);
+    let (new, old) = counts_alike(rt, alloc, case, front(), front());
+    same_state(rt, case, new.into_inner(), old.into_inner());
+}
+
+/// Checks the same of sources whose bytes are kept: they are the same bytes.
+fn keeps_alike(rt: &impl Abort, alloc: Global, bytes: &[u8], case: &Case) {
+    let kept = || KeptSource::new(alloc, lender(rt, alloc, bytes, case));
+    let (new, old) = counts_alike(rt, alloc, case, kept(), kept());
+    let ((kept, new), (were, old)) = (new.into_parts(), old.into_parts());
+    let (kept, were) = (kept.expect(rt, "memory"), were.expect(rt, "memory"));
+    assert!(rt; kept.as_slice() == were.as_slice(), "{case:?}");
+    same_state(rt, case, new, old);
 }
 
 // ---- a gatherer that counts
@@ -260,6 +303,7 @@ fn a_fold_asks_as_it_did(rt: HostRuntime) {
                 let case = Case {
                     limits,
                     room,
+                    sizes: &WHOLE,
                     fails_at,
                     events: u32::MAX,
                 };
@@ -268,6 +312,7 @@ fn a_fold_asks_as_it_did(rt: HostRuntime) {
             let case = Case {
                 limits,
                 room,
+                sizes: &WHOLE,
                 fails_at: 0,
                 events: (seed % 40) as u32,
             };
@@ -301,7 +346,7 @@ fn narrow(rt: &impl Abort, alloc: Global, seed: u64, bytes: &[u8]) -> Limits {
 
 /// Compares the folds of an input with a gatherer that counts, and perhaps with the text of all events.
 fn both_alike(rt: &impl Abort, alloc: Global, bytes: &[u8], case: &Case, with_text: bool) {
-    counts_alike(rt, alloc, bytes, case);
+    lends_alike(rt, alloc, bytes, case);
     if with_text {
         asks_alike(rt, alloc, bytes, case);
     }
@@ -322,6 +367,7 @@ fn all_reads_alike(
         let case = Case {
             limits,
             room,
+            sizes: &WHOLE,
             fails_at: fails_at as u64,
             events: u32::MAX,
         };
@@ -330,6 +376,7 @@ fn all_reads_alike(
     let case = Case {
         limits,
         room,
+        sizes: &WHOLE,
         fails_at: 0,
         events,
     };
@@ -356,6 +403,63 @@ fn a_limit_on_values_asks_as_it_did(rt: HostRuntime) {
             let limits = Limits::new(100_000, 64, values).expect(&rt, "limits within their caps");
             for room in [100, 4096] {
                 all_reads_alike(&rt, rt.alloc(), &bytes, limits, room, 9);
+            }
+        }
+    }
+}
+
+/// Buffers, and what their readers give by turns.
+static UNEVEN: [(usize, &[usize]); 6] = [
+    (24, &[24, 0, 5]),
+    (32, &[7, 32, 32]),
+    (40, &[7]),
+    (64, &[64, 1, 0]),
+    (100, &[100, 33]),
+    (400, &[1, 300, 0]),
+];
+
+/// Compares the folds of an input over readers that give less than they are asked for, or are interrupted, with a failure at one of
+/// the reads.
+fn uneven_alike(rt: &impl Abort, alloc: Global, bytes: &[u8], limits: Limits, fails_at: u64) {
+    for (room, sizes) in &UNEVEN {
+        let case = Case {
+            limits,
+            room: *room,
+            sizes,
+            fails_at,
+            events: u32::MAX,
+        };
+        lends_alike(rt, alloc, bytes, &case);
+        front_alike(rt, alloc, bytes, &case);
+        keeps_alike(rt, alloc, bytes, &case);
+    }
+}
+
+#[test]
+fn a_fold_of_uneven_reads_asks_as_it_did(rt: HostRuntime) {
+    for seed in 0..16 {
+        let bytes = wide(rt.alloc(), seed, 40).expect(&rt, "memory");
+        let limits = narrow(&rt, rt.alloc(), seed, &bytes);
+        for fails_at in 0..20 {
+            uneven_alike(&rt, rt.alloc(), &bytes, limits, fails_at);
+        }
+    }
+}
+
+#[test]
+fn a_gatherer_and_a_source_fail_as_they_did(rt: HostRuntime) {
+    for seed in 0..16 {
+        let bytes = wide(rt.alloc(), seed, 40).expect(&rt, "memory");
+        for fails_at in 1..12 {
+            for events in 0..30 {
+                let case = Case {
+                    limits: Limits::usual(),
+                    room: 40,
+                    sizes: &WHOLE,
+                    fails_at,
+                    events,
+                };
+                lends_alike(&rt, rt.alloc(), &bytes, &case);
             }
         }
     }
