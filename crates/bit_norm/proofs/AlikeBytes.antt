@@ -1,27 +1,18 @@
 -- The bytes of an input that are those of another one.
-use Rattle.std.proofs.Common.{◌≡◌, ℕ, ◌+◌, ◌-◌, ◌*◌, ◌^◌, ◌<◌, ◌≤◌, List, [], ◌∷◌, ◌++◌, length, take, drop, Option, Some, None, Ok, Err, append-nil, refl, sym, ap, subst, ◌∙◌, arith, inl, inr, length-append, take-take, length-drop, length-take}
+use Rattle.std.proofs.Common.{◌≡◌, ℕ, ◌+◌, ◌-◌, ◌^◌, ◌<◌, ◌≤◌, List, [], ◌∷◌, ◌++◌, length, take, drop, Option, Some, None, refl, sym, ap, subst, ◌∙◌, arith, inl, inr, length-append, take-take}
 use Rattle.std.specs.Prelude.{IsSome, max}
 use Rattle.std.specs.Io.KnownBytes.{Consumes, Keeps}
 use Rattle.std.proofs.KnownBytes.{Consumes-nil, Consumes-trans}
 use Rattle.std.proofs.lemmas.Bool.{cases_lt}
-use Rattle.std.proofs.lemmas.List.{length-take-le}
+use Rattle.std.proofs.lemmas.List.{length-take-le, take_all, drop-drop, length-drop}
 use lib.Seq.{take-append_seam}
 use Rattle.std.proofs.Math.Seq.{take-add}
 use Rattle.bit_fields.specs.Devices.{Incoming, Begins, IsWorn, GaveNone, GaveUnseen, Looked, Spends, Fails, known_bytes}
 use Rattle.bit_fields.proofs.Words.{looked_consumed}
+use Rattle.bit_norm.specs.declared.again.Slices.{Slices}
 use Rattle.bit_norm.specs.declared.alike.Stop.{Stop}
-use Rattle.bit_norm.specs.declared.alike.Common.{Common}
 use Rattle.bit_norm.specs.declared.alike.Stop.TheVariants.{Silent, Other, End}
-use Rattle.bit_norm.specs.Rejoined.{slices_of, Takes, TakesSlice, StopsAt, TakesSlices, TakesSome, Breaks}
-use Rattle.bit_norm.proofs.Slices.{slices_least}
-use Rattle.std.proofs.lemmas.Nat.{mul-le}
-
--- two lists have a common front, and what comes next is the same
-pub joined : (s t : ℕ) (a b : List ℕ) → s ≤ t → take s a ≡ take s b → take (t - s) (drop s a) ≡ take (t - s) (drop s b) → take t a ≡ take t b
-joined s t a b le front next =
-    let parts : t ≡ s + (t - s) = omega (arith, le) in
-    let split : (xs : List ℕ) → take t xs ≡ take s xs ++ take (t - s) (drop s xs) = λ (xs : List ℕ). ap (λ (n : ℕ). take n xs) parts ∙ take-add s (t - s) xs in
-    split a ∙ ap (λ (x : List ℕ). x ++ take (t - s) (drop s a)) front ∙ ap (λ (x : List ℕ). take s b ++ x) next ∙ sym (split b)
+use Rattle.bit_norm.specs.Rejoined.{Takes, TakesMore, StopsAt, Breaks}
 
 -- ---- bytes that are taken
 
@@ -120,127 +111,53 @@ fails_taken i m j calls n gone takes none each few =
           }
     ]
 
--- ---- some first bytes, and then the next ones
+-- ---- slices that are taken, one after the other
 
-take-all : (n : ℕ) (xs : List ℕ) → n ≡ length xs → take n xs ≡ xs
-take-all n xs is = ap (λ (k : ℕ). take k xs) is ∙ whole xs
-  where
-    whole : (ys : List ℕ) → take (length ys) ys ≡ ys
-    whole [] = refl
-    whole (y ∷ ys) = ap (λ (s : List ℕ). y ∷ s) (whole ys)
+pub more_none : (first : List ℕ) (s : Slices) (i j : Incoming) → s.bytes ≤ length first → Takes i 0 [] j → TakesMore first 0 s i s j
+more_none first s i j few takes = record { width = 0; calls = 0; bytes = omega arith; count = omega arith; few = few; takes = takes }
 
--- the bytes from a place on
-pub tail_whole : (n : ℕ) (xs : List ℕ) → take (length xs - n) (drop n xs) ≡ drop n xs
-tail_whole n xs = take-all (length xs - n) (drop n xs) (sym (length-drop n xs))
+pub more_then : (first : List ℕ) (none : ℕ) (s t u : Slices) (i j k : Incoming) → TakesMore first 0 s i t j → TakesMore first none t j u k → TakesMore first none s i u k
+more_then first none s t u i j k before next =
+    let width = before.width + next.width in
+    let front = take before.width (drop s.bytes first) in
+    let bytes : front ++ take next.width (drop t.bytes first) ≡ take width (drop s.bytes first) =
+    ap (λ (n : ℕ). front ++ take next.width (drop n first)) before.bytes
+    ∙ ap (λ (xs : List ℕ). front ++ take next.width xs) (sym (drop-drop before.width s.bytes first))
+    ∙ sym (take-add before.width next.width (drop s.bytes first)) in
+    let calls : (before.calls + 0) + (next.calls + none) ≡ (before.calls + next.calls) + none = omega arith in
+    record {
+      width = width;
+      calls = before.calls + next.calls;
+      bytes = omega (arith, before.bytes, next.bytes);
+      count = omega (arith, before.count, next.count);
+      few = next.few;
+      takes = subst (λ (n : ℕ). Takes i n (take width (drop s.bytes first)) k) calls (subst (λ (xs : List ℕ). Takes i ((before.calls + 0) + (next.calls + none)) xs k) bytes (takes_then i j k (before.calls + 0) (next.calls + none) front (take next.width (drop t.bytes first)) before.takes next.takes));
+    }
 
-pub takes_more : (i j k : Incoming) (calls again count more : ℕ) (first : List ℕ) → Takes i calls (take count first) j → Takes j again (take more (take (length first - count) (drop count first))) k → Takes i (calls + again) (take (count + more) first) k
-takes_more i j k calls again count more first before next =
-    subst (λ (s : List ℕ). Takes i (calls + again) s k) (ap (λ (s : List ℕ). take count first ++ take more s) (tail_whole count first) ∙ sym (take-add count more first)) (takes_then i j k calls again (take count first) (take more (take (length first - count) (drop count first))) before next)
+pub stops_then : (first : List ℕ) (stop : Stop) (s t u : Slices) (i j k : Incoming) → TakesMore first 0 s i t j → StopsAt stop first t j u k → StopsAt stop first s i u k
+stops_then first Silent s t u i j k before next = more_then first 0 s t u i j k before next
+stops_then first Other s t u i j k before next = more_then first 0 s t u i j k before next
+stops_then first End s t u i j k before next = (more_then first 1 s t u i j k before next.0, next.1)
 
--- ---- slices of one width
+pub breaks_then : (first : List ℕ) (s t u : Slices) (i j k : Incoming) → TakesMore first 0 s i t j → Breaks first t j u k → Breaks first s i u k
+breaks_then first s t u i j k before next = record { mid = next.mid; takes = more_then first 0 s t u i j next.mid before next.takes; none = next.none }
 
--- the first bytes of these were taken in whole slices
-pub record WholeSlices (first : List ℕ) (count width : ℕ) (old new : Incoming) : Type 0 where
-  pub few : count ≤ length first
-  pub some : 0 < width
-  pub calls : ℕ
-  pub whole : count ≡ calls * width
-  pub takes : Takes old calls (take count first) new
+-- all that were taken, if none were before
+pub taken_all : (first : List ℕ) (none : ℕ) (s t : Slices) (i j : Incoming) → s.bytes ≡ 0 → TakesMore first none s i t j → Takes i (t.count + none) (take t.bytes first) j
+taken_all first none s t i j empty more =
+    let front : take more.width (drop s.bytes first) ≡ take t.bytes first = ap (λ (n : ℕ). take more.width (drop n first)) empty ∙ ap (λ (n : ℕ). take n first) (omega (arith, more.bytes, empty)) in
+    let calls : more.calls + none ≡ t.count + none = omega (arith, more.count, s.few, empty) in
+    subst (λ (n : ℕ). Takes i n (take t.bytes first) j) calls (subst (λ (xs : List ℕ). Takes i (more.calls + none) xs j) front more.takes)
 
--- so many bytes of the next slice were taken
-module _ (first : List ℕ) (count width taken : ℕ) (i j k : Incoming) (before : WholeSlices first count width i j) (next : TakesSlice (take (length first - count) (drop count first)) width j (Ok (Ok taken)) k) where
-  within : count + taken ≤ length first
-  within = omega (arith, next.0, length-take (length first - count) (drop count first), before.few)
-
-  taken_too : Takes i (before.calls + 1) (take (count + taken) first) k
-  taken_too = takes_more i j k before.calls 1 count taken first before.takes next.3
-
-  -- the first slice has any width
-  pub slice_first : count ≡ 0 → WholeSlices first (count + taken) taken i k
-  slice_first none =
-      let calls : before.calls ≡ 0 = elim (cases_lt 0 before.calls) [
-        | inl more ↦ absurd (omega (arith, before.whole, none, mul-le 1 1 before.calls width more before.some))
-        | inr zero ↦ omega (arith, zero)
-      ] in
-      record {
-        few = within;
-        some = next.2;
-        calls = before.calls + 1;
-        whole = omega (arith, none, calls, ap (λ (n : ℕ). (n + 1) * taken) calls);
-        takes = taken_too;
-      }
-
-  pub slice_whole : width ≤ taken → WholeSlices first (count + taken) width i k
-  slice_whole all = record {
-    few = within;
-    some = before.some;
-    calls = before.calls + 1;
-    whole = omega (arith, before.whole, all, next.1);
-    takes = taken_too;
-  }
-
-  pub slice_short : TakesSlices first i (record { count = count + taken; width = width; stop = Other }) k
-  slice_short = record {
-    few = within;
-    some = before.some;
-    calls = before.calls + 1;
-    stops = slices_least width (before.calls + 1) (count + taken) before.some (omega (arith, before.whole, next.2));
-    takes = taken_too;
-  }
-
-takes_no_more : (i j k : Incoming) (calls more : ℕ) (gone : List ℕ) → Takes i calls gone j → Takes j more [] k → Takes i (calls + more) gone k
-takes_no_more i j k calls more gone before next = subst (λ (s : List ℕ). Takes i (calls + more) s k) (append-nil gone) (takes_then i j k calls more gone [] before next)
-
--- no more were taken
-module _ (first rest : List ℕ) (count width most : ℕ) (i j k : Incoming) (before : WholeSlices first count width i j) where
-  each : before.calls ≤ slices_of width count
-  each = slices_least width before.calls count before.some (omega (arith, before.whole, before.some))
-
-  pub slices_all : TakesSlices first i (record { count = count; width = width; stop = Other }) j
-  slices_all = record { few = before.few; some = before.some; calls = before.calls; stops = each; takes = before.takes }
-
-  stopped : (stop : Stop) (more : ℕ) → Takes j more [] k → StopsAt stop (slices_of width count) (before.calls + more) k → TakesSlices first i (record { count = count; width = width; stop = stop }) k
-  stopped stop more next stops = record {
-    few = before.few;
-    some = before.some;
-    calls = before.calls + more;
-    stops = stops;
-    takes = takes_no_more i j k before.calls more (take count first) before.takes next;
-  }
-
-  pub slices_stopped : (stop : Stop) → TakesSlice rest most j (Ok (Err stop)) k → TakesSlices first i (record { count = count; width = width; stop = stop }) k
-  slices_stopped Silent next = stopped Silent 0 next (omega (arith, each))
-  slices_stopped Other next = stopped Other 0 next (omega (arith, each))
-  slices_stopped End next = stopped End 1 next.1 (omega (arith, each), next.0)
-
--- ---- a first slice of any width
-
-more_stops : (stop : Stop) (slices calls : ℕ) (j : Incoming) → StopsAt stop slices calls j → StopsAt stop (1 + slices) (1 + calls) j
-more_stops Silent slices calls j stops = omega (arith, stops)
-more_stops Other slices calls j stops = omega (arith, stops)
-more_stops End slices calls j stops = (omega (arith, stops.0), stops.1)
-
--- the first slice was taken
-module _ (first : List ℕ) (head : ℕ) (i j k : Incoming) (lead : head ≤ length first) (some : 0 < head) (took : Takes i 1 (take head first) j) where
-  behind_head : length (take (length first - head) (drop head first)) ≤ length first - head
-  behind_head = omega (arith, length-take (length first - head) (drop head first))
-
-  pub slices_headed : (c : Common) → TakesSlices (take (length first - head) (drop head first)) j c k → TakesSome first i (record { head = head; common = c }) k
-  slices_headed c behind = record {
-    few = omega (arith, lead, behind_head, behind.few);
-    some = behind.some;
-    calls = 1 + behind.calls;
-    stops = subst (λ (n : ℕ). StopsAt c.stop (n + slices_of c.width c.count) (1 + behind.calls) k) (omega (arith, some)) (more_stops c.stop (slices_of c.width c.count) behind.calls k behind.stops);
-    takes = takes_more i j k 1 behind.calls head c.count first took behind.takes;
-  }
-
-  pub breaks_headed : Breaks (take (length first - head) (drop head first)) j k → Breaks first i k
-  breaks_headed broke = record {
-    count = head + broke.count;
-    calls = 1 + broke.calls;
-    mid = broke.mid;
-    few = omega (arith, lead, behind_head, broke.few);
-    each = omega (arith, broke.each, some);
-    takes = takes_more i j broke.mid 1 broke.calls head broke.count first took broke.takes;
-    none = broke.none;
-  }
+-- the next slice was taken
+pub slice_taken : (first : List ℕ) (s t : Slices) (width : ℕ) (i j : Incoming) → t.bytes ≡ s.bytes + width → t.count ≡ s.count + 1 → s.bytes ≤ length first → width ≤ length (take (length first - s.bytes) (drop s.bytes first)) → Takes i 1 (take width (take (length first - s.bytes) (drop s.bytes first))) j → TakesMore first 0 s i t j
+slice_taken first s t width i j bytes count before few takes =
+    let rest : take (length first - s.bytes) (drop s.bytes first) ≡ drop s.bytes first = take_all (length first - s.bytes) (drop s.bytes first) (omega (arith, length-drop s.bytes first)) in
+    record {
+      width = width;
+      calls = 1;
+      bytes = bytes;
+      count = count;
+      few = omega (arith, bytes, few, ap length rest, length-drop s.bytes first, before);
+      takes = subst (λ (xs : List ℕ). Takes i 1 (take width xs) j) rest takes;
+    }

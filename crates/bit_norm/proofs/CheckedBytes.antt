@@ -22,10 +22,9 @@ use Rattle.bit_norm.specs.declared.comparing.Which.TheVariants.{First, Second}
 use Rattle.bit_norm.specs.declared.comparing.SameFault.{SameFault}
 use Rattle.bit_norm.specs.Whole.{ReadsTree, source_of}
 use Rattle.bit_norm.specs.InStep.{ReadBeside, NotRead, ComparesWith}
-use Rattle.bit_norm.specs.declared.alike.Front.{Front}
-use Rattle.bit_norm.proofs.Slices.{slices_most}
+use Rattle.bit_norm.specs.declared.again.Slices.{Slices}
 use Rattle.std.proofs.lemmas.List.{length-take-le}
-use Rattle.bit_norm.specs.Rejoined.{calls_with, has_some, is_more, slices_of, rejoined_of, unknown, Takes, TakesFront, TakesSame, TakesEnd, OfSecond, Confirms, ComparesChecked}
+use Rattle.bit_norm.specs.Rejoined.{calls_with, has_some, is_more, rejoined_of, unknown, Takes, TakesFront, TakesSame, TakesEnd, OfSecond, Confirms, ComparesChecked}
 
 -- ---- a source that gave bytes again, in the end
 
@@ -229,19 +228,20 @@ module _ (setting : Setting) (limits : Limits) (first h k : List ℕ) (calls o d
   ) is
   checked_again judged (Err e) result none is = checked_fault judged setting limits first b j e.fault result (second_tree e.which e.fault none) is
 
-pub checked_front : (judged : Bool) (setting : Setting) (limits : Limits) (first next : List ℕ) (f : Front) (b i r j s : Incoming) (k : List ℕ) (o d q g : ℕ) (answer result : Result (Option Difference) SameFault) → Capped limits → length next ≡ 1 → TakesFront limits first next b f i
-    → o ≡ min 1 f.head + (slices_of f.width (length (take f.count first) - f.head) + min 1 (length (take f.next next))) → r ≡ rejoined_of (take f.count first ++ take f.next next) o 0 0 i → s ≡ rejoined_of k d q g j → ComparesWith setting limits first r answer s → OfSecond answer result → ComparesChecked judged setting limits first b result j
-checked_front judged setting limits first next f b i r j s k o d q g answer result capped one front owed begun ended read is =
-    let h = take f.count first ++ take f.next next in
-    let held : length h ≡ length (take f.count first) + length (take f.next next) = length-append (take f.count first) (take f.next next) in
-    let count : length (take f.count first) ≡ f.count = length-take-le f.count first front.few in
-    let more : length (take f.next next) ≡ f.next = length-take-le f.next next front.one in
-    let short : length h ≤ limits.bytes + 1 = omega (arith, held, count, more, front.within, front.one, one) in
+pub checked_front : (judged : Bool) (setting : Setting) (limits : Limits) (first next : List ℕ) (t : Slices) (more : ℕ) (b i r j u : Incoming) (k : List ℕ) (o d q g : ℕ) (answer result : Result (Option Difference) SameFault) → Capped limits → TakesFront limits first next b t more i
+    → o ≡ t.count + min 1 (length (take more next)) → r ≡ rejoined_of (take t.bytes first ++ take more next) o 0 0 i → u ≡ rejoined_of k d q g j → ComparesWith setting limits first r answer u → OfSecond answer result → ComparesChecked judged setting limits first b result j
+checked_front judged setting limits first next t more b i r j u k o d q g answer result capped front owed begun ended read is =
+    let h = take t.bytes first ++ take more next in
+    let calls = t.count + min 1 more in
+    let held : length h ≡ length (take t.bytes first) + length (take more next) = length-append (take t.bytes first) (take more next) in
+    let bytes : length (take t.bytes first) ≡ t.bytes = length-take-le t.bytes first front.few in
+    let others : length (take more next) ≡ more = length-take-le more next front.there in
+    let short : length h ≤ limits.bytes + 1 = omega (arith, held, bytes, others, front.within, front.one) in
     let small : limits.bytes + 1 < 2 ^ 64 - 1 = omega (arith, capped.bytes) in
-    let few : front.calls ≤ limits.bytes + 1 = omega (arith, front.each, slices_most f.width (f.count - f.head) front.some, front.lead, front.within, front.one, one) in
-    let enough : front.calls ≤ o = omega (arith, front.each, owed, ap (λ (n : ℕ). slices_of f.width (n - f.head)) count, more, front.one, one) in
-    let after = subst (λ (u : Incoming). ComparesWith setting limits first (rejoined_of h o 0 0 i) answer u) ended (subst (λ (u : Incoming). ComparesWith setting limits first u answer s) begun read) in
-    checked_again setting limits first h k front.calls o d q g b i j small front.takes enough few short judged answer result after is
+    let few : calls ≤ limits.bytes + 1 = omega (arith, t.few, front.within) in
+    let enough : calls ≤ o = omega (arith, owed, others) in
+    let after = subst (λ (v : Incoming). ComparesWith setting limits first (rejoined_of h o 0 0 i) answer v) ended (subst (λ (v : Incoming). ComparesWith setting limits first v answer u) begun read) in
+    checked_again setting limits first h k calls o d q g b i j small front.takes enough few short judged answer result after is
 
 -- ---- the input ended
 
@@ -282,10 +282,10 @@ module _ (setting : Setting) (limits : Limits) (first xs : List ℕ) (calls : �
   ) is
   ended_checked judged (Err e) result none is = checked_fault judged setting limits first b j e.fault result (ended_second e.which e.fault none) is
 
-pub checked_ended : (judged : Bool) (setting : Setting) (limits : Limits) (first : List ℕ) (count : ℕ) (b j s later : Incoming) (answer result : Result (Option Difference) SameFault) → Capped limits → TakesEnd limits first b count j → s ≡ source_of (take count first) → later.failures ≡ 0
-    → ComparesWith setting limits first s answer later → OfSecond answer result → ComparesChecked judged setting limits first b result j
-checked_ended judged setting limits first count b j s later answer result capped ended begun never read is =
+pub checked_ended : (judged : Bool) (setting : Setting) (limits : Limits) (first : List ℕ) (t : Slices) (b j u later : Incoming) (answer result : Result (Option Difference) SameFault) → Capped limits → TakesEnd limits first b t j → u ≡ source_of (take t.bytes first) → later.failures ≡ 0
+    → ComparesWith setting limits first u answer later → OfSecond answer result → ComparesChecked judged setting limits first b result j
+checked_ended judged setting limits first t b j u later answer result capped ended begun never read is =
     let small : limits.bytes + 1 < 2 ^ 64 - 1 = omega (arith, capped.bytes) in
-    let each : ended.calls ≤ limits.bytes + 1 = omega (arith, ended.each, ended.within) in
-    let few : length (take count first) ≤ limits.bytes + 1 = omega (arith, length-take count first, ended.within) in
-    ended_checked setting limits first (take count first) ended.calls b j later small ended.takes ended.end each few never judged answer result (subst (λ (u : Incoming). ComparesWith setting limits first u answer later) begun read) is
+    let each : t.count + 1 ≤ limits.bytes + 1 = omega (arith, t.few, ended.within) in
+    let few : length (take t.bytes first) ≤ limits.bytes + 1 = omega (arith, length-take t.bytes first, ended.within) in
+    ended_checked setting limits first (take t.bytes first) (t.count + 1) b j later small ended.takes ended.end each few never judged answer result (subst (λ (v : Incoming). ComparesWith setting limits first v answer later) begun read) is

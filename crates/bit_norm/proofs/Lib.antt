@@ -19,7 +19,6 @@ pub mod ValueTexts
 pub mod Building
 pub mod Forms
 pub mod Told
-pub mod Slices
 pub mod Telling
 pub mod Calls
 pub mod PlainRecords

@@ -1,5 +1,5 @@
 -- The effect of comparing the bytes of an input with those of another one before it is read.
-use Rattle.std.specs.Prelude.{◌≡◌, ◌<◌, ◌≤◌, ◌+◌, ◌/◌, min, ◌-◌, ◌^◌, ℕ, zero, suc, Bool, true, false, List, [], ◌∷◌, ◌++◌, length, take, Option, Some, None, Result, Ok, Err}
+use Rattle.std.specs.Prelude.{◌≡◌, ◌<◌, ◌≤◌, ◌+◌, min, ◌-◌, ◌^◌, ℕ, zero, suc, Bool, true, false, List, [], ◌∷◌, ◌++◌, length, take, drop, Option, Some, None, Result, Ok, Err}
 use Rattle.std.specs.Io.KnownBytes.{Consumes, IsAtEnd, prepend_known}
 use Rattle.bit_grammar.specs.Setting.{Setting}
 use Rattle.bit_grammar.specs.Blocks.{Limits}
@@ -14,12 +14,10 @@ use Rattle.bit_norm.specs.declared.differences.Difference.{Difference}
 use Rattle.bit_norm.specs.declared.comparing.Which.TheVariants.{Second}
 use Rattle.bit_norm.specs.declared.comparing.SameFault.{SameFault}
 use Rattle.bit_norm.specs.declared.again.Again.{Again}
-use Rattle.bit_norm.specs.declared.alike.Common.{Common}
+use Rattle.bit_norm.specs.declared.again.Slices.{Slices}
 use Rattle.bit_norm.specs.declared.alike.Beginning.{Beginning}
 use Rattle.bit_norm.specs.declared.alike.Stop.{Stop}
 use Rattle.bit_norm.specs.declared.alike.Stop.TheVariants.{Silent, Other, End}
-use Rattle.bit_norm.specs.declared.alike.Headed.{Headed}
-use Rattle.bit_norm.specs.declared.alike.Front.{Front}
 use Rattle.bit_norm.specs.declared.alike.Beginning.TheVariants.{Same, Ended, Taken}
 
 -- ---- a source that gives bytes again
@@ -28,13 +26,9 @@ use Rattle.bit_norm.specs.declared.alike.Beginning.TheVariants.{Same, Ended, Tak
 abbrev pub held_of : Again → List ℕ
 held_of a = a.slice.now ++ (a.rest.now ++ a.next.now)
 
--- in how many slices of this width so many bytes come
-abbrev pub slices_of : (width count : ℕ) → ℕ
-slices_of width count = (count + (width - 1)) / width
-
 -- in how many slices, and so in how many calls at least, all these bytes are given
 abbrev pub owed_of : Again → ℕ
-owed_of a = min 1 (length a.slice.now) + (slices_of a.width (length a.rest.now) + min 1 (length a.next.now))
+owed_of a = min 1 (length a.slice.now) + (a.more + min 1 (length a.next.now))
 
 -- the list has an element
 abbrev pub has_some : List ℕ → Bool
@@ -77,56 +71,38 @@ pub record Takes (old : Incoming) (calls : ℕ) (gone : List ℕ) (new : Incomin
   pub failures : new.failures ≡ old.failures
   pub accounts : (n : ℕ) (all : List ℕ) → SaysOf old.accounts n all → SaysOf new.accounts n all
 
--- the next slice was taken, and is the first of these bytes
-abbrev pub TakesSlice : (rest : List ℕ) (most : ℕ) → Incoming → Result (Result ℕ Stop) SourceFailed → Incoming → Type 0
-TakesSlice rest most old (Ok (Ok count)) new = (count ≤ length rest) × (count ≤ most) × (0 < count)
-    × Takes old 1 (take count rest) new
-TakesSlice rest most old (Ok (Err End)) new = IsAtEnd new.to_come × Takes old 1 [] new
-TakesSlice rest most old (Ok (Err Silent)) new = Takes old 0 [] new
-TakesSlice rest most old (Ok (Err Other)) new = Takes old 0 [] new
-TakesSlice rest most old (Err e) new = GaveNone old new
-
--- some first bytes of these were taken, and then the source failed
-pub record Breaks (first : List ℕ) (old new : Incoming) : Type 0 where
-  pub count : ℕ
+-- More slices of an input were taken, which have the next of these bytes, each in a call; and so many calls gave none.
+pub record TakesMore (first : List ℕ) (none : ℕ) (s : Slices) (old : Incoming) (t : Slices) (new : Incoming)
+    : Type 0 where
+  pub width : ℕ
   pub calls : ℕ
+  pub bytes : t.bytes ≡ s.bytes + width
+  pub count : t.count ≡ s.count + calls
+  pub few : t.bytes ≤ length first
+  pub takes : Takes old (calls + none) (take width (drop s.bytes first)) new
+
+-- more slices were taken, and then no more
+abbrev pub StopsAt : Stop → (first : List ℕ) → Slices → Incoming → Slices → Incoming → Type 0
+StopsAt Silent first s old t new = TakesMore first 0 s old t new
+StopsAt Other first s old t new = TakesMore first 0 s old t new
+StopsAt End first s old t new = TakesMore first 1 s old t new × IsAtEnd new.to_come
+
+-- more slices were taken, and then the source failed
+pub record Breaks (first : List ℕ) (s : Slices) (old : Incoming) (t : Slices) (new : Incoming) : Type 0 where
   pub mid : Incoming
-  pub few : count ≤ length first
-  pub each : calls ≤ count
-  pub takes : Takes old calls (take count first) mid
+  pub takes : TakesMore first 0 s old t mid
   pub none : GaveNone mid new
 
--- there were no more calls than slices, or one more, if the source then ended
-abbrev pub StopsAt : Stop → (slices calls : ℕ) → Incoming → Type 0
-StopsAt Silent slices calls new = calls ≤ slices
-StopsAt Other slices calls new = calls ≤ slices
-StopsAt End slices calls new = (calls ≤ slices + 1) × IsAtEnd new.to_come
+-- the next slice was taken, if it has the next of these bytes
+abbrev pub TakesSlice : (first : List ℕ) → Slices → Incoming → Result (Option Stop) SourceFailed → Slices → Incoming → Type 0
+TakesSlice first s old (Ok None) t new = TakesMore first 0 s old t new × (s.bytes < t.bytes)
+TakesSlice first s old (Ok (Some stop)) t new = StopsAt stop first s old t new
+TakesSlice first s old (Err e) t new = Breaks first s old t new
 
--- some first bytes of these were taken, in slices of this width
-pub record TakesSlices (first : List ℕ) (old : Incoming) (c : Common) (new : Incoming) : Type 0 where
-  pub few : c.count ≤ length first
-  pub some : 0 < c.width
-  pub calls : ℕ
-  pub stops : StopsAt c.stop (slices_of c.width c.count) calls new
-  pub takes : Takes old calls (take c.count first) new
-
--- some first bytes of these were taken
-abbrev pub TakesCommon : (first : List ℕ) → Incoming → Result Common SourceFailed → Incoming → Type 0
-TakesCommon first old (Ok c) new = TakesSlices first old c new
-TakesCommon first old (Err e) new = Breaks first old new
-
--- the same, in a first slice of any width and slices of one width behind it
-pub record TakesSome (first : List ℕ) (old : Incoming) (h : Headed) (new : Incoming) : Type 0 where
-  pub few : h.head + h.common.count ≤ length first
-  pub some : 0 < h.common.width
-  pub calls : ℕ
-  pub stops : StopsAt h.common.stop (min 1 h.head + slices_of h.common.width h.common.count) calls new
-  pub takes : Takes old calls (take (h.head + h.common.count) first) new
-
--- some first bytes of these were taken, in such slices
-abbrev pub TakesHeaded : (first : List ℕ) → Incoming → Result Headed SourceFailed → Incoming → Type 0
-TakesHeaded first old (Ok h) new = TakesSome first old h new
-TakesHeaded first old (Err e) new = Breaks first old new
+-- slices were taken as long as they have the next of these bytes
+abbrev pub TakesSlices : (first : List ℕ) → Slices → Incoming → Result Stop SourceFailed → Slices → Incoming → Type 0
+TakesSlices first s old (Ok stop) t new = StopsAt stop first s old t new
+TakesSlices first s old (Err e) t new = Breaks first s old t new
 
 -- the next bytes were taken, or the source was looked at
 abbrev pub TakesNext : (next : List ℕ) → Incoming → Result (Option ℕ) SourceFailed → Incoming → Type 0
@@ -135,17 +111,14 @@ TakesNext next old (Ok (Some count)) new = (count ≤ length next) × (count ≡
     × Takes old 1 (take count next) new
 TakesNext next old (Err e) new = GaveNone old new
 
--- these bytes of an input were taken: some of another one, and others after them
-pub record TakesFront (limits : Limits) (first next : List ℕ) (old : Incoming) (f : Front) (new : Incoming)
-    : Type 0 where
-  pub few : f.count ≤ length first
-  pub lead : f.head ≤ f.count
-  pub within : f.count ≤ limits.bytes
-  pub one : f.next ≤ length next
-  pub some : 0 < f.width
-  pub calls : ℕ
-  pub each : calls ≤ min 1 f.head + slices_of f.width (f.count - f.head) + f.next
-  pub takes : Takes old calls (take f.count first ++ take f.next next) new
+-- these slices of an input were taken, which have the first bytes of another one, and others after them
+pub record TakesFront (limits : Limits) (first next : List ℕ) (old : Incoming) (s : Slices) (more : ℕ)
+    (new : Incoming) : Type 0 where
+  pub few : s.bytes ≤ length first
+  pub within : s.bytes ≤ limits.bytes
+  pub there : more ≤ length next
+  pub one : more ≤ 1
+  pub takes : Takes old (s.count + min 1 more) (take s.bytes first ++ take more next) new
 
 -- all bytes of an input were taken, and are these
 pub record TakesSame (limits : Limits) (first : List ℕ) (old new : Incoming) : Type 0 where
@@ -154,21 +127,19 @@ pub record TakesSame (limits : Limits) (first : List ℕ) (old new : Incoming) :
   pub end : IsAtEnd new.to_come
 
 -- all bytes of an input were taken, and are the first ones of these
-pub record TakesEnd (limits : Limits) (first : List ℕ) (old : Incoming) (count : ℕ) (new : Incoming)
+pub record TakesEnd (limits : Limits) (first : List ℕ) (old : Incoming) (s : Slices) (new : Incoming)
     : Type 0 where
-  pub few : count ≤ length first
-  pub within : count ≤ limits.bytes
-  pub calls : ℕ
-  pub each : calls ≤ count + 1
-  pub takes : Takes old calls (take count first) new
+  pub few : s.bytes ≤ length first
+  pub within : s.bytes ≤ limits.bytes
+  pub takes : Takes old (s.count + 1) (take s.bytes first) new
   pub end : IsAtEnd new.to_come
 
 -- the effect of taking the bytes of an input that begin as these
-abbrev pub Begins : Limits → (first next : List ℕ) → Incoming → Result Beginning SourceFailed → Incoming → Type 0
-Begins limits first next old (Ok Same) new = TakesSame limits first old new
-Begins limits first next old (Ok (Ended count)) new = TakesEnd limits first old count new
-Begins limits first next old (Ok (Taken front)) new = TakesFront limits first next old front new
-Begins limits first next old (Err e) new = LostInput limits old new
+abbrev pub Begins : Limits → (first : List ℕ) → Slices → (next : List ℕ) → Incoming → Result Beginning SourceFailed → Incoming → Type 0
+Begins limits first s next old (Ok Same) new = TakesSame limits first old new
+Begins limits first s next old (Ok Ended) new = TakesEnd limits first old s new
+Begins limits first s next old (Ok (Taken more silent)) new = TakesFront limits first next old s more new
+Begins limits first s next old (Err e) new = LostInput limits old new
 
 -- ---- the comparison
 

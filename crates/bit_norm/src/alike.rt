@@ -2,9 +2,9 @@
 
 ghost use Rattle.std.specs.Prelude.{◌≡◌, ◌≤◌, length, take, true};
 ghost use Rattle.bit_grammar.specs.Setting.{setting_of};
-ghost use Rattle.bit_norm.specs.Rejoined.{Begins, ComparesChecked, Confirms, OfSecond, TakesCommon, TakesHeaded, TakesNext, TakesSlice};
+ghost use Rattle.bit_norm.specs.Rejoined.{Begins, ComparesChecked, Confirms, OfSecond, TakesNext, TakesSlice, TakesSlices};
 
-use crate::again::Again;
+use crate::again::{Again, Slices};
 use crate::comparing::{SameFault, Which, faulty};
 use crate::differences::Difference;
 use crate::in_step::compare_with;
@@ -17,6 +17,14 @@ use std::alloc::Global;
 #[cfg(test)]
 mod asking_tests;
 
+/// How many digits there are for the widths of slices, in place, so that they need no allocation: 32 KiB for an input of 256 KiB and
+/// more, and 2 KiB for a shorter one, since they are cleared.
+const MANY: usize = 16384;
+
+const FEW: usize = 1024;
+
+const LONG: usize = 1 << 18;
+
 /// Whether two slices have the same bytes.
 #[inline(always)]
 fn are_equal(a: &[u8], b: &[u8]) -> bool
@@ -25,15 +33,14 @@ fn are_equal(a: &[u8], b: &[u8]) -> bool
     a == b
 }
 
-/// The length of `slice` if that is at most `most` and `rest` begins with it, or else 0.
-fn whole_front(slice: &[u8], rest: &[u8], most: usize) -> usize
+/// The length of `slice` if `rest` begins with it, or else 0.
+fn whole_front(slice: &[u8], rest: &[u8]) -> usize
     ensures same { take result slice.now ≡ take result rest.now }
     ensures first { result ≤ length slice.now }
     ensures second { result ≤ length rest.now }
-    ensures most { result ≤ most }
 {
     let count = slice.len();
-    if count <= most && count <= rest.len() && are_equal(slice, &rest[..count]) {
+    if count <= rest.len() && are_equal(slice, &rest[..count]) {
         return count;
     }
     0
@@ -44,108 +51,58 @@ fn whole_front(slice: &[u8], rest: &[u8], most: usize) -> usize
 pub(crate) enum Stop {
     /// The source lends nothing.
     Silent,
-    /// The next slice has other bytes or is too long, or none is looked for.
+    /// The next slice has other bytes, it was not taken whole, or none is looked for.
     Other,
     /// The source ended.
     End,
 }
 
-/// Takes the slice that a source lends next, if it has at most `most` bytes and is a front of these, and returns how many bytes were
-/// taken of it.
+/// Takes the slice that a source lends next, if it is the next of these bytes, and notes it. `None`: the next one may be taken too.
+///
+/// A source that takes less than it lent lends the rest again, so no more is compared.
 fn take_slice<S: Source>(
-    rest: &[u8],
-    most: usize,
+    first: &[u8],
     source: &mut S,
-) -> Result<Result<usize, Stop>, SourceFailed>
-    ensures { TakesSlice rest.now most (S.incoming source.old) result (S.incoming source.new) }
+    slices: &mut Slices,
+    digits: &mut [u16],
+) -> Result<Option<Stop>, SourceFailed>
+    requires { slices.old.bytes ≤ length first.now }
+    ensures { TakesSlice first.now slices.old (S.incoming source.old) result slices.new (S.incoming source.new) }
 {
     if !source.look()? {
-        return Ok(Err(Stop::Silent));
+        return Ok(Some(Stop::Silent));
     }
-    let count = whole_front(source.lend(), rest, most);
+    let count = whole_front(source.lend(), &first[slices.bytes..]);
     if count == 0 {
-        return Ok(Err(Stop::Other));
+        return Ok(Some(Stop::Other));
     }
-    match source.pass(count)? {
-        0 => Ok(Err(Stop::End)),
-        taken => Ok(Ok(taken)),
+    let taken = source.pass(count)?;
+    if taken == 0 {
+        return Ok(Some(Stop::End));
     }
+    slices.add(digits, taken);
+    if taken < count {
+        return Ok(Some(Stop::Other));
+    }
+    Ok(None)
 }
 
-/// How many bytes of an input are the first of these, and why no more were taken. They came in slices of `width` bytes, the last of
-/// them perhaps shorter.
-#[derive(Clone, Copy)]
-pub(crate) struct Common {
-    count: usize,
-    width: usize,
-    stop: Stop,
-}
-
-/// Takes slices of a source as long as they are lent, are the next of these bytes and have the same length; after a shorter one it
-/// takes no more.
-fn take_common<S: Source>(first: &[u8], source: &mut S) -> Result<Common, SourceFailed>
-    ensures { TakesCommon first.now (S.incoming source.old) result (S.incoming source.new) }
+/// Takes slices of a source as long as they are lent, are the next of these bytes and can be noted.
+fn take_slices<S: Source>(
+    first: &[u8],
+    source: &mut S,
+    slices: &mut Slices,
+    digits: &mut [u16],
+) -> Result<Stop, SourceFailed>
+    requires { slices.old.bytes ≡ 0 }
+    ensures { TakesSlices first.now slices.old (S.incoming source.old) result slices.new (S.incoming source.new) }
 {
-    let mut count = 0;
-    let mut width = usize::MAX;
-    while count < first.len() {
-        match take_slice(&first[count..], width, source)? {
-            Err(stop) => return Ok(Common { count, width, stop }),
-            Ok(taken) => {
-                if count == 0 {
-                    width = taken;
-                }
-                count += taken;
-                if taken < width {
-                    break;
-                }
-            }
+    while slices.bytes < first.len() && slices.has_room(digits) {
+        if let Some(stop) = take_slice(first, source, slices, digits)? {
+            return Ok(stop);
         }
     }
-    Ok(Common {
-        count,
-        width,
-        stop: Stop::Other,
-    })
-}
-
-/// Bytes that came in a slice of `head` bytes, and those in `common` behind it. What a source lends first may be the rest of what it
-/// lent before.
-#[derive(Clone, Copy)]
-pub(crate) struct Headed {
-    head: usize,
-    common: Common,
-}
-
-/// Takes a slice of a source if it is the first of these bytes, and then slices of one width.
-fn take_headed<S: Source>(first: &[u8], source: &mut S) -> Result<Headed, SourceFailed>
-    ensures { TakesHeaded first.now (S.incoming source.old) result (S.incoming source.new) }
-{
-    match take_slice(first, first.len(), source)? {
-        Err(stop) => Ok(Headed {
-            head: 0,
-            common: Common {
-                count: 0,
-                width: 1,
-                stop,
-            },
-        }),
-        Ok(head) => Ok(Headed {
-            head,
-            common: take_common(&first[head..], source)?,
-        }),
-    }
-}
-
-/// What was taken of an input: the first `count` bytes of another one, in a slice of `head` bytes and slices of `width` bytes, and
-/// `next` more. `silent`: it was then looked at and lent nothing.
-#[derive(Clone, Copy)]
-pub(crate) struct Front {
-    head: usize,
-    count: usize,
-    width: usize,
-    next: usize,
-    silent: bool,
+    Ok(Stop::Other)
 }
 
 /// Takes the next byte of a source, and returns how many there are. `None`: it was only looked at, and lends more.
@@ -163,13 +120,14 @@ fn take_next<S: Source>(
 }
 
 /// How an input begins, compared with another one.
+#[derive(Clone, Copy)]
 pub(crate) enum Beginning {
     /// It has the same bytes, and no more.
     Same,
-    /// It has the first `count` bytes, and no more.
-    Ended { count: usize },
-    /// These bytes were taken.
-    Taken(Front),
+    /// It has the bytes of the slices, and no more.
+    Ended,
+    /// The bytes of the slices were taken, and `next` more. `silent`: it was then looked at and lent nothing.
+    Taken { next: usize, silent: bool },
 }
 
 /// Takes the bytes of a source that begin as these, as far as they are lent. If they are all, it asks for one more byte, after a
@@ -180,39 +138,39 @@ fn take_beginning<S: Source>(
     first: &[u8],
     source: &mut S,
     limits: Limits,
+    slices: &mut Slices,
+    digits: &mut [u16],
     next: &mut [u8; 1],
 ) -> Result<Beginning, SourceFailed>
-    ensures { Begins limits first.now next.new (S.incoming source.old) result (S.incoming source.new) }
+    requires { slices.old.bytes ≡ 0 }
+    ensures { Begins limits first.now slices.new next.new (S.incoming source.old) result (S.incoming source.new) }
 {
-    let mut front = Front {
-        head: 0,
-        count: 0,
-        width: 1,
-        next: 0,
-        silent: false,
-    };
     if first.len() as u64 > limits.bytes() {
-        return Ok(Beginning::Taken(front));
+        return Ok(Beginning::Taken {
+            next: 0,
+            silent: false,
+        });
     }
-    let Headed { head, common } = take_headed(first, source)?;
-    let count = head + common.count;
-    if let Stop::End = common.stop {
-        return Ok(Beginning::Ended { count });
+    let stop = take_slices(first, source, slices, digits)?;
+    if let Stop::End = stop {
+        return Ok(Beginning::Ended);
     }
-    front.head = head;
-    front.count = count;
-    front.width = common.width;
-    if count < first.len() {
-        front.silent = matches!(common.stop, Stop::Silent);
-        return Ok(Beginning::Taken(front));
+    if slices.bytes < first.len() {
+        return Ok(Beginning::Taken {
+            next: 0,
+            silent: matches!(stop, Stop::Silent),
+        });
     }
     match take_next(source, (first.len() as u64) < limits.bytes(), next)? {
-        None => Ok(Beginning::Taken(front)),
+        None => Ok(Beginning::Taken {
+            next: 0,
+            silent: false,
+        }),
         Some(0) => Ok(Beginning::Same),
-        Some(more) => {
-            front.next = more;
-            Ok(Beginning::Taken(front))
-        }
+        Some(more) => Ok(Beginning::Taken {
+            next: more,
+            silent: false,
+        }),
     }
 }
 
@@ -248,6 +206,60 @@ fn confirm(
     }
 }
 
+/// The same as `compare_checked`, with digits for the widths of slices.
+fn compare_noting<S: Source>(
+    alloc: Global,
+    first: &[u8],
+    source: S,
+    limits: Limits,
+    info: Info<'_>,
+    judged: bool,
+    digits: &mut [u16],
+) -> (Result<Option<Difference>, SameFault>, S)
+    ensures { ComparesChecked judged (setting_of info.entry) limits first.now (S.incoming source) result.0
+        (S.incoming result.1) }
+{
+    // The limits are within their caps, so no count of pulls up to the limit on bytes is exhausted.
+    let _bytes = limits.bytes();
+    let mut source = source;
+    let mut slices = Slices::new();
+    let mut next = [0];
+    match take_beginning(first, &mut source, limits, &mut slices, digits, &mut next) {
+        Ok(Beginning::Same) => (confirm(alloc, first, limits, judged), source),
+        Ok(Beginning::Ended) => {
+            let all = SliceSource::new(&first[..slices.bytes]);
+            let (answer, _) = compare_with(alloc, first, all, limits, info);
+            (of_second(answer), source)
+        }
+        Ok(Beginning::Taken { next: more, silent }) => {
+            let bytes = &first[..slices.bytes];
+            let count = slices.count;
+            let again = Again::new(bytes, count, slices.widths(digits), &next[..more]);
+            let rejoined = Rejoined::new(again, source, silent);
+            let (answer, rejoined) = compare_with(alloc, first, rejoined, limits, info);
+            (of_second(answer), rejoined.into_inner())
+        }
+        Err(SourceFailed) => (Err(faulty(Which::Second, Fault::Read)), source),
+    }
+}
+
+/// The same with many digits.
+#[inline(never)]
+fn compare_long<S: Source>(
+    alloc: Global,
+    first: &[u8],
+    source: S,
+    limits: Limits,
+    info: Info<'_>,
+    judged: bool,
+) -> (Result<Option<Difference>, SameFault>, S)
+    ensures { ComparesChecked judged (setting_of info.entry) limits first.now (S.incoming source) result.0
+        (S.incoming result.1) }
+{
+    let mut digits = [0; MANY];
+    compare_noting(alloc, first, source, limits, info, judged, &mut digits)
+}
+
 /// Reads an input to its end, and returns where its tree and that of accepted bytes differ under a setting, if they do. The source
 /// is returned in its present state.
 ///
@@ -266,24 +278,9 @@ pub(crate) fn compare_checked<S: Source>(
     ensures { ComparesChecked judged (setting_of info.entry) limits first.now (S.incoming source) result.0
         (S.incoming result.1) }
 {
-    // The limits are within their caps, so no count of pulls up to the limit on bytes is exhausted.
-    let _bytes = limits.bytes();
-    let mut source = source;
-    let mut next = [0];
-    match take_beginning(first, &mut source, limits, &mut next) {
-        Ok(Beginning::Same) => (confirm(alloc, first, limits, judged), source),
-        Ok(Beginning::Ended { count }) => {
-            let all = SliceSource::new(&first[..count]);
-            let (answer, _) = compare_with(alloc, first, all, limits, info);
-            (of_second(answer), source)
-        }
-        Ok(Beginning::Taken(front)) => {
-            let bytes = &first[..front.count];
-            let again = Again::new(bytes, front.head, front.width, &next[..front.next]);
-            let rejoined = Rejoined::new(again, source, front.silent);
-            let (answer, rejoined) = compare_with(alloc, first, rejoined, limits, info);
-            (of_second(answer), rejoined.into_inner())
-        }
-        Err(SourceFailed) => (Err(faulty(Which::Second, Fault::Read)), source),
+    if first.len() >= LONG {
+        return compare_long(alloc, first, source, limits, info, judged);
     }
+    let mut digits = [0; FEW];
+    compare_noting(alloc, first, source, limits, info, judged, &mut digits)
 }

@@ -2,53 +2,74 @@
 
 ghost use Rattle.std.specs.Prelude.{◌≡◌, ◌<◌, ◌≤◌, ◌+◌, ◌-◌, ◌++◌, ◌^◌, ℕ, List, [], length, min, true, false, IfOk, OnErr};
 ghost use Rattle.bit_fields.specs.Devices.{GaveNone, IsFresh, PullsUnseen};
-ghost use Rattle.bit_norm.specs.Rejoined.{rejoined_of, held_of, owed_of, slices_of};
+ghost use Rattle.bit_norm.specs.Rejoined.{rejoined_of, held_of, owed_of};
 
-use crate::again::Again;
+use crate::again::{Again, Widths};
 use bit_fields::{Source, SourceFailed};
 
 impl<'a> Again<'a> {
-    /// Gives bytes again that were taken in a slice of `head` bytes and slices of `width` bytes, and then others.
-    pub(crate) fn new(bytes: &'a [u8], head: usize, width: usize, next: &'a [u8]) -> Again<'a>
-        requires some { 0 < width }
-        requires within { head ≤ length bytes.now }
+    /// Gives these bytes again in `count` slices of these widths, and then others.
+    pub(crate) fn new(
+        bytes: &'a [u8],
+        count: usize,
+        widths: Widths<'a>,
+        next: &'a [u8],
+    ) -> Again<'a>
+        requires few { count ≤ length bytes.now }
+        requires none { count ≡ 0 → length bytes.now ≡ 0 }
         ensures held { held_of result ≡ bytes.now ++ next.now }
-        ensures owed { owed_of result ≡ min 1 head
-            + (slices_of width (length bytes.now - head) + min 1 (length next.now)) }
+        ensures owed { owed_of result ≡ count + min 1 (length next.now) }
     {
-        let (slice, rest) = bytes.split_at(head);
-        Again::behind(slice, rest, width, next)
+        Again::behind(&[], bytes, count, widths, next)
     }
 
-    /// Gives the rest of a slice again, and what is behind it.
+    /// Gives the rest of a slice again, the slices behind it, and then others.
     #[inline(always)]
-    fn behind(slice: &'a [u8], rest: &'a [u8], width: usize, next: &'a [u8]) -> Again<'a>
-        requires { 0 < width }
+    fn behind(
+        slice: &'a [u8],
+        rest: &'a [u8],
+        more: usize,
+        widths: Widths<'a>,
+        next: &'a [u8],
+    ) -> Again<'a>
+        requires few { more ≤ length rest.now }
+        requires none { more ≡ 0 → rest.now ≡ [] }
         ensures held { held_of result ≡ slice.now ++ (rest.now ++ next.now) }
-        ensures owed { owed_of result ≡ min 1 (length slice.now)
-            + (slices_of width (length rest.now) + min 1 (length next.now)) }
+        ensures owed { owed_of result ≡ min 1 (length slice.now) + (more + min 1 (length next.now)) }
     {
         if !slice.is_empty() {
             return Again {
                 slice,
                 rest,
-                width,
+                more,
+                widths,
                 next,
             };
         }
-        if rest.is_empty() {
+        if more == 0 {
             return Again {
                 slice: next,
                 rest,
-                width,
+                more,
+                widths,
                 next: &[],
             };
         }
-        let (slice, rest) = rest.split_at(width.min(rest.len()));
+        let mut widths = widths;
+        let width = widths.next();
+        // Each slice behind this one has a byte.
+        let most = rest.len() - (more - 1);
+        let width = if more == 1 {
+            most
+        } else {
+            width.max(1).min(most)
+        };
+        let (slice, rest) = rest.split_at(width);
         Again {
             slice,
             rest,
-            width,
+            more: more - 1,
+            widths,
             next,
         }
     }
@@ -71,7 +92,7 @@ impl<'a> Again<'a> {
         ensures fewer { owed_of self.new ≤ owed_of self.old }
     {
         let (given, left) = self.slice.split_at(most.min(self.slice.len()));
-        *self = Again::behind(left, self.rest, self.width, self.next);
+        *self = Again::behind(left, self.rest, self.more, self.widths, self.next);
         given
     }
 

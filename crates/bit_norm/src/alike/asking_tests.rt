@@ -6,68 +6,11 @@ use super::{compare_checked, of_second};
 use crate::Info;
 use crate::in_step::compare_with;
 use crate::input_tests::bytes_of;
+use crate::lendings::{LENDINGS, Lender, Lending, State, front_state, kept_state, state_of};
 use bit_events::check_keeping;
-use bit_fields::{BufSource, FrontSource, Limits, SliceSource, Source, SourceFailed};
+use bit_fields::{FrontSource, KeptSource, Limits, SliceSource, Source, SourceFailed};
 use std::alloc::{AllocError, Global};
-use std::io;
-use std::io::{BufReader, Error, ErrorKind, Read};
 use std::process::Abort;
-
-/// A reader that gives at most so many bytes at its reads, by turns; 0 means that it is interrupted. It fails at one read, if
-/// `fails_at` is not 0.
-#[derive(Drop)]
-struct Uneven<'a> {
-    rest: &'a [u8],
-    sizes: &'static [usize],
-    reads: u64,
-    fails_at: u64,
-}
-
-impl<'a> Read for Uneven<'a> {
-    fn read(&mut self, buf: &mut [u8]) -> io::Result<usize> {
-        let turn = self.reads.checked_rem(self.sizes.len() as u64).unwrap_or(0) as usize;
-        let most = self.sizes.get(turn).copied().unwrap_or(1);
-        self.reads = self.reads.saturating_add(1);
-        if self.reads == self.fails_at {
-            return Err(Error::from(ErrorKind::Other));
-        }
-        if most == 0 {
-            return Err(Error::from(ErrorKind::Interrupted));
-        }
-        let most = buf.len().min(most);
-        self.rest.read(&mut buf[..most])
-    }
-}
-
-/// A source with a buffer over a reader.
-type Lender<'a> = BufSource<BufReader<Uneven<'a>>>;
-
-/// How a source lends bytes: it has a buffer of `room` bytes, and its reader gives `sizes` by turns and fails at one read.
-#[derive(Clone, Copy, Debug)]
-struct Lending {
-    room: usize,
-    sizes: &'static [usize],
-    fails_at: u64,
-}
-
-impl Lending {
-    fn source<'a>(&self, rt: &impl Abort, alloc: Global, bytes: &'a [u8]) -> Lender<'a> {
-        let reader = Uneven {
-            rest: bytes,
-            sizes: self.sizes,
-            reads: 0,
-            fails_at: self.fails_at,
-        };
-        BufSource::new(BufReader::with_capacity(alloc, self.room, reader).expect(rt, "memory"))
-    }
-}
-
-/// How often a source was read, and how many bytes it still has: in its buffer, and behind.
-fn state_of(source: Lender<'_>) -> (u64, usize, usize) {
-    let reader = source.into_inner();
-    let uneven = reader.get_ref();
-    (uneven.reads, reader.buffer().len(), uneven.rest.len())
-}
 
 /// Two inputs, and the limits.
 #[derive(Clone, Copy)]
@@ -78,28 +21,49 @@ struct Pair<'a> {
 }
 
 /// An answer as text, and the state of the source.
-type Told = (String, (u64, usize, usize));
+type Told = (String, State);
 
-/// What is told of the second input that a source gives, if its bytes are compared first, and if not.
-fn told_of(
+/// What is told of the second input that a source gives, if its bytes are compared first, and if not; and both sources.
+fn told_of<S: Source + Drop>(
     alloc: Global,
     pair: &Pair<'_>,
-    compared: Lender<'_>,
-    read: Lender<'_>,
-) -> Result<[Told; 2], AllocError> {
+    compared: S,
+    read: S,
+) -> Result<([String; 2], S, S), AllocError> {
     let Pair { first, limits, .. } = *pair;
-    let (new, source) = compare_checked(alloc, first, compared, limits, Info::Keep, true);
-    let new = (format!(in alloc; "{new:?}")?, state_of(source));
-    let (old, source) = compare_with(alloc, first, read, limits, Info::Keep);
-    let old = (format!(in alloc; "{:?}", of_second(old))?, state_of(source));
-    Ok([new, old])
+    let (new, compared) = compare_checked(alloc, first, compared, limits, Info::Keep, true);
+    let (old, read) = compare_with(alloc, first, read, limits, Info::Keep);
+    let new = format!(in alloc; "{new:?}")?;
+    let old = format!(in alloc; "{:?}", of_second(old))?;
+    Ok(([new, old], compared, read))
 }
 
-/// The same, if the source has the second input alone.
+/// What is told of it and where its source then is, if the source has the second input alone.
 fn asked(rt: &impl Abort, alloc: Global, pair: &Pair<'_>, lending: Lending) -> [Told; 2] {
     let compared = lending.source(rt, alloc, pair.second);
     let read = lending.source(rt, alloc, pair.second);
-    told_of(alloc, pair, compared, read).expect(rt, "memory")
+    let told = told_of(alloc, pair, compared, read).expect(rt, "memory");
+    let ([new, old], compared, read) = told;
+    [(new, state_of(compared)), (old, state_of(read))]
+}
+
+/// The same, if the bytes of the source are kept.
+fn asked_keeping(rt: &impl Abort, alloc: Global, pair: &Pair<'_>, lending: Lending) -> [Told; 2] {
+    let compared = KeptSource::new(alloc, lending.source(rt, alloc, pair.second));
+    let read = KeptSource::new(alloc, lending.source(rt, alloc, pair.second));
+    let told = told_of(alloc, pair, compared, read).expect(rt, "memory");
+    let ([new, old], compared, read) = told;
+    [(new, kept_state(compared)), (old, kept_state(read))]
+}
+
+/// The same, if the second input is all but the last three bytes of the source.
+fn asked_in_front(rt: &impl Abort, alloc: Global, pair: &Pair<'_>, lending: Lending) -> [Told; 2] {
+    let count = pair.second.len().saturating_sub(3) as u64;
+    let compared = FrontSource::new(lending.source(rt, alloc, pair.second), count);
+    let read = FrontSource::new(lending.source(rt, alloc, pair.second), count);
+    let told = told_of(alloc, pair, compared, read).expect(rt, "memory");
+    let ([new, old], compared, read) = told;
+    [(new, front_state(compared)), (old, front_state(read))]
 }
 
 /// The source after the first of two inputs that it has.
@@ -116,32 +80,16 @@ fn rest_of<'a>(
     front.into_inner()
 }
 
-/// The same, if the source has both inputs.
+/// What is told of the second input, and where the source then is, if it has both inputs.
 fn asked_in_parts(rt: &impl Abort, alloc: Global, pair: &Pair<'_>, lending: Lending) -> [Told; 2] {
     let mut both = Vec::from_slice(alloc, pair.first).expect(rt, "memory");
     both.extend_from_slice(pair.second).expect(rt, "memory");
     let compared = rest_of(rt, alloc, &both, pair, lending);
     let read = rest_of(rt, alloc, &both, pair, lending);
-    told_of(alloc, pair, compared, read).expect(rt, "memory")
+    let told = told_of(alloc, pair, compared, read).expect(rt, "memory");
+    let ([new, old], compared, read) = told;
+    [(new, state_of(compared)), (old, state_of(read))]
 }
-
-/// Buffers, and what their readers give.
-static LENDINGS: [(usize, &[usize]); 14] = [
-    (1, &[1]),
-    (3, &[3]),
-    (8, &[8]),
-    (13, &[13]),
-    (24, &[24]),
-    (64, &[64]),
-    (40, &[7]),
-    (32, &[7, 32, 32]),
-    (32, &[16, 16, 9]),
-    (32, &[16, 30]),
-    (8, &[8, 8, 8, 0]),
-    (13, &[13, 13, 0]),
-    (24, &[24, 24, 0]),
-    (100, &[100]),
-];
 
 /// Checks that the second input is asked alike and the same is told of it, also if one of the first ten reads fails.
 fn ask_alike(rt: &impl Abort, alloc: Global, first: &[u8], second: &[u8], limits: Limits) {
@@ -173,12 +121,13 @@ fn ask_alike(rt: &impl Abort, alloc: Global, first: &[u8], second: &[u8], limits
     }
 }
 
-/// The first inputs: blocks, records, definitions, a blob, and a wrapper with a gap and with bytes behind its stream.
-static FIRSTS: [&str; 5] = [
+/// The first inputs: blocks, records, definitions, a blob, ids of 32 bits, and a wrapper with a gap and with bytes behind its stream.
+static FIRSTS: [&str; 6] = [
     "M E T W S T E",
     "M D N S E T T W",
     "M T A T E A W",
     "M T B W B T",
+    "M 21 20 01 00 05 00 00 00 03 00 00 00 41 50 0C 00 00 00 08 C2 11 00 00 00 00 00 00 00 E",
     "DE C0 17 0B 00 00 00 00 24 00 00 00 28 00 00 00 07 00 00 00 Z 01 02 03 04 M T E W Z",
 ];
 
@@ -213,34 +162,86 @@ fn others_alike(rt: &impl Abort, alloc: Global, first: &[u8], limits: Limits, pl
     ask_alike(rt, alloc, first, &second, limits);
 }
 
-/// Checks it for changes at some places of one of the first inputs.
-fn all_alike(rt: &impl Abort, alloc: Global, text: &str) {
+/// Checks it for changes at some places of one of the first inputs, under the usual limits or one on bytes at its end.
+fn all_alike(rt: &impl Abort, alloc: Global, text: &str, is_tight: bool) {
     let first = bytes_of(alloc, text).expect(rt, "memory");
-    for is_tight in [false, true] {
-        let limits = limits_for(rt, &first, is_tight);
-        for place in (0..first.len()).step_by(17) {
-            others_alike(rt, alloc, &first, limits, place);
-        }
+    let limits = limits_for(rt, &first, is_tight);
+    for place in (0..first.len()).step_by(17) {
+        others_alike(rt, alloc, &first, limits, place);
     }
 }
 
 #[test]
 fn other_bytes(rt: HostRuntime) {
-    for text in &FIRSTS[..2] {
-        all_alike(&rt, rt.alloc(), text);
-    }
+    all_alike(&rt, rt.alloc(), FIRSTS[0], false);
+    all_alike(&rt, rt.alloc(), FIRSTS[0], true);
 }
 
 #[test]
-fn other_bytes_around_arrays_and_blobs(rt: HostRuntime) {
-    for text in &FIRSTS[2..4] {
-        all_alike(&rt, rt.alloc(), text);
-    }
+fn other_bytes_around_arrays(rt: HostRuntime) {
+    all_alike(&rt, rt.alloc(), FIRSTS[2], false);
+    all_alike(&rt, rt.alloc(), FIRSTS[2], true);
+}
+
+#[test]
+fn other_bytes_around_blobs(rt: HostRuntime) {
+    all_alike(&rt, rt.alloc(), FIRSTS[3], false);
+    all_alike(&rt, rt.alloc(), FIRSTS[3], true);
+}
+
+#[test]
+fn other_bytes_and_long_ids(rt: HostRuntime) {
+    all_alike(&rt, rt.alloc(), FIRSTS[4], false);
+    all_alike(&rt, rt.alloc(), FIRSTS[4], true);
 }
 
 #[test]
 fn other_bytes_in_a_wrapper(rt: HostRuntime) {
-    all_alike(&rt, rt.alloc(), FIRSTS[4]);
+    all_alike(&rt, rt.alloc(), FIRSTS[5], false);
+    all_alike(&rt, rt.alloc(), FIRSTS[5], true);
+}
+
+#[test]
+fn other_bytes_around_definitions(rt: HostRuntime) {
+    all_alike(&rt, rt.alloc(), FIRSTS[1], false);
+}
+
+#[test]
+fn other_bytes_around_definitions_at_the_limit(rt: HostRuntime) {
+    all_alike(&rt, rt.alloc(), FIRSTS[1], true);
+}
+
+/// Checks that a second input is asked alike by sources that keep its bytes, and that give its first ones alone.
+fn kinds_alike(rt: &impl Abort, alloc: Global, pair: &Pair<'_>) {
+    for (room, sizes) in &LENDINGS {
+        for fails_at in [0, 3] {
+            let lending = Lending {
+                room: *room,
+                sizes,
+                fails_at,
+            };
+            let [new, old] = asked_keeping(rt, alloc, pair, lending);
+            assert!(rt; new == old, "kept: {lending:?}: {new:?}, not {old:?}");
+            let [new, old] = asked_in_front(rt, alloc, pair, lending);
+            assert!(rt; new == old, "front: {lending:?}: {new:?}, not {old:?}");
+        }
+    }
+}
+
+#[test]
+fn other_bytes_by_other_sources(rt: HostRuntime) {
+    for text in &FIRSTS[..5] {
+        let first = bytes_of(rt.alloc(), text).expect(&rt, "memory");
+        for place in (0..first.len()).step_by(13) {
+            let second = changed(rt.alloc(), &first, place).expect(&rt, "memory");
+            let pair = Pair {
+                first: &first,
+                second: &second,
+                limits: Limits::usual(),
+            };
+            kinds_alike(&rt, rt.alloc(), &pair);
+        }
+    }
 }
 
 /// Checks that the same bytes are told to be so; at their end, fewer reads may be made.
