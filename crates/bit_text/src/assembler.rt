@@ -45,6 +45,7 @@ pub(crate) struct Assembler {
     writer: Option<FormWriter>,
     line: Vec<u8>,
     numbers: Vec<u64>,
+    /// The numbers of a line that is read at once.
     batch: [u64; BATCH],
     /// How many lines were read; the greatest number if more.
     number: u64,
@@ -69,7 +70,7 @@ impl Assembler {
         }
     }
 
-    /// Reads a line.
+    /// Reads the line that a text has before `end`.
     fn read(&mut self, text: &[u8], end: usize) -> Result<(), AssembleFault>
         requires empty { self.old.line.items ≡ [] }
         requires within { end ≤ length text.now }
@@ -95,7 +96,7 @@ impl Assembler {
         }
     }
 
-    /// Reads the line that ends with these bytes. A line that begins in an earlier piece is put together.
+    /// Reads the line that ends with the bytes of a text before `end`. A line that begins in an earlier piece is put together.
     #[inline(always)]
     fn end_line(&mut self, text: &[u8], end: usize) -> Result<(), AssembleFault>
         requires { end ≤ length text.now }

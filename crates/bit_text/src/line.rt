@@ -13,7 +13,7 @@ pub(crate) enum Item {
     Record,
 }
 
-/// How many bytes a line has at most that is read at once.
+/// How many bytes a line has at most that is read at once: its numbers, with a space before each, are no more than a batch.
 const MOST: usize = 512;
 
 /// How many spaces are at the beginning of a line.

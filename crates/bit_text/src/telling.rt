@@ -63,6 +63,7 @@ fn misfit(writer: &FormWriter, limits: Limits, item: Item, numbers: &[u64]) -> T
 }
 
 /// Ends the blocks that an item after so many spaces is not in, and tells the item.
+#[inline(always)]
 fn tell_item(
     writer: &mut FormWriter,
     limits: Limits,
@@ -112,7 +113,7 @@ fn begin(
     }
 }
 
-/// Reads a line. There is a writer after the line of the magic.
+/// Reads the line that a text has before `end`. There is a writer after the line of the magic.
 pub(crate) fn read_line(
     alloc: Global,
     limits: Limits,
