@@ -5,6 +5,7 @@ pub mod Finishing
 pub mod Fitting
 pub mod FromWords
 pub mod Rows
+pub mod Runs
 pub mod Shown
 pub mod Sources
 pub mod InWords

@@ -1,5 +1,5 @@
 -- Parts of texts, and numbers.
-use Rattle.std.proofs.Common.{◌≡◌, refl, ℕ, ◌+◌, ◌-◌, ◌<◌, ◌≤◌, Bool, true, false, nat_eq, ◌&&◌, List, [], ◌∷◌, ◌++◌, length, take, drop, get_or, Option, Some, None, Result, Ok, Err, MatchOption, Bor, if◌then◌else◌, sym, ◌∙◌, ap, arith}
+use Rattle.std.proofs.Common.{◌≡◌, refl, ℕ, ◌+◌, ◌-◌, ◌<◌, ◌≤◌, Bool, true, false, nat_eq, ◌&&◌, List, [], ◌∷◌, ◌++◌, length, take, drop, get_or, Option, Some, None, Result, Ok, Err, MatchOption, IfSome, Bor, if◌then◌else◌, sym, ◌∙◌, ap, arith}
 use Rattle.std.specs.Cmp.Lexicographic.{pointwise}
 use Rattle.std.proofs.lemmas.List.{length-drop, take_more, get_or-drop, at_drop_more}
 use Rattle.std.proofs.lemmas.Bool.Decides.{nat_tests}
@@ -32,6 +32,10 @@ behind_some (c ∷ front) (b ∷ text) h = some_so (nat_eq b c) (pointwise nat_e
 pub behind_is : (front text : List ℕ) (r : Option (Bor (List ℕ))) → MatchOption r (pointwise nat_eq (take (length front) text) front ≡ false) (λ x. (pointwise nat_eq (take (length front) text) front ≡ true) × (x.now ≡ drop (length front) text) × (length x.now + length front ≡ length text)) → MatchOption r (behind front text ≡ None) (λ rest. behind front text ≡ Some rest.now)
 behind_is front text None h = behind_none front text h
 behind_is front text (Some x) h = behind_some front text h.0 ∙ ap Some (sym h.1)
+
+pub after_is : (front text : List ℕ) (r : Option (Bor (List ℕ))) → MatchOption r (pointwise nat_eq (take (length front) text) front ≡ false) (λ x. (pointwise nat_eq (take (length front) text) front ≡ true) × (x.now ≡ drop (length front) text) × (length x.now + length front ≡ length text)) → IfSome r (λ rest. (rest.now ≡ drop (length front) text) × (length rest.now + length front ≡ length text))
+after_is front text None h = tt
+after_is front text (Some x) h = (h.1, h.2)
 
 -- ---- parts
 

@@ -1,6 +1,6 @@
 -- A text that comes in pieces.
 use Rattle.std.proofs.Common.{◌≡◌, refl, ℕ, zero, suc, ◌+◌, ◌-◌, ◌<◌, ◌≤◌, false, nat_eq, List, [], ◌∷◌, ◌++◌, length, take, drop, get_or, Result, Ok, Err, if◌then◌else◌, sym, ◌∙◌, ap, subst, arith, append_assoc, append-nil}
-use Rattle.std.proofs.lemmas.List.{at_drop_more, at_drop_all}
+use Rattle.std.proofs.lemmas.List.{at_drop_more, at_drop_all, take_rest}
 use Rattle.std.proofs.lemmas.Bool.Decides.{nat_tests}
 use Rattle.bit_grammar.specs.Blocks.{Limits}
 use Rattle.bit_text.specs.declared.reason.TextReason.{TextReason}
@@ -116,6 +116,12 @@ far_all now bytes from i first a b h k limits number writer line far =
           ∙ at_drop_all (λ (d : List ℕ). lines_read a.limits a.number far.0 (parts_after 10 (a.line.items ++ take (i - from) (drop from bytes)) (d ++ rest))) bytes i h
           ∙ (let read : lines_read a.limits a.number far.0 (parts_after 10 (a.line.items ++ take (i - from) (drop from bytes)) rest) ≡ outlook far.0 b rest = rw (limits, number, same) refl in read),
     )
+
+-- the end of a line of what is left of the bytes
+pub ends_within : (bytes : List ℕ) (from i : ℕ) (a b : Assembler) (r : Result (Unit {0}) AssembleFault)
+    → ((n : Standing) → IsAt a.limits n a.writer → EndsLine a (after_line a.limits n (a.line.items ++ take (i - from) (take (length bytes - from) (drop from bytes)))) r b)
+    → (n : Standing) → IsAt a.limits n a.writer → EndsLine a (after_line a.limits n (a.line.items ++ take (i - from) (drop from bytes))) r b
+ends_within bytes from i a b r ends = λ n here. subst (λ (l : List ℕ). EndsLine a (after_line a.limits n (a.line.items ++ take (i - from) l)) r b) (take_rest bytes from) (ends n here)
 
 -- ---- pieces
 

@@ -16,6 +16,10 @@ pub record IsNumber (text : List ℕ) (from to n : ℕ) : Type 0 where
   pub parts : parts_after 32 [] (drop from text) ≡ parts_after 32 (take (to - from) (drop from text)) (drop to text)
   pub digits : digits_after 10 0 (take (to - from) (drop from text)) ≡ Ok n
 
+-- the same within each front of the text that has these bytes
+abbrev pub IsRun : (text : List ℕ) → (from to n : ℕ) → Type 0
+IsRun text from to n = (end : ℕ) → to ≤ end → end ≤ length text → IsNumber (take end text) from to n
+
 -- the same, and a space or the end of the text is behind them, if there are any
 pub record IsWord (text : List ℕ) (from to n : ℕ) : Type 0 where
   pub number : IsNumber text from to n

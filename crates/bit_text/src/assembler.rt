@@ -1,4 +1,4 @@
-ghost use Rattle.std.specs.Prelude.{◌≡◌, [], ◌∷◌, ◌++◌, ℕ, List};
+ghost use Rattle.std.specs.Prelude.{◌≡◌, [], ◌∷◌, ◌++◌, ◌≤◌, ℕ, List, length, take};
 ghost use Rattle.bit_text.specs.Assembling.{outlook, EndsLine, Finishes, TakesBytes};
 ghost use Rattle.bit_norm.specs.Telling.{Call};
 ghost use Rattle.bit_text.specs.Listings.{after_line, at_start, told_all, Standing};
@@ -6,7 +6,7 @@ ghost use Rattle.bit_text.specs.Stops.{IsAt, IsTold};
 
 use crate::fault::AssembleFault;
 use crate::line_end::line_end;
-use crate::numbers::Stop;
+use crate::numbers::{BATCH, Stop};
 use crate::reason::TextReason;
 use crate::telling::{close, read_line};
 use bit_fields::{Fault, Limits, Sink};
@@ -45,6 +45,8 @@ pub(crate) struct Assembler {
     writer: Option<FormWriter>,
     line: Vec<u8>,
     numbers: Vec<u64>,
+    /// The numbers of a line that is read at once.
+    batch: [u64; BATCH],
     /// How many lines were read; the greatest number if more.
     number: u64,
 }
@@ -63,23 +65,27 @@ impl Assembler {
             writer: None,
             line: Vec::new(alloc),
             numbers: Vec::new(alloc),
+            batch: [0; BATCH],
             number: 0,
         }
     }
 
-    /// Reads a line.
-    fn read(&mut self, line: &[u8]) -> Result<(), AssembleFault>
-        requires { self.old.line.items ≡ [] }
+    /// Reads the line that a text has before `end`.
+    fn read(&mut self, text: &[u8], end: usize) -> Result<(), AssembleFault>
+        requires empty { self.old.line.items ≡ [] }
+        requires within { end ≤ length text.now }
         ensures { (now : Standing) → IsAt self.old.limits now self.old.writer
-            → EndsLine self.old (after_line self.old.limits now line.now) result self.new }
+            → EndsLine self.old (after_line self.old.limits now (take end text.now)) result self.new }
     {
         self.number = self.number.saturating_add(1);
         match read_line(
             self.alloc,
             self.limits,
-            line,
+            text,
+            end,
             &mut self.writer,
             &mut self.numbers,
+            &mut self.batch,
         ) {
             Ok(()) => Ok(()),
             Err(Stop::Refused(reason)) => Err(AssembleFault::Refused {
@@ -90,19 +96,20 @@ impl Assembler {
         }
     }
 
-    /// Reads the line that ends with these bytes. A line that begins in an earlier piece is put together.
+    /// Reads the line that ends with the bytes of a text before `end`. A line that begins in an earlier piece is put together.
     #[inline(always)]
-    fn end_line(&mut self, rest: &[u8]) -> Result<(), AssembleFault>
+    fn end_line(&mut self, text: &[u8], end: usize) -> Result<(), AssembleFault>
+        requires { end ≤ length text.now }
         ensures { (now : Standing) → IsAt self.old.limits now self.old.writer
             → EndsLine self.old
-            (after_line self.old.limits now (self.old.line.items ++ rest.now)) result self.new }
+            (after_line self.old.limits now (self.old.line.items ++ take end text.now)) result self.new }
     {
         if self.line.is_empty() {
-            return self.read(rest);
+            return self.read(text, end);
         }
         let mut line = mem::replace(&mut self.line, Vec::new(self.alloc));
-        match line.extend_from_slice(rest) {
-            Ok(()) => self.read(&line),
+        match line.extend_from_slice(&text[..end]) {
+            Ok(()) => self.read(&line, line.len()),
             Err(_) => Err(AssembleFault::Fault(Fault::Memory)),
         }
     }
@@ -115,7 +122,7 @@ impl Assembler {
         let mut from = 0;
         let mut to = line_end(bytes, 0);
         while to < bytes.len() {
-            self.end_line(&bytes[from..to])?;
+            self.end_line(&bytes[from..], to - from)?;
             from = to + 1;
             to = line_end(bytes, from);
         }
@@ -131,7 +138,7 @@ impl Assembler {
             → Finishes (outlook now self []) self.limits (K.outgoing sink) result.0
             (K.outgoing result.1) }
     {
-        if let Err(fault) = self.end_line(&[]) {
+        if let Err(fault) = self.end_line(&[], 0) {
             return (Err(fault), sink);
         }
         let Assembler {
@@ -140,6 +147,7 @@ impl Assembler {
             writer,
             line: _,
             numbers: _,
+            batch: _,
             number,
         } = self;
         match writer {

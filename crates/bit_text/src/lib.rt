@@ -1,6 +1,7 @@
 //! From a listing to the stream that it spells: `assemble`.
 //!
-//! A line is read by itself: `line` finds its item, whose numbers `numbers` reads into one vector that all lines share. `telling`
+//! A line is read by itself: `line` finds its item, whose numbers `numbers` reads into one vector that all lines share. A short line
+//! that is a record of short numbers is read at once into an array instead, if the text has some bytes more behind it. `telling`
 //! ends the blocks that an item is not in and tells it to a `FormWriter`, which refuses what no tree has there. `Assembler` cuts a
 //! text into lines (`line_end`) in whatever pieces it comes, and `assemble` pulls the pieces from a source. What a listing is, and
 //! of which tree, is defined in the words of the format in `FormatListing` of `bit_grammar` and `Entries` of `specs/`, and what

@@ -1,9 +1,9 @@
-ghost use Rattle.std.specs.Prelude.{◌≡◌, ◌<◌, ◌≤◌, drop, length, ◌^◌};
+ghost use Rattle.std.specs.Prelude.{◌≡◌, ◌<◌, ◌≤◌, Ok, drop, length, take, ◌^◌};
 ghost use Rattle.std.specs.Char.{digit_value};
 ghost use Rattle.bit_text.specs.Lines.{byte_of, is_free, is_low_digit, item_of, block_of, magic_of, spaces};
-ghost use Rattle.bit_text.specs.Stops.{ReadsItem};
+ghost use Rattle.bit_text.specs.Stops.{call_of, ReadsItem};
 
-use crate::numbers::{Stop, behind, read_numbers, value_of_digit};
+use crate::numbers::{BATCH, Stop, behind, quick_numbers, read_numbers, value_of_digit};
 use crate::reason::TextReason;
 
 /// The beginning of a block with an id, or a record, whose code and values are kept elsewhere.
@@ -12,6 +12,9 @@ pub(crate) enum Item {
     Block(u32),
     Record,
 }
+
+/// How many bytes a line has at most that is read at once: its numbers, with a space before each, are no more than a batch.
+const MOST: usize = 512;
 
 /// How many spaces are at the beginning of a line.
 pub(crate) fn spaces(line: &[u8]) -> usize
@@ -77,6 +80,22 @@ fn block_of(numbers: &[u64]) -> Result<Item, Stop>
         [id] if *id < 1 << 32 => Ok(Item::Block(*id as u32)),
         [_] => Err(Stop::Refused(TextReason::NumberTooLarge)),
         _ => Err(Stop::Refused(TextReason::BadLine)),
+    }
+}
+
+/// Reads the record that a text has before a place, if its numbers are few and short, and returns how many there are; or else 0.
+#[inline(always)]
+pub(crate) fn quick_record(text: &[u8], end: usize, batch: &mut [u64; BATCH]) -> usize
+    requires { end ≤ length text.now }
+    ensures few { result ≤ 256 }
+    ensures item { 0 < result → item_of (take end text.now) ≡ Ok (call_of Item.Record (take result batch.new)) }
+{
+    if end > MOST || text.len() - end < 7 {
+        return 0;
+    }
+    match behind(&text[..end], b"record ") {
+        Some(numbers) => quick_numbers(&text[7..], numbers.len(), batch),
+        None => 0,
     }
 }
 

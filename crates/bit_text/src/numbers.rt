@@ -1,13 +1,16 @@
-ghost use Rattle.std.specs.Prelude.{◌≡◌, ◌+◌, ◌*◌, ◌<◌, ◌≤◌, ◌-◌, ◌^◌, [], ◌∷◌, ℕ, codes, length, drop, MatchOption, None, Some, Ok, Err};
+ghost use Rattle.std.specs.Prelude.{◌≡◌, ◌+◌, ◌*◌, ◌<◌, ◌≤◌, ◌-◌, ◌^◌, [], ◌∷◌, ℕ, true, codes, length, take, drop, IfSome, MatchOption, None, Some, Ok, Err};
 ghost use Rattle.std.specs.Char.{digit_value};
 ghost use Rattle.bit_text.specs.Numbers.{behind, digits, digits_after, number, numbers_after, words};
-ghost use Rattle.bit_text.specs.Places.{IsWord};
+ghost use Rattle.bit_text.specs.Places.{IsRun, IsWord};
 ghost use Rattle.bit_text.specs.Stops.{ReadsNumbers};
 
 use crate::reason::TextReason;
 
 /// A number up to this has room for one digit more.
 const TENTH: u64 = u64::MAX / 10 - 1;
+
+/// How many numbers are held for the form at once.
+pub(crate) const BATCH: usize = 256;
 
 /// Why a line was not read.
 #[derive(Clone, Copy, Debug, PartialEq, Eq)]
@@ -18,8 +21,10 @@ pub(crate) enum Stop {
 
 /// What comes after this front, if a text begins with it.
 pub(crate) fn behind<'a>(text: &'a [u8], front: &[u8]) -> Option<&'a [u8]>
-    ensures { MatchOption result (behind front.now text.now ≡ None)
+    ensures found { MatchOption result (behind front.now text.now ≡ None)
         (λ rest. behind front.now text.now ≡ Some rest.now) }
+    ensures after { IfSome result (λ rest. (rest.now ≡ drop (length front.now) text.now)
+        × (length rest.now + length front.now ≡ length text.now)) }
 {
     text.strip_prefix(front)
 }
@@ -89,7 +94,7 @@ fn with_digit(n: u64, b: u8) -> u64
     ensures digits { digits_after 10 n (b ∷ []) ≡ Ok result }
     ensures bound { result ≤ n * 10 + 9 }
 {
-    n * 10 + u64::from(b - b'0')
+    n * 10 + (u64::from(b) - 48)
 }
 
 /// The number of one to four digits that begins here, if a space is behind it, and how many digits it has; or else no digit.
@@ -163,6 +168,82 @@ fn next_word(text: &[u8], from: usize) -> (u64, usize)
         }
     }
     long_word(text, from)
+}
+
+/// Whether a byte is a decimal digit.
+#[inline(always)]
+fn is_digit(b: u8) -> bool
+    ensures low { result ≡ true → 48 ≤ b }
+    ensures high { result ≡ true → b ≤ 57 }
+{
+    b >= b'0' && b <= b'9'
+}
+
+/// The number that the first six digits from here on spell, or all if they are fewer, and the place behind them.
+#[inline(always)]
+fn quick_word(text: &[u8], from: usize) -> (u64, usize)
+    requires { from + 7 ≤ length text.now }
+    ensures number { IsRun text.now from result.1 result.0 }
+    ensures low { from ≤ result.1 }
+    ensures high { result.1 ≤ from + 6 }
+{
+    let first = text[from];
+    if !is_digit(first) {
+        return (0, from);
+    }
+    let one = with_digit(0, first);
+    let second = text[from + 1];
+    if !is_digit(second) {
+        return (one, from + 1);
+    }
+    let two = with_digit(one, second);
+    let third = text[from + 2];
+    if !is_digit(third) {
+        return (two, from + 2);
+    }
+    let three = with_digit(two, third);
+    let fourth = text[from + 3];
+    if !is_digit(fourth) {
+        return (three, from + 3);
+    }
+    let four = with_digit(three, fourth);
+    let fifth = text[from + 4];
+    if !is_digit(fifth) {
+        return (four, from + 4);
+    }
+    let five = with_digit(four, fifth);
+    let sixth = text[from + 5];
+    if !is_digit(sixth) {
+        return (five, from + 5);
+    }
+    let six = with_digit(five, sixth);
+    (six, from + 6)
+}
+
+/// Reads the numbers before a place of a text, if each has at most six digits and one space is between them, and returns how many
+/// there are; or else 0.
+#[inline(never)]
+pub(crate) fn quick_numbers(text: &[u8], end: usize, batch: &mut [u64; BATCH]) -> usize
+    requires room { end + 7 ≤ length text.now }
+    requires short { end ≤ 512 }
+    ensures few { result ≤ 256 }
+    ensures read { 0 < result → numbers_after [] (words (take end text.now)) ≡ Ok (take result batch.new) }
+{
+    let mut from = 0;
+    let mut count = 0;
+    while from < end {
+        let (n, to) = quick_word(text, from);
+        if to == from {
+            return 0;
+        }
+        batch[count] = n;
+        count += 1;
+        if text[to] != b' ' {
+            return if to == end { count } else { 0 };
+        }
+        from = to + 1;
+    }
+    0
 }
 
 /// Reads the numbers of a text, with one space between them.

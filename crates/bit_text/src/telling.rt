@@ -1,11 +1,11 @@
-ghost use Rattle.std.specs.Prelude.{◌≡◌, ◌<◌, ◌-◌, ◌++◌, ℕ, List, length, replicate, IfErr, IfOk};
+ghost use Rattle.std.specs.Prelude.{◌≡◌, ◌<◌, ◌≤◌, ◌-◌, ◌++◌, ℕ, List, length, take, replicate, IfErr, IfOk};
 ghost use Rattle.bit_norm.specs.Telling.{Call, at_top, ends, place_of, where_after, Tells};
 ghost use Rattle.bit_text.specs.Listings.{after_line, begun, item_calls, misfit, Standing};
 ghost use Rattle.bit_text.specs.Lines.{magic_of};
 ghost use Rattle.bit_text.specs.Stops.{call_of, IsAt, IsTold, ReadsLine, TellsItem};
 
-use crate::line::{Item, is_free, magic_of, read_item, spaces};
-use crate::numbers::Stop;
+use crate::line::{Item, is_free, magic_of, quick_record, read_item, spaces};
+use crate::numbers::{BATCH, Stop};
 use crate::reason::TextReason;
 use bit_fields::Limits;
 use bit_norm::{FormWriter, Untold};
@@ -63,6 +63,7 @@ fn misfit(writer: &FormWriter, limits: Limits, item: Item, numbers: &[u64]) -> T
 }
 
 /// Ends the blocks that an item after so many spaces is not in, and tells the item.
+#[inline(always)]
 fn tell_item(
     writer: &mut FormWriter,
     limits: Limits,
@@ -112,17 +113,21 @@ fn begin(
     }
 }
 
-/// Reads a line. There is a writer after the line of the magic.
+/// Reads the line that a text has before `end`. There is a writer after the line of the magic.
 pub(crate) fn read_line(
     alloc: Global,
     limits: Limits,
-    line: &[u8],
+    text: &[u8],
+    end: usize,
     writer: &mut Option<FormWriter>,
     numbers: &mut Vec<u64>,
+    batch: &mut [u64; BATCH],
 ) -> Result<(), Stop>
+    requires { end ≤ length text.now }
     ensures { (now : Standing) → IsAt limits now writer.old
-        → ReadsLine limits (after_line limits now line.now) result writer.new }
+        → ReadsLine limits (after_line limits now (take end text.now)) result writer.new }
 {
+    let line = &text[..end];
     let count = spaces(line);
     let content = &line[count..];
     if is_free(content) {
@@ -130,6 +135,10 @@ pub(crate) fn read_line(
     }
     match writer {
         Some(writer) => {
+            let quick = quick_record(&text[count..], end - count, batch);
+            if quick > 0 {
+                return tell_item(writer, limits, count, Item::Record, &batch[..quick]);
+            }
             let item = read_item(content, numbers)?;
             tell_item(writer, limits, count, item, numbers)
         }

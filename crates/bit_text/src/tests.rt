@@ -39,6 +39,28 @@ fn spellings(rt: HostRuntime) {
     }
 }
 
+/// Numbers of one to seven digits, which are read at once up to six of them, and the same in hexadecimal, which are not.
+static LENGTHS: [(&str, &str); 2] = [
+    (
+        "magic 4243c0de\nblock 8\n  record 9 99 999 9999\n# behind\n",
+        "magic 4243c0de\nblock 8\n  record 0x9 0x63 0x3e7 0x270f\n# behind\n",
+    ),
+    (
+        "magic 4243c0de\nblock 8\n  record 99999 999999 1000000 9999999\n# behind\n",
+        "magic 4243c0de\nblock 8\n  record 0x1869f 0xf423f 0xf4240 0x98967f\n# behind\n",
+    ),
+];
+
+#[test]
+fn lengths_of_numbers(rt: HostRuntime) {
+    for (decimal, hexadecimal) in LENGTHS.iter() {
+        let (answer, sink) = assembled(&rt, rt.alloc(), decimal, 100);
+        let (other, expected) = assembled(&rt, rt.alloc(), hexadecimal, 100);
+        assert!(rt; answer.is_ok() && answer == other);
+        assert!(rt; sink.bytes() == expected.bytes());
+    }
+}
+
 #[test]
 fn no_blocks(rt: HostRuntime) {
     let (answer, sink) = assembled(&rt, rt.alloc(), "magic 01ab00ff", 4);
@@ -56,7 +78,7 @@ block 4294967295
 ";
 
 /// Texts that are refused, each with its line.
-static REFUSED: [(&str, TextReason, u64); 28] = [
+static REFUSED: [(&str, TextReason, u64); 31] = [
     ("", TextReason::NoMagic, 1),
     ("\n\n", TextReason::NoMagic, 3),
     ("# x", TextReason::NoMagic, 1),
@@ -76,6 +98,21 @@ static REFUSED: [(&str, TextReason, u64); 28] = [
     ("magic 4243c0de\nblock 8\r\n", TextReason::BadLine, 2),
     (
         "magic 4243c0de\nblock 8\n  record 1  2\n",
+        TextReason::BadLine,
+        3,
+    ),
+    (
+        "magic 4243c0de\nblock 8\n  record 1 \n# behind\n",
+        TextReason::BadLine,
+        3,
+    ),
+    (
+        "magic 4243c0de\nblock 8\n  record 1\t2\n# behind\n",
+        TextReason::BadLine,
+        3,
+    ),
+    (
+        "magic 4243c0de\nblock 8\n  record 1 2:\n# behind\n",
         TextReason::BadLine,
         3,
     ),
