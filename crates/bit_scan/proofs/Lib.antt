@@ -21,4 +21,5 @@ pub mod Parted
 pub mod Tellings
 pub mod Walks
 pub mod Noted
+pub mod Objects
 pub mod Batches

@@ -8,6 +8,7 @@ pub mod Indexed
 pub mod Json
 pub mod Lines
 pub mod Listing
+pub mod ObjectLines
 pub mod Printing
 pub mod Reporting
 pub mod Rows
