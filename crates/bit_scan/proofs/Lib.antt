@@ -22,4 +22,5 @@ pub mod Tellings
 pub mod Walks
 pub mod Noted
 pub mod Objects
+pub mod Determined
 pub mod Batches

@@ -75,7 +75,7 @@ are_distinct (name ∷ names) = is_new name names && are_distinct names
 abbrev pub are_names : List (List ℕ) → Bool
 are_names names = list_all (list_all is_ascii_alphanumeric) names && are_distinct names
 
-both : (a b : Bool) → (a && b) ≡ true → (a ≡ true) × (b ≡ true)
+pub both : (a b : Bool) → (a && b) ≡ true → (a ≡ true) × (b ≡ true)
 both true b e = (refl, e)
 both false b e = absurd (let no : false ≡ true = e in cc)
 
@@ -167,7 +167,7 @@ text_line_is kind fields key text plain names inner = (_, object_made IsLineValu
 -- ---- lists
 
 module _ {A : Type 0} (text : A → List ℕ) where
-  joined_later : (place : ℕ) (xs : List A) → joined_from text (suc place) xs ≡ flat_map (λ x. codes "," ++ text x) xs
+  pub joined_later : (place : ℕ) (xs : List A) → joined_from text (suc place) xs ≡ flat_map (λ x. codes "," ++ text x) xs
   joined_later place [] = refl
   joined_later place (x ∷ xs) =
       let next : suc place + 1 ≡ suc (suc place) = omega arith in

@@ -3,6 +3,7 @@ pub mod Analysing
 pub mod CodesView
 pub mod Counting
 pub mod Cut
+pub mod EventLines
 pub mod Fitting
 pub mod Indexed
 pub mod Json
