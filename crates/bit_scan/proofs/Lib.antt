@@ -21,4 +21,6 @@ pub mod Parted
 pub mod Tellings
 pub mod Walks
 pub mod Noted
+pub mod Objects
+pub mod Determined
 pub mod Batches

@@ -1,6 +1,7 @@
 -- The lines of events and of a report as JSON, one object a line, as ASCII codes. This project's own.
 use Rattle.std.specs.Prelude.{ℕ, zero, suc, ◌+◌, ◌-◌, ◌^◌, List, [], ◌∷◌, ◌++◌, length, map, flat_map, codes, decimal, nat_lt, if◌then◌else◌, Ok, Err}
 use Rattle.std.specs.Borrow.{Bor}
+use Rattle.std.specs.List.{AllByRecursion}
 use Rattle.bit_grammar.specs.declared.op.Op.{Op}
 use Rattle.bit_grammar.specs.declared.op.Op.TheVariants.{Literal, Fixed, Vbr, Array, Char6, Blob}
 use Rattle.bit_grammar.specs.declared.reason.Reason.{Reason}
@@ -13,6 +14,7 @@ use Rattle.bit_grammar.specs.Outlook.{Outlook}
 use Rattle.bit_grammar.specs.Steps.{open_after}
 use Rattle.bit_grammar.specs.Tally.{BlockTally, CodeTally, Tally, stream_begin}
 use Rattle.bit_grammar.specs.Texts.{hex_text, magic_bytes}
+use Rattle.bit_scan.specs.ObjectLines.{IsPlain}
 
 -- ---- objects
 
@@ -169,6 +171,10 @@ abbrev pub report_json : Tally → List ℕ
 report_json tally = stream_json tally.magic tally.bits ++ flat_map row_json tally.rows
 
 -- ---- as the code makes them
+
+-- no key needs an escape
+abbrev pub ArePlain : List (Bor (List ℕ) × ℕ) → Type 0
+ArePlain fields = AllByRecursion (λ (field : Bor (List ℕ) × ℕ). IsPlain field.0.now) fields
 
 -- the keys and numbers of a slice
 abbrev pub fields_told : List (Bor (List ℕ) × ℕ) → List Field

@@ -3,11 +3,13 @@ pub mod Analysing
 pub mod CodesView
 pub mod Counting
 pub mod Cut
+pub mod EventLines
 pub mod Fitting
 pub mod Indexed
 pub mod Json
 pub mod Lines
 pub mod Listing
+pub mod ObjectLines
 pub mod Printing
 pub mod Reporting
 pub mod Rows

@@ -1,10 +1,12 @@
-//! Lines of JSON: an object with a kind, numbers by their keys, and at most one list or text.
+//! Lines of JSON: an object with a kind, numbers by their keys, and at most one list or text. Kinds and keys are letters and digits
+//! alone, so that they need no escapes.
 
 ghost use Rattle.std.specs.Prelude.{◌≡◌, ◌++◌, OnOk, codes, decimal, flat_map, string_bytes};
 ghost use Rattle.bit_grammar.specs.Texts.{hex_text, magic_bytes};
 ghost use Rattle.bit_grammar.specs.Reasons.{name_of};
 ghost use Rattle.bit_fields.specs.Opening.{magic_number};
-ghost use Rattle.bit_scan.specs.Json.{number_json, field_json, fields_told, noted_fields, object_front, object, object_line, list_front, text_front, text_part, text_line, comma, op_json};
+ghost use Rattle.bit_scan.specs.ObjectLines.{IsPlain};
+ghost use Rattle.bit_scan.specs.Json.{ArePlain, number_json, field_json, fields_told, noted_fields, object_front, object, object_line, list_front, text_front, text_part, text_line, comma, op_json};
 
 use crate::lines::{push_magic_digits, push_number};
 use bit_fields::Reason;
@@ -29,6 +31,7 @@ pub(crate) fn push_json_number(text: &mut String, number: u64) -> Result<(), All
 
 /// Appends a key that follows a field, and the text between it and its value.
 fn push_key(text: &mut String, key: &str, between: &str) -> Result<(), AllocError>
+    requires { IsPlain key.now }
     ensures { OnOk result (string_bytes text.new
         ≡ string_bytes text.old ++ (codes ",\"" ++ key.now ++ between.now)) }
 {
@@ -39,6 +42,7 @@ fn push_key(text: &mut String, key: &str, between: &str) -> Result<(), AllocErro
 
 /// Appends a field that follows another one.
 fn push_field(text: &mut String, key: &str, number: u64) -> Result<(), AllocError>
+    requires { IsPlain key.now }
     ensures { OnOk result (string_bytes text.new
         ≡ string_bytes text.old ++ field_json (key.now, number)) }
 {
@@ -48,6 +52,7 @@ fn push_field(text: &mut String, key: &str, number: u64) -> Result<(), AllocErro
 
 /// Appends keys and their numbers, a comma before each.
 pub fn push_fields(text: &mut String, fields: &[Field<'_>]) -> Result<(), AllocError>
+    requires { ArePlain fields.now }
     ensures { OnOk result (string_bytes text.new
         ≡ string_bytes text.old ++ flat_map field_json (fields_told fields.now)) }
 {
@@ -59,6 +64,7 @@ pub fn push_fields(text: &mut String, fields: &[Field<'_>]) -> Result<(), AllocE
 
 /// Appends a JSON object with a kind and numbers, up to its end.
 pub fn push_front(text: &mut String, kind: &str, fields: &[Field<'_>]) -> Result<(), AllocError>
+    requires { IsPlain kind.now × ArePlain fields.now }
     ensures { OnOk result (string_bytes text.new
         ≡ string_bytes text.old ++ object_front kind.now (fields_told fields.now)) }
 {
@@ -70,6 +76,7 @@ pub fn push_front(text: &mut String, kind: &str, fields: &[Field<'_>]) -> Result
 
 /// Appends a JSON object with a kind and numbers.
 pub fn push_object(text: &mut String, kind: &str, fields: &[Field<'_>]) -> Result<(), AllocError>
+    requires { IsPlain kind.now × ArePlain fields.now }
     ensures { OnOk result (string_bytes text.new
         ≡ string_bytes text.old ++ object kind.now (fields_told fields.now)) }
 {
@@ -83,6 +90,7 @@ pub(crate) fn push_object_line(
     kind: &str,
     fields: &[Field<'_>],
 ) -> Result<(), AllocError>
+    requires { IsPlain kind.now × ArePlain fields.now }
     ensures { OnOk result (string_bytes text.new
         ≡ string_bytes text.old ++ object_line kind.now (fields_told fields.now)) }
 {
@@ -97,6 +105,7 @@ pub(crate) fn push_list_front(
     fields: &[Field<'_>],
     key: &str,
 ) -> Result<(), AllocError>
+    requires { IsPlain kind.now × ArePlain fields.now × IsPlain key.now }
     ensures { OnOk result (string_bytes text.new
         ≡ string_bytes text.old ++ list_front kind.now (fields_told fields.now) key.now) }
 {
@@ -173,6 +182,7 @@ fn push_text_front(
     fields: &[Field<'_>],
     key: &str,
 ) -> Result<(), AllocError>
+    requires { IsPlain kind.now × ArePlain fields.now × IsPlain key.now }
     ensures { OnOk result (string_bytes text.new
         ≡ string_bytes text.old ++ text_front kind.now (fields_told fields.now) key.now) }
 {
@@ -187,6 +197,7 @@ pub fn push_magic_part(
     fields: &[Field<'_>],
     magic: [u8; 4],
 ) -> Result<(), AllocError>
+    requires { IsPlain kind.now × ArePlain fields.now }
     ensures { OnOk result (string_bytes text.new ≡ string_bytes text.old
         ++ text_part kind.now (fields_told fields.now) (codes "magic")
         (flat_map hex_text (magic_bytes (magic_number magic)))) }
@@ -203,6 +214,7 @@ pub(crate) fn push_magic_line(
     fields: &[Field<'_>],
     magic: [u8; 4],
 ) -> Result<(), AllocError>
+    requires { IsPlain kind.now × ArePlain fields.now }
     ensures { OnOk result (string_bytes text.new ≡ string_bytes text.old
         ++ text_line kind.now (fields_told fields.now) (codes "magic")
         (flat_map hex_text (magic_bytes (magic_number magic)))) }
@@ -218,6 +230,7 @@ pub(crate) fn push_reason_line(
     fields: &[Field<'_>],
     reason: Reason,
 ) -> Result<(), AllocError>
+    requires { IsPlain kind.now × ArePlain fields.now }
     ensures { OnOk result (string_bytes text.new ≡ string_bytes text.old
         ++ text_line kind.now (fields_told fields.now) (codes "reason") (name_of reason)) }
 {

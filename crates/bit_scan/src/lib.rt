@@ -37,7 +37,7 @@ pub use analysis::Analysis;
 pub use bit_grammar::ValueDisplay;
 pub use format::{EventStyle, Format};
 pub use json::{Field, push_fields, push_front, push_magic_part, push_object};
-pub use laws::numbers_fit;
+pub use laws::{json_lines, numbers_fit};
 pub use lines::push_magic;
 pub use reporting::{write_report, write_report_as};
 pub use rows::{BlockRow, CodeRow, Codes};

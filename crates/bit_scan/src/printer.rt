@@ -3,7 +3,8 @@ ghost use Rattle.bit_grammar.specs.EventTexts.{line_at, op_text, opened_text};
 ghost use Rattle.bit_grammar.specs.Reasons.{name_of};
 ghost use Rattle.bit_grammar.specs.Texts.{hex_text, magic_bytes, magic_text, block_line, values_text};
 ghost use Rattle.bit_fields.specs.Opening.{magic_number};
-ghost use Rattle.bit_scan.specs.Json.{comma, fields_told, joined_from, list_front, noted_fields, number_json, object_line, op_json, text_line};
+ghost use Rattle.bit_scan.specs.ObjectLines.{IsPlain};
+ghost use Rattle.bit_scan.specs.Json.{ArePlain, comma, fields_told, joined_from, list_front, noted_fields, number_json, object_line, op_json, text_line};
 ghost use Rattle.bit_scan.specs.Lines.{report_head, listing_head, block_row_text, code_row_text, record_line_front, definition_head, noted_head};
 ghost use Rattle.bit_scan.specs.Printing.{PrintedAll, PrintedFront, Prints};
 ghost use Rattle.bit_scan.specs.Written.{HasFailed, TookFront, TookText};
@@ -325,6 +326,7 @@ impl<K: Sink> Printer<K> {
 
     /// A line that is a JSON object with a kind and numbers.
     pub(crate) fn object_line(&mut self, kind: &str, fields: &[Field<'_>]) -> Result<(), Fault>
+        requires { IsPlain kind.now × ArePlain fields.now }
         ensures { Prints (object_line kind.now (fields_told fields.now)) self.old result self.new }
     {
         match push_object_line(&mut self.held, kind, fields) {
@@ -340,6 +342,7 @@ impl<K: Sink> Printer<K> {
         fields: &[Field<'_>],
         key: &str,
     ) -> Result<(), Fault>
+        requires { IsPlain kind.now × ArePlain fields.now × IsPlain key.now }
         ensures { Prints (list_front kind.now (fields_told fields.now) key.now) self.old result
             self.new }
     {
@@ -434,6 +437,7 @@ impl<K: Sink> Printer<K> {
         fields: &[Field<'_>],
         magic: [u8; 4],
     ) -> Result<(), Fault>
+        requires { IsPlain kind.now × ArePlain fields.now }
         ensures { Prints (text_line kind.now (fields_told fields.now) (codes "magic")
             (flat_map hex_text (magic_bytes (magic_number magic)))) self.old result self.new }
     {
@@ -450,6 +454,7 @@ impl<K: Sink> Printer<K> {
         fields: &[Field<'_>],
         reason: Reason,
     ) -> Result<(), Fault>
+        requires { IsPlain kind.now × ArePlain fields.now }
         ensures { Prints (text_line kind.now (fields_told fields.now) (codes "reason")
             (name_of reason)) self.old result self.new }
     {

@@ -6,7 +6,7 @@ ghost use Rattle.bit_grammar.specs.declared.op.Op.{Op};
 ghost use Rattle.bit_fields.specs.Opening.{head_told};
 ghost use Rattle.bit_events.specs.Coming.{going};
 ghost use Rattle.bit_events.specs.EventView.{event_shown};
-ghost use Rattle.bit_scan.specs.Json.{event_json, fields_told, joined, list_line, noted_fields, noted_json, number_json, op_json};
+ghost use Rattle.bit_scan.specs.Json.{ArePlain, event_json, fields_told, joined, list_line, noted_fields, noted_json, number_json, op_json};
 ghost use Rattle.bit_scan.specs.Printing.{Prints};
 ghost use Rattle.bit_scan.specs.Styles.{fault_as, head_as, refusal_as, styled_event};
 ghost use Rattle.bit_scan.specs.Telling.{PrintsLast, TellsNext, TellsRest, TellsAll, TellsInput};
@@ -161,6 +161,7 @@ fn write_json_definition<K: Sink>(
     fields: &[Field<'_>],
     ops: &[Op],
 ) -> Result<(), Fault>
+    requires { ArePlain fields.now }
     ensures { Prints (list_line (codes "define") (fields_told fields.now) (codes "operands")
         (joined op_json ops.now)) printer.old result printer.new }
 {
