@@ -263,16 +263,16 @@ pays_like : (a b c : Reader) → IsLike b c → GoesOn a b → GoesOn a c
 pays_like a b c like pays = rw (like.incoming, like.budget) pays
 
 -- no event was found
-pub kept_misses : (is_over : Bool) (limits : Limits) (head : Head) (m n : Machine) (vs ws : List ℕ) (found : Option Step) (place : ℕ) (a b c : Reader) (fault : Fault) → is_over ≡ false → FindsFault limits m a fault b → IsLike b c → BreaksOff (coming_of is_over limits head m vs found place a) fault (coming_of is_over limits head n ws found place c)
-kept_misses is_over limits head m n vs ws found place a b c fault e finds like =
+pub kept_misses : (is_over : Bool) (limits : Limits) (head : Head) (m n : Machine) (vs ws : List ℕ) (found : Option Step) (place : ℕ) (a b c : Reader) (fault : Fault) → is_over ≡ false → vec_len n.frames ≤ vec_len m.frames → FindsFault limits m a fault b → IsLike b c → BreaksOff (coming_of is_over limits head m vs found place a) fault (coming_of is_over limits head n ws found place c)
+kept_misses is_over limits head m n vs ws found place a b c fault e fewer finds like =
     subst (λ (x : Bool). BreaksOff (coming_of x limits head m vs found place a) fault (coming_of x limits head n ws found place c)) (sym e) (go fault finds)
   where
     stops : StopsReading a b → StopsEvents (coming_of false limits head m vs found place a) (coming_of false limits head n ws found place c)
-    stops s = record { went = rw s.was_live refl; stopped = rw (like.live, s.failed) refl; head = refl; position = refl; pays = pays_like a b c like s.goes_on }
+    stops s = record { went = rw s.was_live refl; stopped = rw (like.live, s.failed) refl; head = refl; position = refl; depth = fewer; deepest = refl; pays = pays_like a b c like s.goes_on }
 
     go : (f : Fault) → FindsFault limits m a f b → BreaksOff (coming_of false limits head m vs found place a) f (coming_of false limits head n ws found place c)
     go (Refused reason bit) (s, told) = (stops s, told)
-    go Read s = record { went = rw s.was_live refl; stopped = rw (like.live, s.failed) refl; head = refl; position = refl; fails = rw (like.incoming, like.budget) s.fails }
+    go Read s = record { went = rw s.was_live refl; stopped = rw (like.live, s.failed) refl; head = refl; position = refl; depth = fewer; deepest = refl; fails = rw (like.incoming, like.budget) s.fails }
     go Memory s = stops s
     go Failed h = absurd h
     go Write h = h
@@ -304,8 +304,9 @@ kept_ends is_over now_over limits head m n vs ws found place there a b c e now_e
     })
 
 -- the invariant after the end of the input
-pub closed : {limits : Limits} (m n : Machine) (a b : Reader) (place : ℕ) → FindsEnd limits m a n b → IsEvents true n None place b
+pub closed : {limits : Limits} (m n : Machine) (a b : Reader) (place : ℕ) → FindsEnd limits m a n b → IsEvents true limits n None place b
 closed m n a b place finds = record {
+  depth = omega (arith, ap (λ (x : Machine). vec_len x.frames) finds.same, finds.outside);
   stands = λ live. absurd (dead b.live live finds.stops.failed);
   aligned = λ live. absurd (dead b.live live finds.stops.failed);
   closed = λ _. record { frames = ap (λ (x : Machine). vec_len x.frames) finds.same ∙ finds.outside; last = refl };

@@ -26,13 +26,13 @@ use Rattle.bit_events.specs.declared.machine.Step.{Step}
 use Rattle.bit_events.specs.FrameView.{info_shown, frame_shown, frames_shown}
 use Rattle.bit_events.specs.HeadView.{head_shown}
 use Rattle.bit_events.specs.MachineView.{handed_shown, machine_shown, step_shown, end_rule, InBlock, LeavesMachine}
-use Rattle.bit_events.specs.Folding.{GathersSome, MissesEvents, TakesRun}
+use Rattle.bit_events.specs.Folding.{GathersSome, Lost, MissesEvents, TakesRun}
 use Rattle.bit_events.specs.Gathering.{Gathers}
-use Rattle.bit_events.specs.Next.{left_to_tell}
-use Rattle.bit_events.specs.Runs.{FindsHere, GathersOn, GathersRun, GathersUpTo, Passed, StepsHere}
+use Rattle.bit_events.specs.Next.{left_to_tell, FindsEvent}
+use Rattle.bit_events.specs.Runs.{FindsHere, GathersOn, GathersRun, GathersUpTo, Passed, StepsHere, StopsOn}
 use Rattle.std.specs.declared.alloc.AllocError.{AllocError}
-use Rattle.bit_events.proofs.Advancing.{dead, finds_event, finds_fault, leaves_later, none_shown}
-use Rattle.bit_events.proofs.Folds.{in_block, none_found, none_yet, one_event, some_then, stays_same}
+use Rattle.bit_events.proofs.Advancing.{dead, finds_event, leaves_later, none_shown}
+use Rattle.bit_events.proofs.Folds.{before_none, first_after, first_event, first_none, first_some, loses_later, none_yet, one_event, some_then, stays_same, stops_later}
 use Rattle.bit_events.proofs.Runs.{advanced_both, passed_both, passed_forward}
 use Rattle.bit_events.proofs.Stepping.{innermost, frames-pop, length-frames, open_took, end_took, top_opens, nested_opens, in_then, after_end, after_nested}
 
@@ -203,23 +203,45 @@ on_run gathered limits f m outer a g used after h b split run is =
 pub step_passed : (rule : Grammar (Event × machine.Machine)) (deepest : ℕ) (m : Machine) (a : BufferedBits) (event : Event) (n : Machine) (b : BufferedBits) → FindsHere rule deepest m a event n b → Passed a b
 step_passed rule deepest m a event n b here = (let q = reads_passed rule a (event, machine_shown n) b here.reads in (q.0, q.1, q.2))
 
--- the beginning or the end of a block
+-- the beginning or the end of a block was found
+step_found : (limits : Limits) (m : Machine) (a : BufferedBits) (event : Event) (n : Machine) (b : BufferedBits) (r : Reader) → FindsHere (step limits (machine_shown m)) limits.depth m a event n b → a.position < b.position → Sees r a → FindsEvent limits m r event n (reader_further r (b.position - a.position))
+step_found limits m a event n b r here moves sees =
+    let there : Reader = reader_further r (b.position - a.position) in
+    let took = seen_took (step limits (machine_shown m)) r a (event, machine_shown n) b sees here.reads in
+    let some : (k : TellsBytes r) → 0 < length r.left = λ k. omega (arith, moves, reads_there (step limits (machine_shown m)) a (event, machine_shown n) b here.reads, ap length (sees.front k).1, length-append a.bits (sees.front k).0) in
+    let left : LeavesMachine limits.depth m r event n there = record {
+      stands = here.leaves.stands;
+      opens = here.leaves.opens;
+      forward = omega arith;
+      aligned = λ none. omega (arith, here.leaves.aligned none, sees.position, moves);
+      holds = here.leaves.holds;
+    } in
+    finds_event limits m n event r r there (stays_same r sees.live, λ none k. some k) took.0 left
+
+-- it was gathered
 pub on_step : {G : Type 0} (gathered : G → List Event → G → Type 0) (limits : Limits) (m : Machine) (a : BufferedBits) (g : G) (event : Event) (n : Machine) (b : BufferedBits) (h : G) → FindsHere (step limits (machine_shown m)) limits.depth m a event n b → a.position < b.position → Gathers gathered g event h → GathersOn gathered limits m a g n b h
 on_step gathered limits m a g event n b h here moves gathers = record {
   passed = step_passed (step limits (machine_shown m)) limits.depth m a event n b here;
-  gathers = λ r sees.
-      let there : Reader = reader_further r (b.position - a.position) in
-      let took = seen_took (step limits (machine_shown m)) r a (event, machine_shown n) b sees here.reads in
-      let some : (k : TellsBytes r) → 0 < length r.left = λ k. omega (arith, moves, reads_there (step limits (machine_shown m)) a (event, machine_shown n) b here.reads, ap length (sees.front k).1, length-append a.bits (sees.front k).0) in
-      let left : LeavesMachine limits.depth m r event n there = record {
-        stands = here.leaves.stands;
-        opens = here.leaves.opens;
-        forward = omega arith;
-        aligned = λ none. omega (arith, here.leaves.aligned none, sees.position, moves);
-        holds = here.leaves.holds;
-      } in
-      (one_event gathered limits m r g event n there h (finds_event limits m n event r r there (stays_same r sees.live, λ none k. some k) took.0 left) gathers, took.1);
+  gathers = λ r sees. (
+    one_event gathered limits m r g event n (reader_further r (b.position - a.position)) h (step_found limits m a event n b r here moves sees) gathers,
+    (seen_took (step limits (machine_shown m)) r a (event, machine_shown n) b sees here.reads).1,
+  );
 }
+
+-- it was not gathered
+pub stop_step : {G : Type 0} (gathered : G → List Event → G → Type 0) (fails : G → Option Event → G → Type 0) (limits : Limits) (m : Machine) (a : BufferedBits) (g : G) (event : Event) (n : Machine) (b : BufferedBits) (h : G) → FindsHere (step limits (machine_shown m)) limits.depth m a event n b → a.position < b.position → fails g (Some event) h → StopsOn gathered fails limits m a g h
+stop_step gathered fails limits m a g event n b h here moves failed = λ r sees. first_event gathered fails limits m r g h event n (reader_further r (b.position - a.position)) (step_found limits m a event n b r here moves sees) failed
+
+-- nothing more was gathered
+pub stop_here : {G : Type 0} (gathered : G → List Event → G → Type 0) (fails : G → Option Event → G → Type 0) (limits : Limits) (m : Machine) (a : BufferedBits) (g : G) → StopsOn gathered fails limits m a g g
+stop_here gathered fails limits m a g = λ r sees. first_none gathered fails limits m r g
+
+-- some were gathered before
+pub stop_after : {G : Type 0} (gathered : G → List Event → G → Type 0) (fails : G → Option Event → G → Type 0) (limits : Limits) (m : Machine) (a : BufferedBits) (g : G) (n : Machine) (b : BufferedBits) (h k : G) → GathersOn gathered limits m a g n b h → StopsOn gathered fails limits n b h k → StopsOn gathered fails limits m a g k
+stop_after gathered fails limits m a g n b h k on later = λ r sees.
+    let there : Reader = reader_further r (b.position - a.position) in
+    let one = on.gathers r sees in
+    first_after gathered fails limits m r g n there h k one.0 (later there one.1)
 
 -- no more bits are left
 pub on_fewer : {G : Type 0} (gathered : G → List Event → G → Type 0) (limits : Limits) (m : Machine) (a : BufferedBits) (g : G) (n : Machine) (b : BufferedBits) (h : G) → GathersOn gathered limits m a g n b h → length b.bits ≤ length a.bits
@@ -273,14 +295,28 @@ after_nothing : {A : Type 0} (rule : Grammar A) (a b : Reader) (result : Result 
 after_nothing rule a b result c nothing t = same_reading (gives (tt {0}) >>= λ v. rule) rule a result c (λ p r. refl) (took_then (gives (tt {0})) (λ v. rule) a (tt {0}) b result c nothing t)
 
 -- what was gathered from a block on, by a reader that then catches up
-pub on_gathered : {G : Type 0} (gathered : G → List Event → G → Type 0) (limits : Limits) (m : Machine) (a : Reader) (g : G) (b : Reader) (buffered_parts : BufferedBits) (n : Machine) (after : ℕ) (h : G) (result : Result (Unit {0}) Fault) (c : Reader) → 0 < vec_len m.frames → TookNothing a b → b.position ≡ a.position → Sees a buffered_parts
-    → GathersUpTo gathered limits m buffered_parts g n after h → Takes (any_bits (after - buffered_parts.position)) b result c → OnOk result (c.position ≡ b.position + (after - buffered_parts.position)) → TakesRun gathered limits m a g result n c h
-on_gathered gathered limits m a g b buffered_parts n after h result c some nothing stays sees on t moves =
+pub on_gathered : {G : Type 0} (gathered : G → List Event → G → Type 0) (fails : G → Option Event → G → Type 0) (limits : Limits) (m : Machine) (a : Reader) (g : G) (b : Reader) (buffered_parts : BufferedBits) (n : Machine) (after : ℕ) (h : G) (result : Result (Unit {0}) Fault) (c : Reader) → 0 < vec_len m.frames → TookNothing a b → b.position ≡ a.position → Sees a buffered_parts
+    → GathersUpTo gathered limits m buffered_parts g n after h → Takes (any_bits (after - buffered_parts.position)) b result c → OnOk result (c.position ≡ b.position + (after - buffered_parts.position)) → TakesRun gathered fails limits m a g result n c h
+on_gathered gathered fails limits m a g b buffered_parts n after h result c some nothing stays sees on t moves =
     go result (subst (λ (q : ℕ). Takes (any_bits (q - buffered_parts.position)) a result c) (sym on.1) (after_nothing (any_bits (after - buffered_parts.position)) a b result c nothing t)) moves
   where
-    go : (result : Result (Unit {0}) Fault) → Takes (any_bits (on.0.position - buffered_parts.position)) a result c → OnOk result (c.position ≡ b.position + (after - buffered_parts.position)) → TakesRun gathered limits m a g result n c h
+    go : (result : Result (Unit {0}) Fault) → Takes (any_bits (on.0.position - buffered_parts.position)) a result c → OnOk result (c.position ≡ b.position + (after - buffered_parts.position)) → TakesRun gathered fails limits m a g result n c h
     go (Ok x) t moves = run_taken gathered limits m a g n h buffered_parts on.0 c on.2 sees t (omega (arith, moves, stays, on.1))
-    go (Err fault) t moves = none_found limits m a fault c (finds_fault limits m a a fault c (in_block m a nothing.was_live some) (not_caught_up (any_bits (on.0.position - buffered_parts.position)) a buffered_parts tt on.0 fault c (step limits (machine_shown m)) sees (any_seen buffered_parts on.0 on.2.passed) t))
+    go (Err fault) t moves = lost fault (not_caught_up (any_bits (on.0.position - buffered_parts.position)) a buffered_parts tt on.0 fault c (gives (tt {0})) sees (any_seen buffered_parts on.0 on.2.passed) t)
+      where
+        there : Reader
+        there = reader_further a (on.0.position - buffered_parts.position)
+
+        some_read : GathersSome gathered limits m a g n there h
+        some_read = (on.2.gathers a sees).0
+
+        lost : (fault : Fault) → Why (gives (tt {0})) a fault c → MissesEvents gathered fails limits m a g fault c h
+        lost (Refused reason bit) w = (w.0, record { events = some_read.events; told = λ k. absurd (w.1 k); gathers = λ first done was count. (some_read.gathers first done was count).0 })
+        lost Read w = (w, first_some gathered fails limits m a g n there h some_read)
+        lost Memory w = (w, first_some gathered fails limits m a g n there h some_read)
+        lost Failed w = absurd (dead a.live nothing.was_live w.0)
+        lost Write w = w
+        lost OutputTooLong w = w
 
 -- a reader that only looked at what is buffered
 pub nothing_gathered : {G : Type 0} (gathered : G → List Event → G → Type 0) (limits : Limits) (m : Machine) (a : Reader) (g : G) (b : Reader) (buffered_parts : BufferedBits) → 0 < vec_len m.frames → TookNothing a b → b.position ≡ a.position → Sees a buffered_parts → GathersSome gathered limits m a g m b g
@@ -296,16 +332,22 @@ nothing_gathered gathered limits m a g b buffered_parts some nothing stays sees 
         sym (subst (λ (n : ℕ). reading (any_bits n) p r ≡ Ok (tt, p, r)) zero (any_seen here here ([], refl, omega arith)))
 
 -- a reader that took nothing before, and ran out of memory or lost its source
-pub lost_then : (limits : Limits) (m : Machine) (a b : Reader) (fault : Fault) (c : Reader) → TookNothing a b → Why (gives (tt {0})) b fault c → MissesEvents limits m a fault c
-lost_then limits m a b fault c nothing why = go fault (after_nothing (gives (tt {0})) a b (Err fault) c nothing why)
-  where
-    go : (fault : Fault) → Why (gives (tt {0})) a fault c → MissesEvents limits m a fault c
-    go (Refused reason bit) w = (w.0.goes_on, λ k. absurd (w.1 k))
-    go Read w = w.fails
-    go Memory w = w.goes_on
-    go Failed w = absurd (dead a.live nothing.was_live w.0)
-    go Write w = absurd w
-    go OutputTooLong w = absurd w
+pub lost_then : {G : Type 0} (gathered : G → List Event → G → Type 0) (fails : G → Option Event → G → Type 0) (limits : Limits) (m : Machine) (a b : Reader) (buffered_parts : BufferedBits) (g : G) (fault : Fault) (c : Reader) (h : G) → TookNothing a b → Sees a buffered_parts → StopsOn gathered fails limits m buffered_parts g h → Lost b fault c → MissesEvents gathered fails limits m a g fault c h
+lost_then gathered fails limits m a b buffered_parts g Read c h nothing sees stops lost = (loses_later a b c nothing.was_live nothing.goes_on lost, stops a sees)
+lost_then gathered fails limits m a b buffered_parts g Memory c h nothing sees stops lost = (stops_later a b c nothing.was_live nothing.goes_on lost, stops a sees)
+lost_then gathered fails limits m a b buffered_parts g (Refused reason bit) c h nothing sees stops lost = absurd lost
+lost_then gathered fails limits m a b buffered_parts g Failed c h nothing sees stops lost = absurd lost
+lost_then gathered fails limits m a b buffered_parts g Write c h nothing sees stops lost = absurd lost
+lost_then gathered fails limits m a b buffered_parts g OutputTooLong c h nothing sees stops lost = absurd lost
+
+-- a call that takes nothing failed before anything was gathered
+pub nothing_lost : {G : Type 0} (gathered : G → List Event → G → Type 0) (fails : G → Option Event → G → Type 0) (limits : Limits) (m : Machine) (a : Reader) (g : G) (fault : Fault) (c : Reader) → a.live ≡ true → Why (gives (tt {0})) a fault c → MissesEvents gathered fails limits m a g fault c g
+nothing_lost gathered fails limits m a g (Refused reason bit) c live w = (w.0, before_none gathered limits m a g (at reason bit) (λ k. absurd (w.1 k)))
+nothing_lost gathered fails limits m a g Read c live w = (w, first_none gathered fails limits m a g)
+nothing_lost gathered fails limits m a g Memory c live w = (w, first_none gathered fails limits m a g)
+nothing_lost gathered fails limits m a g Failed c live w = absurd (dead a.live live w.0)
+nothing_lost gathered fails limits m a g Write c live w = absurd w
+nothing_lost gathered fails limits m a g OutputTooLong c live w = absurd w
 
 -- the bits after those that were passed
 pub passed_beyond : (a b : BufferedBits) (n : ℕ) → Passed a b → n ≡ b.position - a.position → beyond a n ≡ b

@@ -1,28 +1,29 @@
 -- Events that are gathered, one after another, up to the end of an input.
-use Rattle.std.proofs.Common.{◌≡◌, ℕ, ◌+◌, ◌%◌, ◌<◌, true, false, List, [], ◌∷◌, ◌++◌, None, IsSome, Result, Ok, Err, vec_len, refl, sym, ap, subst, ◌∙◌, arith, append_assoc, inr}
+use Rattle.std.proofs.Common.{◌≡◌, ℕ, ◌+◌, ◌%◌, ◌<◌, true, false, List, [], ◌∷◌, ◌++◌, Option, Some, None, IsSome, Result, Ok, Err, vec_len, refl, sym, ap, subst, ◌∙◌, arith, append_assoc, inl, inr}
 use Rattle.std.proofs.lemmas.List.{append-nil}
-use Rattle.std.specs.Prelude.{OnOk}
+use Rattle.std.specs.Prelude.{OnErr, OnOk}
 use Rattle.std.specs.declared.alloc.AllocError.{AllocError}
+use Rattle.bit_grammar.specs.Grammar as grammar
 use Rattle.bit_grammar.specs.Grammar.{at}
 use Rattle.bit_grammar.specs.Blocks.{Limits}
-use Rattle.bit_grammar.specs.Machine.{Event, accepted, Told}
+use Rattle.bit_grammar.specs.Machine.{Event, accepted, broke, Told}
 use Rattle.bit_grammar.specs.Steps.{MayStand, open_after}
 use Rattle.bit_fields.specs.declared.fault.Fault.{Fault}
 use Rattle.bit_fields.specs.declared.fault.Fault.TheVariants.{Refused, Read, Write, Memory, OutputTooLong, Failed}
 use Rattle.bit_fields.specs.declared.head.Head.{Head}
 use Rattle.bit_fields.specs.Devices.{Incoming, known_bytes}
-use Rattle.bit_fields.specs.Reader.{Reader, GoesOn}
+use Rattle.bit_fields.specs.Reader.{Reader, TellsBytes, GoesOn, StopsReading, Loses, failed_reader}
 use Rattle.bit_fields.specs.Ending.{Stays}
 use Rattle.bit_fields.specs.Opening.{head_told}
 use Rattle.bit_fields.proofs.InflowLaws.{Spends-refl, Spends-trans, Spends-none, Fails-none, fails_later}
 use Rattle.bit_events.specs.declared.machine.Machine.{Machine}
 use Rattle.bit_grammar.proofs.Events.Telling.{told_if_broken}
 use Rattle.bit_events.specs.Events.{coming_of, Begun}
-use Rattle.bit_events.specs.Folding.{GathersSome, GathersAll, MissesEvents, Gathered, GatheredSome}
-use Rattle.bit_events.specs.Gathering.{open_behind, left_open, Gathers}
+use Rattle.bit_events.specs.Folding.{GathersSome, GathersAll, GathersBefore, GathersFirst, MissesEvents, Gathered, GatheredSome}
+use Rattle.bit_events.specs.Gathering.{open_behind, left_open, Gathers, Stops}
 use Rattle.bit_events.specs.Next.{left_to_tell, FindsEvent, FindsEnd, FindsFault}
 use Rattle.bit_events.specs.Reading.{Spent, ReadsWhole}
-use Rattle.bit_events.proofs.Advancing.{Ready, pays_both}
+use Rattle.bit_events.proofs.Advancing.{Ready, loses_both, pays_both}
 use Rattle.bit_events.proofs.WholeInputs.{accepted_input}
 
 -- ---- open blocks
@@ -39,6 +40,11 @@ each_list Taken P (Err e) each = tt
 -- a fact for whatever was taken
 pub for_each : (P : Type 0) (Taken : List ℕ → Type 0) (result : Result (Unit {0}) AllocError) → OnOk result P → OnOk result ((list : List ℕ) → Taken list → P)
 for_each P Taken result holds = each_list Taken (λ _. P) result (λ list took. holds)
+
+-- a fact about a failed call, for whatever was taken
+pub lost_each : (P : Type 0) (Taken : List ℕ → Type 0) (result : Result (Unit {0}) AllocError) → OnErr result P → OnErr result ((list : List ℕ) → Taken list → P)
+lost_each P Taken (Ok x) holds = tt
+lost_each P Taken (Err e) holds = λ list took. holds
 
 -- ---- events, one after another
 
@@ -92,21 +98,113 @@ some_then gathered limits m a g n b h o c k one two = record {
       (subst (λ (events : List Event). gathered first events k) same there.0, sym (ap left_open same) ∙ there.1);
 }
 
+-- ---- where it stopped
+
+abbrev FirstOf : {G : Type 0} → (G → List Event → G → Type 0) → (G → Option Event → G → Type 0) → Limits → Machine → Reader → G → G → Type 0
+FirstOf gathered fails limits m a g h = GathersFirst gathered fails (TellsBytes a) (left_to_tell limits m a) (vec_len m.frames) g h
+
+abbrev BeforeOf : {G : Type 0} → (G → List Event → G → Type 0) → Limits → Machine → Reader → G → grammar.Fault → G → Type 0
+BeforeOf gathered limits m a g fault h = GathersBefore gathered (TellsBytes a) (left_to_tell limits m a) (vec_len m.frames) g fault h
+
+-- at the first of these events
+first_of : {G : Type 0} (gathered : G → List Event → G → Type 0) (fails : G → Option Event → G → Type 0) (limits : Limits) (m : Machine) (a : Reader) (g h : G) (rest : List Event) → (TellsBytes a → (left_to_tell limits m a).0 ≡ rest) → Stops fails g rest h → FirstOf gathered fails limits m a g h
+first_of gathered fails limits m a g h rest told stops = record {
+  events = [];
+  rest = rest;
+  before = g;
+  told = told;
+  gathers = λ first done was count. subst (λ (es : List Event). gathered first es g) (sym (append-nil done)) was;
+  stops = stops;
+}
+
+-- no event, and no call failed
+pub first_none : {G : Type 0} (gathered : G → List Event → G → Type 0) (fails : G → Option Event → G → Type 0) (limits : Limits) (m : Machine) (a : Reader) (g : G) → FirstOf gathered fails limits m a g g
+first_none gathered fails limits m a g = first_of gathered fails limits m a g g (left_to_tell limits m a).0 (λ _. refl) (inl refl)
+
+-- no event: a call failed at bits
+pub first_bits : {G : Type 0} (gathered : G → List Event → G → Type 0) (fails : G → Option Event → G → Type 0) (limits : Limits) (m : Machine) (a : Reader) (g h : G) → fails g None h → FirstOf gathered fails limits m a g h
+first_bits gathered fails limits m a g h failed = first_of gathered fails limits m a g h (left_to_tell limits m a).0 (λ _. refl) (inr (inl failed))
+
+-- no event: a call failed at one
+pub first_event : {G : Type 0} (gathered : G → List Event → G → Type 0) (fails : G → Option Event → G → Type 0) (limits : Limits) (m : Machine) (a : Reader) (g h : G) (event : Event) (n : Machine) (b : Reader) → FindsEvent limits m a event n b → fails g (Some event) h → FirstOf gathered fails limits m a g h
+first_event gathered fails limits m a g h event n b finds failed =
+    let others = (left_to_tell limits n b).0 in
+    first_of gathered fails limits m a g h (event ∷ others) (λ tells. ap (λ (told : Told). told.0) (finds.told tells)) (inr (inr (event, others, refl, failed)))
+
+-- after some events
+pub first_after : {G : Type 0} (gathered : G → List Event → G → Type 0) (fails : G → Option Event → G → Type 0) (limits : Limits) (m : Machine) (a : Reader) (g : G) (n : Machine) (b : Reader) (h k : G) → GathersSome gathered limits m a g n b h → FirstOf gathered fails limits n b h k → FirstOf gathered fails limits m a g k
+first_after gathered fails limits m a g n b h k some later = record {
+  events = some.events ++ later.events;
+  rest = later.rest;
+  before = later.before;
+  told = λ tells. ap (λ (told : Told). told.0) (some.told tells) ∙ ap (λ (events : List Event). some.events ++ events) (later.told (some.pays.tells tells)) ∙ sym (append_assoc some.events later.events later.rest);
+  gathers = λ first done was count.
+      let here = some.gathers first done was count in
+      subst (λ (events : List Event). gathered first events later.before) (append_assoc done some.events later.events) (later.gathers first (done ++ some.events) here.0 here.1);
+  stops = later.stops;
+}
+
+-- some events
+pub first_some : {G : Type 0} (gathered : G → List Event → G → Type 0) (fails : G → Option Event → G → Type 0) (limits : Limits) (m : Machine) (a : Reader) (g : G) (n : Machine) (b : Reader) (h : G) → GathersSome gathered limits m a g n b h → FirstOf gathered fails limits m a g h
+first_some gathered fails limits m a g n b h some = first_after gathered fails limits m a g n b h h some (first_none gathered fails limits n b h)
+
+-- no event was left before a fault
+pub before_none : {G : Type 0} (gathered : G → List Event → G → Type 0) (limits : Limits) (m : Machine) (a : Reader) (g : G) (fault : grammar.Fault) → (TellsBytes a → left_to_tell limits m a ≡ ([], broke fault)) → BeforeOf gathered limits m a g fault g
+before_none gathered limits m a g fault told = record {
+  events = [];
+  told = told;
+  gathers = λ first done was count. subst (λ (es : List Event). gathered first es g) (sym (append-nil done)) was;
+}
+
+-- some were
+pub before_after : {G : Type 0} (gathered : G → List Event → G → Type 0) (limits : Limits) (m : Machine) (a : Reader) (g : G) (n : Machine) (b : Reader) (h : G) (fault : grammar.Fault) (k : G) → GathersSome gathered limits m a g n b h → BeforeOf gathered limits n b h fault k → BeforeOf gathered limits m a g fault k
+before_after gathered limits m a g n b h fault k some later = record {
+  events = some.events ++ later.events;
+  told = λ tells. some.told tells ∙ ap (λ (told : Told). (some.events ++ told.0, told.1)) (later.told (some.pays.tells tells));
+  gathers = λ first done was count.
+      let here = some.gathers first done was count in
+      subst (λ (events : List Event). gathered first events k) (append_assoc done some.events later.events) (later.gathers first (done ++ some.events) here.0 here.1);
+}
+
+pub stops_later : (a b c : Reader) → a.live ≡ true → GoesOn a b → StopsReading b c → StopsReading a c
+stops_later a b c live pays s = record { was_live = live; failed = s.failed; goes_on = pays_both a b c pays s.goes_on }
+
+pub loses_later : (a b c : Reader) → a.live ≡ true → GoesOn a b → Loses b c → Loses a c
+loses_later a b c live pays s = record { was_live = live; failed = s.failed; fails = loses_both a b c pays s.fails }
+
+-- some events, and then a fault
+pub misses_after : {G : Type 0} (gathered : G → List Event → G → Type 0) (fails : G → Option Event → G → Type 0) (limits : Limits) (m : Machine) (a : Reader) (g : G) (n : Machine) (b : Reader) (h : G) (fault : Fault) (c : Reader) (k : G) → a.live ≡ true → GathersSome gathered limits m a g n b h → MissesEvents gathered fails limits n b h fault c k → MissesEvents gathered fails limits m a g fault c k
+misses_after gathered fails limits m a g n b h (Refused reason bit) c k live some miss = (stops_later a b c live some.pays miss.0, before_after gathered limits m a g n b h (at reason bit) k some miss.1)
+misses_after gathered fails limits m a g n b h Read c k live some miss = (loses_later a b c live some.pays miss.0, first_after gathered fails limits m a g n b h k some miss.1)
+misses_after gathered fails limits m a g n b h Memory c k live some miss = (stops_later a b c live some.pays miss.0, first_after gathered fails limits m a g n b h k some miss.1)
+misses_after gathered fails limits m a g n b h Failed c k live some miss = miss
+misses_after gathered fails limits m a g n b h Write c k live some miss = miss
+misses_after gathered fails limits m a g n b h OutputTooLong c k live some miss = miss
+
+-- no memory was left to gather an event
+pub event_lost : {G : Type 0} (gathered : G → List Event → G → Type 0) (fails : G → Option Event → G → Type 0) (limits : Limits) (m : Machine) (a : Reader) (g : G) (event : Event) (n : Machine) (b : Reader) (h : G) → FindsEvent limits m a event n b → fails g (Some event) h → MissesEvents gathered fails limits m a g Memory (failed_reader b) h
+event_lost gathered fails limits m a g event n b h finds failed = (
+  record { was_live = finds.was_live; failed = refl; goes_on = Spends-none a.incoming a.budget b.incoming b.budget finds.pays },
+  first_event gathered fails limits m a g h event n b finds failed,
+)
+
 -- ---- the end
 
 -- no event was found
-pub none_found : (limits : Limits) (m : Machine) (a : Reader) (fault : Fault) (b : Reader) → FindsFault limits m a fault b → MissesEvents limits m a fault b
-none_found limits m a (Refused reason bit) b (s, told) = (s.goes_on, λ tells. ap (λ (told : Told). told.1) (told tells))
-none_found limits m a Read b s = s.fails
-none_found limits m a Memory b s = s.goes_on
-none_found limits m a Failed b h = h
-none_found limits m a Write b h = h
-none_found limits m a OutputTooLong b h = h
+pub none_found : {G : Type 0} (gathered : G → List Event → G → Type 0) (fails : G → Option Event → G → Type 0) (limits : Limits) (m : Machine) (a : Reader) (g : G) (fault : Fault) (b : Reader) → FindsFault limits m a fault b → MissesEvents gathered fails limits m a g fault b g
+none_found gathered fails limits m a g (Refused reason bit) b (s, told) = (s, before_none gathered limits m a g (at reason bit) told)
+none_found gathered fails limits m a g Read b s = (s, first_none gathered fails limits m a g)
+none_found gathered fails limits m a g Memory b s = (s, first_none gathered fails limits m a g)
+none_found gathered fails limits m a g Failed b h = h
+none_found gathered fails limits m a g Write b h = h
+none_found gathered fails limits m a g OutputTooLong b h = h
 
 -- no event was left
-pub none_left : {G : Type 0} (gathered : G → List Event → G → Type 0) (limits : Limits) (m : Machine) (a : Reader) (g : G) (n : Machine) (b : Reader) → FindsEnd limits m a n b → GathersAll gathered limits m a g b g
+pub none_left : {G : Type 0} (gathered : G → List Event → G → Type 0) (limits : Limits) (m : Machine) (a : Reader) (g : G) (n : Machine) (b : Reader) → FindsEnd limits m a n b → GathersAll gathered limits m a g n b g
 none_left gathered limits m a g n b finds = record {
   events = [];
+  closed = ap (λ (o : Machine). vec_len o.frames) finds.same ∙ finds.outside;
+  stopped = finds.stops.failed;
   pays = finds.stops.goes_on;
   told = λ tells. finds.told tells ∙ ap (λ (p : ℕ). ([], accepted p)) (sym finds.position);
   none = finds.none;
@@ -114,9 +212,11 @@ none_left gathered limits m a g n b finds = record {
 }
 
 -- some events, and then all that were left
-pub then_all : {G : Type 0} (gathered : G → List Event → G → Type 0) (limits : Limits) (m : Machine) (a : Reader) (g : G) (n : Machine) (b : Reader) (h : G) (c : Reader) (k : G) → GathersSome gathered limits m a g n b h → GathersAll gathered limits n b h c k → GathersAll gathered limits m a g c k
-then_all gathered limits m a g n b h c k some all = record {
+pub then_all : {G : Type 0} (gathered : G → List Event → G → Type 0) (limits : Limits) (m : Machine) (a : Reader) (g : G) (n : Machine) (b : Reader) (h : G) (o : Machine) (c : Reader) (k : G) → GathersSome gathered limits m a g n b h → GathersAll gathered limits n b h o c k → GathersAll gathered limits m a g o c k
+then_all gathered limits m a g n b h o c k some all = record {
   events = some.events ++ all.events;
+  closed = all.closed;
+  stopped = all.stopped;
   pays = pays_both a b c some.pays all.pays;
   told = λ tells. some.told tells ∙ ap (λ (told : Told). (some.events ++ told.0, told.1)) (all.told (some.pays.tells tells));
   none = λ tells. all.none (some.pays.tells tells);
@@ -135,20 +235,20 @@ spent limits i head m a b begun pays = Spends-none i (limits.bytes + 1) b.incomi
 abbrev failure : {A : Type 0} → Fault → Result A Fault
 failure fault = Err fault
 
-pub not_read : {A : Type 0} (Holds : List ℕ → A → Type 0) (limits : Limits) (i now : Incoming) (head : Head) (m : Machine) (a b : Reader) (fault : Fault) → Begun limits i (coming_of false limits head m [] None a.position a) → now ≡ b.incoming → MissesEvents limits m a fault b → ReadsWhole Holds limits i (Err fault) now
-not_read {A = A} Holds limits i now head m a b fault begun is_now miss = subst (λ (x : Incoming). ReadsWhole Holds limits i (failure {A = A} fault) x) (sym is_now) (go fault miss)
+pub not_read : {A G : Type 0} (Holds : List ℕ → A → Type 0) (gathered : G → List Event → G → Type 0) (fails : G → Option Event → G → Type 0) (limits : Limits) (i now : Incoming) (head : Head) (m : Machine) (a : Reader) (g : G) (b : Reader) (h : G) (fault : Fault) → Begun limits i (coming_of false limits head m [] None a.position a) → now ≡ b.incoming → MissesEvents gathered fails limits m a g fault b h → ReadsWhole Holds limits i (Err fault) now
+not_read {A = A} Holds gathered fails limits i now head m a g b h fault begun is_now miss = subst (λ (x : Incoming). ReadsWhole Holds limits i (failure {A = A} fault) x) (sym is_now) (go fault miss)
   where
-    go : (fault : Fault) → MissesEvents limits m a fault b → ReadsWhole Holds limits i (failure {A = A} fault) b.incoming
-    go (Refused reason bit) h = (spent limits i head m a b begun h.0, λ tells. (told_if_broken limits (known_bytes i.to_come) (at reason bit)).1 (inr ((head_told head, left_to_tell limits m a), begun.told tells, h.1 (begun.pays.tells tells))))
-    go Read h = Fails-none i (limits.bytes + 1) b.incoming b.budget (fails_later i (limits.bytes + 1) a.incoming a.budget b.incoming b.budget begun.pays h)
-    go Memory h = spent limits i head m a b begun h
-    go Failed h = h
-    go Write h = h
-    go OutputTooLong h = h
+    go : (fault : Fault) → MissesEvents gathered fails limits m a g fault b h → ReadsWhole Holds limits i (failure {A = A} fault) b.incoming
+    go (Refused reason bit) k = (spent limits i head m a b begun k.0.goes_on, λ tells. (told_if_broken limits (known_bytes i.to_come) (at reason bit)).1 (inr ((head_told head, left_to_tell limits m a), begun.told tells, ap (λ (told : Told). told.1) (k.1.told (begun.pays.tells tells)))))
+    go Read k = Fails-none i (limits.bytes + 1) b.incoming b.budget (fails_later i (limits.bytes + 1) a.incoming a.budget b.incoming b.budget begun.pays k.0.fails)
+    go Memory k = spent limits i head m a b begun k.0.goes_on
+    go Failed k = k
+    go Write k = k
+    go OutputTooLong k = k
 
-pub whole_gathered : {G : Type 0} (gathered : G → List Event → G → Type 0) (limits : Limits) (i : Incoming) (head : Head) (m : Machine) (a : Reader) (g : G) (b : Reader) (h : G) (after : ℕ) → Begun limits i (coming_of false limits head m [] None a.position a) → gathered g [] g → after ≡ b.position → GathersAll gathered limits m a g b h → IsSome i.to_come
+pub whole_gathered : {G : Type 0} (gathered : G → List Event → G → Type 0) (limits : Limits) (i : Incoming) (head : Head) (m : Machine) (a : Reader) (g : G) (n : Machine) (b : Reader) (h : G) (after : ℕ) → Begun limits i (coming_of false limits head m [] None a.position a) → gathered g [] g → after ≡ b.position → GathersAll gathered limits m a g n b h → IsSome i.to_come
     → Gathered gathered limits (known_bytes i.to_come) g (head_told head) h after
-whole_gathered gathered limits i head m a g b h after begun none is_after all tells =
+whole_gathered gathered limits i head m a g n b h after begun none is_after all tells =
     let it = accepted_input limits (known_bytes i.to_come) (head_told head) all.events b.position (begun.told tells ∙ ap (λ (told : Told). Ok (head_told head, told)) (all.told (begun.pays.tells tells))) in
     record {
       capped = begun.capped;
@@ -160,5 +260,5 @@ whole_gathered gathered limits i head m a g b h after begun none is_after all te
     }
 
 -- whether the bytes of the source are known or not
-pub some_gathered : {G : Type 0} (gathered : G → List Event → G → Type 0) (limits : Limits) (m : Machine) (a : Reader) (g : G) (b : Reader) (h : G) → gathered g [] g → vec_len m.frames ≡ 0 → GathersAll gathered limits m a g b h → GatheredSome gathered g h
-some_gathered gathered limits m a g b h none outside all = (let it = all.gathers g [] none (sym outside) in (all.events, it.0, it.1))
+pub some_gathered : {G : Type 0} (gathered : G → List Event → G → Type 0) (limits : Limits) (m : Machine) (a : Reader) (g : G) (n : Machine) (b : Reader) (h : G) → gathered g [] g → vec_len m.frames ≡ 0 → GathersAll gathered limits m a g n b h → GatheredSome gathered g h
+some_gathered gathered limits m a g n b h none outside all = (let it = all.gathers g [] none (sym outside) in (all.events, it.0, it.1))

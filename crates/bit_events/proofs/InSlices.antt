@@ -31,8 +31,9 @@ pub counted_behind : (before after list : List ℕ) (some all : ℕ) → some �
 counted_behind before after list some all is is_all parts few short = omega (arith, is, is_all, few, short, ap length parts, length-append before list)
 
 -- the invariant after such a record
-pub seen_behind : {is_over : Bool} {found : Option Step} (limits : Limits) (m n : Machine) (r : Reader) (a b : BufferedBits) (event : Event) → r.live ≡ true → 0 < vec_len m.frames → n.frames ≡ m.frames → a.position < b.position → SeesEvents is_over m found r a → Reads (step limits (machine_shown m)) a (event, machine_shown n) b → SeesEvents is_over n None r b
+pub seen_behind : {is_over : Bool} {found : Option Step} (limits : Limits) (m n : Machine) (r : Reader) (a b : BufferedBits) (event : Event) → r.live ≡ true → 0 < vec_len m.frames → n.frames ≡ m.frames → a.position < b.position → SeesEvents is_over limits m found r a → Reads (step limits (machine_shown m)) a (event, machine_shown n) b → SeesEvents is_over limits n None r b
 seen_behind limits m n r a b event live some same forward s seen = record {
+  depth = omega (arith, s.depth, ap vec_len same);
   behind = λ _. omega (arith, s.behind live, forward);
   there = there;
   sees = λ _. subst (λ (x : Reader). Sees x b) (advanced_both r (a.position - r.position) (b.position - a.position) (b.position - r.position) (omega (arith, s.behind live, forward))) (seen_took (step limits (machine_shown m)) (reader_seen r a) a (event, machine_shown n) b (s.sees live) seen).1;
@@ -47,7 +48,7 @@ seen_behind limits m n r a b event live some same forward s seen = record {
         omega (arith, s.behind live, s.there live k, p.2, ap length p.1, length-append p.0 b.bits, ap length front.1, length-append a.bits front.0, length-drop (a.position - r.position) r.left)
 
 -- it is the next event
-pub seen_given : (is_over : Bool) (limits : Limits) (head : Head) (m n : Machine) (vs list : List ℕ) (found : Option Step) (r : Reader) (a b : BufferedBits) (id code first after : ℕ) → r.live ≡ true → 0 < vec_len m.frames → n.frames ≡ m.frames → a.position < b.position → b.position < 2 ^ 64 → SeesEvents is_over m found r a
+pub seen_given : (is_over : Bool) (limits : Limits) (head : Head) (m n : Machine) (vs list : List ℕ) (found : Option Step) (r : Reader) (a b : BufferedBits) (id code first after : ℕ) → r.live ≡ true → 0 < vec_len m.frames → n.frames ≡ m.frames → a.position < b.position → b.position < 2 ^ 64 → SeesEvents is_over limits m found r a
     → Reads (step limits (machine_shown m)) a (record_of id list first (code, after), machine_shown n) b → GivesEvent (coming_of is_over limits head m vs found a.position (reader_seen r a)) (record_of id list first (code, after)) (coming_of is_over limits head n list None b.position (reader_seen r b))
 seen_given is_over limits head m n vs list found r a b id code first after live some same forward below s seen = go is_over refl
   where
@@ -101,7 +102,7 @@ caught r a s t there k = go (reading (any_bits n) r.position r.left) (any_whole 
     go x e f = sym (same_left (tt, r.position + n, drop n r.left) (tt, s.position, s.left) x e f)
 
 -- it is then at the same position
-caught_up_to : {is_over : Bool} {m : Machine} {found : Option Step} (r : Reader) (a : BufferedBits) (s : Reader) → r.live ≡ true → SeesEvents is_over m found r a → Took (any_bits (a.position - r.position)) r tt s → s.position ≡ r.position + (a.position - r.position) → Stays (reader_seen r a) s
+caught_up_to : {is_over : Bool} {limits : Limits} {m : Machine} {found : Option Step} (r : Reader) (a : BufferedBits) (s : Reader) → r.live ≡ true → SeesEvents is_over limits m found r a → Took (any_bits (a.position - r.position)) r tt s → s.position ≡ r.position + (a.position - r.position) → Stays (reader_seen r a) s
 caught_up_to r a s live sees t place = record {
   was_live = live;
   live = t.live;
@@ -144,11 +145,11 @@ finds_behind limits m n a b c list (Err Write) p h = h
 finds_behind limits m n a b c list (Err OutputTooLong) p h = h
 
 -- its position is where the buffered bits begin
-pub seen_at : {is_over : Bool} {m : Machine} {found : Option Step} {r : Reader} {a : BufferedBits} → r.live ≡ true → SeesEvents is_over m found r a → (reader_seen r a).position ≡ a.position
+pub seen_at : {is_over : Bool} {limits : Limits} {m : Machine} {found : Option Step} {r : Reader} {a : BufferedBits} → r.live ≡ true → SeesEvents is_over limits m found r a → (reader_seen r a).position ≡ a.position
 seen_at live sees = omega (arith, sees.behind live)
 
 -- what a reader finds that caught up
-pub found_behind : {is_over : Bool} {found : Option Step} (limits : Limits) (m n : Machine) (r : Reader) (a : BufferedBits) (s c : Reader) (list : List ℕ) (bits : ℕ) (result : Result (Option Step) Fault) → r.live ≡ true → SeesEvents is_over m found r a → bits ≡ a.position - r.position → Took (any_bits bits) r tt s → s.position ≡ r.position + bits
+pub found_behind : {is_over : Bool} {found : Option Step} (limits : Limits) (m n : Machine) (r : Reader) (a : BufferedBits) (s c : Reader) (list : List ℕ) (bits : ℕ) (result : Result (Option Step) Fault) → r.live ≡ true → SeesEvents is_over limits m found r a → bits ≡ a.position - r.position → Took (any_bits bits) r tt s → s.position ≡ r.position + bits
     → FindsNext limits m s list result n c → FindsNext limits m (reader_seen r a) list result n c
 found_behind limits m n r a s c list bits result live sees is took place finds =
     finds_behind limits m n (reader_seen r a) s c list result (caught_up_to r a s live sees (subst (λ (k : ℕ). Took (any_bits k) r tt s) is took) (omega (arith, place, is))) finds
@@ -165,7 +166,7 @@ pub like_seen : (c : Reader) (a : BufferedBits) → IsLike c (reader_seen c a)
 like_seen c a = record { live = refl; incoming = refl; budget = refl }
 
 -- it failed to catch up, which only a failed source causes
-pub not_caught : {is_over : Bool} {found : Option Step} (limits : Limits) (m : Machine) (r : Reader) (a : BufferedBits) (fault : Fault) (s : Reader) → r.live ≡ true → SeesEvents is_over m found r a → Why (any_bits (a.position - r.position)) r fault s → FindsFault limits m (reader_seen r a) fault s
+pub not_caught : {is_over : Bool} {found : Option Step} (limits : Limits) (m : Machine) (r : Reader) (a : BufferedBits) (fault : Fault) (s : Reader) → r.live ≡ true → SeesEvents is_over limits m found r a → Why (any_bits (a.position - r.position)) r fault s → FindsFault limits m (reader_seen r a) fault s
 not_caught limits m r a (Refused reason bit) s live sees (t, breaks) = (
   record { was_live = live; failed = t.failed; goes_on = t.goes_on },
   λ k. absurd (subst (λ (x : Result ((Unit {0}) × ℕ × List Bool) grammar.Fault). Breaks r.extent x reason bit) (any_whole (a.position - r.position) r.position r.left (sees.there live k)) (breaks k)),

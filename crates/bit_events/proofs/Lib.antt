@@ -13,3 +13,4 @@ pub mod InSlices
 pub mod Kept
 pub mod Standings
 mod Named
+pub mod Rest

@@ -26,9 +26,10 @@ use Rattle.bit_events.specs.FrameView.{frame_shown, frames_shown, info_shown}
 use Rattle.bit_events.specs.Folding.{GathersSome}
 use Rattle.bit_events.specs.Gathering.{Gathers}
 use Rattle.bit_events.specs.MachineView.{handed_shown, machine_shown, record_of, record_rule, LeavesMachine}
-use Rattle.bit_events.specs.Runs.{AddsBehind, ReadsTo, after_record, Passed, GathersPlain, GathersTo, StaysGathered}
+use Rattle.bit_events.specs.Next.{FindsEvent}
+use Rattle.bit_events.specs.Runs.{AddsBehind, ReadsTo, after_record, Passed, GathersPlain, GathersTo, StaysGathered, StopsRun}
 use Rattle.bit_events.proofs.Advancing.{finds_event}
-use Rattle.bit_events.proofs.Folds.{in_block, none_yet, one_event, some_then}
+use Rattle.bit_events.proofs.Folds.{first_after, first_bits, first_event, in_block, none_yet, one_event, some_then}
 use Rattle.bit_events.proofs.Framing.{none_described}
 use Rattle.bit_events.proofs.Framing as framing
 use Rattle.bit_events.proofs.Stepping.{in_then, innermost, after_record as record_follows, record_took, other_than, length-frames}
@@ -130,11 +131,9 @@ passed_more : {A : Type 0} (rule : Grammar A) (a b : BufferedBits) (value : A) (
 passed_more rule a b value c p seen = (let q = reads_passed rule b value c seen in passed_both a b c p (q.0, q.1, q.2))
 
 -- a step of the innermost block, by a reader before these bits
-one_seen : {G : Type 0} (gathered : G → List Event → G → Type 0) (limits : Limits) (m n : Machine) (outer : List machine.Frame) (f : machine.Frame) (g h : G) (id code : ℕ) (list : List ℕ) (r : Reader) (b c : BufferedBits) → frames_shown m.frames.items ≡ f ∷ outer → n.frames ≡ m.frames → machine_shown n ≡ after_record f outer (machine_shown m).handed list → b.position ≤ c.position
-    → Sees r b → Reads (step_of limits (f ∷ outer) (machine_shown m).handed) b (record_of id list b.position (code, c.position), after_record f outer (machine_shown m).handed list) c → Gathers gathered g (record_of id list b.position (code, c.position)) h
-    → GathersSome gathered limits m r g n (reader_further r (c.position - b.position)) h
-one_seen gathered limits m n outer f g h id code list r b c split same made forward sees seen gathers =
-    one_event gathered limits m r g event n after h (finds_event limits m n event r r after (in_block m r sees.live some) took leaves) gathers
+one_found : (limits : Limits) (m n : Machine) (outer : List machine.Frame) (f : machine.Frame) (id code : ℕ) (list : List ℕ) (r : Reader) (b c : BufferedBits) → frames_shown m.frames.items ≡ f ∷ outer → n.frames ≡ m.frames → machine_shown n ≡ after_record f outer (machine_shown m).handed list → b.position ≤ c.position
+    → Sees r b → Reads (step_of limits (f ∷ outer) (machine_shown m).handed) b (record_of id list b.position (code, c.position), after_record f outer (machine_shown m).handed list) c → FindsEvent limits m r (record_of id list b.position (code, c.position)) n (reader_further r (c.position - b.position))
+one_found limits m n outer f id code list r b c split same made forward sees seen = finds_event limits m n event r r after (in_block m r sees.live some) took leaves
   where
     event : Event
     event = record_of id list b.position (code, c.position)
@@ -164,7 +163,7 @@ gathers_more {G = G} gathered limits f used a g now_used b h id code list c k mo
       let there : Reader = reader_further r (b.position - a.position) in
       let here = step outer (machine_shown n).handed refl in
       let made : machine_shown o ≡ after_record (frame_shown f) outer (machine_shown n).handed list = rw (split, is) refl in
-      let one = one_seen gathered limits n o outer (frame_shown f) h k id code list there b c split refl made forward before.1 here gathers in
+      let one = one_event gathered limits n there h (record_of id list b.position (code, c.position)) o (reader_further there (c.position - b.position)) k (one_found limits n o outer (frame_shown f) id code list there b c split refl made forward before.1 here) gathers in
       let e : reader_further there (c.position - b.position) ≡ reader_further r (c.position - a.position) = advanced_both r (b.position - a.position) (c.position - b.position) (c.position - a.position) (omega (arith, passed_forward a b so.passed, forward)) in (
         subst (λ (t : Reader). GathersSome gathered limits m r g o t k) e (some_then gathered limits m r g n there h o (reader_further there (c.position - b.position)) k before.0 one),
         subst (λ (t : Reader). Sees t c) e (seen_took (step_of limits (frame_shown f ∷ outer) (machine_shown n).handed) there b (record_of id list b.position (code, c.position), after_record (frame_shown f) outer (machine_shown n).handed list) c before.1 here).1,
@@ -237,3 +236,28 @@ reached rule a value b c seen p forward =
     let left : drop n b.bits ≡ c.bits = ap (drop n) (sym (ap (drop (length q.0)) q.1 ∙ drop_at q.0 b.bits (length q.0) refl)) ∙ drop_more (length q.0) n a.bits ∙ ap (λ (k : ℕ). drop k a.bits) all ∙ ap (drop (length p.0)) p.1 ∙ drop_at p.0 c.bits (length p.0) refl in
     let place : b.position + n ≡ c.position = omega (arith, forward) in
     (omega (arith, all, ap length q.1, ap length p.1, length-append q.0 b.bits, length-append p.0 c.bits), sym (rw (place, left) refl))
+
+-- ---- where it stopped
+
+-- after some records
+pub stop_later : {G : Type 0} (gathered : G → List Event → G → Type 0) (fails : G → Option Event → G → Type 0) (limits : Limits) (f : Frame) (used : ℕ) (a : BufferedBits) (g : G) (now_used : ℕ) (b : BufferedBits) (h k : G) → GathersTo gathered limits f used a g now_used b h → StopsRun gathered fails limits f now_used b h k → StopsRun gathered fails limits f used a g k
+stop_later gathered fails limits f used a g now_used b h k so later = λ m outer split same r sees.
+    let there : Reader = reader_further r (b.position - a.position) in
+    let n : Machine = record m { used = now_used } in
+    let before = so.gathers m outer r split same sees in
+    first_after gathered fails limits m r g n there h k before.0 (later n outer split refl there before.1)
+
+-- at bits
+pub stop_bits : {G : Type 0} (gathered : G → List Event → G → Type 0) (fails : G → Option Event → G → Type 0) (limits : Limits) (f : Frame) (used : ℕ) (a : BufferedBits) (g h : G) → fails g None h → StopsRun gathered fails limits f used a g h
+stop_bits gathered fails limits f used a g h failed = λ m outer split same r sees. first_bits gathered fails limits m r g h failed
+
+-- at a record
+pub stop_record : {G : Type 0} (gathered : G → List Event → G → Type 0) (fails : G → Option Event → G → Type 0) (limits : Limits) (f : Frame) (used : ℕ) (a : BufferedBits) (g h : G) (id code : ℕ) (list : List ℕ) (c : BufferedBits)
+    → ((outer : List machine.Frame) (handed : Handed) → handed.used ≡ used → Reads (step_of limits (frame_shown f ∷ outer) handed) a (record_of id list a.position (code, c.position), after_record (frame_shown f) outer handed list) c)
+    → fails g (Some (record_of id list a.position (code, c.position))) h → StopsRun gathered fails limits f used a g h
+stop_record gathered fails limits f used a g h id code list c step failed = λ m outer split same r sees.
+    let n : Machine = record m { used = m.used + length list } in
+    let here = step outer (machine_shown m).handed same in
+    let made : machine_shown n ≡ after_record (frame_shown f) outer (machine_shown m).handed list = rw split refl in
+    let forward = reads_forward (step_of limits (frame_shown f ∷ outer) (machine_shown m).handed) a (record_of id list a.position (code, c.position), after_record (frame_shown f) outer (machine_shown m).handed list) c here in
+    first_event gathered fails limits m r g h (record_of id list a.position (code, c.position)) n (reader_further r (c.position - a.position)) (one_found limits m n outer (frame_shown f) id code list r a c split refl made forward sees here) failed

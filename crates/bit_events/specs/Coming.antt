@@ -1,5 +1,5 @@
 -- The rest of an input that is read event by event, and the effect of a call for the next event.
-use Rattle.std.specs.Prelude.{◌≡◌, ℕ, ◌*◌, ◌^◌, ◌<◌, List, [], ◌∷◌, Bool, if◌then◌else◌, Option, Some, None, IsSome, Result, Ok, Err}
+use Rattle.std.specs.Prelude.{◌≡◌, ℕ, ◌*◌, ◌^◌, ◌<◌, ◌≤◌, List, [], ◌∷◌, Bool, if◌then◌else◌, Option, Some, None, IsSome, Result, Ok, Err}
 use Rattle.bit_grammar.specs.declared.reason.Reason.TheVariants.{TooLong}
 use Rattle.bit_grammar.specs.Grammar as grammar
 use Rattle.bit_grammar.specs.Grammar.{at}
@@ -110,6 +110,8 @@ pub record StopsEvents (old new : Coming) : Type 0 where
   pub stopped : new.stage ≡ failed
   pub head : new.head ≡ old.head
   pub position : new.position ≡ old.position
+  pub depth : new.depth ≤ old.depth
+  pub deepest : new.deepest ≡ old.deepest
   pub pays : Pays old new
 
 -- a call failed because its source did
@@ -118,6 +120,8 @@ pub record LosesEvents (old new : Coming) : Type 0 where
   pub stopped : new.stage ≡ failed
   pub head : new.head ≡ old.head
   pub position : new.position ≡ old.position
+  pub depth : new.depth ≤ old.depth
+  pub deepest : new.deepest ≡ old.deepest
   pub fails : Fails old.incoming old.budget new.incoming new.budget
 
 -- Why no event was returned: the events end with this fault; the source failed; out of memory; or an earlier call had failed, and

@@ -1,5 +1,5 @@
 -- The model of the events of a stream, from the program's state.
-use Rattle.std.specs.Prelude.{◌≡◌, ℕ, ◌+◌, ◌<◌, ◌%◌, vec_len, List, Bool, true, false, [], Option, Some, None, IsSome, Result, Ok, Err, length}
+use Rattle.std.specs.Prelude.{◌≡◌, ℕ, ◌+◌, ◌<◌, ◌≤◌, ◌%◌, vec_len, List, Bool, true, false, [], Option, Some, None, IsSome, Result, Ok, Err, length}
 use Rattle.std.specs.Borrow.{Bor}
 use Rattle.bit_grammar.specs.Grammar.{at}
 use Rattle.bit_grammar.specs.Blocks.{Limits}
@@ -56,9 +56,11 @@ pub record IsClosed (m : Machine) (found : Option Step) : Type 0 where
   pub frames : vec_len m.frames ≡ 0
   pub last : found ≡ None
 
--- the invariant between calls: the reader is after the last event, and outside of all blocks at a whole byte
-pub record IsEvents (is_over : Bool) (m : Machine) (found : Option Step) (place : ℕ)
-    (r : Reader) : Type 0 where
+-- the invariant between calls: there is one frame for each open block, at most as many as the limit allows; the reader is after the
+-- last event, and outside of all blocks at a whole byte
+pub record IsEvents (is_over : Bool) (limits : Limits) (m : Machine) (found : Option Step)
+    (place : ℕ) (r : Reader) : Type 0 where
+  pub depth : vec_len m.frames ≤ limits.depth
   pub stands : r.live ≡ true → place ≡ r.position
   pub aligned : r.live ≡ true → vec_len m.frames ≡ 0 → r.position % 8 ≡ 0
   pub closed : is_over ≡ true → IsClosed m found

@@ -1,5 +1,5 @@
 -- Gathering events, one after another.
-use Rattle.std.specs.Prelude.{ℕ, List, [], ◌∷◌, ◌++◌}
+use Rattle.std.specs.Prelude.{◌≡◌, ◌⊎◌, ℕ, List, [], ◌∷◌, ◌++◌, Option, Some, None}
 use Rattle.bit_grammar.specs.Machine.{Event}
 use Rattle.bit_grammar.specs.Steps.{MayStand, open_after}
 
@@ -17,3 +17,9 @@ abbrev pub Gathers : {G : Type 0} → (G → List Event → G → Type 0) → G 
 Gathers {G} gathered old event new = (first : G) (done : List Event) (deepest : ℕ)
     → gathered first done old → MayStand deepest event (left_open done)
     → gathered first (done ++ event ∷ []) new
+
+-- What came after a gatherer had gathered some events, if the rest was left: nothing; or a call failed at bits, or at the next event.
+abbrev pub Stops : {G : Type 0} → (G → Option Event → G → Type 0) → (before : G) → (rest : List Event)
+    → (after : G) → Type 0
+Stops fails before rest after = (after ≡ before) ⊎ (fails before None after ⊎ ((event : Event)
+    × (others : List Event) × (rest ≡ event ∷ others) × fails before (Some event) after))

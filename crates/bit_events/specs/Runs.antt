@@ -1,5 +1,5 @@
 -- Gathering what is buffered, before a reader takes it.
-use Rattle.std.specs.Prelude.{◌≡◌, ℕ, ◌+◌, ◌-◌, ◌≤◌, List, ◌∷◌, ◌++◌, Bool, Option, Some, None, length}
+use Rattle.std.specs.Prelude.{◌≡◌, ℕ, ◌+◌, ◌-◌, ◌≤◌, List, ◌∷◌, ◌++◌, Bool, Option, Some, None, length, vec_len}
 use Rattle.bit_grammar.specs.Grammar.{Grammar}
 use Rattle.bit_grammar.specs.declared.op.Op.{Op}
 use Rattle.bit_grammar.specs.Fields.{fixed}
@@ -8,14 +8,15 @@ use Rattle.bit_grammar.specs.Blocks.{Limits, Handed, entry}
 use Rattle.bit_grammar.specs.Machine as machine
 use Rattle.bit_grammar.specs.Machine.{Event, step_of}
 use Rattle.bit_fields.specs.Buffered.{BufferedBits, Reads, Sees, reader_further, reader_at}
-use Rattle.bit_fields.specs.Reader.{Reader, Took}
+use Rattle.bit_fields.specs.Reader.{Reader, TellsBytes, Took}
 use Rattle.bit_events.specs.declared.frame.Frame.{Frame}
 use Rattle.bit_events.specs.declared.gatherer.PlainRecord.{PlainRecord}
 use Rattle.bit_events.specs.declared.machine.Machine.{Machine}
 use Rattle.bit_events.specs.declared.machine.Step.{Step}
 use Rattle.bit_events.specs.FrameView.{frame_shown, frames_shown}
-use Rattle.bit_events.specs.Folding.{GathersSome}
+use Rattle.bit_events.specs.Folding.{GathersFirst, GathersSome}
 use Rattle.bit_events.specs.Gathering.{Gathers}
+use Rattle.bit_events.specs.Next.{left_to_tell}
 use Rattle.bit_events.specs.MachineView.{machine_shown, record_of, step_shown, LeavesMachine}
 
 -- the values read come after the earlier ones
@@ -91,6 +92,26 @@ GathersFrom gathered limits f used id first b g now_used None h = (now_used ≡ 
 GathersFrom gathered limits f used id first b g now_used (Some after) h = (b.position ≤ after)
     × ((a : BufferedBits) → a.position ≡ first → Reads (fixed f.head.width) a id b
     → GathersRun gathered limits f used a g now_used after h)
+
+-- For each reader before `a`: the first of its remaining events were gathered, and there it stopped.
+abbrev pub StopsOn : {G : Type 0} → (G → List Event → G → Type 0)
+    → (G → Option Event → G → Type 0) → Limits → Machine → BufferedBits → G → G → Type 0
+StopsOn gathered fails limits m a g h = (r : Reader) → Sees r a
+    → GathersFirst gathered fails (TellsBytes r) (left_to_tell limits m r) (vec_len m.frames) g h
+
+-- The same for each machine with this innermost block and `used` values.
+abbrev pub StopsRun : {G : Type 0} → (G → List Event → G → Type 0)
+    → (G → Option Event → G → Type 0) → Limits → Frame → (used : ℕ) → BufferedBits → G → G → Type 0
+StopsRun gathered fails limits f used a g h = (m : Machine) (outer : List machine.Frame)
+    → frames_shown m.frames.items ≡ frame_shown f ∷ outer → m.used ≡ used
+    → StopsOn gathered fails limits m a g h
+
+-- the same from the bits after an id, which began at `first`
+abbrev pub StopsFrom : {G : Type 0} → (G → List Event → G → Type 0)
+    → (G → Option Event → G → Type 0) → Limits → Frame → (used id first : ℕ) → BufferedBits
+    → G → G → Type 0
+StopsFrom gathered fails limits f used id first b g h = (a : BufferedBits) → a.position ≡ first
+    → Reads (fixed f.head.width) a id b → StopsRun gathered fails limits f used a g h
 
 -- ---- blocks
 

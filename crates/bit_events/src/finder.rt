@@ -5,9 +5,12 @@ ghost use Rattle.std.specs.Borrow.{Bor, sem, follows_so};
 ghost use mathlib.Core.Option.{none};
 ghost use Rattle.bit_fields.specs.Opening.{head_told};
 ghost use Rattle.bit_events.specs.EventView.{shown_if_any};
+ghost use Rattle.bit_events.specs.Folding.{GathersRest};
 ghost use Rattle.bit_events.specs.Events.{Finds, LendsAs, Shuts, Begun, DeclinesEvents};
 
 use crate::event::Event;
+use crate::folding::gather_rest;
+use crate::gatherer::Gatherer;
 use crate::machine::{Machine, Step};
 use crate::with_first::WithFirst;
 use bit_fields::{BitReader, Fault, Head, Limits, PackedValues, Source, ValueKeeper};
@@ -44,7 +47,7 @@ impl<S: Source, V: ValueKeeper> Model for EventFinder<S, V> {
     ghost view = { λ e. coming_of e.over e.limits e.head e.machine (V.kept e.values.taker) e.found
         e.reached e.reader };
 
-    ghost invariant = { λ e. IsEvents e.over e.machine e.found e.reached e.reader };
+    ghost invariant = { λ e. IsEvents e.over e.limits e.machine e.found e.reached e.reader };
 }
 
 impl<S: Source, V: ValueKeeper> EventFinder<S, V> {
@@ -122,6 +125,35 @@ impl<S: Source, V: ValueKeeper> EventFinder<S, V> {
         // Positions are below 2^64 and rise, so the events end.
         self.reached = self.reader.position();
         self.over = self.found.is_none();
+        Ok(())
+    }
+
+    /// Gathers all remaining events, as `fold` does, with values of their own.
+    ///
+    /// After a refusal the gatherer has all events before its bit, and after another fault the first of them. If a call of the
+    /// gatherer failed, that was at the next event.
+    pub fn gather<G: Gatherer>(&mut self, gatherer: &mut G) -> Result<(), Fault>
+        ensures { GathersRest G.gathered G.fails self.old gatherer.old result self.new gatherer.new }
+    {
+        if self.over {
+            return Ok(());
+        }
+        if !self.reader.is_live() {
+            return Err(Fault::Failed);
+        }
+        self.found = None;
+        if let Err(fault) = gather_rest(
+            self.alloc,
+            &mut self.reader,
+            &mut self.machine,
+            &self.limits,
+            gatherer,
+        ) {
+            self.machine.drop_blocks();
+            return Err(fault);
+        }
+        self.reached = self.reader.position();
+        self.over = true;
         Ok(())
     }
 

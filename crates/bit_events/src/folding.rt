@@ -1,15 +1,13 @@
 //! Reading a whole input into a `Gatherer`.
 
-ghost use Rattle.std.specs.Prelude.{◌≡◌, ◌<◌, ◌≤◌, ◌%◌, true, ℕ, List, [], OnOk, IfOk, vec_len};
-ghost use Rattle.bit_grammar.specs.Grammar.{gives};
+ghost use Rattle.std.specs.Prelude.{◌≡◌, ◌<◌, ◌≤◌, ◌%◌, true, ℕ, List, [], Some, OnOk, OnErr, IfOk, vec_len};
 ghost use Rattle.bit_fields.specs.BufferedParts.{bits_of_parts, AreParts};
 ghost use Rattle.bit_fields.specs.Opening.{head_told};
-ghost use Rattle.bit_fields.specs.Reader.{Why};
-ghost use Rattle.bit_events.specs.Folding.{TakesRun, TakesNext, TakesAll, Gathered, GatheredSome};
+ghost use Rattle.bit_events.specs.Folding.{Lost, TakesRun, TakesNext, TakesAll, Gathered, GatheredSome};
 ghost use Rattle.bit_events.specs.Gathering.{Gathers};
 ghost use Rattle.bit_events.specs.MachineView.{step_shown, HoldsDefinition, TookSome};
 ghost use Rattle.bit_events.specs.Reading.{ReadsWhole};
-ghost use Rattle.bit_events.specs.Runs.{GathersOn, GathersUpTo};
+ghost use Rattle.bit_events.specs.Runs.{GathersOn, GathersUpTo, StopsOn};
 
 #[cfg(test)]
 mod asking_inputs;
@@ -17,7 +15,6 @@ mod asking_inputs;
 mod asking_tests;
 
 use crate::gatherer::Gatherer;
-use crate::heads::or_memory_fault;
 use crate::machine::{Machine, Step};
 use crate::running::gather_records;
 use crate::with_first::WithFirst;
@@ -32,14 +29,6 @@ pub struct Folded<G> {
     pub after: u64,
 }
 
-/// A stream that is being read, and the gatherer of its events.
-#[derive(Drop)]
-struct Folding<S: Source, G: Gatherer> {
-    reader: BitReader<S>,
-    machine: Machine,
-    gatherer: G,
-}
-
 /// Gives the gatherer the event of a step, and the values of a record.
 #[inline(always)]
 fn hand_on<G: Gatherer>(
@@ -52,6 +41,8 @@ fn hand_on<G: Gatherer>(
     requires took { TookSome G.Values.took values.old }
     ensures gathers { OnOk result ((list : List ℕ) → G.Values.took values.old list
         → Gathers G.gathered gatherer.old (step_shown machine.now list step) gatherer.new) }
+    ensures fails { OnErr result ((list : List ℕ) → G.Values.took values.old list
+        → G.fails gatherer.old (Some (step_shown machine.now list step)) gatherer.new) }
     ensures took { TookSome G.Values.took values.new }
 {
     match step {
@@ -90,6 +81,8 @@ fn gather_innermost<G: Gatherer>(
     ensures took { TookSome G.Values.took values.new }
     ensures gathers { OnOk result (GathersOn G.gathered limits.now machine.old buffered.old
         gatherer.old machine.new buffered.new gatherer.new) }
+    ensures stops { OnErr result (StopsOn G.gathered G.fails limits.now machine.old buffered.old
+        gatherer.old gatherer.new) }
 {
     let Some(frame) = machine.frames.last() else {
         return Ok(());
@@ -142,6 +135,8 @@ fn gather_buffered<G: Gatherer>(
     ensures took { TookSome G.Values.took values.new }
     ensures gathers { IfOk result (λ after. GathersUpTo G.gathered limits.now machine.old
         (bits_of_parts parts.entry) gatherer.old machine.new after gatherer.new) }
+    ensures stops { OnErr result (StopsOn G.gathered G.fails limits.now machine.old
+        (bits_of_parts parts.entry) gatherer.old gatherer.new) }
 {
     let mut buffered = Buffered::new(parts);
     *loaded = buffered.loaded();
@@ -179,7 +174,7 @@ fn held_from(position: u64, loaded: u64) -> u32
 /// the source depends on them.
 fn out_of_memory<S: Source>(reader: &mut BitReader<S>, bits: u64) -> Fault
     requires live { reader.old.live ≡ true }
-    ensures fails { Why (gives (tt {0})) reader.old result reader.new }
+    ensures { Lost reader.old result reader.new }
 {
     match reader.catch_up(bits) {
         Err(Fault::Read) => Fault::Read,
@@ -187,95 +182,88 @@ fn out_of_memory<S: Source>(reader: &mut BitReader<S>, bits: u64) -> Fault
     }
 }
 
-impl<S: Source, G: Gatherer> Folding<S, G> {
-    /// Gathers what is buffered from the innermost block on, possibly nothing. It does not begin in a BLOCKINFO block or at the top:
-    /// each record of the one may set the described block, and at the other the source is asked whether it has ended.
-    fn gather_run(
-        &mut self,
-        alloc: Global,
-        limits: &Limits,
-        values: &mut G::Values,
-    ) -> Result<(), Fault>
-        requires live { self.old.reader.live ≡ true }
-        requires took { TookSome G.Values.took values.old }
-        requires aligned { vec_len self.old.machine.frames ≡ 0 → self.old.reader.position % 8 ≡ 0 }
-        ensures took { TookSome G.Values.took values.new }
-        ensures takes { TakesRun G.gathered limits.now self.old.machine self.old.reader
-            self.old.gatherer result self.new.machine self.new.reader self.new.gatherer }
-    {
-        let Some(frame) = self.machine.frames.last() else {
-            return Ok(());
-        };
-        if frame.info.is_some() {
-            return Ok(());
-        }
-        let parts = self.reader.buffered_parts()?;
-        // A definition: nothing is gathered before it.
-        if parts.starts_with(FieldWidth::of(frame.head.width), 2) {
-            return Ok(());
-        }
-        let start = parts.position();
-        let mut loaded = start;
-        let machine = &mut self.machine;
-        match gather_buffered(
-            alloc,
-            parts,
-            machine,
-            limits,
-            &mut self.gatherer,
-            values,
-            &mut loaded,
-        ) {
-            Ok(after) => self
-                .reader
-                .catch_up_holding(after - start, held_from(after, loaded)),
-            Err(_) => Err(out_of_memory(&mut self.reader, loaded.saturating_sub(start))),
-        }
+/// Gathers what is buffered from the innermost block on, possibly nothing. It does not begin in a BLOCKINFO block or at the top:
+/// each record of the one may set the described block, and at the other the source is asked whether it has ended.
+fn gather_run<S: Source, G: Gatherer>(
+    alloc: Global,
+    reader: &mut BitReader<S>,
+    machine: &mut Machine,
+    limits: &Limits,
+    gatherer: &mut G,
+    values: &mut G::Values,
+) -> Result<(), Fault>
+    requires live { reader.old.live ≡ true }
+    requires took { TookSome G.Values.took values.old }
+    requires aligned { vec_len machine.old.frames ≡ 0 → reader.old.position % 8 ≡ 0 }
+    ensures took { TookSome G.Values.took values.new }
+    ensures takes { TakesRun G.gathered G.fails limits.now machine.old reader.old gatherer.old result
+        machine.new reader.new gatherer.new }
+{
+    let Some(frame) = machine.frames.last() else {
+        return Ok(());
+    };
+    if frame.info.is_some() {
+        return Ok(());
     }
-
-    /// Gathers the next event, and returns whether there was one.
-    #[tactic(auto, using(crate::proofs::Folds::one_event, crate::proofs::Folds::none_left))]
-    fn gather_next(
-        &mut self,
-        alloc: Global,
-        limits: &Limits,
-        values: &mut WithFirst<G::Values>,
-    ) -> Result<bool, Fault>
-        requires live { self.old.reader.live ≡ true }
-        requires took { TookSome G.Values.took values.old.taker }
-        requires aligned { vec_len self.old.machine.frames ≡ 0 → self.old.reader.position % 8 ≡ 0 }
-        ensures took { TookSome G.Values.took values.new.taker }
-        ensures takes { TakesNext G.gathered limits.now self.old.machine self.old.reader
-            self.old.gatherer result self.new.machine self.new.reader self.new.gatherer }
-    {
-        let Some(step) = self.machine.next(alloc, &mut self.reader, limits, values)? else {
-            return Ok(false);
-        };
-        let done = hand_on(&mut self.gatherer, &self.machine, step, &mut values.taker);
-        or_memory_fault(&mut self.reader, done)?;
-        Ok(true)
+    let parts = reader.buffered_parts()?;
+    // A definition: nothing is gathered before it.
+    if parts.starts_with(FieldWidth::of(frame.head.width), 2) {
+        return Ok(());
     }
+    let start = parts.position();
+    let mut loaded = start;
+    match gather_buffered(alloc, parts, machine, limits, gatherer, values, &mut loaded) {
+        Ok(after) => reader.catch_up_holding(after - start, held_from(after, loaded)),
+        Err(_) => Err(out_of_memory(reader, loaded.saturating_sub(start))),
+    }
+}
 
-    /// Gathers all events: what is buffered by runs, and the events between them one by one.
-    fn gather(
-        &mut self,
-        alloc: Global,
-        limits: &Limits,
-        values: &mut WithFirst<G::Values>,
-    ) -> Result<(), Fault>
-        requires live { self.old.reader.live ≡ true }
-        requires took { TookSome G.Values.took values.old.taker }
-        requires aligned { vec_len self.old.machine.frames ≡ 0 → self.old.reader.position % 8 ≡ 0 }
-        ensures { TakesAll G.gathered limits.now self.old.machine self.old.reader self.old.gatherer
-            result self.new.reader self.new.gatherer }
-    {
-        'events: loop {
-            self.gather_run(alloc, limits, &mut values.taker)?;
-            // Positions are below 2^64 and rise, so the events end.
-            let _position = self.reader.position();
-            if !self.gather_next(alloc, limits, values)? {
-                return Ok(());
-            }
+/// Gathers the next event, and returns whether there was one.
+#[tactic(auto, using(crate::proofs::Folds::one_event, crate::proofs::Folds::none_left, crate::proofs::Folds::none_found))]
+fn gather_next<S: Source, G: Gatherer>(
+    alloc: Global,
+    reader: &mut BitReader<S>,
+    machine: &mut Machine,
+    limits: &Limits,
+    gatherer: &mut G,
+    values: &mut WithFirst<G::Values>,
+) -> Result<bool, Fault>
+    requires live { reader.old.live ≡ true }
+    requires took { TookSome G.Values.took values.old.taker }
+    requires aligned { vec_len machine.old.frames ≡ 0 → reader.old.position % 8 ≡ 0 }
+    ensures took { TookSome G.Values.took values.new.taker }
+    ensures takes { TakesNext G.gathered G.fails limits.now machine.old reader.old gatherer.old result
+        machine.new reader.new gatherer.new }
+{
+    let Some(step) = machine.next(alloc, reader, limits, values)? else {
+        return Ok(false);
+    };
+    match hand_on(gatherer, machine, step, &mut values.taker) {
+        Ok(()) => Ok(true),
+        Err(AllocError) => Err(reader.fail(Fault::Memory)),
+    }
+}
+
+/// Gathers all remaining events: what is buffered by runs, and the events between them one by one.
+pub(crate) fn gather_rest<S: Source, G: Gatherer>(
+    alloc: Global,
+    reader: &mut BitReader<S>,
+    machine: &mut Machine,
+    limits: &Limits,
+    gatherer: &mut G,
+) -> Result<(), Fault>
+    requires live { reader.old.live ≡ true }
+    requires aligned { vec_len machine.old.frames ≡ 0 → reader.old.position % 8 ≡ 0 }
+    ensures { TakesAll G.gathered G.fails limits.now machine.old reader.old gatherer.old result
+        machine.new reader.new gatherer.new }
+{
+    let mut values = WithFirst::new(gatherer.values());
+    'events: loop {
+        gather_run(alloc, reader, machine, limits, gatherer, &mut values.taker)?;
+        // Positions are below 2^64 and rise, so the events end.
+        let _position = reader.position();
+        if !gather_next(alloc, reader, machine, limits, gatherer, &mut values)? {
+            return Ok(());
         }
     }
 }
@@ -285,7 +273,7 @@ impl<S: Source, G: Gatherer> Folding<S, G> {
 /// It takes no byte past the first one after the limit on bytes. `Refused` has the one reason and bit at which the input breaks the
 /// rules. The source is returned in its present state. Even if the bytes of the source are not known, the gathered events are those
 /// of some blocks, each of them closed.
-pub fn fold<S: Source, G: Gatherer>(
+pub fn fold<S: Source, G: Gatherer + Drop>(
     alloc: Global,
     source: S,
     limits: Limits,
@@ -303,18 +291,10 @@ pub fn fold<S: Source, G: Gatherer>(
         Ok(begun) => begun,
         Err((fault, source)) => return (Err(fault), source),
     };
-    let mut values = WithFirst::new(gatherer.values());
-    let mut folding = Folding {
-        reader,
-        machine: Machine::new(alloc),
-        gatherer,
-    };
-    let done = folding.gather(alloc, &limits, &mut values);
-    let Folding {
-        reader,
-        gatherer,
-        machine: _,
-    } = folding;
+    let mut reader = reader;
+    let mut gatherer = gatherer;
+    let mut machine = Machine::new(alloc);
+    let done = gather_rest(alloc, &mut reader, &mut machine, &limits, &mut gatherer);
     let after = reader.position();
     let source = reader.into_source();
     match done {

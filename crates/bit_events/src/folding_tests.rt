@@ -1,7 +1,7 @@
 //! Inputs that are folded, and inputs that are checked.
 
 use crate::events_tests::{agrees, bytes_of, in_pieces, pieces_of, told_of_fault};
-use crate::{Event, Gatherer, check, fold};
+use crate::{Event, Gatherer, PackedEvents, check, fold};
 use bit_abbrev::Abbrev;
 use bit_fields::{BufSource, Limits, Source};
 use std::alloc::{AllocError, Global};
@@ -336,4 +336,58 @@ fn a_wrapper_ends_in_a_lent_piece(rt: HostRuntime) {
         let source = lent(&rt, rt.alloc(), &bytes, room);
         agrees(&rt, fold_text(rt.alloc(), source), wanted, text);
     }
+}
+
+/// What was gathered of an input, if only `room` events can be, and how its reading ended.
+fn gathered_text<S: Source + Drop>(
+    alloc: Global,
+    source: S,
+    room: u32,
+) -> Result<String, AllocError> {
+    let mut gatherer = Text {
+        alloc,
+        text: String::new(alloc),
+        room,
+    };
+    let answer = match PackedEvents::start(alloc, source, Limits::usual()) {
+        Ok(mut events) => events.gather(&mut gatherer),
+        Err((fault, _)) => Err(fault),
+    };
+    let text = gatherer.text;
+    match answer {
+        Ok(()) => format!(in alloc; "{text}accepted"),
+        Err(fault) => format!(in alloc; "{text}{fault}"),
+    }
+}
+
+/// A block, and another one whose length is wrong, for which there is room or not.
+static GATHERED: [(u32, &str); 3] = [
+    (
+        9,
+        "Enter { id: 8, width: 2, first: 32, body: 96 } Leave { after: 128 } \
+        Enter { id: 8, width: 2, first: 128, body: 192 } refused: BlockLength at bit 160",
+    ),
+    (
+        2,
+        "Enter { id: 8, width: 2, first: 32, body: 96 } Leave { after: 128 } no memory",
+    ),
+    (0, "no memory"),
+];
+
+#[test]
+fn events_before_a_fault_are_gathered(rt: HostRuntime) {
+    let text = "M E 21 08 00 00 02 00 00 00 00 00 00 00";
+    let bytes = bytes_of(rt.alloc(), text).expect(&rt, "memory");
+    for (room, wanted) in &GATHERED {
+        for most in [1, 64] {
+            let told = gathered_text(rt.alloc(), in_pieces(&bytes, most, 0), *room);
+            agrees(&rt, told, wanted, "pieces");
+        }
+        let told = gathered_text(rt.alloc(), lent(&rt, rt.alloc(), &bytes, 64), *room);
+        agrees(&rt, told, wanted, "lent");
+    }
+    let told = gathered_text(rt.alloc(), in_pieces(&bytes, 1, 22), 9);
+    let wanted = "Enter { id: 8, width: 2, first: 32, body: 96 } Leave { after: 128 } \
+        the source failed";
+    agrees(&rt, told, wanted, "a source that fails");
 }

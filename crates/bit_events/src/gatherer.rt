@@ -1,4 +1,4 @@
-ghost use Rattle.std.specs.Prelude.{ℕ, List, [], OnOk, IfOk};
+ghost use Rattle.std.specs.Prelude.{ℕ, List, [], Some, None, OnOk, OnErr, IfOk};
 ghost use Rattle.bit_grammar.specs.Machine.{enters, defines, notes, leaves};
 ghost use Rattle.bit_events.specs.Gathering.{Gathers};
 ghost use Rattle.bit_events.specs.MachineView.{TookSome};
@@ -16,8 +16,8 @@ pub struct PlainRecord<'a> {
 }
 
 /// Gathers the events of a stream, one after another.
-pub trait Gatherer: Drop {
-    ghost use Rattle.std.specs.Prelude.{List};
+pub trait Gatherer {
+    ghost use Rattle.std.specs.Prelude.{List, Option};
     ghost use Rattle.bit_grammar.specs.Machine.{Event};
 
     /// The value sink for the values of a record.
@@ -26,19 +26,26 @@ pub trait Gatherer: Drop {
     // Whether gathering these events, in order, turns the one into the other.
     ghost gathered: { Self → List Event → Self → Type 0 };
 
+    // What a call that fails does: at an event, or `plain` at bits.
+    ghost fails: { Self → Option Event → Self → Type 0 } = { λ _ _ _. Unit {0} };
+
     /// An empty value sink for the records.
     fn values(&self) -> Self::Values
         ensures { Self.Values.took result [] };
 
     /// Takes a block's beginning: its id, the width of the ids in it, its first bit, and the first bit of its body.
     fn enter(&mut self, id: u32, width: u8, first: u64, body: u64) -> Result<(), AllocError>
-        ensures { OnOk result (Gathers gathered self.old
-            (enters (record { id = id; width = width; first = first; body = body })) self.new) };
+        ensures gathers { OnOk result (Gathers gathered self.old
+            (enters (record { id = id; width = width; first = first; body = body })) self.new) }
+        ensures fails { OnErr result (fails self.old
+            (Some (enters (record { id = id; width = width; first = first; body = body }))) self.new) };
 
     /// Takes a definition in the innermost block, its first bit and the bit after it.
     fn define(&mut self, abbrev: &Abbrev, first: u64, after: u64) -> Result<(), AllocError>
-        ensures { OnOk result (Gathers gathered self.old
-            (defines (record { ops = «abbrev».now; first = first; after = after })) self.new) };
+        ensures gathers { OnOk result (Gathers gathered self.old
+            (defines (record { ops = «abbrev».now; first = first; after = after })) self.new) }
+        ensures fails { OnErr result (fails self.old
+            (Some (defines (record { ops = «abbrev».now; first = first; after = after }))) self.new) };
 
     /// Takes a record in the innermost block: its abbreviation id, its code, the value sink with its values, its first bit and the
     /// bit after it. The values may be moved out.
@@ -59,6 +66,15 @@ pub trait Gatherer: Drop {
               first = first;
               after = after;
             })) self.new) }
+        ensures fails { OnErr result ((list : List ℕ) → Self.Values.took values.old list
+            → fails self.old (Some (notes
+            (record {
+              abbreviation = id;
+              code = code;
+              values = list;
+              first = first;
+              after = after;
+            }))) self.new) }
         ensures took { TookSome Self.Values.took values.old
             → TookSome Self.Values.took values.new };
 
@@ -77,13 +93,15 @@ pub trait Gatherer: Drop {
         _buffered: &Buffered<'a>,
         _room: u64,
     ) -> Result<Option<PlainRecord<'a>>, AllocError>
-        ensures { IfOk result (λ taken. GathersPlain gathered _room _buffered.now
+        ensures gathers { IfOk result (λ taken. GathersPlain gathered _room _buffered.now
             self.old taken self.new) }
+        ensures fails { OnErr result (fails self.old None self.new) }
     {
         Ok(None)
     }
 
     /// Takes the end of the innermost block: the bit after it.
     fn leave(&mut self, after: u64) -> Result<(), AllocError>
-        ensures { OnOk result (Gathers gathered self.old (leaves after) self.new) };
+        ensures gathers { OnOk result (Gathers gathered self.old (leaves after) self.new) }
+        ensures fails { OnErr result (fails self.old (Some (leaves after)) self.new) };
 }

@@ -1,4 +1,4 @@
-ghost use Rattle.std.specs.Prelude.{◌≡◌, ◌+◌, ◌*◌, ◌≤◌, ◌%◌, OnOk, OnSome, IfOk, IfErr, IfSome, ◌==◌, ◌&&◌, nat_le, true};
+ghost use Rattle.std.specs.Prelude.{◌≡◌, ◌+◌, ◌*◌, ◌≤◌, ◌%◌, OnOk, OnErr, OnSome, IsErr, IfOk, IfErr, IfSome, ◌==◌, ◌&&◌, nat_le, true};
 ghost use Rattle.bit_grammar.specs.Blocks.{block_id, new_width, block_head, end_of_block};
 ghost use Rattle.bit_fields.specs.Buffered.{Reads};
 ghost use Rattle.bit_fields.specs.Reader.{Takes, told_by, failed_reader};
@@ -17,6 +17,7 @@ pub(crate) fn or_memory_fault<S: Source, T>(
     ensures ok { IfOk result (λ value. (got ≡ Ok value) × (reader.new ≡ reader.old)) }
     ensures err { IfErr result (λ fault. (fault ≡ Fault.Memory)
         × (reader.new ≡ failed_reader reader.old)) }
+    ensures lost { OnErr result (IsErr got) }
 {
     match got {
         Ok(value) => Ok(value),

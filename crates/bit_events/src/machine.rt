@@ -1,4 +1,4 @@
-ghost use Rattle.std.specs.Prelude.{◌≡◌, ◌<◌, ◌≤◌, ◌+◌, ◌-◌, ◌^◌, ◌%◌, true, [], ℕ, List, OnOk, IfOk, vec_len, is_none, None, IfSome, IfNone, OnSome, IsTrue, ◌↔◌};
+ghost use Rattle.std.specs.Prelude.{◌≡◌, ◌<◌, ◌≤◌, ◌+◌, ◌-◌, ◌^◌, ◌%◌, true, [], ℕ, List, OnOk, OnErr, IfOk, vec_len, is_none, None, IfSome, IfNone, OnSome, IsTrue, ◌↔◌};
 ghost use Rattle.std.specs.Option.{option_copied, option_map};
 ghost use Rattle.bit_grammar.specs.Blocks.{enter, leave};
 ghost use Rattle.bit_grammar.specs.Terms.{info_for};
@@ -87,6 +87,7 @@ impl Machine {
             ≡ inside (head_shown head) (frames_shown self.old.frames.items)
             (enter head.id (handed_shown self.old))) }
         ensures more { OnOk result (vec_len self.new.frames ≡ vec_len self.old.frames + 1) }
+        ensures fewer { OnErr result (vec_len self.new.frames ≤ vec_len self.old.frames) }
     {
         let definitions = self.table.enter(alloc, head.id)?;
         let info = info_for(alloc, head.id);
@@ -114,6 +115,7 @@ impl Machine {
             (told_by (after_step self.new list) result) reader.new }
         ensures leaves { (list : List ℕ) → IfOk result (λ step. LeavesMachine limits.now.depth
             self.old reader.old (step_shown self.new list step) self.new reader.new) }
+        ensures fewer { OnErr result (vec_len self.new.frames ≤ vec_len self.old.frames) }
     {
         let fits = self.frames.len() < limits.depth() as usize;
         reader.judge(fits, Reason::TooDeep, first)?;
@@ -143,6 +145,7 @@ impl Machine {
             reader.old (told_by (after_step self.new list) result) reader.new) }
         ensures leaves { (list : List ℕ) → IfOk result (λ step. LeavesMachine limits.now.depth
             self.old reader.old (step_shown self.new list step) self.new reader.new) }
+        ensures fewer { OnErr result (vec_len self.new.frames ≤ vec_len self.old.frames) }
     {
         let plain = self.is_plain();
         reader.judge(plain, Reason::NestedInBlockInfo, first)?;
@@ -204,6 +207,7 @@ impl Machine {
         ensures leaves { (deepest : ℕ) (list : List ℕ) → IfOk result
             (λ step. LeavesMachine deepest self.old reader.old (step_shown self.new list step)
             self.new reader.new) }
+        ensures fewer { OnErr result (vec_len self.new.frames ≤ vec_len self.old.frames) }
     {
         let Some(frame) = self.frames.pop() else {
             unreachable!();
@@ -285,6 +289,13 @@ impl Machine {
         Ok(self.end_buffered(buffered))
     }
 
+    /// Drops the open blocks. The input is not read on.
+    pub(crate) fn drop_blocks(&mut self)
+        ensures { vec_len self.new.frames ≡ 0 }
+    {
+        self.frames.clear();
+    }
+
     /// Takes the table that a BLOCKINFO block made.
     fn leave(&mut self, alloc: Global, info: Option<Describing>) -> Result<(), AllocError>
         ensures made { OnOk result (machine_shown self.new
@@ -319,6 +330,7 @@ impl Machine {
         ensures leaves { (deepest : ℕ) (list : List ℕ) → IfOk result
             (λ step. LeavesMachine deepest self.old reader.old (step_shown self.new list step)
             self.new reader.new) }
+        ensures fewer { OnErr result (vec_len self.new.frames ≤ vec_len self.old.frames) }
     {
         let Some(frame) = self.frames.last_mut() else {
             unreachable!();
@@ -358,6 +370,7 @@ impl Machine {
         ensures leaves { (deepest : ℕ) (list : List ℕ)
             → IfOk result (λ read. LeavesMachine deepest self.old reader.old
             (record_of id list first read) self.new reader.new) }
+        ensures fewer { OnErr result (vec_len self.new.frames ≤ vec_len self.old.frames) }
     {
         let room = self.room(limits);
         values.clear();
@@ -388,6 +401,7 @@ impl Machine {
             reader.old (told_by (λ read. (record_of id list first read, machine_shown self.new)) result) reader.new)) }
         ensures leaves { (deepest : ℕ) (list : List ℕ)
             → IfOk result (λ read. LeavesMachine deepest self.old reader.old (record_of id list first read) self.new reader.new) }
+        ensures fewer { OnErr result (vec_len self.new.frames ≤ vec_len self.old.frames) }
     {
         let Some(frame) = self.frames.last() else {
             unreachable!();
@@ -485,6 +499,7 @@ impl Machine {
             reader.old (told_by (after_step self.new list) result) reader.new) }
         ensures leaves { (list : List ℕ) → IfOk result (λ step. LeavesMachine limits.now.depth
             self.old reader.old (step_shown self.new list step) self.new reader.new) }
+        ensures fewer { OnErr result (vec_len self.new.frames ≤ vec_len self.old.frames) }
     {
         if id == 0 {
             return self.end_block(alloc, reader);
@@ -514,6 +529,7 @@ impl Machine {
             self.old reader.old (step_shown self.new list step) self.new reader.new) }
         ensures keeps { IfOk result (λ step. KeepsValues step values.old.taker values.new.taker) }
         ensures moves { OnOk result (reader.old.position < reader.new.position) }
+        ensures fewer { OnErr result (vec_len self.new.frames ≤ vec_len self.old.frames) }
     {
         let first = reader.position();
         let id = reader.fixed(u32::from(head.width))?;
@@ -545,6 +561,7 @@ impl Machine {
         ensures leaves { (list : List ℕ) → IfOk result (λ step. LeavesMachine limits.now.depth
             self.old reader.old (step_shown self.new list step) self.new reader.new) }
         ensures moves { OnOk result (reader.old.position < reader.new.position) }
+        ensures fewer { OnErr result (vec_len self.new.frames ≤ vec_len self.old.frames) }
     {
         let first = reader.position();
         let id = reader.fixed(2)?;
@@ -583,6 +600,7 @@ impl Machine {
             self.old reader.old (step_shown self.new list step) self.new reader.new) }
         ensures keeps { IfOk result (λ step. KeepsValues step values.old.taker values.new.taker) }
         ensures moves { OnOk result (reader.old.position < reader.new.position) }
+        ensures fewer { OnErr result (vec_len self.new.frames ≤ vec_len self.old.frames) }
     {
         match self.innermost() {
             Some(head) => self.step_in(alloc, reader, limits, head, values),
@@ -606,6 +624,7 @@ impl Machine {
             reader.old list result self.new reader.new) }
         ensures keeps { IfOk result (λ found. IfSome found (λ step. KeepsValues step
             values.old.taker values.new.taker)) }
+        ensures fewer { OnErr result (vec_len self.new.frames ≤ vec_len self.old.frames) }
     {
         let outside = self.is_outside();
         if shuts(reader, outside)? {

@@ -135,6 +135,7 @@ impl<'a> OpenBlocks<'a> {
     }
 
     /// Takes an event, and returns whether it is kept. If an allocation fails, nothing changes.
+    #[inline(always)]
     pub fn take<L: Copy>(&mut self, event: Event<'_, L>) -> Result<bool, AllocError>
         ensures left { IfOk result (λ left. (told : L → List ℕ)
             → left ≡ leaves self.old (shown_by told event.entry)) }

@@ -1,6 +1,6 @@
 //! Records that are completely buffered, before a reader takes them.
 
-ghost use Rattle.std.specs.Prelude.{◌≡◌, ◌<◌, ◌≤◌, ◌-◌, ◌+◌, ℕ, List, [], ◌∷◌, None, IfSome, OnSome, IfOk, length};
+ghost use Rattle.std.specs.Prelude.{◌≡◌, ◌<◌, ◌≤◌, ◌-◌, ◌+◌, ℕ, List, [], ◌∷◌, None, IfSome, OnSome, IfOk, OnErr, length};
 ghost use Rattle.bit_grammar.specs.Fields.{fixed};
 ghost use Rattle.bit_grammar.specs.Blocks as blocks;
 ghost use Rattle.bit_grammar.specs.Blocks.{Handed};
@@ -10,7 +10,7 @@ ghost use Rattle.bit_fields.specs.Buffered.{Reads};
 ghost use Rattle.bit_abbrev.specs.Values.{Gains, Has, Keeps};
 ghost use Rattle.bit_events.specs.FrameView.{frame_shown};
 ghost use Rattle.bit_events.specs.MachineView.{record_of, TookSome};
-ghost use Rattle.bit_events.specs.Runs.{AddsBehind, GathersFrom, GathersRun, ReadsTo, SeesRecord};
+ghost use Rattle.bit_events.specs.Runs.{AddsBehind, GathersFrom, GathersRun, ReadsTo, SeesRecord, StopsFrom, StopsRun};
 
 use crate::entry::read_entry;
 use crate::frame::Frame;
@@ -105,8 +105,10 @@ fn gather_plain<G: Gatherer>(
     gatherer: &mut G,
 ) -> Result<Option<u64>, AllocError>
     requires plain { frame.now.info ≡ None }
-    ensures { IfOk result (λ after. GathersFrom G.gathered limits.now frame.now used.old 3 first
-        buffered.entry gatherer.old used.new after gatherer.new) }
+    ensures gathers { IfOk result (λ after. GathersFrom G.gathered limits.now frame.now used.old 3
+        first buffered.entry gatherer.old used.new after gatherer.new) }
+    ensures stops { OnErr result (StopsFrom G.gathered G.fails limits.now frame.now used.old 3 first
+        buffered.entry gatherer.old gatherer.new) }
 {
     let mut buffered = buffered;
     let mut first = first;
@@ -142,8 +144,10 @@ fn gather_as_bits<G: Gatherer>(
     gatherer: &mut G,
 ) -> Result<Option<u64>, AllocError>
     requires plain { frame.now.info ≡ None }
-    ensures { IfOk result (λ after. GathersFrom G.gathered limits.now frame.now used.old id first
-        buffered.now gatherer.old used.new after gatherer.new) }
+    ensures gathers { IfOk result (λ after. GathersFrom G.gathered limits.now frame.now used.old id
+        first buffered.now gatherer.old used.new after gatherer.new) }
+    ensures stops { OnErr result (StopsFrom G.gathered G.fails limits.now frame.now used.old id first
+        buffered.now gatherer.old gatherer.new) }
 {
     if id != 3 || !gatherer.takes_plain(buffered) {
         return Ok(None);
@@ -167,6 +171,8 @@ pub(crate) fn gather_records<G: Gatherer>(
     ensures took { TookSome G.Values.took values.new }
     ensures gathers { IfOk result (λ after. GathersRun G.gathered limits.now frame.now used.old
         buffered.entry gatherer.old used.new after gatherer.new) }
+    ensures stops { OnErr result (StopsRun G.gathered G.fails limits.now frame.now used.old
+        buffered.entry gatherer.old gatherer.new) }
 {
     let mut buffered = buffered;
     let mut first = buffered.position();

@@ -54,7 +54,7 @@ impl<'a> Model for SliceEvents<'a> {
     ghost view = { λ e. coming_of e.over e.limits e.head e.machine e.values.taker e.found e.buffered.position
         (reader_seen e.reader e.buffered) };
 
-    ghost invariant = { λ e. SeesEvents e.over e.machine e.found e.reader e.buffered };
+    ghost invariant = { λ e. SeesEvents e.over e.limits e.machine e.found e.reader e.buffered };
 }
 
 /// Drops the last event that the reader found and its values, so that values are held once. In a run of records only the first one

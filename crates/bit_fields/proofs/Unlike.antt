@@ -1,5 +1,5 @@
 -- Where two lists of values differ that both contain a run of zeros.
-use Rattle.std.proofs.Common.{◌≡◌, ◌≢◌, ℕ, zero, suc, ◌+◌, ◌<◌, ◌-◌, ◌≤◌, ◌⊎◌, List, [], ◌∷◌, ◌++◌, length, drop, get_or, slice_get, min, max, Bool, true, false, cond, eqb, not, Option, Some, None, IfSome, IfNone, refl, sym, ap, ◌∙◌, inl, inr, arith, add-one, eq-eqb, length-drop, append_assoc}
+use Rattle.std.proofs.Common.{◌≡◌, ◌≢◌, ℕ, zero, suc, ◌+◌, ◌<◌, ◌-◌, ◌≤◌, ◌⊎◌, List, [], ◌∷◌, ◌++◌, length, take, drop, get_or, slice_get, min, max, Bool, true, false, cond, eqb, not, Option, Some, None, IfSome, IfNone, refl, sym, ap, ◌∙◌, inl, inr, arith, add-one, eq-eqb, length-drop, append_assoc, take-take}
 use Rattle.std.proofs.Math.ListN.{replicate}
 use Rattle.std.proofs.Math.Seq.{drop-cons}
 use Rattle.std.proofs.lemmas.Bool.{cases_lt, ne_eqb, eqb-true}
@@ -7,7 +7,7 @@ use Rattle.std.proofs.lemmas.List.{drop-replicate, drop-drop, drop-append-le, re
 use Rattle.std.proofs.lemmas.Option.{slice_get-get_or}
 use Rattle.std.specs.Prelude.{is_some}
 use Rattle.std.specs.Option.{option_eq}
-use Rattle.bit_fields.specs.Packed.{first_apart}
+use Rattle.bit_fields.specs.Packed.{first_apart, StandAt}
 
 -- a place that both have
 at_both : (i : ℕ) (a b : List ℕ) → i < length a → i < length b → first_apart i (drop i a) (drop i b) ≡ cond (eqb (get_or a i 0) (get_or b i 0)) (first_apart (suc i) (drop (suc i) a) (drop (suc i) b)) (Some i)
@@ -23,6 +23,27 @@ get_same i a b in_a in_b same =
 pub place_same : (i : ℕ) (a b : List ℕ) → i < length a → i < length b → slice_get a i ≡ slice_get b i → first_apart i (drop i a) (drop i b) ≡ first_apart (i + 1) (drop (i + 1) a) (drop (i + 1) b)
 place_same i a b in_a in_b same =
     rw add-one (at_both i a b in_a in_b ∙ rw (eq-eqb (get_or a i 0) (get_or b i 0) (get_same i a b in_a in_b same)) refl)
+
+-- both begin with the same k values
+run_same : (k i : ℕ) (a b : List ℕ) → k ≤ length a → k ≤ length b → take k a ≡ take k b → first_apart i a b ≡ first_apart (i + k) (drop k a) (drop k b)
+run_same zero i a b in_a in_b same = ap (λ (p : ℕ). first_apart p a b) (omega arith)
+run_same (suc k) i [] b in_a in_b same = absurd (omega (arith, in_a))
+run_same (suc k) i (x ∷ a) [] in_a in_b same = absurd (omega (arith, in_b))
+run_same (suc k) i (x ∷ a) (y ∷ b) in_a in_b same =
+    let heads : x ≡ y = cc in
+    let others : take k a ≡ take k b = cc in
+    rw (eq-eqb x y heads) (run_same k (suc i) a b (omega (arith, in_a)) (omega (arith, in_b)) others ∙ ap (λ (p : ℕ). first_apart p (drop k a) (drop k b)) (omega arith))
+
+-- the first 64 values of a run of values from there on
+pub run_begins : (i : ℕ) (run values : List ℕ) → StandAt i run values → 64 ≤ length run → take 64 (drop i values) ≡ take 64 run
+run_begins i run values stands long = sym (take-take 64 (length run) (drop i values) long) ∙ ap (take 64) stands
+
+-- both have the same 64 values there
+pub batch_same : (i : ℕ) (a b : List ℕ) → i + 64 ≤ length a → i + 64 ≤ length b → take 64 (drop i a) ≡ take 64 (drop i b) → first_apart i (drop i a) (drop i b) ≡ first_apart (i + 64) (drop (i + 64) a) (drop (i + 64) b)
+batch_same i a b in_a in_b same =
+    run_same 64 i (drop i a) (drop i b) (omega (arith, length-drop i a, in_a)) (omega (arith, length-drop i b, in_b)) same
+    ∙ ap (λ (l : List ℕ). first_apart (i + 64) l (drop 64 (drop i b))) (drop-drop 64 i a)
+    ∙ ap (λ (l : List ℕ). first_apart (i + 64) (drop (i + 64) a) l) (drop-drop 64 i b)
 
 -- they have different values there
 pub place_apart : (i : ℕ) (a b : List ℕ) → i < length a → i < length b → slice_get a i ≢ slice_get b i → first_apart i (drop i a) (drop i b) ≡ Some i

@@ -3,6 +3,7 @@ pub mod Kept
 pub mod Front
 pub mod Inflow
 pub mod Reader
+pub mod Readers
 pub mod Inside
 pub mod Opening
 pub mod Ending

@@ -1,6 +1,6 @@
 //! Values that are packed to save memory.
 
-ghost use Rattle.std.specs.Prelude.{◌≡◌, ◌↔◌, ◌≤◌, ℕ, List, OnOk, OnErr, [], ◌++◌, length, drop, IfSome, IfNone, IsTrue, slice_get};
+ghost use Rattle.std.specs.Prelude.{◌≡◌, ◌↔◌, ◌≤◌, ℕ, List, OnOk, OnErr, [], ◌++◌, length, drop, IfSome, IfNone, IsTrue, slice_get, take, true};
 ghost use Rattle.std.proofs.Math.ListN.{replicate};
 ghost use Rattle.bit_fields.specs.Packed.{first_apart, StandAt};
 
@@ -58,6 +58,14 @@ fn are_same(first: &[u64], second: &[u64]) -> bool
         place += 2;
     }
     place == count || first[place] == second[place]
+}
+
+/// Whether two slices have the same bytes.
+#[inline(always)]
+fn are_equal(first: &[u8], second: &[u8]) -> bool
+    ensures { result ≡ true → first.now ≡ second.now }
+{
+    first == second
 }
 
 impl PackedValues {
@@ -151,7 +159,22 @@ impl PackedValues {
         self.settled.bytes_from(place)
     }
 
-    /// The first place from `first` to below `end` at which these and the other values differ, if there is one.
+    /// Whether these and the other values from `place` on begin with the same 64 values, each held in a byte.
+    #[inline]
+    fn has_batch_of(&self, other: &PackedValues, place: u64) -> bool
+        ensures same { result ≡ true
+            → take 64 (drop place self.now) ≡ take 64 (drop place other.now) }
+    {
+        let first = self.bytes_from(place);
+        let second = other.bytes_from(place);
+        if first.len() < BATCH || second.len() < BATCH {
+            return false;
+        }
+        are_equal(&first[..BATCH], &second[..BATCH])
+    }
+
+    /// The first place from `first` to below `end` at which these and the other values differ, if there is one. Values in a byte
+    /// each are compared a batch at a time.
     fn apart_within(&self, other: &PackedValues, first: u64, end: u64) -> Option<u64>
         requires first { first ≤ end }
         requires end { (end ≤ length self.now) × (end ≤ length other.now) }
@@ -160,10 +183,16 @@ impl PackedValues {
         ensures none { IfNone result (first_apart first (drop first self.now) (drop first other.now)
             ≡ first_apart end (drop end self.now) (drop end other.now)) }
     {
-        for place in first..end {
+        let mut place = first;
+        while place < end {
+            if place % 64 == 0 && end - place >= 64 && self.has_batch_of(other, place) {
+                place += 64;
+                continue;
+            }
             if self.get(place) != other.get(place) {
                 return Some(place);
             }
+            place += 1;
         }
         None
     }

@@ -5,6 +5,7 @@ ghost use Rattle.std.specs.Io.{ReadsAtMost};
 ghost use Rattle.std.specs.Io.BufRead.{Rests};
 ghost use Rattle.std.specs.Io.KnownBytes.{ReadConsumes};
 ghost use Rattle.bit_fields.specs.Devices.{Begins, GaveNone, IsFresh, IsWorn, Looked, PullsWord};
+ghost use Rattle.bit_fields.specs.Readers.{FailedOf};
 
 use crate::word::word_of;
 use std::io;
@@ -210,6 +211,8 @@ pub struct ReadSource<R> {
     reader: R,
     pulls: u64,
     failures: u64,
+    /// The kind of the error at the last failure.
+    failure: Option<ErrorKind>,
 }
 
 impl<R: Read> ReadSource<R> {
@@ -222,7 +225,16 @@ impl<R: Read> ReadSource<R> {
             reader,
             pulls: 0,
             failures: 0,
+            failure: None,
         }
+    }
+
+    /// The kind of the reader's error at the last failure, or `None` before the first one. A call that fails sets it, and never to
+    /// `Interrupted`; a call of an exhausted source leaves it.
+    pub fn failure(&self) -> Option<ErrorKind>
+        ensures { result ≡ self.now.failure }
+    {
+        self.failure
     }
 
     /// Returns the reader in its present state.
@@ -241,20 +253,34 @@ impl<R: Read> ReadSource<R> {
         self.pulls == u64::MAX || self.failures == u64::MAX
     }
 
+    /// Counts a failure: an error of the reader that is no interruption by a signal.
+    fn fail(&mut self, error: &IoError)
+        requires fresh { IsFresh (⟦<ReadSource<R> as Source>⟧.incoming self.old) }
+        requires own { error_kind error.now ≢ ErrorKind.Interrupted }
+        ensures counted { (⟦<ReadSource<R> as Source>⟧.incoming self.new)
+            ≡ record (⟦<ReadSource<R> as Source>⟧.incoming self.old) { pulls = self.old.pulls + 1; failures = self.old.failures + 1 } }
+        ensures own { FailedOf self.new.failure }
+    {
+        self.pulls += 1;
+        self.failures += 1;
+        self.failure = Some(error.kind());
+    }
+
     /// Whether an error of the reader is a failure, and counts it if so: every error but an interruption by a signal is one.
     #[cold]
     #[inline(never)]
     fn fails(&mut self, error: &IoError) -> bool
         requires { IsFresh (⟦<ReadSource<R> as Source>⟧.incoming self.old) }
-        ensures failed { result ≡ true → (error_kind error.now ≢ ErrorKind.Interrupted)
-            × (self.new ≡ record self.old { pulls = self.old.pulls + 1; failures = self.old.failures + 1 }) }
-        ensures interrupted { result ≡ false → self.new ≡ self.old }
+        ensures failed { result ≡ true → (⟦<ReadSource<R> as Source>⟧.incoming self.new)
+            ≡ record (⟦<ReadSource<R> as Source>⟧.incoming self.old) { pulls = self.old.pulls + 1; failures = self.old.failures + 1 } }
+        ensures own { result ≡ true → FailedOf self.new.failure }
+        ensures interrupted { result ≡ false → (error_kind error.now ≡ ErrorKind.Interrupted)
+            × (self.new ≡ self.old) }
     {
         if error.kind() == ErrorKind::Interrupted {
             return false;
         }
-        self.pulls += 1;
-        self.failures += 1;
+        self.fail(error);
         true
     }
 }
@@ -281,6 +307,9 @@ impl<R: BufRead> ReadSource<R> {
 }
 
 impl<R: Read> Source for ReadSource<R> {
+    ghost use Rattle.bit_fields.specs.Devices.{Pulls, IsFresh};
+    ghost use Rattle.bit_fields.specs.Readers.{FailedOf};
+
     ghost incoming = { λ s. record {
       to_come = R.remaining s.reader;
       pulls = s.pulls;
@@ -289,15 +318,22 @@ impl<R: Read> Source for ReadSource<R> {
     } };
 
     #[inline]
-    fn pull(&mut self, into: &mut [u8]) -> Result<usize, SourceFailed> {
+    fn pull(&mut self, into: &mut [u8]) -> Result<usize, SourceFailed>
+        ensures pulls { Pulls (⟦<ReadSource<R> as Source>⟧.incoming self.old)
+            (⟦<ReadSource<R> as Source>⟧.incoming self.new) result into.new }
+        ensures own { OnErr result (IsFresh (⟦<ReadSource<R> as Source>⟧.incoming self.old)
+            → FailedOf self.new.failure) }
+    {
         if self.is_worn() {
             return Err(SourceFailed);
         }
-        self.pulls += 1;
         match read_through(&mut self.reader, into) {
-            Ok(count) => Ok(count),
-            Err(_) => {
-                self.failures += 1;
+            Ok(count) => {
+                self.pulls += 1;
+                Ok(count)
+            }
+            Err(error) => {
+                self.fail(&error);
                 Err(SourceFailed)
             }
         }
@@ -328,9 +364,20 @@ impl<R: BufRead> BufSource<R> {
     {
         self.source.into_inner()
     }
+
+    /// The kind of the reader's error at the last failure, or `None` before the first one. A call that fails sets it, and never to
+    /// `Interrupted`; a call of an exhausted source leaves it.
+    pub fn failure(&self) -> Option<ErrorKind>
+        ensures { result ≡ self.now.source.failure }
+    {
+        self.source.failure()
+    }
 }
 
 impl<R: BufRead> Source for BufSource<R> {
+    ghost use Rattle.bit_fields.specs.Devices.{Pulls, PullsUnseen, Looks, IsFresh};
+    ghost use Rattle.bit_fields.specs.Readers.{FailedOf};
+
     ghost incoming = { λ s. record {
       to_come = R.remaining s.source.reader;
       pulls = s.source.pulls;
@@ -339,12 +386,23 @@ impl<R: BufRead> Source for BufSource<R> {
     } };
 
     #[inline]
-    fn pull(&mut self, into: &mut [u8]) -> Result<usize, SourceFailed> {
+    fn pull(&mut self, into: &mut [u8]) -> Result<usize, SourceFailed>
+        ensures pulls { Pulls (⟦<BufSource<R> as Source>⟧.incoming self.old)
+            (⟦<BufSource<R> as Source>⟧.incoming self.new) result into.new }
+        ensures own { OnErr result (IsFresh (⟦<BufSource<R> as Source>⟧.incoming self.old)
+            → FailedOf self.new.source.failure) }
+    {
         self.source.pull(into)
     }
 
     #[inline(always)]
-    fn look(&mut self) -> Result<bool, SourceFailed> {
+    fn look(&mut self) -> Result<bool, SourceFailed>
+        ensures looks { Looks (⟦<BufSource<R> as Source>⟧.incoming self.old) result
+            (⟦<BufSource<R> as Source>⟧.incoming self.new) }
+        ensures fresh { IfOk result (λ some. some ≡ true
+            → IsFresh (⟦<BufSource<R> as Source>⟧.incoming self.new)) }
+        ensures own { OnErr result (FailedOf self.new.source.failure) }
+    {
         let source = &mut self.source;
         if source.is_worn() {
             return Ok(false);
@@ -366,7 +424,13 @@ impl<R: BufRead> Source for BufSource<R> {
     }
 
     #[inline(always)]
-    fn pass(&mut self, most: usize) -> Result<usize, SourceFailed> {
+    fn pass(&mut self, most: usize) -> Result<usize, SourceFailed>
+        requires { 0 < most }
+        ensures passes { PullsUnseen most (⟦<BufSource<R> as Source>⟧.incoming self.old)
+            (⟦<BufSource<R> as Source>⟧.incoming self.new) result }
+        ensures own { OnErr result (IsFresh (⟦<BufSource<R> as Source>⟧.incoming self.old)
+            → FailedOf self.new.source.failure) }
+    {
         let source = &mut self.source;
         if source.is_worn() {
             return Err(SourceFailed);
@@ -412,6 +476,7 @@ mod tests {
             reader: [7, 8, 9].as_slice(),
             pulls: 5,
             failures: u64::MAX,
+            failure: None,
         };
         let answer = reader.pull(&mut into);
         assert!(rt; answer == Err(SourceFailed));
@@ -488,6 +553,7 @@ mod tests {
         ];
         assert!(rt; answers == [Ok(2), Ok(1), Ok(0)]);
         assert!(rt; source.pulls == 3 && source.failures == 0);
+        assert!(rt; source.failure().is_none());
     }
 
     #[test]
@@ -501,5 +567,52 @@ mod tests {
         assert_eq!(rt; pull_word(&mut source, 1), Ok((3, 1)));
         assert_eq!(rt; source.pass(2), Ok(1));
         assert_eq!(rt; (source.source.pulls, source.source.failures), (3, 0));
+    }
+    /// A reader whose reads are interrupted once, and then fail.
+    #[derive(Drop)]
+    struct Broken {
+        interrupted: bool,
+    }
+
+    impl Broken {
+        fn error(&mut self) -> IoError {
+            let kind = if self.interrupted {
+                ErrorKind::BrokenPipe
+            } else {
+                ErrorKind::Interrupted
+            };
+            self.interrupted = !self.interrupted;
+            IoError::from(kind)
+        }
+    }
+
+    impl Read for Broken {
+        fn read(&mut self, _buf: &mut [u8]) -> io::Result<usize> {
+            Err(self.error())
+        }
+    }
+
+    impl BufRead for Broken {
+        fn fill_buf(&mut self) -> io::Result<&[u8]> {
+            Err(self.error())
+        }
+
+        fn consume(&mut self, _amount: usize) {}
+    }
+
+    #[test]
+    fn failures_of_readers(rt: HostRuntime) {
+        let mut source = ReadSource::new(Broken { interrupted: false });
+        assert_eq!(rt; source.pull(&mut [0]), Err(SourceFailed));
+        assert_eq!(rt; source.failure(), Some(ErrorKind::BrokenPipe));
+        assert_eq!(rt; (source.pulls, source.failures), (1, 1));
+        let mut source = BufSource::new(Broken { interrupted: false });
+        assert_eq!(rt; (source.look(), source.failure()), (Ok(false), None));
+        assert_eq!(rt;
+            (source.look(), source.failure()),
+            (Err(SourceFailed), Some(ErrorKind::BrokenPipe))
+        );
+        assert_eq!(rt; source.pass(1), Err(SourceFailed));
+        assert_eq!(rt; (source.source.pulls, source.source.failures), (2, 2));
     }
 }

@@ -92,9 +92,10 @@ impl BitText {
         self.fixed(n, rest)
     }
 
-    /// Appends numbers in chunks of six bits, each in as few as possible.
+    /// Appends numbers in chunks of six bits, each in as few as possible. `U` names the caller, so that each has its own copy, which is
+    /// inlined.
     #[inline]
-    pub fn numbers(&mut self, values: &[u64]) -> Result<(), AllocError>
+    pub fn numbers<U>(&mut self, values: &[u64]) -> Result<(), AllocError>
         requires { length self.old + length (values_bits values.now) < 2 ^ 62 }
         ensures { OnOk result (self.new ≡ self.old ++ values_bits values.now) }
     {
@@ -120,13 +121,13 @@ impl BitText {
         Ok(())
     }
 
-    /// Appends a record of a normal form.
+    /// Appends a record of a normal form. For `U` see `numbers`.
     #[inline]
-    pub fn record(&mut self, code: u64, values: &[u64]) -> Result<(), AllocError>
+    pub fn record<U>(&mut self, code: u64, values: &[u64]) -> Result<(), AllocError>
         requires { length self.old + length (bits_of 2 3 ++ entry_text code values.now) < 2 ^ 62 }
         ensures { OnOk result (self.new ≡ self.old ++ (bits_of 2 3 ++ entry_text code values.now)) }
     {
-        if let Err(AllocError) = add_record(&mut self.words, &mut self.window, code, values) {
+        if let Err(AllocError) = add_record::<U>(&mut self.words, &mut self.window, code, values) {
             self.words.clear();
             self.window = Window::new();
             return Err(AllocError);
@@ -484,7 +485,7 @@ fn add_front(
 }
 
 /// Appends a record to words and a window, which stays in registers meanwhile. If an allocation fails, the bits are undefined.
-fn add_record(
+fn add_record<U>(
     words: &mut Words,
     window: &mut Window,
     code: u64,

@@ -366,14 +366,19 @@ impl<K: Sink> BitWriter<K> {
     pub fn bytes(&mut self, bytes: &[u8]) -> Result<(), Fault>
         requires whole { self.old.position % 8 ≡ 0 }
         requires position { self.old.position + 8 * length bytes.now < 2 ^ 64 }
-        ensures { Writes (bits_of_bytes bytes.now) self.old result self.new }
+        ensures writes { Writes (bits_of_bytes bytes.now) self.old result self.new }
+        ensures stays { OnErr result (self.new.position ≡ self.old.position) }
     {
         if !self.live {
             return Err(Fault::Failed);
         }
+        let began = self.position;
         match self.put_behind(bytes) {
             Ok(()) => Ok(()),
-            Err(SinkFailed) => Err(Fault::Write),
+            Err(SinkFailed) => {
+                self.position = began;
+                Err(Fault::Write)
+            }
         }
     }
 

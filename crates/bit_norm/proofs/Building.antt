@@ -1,8 +1,8 @@
 -- The normal form that a text becomes while it is built.
-use Rattle.std.proofs.Common.{◌≡◌, ℕ, suc, ◌+◌, ◌*◌, ◌/◌, ◌%◌, ◌<◌, ◌≤◌, Bool, true, false, List, [], ◌∷◌, ◌++◌, length, vec_len, replicate, refl, sym, ap, subst, ◌∙◌, arith, append_assoc, length-append}
+use Rattle.std.proofs.Common.{◌≡◌, ℕ, suc, ◌+◌, ◌*◌, ◌/◌, ◌%◌, ◌<◌, ◌≤◌, Bool, true, false, List, [], ◌∷◌, ◌++◌, length, take, drop, vec_len, replicate, refl, sym, ap, subst, ◌∙◌, arith, append_assoc, length-append}
 use Rattle.std.specs.Prelude.{◌&&◌, Result, Ok, Err, OnOk}
 use Rattle.std.specs.List.{list_all}
-use Rattle.std.proofs.lemmas.List.{append-nil}
+use Rattle.std.proofs.lemmas.List.{append-nil, take-append-drop}
 use Rattle.bit_grammar.specs.Setting.{keeps, keeps_record}
 use Rattle.bit_grammar.specs.Under.{ids_after, ids_behind, innermost, is_left}
 use Rattle.bit_grammar.proofs.NormalForms.Under.{ids_behind-push}
@@ -25,9 +25,10 @@ use Rattle.bit_grammar.specs.Blocks.{Limits}
 use Rattle.bit_fields.specs.Texts.{with_word}
 use Rattle.bit_fields.proofs.Texts.{with_word_between}
 use Rattle.bit_norm.specs.Told.{told_at_level}
-use Rattle.bit_norm.specs.Building.{form_so_far, begins, length_and_body, whole_form, form_with, holes_of, AreWords, Builds, PassesLimit, Forms, HasForm, record_left, left_events, IsFormOf}
+use Rattle.bit_norm.specs.Building.{form_so_far, begins, length_and_body, whole_form, form_with, holes_of, AreWords, Builds, PassesLimit, Forms, HasForm, record_left, left_events, IsFormOf, AddsRecord}
 use Rattle.bit_norm.specs.Writing.{record_front, record_text, enter_text}
 use Rattle.bit_norm.proofs.ChunkCounting.{short_few}
+use Rattle.bit_norm.proofs.ValueTexts.{values_text-append}
 use Rattle.bit_norm.specs.declared.form_builder.FormBuilder.{FormBuilder}
 
 -- ---- text after text
@@ -326,21 +327,20 @@ now_passed old new done event was short over limits long =
     passed new.limits.bytes (done ++ event ∷ []) new.text new.holes.items new.long long
     (passes_more new.limits.bytes done event (passes_now new.limits.bytes done old.text old.holes.items (was.builds short) (subst (λ (l : Limits). l.bytes < length old.text / 8) (sym limits) over)))
 
--- a record whose values alone pass the limit
-pub record_passes : (old new : FormBuilder) (done : List Event) (mark : RecordMark) → HasForm done old → old.long ≡ false → old.limits.bytes < length (values_bits mark.values) / 8 → new.limits ≡ old.limits → new.long ≡ true → HasForm (done ++ notes mark ∷ []) new
-record_passes old new done mark was short over limits long =
-    let b = was.builds short in
-    let t = record_text mark.code mark.values 0 in
-    let values = values_bits mark.values in
-    let x = shortest 6 mark.code in
-    let y = shortest 6 (length mark.values) in
-    let lengths : length values ≤ length (form_so_far b.outer ++ (b.inner ++ t)) =
-    omega (arith, length-append (form_so_far b.outer) (b.inner ++ t), length-append b.inner t, length-append (bits_of 2 3) (x ++ (y ++ values)), length-append x (y ++ values), length-append y values) in
-    let bytes : new.limits.bytes ≡ old.limits.bytes = ap (λ (l : Limits). l.bytes) limits in
+-- a record with which the text passes the limit
+pub record_passes : (old new : FormBuilder) (done : List Event) (mark : RecordMark) → HasForm done old → old.long ≡ false → 0 < left_open done → old.limits.bytes < length (old.text ++ record_text mark.code mark.values 0) / 8 → new.limits ≡ old.limits → new.long ≡ true → HasForm (done ++ notes mark ∷ []) new
+record_passes old new done mark was short some over limits long =
+    let all = old.text ++ record_text mark.code mark.values 0 in
     passed new.limits.bytes (done ++ notes mark ∷ []) new.text new.holes.items new.long long
-    (passes_by new.limits.bytes (done ++ notes mark ∷ []) b.outer (b.inner ++ t)
-    (λ following. next_whole done old.text old.holes.items b (notes mark) following ∙ form_record b.outer b.inner mark.code mark.values (told_at_level following 0) (λ level. told_at_level following (suc level)))
-    (omega (arith, over, bytes, lengths)))
+    (passes_now new.limits.bytes (done ++ notes mark ∷ []) all old.holes.items (builds_record done old.text old.holes.items (was.builds short) mark all some refl) (subst (λ (l : Limits). l.bytes < length all / 8) (sym limits) over))
+
+-- its values alone pass it
+pub values_pass : (text : List Bool) (code : ℕ) (values : List ℕ) (limit : ℕ) → limit < length (values_bits values) / 8 → limit < length (text ++ record_text code values 0) / 8
+values_pass text code values limit over =
+    let x = shortest 6 code in
+    let y = shortest 6 (length values) in
+    let v = values_bits values in
+    omega (arith, over, length-append text (record_text code values 0), length-append (bits_of 2 3) (x ++ (y ++ v)), length-append x (y ++ v), length-append y v)
 
 -- ---- the builder after an event
 
@@ -443,6 +443,16 @@ record_joined text a e code count list a_is count_is e_is =
     ∙ append_assoc text (x ++ (y ++ z)) v
     ∙ ap (λ (s : List Bool). text ++ s) (append_assoc x (y ++ z) v ∙ ap (λ (s : List Bool). x ++ s) (append_assoc y z v))
 
+-- its first values, and the others after them
+pub record_in_parts : (text a : List Bool) (code done : ℕ) (list : List ℕ) → a ≡ (text ++ record_front code (length list)) ++ values_bits (take done list) → a ++ values_bits (drop done list) ≡ text ++ record_text code list (length text)
+record_in_parts text a code done list is =
+    let front = text ++ record_front code (length list) in
+    let first = values_bits (take done list) in
+    let rest = values_bits (drop done list) in
+    record_joined text front (a ++ rest) code (length list) list refl refl
+    (ap (λ (s : List Bool). s ++ rest) is ∙ append_assoc front first rest
+    ∙ ap (λ (s : List Bool). front ++ s) (sym (values_text-append (take done list) (drop done list)) ∙ ap values_bits (take-append-drop done list)))
+
 pub end_parts : (text a b : List Bool) → a ≡ text ++ bits_of 2 0 → b ≡ a ++ padding (length a) → b ≡ text ++ end_text (length text)
 end_parts text a b a_is b_is =
     let x = bits_of 2 0 in
@@ -479,6 +489,24 @@ pub record_taken : (first old new : FormBuilder) (done : List Event) (mark : Rec
 record_taken first old new done mark was short is some stays adds =
     event_taken first old new done (notes mark) was short is (λ _. stays.0) stays.1
     (adds was.form short (some_left first old new done (notes mark) was short (first_of_two (list_all (keeps old.standing.setting) old.standing.ids) (keeps_record old.standing.setting (innermost old.standing.ids) mark.code) is) some))
+
+-- its code and values are these
+same_text : (code : ℕ) (values : List ℕ) (mark : RecordMark) → mark.code ≡ code → mark.values ≡ values → record_text code values 0 ≡ record_text mark.code mark.values 0
+same_text code values mark code_is values_is = ap (λ (n : ℕ). record_text n values 0) (sym code_is) ∙ ap (λ (vs : List ℕ). record_text mark.code vs 0) (sym values_is)
+
+pub record_added : (code : ℕ) (values : List ℕ) (old new : FormBuilder) → old.long ≡ false → record_left old.standing code ≡ true → (new.standing ≡ old.standing) × (new.limits ≡ old.limits) → new.holes ≡ old.holes → new.long ≡ old.long
+    → new.text ≡ old.text ++ record_text code values 0 → AddsRecord code values old new
+record_added code values old new short left stays holes long adds = λ first done mark code_is values_are was some.
+    record_taken first old new done mark was short (ap (record_left old.standing) code_is ∙ left) some stays
+    (λ form short some. formed new.limits.bytes (left_events first done ++ notes mark ∷ []) new.text new.holes.items new.long (long ∙ short)
+    (rw holes (builds_record (left_events first done) old.text old.holes.items (form.builds short) mark new.text some (adds ∙ ap (λ (s : List Bool). old.text ++ s) (same_text code values mark code_is values_are)))))
+
+-- one with which the form is too long
+pub record_cut : (code : ℕ) (values : List ℕ) (old new : FormBuilder) → old.long ≡ false → record_left old.standing code ≡ true → new.standing ≡ old.standing → new.limits ≡ old.limits → new.long ≡ true
+    → old.limits.bytes < length (old.text ++ record_text code values 0) / 8 → AddsRecord code values old new
+record_cut code values old new short left standing limits long over = λ first done mark code_is values_are was some.
+    record_taken first old new done mark was short (ap (record_left old.standing) code_is ∙ left) some (standing, limits)
+    (λ form short some. record_passes old new (left_events first done) mark form short some (subst (λ (s : List Bool). old.limits.bytes < length (old.text ++ s) / 8) (same_text code values mark code_is values_are) over) limits long)
 
 pub both_ok : (P Q : Type 0) {A E : Type 0} (r : Result A E) → OnOk r P → OnOk r Q → OnOk r (P × Q)
 both_ok P Q (Ok x) p q = (p, q)

@@ -1,8 +1,7 @@
 -- Records that are not abbreviated, whose bits a form has as well.
-use Rattle.std.proofs.Common.{◌≡◌, ℕ, ◌+◌, ◌-◌, ◌^◌, ◌<◌, ◌≤◌, true, false, Bool, List, [], ◌∷◌, ◌++◌, length, take, Option, Some, None, Result, Ok, Err, IfOk, refl, sym, ap, ◌∙◌, arith, length-append}
+use Rattle.std.proofs.Common.{◌≡◌, ℕ, ◌+◌, ◌-◌, ◌^◌, ◌<◌, ◌≤◌, true, false, Bool, List, ◌++◌, length, take, Option, Some, None, Result, Ok, Err, IfOk, refl, ap, ◌∙◌, arith, length-append}
 use Rattle.std.proofs.lemmas.List.{take_at}
 use Rattle.bit_grammar.specs.Bits.{bits_of}
-use Rattle.bit_grammar.specs.Machine.{notes}
 use Rattle.bit_grammar.specs.Normal.{entry_text}
 use Rattle.bit_grammar.specs.Record.{unabbreviated}
 use Rattle.bit_grammar.proofs.Bits.Numbers.{length-bits_of}
@@ -11,10 +10,9 @@ use Rattle.bit_fields.specs.SixBits.{TakesPlain}
 use Rattle.bit_fields.proofs.BufferedReads.{reads_passed}
 use Rattle.bit_events.specs.declared.gatherer.PlainRecord.{PlainRecord}
 use Rattle.bit_events.specs.Runs.{GathersPlain, StaysGathered}
-use Rattle.bit_norm.specs.Building.{AddsPlain, IsFormOf, record_left, left_events}
-use Rattle.bit_norm.specs.Writing.{record_text}
+use Rattle.bit_norm.specs.Building.{AddsPlain, IsFormOf, record_left}
 use Rattle.bit_norm.specs.declared.form_builder.FormBuilder.{FormBuilder}
-use Rattle.bit_norm.proofs.Building.{formed, builds_record, record_taken}
+use Rattle.bit_norm.proofs.Building.{record_added}
 use Rattle.bit_norm.proofs.ValueTexts.{entry_few}
 
 -- its bits are few, more follow them, and they are those of the form
@@ -43,11 +41,7 @@ plain_added room code many bits a b old new t c standing limits holes long short
   t.count,
   t.few,
   t.reads,
-  λ begun done mark code_is values_are was stands.
-      let text : record_text code t.values 0 ≡ record_text mark.code mark.values 0 = ap (λ (n : ℕ). record_text n t.values 0) (sym code_is) ∙ ap (λ (vs : List ℕ). record_text mark.code vs 0) (sym values_are) in
-      record_taken begun old new done mark was short (ap (record_left old.standing) code_is ∙ left) stands (standing, limits)
-      (λ form short some. formed new.limits.bytes (left_events begun done ++ notes mark ∷ []) new.text new.holes.items new.long (long ∙ short)
-      (rw holes (builds_record (left_events begun done) old.text old.holes.items (form.builds short) mark new.text some (adds ∙ ap (λ (s : List Bool). old.text ++ (bits_of 2 3 ++ s)) c.front ∙ ap (λ (s : List Bool). old.text ++ s) text)))),
+  record_added code t.values old new short left (standing, limits) holes long (adds ∙ ap (λ (s : List Bool). old.text ++ (bits_of 2 3 ++ s)) c.front),
 )
 
 -- as the gatherer of any event at that place

@@ -147,15 +147,24 @@ pub record IsFormOf (first : FormBuilder) (events : List Event) (b : FormBuilder
   }
   pub form : HasForm (left_events first events) b
 
+-- the form of the kept events was built with a record that has this code and these values, in an open block
+abbrev pub AddsRecord : (code : ℕ) → List ℕ → (old new : FormBuilder) → Type 0
+AddsRecord code values old new = (first : FormBuilder) (done : List Event) (mark : RecordMark)
+    → mark.code ≡ code → mark.values ≡ values → IsFormOf first done old → 0 < left_open done
+    → IsFormOf first (done ++ notes mark ∷ []) new
+
+-- a text became this one; or this one has more bytes than the limit
+abbrev pub GrowsTo : List Bool → (limit : ℕ) → (whole : Bool) → List Bool → Type 0
+GrowsTo all limit true new = new ≡ all
+GrowsTo all limit false new = limit < length all / 8
+
 -- A record that is not abbreviated, with at most `room` values, was built from the bits after its id; or nothing was built.
 abbrev pub AddsPlain : (room : ℕ) → BufferedBits → FormBuilder → Option PlainRecord → FormBuilder → Type 0
 AddsPlain room a old None new = StaysGathered IsFormOf old new
 AddsPlain room a old (Some taken) new = (code : ℕ) × (list : List ℕ)
     × (length list ≡ taken.count) × (taken.count ≤ room)
     × Reads (unabbreviated room) a (record { code = code; values = list }) taken.after
-    × ((first : FormBuilder) (done : List Event) (mark : RecordMark) → mark.code ≡ code
-    → mark.values ≡ list → IsFormOf first done old → 0 < left_open done
-    → IsFormOf first (done ++ notes mark ∷ []) new)
+    × AddsRecord code list old new
 
 -- the normal form of the kept events, after the magic
 abbrev pub form_of : FormBuilder → List Event → List Bool

@@ -6,7 +6,7 @@ ghost use Rattle.bit_grammar.specs.Normal.{most_bytes, values_bits, end_text};
 ghost use Rattle.bit_events.specs.Gathering.{left_open};
 ghost use Rattle.bit_fields.specs.Texts.{with_word};
 ghost use Rattle.bit_events.specs.MachineView.{TookSome};
-ghost use Rattle.bit_norm.specs.Building.{HasTaken, record_left, AddsPlain, IsFormOf, StaysAs, BuildsBlock, BuildsEnd, BuildsRecord, IsTooLong, IsWholeForm};
+ghost use Rattle.bit_norm.specs.Building.{HasTaken, record_left, AddsPlain, AddsRecord, GrowsTo, IsFormOf, StaysAs, BuildsBlock, BuildsEnd, BuildsRecord, IsTooLong, IsWholeForm};
 ghost use Rattle.bit_norm.specs.Writing.{record_front, record_text, enter_text};
 
 use crate::form_values::{FormValues, is_long};
@@ -16,11 +16,17 @@ use bit_fields::{BitText, Buffered, Limits};
 use bit_tree::Info;
 use std::alloc::{AllocError, Global};
 
+/// Names the caller that adds the records of a writer.
+struct Writer;
+
 /// How many numbers may be gone over in vain before anything is in the form.
 const FEW_IN_VAIN: u64 = 64;
 
 /// For how many bits of the form one number more may be gone over in vain.
 const BITS_FOR_ONE_IN_VAIN: u64 = 512;
+
+/// How many values of a record become text before the limit on bytes is tested again.
+const PIECE: usize = 64;
 
 /// Adds what comes in a block before its length.
 fn add_head(text: &mut BitText, id: u32) -> Result<(), AllocError>
@@ -57,15 +63,15 @@ fn add_record_head(text: &mut BitText, code: u64, count: u64) -> Result<(), Allo
     text.record_front(code, count)
 }
 
-/// Adds a record of few values.
+/// Adds a record of few values. `U` names the caller, as in `BitText::numbers`.
 #[inline(always)]
 #[tactic(auto, using(crate::proofs::ValueTexts::entry_few))]
-fn add_short_record(text: &mut BitText, code: u64, values: &[u64]) -> Result<(), AllocError>
+fn add_short_record<U>(text: &mut BitText, code: u64, values: &[u64]) -> Result<(), AllocError>
     requires few { length text.old < 2 ^ 38 }
     requires short { length values.now ≤ 64 }
     ensures { OnOk result (text.new ≡ text.old ++ record_text code values.now (length text.old)) }
 {
-    text.record(code, values)
+    text.record::<U>(code, values)
 }
 
 /// Adds a record that has these bits after its id.
@@ -94,6 +100,32 @@ fn add_record(
 {
     add_record_head(text, code, count)?;
     text.append(values)
+}
+
+/// Adds a record of any number of values in pieces, until the text is longer than the limit on bytes. Returns whether it is whole.
+#[inline(never)]
+#[tactic(auto, using(crate::proofs::ValueTexts::values_few))]
+fn add_pieces(
+    text: &mut BitText,
+    limits: Limits,
+    code: u64,
+    values: &[u64],
+) -> Result<bool, AllocError>
+    requires { length text.old < 2 ^ 38 }
+    ensures { IfOk result (λ whole. GrowsTo (text.old ++ record_text code values.now (length text.old))
+        limits.bytes whole text.new) }
+{
+    add_record_head(text, code, values.len() as u64)?;
+    let mut done = 0;
+    while done < values.len() {
+        if is_long(text, limits) {
+            return Ok(false);
+        }
+        let count = (values.len() - done).min(PIECE);
+        text.numbers::<Writer>(&values[done..done + count])?;
+        done += count;
+    }
+    Ok(true)
 }
 
 /// The normal form of the kept events so far, after the magic. For each open block that is kept it knows the word of its length. It
@@ -248,11 +280,33 @@ impl<'a> FormBuilder<'a> {
             return Ok(());
         }
         if let Some(all) = values.all() {
-            return add_short_record(&mut self.text, code, all);
+            return add_short_record::<()>(&mut self.text, code, all);
         }
         let added = self.add_long(code, values);
         values.reset();
         added
+    }
+
+    /// Adds a record with these values, if it is kept.
+    #[inline]
+    pub(crate) fn add_values(&mut self, code: u64, values: &[u64]) -> Result<(), AllocError>
+        ensures { OnOk result (AddsRecord code values.now self.old self.new) }
+    {
+        if self.is_idle(code) {
+            return Ok(());
+        }
+        if is_long(&self.text, self.limits) {
+            self.stop();
+            return Ok(());
+        }
+        if values.len() <= PIECE {
+            return add_short_record::<Writer>(&mut self.text, code, values);
+        }
+        if add_pieces(&mut self.text, self.limits, code, values)? {
+            return Ok(());
+        }
+        self.stop();
+        Ok(())
     }
 
     /// Adds a record that is not abbreviated, from the buffered bits after its id, if each of its numbers is in its shortest spelling

@@ -1,17 +1,15 @@
-ghost use Rattle.std.specs.Prelude.{◌≡◌, ◌==◌, ◌+◌, ◌<◌, ◌^◌, true, List, [], length, MatchOption, OnOk};
+ghost use Rattle.std.specs.Prelude.{◌≡◌, ◌==◌, ◌+◌, ◌<◌, ◌^◌, true, List, length, MatchOption};
 ghost use Rattle.std.specs.List.{AllByRecursion};
 ghost use Rattle.bit_fields.specs.Opening.{magic_number};
 ghost use Rattle.bit_grammar.specs.Forest.{names_block, wrapper_magic};
-ghost use Rattle.bit_norm.specs.Building.{HasTaken};
 ghost use Rattle.bit_norm.specs.Telling.{Begins, Call, HasTold, IsFit, Tells, begins, behind_record, ends, fits, holds, inside_block, place_of, takes_block, takes_record, tree_told};
 ghost use Rattle.bit_norm.specs.Writing.{WritesForm};
 
 use crate::form_builder::FormBuilder;
-use crate::form_values::FormValues;
 use crate::normalising::give;
 use crate::writing::number_of_magic;
 use bit_events::Gatherer;
-use bit_fields::{Fault, Limits, Sink, ValueTaker};
+use bit_fields::{Fault, Limits, Sink};
 use bit_grammar::{SET_BID, WRAPPER_MAGIC};
 use bit_tree::Info;
 use std::alloc::{AllocError, Global};
@@ -52,20 +50,6 @@ fn names_block(values: &[u64]) -> bool
 fn known_values(values: &[u64])
     ensures { AllByRecursion (λ v. v < 2 ^ 64) values.now }
 {}
-
-/// Takes values for the form.
-#[inline(always)]
-fn take(values: &[u64], taken: &mut FormValues) -> Result<(), AllocError>
-    requires { HasTaken taken.old [] }
-    ensures { OnOk result (HasTaken taken.new values.now) }
-{
-    for value in values {
-        if taken.take(*value).is_err() {
-            return Err(AllocError);
-        }
-    }
-    Ok(())
-}
 
 impl Inside {
     /// What may come in a block with this id.
@@ -117,8 +101,6 @@ impl Inside {
 #[derive(Drop)]
 pub struct FormWriter {
     builder: FormBuilder<'static>,
-    /// The values of the last record, in memory that all records share.
-    taken: FormValues,
     limits: Limits,
     magic: [u8; 4],
     depth: u32,
@@ -138,10 +120,8 @@ impl FormWriter {
         // The limits are within their caps.
         let _bytes = limits.bytes();
         let builder = FormBuilder::new(alloc, Info::Keep, limits);
-        let taken = builder.values();
         Some(FormWriter {
             builder,
-            taken,
             limits,
             magic,
             depth: 0,
@@ -192,11 +172,7 @@ impl FormWriter {
             return Err(Untold::Misplaced);
         }
         known_values(values);
-        self.taken.reset();
-        let Ok(()) = take(values, &mut self.taken) else {
-            return Err(Untold::Memory);
-        };
-        match self.builder.record(3, code, &mut self.taken, 0, 0) {
+        match self.builder.add_values(code, values) {
             Ok(()) => {
                 self.inside = self.inside.behind_record();
                 self.values += values.len() as u64;
@@ -257,7 +233,6 @@ impl FormWriter {
     {
         let FormWriter {
             builder,
-            taken: _,
             magic,
             limits: _,
             depth: _,

@@ -1,24 +1,13 @@
--- Texts of a few numbers, and lists that are printed batch by batch.
-use Rattle.std.proofs.Common.{◌≡◌, ℕ, zero, suc, Result, Ok, Err, ◌+◌, ◌-◌, ◌<◌, ◌≤◌, List, [], ◌∷◌, ◌++◌, length, get_or, take, drop, refl, sym, ap, subst, ◌∙◌, append_assoc, arith, add-zero, length-drop}
+-- Lists that are printed batch by batch.
+use Rattle.std.proofs.Common.{◌≡◌, ℕ, zero, suc, Result, Ok, Err, ◌+◌, ◌-◌, ◌<◌, ◌≤◌, List, [], ◌∷◌, ◌++◌, length, take, drop, refl, sym, ap, ◌∙◌, append_assoc, arith, add-zero, length-drop}
 use Rattle.std.specs.Prelude.{OnOk, decimal, flat_map}
 use Rattle.std.specs.declared.alloc.AllocError.{AllocError}
-use Rattle.std.specs.Str.{IsAscii}
-use Rattle.std.proofs.lemmas.Str.{IsAscii-append}
-use Rattle.std.proofs.lemmas.List.{drop_more, take-append-drop, drop-drop, length-take-le}
+use Rattle.std.proofs.lemmas.List.{take-append-drop, drop-drop, length-take-le}
 use Rattle.std.proofs.lemmas.Grind.{flat_map-append}
 use Rattle.bit_grammar.specs.Texts.{values_text}
 use Rattle.bit_scan.specs.Json.{comma, item_json, joined, joined_from, number_json}
 use Rattle.bit_scan.specs.Printing.{Printing}
 use Rattle.bit_scan.proofs.Prints.{Goes, goes_as}
-
--- one item before those that are written
-pub one_before : (part : ℕ → List ℕ) (xs : List ℕ) (i j : ℕ) (old new : List ℕ) → i < length xs → j ≡ i + 1 → old ≡ flat_map part (drop j xs) → new ≡ part (get_or xs i 0) ++ old → new ≡ flat_map part (drop i xs)
-one_before part xs i j old new h next was is = is ∙ ap (λ (l : List ℕ). part (get_or xs i 0) ++ l) (was ∙ ap (λ (n : ℕ). flat_map part (drop n xs)) next) ∙ sym (ap (flat_map part) (drop_more xs i 0 h))
-
-pub ascii_before : (part : ℕ → List ℕ) (xs : List ℕ) (i j : ℕ) → i < length xs → j ≡ i + 1 → IsAscii (flat_map part (drop j xs)) → IsAscii (part (get_or xs i 0)) → IsAscii (flat_map part (drop i xs))
-ascii_before part xs i j h next rest one =
-    let same : flat_map part (drop i xs) ≡ part (get_or xs i 0) ++ flat_map part (drop j xs) = ap (flat_map part) (drop_more xs i 0 h) ∙ ap (λ (n : ℕ). part (get_or xs i 0) ++ flat_map part (drop n xs)) (sym next) in
-    subst (λ (l : List ℕ). IsAscii l) (sym same) (IsAscii-append (part (get_or xs i 0)) (flat_map part (drop j xs)) one rest)
 
 -- items behind the first one have commas
 pub joined_later : (place : ℕ) (xs : List ℕ) → joined_from number_json (suc place) xs ≡ flat_map item_json xs

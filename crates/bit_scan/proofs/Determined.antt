@@ -141,7 +141,7 @@ number_of_op front m n hm hn x y e =
     apart : (number x : List ℕ) → ((front ++ (number ++ [])) ++ codes "}") ++ x ≡ front ++ (number ++ (codes "}" ++ x))
     apart number x = simp (append_assoc, append-nil)
 
-op_then : (a b : Op) → OpFits a → OpFits b → (x y : List ℕ) → op_json a ++ x ≡ op_json b ++ y → (a ≡ b) × (x ≡ y)
+op_then : (a b : Op) → OpFits (2 ^ 64) a → OpFits (2 ^ 64) b → (x y : List ℕ) → op_json a ++ x ≡ op_json b ++ y → (a ≡ b) × (x ≡ y)
 op_then (Literal m) (Literal n) fa fb x y e = (let parts = number_of_op (codes "{\"kind\":\"literal\",\"value\":") m n fa fb x y e in (ap Literal parts.0, parts.1))
 op_then (Literal m) (Fixed n) fa fb x y e = absurd (let no : 108 ≡ 102 = ap tenth e in omega (arith, no))
 op_then (Literal m) (Vbr n) fa fb x y e = absurd (let no : 108 ≡ 118 = ap tenth e in omega (arith, no))
@@ -205,7 +205,7 @@ numbers_then [] (y ∷ ys) n fa fb e = absurd (omega (arith, n))
 numbers_then (x ∷ xs) [] n fa fb e = absurd (omega (arith, n))
 numbers_then (x ∷ xs) (y ∷ ys) n fa fb e = numbers_later (x ∷ xs) (y ∷ ys) fa fb (ap (λ (l : List ℕ). 44 ∷ l) (ap (λ (l : List ℕ). (number_json x ++ l) ++ close) (sym (joined_later number_json 0 xs)) ∙ e ∙ ap (λ (l : List ℕ). (number_json y ++ l) ++ close) (joined_later number_json 0 ys)))
 
-ops_later : (xs ys : List Op) → AllByRecursion OpFits xs → AllByRecursion OpFits ys → later_items op_json xs ++ close ≡ later_items op_json ys ++ close → xs ≡ ys
+ops_later : (xs ys : List Op) → AllByRecursion (OpFits (2 ^ 64)) xs → AllByRecursion (OpFits (2 ^ 64)) ys → later_items op_json xs ++ close ≡ later_items op_json ys ++ close → xs ≡ ys
 ops_later [] [] fa fb e = refl
 ops_later [] (y ∷ ys) fa fb e = absurd (let no : 93 ≡ 44 = ap head e in omega (arith, no))
 ops_later (x ∷ xs) [] fa fb e = absurd (let no : 44 ≡ 93 = ap head e in omega (arith, no))
@@ -224,7 +224,7 @@ op_begins Blob rest = refl
 ops_begin : (x : Op) (xs : List Op) → head (joined op_json (x ∷ xs) ++ close) ≡ 123
 ops_begin x xs = ap head (append_assoc (op_json x) (joined_from op_json 1 xs) close) ∙ op_begins x (joined_from op_json 1 xs ++ close)
 
-ops_then : (xs ys : List Op) → AllByRecursion OpFits xs → AllByRecursion OpFits ys → joined op_json xs ++ close ≡ joined op_json ys ++ close → xs ≡ ys
+ops_then : (xs ys : List Op) → AllByRecursion (OpFits (2 ^ 64)) xs → AllByRecursion (OpFits (2 ^ 64)) ys → joined op_json xs ++ close ≡ joined op_json ys ++ close → xs ≡ ys
 ops_then [] [] fa fb e = refl
 ops_then [] (y ∷ ys) fa fb e = absurd (let no : 93 ≡ 123 = ap head e ∙ ops_begin y ys in omega (arith, no))
 ops_then (x ∷ xs) [] fa fb e = absurd (let no : 123 ≡ 93 = sym (ops_begin x xs) ∙ ap head e in omega (arith, no))
@@ -256,7 +256,7 @@ definition_same ops ops' first first' a b = rw (a, b) refl
 record_same : (abbreviation abbreviation' code code' : ℕ) (values values' : List ℕ) (first first' : ℕ) → abbreviation ≡ abbreviation' → code ≡ code' → values ≡ values' → first ≡ first' → ◌≡◌ {A = Event} (notes (record { abbreviation = abbreviation; code = code; values = values; first = first; after = 0 })) (notes (record { abbreviation = abbreviation'; code = code'; values = values'; first = first'; after = 0 }))
 record_same abbreviation abbreviation' code code' values values' first first' a b c d = rw (a, b, c, d) refl
 
-pub event_told : (around other : ℕ) (a b : Event) → around < 2 ^ 64 → other < 2 ^ 64 → EventFits a → EventFits b → event_json Shown around a ≡ event_json Shown other b → line_tells a ≡ line_tells b
+pub event_told : (around other : ℕ) (a b : Event) → around < 2 ^ 64 → other < 2 ^ 64 → EventFits (2 ^ 64) a → EventFits (2 ^ 64) b → event_json Shown around a ≡ event_json Shown other b → line_tells a ≡ line_tells b
 event_told around other (enters o) (enters p) ha hb fa fb e =
     let parts = plain_line (codes "block") ((codes "bit", o.first, p.first) ∷ (codes "depth", around, other) ∷ (codes "id", o.id, p.id) ∷ (codes "width", o.width, p.width) ∷ (codes "body", o.body, p.body) ∷ []) ((fa.0, fb.0), ((ha, hb), ((fa.1, fb.1), ((fa.2, fb.2), ((fa.3, fb.3), tt))))) e in
     block_same o.id p.id o.width p.width o.first p.first o.body p.body parts.1.1.0 parts.1.1.1.0 parts.0 parts.1.1.1.1.0

@@ -3,6 +3,7 @@ pub mod Bounds
 pub mod Changes
 pub mod Changing
 pub mod Exact
+pub mod Forwards
 pub mod Indexing
 pub mod Joined
 pub mod Lists

@@ -23,7 +23,8 @@ use Rattle.bit_grammar.specs.Steps.{open_after}
 use Rattle.bit_grammar.specs.Tally.{BlockTally, CodeTally, Tally, stream_begin}
 use Rattle.bit_grammar.specs.Texts.{hex_text, magic_bytes}
 use Rattle.bit_scan.specs.Json.{Field, number_json, field_json, object_front, object, object_line, list_line, text_line, joined, joined_from, op_json, noted_fields, event_json, events_json, ending_json, refusal_json, head_json, outlook_json, code_json, row_line_json, row_json, stream_json, report_json}
-use Rattle.bit_scan.specs.ObjectLines.{IsPlain, quoted, IsSimple, IsList, Member, member_text, names_of, IsObject, IsLineValue, IsObjectLine, AreObjectLines}
+use Rattle.bit_scan.specs.EventLines.{OpFits, EventFits, EndFits, EventsFit, OutlookFits, CodeRowFits, BlockRowFits, ReportFits}
+use Rattle.bit_scan.specs.ObjectLines.{IsPlain, IsWord, quoted, IsString, IsSimple, IsList, Member, member_text, names_of, IsObject, IsLineValue, IsObjectLine, AreObjectLines}
 
 -- ---- characters
 
@@ -54,12 +55,16 @@ pub decimal_plain : (n : ℕ) → IsPlain (decimal n)
 unfolding digits
 decimal_plain n = digits_plain 64 n [] refl
 
-pub number_simple : (n : ℕ) → IsSimple (number_json n)
-number_simple n = cases (nat_lt n (2 ^ 53)) refl
+pub number_simple : (bound n : ℕ) → n < bound → IsSimple bound (number_json n)
+number_simple bound n fits = cases (nat_lt n (2 ^ 53)) refl
   where
-    cases : (b : Bool) → nat_lt n (2 ^ 53) ≡ b → IsSimple (if b then decimal n else (codes "\"" ++ decimal n ++ codes "\""))
-    cases true is = inr (n, ltb-true n (2 ^ 53) is, refl)
-    cases false is = inl (decimal n, decimal_plain n, refl)
+    cases : (b : Bool) → nat_lt n (2 ^ 53) ≡ b → IsSimple bound (if b then decimal n else (codes "\"" ++ decimal n ++ codes "\""))
+    cases true is = inr (n, fits, inl (ltb-true n (2 ^ 53) is, refl))
+    cases false is = inr (n, fits, inr (ltb-false n (2 ^ 53) is, refl))
+
+-- the numbers of fields are below the bound
+abbrev pub FieldsFit : (bound : ℕ) → List Field → Type 0
+FieldsFit bound fields = AllByRecursion (λ (field : Field). field.1 < bound) fields
 
 -- ---- names
 
@@ -108,7 +113,7 @@ later member = codes "," ++ member_text member
 key_text : (key value : List ℕ) → (codes ",\"" ++ key ++ codes "\":") ++ value ≡ later (key, value)
 key_text key value = ap (λ (l : List ℕ). 44 ∷ 34 ∷ l) (append_assoc key (codes "\":") value ∙ sym (append_assoc key (codes "\"") (58 ∷ value)))
 
-fields_text : (fields : List Field) → flat_map field_json fields ≡ flat_map later (map field_member fields)
+pub fields_text : (fields : List Field) → flat_map field_json fields ≡ flat_map later (map field_member fields)
 fields_text [] = refl
 fields_text (field ∷ fields) = ap (λ (l : List ℕ). l ++ flat_map field_json fields) (key_text field.0 (number_json field.1)) ∙ ap (λ (l : List ℕ). later (field_member field) ++ l) (fields_text fields)
 
@@ -124,45 +129,46 @@ front_text kind fields more =
     ∙ regroup front first last (codes "}")
     ∙ ap (λ (l : List ℕ). (front ++ l) ++ codes "}") (sym (flat_map-append later (map field_member fields) more))
 
-module _ (IsValue : List ℕ → Type 0) (simple : (text : List ℕ) → IsSimple text → IsValue text) where
-  fields_valued : (fields : List Field) (more : List Member) → AllByRecursion (λ (member : Member). IsValue member.1) more → AllByRecursion (λ (member : Member). IsValue member.1) (map field_member fields ++ more)
-  fields_valued [] more all = all
-  fields_valued (field ∷ fields) more all = (simple (number_json field.1) (number_simple field.1), fields_valued fields more all)
+module _ (bound : ℕ) (IsValue : List ℕ → Type 0) (simple : (text : List ℕ) → IsSimple bound text → IsValue text) where
+  fields_valued : (fields : List Field) (more : List Member) → FieldsFit bound fields → AllByRecursion (λ (member : Member). IsValue member.1) more → AllByRecursion (λ (member : Member). IsValue member.1) (map field_member fields ++ more)
+  fields_valued [] more fits all = all
+  fields_valued (field ∷ fields) more fits all = (simple (number_json field.1) (number_simple bound field.1 fits.0), fields_valued fields more fits.1 all)
 
-  pub object_made : (kind : List ℕ) (fields : List Field) (more : List Member) → IsPlain kind → are_names (names_of (front_members kind fields ++ more)) ≡ true → AllByRecursion (λ (member : Member). IsValue member.1) more → IsObject IsValue (object_front kind fields ++ (flat_map later more ++ codes "}"))
-  object_made kind fields more plain names all =
+  pub object_made : (kind : List ℕ) (fields : List Field) (more : List Member) → IsWord kind → FieldsFit bound fields → are_names (names_of (front_members kind fields ++ more)) ≡ true → AllByRecursion (λ (member : Member). IsValue member.1) more → IsObject IsValue (object_front kind fields ++ (flat_map later more ++ codes "}"))
+  object_made kind fields more word fits names all =
       let members = front_members kind fields ++ more in
       let parts = both (list_all (list_all is_ascii_alphanumeric) (names_of members)) (are_distinct (names_of members)) names in
       record {
         members = members;
         plain = names_plain (names_of members) parts.0;
         distinct = names_distinct (names_of members) parts.1;
-        values = (simple (quoted kind) (inl (kind, plain, refl)), fields_valued fields more all);
+        values = (simple (quoted kind) (inl (kind, inl word, refl)), fields_valued fields more fits all);
         spelled = front_text kind fields more;
       }
 
 -- ---- lines
 
-simple_value : (text : List ℕ) → IsSimple text → IsLineValue text
-simple_value text s = inl s
+module _ (bound : ℕ) where
+  simple_value : (text : List ℕ) → IsSimple bound text → IsLineValue bound text
+  simple_value text s = inl s
 
-pub object_is : (kind : List ℕ) (fields : List Field) → IsPlain kind → are_names (names_of (front_members kind fields ++ [])) ≡ true → IsObject IsSimple (object kind fields)
-object_is kind fields plain names = object_made IsSimple (λ text s. s) kind fields [] plain names tt
+  pub object_is : (kind : List ℕ) (fields : List Field) → IsWord kind → FieldsFit bound fields → are_names (names_of (front_members kind fields ++ [])) ≡ true → IsObject (IsSimple bound) (object kind fields)
+  object_is kind fields word fits names = object_made bound (IsSimple bound) (λ text s. s) kind fields [] word fits names tt
 
-pub object_line_is : (kind : List ℕ) (fields : List Field) → IsPlain kind → are_names (names_of (front_members kind fields ++ [])) ≡ true → IsObjectLine (object_line kind fields)
-object_line_is kind fields plain names = (object kind fields, object_made IsLineValue simple_value kind fields [] plain names tt, refl)
+  pub object_line_is : (kind : List ℕ) (fields : List Field) → IsWord kind → FieldsFit bound fields → are_names (names_of (front_members kind fields ++ [])) ≡ true → IsObjectLine bound (object_line kind fields)
+  object_line_is kind fields word fits names = (object kind fields, object_made bound (IsLineValue bound) simple_value kind fields [] word fits names tt, refl)
 
 list_text : (front key list : List ℕ) → (front ++ (codes ",\"" ++ key ++ codes "\":[")) ++ (list ++ codes "]}\n") ≡ (front ++ ((later (key, codes "[" ++ (list ++ codes "]")) ++ []) ++ codes "}")) ++ codes "\n"
 list_text front key list = simp (append_assoc, append-nil)
 
-pub list_line_is : (kind : List ℕ) (fields : List Field) (key list : List ℕ) → IsPlain kind → are_names (names_of (front_members kind fields ++ (key, codes "[" ++ (list ++ codes "]")) ∷ [])) ≡ true → IsLineValue (codes "[" ++ (list ++ codes "]")) → IsObjectLine (list_line kind fields key list)
-list_line_is kind fields key list plain names value = (_, object_made IsLineValue simple_value kind fields ((key, codes "[" ++ (list ++ codes "]")) ∷ []) plain names (value, tt), list_text (object_front kind fields) key list)
+pub list_line_is : (bound : ℕ) (kind : List ℕ) (fields : List Field) (key list : List ℕ) → IsWord kind → FieldsFit bound fields → are_names (names_of (front_members kind fields ++ (key, codes "[" ++ (list ++ codes "]")) ∷ [])) ≡ true → IsLineValue bound (codes "[" ++ (list ++ codes "]")) → IsObjectLine bound (list_line kind fields key list)
+list_line_is bound kind fields key list word fits names value = (_, object_made bound (IsLineValue bound) (simple_value bound) kind fields ((key, codes "[" ++ (list ++ codes "]")) ∷ []) word fits names (value, tt), list_text (object_front kind fields) key list)
 
 text_text : (front key text : List ℕ) → ((front ++ (codes ",\"" ++ key ++ codes "\":\"")) ++ (text ++ codes "\"")) ++ codes "}\n" ≡ (front ++ ((later (key, quoted text) ++ []) ++ codes "}")) ++ codes "\n"
 text_text front key text = simp (append_assoc, append-nil)
 
-pub text_line_is : (kind : List ℕ) (fields : List Field) (key text : List ℕ) → IsPlain kind → are_names (names_of (front_members kind fields ++ (key, quoted text) ∷ [])) ≡ true → IsPlain text → IsObjectLine (text_line kind fields key text)
-text_line_is kind fields key text plain names inner = (_, object_made IsLineValue simple_value kind fields ((key, quoted text) ∷ []) plain names (inl (inl (text, inner, refl)), tt), text_text (object_front kind fields) key text)
+pub text_line_is : (bound : ℕ) (kind : List ℕ) (fields : List Field) (key text : List ℕ) → IsWord kind → FieldsFit bound fields → are_names (names_of (front_members kind fields ++ (key, quoted text) ∷ [])) ≡ true → IsString (quoted text) → IsObjectLine bound (text_line kind fields key text)
+text_line_is bound kind fields key text word fits names string = (_, object_made bound (IsLineValue bound) (simple_value bound) kind fields ((key, quoted text) ∷ []) word fits names (inl (inl string), tt), text_text (object_front kind fields) key text)
 
 -- ---- lists
 
@@ -177,104 +183,111 @@ module _ {A : Type 0} (text : A → List ℕ) where
   joined_text [] = refl
   joined_text (x ∷ xs) = ap (λ (l : List ℕ). text x ++ l) (joined_later 0 xs ∙ sym (flat_map-map (λ (item : List ℕ). codes "," ++ item) text xs))
 
-  all_items : (IsItem : List ℕ → Type 0) → ((x : A) → IsItem (text x)) → (xs : List A) → AllByRecursion IsItem (map text xs)
-  all_items IsItem each [] = tt
-  all_items IsItem each (x ∷ xs) = (each x, all_items IsItem each xs)
+  all_items : (IsItem : List ℕ → Type 0) (Fits : A → Type 0) → ((x : A) → Fits x → IsItem (text x)) → (xs : List A) → AllByRecursion Fits xs → AllByRecursion IsItem (map text xs)
+  all_items IsItem Fits each [] all = tt
+  all_items IsItem Fits each (x ∷ xs) all = (each x all.0, all_items IsItem Fits each xs all.1)
 
-  pub joined_list : (IsItem : List ℕ → Type 0) → ((x : A) → IsItem (text x)) → (xs : List A) → IsList IsItem (codes "[" ++ (joined text xs ++ codes "]"))
-  joined_list IsItem each xs = (map text xs, all_items IsItem each xs, ap (λ (l : List ℕ). codes "[" ++ (l ++ codes "]")) (joined_text xs))
+  pub joined_list : (IsItem : List ℕ → Type 0) (Fits : A → Type 0) → ((x : A) → Fits x → IsItem (text x)) → (xs : List A) → AllByRecursion Fits xs → IsList IsItem (codes "[" ++ (joined text xs ++ codes "]"))
+  joined_list IsItem Fits each xs all = (map text xs, all_items IsItem Fits each xs all, ap (λ (l : List ℕ). codes "[" ++ (l ++ codes "]")) (joined_text xs))
 
 -- ---- texts
 
-pub name_plain : (reason : Reason) → IsPlain (name_of reason)
-name_plain Truncated = refl
-name_plain ValueTooWide = refl
-name_plain TopLevel = refl
-name_plain TooDeep = refl
-name_plain BlockId = refl
-name_plain AbbrevWidth = refl
-name_plain DirtyPadding = refl
-name_plain BlockLength = refl
-name_plain UndefinedAbbrev = refl
-name_plain AbbrevEmpty = refl
-name_plain AbbrevEncoding = refl
-name_plain FieldWidth = refl
-name_plain AbbrevShape = refl
-name_plain NoBlockSet = refl
-name_plain BadSetBid = refl
-name_plain NestedInBlockInfo = refl
-name_plain TooManyValues = refl
-name_plain TooLong = refl
-name_plain WrapperVersion = refl
-name_plain WrapperOffset = refl
-name_plain WrapperSize = refl
-name_plain WrapperNested = refl
+pub name_word : (reason : Reason) → IsWord (name_of reason)
+name_word Truncated = (refl, refl)
+name_word ValueTooWide = (refl, refl)
+name_word TopLevel = (refl, refl)
+name_word TooDeep = (refl, refl)
+name_word BlockId = (refl, refl)
+name_word AbbrevWidth = (refl, refl)
+name_word DirtyPadding = (refl, refl)
+name_word BlockLength = (refl, refl)
+name_word UndefinedAbbrev = (refl, refl)
+name_word AbbrevEmpty = (refl, refl)
+name_word AbbrevEncoding = (refl, refl)
+name_word FieldWidth = (refl, refl)
+name_word AbbrevShape = (refl, refl)
+name_word NoBlockSet = (refl, refl)
+name_word BadSetBid = (refl, refl)
+name_word NestedInBlockInfo = (refl, refl)
+name_word TooManyValues = (refl, refl)
+name_word TooLong = (refl, refl)
+name_word WrapperVersion = (refl, refl)
+name_word WrapperOffset = (refl, refl)
+name_word WrapperSize = (refl, refl)
+name_word WrapperNested = (refl, refl)
 
 digits_of_bytes : (bytes : List ℕ) → AllByRecursion (λ byte. byte < 256) bytes → IsPlain (flat_map hex_text bytes)
 digits_of_bytes [] all = refl
 digits_of_bytes (byte ∷ bytes) all = rw (glyph_plain (byte / 16) (omega (arith, all.0)), glyph_plain (byte % 16) (omega arith), digits_of_bytes bytes all.1) refl
 
-pub magic_plain : (magic : ℕ) → IsPlain (flat_map hex_text (magic_bytes magic))
+magic_plain : (magic : ℕ) → IsPlain (flat_map hex_text (magic_bytes magic))
 magic_plain magic = digits_of_bytes (magic_bytes magic) (omega arith, (omega arith, (omega arith, (omega arith, tt))))
+
+pub magic_string : (magic : ℕ) → IsString (quoted (flat_map hex_text (magic_bytes magic)))
+magic_string magic = (flat_map hex_text (magic_bytes magic), inr (magic_plain magic, refl), refl)
 
 -- ---- events
 
-op_is : (op : Op) → IsObject IsSimple (op_json op)
-op_is (Literal value) = object_is (codes "literal") ((codes "value", value) ∷ []) refl refl
-op_is (Fixed width) = object_is (codes "fixed") ((codes "width", width) ∷ []) refl refl
-op_is (Vbr width) = object_is (codes "vbr") ((codes "width", width) ∷ []) refl refl
-op_is Array = object_is (codes "array") [] refl refl
-op_is Char6 = object_is (codes "char6") [] refl refl
-op_is Blob = object_is (codes "blob") [] refl refl
+op_is : (bound : ℕ) (op : Op) → OpFits bound op → IsObject (IsSimple bound) (op_json op)
+op_is bound (Literal value) fits = object_is bound (codes "literal") ((codes "value", value) ∷ []) (refl, refl) (fits, tt) refl
+op_is bound (Fixed width) fits = object_is bound (codes "fixed") ((codes "width", width) ∷ []) (refl, refl) (fits, tt) refl
+op_is bound (Vbr width) fits = object_is bound (codes "vbr") ((codes "width", width) ∷ []) (refl, refl) (fits, tt) refl
+op_is bound Array fits = object_is bound (codes "array") [] (refl, refl) tt refl
+op_is bound Char6 fits = object_is bound (codes "char6") [] (refl, refl) tt refl
+op_is bound Blob fits = object_is bound (codes "blob") [] (refl, refl) tt refl
 
-pub event_is : (values : ValueDisplay) (around : ℕ) (event : Event) → IsObjectLine (event_json values around event)
-event_is values around (enters o) = object_line_is (codes "block") ((codes "bit", o.first) ∷ (codes "depth", around) ∷ (codes "id", o.id) ∷ (codes "width", o.width) ∷ (codes "body", o.body) ∷ []) refl refl
-event_is values around (defines mark) = list_line_is (codes "define") ((codes "bit", mark.first) ∷ (codes "depth", around) ∷ []) (codes "operands") (joined op_json mark.ops) refl refl (inr (inr (joined_list op_json (IsObject IsSimple) op_is mark.ops)))
-event_is Shown around (notes mark) = list_line_is (codes "record") (noted_fields around mark.first mark.code mark.abbreviation (length mark.values)) (codes "values") (joined number_json mark.values) refl refl (inr (inl (joined_list number_json IsSimple number_simple mark.values)))
-event_is LeftOut around (notes mark) = object_line_is (codes "record") (noted_fields around mark.first mark.code mark.abbreviation (length mark.values)) refl refl
-event_is values around (leaves after) = object_line_is (codes "end") ((codes "bit", after) ∷ (codes "depth", around - 1) ∷ []) refl refl
+pub event_is : (bound : ℕ) (values : ValueDisplay) (around : ℕ) (event : Event) → around < bound → EventFits bound event → IsObjectLine bound (event_json values around event)
+event_is bound values around (enters o) depth fits = object_line_is bound (codes "block") ((codes "bit", o.first) ∷ (codes "depth", around) ∷ (codes "id", o.id) ∷ (codes "width", o.width) ∷ (codes "body", o.body) ∷ []) (refl, refl) (fits.0, (depth, (fits.1, (fits.2, (fits.3, tt))))) refl
+event_is bound values around (defines mark) depth fits = list_line_is bound (codes "define") ((codes "bit", mark.first) ∷ (codes "depth", around) ∷ []) (codes "operands") (joined op_json mark.ops) (refl, refl) (fits.0, (depth, tt)) refl (inr (inr (joined_list op_json (IsObject (IsSimple bound)) (OpFits bound) (op_is bound) mark.ops fits.1)))
+event_is bound Shown around (notes mark) depth fits = list_line_is bound (codes "record") (noted_fields around mark.first mark.code mark.abbreviation (length mark.values)) (codes "values") (joined number_json mark.values) (refl, refl) (fits.0, (depth, (fits.1, (fits.2, (fits.3, tt))))) refl (inr (inl (joined_list number_json (IsSimple bound) (λ value. value < bound) (number_simple bound) mark.values fits.4)))
+event_is bound LeftOut around (notes mark) depth fits = object_line_is bound (codes "record") (noted_fields around mark.first mark.code mark.abbreviation (length mark.values)) (refl, refl) (fits.0, (depth, (fits.1, (fits.2, (fits.3, tt))))) refl
+event_is bound values around (leaves after) depth fits = object_line_is bound (codes "end") ((codes "bit", after) ∷ (codes "depth", around - 1) ∷ []) (refl, refl) (fits, (omega (arith, depth), tt)) refl
 
 -- ---- lines one after the other
 
-one_more : (line text : List ℕ) → IsObjectLine line → AreObjectLines text → AreObjectLines (line ++ text)
-one_more line text is others = (line ∷ others.0, (is, others.1), ap (λ (l : List ℕ). line ++ l) others.2)
+module _ (bound : ℕ) where
+  one_more : (line text : List ℕ) → IsObjectLine bound line → AreObjectLines bound text → AreObjectLines bound (line ++ text)
+  one_more line text is others = (line ∷ others.0, (is, others.1), ap (λ (l : List ℕ). line ++ l) others.2)
 
-one_line : (line : List ℕ) → IsObjectLine line → AreObjectLines line
-one_line line is = (line ∷ [], (is, tt), sym (append-nil line))
+  one_line : (line : List ℕ) → IsObjectLine bound line → AreObjectLines bound line
+  one_line line is = (line ∷ [], (is, tt), sym (append-nil line))
 
-both_lines : (first second : List (List ℕ)) → AllByRecursion IsObjectLine first → AllByRecursion IsObjectLine second → AllByRecursion IsObjectLine (first ++ second)
-both_lines [] second all others = others
-both_lines (line ∷ first) second all others = (all.0, both_lines first second all.1 others)
+  both_lines : (first second : List (List ℕ)) → AllByRecursion (IsObjectLine bound) first → AllByRecursion (IsObjectLine bound) second → AllByRecursion (IsObjectLine bound) (first ++ second)
+  both_lines [] second all others = others
+  both_lines (line ∷ first) second all others = (all.0, both_lines first second all.1 others)
 
-lines_then : (first second : List ℕ) → AreObjectLines first → AreObjectLines second → AreObjectLines (first ++ second)
-lines_then first second a b = (a.0 ++ b.0, both_lines a.0 b.0 a.1 b.1, ap (λ (l : List ℕ). l ++ second) a.2 ∙ ap (λ (l : List ℕ). flat_map (λ (line : List ℕ). line) a.0 ++ l) b.2 ∙ sym (flat_map-append (λ (line : List ℕ). line) a.0 b.0))
+  lines_then : (first second : List ℕ) → AreObjectLines bound first → AreObjectLines bound second → AreObjectLines bound (first ++ second)
+  lines_then first second a b = (a.0 ++ b.0, both_lines a.0 b.0 a.1 b.1, ap (λ (l : List ℕ). l ++ second) a.2 ∙ ap (λ (l : List ℕ). flat_map (λ (line : List ℕ). line) a.0 ++ l) b.2 ∙ sym (flat_map-append (λ (line : List ℕ). line) a.0 b.0))
 
-each_lines : {A : Type 0} (text : A → List ℕ) → ((x : A) → AreObjectLines (text x)) → (xs : List A) → AreObjectLines (flat_map text xs)
-each_lines text each [] = ([], tt, refl)
-each_lines text each (x ∷ xs) = lines_then (text x) (flat_map text xs) (each x) (each_lines text each xs)
+  each_lines : {A : Type 0} (text : A → List ℕ) (Fits : A → Type 0) → ((x : A) → Fits x → AreObjectLines bound (text x)) → (xs : List A) → AllByRecursion Fits xs → AreObjectLines bound (flat_map text xs)
+  each_lines text Fits each [] all = ([], tt, refl)
+  each_lines text Fits each (x ∷ xs) all = lines_then (text x) (flat_map text xs) (each x all.0) (each_lines text Fits each xs all.1)
 
-refusal_is : (reason : Reason) (bit : ℕ) → IsObjectLine (refusal_json reason bit)
-refusal_is reason bit = text_line_is (codes "refused") ((codes "bit", bit) ∷ []) (codes "reason") (name_of reason) refl refl (name_plain reason)
+  refusal_is : (reason : Reason) (bit : ℕ) → bit < bound → IsObjectLine bound (refusal_json reason bit)
+  refusal_is reason bit fits = text_line_is bound (codes "refused") ((codes "bit", bit) ∷ []) (codes "reason") (name_of reason) (refl, refl) (fits, tt) refl (name_of reason, inl (name_word reason), refl)
 
-ending_are : (end : Ending) → AreObjectLines (ending_json end)
-ending_are (accepted bit) = ([], tt, refl)
-ending_are (broke fault) = one_line (refusal_json fault.reason fault.bit) (refusal_is fault.reason fault.bit)
+  ending_are : (end : Ending) → EndFits bound end → AreObjectLines bound (ending_json end)
+  ending_are (accepted bit) fits = ([], tt, refl)
+  ending_are (broke fault) fits = one_line (refusal_json fault.reason fault.bit) (refusal_is fault.reason fault.bit fits)
 
-events_are : (values : ValueDisplay) (around : ℕ) (events : List Event) (end : Ending) → AreObjectLines (events_json values around events end)
-events_are values around [] end = ending_are end
-events_are values around (event ∷ events) end = one_more (event_json values around event) (events_json values (open_after event around) events end) (event_is values around event) (events_are values (open_after event around) events end)
+  events_are : (values : ValueDisplay) (around : ℕ) (events : List Event) (end : Ending) → EventsFit bound around events end → AreObjectLines bound (events_json values around events end)
+  events_are values around [] end fits = ending_are end fits
+  events_are values around (event ∷ events) end fits = one_more (event_json values around event) (events_json values (open_after event around) events end) (event_is bound values around event fits.0 fits.1) (events_are values (open_after event around) events end fits.2)
 
-pub outlook_are : (values : ValueDisplay) (told : Outlook) → AreObjectLines (outlook_json values told)
-outlook_are values (Ok x) = one_more (head_json x.0) (events_json values 0 x.1.0 x.1.1) (text_line_is (codes "magic") ((codes "bit", stream_begin x.0.wrapper) ∷ []) (codes "magic") (flat_map hex_text (magic_bytes x.0.magic)) refl refl (magic_plain x.0.magic)) (events_are values 0 x.1.0 x.1.1)
-outlook_are values (Err fault) = one_line (refusal_json fault.reason fault.bit) (refusal_is fault.reason fault.bit)
+  pub outlook_are : (values : ValueDisplay) (told : Outlook) → OutlookFits bound told → AreObjectLines bound (outlook_json values told)
+  outlook_are values (Ok x) fits = one_more (head_json x.0) (events_json values 0 x.1.0 x.1.1) (text_line_is bound (codes "magic") ((codes "bit", stream_begin x.0.wrapper) ∷ []) (codes "magic") (flat_map hex_text (magic_bytes x.0.magic)) (refl, refl) (fits.0, tt) refl (magic_string x.0.magic)) (events_are values 0 x.1.0 x.1.1 fits.1)
+  outlook_are values (Err fault) fits = one_line (refusal_json fault.reason fault.bit) (refusal_is fault.reason fault.bit fits)
 
--- ---- the report
+  -- ---- the report
 
-code_are : (id : ℕ) (row : CodeTally) → AreObjectLines (code_json id row)
-code_are id row = one_line (code_json id row) (object_line_is (codes "record") ((codes "block", id) ∷ (codes "code", row.code) ∷ (codes "count", row.count) ∷ (codes "bits", row.bits) ∷ []) refl refl)
+  code_are : (id : ℕ) → id < bound → (row : CodeTally) → CodeRowFits bound row → AreObjectLines bound (code_json id row)
+  code_are id small row fits = one_line (code_json id row) (object_line_is bound (codes "record") ((codes "block", id) ∷ (codes "code", row.code) ∷ (codes "count", row.count) ∷ (codes "bits", row.bits) ∷ []) (refl, refl) (small, (fits.0, (fits.1, (fits.2, tt)))) refl)
 
-row_are : (row : BlockTally) → AreObjectLines (row_json row)
-row_are row = one_more (row_line_json row) (flat_map (code_json row.id) row.codes) (object_line_is (codes "block") ((codes "id", row.id) ∷ (codes "count", row.blocks) ∷ (codes "bits", row.bits) ∷ (codes "definitions", row.definitions) ∷ (codes "records", row.records) ∷ (codes "abbreviated", row.abbreviated) ∷ (codes "values", row.values) ∷ []) refl refl) (each_lines (code_json row.id) (code_are row.id) row.codes)
+  row_are : (row : BlockTally) → BlockRowFits bound row → AreObjectLines bound (row_json row)
+  row_are row fits =
+      one_more (row_line_json row) (flat_map (code_json row.id) row.codes)
+      (object_line_is bound (codes "block") ((codes "id", row.id) ∷ (codes "count", row.blocks) ∷ (codes "bits", row.bits) ∷ (codes "definitions", row.definitions) ∷ (codes "records", row.records) ∷ (codes "abbreviated", row.abbreviated) ∷ (codes "values", row.values) ∷ []) (refl, refl) (fits.0, (fits.1, (fits.2, (fits.3, (fits.4, (fits.5, (fits.6, tt))))))) refl)
+      (each_lines (code_json row.id) (CodeRowFits bound) (code_are row.id fits.0) row.codes fits.7)
 
-pub report_are : (tally : Tally) → AreObjectLines (report_json tally)
-report_are tally = one_more (stream_json tally.magic tally.bits) (flat_map row_json tally.rows) (text_line_is (codes "stream") ((codes "bits", tally.bits) ∷ []) (codes "magic") (flat_map hex_text (magic_bytes tally.magic)) refl refl (magic_plain tally.magic)) (each_lines row_json row_are tally.rows)
+  pub report_are : (tally : Tally) → ReportFits bound tally → AreObjectLines bound (report_json tally)
+  report_are tally fits = one_more (stream_json tally.magic tally.bits) (flat_map row_json tally.rows) (text_line_is bound (codes "stream") ((codes "bits", tally.bits) ∷ []) (codes "magic") (flat_map hex_text (magic_bytes tally.magic)) (refl, refl) (fits.0, tt) refl (magic_string tally.magic)) (each_lines row_json (BlockRowFits bound) row_are tally.rows fits.1)

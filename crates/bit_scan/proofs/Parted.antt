@@ -1,5 +1,5 @@
 -- Printing a text in three parts or four, or one part for each item of a list.
-use Rattle.std.proofs.Common.{◌≡◌, ℕ, suc, ◌+◌, ◌-◌, ◌*◌, ◌<◌, ◌≤◌, List, [], ◌∷◌, ◌++◌, length, get_or, drop, replicate, Result, Err, sym, ap, ◌∙◌, subst, arith, append_assoc}
+use Rattle.std.proofs.Common.{◌≡◌, ℕ, Bool, suc, ◌+◌, ◌-◌, ◌*◌, ◌<◌, ◌≤◌, List, [], ◌∷◌, ◌++◌, length, get_or, drop, replicate, Result, Err, sym, ap, ◌∙◌, subst, arith, append_assoc}
 use Rattle.std.specs.Prelude.{codes, decimal, flat_map}
 use Rattle.std.proofs.lemmas.Grind.{flat_map-append}
 use Rattle.std.proofs.lemmas.List.{drop_all}
@@ -9,7 +9,7 @@ use Rattle.bit_grammar.specs.EventTexts.{line_at, op_text, ops_text, noted_text,
 use Rattle.bit_grammar.specs.Texts.{record_line, values_text}
 use Rattle.bit_fields.specs.declared.fault.Fault.{Fault}
 use Rattle.bit_scan.specs.Lines.{definition_head, noted_head, record_line_front}
-use Rattle.bit_scan.specs.Printing.{Printing, Printed, Prints}
+use Rattle.bit_scan.specs.Printing.{Printing, Printed, Prints, PrintsWhole}
 use Rattle.bit_scan.proofs.Prints.{Goes, goes_starts, goes_as, goes_on, goes_wrong, goes_last, goes_ends}
 use Rattle.bit_scan.proofs.Reports.{drop_first}
 
@@ -93,6 +93,12 @@ noted_parts values around first code abbreviation vs = record { are = regrouped 
   where
     regrouped : (a b c d e f g h i j : List ℕ) → a ++ (32 ∷ (b ++ ((c ++ d ++ e ++ f ++ g ++ h ++ i) ++ j))) ≡ ((a ++ (32 ∷ b)) ++ (c ++ d ++ e ++ f ++ g ++ h)) ++ (i ++ j)
     regrouped a b c d e f g h i j = simp append_assoc
+
+-- the same, with the values that are shown
+pub noted_whole : (values : ValueDisplay) (around first code abbreviation count : ℕ) (vs shown : List ℕ) (old : Printing) (r : Result Bool Fault) (new : Printing) → count ≡ length vs → values_text shown ≡ shown_values values vs → PrintsWhole (noted_head around first code abbreviation count ++ (values_text shown ++ (10 ∷ []))) old r new → PrintsWhole (line_at first around (noted_text values code abbreviation vs)) old r new
+noted_whole values around first code abbreviation count vs shown old r new counted is p =
+    let same : noted_head around first code abbreviation count ++ (values_text shown ++ (10 ∷ [])) ≡ line_at first around (noted_text values code abbreviation vs) = ap (λ (n : ℕ). noted_head around first code abbreviation n ++ (values_text shown ++ (10 ∷ []))) counted ∙ ap (λ (l : List ℕ). noted_head around first code abbreviation (length vs) ++ (l ++ (10 ∷ []))) is ∙ sym (noted_parts values around first code abbreviation vs).are in
+    subst (λ (l : List ℕ). PrintsWhole l old r new) same p
 
 -- ---- operands
 

@@ -1,13 +1,15 @@
 -- Printing a text part by part.
-use Rattle.std.proofs.Common.{◌≡◌, ℕ, List, [], ◌++◌, Result, Ok, Err, refl, sym, ap, subst, ◌∙◌, append_assoc, inl, inr, arith}
-use Rattle.std.specs.Prelude.{OnOk}
+use Rattle.std.proofs.Common.{◌≡◌, ℕ, Bool, true, false, true≢false, List, [], ◌++◌, Result, Ok, Err, refl, sym, ap, subst, ◌∙◌, append_assoc, inl, inr, arith}
+use Rattle.std.specs.Prelude.{OnOk, OnErr}
+use Rattle.std.specs.declared.alloc.AllocError.{AllocError}
 use Rattle.std.proofs.lemmas.List.{append-nil}
 use Rattle.std.specs.Io.KnownBytes.{Appends}
 use Rattle.std.proofs.KnownBytes.{Appends-nil, Appends-trans}
 use Rattle.bit_fields.specs.Devices.{Outgoing}
 use Rattle.bit_fields.specs.declared.fault.Fault.{Fault}
 use Rattle.bit_fields.specs.declared.fault.Fault.TheVariants.{Refused, Read, Write, Memory, OutputTooLong, Failed}
-use Rattle.bit_scan.specs.Printing.{Printing, Printed, PrintedFront, Prints}
+use Rattle.bit_scan.specs.Printing.{Printing, Printed, PrintedAll, PrintedFront, Prints, PrintsWhole}
+use Rattle.bit_scan.specs.Adding.{Adds}
 use Rattle.bit_scan.specs.Written.{TookText, TookFront, HasFailed, WritesText}
 
 -- ---- one call
@@ -22,6 +24,33 @@ settled text old held (Err Read) new is p = p
 settled text old held (Err OutputTooLong) new is p = p
 settled text old held (Err Failed) new is p = p
 
+-- a text was added to the buffer, and then that was put or not; or an allocation failed
+pub piece_settled : (text : List ℕ) (old : Printing) (held : List ℕ) (added : Result (Unit {0}) AllocError) (r : Result (Unit {0}) Fault) (new : Printing) → OnOk added (held ≡ old.held ++ text) → OnOk added (Prints [] (record { outgoing = old.outgoing; held = held }) r new) → OnErr added ((r ≡ Err Memory) × (new ≡ record { outgoing = old.outgoing; held = held })) → Prints text old r new
+piece_settled text old held (Ok v) r new is p wrong = settled text old held r new is p
+piece_settled text old held (Err e) r new is p wrong = rw (wrong.0, wrong.1) (record { front = []; rest = old.held ++ text; split = refl; bytes = Appends-nil old.outgoing.bytes }, refl)
+
+-- a line was added to the buffer or not; or an allocation failed
+pub line_added : (text : List ℕ) (outgoing : Outgoing) (old held : List ℕ) (is_added : Bool) → Adds text old (Ok is_added) held → PrintsWhole text (record { outgoing = outgoing; held = old }) (Ok is_added) (record { outgoing = outgoing; held = held })
+line_added text outgoing old held true is = record { part = []; split = sym is; bytes = Appends-nil outgoing.bytes; failures = refl }
+line_added text outgoing old held false is = ap (λ (l : List ℕ). record { outgoing = outgoing; held = l }) is
+
+pub none_printed : (text : List ℕ) (old new : Printing) → new.outgoing ≡ old.outgoing → Prints text old (Err Memory) new
+none_printed text old new same = (record { front = []; rest = old.held ++ text; split = refl; bytes = subst (λ (o : Outgoing). Appends old.outgoing.bytes o.bytes []) (sym same) (Appends-nil old.outgoing.bytes) }, ap (λ (o : Outgoing). o.failures) same)
+
+-- a line was printed whole
+pub whole_printed : (line : List ℕ) (old new : Printing) (is_whole : Bool) → is_whole ≡ true → PrintsWhole line old (Ok is_whole) new → Printed line old new
+whole_printed line old new true is p = p
+whole_printed line old new false is p = absurd (true≢false (sym is))
+
+-- it was not, and then it was printed piece by piece
+pub pieces_follow : (line : List ℕ) (old now new : Printing) (is_whole : Bool) (r : Result (Unit {0}) Fault) → is_whole ≡ false → PrintsWhole line old (Ok is_whole) now → Prints line now r new → Prints line old r new
+pieces_follow line old now new false r is p q = subst (λ (w : Printing). Prints line w r new) p q
+pieces_follow line old now new true r is p q = absurd (true≢false is)
+
+-- all buffered text was put
+pub put_printed : (old new : Outgoing) (bytes held rest : List ℕ) → bytes ≡ held → rest ≡ [] → TookText bytes old new → PrintedAll [] (record { outgoing = old; held = held }) (record { outgoing = new; held = rest })
+put_printed old new bytes held rest same none p = (record { part = held; split = ap (λ (l : List ℕ). held ++ l) (sym none); bytes = subst (λ (l : List ℕ). Appends old.bytes new.bytes l) same p.bytes; failures = p.failures }, none)
+
 -- ---- calls in turn
 
 -- of a whole text, this remains to print
@@ -30,10 +59,14 @@ pub record Goes (whole : List ℕ) (old : Printing) (rest : List ℕ) (now : Pri
   pub split : whole ≡ done ++ rest
   pub printed : Printed done old now
 
-pub goes_starts : (text : List ℕ) (w : Printing) → Goes text w text w
-goes_starts text w = record { done = []; split = refl; printed = record { part = []; split = append-nil w.held; bytes = Appends-nil w.outgoing.bytes; failures = refl } }
+-- nothing was printed
+pub printed_none : (w : Printing) → Printed [] w w
+printed_none w = record { part = []; split = append-nil w.held; bytes = Appends-nil w.outgoing.bytes; failures = refl }
 
-printed_then : (a b : List ℕ) (old now new : Printing) → Printed a old now → Printed b now new → Printed (a ++ b) old new
+pub goes_starts : (text : List ℕ) (w : Printing) → Goes text w text w
+goes_starts text w = record { done = []; split = refl; printed = printed_none w }
+
+pub printed_then : (a b : List ℕ) (old now new : Printing) → Printed a old now → Printed b now new → Printed (a ++ b) old new
 printed_then a b old now new p q = record {
   part = p.part ++ q.part;
   split = sym (append_assoc old.held a b) ∙ ap (λ (l : List ℕ). l ++ b) p.split ∙ append_assoc p.part now.held b ∙ ap (λ (l : List ℕ). p.part ++ l) q.split ∙ sym (append_assoc p.part q.part new.held);

@@ -1,6 +1,8 @@
 -- The lines of events, one after the other, and how they end.
-use Rattle.std.proofs.Common.{◌≡◌, ℕ, ◌+◌, ◌≤◌, List, [], ◌++◌, refl, sym, ap, subst, ◌∙◌, inl, inr, arith, Result, Ok, Err}
-use Rattle.std.specs.Prelude.{◌⊎◌}
+use Rattle.std.proofs.Common.{◌≡◌, ℕ, ◌+◌, ◌≤◌, List, [], ◌++◌, refl, sym, ap, subst, ◌∙◌, inl, inr, arith, Result, Ok, Err, ◌∷◌, append_assoc, Option, Some, None}
+use Rattle.std.specs.Prelude.{◌⊎◌, OnErr, OnOk}
+use Rattle.std.specs.declared.alloc.AllocError.{AllocError}
+use Rattle.std.proofs.lemmas.List.{append-nil}
 use Rattle.std.proofs.KnownBytes.{Appends-nil}
 use Rattle.bit_grammar.specs.Grammar.{at}
 use Rattle.bit_grammar.specs.Blocks.{Limits}
@@ -10,20 +12,22 @@ use Rattle.bit_grammar.specs.EventTexts.{outlook_end}
 use Rattle.bit_grammar.specs.Outlook.{Outlook, outlook}
 use Rattle.bit_grammar.specs.declared.reason.Reason.{Reason}
 use Rattle.bit_grammar.specs.Steps.{open_after}
-use Rattle.bit_grammar.proofs.Events.Nesting.{open_within}
 use Rattle.bit_fields.specs.declared.fault.Fault.{Fault}
 use Rattle.bit_fields.specs.declared.fault.Fault.TheVariants.{Refused, Read, Write, Memory, OutputTooLong, Failed}
 use Rattle.bit_fields.specs.Devices.{Incoming, Outgoing, Spends, Fails, known_bytes}
 use Rattle.bit_fields.proofs.InflowLaws.{Spends-refl, Spends-trans, Spends-none, Fails-none, fails_later}
-use Rattle.bit_events.specs.Coming.{Coming, going, failed, event_before, GivesEvent, EndsEvents, BreaksOff}
+use Rattle.bit_events.specs.Coming.{Coming, TellsComing, going, over, failed, event_before, EndsEvents, BreaksOff}
 use Rattle.bit_events.specs.Events.{Begun, DeclinesEvents}
+use Rattle.bit_events.specs.Folding.{EndsGathered, GathersFirst, GathersRest}
+use Rattle.bit_events.specs.Gathering.{open_behind, Gathers, Stops}
+use Rattle.bit_events.proofs.Folds.{open_behind-push}
 use Rattle.bit_scan.specs.declared.format.EventStyle.{EventStyle}
 use Rattle.bit_scan.specs.declared.format.Format.{Format}
 use Rattle.bit_scan.specs.declared.format.Format.TheVariants.{Text, JsonLines}
 use Rattle.bit_scan.specs.Printing.{Printing, Printed, Prints}
-use Rattle.bit_scan.specs.Styles.{event_as, fault_as, head_as, outlook_as, refusal_as, styled_event, styled_outlook, styled_told, told_as}
-use Rattle.bit_scan.specs.Telling.{WritesToEnd, PaidBy, TellsInput, PrintsLast, PrintsToEnd, TellsRest, TellsAll, TellsOne}
-use Rattle.bit_scan.proofs.Prints.{Goes, goes_starts, goes_as, goes_on, goes_wrong, goes_last, all_written, not_written}
+use Rattle.bit_scan.specs.Styles.{event_as, fault_as, head_as, outlook_as, refusal_as, styled_event, styled_lines, styled_outlook, styled_told, told_as}
+use Rattle.bit_scan.specs.Telling.{FailsLine, KeepsFault, WritesToEnd, PaidBy, TellsInput, PrintsLast, PrintsToEnd, TellsRest, TellsAll, WroteLines}
+use Rattle.bit_scan.proofs.Prints.{Goes, goes_starts, goes_as, goes_on, goes_wrong, goes_last, printed_none, printed_then, all_written, not_written}
 
 -- ---- a text to its end
 
@@ -91,6 +95,20 @@ told_step style around event told = go style.format
     go Text = refl
     go JsonLines = refl
 
+-- those of some events and of what follows them
+told_split : (style : EventStyle) (around : ℕ) (events : List Event) (told : Told) → styled_told style around (events ++ told.0, told.1) ≡ styled_lines style around events ++ styled_told style (open_behind events around) told
+told_split style around [] told = refl
+told_split style around (event ∷ events) told =
+    told_step style around event (events ++ told.0, told.1) ∙ ap (λ (l : List ℕ). styled_event style around event ++ l) (told_split style (open_after event around) events told)
+    ∙ sym (append_assoc (styled_event style around event) (styled_lines style (open_after event around) events) (styled_told style (open_behind events (open_after event around)) told))
+
+-- those of one event more
+lines_push : (style : EventStyle) (around : ℕ) (events : List Event) (event : Event) → styled_lines style around (events ++ event ∷ []) ≡ styled_lines style around events ++ styled_event style (open_behind events around) event
+lines_push style around [] event = append-nil (styled_event style around event)
+lines_push style around (first ∷ events) event =
+    ap (λ (l : List ℕ). styled_event style around first ++ l) (lines_push style (open_after first around) events event)
+    ∙ sym (append_assoc (styled_event style around first) (styled_lines style (open_after first around) events) (styled_event style (open_behind events (open_after first around)) event))
+
 -- none if all is accepted
 told_accepted : (style : EventStyle) (around bit : ℕ) → [] ≡ styled_told style around ([], accepted bit)
 told_accepted style around bit = go style.format
@@ -122,31 +140,44 @@ outlook_parts style head told = go style.format
     go Text = refl
     go JsonLines = refl
 
--- ---- the next event
+-- ---- as events are gathered
 
--- its line was printed, and then the others to their end
-line_then_rest : (style : EventStyle) (around next : ℕ) (old new last : Coming) (p q s : Printing) (answer : Result (Unit {0}) Fault) → TellsOne style around old p next new q → TellsRest style next new q answer last s → TellsRest style around old p answer last s
-line_then_rest style around next old new last p q s answer one rest =
-    let event = one.event in
-    let gives = one.gives in
-    let told = rest.1 in
-    let whole : styled_told style around (event_before event told) ≡ styled_event style around event ++ styled_told style next told = told_step style around event told ∙ ap (λ (n : ℕ). styled_event style around event ++ styled_told style n told) (sym one.next_is) in (
-      paid_later answer old.incoming new.incoming last.incoming old.budget new.budget last.budget gives.pays rest.0,
-      event_before event told,
-      λ tells. gives.told tells ∙ ap (event_before event) (rest.2 (gives.pays.tells tells)),
-      printed_to_end _ (styled_event style around event) (styled_told style next told) told.1 old.incoming new.incoming last.incoming old.budget new.budget p q s answer whole gives.pays one.printed rest.3,
+-- no line yet
+pub wrote_none : (style : EventStyle) (around : ℕ) (p : Printing) → WroteLines style around p [] around p
+wrote_none style around p = record { printed = printed_none p; now_is = refl }
+
+-- one line more
+pub wrote_more : (style : EventStyle) (around now next : ℕ) (p q s : Printing) (events : List Event) (event : Event) → WroteLines style around p events now q → Printed (styled_event style now event) q s → next ≡ open_after event now → WroteLines style around p (events ++ event ∷ []) next s
+wrote_more style around now next p q s events event wrote printed is = record {
+  printed = subst (λ (l : List ℕ). Printed l p s) (sym (lines_push style around events event)) (printed_then (styled_lines style around events) (styled_event style (open_behind events around) event) p q s wrote.printed (subst (λ (n : ℕ). Printed (styled_event style n event) q s) wrote.now_is printed));
+  now_is = is ∙ ap (open_after event) wrote.now_is ∙ sym (open_behind-push events event around);
+}
+
+-- the events after those whose lines were printed
+abbrev pub left_to_write : Coming → Told → Coming
+left_to_write old told = record old { told = told; depth = 0 }
+
+-- the lines of some events, and then of the others to their end
+pub lines_then_rest : (style : EventStyle) (old new : Coming) (p q s : Printing) (events : List Event) (told : Told) (now : ℕ) (answer : Result (Unit {0}) Fault) → WroteLines style 0 p events now q → (TellsComing old → old.told ≡ (events ++ told.0, told.1)) → TellsRest style now (left_to_write old told) q answer new s → TellsRest style 0 old p answer new s
+lines_then_rest style old new p q s events told now answer wrote is rest =
+    let all : Told = (events ++ rest.1.0, rest.1.1) in
+    let whole : styled_told style 0 all ≡ styled_lines style 0 events ++ styled_told style now rest.1 = told_split style 0 events rest.1 ∙ ap (λ (n : ℕ). styled_lines style 0 events ++ styled_told style n rest.1) (sym wrote.now_is) in (
+      rest.0,
+      all,
+      λ tells. is tells ∙ ap (λ (t : Told). (events ++ t.0, t.1)) (rest.2 tells),
+      printed_to_end _ (styled_lines style 0 events) (styled_told style now rest.1) rest.1.1 old.incoming old.incoming new.incoming old.budget old.budget p q s answer whole (Spends-refl old.incoming old.budget) wrote.printed rest.3,
     )
 
--- not all of its line was printed
-pub line_wrong : (style : EventStyle) (around : ℕ) (old new : Coming) (p q : Printing) (event : Event) (fault : Fault) → GivesEvent old event new → Prints (styled_event style around event) p (Err fault) q → TellsRest style around old p (Err fault) new q
-line_wrong style around old new p q event fault gives prints =
+-- not all of the line of the next event was printed
+pub line_wrong : (style : EventStyle) (around : ℕ) (old new : Coming) (p q : Printing) (event : Event) (told : Told) (fault : Fault) → (TellsComing old → old.told ≡ event_before event told) → Spends old.incoming old.budget new.incoming new.budget ⊎ Fails old.incoming old.budget new.incoming new.budget → Prints (styled_event style around event) p (Err fault) q → TellsRest style around old p (Err fault) new q
+line_wrong style around old new p q event told fault is paid prints =
     let line = styled_event style around event in
-    let others = styled_told style (open_after event around) new.told in
-    let whole = styled_told style around (event_before event new.told) in (
-      paid_wrong line p q fault old.incoming new.incoming old.budget new.budget prints (inl gives.pays),
-      event_before event new.told,
-      gives.told,
-      printed_wrong whole new.told.1 old.incoming new.incoming p q fault (goes_wrong whole p line others p q fault (goes_as whole p whole (line ++ others) p (told_step style around event new.told) (goes_starts whole p)) prints),
+    let others = styled_told style (open_after event around) told in
+    let whole = styled_told style around (event_before event told) in (
+      paid_wrong line p q fault old.incoming new.incoming old.budget new.budget prints paid,
+      event_before event told,
+      is,
+      printed_wrong whole told.1 old.incoming new.incoming p q fault (goes_wrong whole p line others p q fault (goes_as whole p whole (line ++ others) p (told_step style around event told) (goes_starts whole p)) prints),
     )
 
 -- the events have ended, and the buffered text is put, or not
@@ -196,24 +227,150 @@ events_broken style around old new p q fault answer goes breaks (inr wrong) = li
 
 -- ---- all events
 
--- some lines were printed, and the outcome for the others is the outcome for all
-pub record Telling (style : EventStyle) (start : Coming) (first : Printing) (around : ℕ) (now : Coming) (p : Printing) : Type 0 where
-  pub goes : now.stage ≡ going
-  pub deepest : now.deepest ≤ 255
-  pub inside : now.depth ≤ now.deepest
-  pub around_is : around ≡ now.depth
-  pub leads : (answer : Result (Unit {0}) Fault) (last : Coming) (s : Printing) → TellsRest style around now p answer last s → TellsRest style 0 start first answer last s
+-- all lines were printed, and what is buffered is put, or not
+pub rest_over : {G : Type 0} (gathered : G → List Event → G → Type 0) (style : EventStyle) (old new : Coming) (g h : G) (p q s : Printing) (now : ℕ) (answer : Result (Unit {0}) Fault) → old.stage ≡ going → (all : EndsGathered gathered old g new h) → WroteLines style 0 p all.events now q → Prints [] q answer s → OnOk answer (s.held ≡ []) → TellsRest style 0 old p answer new s
+rest_over gathered style old new g h p q s now answer goes all wrote prints held =
+    let told : Told = ([], accepted new.position) in
+    let mid = left_to_write old told in
+    let ends : EndsEvents mid new = record {
+      held_on = all.held_on;
+      ends = all.ends;
+      again = λ isnt. let both : going ≡ over = sym goes ∙ isnt in cc;
+      pays = all.pays;
+      head = all.head;
+      depth = refl;
+      none_open = all.none_open;
+      told = λ tells. (refl, all.over_told);
+      none = all.none;
+    } in
+    lines_then_rest style old new p q s all.events told now answer wrote (λ tells. all.told tells ∙ ap (λ (es : List Event). (es, accepted new.position)) (sym (append-nil all.events))) (go answer ends prints held)
+  where
+    go : (answer : Result (Unit {0}) Fault) → EndsEvents (left_to_write old ([], accepted new.position)) new → Prints [] q answer s → OnOk answer (s.held ≡ []) → TellsRest style now (left_to_write old ([], accepted new.position)) q answer new s
+    go (Ok v) ends prints held = events_over style now (left_to_write old ([], accepted new.position)) new q s goes ends prints held
+    go (Err fault) ends prints held = over_wrong style now (left_to_write old ([], accepted new.position)) new q s fault ends prints
 
-pub telling_goes_on : (style : EventStyle) (start : Coming) (first : Printing) (around next : ℕ) (old new : Coming) (p q : Printing) → Telling style start first around old p → TellsOne style around old p next new q → Telling style start first next new q
-telling_goes_on style start first around next old new p q t one =
-    let gives = one.gives in
-    record {
-      goes = gives.goes;
-      deepest = omega (arith, gives.deepest, t.deepest);
-      inside = omega (arith, gives.deepest, gives.depth, open_within old.deepest one.event old.depth gives.stands t.inside);
-      around_is = one.next_is ∙ ap (open_after one.event) t.around_is ∙ sym gives.depth;
-      leads = λ answer last s rest. t.leads answer last s (line_then_rest style around next old new last p q s answer one rest);
-    }
+-- the events ended with a fault, or some are left, and its line is printed, or not
+pub rest_broken : (style : EventStyle) (old new : Coming) (p q s : Printing) (events : List Event) (told : Told) (now : ℕ) (fault answer : Fault) → old.stage ≡ going → WroteLines style 0 p events now q → (TellsComing old → old.told ≡ (events ++ told.0, told.1)) → BreaksOff (left_to_write old told) fault new → PrintsLast (fault_as style.format fault) fault q answer s → TellsRest style 0 old p (Err answer) new s
+rest_broken style old new p q s events told now fault answer goes wrote is breaks last = lines_then_rest style old new p q s events told now (Err answer) wrote is (events_broken style now (left_to_write old told) new q s fault answer goes breaks last)
+
+-- not all of a line was printed
+pub rest_wrong : (style : EventStyle) (old new : Coming) (p q s : Printing) (events others : List Event) (event : Event) (now : ℕ) (fault : Fault) → WroteLines style 0 p events now q → (TellsComing old → old.told.0 ≡ events ++ event ∷ others) → Spends old.incoming old.budget new.incoming new.budget ⊎ Fails old.incoming old.budget new.incoming new.budget → Prints (styled_event style now event) q (Err fault) s → TellsRest style 0 old p (Err fault) new s
+rest_wrong style old new p q s events others event now fault wrote is paid prints =
+    let told : Told = (others, old.told.1) in
+    lines_then_rest style old new p q s events (event_before event told) now (Err fault) wrote (λ tells. ap (λ (es : List Event). (es, old.told.1)) (is tells)) (line_wrong style now (left_to_write old (event_before event told)) new q s event told fault (λ tells. refl) paid prints)
+
+-- ---- what a gatherer that writes lines did, as its style, its open blocks, its printer and its kept fault are read from it
+
+abbrev pub WroteBy : {G : Type 0} → (G → EventStyle) → (G → ℕ) → (G → Printing) → (G → Option Fault) → G → List Event → G → Type 0
+WroteBy style around printer stopped first events last = WroteLines (style first) (around first) (printer first) events (around last) (printer last) × (style last ≡ style first) × (stopped last ≡ stopped first)
+
+abbrev pub FailsBy : {G : Type 0} → (G → EventStyle) → (G → ℕ) → (G → Printing) → (G → Option Fault) → G → Option Event → G → Type 0
+FailsBy style around printer stopped old event new = FailsLine (style old) (around old) (printer old) event (stopped new) (printer new)
+
+-- one line more, if it was printed
+pub wrote_line : {G : Type 0} (style : G → EventStyle) (around : G → ℕ) (printer : G → Printing) (stopped : G → Option Fault) (old new : G) (event : Event) (result : Result (Unit {0}) AllocError) → OnOk result (Printed (styled_event (style old) (around old) event) (printer old) (printer new)) → OnOk result (stopped new ≡ stopped old) → style new ≡ style old → OnOk result (around new ≡ open_after event (around old)) → OnOk result (Gathers (WroteBy style around printer stopped) old event new)
+wrote_line style around printer stopped old new event (Ok v) printed kept same next = λ first done deepest was stands. (
+  wrote_more (style first) (around first) (around old) (around new) (printer first) (printer old) (printer new) done event was.0 (subst (λ (s : EventStyle). Printed (styled_event s (around old) event) (printer old) (printer new)) was.1 printed) next,
+  same ∙ was.1,
+  kept ∙ was.2,
+)
+wrote_line style around printer stopped old new event (Err e) printed kept same next = tt
+
+-- what became of a line, if its fault is kept
+pub line_written : (text : List ℕ) (p q : Printing) (done : Result (Unit {0}) Fault) (old : Option Fault) (result : Result (Unit {0}) AllocError) (new : Option Fault) → Prints text p done q → KeepsFault done old result new → OnOk result (Printed text p q)
+line_written text p q done old (Ok v) new prints keeps = subst (λ (r : Result (Unit {0}) Fault). Prints text p r q) keeps.0 prints
+line_written text p q done old (Err e) new prints keeps = tt
+
+pub line_failed : (style : EventStyle) (around : ℕ) (event : Event) (p q : Printing) (done : Result (Unit {0}) Fault) (old : Option Fault) (result : Result (Unit {0}) AllocError) (new : Option Fault) → Prints (styled_event style around event) p done q → KeepsFault done old result new → OnErr result (FailsLine style around p (Some event) new q)
+line_failed style around event p q done old (Ok v) new prints keeps = tt
+line_failed style around event p q done old (Err e) new prints keeps = subst (λ (o : Option Fault). FailsLine style around p (Some event) o q) (sym keeps.2) (subst (λ (r : Result (Unit {0}) Fault). Prints (styled_event style around event) p r q) keeps.1 prints)
+
+pub none_kept : (done : Result (Unit {0}) Fault) (old : Option Fault) (result : Result (Unit {0}) AllocError) (new : Option Fault) → KeepsFault done old result new → OnOk result (new ≡ old)
+none_kept done old (Ok v) new keeps = keeps.1
+none_kept done old (Err e) new keeps = tt
+
+-- a fact for each list that was taken, if a call failed
+pub each_lost : (Taken P : List ℕ → Type 0) (result : Result (Unit {0}) AllocError) → ((list : List ℕ) → Taken list → OnErr result (P list)) → OnErr result ((list : List ℕ) → Taken list → P list)
+each_lost Taken P (Ok x) each = tt
+each_lost Taken P (Err e) each = each
+
+-- nothing was printed
+pub none_printed : (text : List ℕ) (p : Printing) → Prints text p (Err Memory) p
+none_printed text p = (record { front = []; rest = p.held ++ text; split = refl; bytes = Appends-nil p.outgoing.bytes }, refl)
+
+wrote_first : {G : Type 0} (g : G) (style : G → EventStyle) (around : G → ℕ) (printer : G → Printing) (stopped : G → Option Fault) → WroteBy style around printer stopped g [] g
+wrote_first g style around printer stopped = (wrote_none (style g) (around g) (printer g), refl, refl)
+
+no_fault : (o : Option Fault) (fault : Fault) → o ≡ Some fault → o ≡ None → ⊥
+no_fault o fault is isnt = (let both : Some fault ≡ None = sym is ∙ isnt in cc)
+
+-- a fault of a line was kept
+pub rest_stopped : {G : Type 0} (g h : G) (style : G → EventStyle) (around : G → ℕ) (printer : G → Printing) (stopped : G → Option Fault) (old new : Coming) (done : Result (Unit {0}) Fault) (fault : Fault) → around g ≡ 0 → stopped g ≡ None → old.stage ≡ going → old.depth ≡ 0 → GathersRest (WroteBy style around printer stopped) (FailsBy style around printer stopped) old g done new h → stopped h ≡ Some fault → TellsRest (style g) 0 old (printer g) (Err fault) new (printer h)
+rest_stopped {G = G} g h style around printer stopped old new done fault none wrote goes outside rest is = go done rest
+  where
+    not_all : (events : List Event) → WroteBy style around printer stopped g events h → ⊥
+    not_all events w = no_fault (stopped h) fault is (w.2 ∙ wrote)
+
+    here : (k : GathersFirst (WroteBy style around printer stopped) (FailsBy style around printer stopped) (TellsComing old) old.told old.depth g h) → Spends old.incoming old.budget new.incoming new.budget ⊎ Fails old.incoming old.budget new.incoming new.budget → TellsRest (style g) 0 old (printer g) (Err fault) new (printer h)
+    here k paid = by k.stops
+      where
+        w : WroteBy style around printer stopped g k.events k.before
+        w = k.gathers g [] (wrote_first g style around printer stopped) (sym outside)
+
+        lines : WroteLines (style g) 0 (printer g) k.events (around k.before) (printer k.before)
+        lines = subst (λ (n : ℕ). WroteLines (style g) n (printer g) k.events (around k.before) (printer k.before)) none w.0
+
+        by : Stops (FailsBy style around printer stopped) k.before k.rest h → TellsRest (style g) 0 old (printer g) (Err fault) new (printer h)
+        by (inl same) = absurd (no_fault (stopped h) fault is (ap stopped same ∙ w.2 ∙ wrote))
+        by (inr (inl lost)) = absurd lost
+        by (inr (inr (event, others, first, lost))) =
+            let prints = subst (λ (o : Option Fault). FailsLine (style k.before) (around k.before) (printer k.before) (Some event) o (printer h)) is lost in
+            rest_wrong (style g) old new (printer g) (printer k.before) (printer h) k.events others event (around k.before) fault lines (λ tells. k.told tells ∙ ap (λ (es : List Event). k.events ++ es) first) paid (subst (λ (s : EventStyle). Prints (styled_event s (around k.before) event) (printer k.before) (Err fault) (printer h)) w.1 prints)
+
+    go : (done : Result (Unit {0}) Fault) → GathersRest (WroteBy style around printer stopped) (FailsBy style around printer stopped) old g done new h → TellsRest (style g) 0 old (printer g) (Err fault) new (printer h)
+    go (Ok v) k = absurd (not_all k.events (k.gathers g [] (wrote_first g style around printer stopped) (sym outside)))
+    go (Err (Refused reason bit)) k = absurd (not_all k.1.events (k.1.gathers g [] (wrote_first g style around printer stopped) (sym outside)))
+    go (Err Read) k = here k.1 (inr k.0.fails)
+    go (Err Memory) k = here k.1 (inl k.0.pays)
+    go (Err Failed) k = (let both : going ≡ failed = sym goes ∙ k.0 in cc)
+    go (Err Write) k = absurd k
+    go (Err OutputTooLong) k = absurd k
+
+-- all lines were printed, and what is buffered is put, or not
+pub rest_written : {G : Type 0} (g h : G) (style : G → EventStyle) (around : G → ℕ) (printer : G → Printing) (stopped : G → Option Fault) (old new : Coming) (answer : Result (Unit {0}) Fault) (s : Printing) → around g ≡ 0 → old.stage ≡ going → old.depth ≡ 0 → GathersRest (WroteBy style around printer stopped) (FailsBy style around printer stopped) old g (Ok tt) new h → Prints [] (printer h) answer s → OnOk answer (s.held ≡ []) → TellsRest (style g) 0 old (printer g) answer new s
+rest_written g h style around printer stopped old new answer s none goes outside all prints held =
+    let w = all.gathers g [] (wrote_first g style around printer stopped) (sym outside) in
+    rest_over (WroteBy style around printer stopped) (style g) old new g h (printer g) (printer h) s (around h) answer goes all (subst (λ (n : ℕ). WroteLines (style g) n (printer g) all.events (around h) (printer h)) none w.0) prints held
+
+-- a fault, but not of a line
+pub rest_ended : {G : Type 0} (g h : G) (style : G → EventStyle) (around : G → ℕ) (printer : G → Printing) (stopped : G → Option Fault) (old new : Coming) (fault answer : Fault) (s : Printing) → around g ≡ 0 → old.stage ≡ going → old.depth ≡ 0 → GathersRest (WroteBy style around printer stopped) (FailsBy style around printer stopped) old g (Err fault) new h → stopped h ≡ None → PrintsLast (fault_as (style h).format fault) fault (printer h) answer s → TellsRest (style g) 0 old (printer g) (Err answer) new s
+rest_ended {G = G} g h style around printer stopped old new fault answer s none goes outside rest isnt last = go fault rest last
+  where
+    lines : (events : List Event) (k : G) → WroteBy style around printer stopped g events k → WroteLines (style g) 0 (printer g) events (around k) (printer k)
+    lines events k w = subst (λ (n : ℕ). WroteLines (style g) n (printer g) events (around k) (printer k)) none w.0
+
+    whole : (k : GathersFirst (WroteBy style around printer stopped) (FailsBy style around printer stopped) (TellsComing old) old.told old.depth g h) → WroteLines (style g) 0 (printer g) k.events (around h) (printer h)
+    whole k = by k.stops
+      where
+        w : WroteBy style around printer stopped g k.events k.before
+        w = k.gathers g [] (wrote_first g style around printer stopped) (sym outside)
+
+        by : Stops (FailsBy style around printer stopped) k.before k.rest h → WroteLines (style g) 0 (printer g) k.events (around h) (printer h)
+        by (inl same) = subst (λ (x : G). WroteLines (style g) 0 (printer g) k.events (around x) (printer x)) (sym same) (lines k.events k.before w)
+        by (inr (inl lost)) = absurd lost
+        by (inr (inr (event, others, first, lost))) = absurd (subst (λ (o : Option Fault). FailsLine (style k.before) (around k.before) (printer k.before) (Some event) o (printer h)) isnt lost)
+
+    go : (fault : Fault) → GathersRest (WroteBy style around printer stopped) (FailsBy style around printer stopped) old g (Err fault) new h → PrintsLast (fault_as (style h).format fault) fault (printer h) answer s → TellsRest (style g) 0 old (printer g) (Err answer) new s
+    go (Refused reason bit) k last =
+        let w = k.1.gathers g [] (wrote_first g style around printer stopped) (sym outside) in
+        rest_broken (style g) old new (printer g) (printer h) s k.1.events ([], broke (at reason bit)) (around h) (Refused reason bit) answer goes (lines k.1.events h w) (λ tells. k.1.told tells ∙ ap (λ (es : List Event). (es, broke (at reason bit))) (sym (append-nil k.1.events))) (record { went = k.0.went; stopped = k.0.stopped; head = k.0.head; position = k.0.position; depth = omega (arith, k.0.depth, outside); deepest = k.0.deepest; pays = k.0.pays }, λ tells. refl) (subst (λ (x : EventStyle). PrintsLast (refusal_as x.format reason bit) (Refused reason bit) (printer h) answer s) w.1 last)
+    go Read k last =
+        rest_broken (style g) old new (printer g) (printer h) s k.1.events (k.1.rest, old.told.1) (around h) Read answer goes (whole k.1) (λ tells. ap (λ (es : List Event). (es, old.told.1)) (k.1.told tells)) (record { went = k.0.went; stopped = k.0.stopped; head = k.0.head; position = k.0.position; depth = omega (arith, k.0.depth, outside); deepest = k.0.deepest; fails = k.0.fails }) last
+    go Memory k last =
+        rest_broken (style g) old new (printer g) (printer h) s k.1.events (k.1.rest, old.told.1) (around h) Memory answer goes (whole k.1) (λ tells. ap (λ (es : List Event). (es, old.told.1)) (k.1.told tells)) (record { went = k.0.went; stopped = k.0.stopped; head = k.0.head; position = k.0.position; depth = omega (arith, k.0.depth, outside); deepest = k.0.deepest; pays = k.0.pays }) last
+    go Failed k last = (let both : going ≡ failed = sym goes ∙ k.0 in cc)
+    go Write k last = absurd k
+    go OutputTooLong k last = absurd k
 
 -- not all of the line of the magic was printed
 pub head_wrong : (style : EventStyle) (now : Coming) (p q : Printing) (fault : Fault) → Prints (head_as style.format now.head) p (Err fault) q → TellsAll style now p (Err fault) now q

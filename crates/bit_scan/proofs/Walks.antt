@@ -1,5 +1,5 @@
 -- Walks along the links of rows.
-use Rattle.std.proofs.Common.{◌≡◌, ℕ, zero, suc, ◌+◌, ◌-◌, ◌*◌, ◌/◌, ◌%◌, ◌<◌, List, [], ◌∷◌, Some, ap, sym, subst, refl, arith, slice_get, slice_index}
+use Rattle.std.proofs.Common.{◌≡◌, ℕ, zero, suc, ◌+◌, ◌-◌, ◌*◌, ◌/◌, ◌%◌, ◌<◌, List, [], ◌∷◌, Some, ap, sym, subst, arith, slice_get, slice_index}
 use Rattle.bit_scan.specs.Indexed.{IsAbsent, Leads, Reaches, IsReached, IsIndexed, KeepsLinks, IsFree}
 
 -- A walk by the bits of a key is at a slot. The key's row, if there is one, is reached from there; and what is reached from there

@@ -1,8 +1,10 @@
+pub mod Adding
 pub mod Additions
 pub mod Analysing
 pub mod CodesView
 pub mod Counting
 pub mod Cut
+pub mod Digits
 pub mod EventLines
 pub mod Fitting
 pub mod Indexed

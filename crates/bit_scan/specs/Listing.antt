@@ -1,5 +1,5 @@
 -- The listing of an input, event by event.
-use Rattle.std.specs.Prelude.{◌≡◌, ◌⊎◌, ℕ, List, [], ◌++◌, if◌then◌else◌, Option, Some, None, Result, Ok, Err}
+use Rattle.std.specs.Prelude.{◌≡◌, ◌⊎◌, ℕ, List, [], ◌∷◌, ◌++◌, if◌then◌else◌, Option, Some, None, Result, Ok, Err}
 use Rattle.bit_grammar.specs.Blocks.{Limits}
 use Rattle.bit_grammar.specs.Terms.{Head}
 use Rattle.bit_grammar.specs.Machine.{Event, Told}
@@ -13,7 +13,6 @@ use Rattle.bit_fields.specs.declared.fault.Fault.{Fault}
 use Rattle.bit_fields.specs.declared.fault.Fault.TheVariants.{Memory}
 use Rattle.bit_fields.specs.Devices.{Outgoing}
 use Rattle.bit_events.specs.Standing.{OpenUnder, leaves, stands_after, left_of}
-use Rattle.bit_events.specs.Coming.{Coming, TellsComing, GivesEvent, EndsEvents}
 use Rattle.bit_scan.specs.Lines.{listing_head}
 use Rattle.bit_scan.specs.Printing.{Printing, Printed, Prints}
 use Rattle.bit_scan.specs.Written.{WritesText}
@@ -27,46 +26,37 @@ told_text setting head told = listing_head head.magic
 abbrev pub left_text : (around : ℕ) → OpenUnder → List Event → List ℕ
 left_text around standing events = events_text around (left_of standing events)
 
--- an event came, and its line was printed if it is kept; `next` kept blocks are around what follows
-pub record PrintsOne (around : ℕ) (stood : OpenUnder) (old : Coming) (before : Printing) (next : ℕ)
-    (stands : OpenUnder) (new : Coming) (after : Printing) : Type 0 where
-  pub event : Event
-  -- the buffered values, which the events do not hold if a record was read in the buffer
-  pub held : List ℕ
-  pub gives : GivesEvent old event (record new { held = held })
-  pub stands_is : stands ≡ stands_after event stood
-  pub next_is : next ≡ (if leaves stood event then open_after event around else around)
-  pub printed : Printed (if leaves stood event then event_text around event else []) before after
+-- the line of an event, with `around` kept blocks around it, if it is kept; and how many are around what follows
+abbrev pub line_left : OpenUnder → (around : ℕ) → Event → List ℕ
+line_left stood around event = if leaves stood event then event_text around event else []
 
--- What is printed of an event, with `around` kept blocks around it: its line, if it is kept; `next` kept blocks are around what
--- follows. Or an allocation failed, and nothing was printed; or not all of the line was printed.
-abbrev pub WritesLeft : (around : ℕ) → OpenUnder → Event → Printing → Result ℕ Fault → OpenUnder
+abbrev pub around_after : OpenUnder → (around : ℕ) → Event → ℕ
+around_after stood around event = if leaves stood event then open_after event around else around
+
+-- how many kept blocks are around what follows events, and the state after them
+abbrev pub around_behind : OpenUnder → (around : ℕ) → List Event → ℕ
+around_behind stood around [] = around
+around_behind stood around (event ∷ events) = around_behind (stands_after event stood)
+    (around_after stood around event) events
+
+abbrev pub stands_behind : List Event → OpenUnder → OpenUnder
+stands_behind [] stood = stood
+stands_behind (event ∷ events) stood = stands_behind events (stands_after event stood)
+
+-- the lines of those of these events that are kept were printed
+pub record WroteLeft (stood : OpenUnder) (around : ℕ) (before : Printing) (events : List Event)
+    (stands : OpenUnder) (now : ℕ) (after : Printing) : Type 0 where
+  pub printed : Printed (left_text around stood events) before after
+  pub stands_is : stands ≡ stands_behind events stood
+  pub now_is : now ≡ around_behind stood around events
+
+-- Not all of the line of this event was printed, because of the fault that is kept. Each call is for an event.
+abbrev pub FailsLeft : OpenUnder → (around : ℕ) → Printing → Option Event → (stopped : Option Fault)
     → Printing → Type 0
-WritesLeft around stood event before (Ok next) stands after = (stands ≡ stands_after event stood)
-    × (next ≡ (if leaves stood event then open_after event around else around))
-    × Printed (if leaves stood event then event_text around event else []) before after
-WritesLeft around stood event before (Err fault) stands after = Prints
-    (if leaves stood event then event_text around event else []) before (Err fault) after
-
--- The line of the next event was printed, if it has one; or no event remained; or not all of the text of the remaining events
--- was printed.
-abbrev pub Continues : (around : ℕ) → OpenUnder → Coming → Printing → Result (Option ℕ) Fault
-    → OpenUnder → Coming → Printing → Type 0
-Continues around stood old before (Ok (Some next)) stands new after = PrintsOne around stood old
-    before next stands new after
-Continues around stood old before (Ok None) stands new after = EndsEvents old new × (after ≡ before)
-Continues around stood old before (Err fault) stands new after = TellsComing old
-    → Prints (left_text around stood old.told.0) before (Err fault) after
-
--- The same for a record that is read in the buffer, if one came; otherwise nothing changed.
-abbrev pub ContinuesSeen : (around : ℕ) → OpenUnder → Coming → Printing → Result (Option ℕ) Fault
-    → OpenUnder → Coming → Printing → Type 0
-ContinuesSeen around stood old before (Ok (Some next)) stands new after = PrintsOne around stood old
-    before next stands new after
-ContinuesSeen around stood old before (Ok None) stands new after = (new ≡ old)
-    × (stands ≡ stood) × (after ≡ before)
-ContinuesSeen around stood old before (Err fault) stands new after = TellsComing old
-    → Prints (left_text around stood old.told.0) before (Err fault) after
+FailsLeft stood around before None stopped after = ⊥
+FailsLeft stood around before (Some event) None after = ⊥
+FailsLeft stood around before (Some event) (Some fault) after = Prints (line_left stood around event)
+    before (Err fault) after
 
 -- A sink took the text of the kept events of some bytes, or a prefix of it; or an allocation failed, and the sink took nothing.
 abbrev pub ListsBytes : Setting → Limits → List ℕ → Outgoing → Result (Unit {0}) Fault → Outgoing

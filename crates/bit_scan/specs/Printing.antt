@@ -1,5 +1,5 @@
 -- Text on its way to a sink.
-use Rattle.std.specs.Prelude.{◌≡◌, ℕ, List, [], ◌++◌, Result, Ok, Err}
+use Rattle.std.specs.Prelude.{◌≡◌, ℕ, Bool, true, false, List, [], ◌++◌, Result, Ok, Err}
 use Rattle.std.specs.Io.KnownBytes.{Appends}
 use Rattle.bit_fields.specs.Devices.{Outgoing}
 use Rattle.bit_fields.specs.declared.fault.Fault.{Fault}
@@ -39,3 +39,9 @@ Prints text old (Err (Refused reason bit)) new = ⊥
 Prints text old (Err Read) new = ⊥
 Prints text old (Err OutputTooLong) new = ⊥
 Prints text old (Err Failed) new = ⊥
+
+-- a line was printed whole, or left out because the buffered text would then have been put, or an allocation failed
+abbrev pub PrintsWhole : List ℕ → Printing → Result Bool Fault → Printing → Type 0
+PrintsWhole line old (Ok true) new = Printed line old new
+PrintsWhole line old (Ok false) new = new ≡ old
+PrintsWhole line old (Err fault) new = Prints line old (Err fault) new

@@ -1,11 +1,12 @@
 -- The lines of events and of a report in each format.
-use Rattle.std.specs.Prelude.{ℕ, List, []}
+use Rattle.std.specs.Prelude.{ℕ, List, [], ◌∷◌, ◌++◌}
 use Rattle.bit_grammar.specs.declared.reason.Reason.{Reason}
 use Rattle.bit_grammar.specs.declared.value_display.ValueDisplay.{ValueDisplay}
 use Rattle.bit_grammar.specs.EventTexts.{event_line, event_lines, head_line, outlook_text}
 use Rattle.bit_grammar.specs.Terms.{Head}
 use Rattle.bit_grammar.specs.Machine.{Event, Told}
 use Rattle.bit_grammar.specs.Outlook.{Outlook}
+use Rattle.bit_grammar.specs.Steps.{open_after}
 use Rattle.bit_grammar.specs.Tally.{BlockTally, CodeTally, Tally}
 use Rattle.bit_grammar.specs.Texts.{code_text, row_text, report_of}
 use Rattle.bit_fields.specs.declared.fault.Fault.{Fault}
@@ -51,6 +52,12 @@ outlook_as JsonLines values told = outlook_json values told
 abbrev pub styled_event : EventStyle → (around : ℕ) → Event → List ℕ
 styled_event style around event = event_as style.format style.values around event
 
+abbrev pub styled_lines : EventStyle → (around : ℕ) → List Event → List ℕ
+styled_lines style around [] = []
+styled_lines style around (event ∷ events) = styled_event style around event
+    ++ styled_lines style (open_after event around) events
+
+-- the same with the line of their end, if it has one
 abbrev pub styled_told : EventStyle → (around : ℕ) → Told → List ℕ
 styled_told style around told = told_as style.format style.values around told
 

@@ -5,14 +5,15 @@ use Rattle.bit_grammar.specs.Blocks.{Limits}
 use Rattle.bit_grammar.specs.EventTexts.{outlook_end}
 use Rattle.bit_grammar.specs.Machine.{Event, Ending, accepted, broke, Told}
 use Rattle.bit_grammar.specs.Outlook.{Outlook, outlook}
-use Rattle.bit_grammar.specs.Steps.{open_after}
 use Rattle.bit_fields.specs.declared.fault.Fault.{Fault}
 use Rattle.bit_fields.specs.declared.fault.Fault.TheVariants.{Refused, Read, Write, Memory, OutputTooLong, Failed}
 use Rattle.bit_fields.specs.Devices.{Incoming, Outgoing, Spends, Fails, known_bytes}
-use Rattle.bit_events.specs.Coming.{Coming, TellsComing, GivesEvent}
+use Rattle.std.specs.declared.alloc.AllocError.{AllocError}
+use Rattle.bit_events.specs.Coming.{Coming, TellsComing}
+use Rattle.bit_events.specs.Gathering.{open_behind}
 use Rattle.bit_scan.specs.declared.format.EventStyle.{EventStyle}
 use Rattle.bit_scan.specs.Printing.{Printing, Printed, PrintedAll, PrintedFront, Prints}
-use Rattle.bit_scan.specs.Styles.{head_as, styled_event, styled_outlook, styled_told}
+use Rattle.bit_scan.specs.Styles.{head_as, styled_event, styled_lines, styled_outlook, styled_told}
 use Rattle.bit_scan.specs.Written.{TookText, TookFront, HasFailed}
 
 -- ---- a whole input
@@ -106,20 +107,24 @@ abbrev pub TellsAll : EventStyle → Coming → Printing → Result (Unit {0}) F
     → Type 0
 TellsAll style old = TellsBy (λ told. head_as style.format old.head ++ styled_told style 0 told) old
 
--- an event came, and its line was printed; `next` blocks are open after it
-pub record TellsOne (style : EventStyle) (around : ℕ) (old : Coming) (before : Printing) (next : ℕ)
-    (new : Coming) (after : Printing) : Type 0 where
-  pub event : Event
-  pub gives : GivesEvent old event new
-  pub next_is : next ≡ open_after event around
-  pub printed : Printed (styled_event style around event) before after
+-- ---- as events are gathered
 
--- the line of the next event was printed, or the events have ended, or not all of their lines were printed
-abbrev pub TellsNext : EventStyle → (around : ℕ) → Coming → Printing → Result (Option ℕ) Fault → Coming
+-- the lines of these events were printed, with `around` blocks open before the first and `now` after the last
+pub record WroteLines (style : EventStyle) (around : ℕ) (before : Printing) (events : List Event) (now : ℕ)
+    (after : Printing) : Type 0 where
+  pub printed : Printed (styled_lines style around events) before after
+  pub now_is : now ≡ open_behind events around
+
+-- Not all of the line of this event was printed, because of the fault that is kept. Each call is for an event.
+abbrev pub FailsLine : EventStyle → (around : ℕ) → Printing → Option Event → (stopped : Option Fault)
     → Printing → Type 0
-TellsNext style around old before (Ok (Some next)) new after = TellsOne style around old before
-    next new after
-TellsNext style around old before (Ok None) new after = TellsRest style around old before (Ok tt)
-    new after
-TellsNext style around old before (Err fault) new after = TellsRest style around old before
-    (Err fault) new after
+FailsLine style around before None stopped after = ⊥
+FailsLine style around before (Some event) None after = ⊥
+FailsLine style around before (Some event) (Some fault) after = Prints (styled_event style around event)
+    before (Err fault) after
+
+-- the fault of a line is kept
+abbrev pub KeepsFault : Result (Unit {0}) Fault → (old : Option Fault) → Result (Unit {0}) AllocError
+    → (new : Option Fault) → Type 0
+KeepsFault done old (Ok _) new = (done ≡ Ok tt) × (new ≡ old)
+KeepsFault done old (Err _) new = (fault : Fault) × (done ≡ Err fault) × (new ≡ Some fault)

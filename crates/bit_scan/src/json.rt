@@ -113,68 +113,6 @@ pub(crate) fn push_list_front(
     push_key(text, key, "\":[")
 }
 
-/// Appends a text and a number after it.
-#[inline(always)]
-fn push_after(text: &mut String, before: &str, number: u64) -> Result<(), AllocError>
-    ensures { OnOk result (string_bytes text.new
-        ≡ string_bytes text.old ++ (before.now ++ number_json number)) }
-{
-    text.push_str(before)?;
-    push_json_number(text, number)
-}
-
-/// Appends the object of a record, up to its values. Each key is a constant text with what stands around it.
-fn push_noted_front(
-    text: &mut String,
-    around: u32,
-    first: u64,
-    code: u64,
-    abbreviation: u32,
-    count: u64,
-) -> Result<(), AllocError>
-    ensures { OnOk result (string_bytes text.new ≡ string_bytes text.old
-        ++ object_front (codes "record") (noted_fields around first code abbreviation count)) }
-{
-    push_after(text, "{\"kind\":\"record\",\"bit\":", first)?;
-    push_after(text, ",\"depth\":", around as u64)?;
-    push_after(text, ",\"code\":", code)?;
-    push_after(text, ",\"abbreviation\":", abbreviation as u64)?;
-    push_after(text, ",\"count\":", count)
-}
-
-/// Appends the line of a record, up to its values.
-pub(crate) fn push_noted_list(
-    text: &mut String,
-    around: u32,
-    first: u64,
-    code: u64,
-    abbreviation: u32,
-    count: u64,
-) -> Result<(), AllocError>
-    ensures { OnOk result (string_bytes text.new ≡ string_bytes text.old
-        ++ list_front (codes "record") (noted_fields around first code abbreviation count)
-        (codes "values")) }
-{
-    push_noted_front(text, around, first, code, abbreviation, count)?;
-    text.push_str(",\"values\":[")
-}
-
-/// Appends the line of a record without its values.
-pub(crate) fn push_noted_line(
-    text: &mut String,
-    around: u32,
-    first: u64,
-    code: u64,
-    abbreviation: u32,
-    count: u64,
-) -> Result<(), AllocError>
-    ensures { OnOk result (string_bytes text.new ≡ string_bytes text.old
-        ++ object_line (codes "record") (noted_fields around first code abbreviation count)) }
-{
-    push_noted_front(text, around, first, code, abbreviation, count)?;
-    text.push_str("}\n")
-}
-
 /// Appends a line that is an object with a text, up to the text.
 fn push_text_front(
     text: &mut String,
@@ -247,15 +185,6 @@ fn push_comma(text: &mut String, place: u64) -> Result<(), AllocError>
         return text.push_str(",");
     }
     Ok(())
-}
-
-/// Appends the number at a place of a list.
-pub(crate) fn push_number_item(text: &mut String, place: u64, number: u64) -> Result<(), AllocError>
-    ensures { OnOk result (string_bytes text.new
-        ≡ string_bytes text.old ++ (comma place ++ number_json number)) }
-{
-    push_comma(text, place)?;
-    push_json_number(text, number)
 }
 
 /// Appends the operand at a place of a list.

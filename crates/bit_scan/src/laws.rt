@@ -9,7 +9,7 @@ ghost use Rattle.bit_grammar.specs.declared.value_display.ValueDisplay.TheVarian
 ghost use Rattle.bit_grammar.specs.Normal.{Capped};
 ghost use Rattle.bit_grammar.specs.Counting.{no_counts, count_events};
 ghost use Rattle.bit_grammar.specs.Tally.{Tally, stream_bits};
-ghost use Rattle.bit_scan.specs.EventLines.{EventFits, line_tells};
+ghost use Rattle.bit_scan.specs.EventLines.{EventFits, OutlookFits, ReportFits, line_tells};
 ghost use Rattle.bit_scan.specs.Fitting.{RowsFit};
 ghost use Rattle.bit_scan.specs.ObjectLines.{AreObjectLines, IsObjectLine};
 ghost use Rattle.bit_scan.specs.Styles.{event_as, outlook_as, report_as};
@@ -23,17 +23,18 @@ pub fn numbers_fit()
         → SpellsInput limits bytes m → stream_bits m < 2 ^ 64 }
 {}
 
-/// Each line that `events` and `analyse` write as JSON is one object in the grammar of specs/ObjectLines.antt, for each input, and an
-/// event is one line. Where its numbers have 64 bits and its values are shown, the line determines all of the event but the bit after
-/// a record or a definition.
+/// Each line that `events` and `analyse` write as JSON is one object in the grammar of specs/ObjectLines.antt, and an event is one
+/// line. Its numbers are below each bound that the numbers of the input keep to. Where these have 64 bits and values are shown, the
+/// line of an event determines all of it but the bit after a record or a definition.
 pub fn json_lines()
-    ensures event { (values : ValueDisplay) (around : ℕ) (event : Event)
-        → IsObjectLine (event_as JsonLines values around event) }
-    ensures events { (values : ValueDisplay) (told : Outlook)
-        → AreObjectLines (outlook_as JsonLines values told) }
-    ensures report { (tally : Tally) → AreObjectLines (report_as JsonLines tally) }
+    ensures event { (bound : ℕ) (values : ValueDisplay) (around : ℕ) (event : Event) → around < bound
+        → EventFits bound event → IsObjectLine bound (event_as JsonLines values around event) }
+    ensures events { (bound : ℕ) (values : ValueDisplay) (told : Outlook) → OutlookFits bound told
+        → AreObjectLines bound (outlook_as JsonLines values told) }
+    ensures report { (bound : ℕ) (tally : Tally) → ReportFits bound tally
+        → AreObjectLines bound (report_as JsonLines tally) }
     ensures told { (around other : ℕ) (a b : Event) → around < 2 ^ 64 → other < 2 ^ 64
-        → EventFits a → EventFits b
+        → EventFits (2 ^ 64) a → EventFits (2 ^ 64) b
         → event_as JsonLines Shown around a ≡ event_as JsonLines Shown other b
         → line_tells a ≡ line_tells b }
 {}

@@ -6,14 +6,16 @@
 //! saturate, and `numbers_fit` proves that no accepted input reaches the greatest number.
 //!
 //! `write_show` keeps the bytes that `check_keeping` accepts, reads them again, and prints items as they are read, without a tree.
-//! `write_events` prints each event of `PackedEvents` as it comes, as text or as a JSON object (`json`), in pieces of about 64 KiB.
-//! Numbers of a list are written to the text by batches (`batch`).
+//! `write_events` prints each event as it is read, as text or as a JSON object (`json`), in pieces of about 64 KiB. Both writers are
+//! gatherers; if a line is not written, they keep its fault.
+//! The line of a record of few values is written at once, forwards, into the buffered text (`record_lines`, `text_buffer`). A line that
+//! would fill the buffer, and each other one, is added piece by piece.
 #![tactic(auto)]
 
 mod analysing;
 mod analysis;
-mod batch;
 mod counter;
+mod digits;
 mod format;
 mod json;
 mod laws;
@@ -23,6 +25,7 @@ mod listing;
 mod printer;
 #[cfg(test)]
 mod puts_tests;
+mod record_lines;
 mod reporting;
 mod rows;
 mod showing;
@@ -31,6 +34,7 @@ mod telling;
 mod telling_tests;
 #[cfg(test)]
 mod tests;
+mod text_buffer;
 
 pub use analysing::analyse;
 pub use analysis::Analysis;

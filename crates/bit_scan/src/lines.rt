@@ -171,16 +171,6 @@ pub(crate) fn push_number(text: &mut String, number: u64) -> Result<(), AllocErr
     push_formatted(text, number)
 }
 
-/// Appends a word and a number.
-#[inline(always)]
-fn push_counted(text: &mut String, word: &str, number: u64) -> Result<(), AllocError>
-    ensures { OnOk result (string_bytes text.new
-        ≡ string_bytes text.old ++ (word.now ++ decimal number)) }
-{
-    text.push_str(word)?;
-    push_number(text, number)
-}
-
 /// Appends two spaces for each block around.
 fn push_indent(text: &mut String, around: u32) -> Result<(), AllocError>
     ensures { OnOk result (string_bytes text.new
@@ -198,24 +188,6 @@ pub(crate) fn push_block_line(text: &mut String, around: u32, id: u32) -> Result
 {
     push_indent(text, around)?;
     writeln!(text, "block {id}")
-}
-
-/// Appends the line of a record in a listing, up to its values.
-pub(crate) fn push_record_head(text: &mut String, around: u32, code: u64) -> Result<(), AllocError>
-    ensures { OnOk result (string_bytes text.new
-        ≡ string_bytes text.old ++ record_line_front around code) }
-{
-    push_indent(text, around)?;
-    push_counted(text, "record ", code)
-}
-
-/// Appends a value of a record in a listing.
-#[inline(always)]
-pub(crate) fn push_value(text: &mut String, value: u64) -> Result<(), AllocError>
-    ensures { OnOk result (string_bytes text.new ≡ string_bytes text.old ++ (32 ∷ decimal value)) }
-{
-    text.push(' ')?;
-    push_number(text, value)
 }
 
 /// Appends a bit, a space, and two spaces for each block around.
@@ -290,24 +262,6 @@ pub(crate) fn push_further_operand(text: &mut String, op: Op) -> Result<(), Allo
 {
     text.push_str(", ")?;
     push_operand(text, op)
-}
-
-/// Appends the line of a record among events, up to its values.
-pub(crate) fn push_noted_head(
-    text: &mut String,
-    around: u32,
-    first: u64,
-    code: u64,
-    abbreviation: u32,
-    count: u64,
-) -> Result<(), AllocError>
-    ensures { OnOk result (string_bytes text.new
-        ≡ string_bytes text.old ++ noted_head around first code abbreviation count) }
-{
-    push_place(text, first, around)?;
-    push_counted(text, "record ", code)?;
-    push_counted(text, " by ", abbreviation as u64)?;
-    push_counted(text, " count ", count)
 }
 
 /// Appends the line of a block's end, with `around` blocks open before it.

@@ -1,4 +1,4 @@
-ghost use Rattle.std.specs.Prelude.{◌≡◌, ◌≤◌, ◌++◌, [], OnOk};
+ghost use Rattle.std.specs.Prelude.{◌≡◌, ◌≤◌, ◌++◌, [], length, Some, None, IfSome, OnErr, OnOk};
 ghost use Rattle.std.proofs.Math.ListN.{replicate};
 ghost use Rattle.bit_grammar.specs.Steps.{open_after};
 ghost use Rattle.bit_grammar.specs.Setting.{setting_of};
@@ -6,14 +6,18 @@ ghost use Rattle.bit_grammar.specs.Texts.{values_text, record_line, event_text};
 ghost use Rattle.bit_events.specs.Coming.{TellsComing};
 ghost use Rattle.bit_events.specs.EventView.{event_shown};
 ghost use Rattle.bit_scan.specs.Lines.{listing_head};
-ghost use Rattle.bit_scan.specs.Listing.{left_text, WritesLeft, Continues, ContinuesSeen, ListsBytes};
-ghost use Rattle.bit_scan.specs.Printing.{Prints};
+ghost use Rattle.bit_scan.specs.Listing.{around_after as after_event, line_left, left_text, FailsLeft, ListsBytes};
+ghost use Rattle.bit_scan.specs.Printing.{Printed, Prints, PrintsWhole};
+ghost use Rattle.bit_scan.specs.Telling.{KeepsFault};
+ghost use Rattle.bit_events.specs.Standing.{stands_after};
 
 use crate::printer::Printer;
-use bit_events::{Event, OpenBlocks, PackedEvent, SliceEvents};
-use bit_fields::{Fault, Limits, PackedValues, Sink, SliceSource, ValueTaker, WideSlice};
+use crate::text_buffer::BATCH;
+use bit_abbrev::Abbrev;
+use bit_events::{Event, Gatherer, OpenBlocks, PackedEvent, PackedEvents};
+use bit_fields::{Fault, Limits, PackedValues, Sink, SliceSource, WideSlice};
 use bit_grammar::Info;
-use std::alloc::Global;
+use std::alloc::{AllocError, Global};
 
 /// Writes byte values.
 fn write_bytes<K: Sink>(printer: &mut Printer<K>, bytes: &[u8]) -> Result<(), Fault>
@@ -90,7 +94,8 @@ pub(crate) fn write_values<K: Sink>(
 
 /// Writes the line of a record, piece by piece.
 #[tactic(auto, using(crate::proofs::Parted::no_first, crate::proofs::Parted::no_second, crate::proofs::Parted::third, crate::proofs::Parted::record_parts))]
-fn write_record<K: Sink>(
+#[inline(never)]
+fn write_record_pieces<K: Sink>(
     printer: &mut Printer<K>,
     around: u32,
     code: u64,
@@ -103,8 +108,53 @@ fn write_record<K: Sink>(
     printer.line_end()
 }
 
+/// All values, if they are few and held as numbers.
+#[inline(always)]
+pub(crate) fn few_of(values: &PackedValues) -> Option<&[u64]>
+    ensures { IfSome result (λ few. (few.now ≡ values.now) × (length few.now ≤ 64)) }
+{
+    let recent = values.parts().recent;
+    if recent.len() as u64 == values.len() && recent.len() <= BATCH {
+        Some(recent)
+    } else {
+        None
+    }
+}
+
+/// Writes the line of a record at once, if it has few values and the buffered text is not to be put then. Returns whether it did.
+#[inline(always)]
+fn write_whole<K: Sink>(
+    printer: &mut Printer<K>,
+    around: u32,
+    code: u64,
+    values: &PackedValues,
+) -> Result<bool, Fault>
+    ensures { PrintsWhole (record_line around code values.now) printer.old result printer.new }
+{
+    match few_of(values) {
+        Some(few) => printer.record_line(around, code, few),
+        None => Ok(false),
+    }
+}
+
+/// Writes the line of a record.
+#[tactic(auto, using(crate::proofs::Prints::whole_printed, crate::proofs::Prints::pieces_follow))]
+fn write_record<K: Sink>(
+    printer: &mut Printer<K>,
+    around: u32,
+    code: u64,
+    values: &PackedValues,
+) -> Result<(), Fault>
+    ensures { Prints (record_line around code values.now) printer.old result printer.new }
+{
+    if write_whole(printer, around, code, values)? {
+        return Ok(());
+    }
+    write_record_pieces(printer, around, code, values)
+}
+
 /// Writes the line of an event with `around` blocks around it, if it has one.
-#[inline]
+#[inline(always)]
 fn write_event<K: Sink>(
     printer: &mut Printer<K>,
     around: u32,
@@ -119,151 +169,181 @@ fn write_event<K: Sink>(
     }
 }
 
-/// The number of blocks around what follows an event.
-pub(crate) fn around_after(around: u32, event: &PackedEvent<'_>) -> u32
-    requires { around ≤ 255 }
-    ensures { result ≡ open_after (event_shown event.now) around }
+/// The number of blocks around what follows an event. `None` if it is too great, which the limit on open blocks excludes.
+#[inline(always)]
+pub(crate) fn around_after(around: u32, event: &PackedEvent<'_>) -> Option<u32>
+    ensures { IfSome result (λ next. next ≡ open_after (event_shown event.now) around) }
 {
     match event {
-        Event::Enter { .. } => around + 1,
-        Event::Leave { .. } => around.saturating_sub(1),
-        Event::Define { .. } | Event::Record { .. } => around,
+        Event::Enter { .. } => around.checked_add(1),
+        Event::Leave { .. } => Some(around.saturating_sub(1)),
+        Event::Define { .. } | Event::Record { .. } => Some(around),
     }
 }
 
-/// Takes an event and writes its line with `around` blocks around it, if it is kept and has one. Returns the number of blocks
-/// around the event that follows.
-fn write_left<K: Sink>(
-    printer: &mut Printer<K>,
-    standing: &mut OpenBlocks<'_>,
-    around: u32,
-    event: PackedEvent<'_>,
-) -> Result<u32, Fault>
-    requires { around ≤ 255 }
-    ensures { WritesLeft around standing.old (event_shown event.entry) printer.old result
-        standing.new printer.new }
+/// Keeps the fault of a line that was not written.
+#[inline(always)]
+pub(crate) fn kept(stopped: &mut Option<Fault>, done: Result<(), Fault>) -> Result<(), AllocError>
+    ensures { KeepsFault done stopped.old result stopped.new }
 {
-    let Ok(is_left) = standing.take(event) else {
-        return Err(Fault::Memory);
-    };
-    if !is_left {
-        return Ok(around);
-    }
-    write_event(printer, around, &event)?;
-    Ok(around_after(around, &event))
-}
-
-/// Takes the next event if it is a record that can be read in the buffer, and writes its line with `around` blocks around it, if it
-/// is kept. Returns the number of blocks around the event that follows, or `None` if no such record came. The values are those of
-/// the record.
-fn write_seen<K: Sink>(
-    events: &mut SliceEvents<'_>,
-    printer: &mut Printer<K>,
-    standing: &mut OpenBlocks<'_>,
-    around: u32,
-    values: &mut PackedValues,
-) -> Result<Option<u32>, Fault>
-    requires { around ≤ 255 }
-    ensures { ContinuesSeen around standing.old events.old printer.old result standing.new events.new
-        printer.new }
-{
-    values.truncate(0);
-    let Some(read) = events.record(values) else {
-        return Ok(None);
-    };
-    let event = Event::Record {
-        abbrev: read.abbrev,
-        code: read.code,
-        values: &*values,
-        first: read.first,
-        after: read.after,
-    };
-    let next = write_left(printer, standing, around, event)?;
-    Ok(Some(next))
-}
-
-/// Takes any next event and writes its line with `around` blocks around it, if it is kept and has one. Returns the number of blocks
-/// around the event that follows, or `None` if no event remains.
-#[tactic(auto, using(crate::proofs::Lists::line_stops))]
-fn write_found<K: Sink>(
-    events: &mut SliceEvents<'_>,
-    printer: &mut Printer<K>,
-    standing: &mut OpenBlocks<'_>,
-    around: u32,
-) -> Result<Option<u32>, Fault>
-    requires { around ≤ 255 }
-    ensures { Continues around standing.old events.old printer.old result standing.new events.new
-        printer.new }
-{
-    match events.next() {
-        Ok(Some(event)) => {
-            let next = write_left(printer, standing, around, event)?;
-            Ok(Some(next))
+    match done {
+        Ok(()) => Ok(()),
+        Err(fault) => {
+            *stopped = Some(fault);
+            Err(AllocError)
         }
-        Ok(None) => Ok(None),
+    }
+}
+
+/// Writes the lines of events as they are gathered.
+struct ListingWriter<'a, K: Sink> {
+    alloc: Global,
+    printer: Printer<K>,
+    standing: OpenBlocks<'a>,
+    /// How many kept blocks are around the next event.
+    around: u32,
+    /// The fault of a line that was not written.
+    stopped: Option<Fault>,
+}
+
+impl<'a, K: Sink> ListingWriter<'a, K> {
+    /// Takes an event, and writes its line if it is kept and has one.
+    #[inline(always)]
+    fn write(&mut self, event: PackedEvent<'_>) -> Result<(), AllocError>
+        ensures written { OnOk result (Printed (line_left self.old.standing self.old.around
+            (event_shown event.entry)) self.old.printer self.new.printer) }
+        ensures fails { OnErr result (FailsLeft self.old.standing self.old.around self.old.printer
+            (Some (event_shown event.entry)) self.new.stopped self.new.printer) }
+        ensures stands { OnOk result (self.new.standing
+            ≡ stands_after (event_shown event.entry) self.old.standing) }
+        ensures around { OnOk result (self.new.around
+            ≡ after_event self.old.standing self.old.around (event_shown event.entry)) }
+        ensures stopped { OnOk result (self.new.stopped ≡ self.old.stopped) }
+    {
+        let Ok(is_left) = self.standing.take(event) else {
+            self.stopped = Some(Fault::Memory);
+            return Err(AllocError);
+        };
+        if !is_left {
+            return Ok(());
+        }
+        let Some(next) = around_after(self.around, &event) else {
+            self.stopped = Some(Fault::Memory);
+            return Err(AllocError);
+        };
+        let done = write_event(&mut self.printer, self.around, &event);
+        kept(&mut self.stopped, done)?;
+        self.around = next;
+        Ok(())
+    }
+
+    /// Returns the sink.
+    fn into_sink(self) -> K
+        ensures { K.outgoing result ≡ self.entry.printer.outgoing }
+    {
+        let ListingWriter {
+            printer,
+            alloc: _,
+            standing: _,
+            around: _,
+            stopped: _,
+        } = self;
+        printer.into_sink()
+    }
+}
+
+impl<'a, K: Sink> Gatherer for ListingWriter<'a, K> {
+    ghost use Rattle.std.specs.Prelude.{◌≡◌};
+    ghost use Rattle.bit_scan.specs.Listing.{FailsLeft, WroteLeft};
+
+    type Values = PackedValues;
+
+    ghost gathered = { λ first events last. WroteLeft first.standing first.around first.printer events
+        last.standing last.around last.printer × (last.stopped ≡ first.stopped) };
+
+    ghost fails = { λ old event new. FailsLeft old.standing old.around old.printer event new.stopped
+        new.printer };
+
+    fn values(&self) -> PackedValues {
+        PackedValues::new(self.alloc)
+    }
+
+    fn enter(&mut self, id: u32, width: u8, first: u64, body: u64) -> Result<(), AllocError> {
+        self.write(Event::Enter {
+            id,
+            width,
+            first,
+            body,
+        })
+    }
+
+    fn define(&mut self, abbrev: &Abbrev, first: u64, after: u64) -> Result<(), AllocError> {
+        self.write(Event::Define {
+            abbrev,
+            first,
+            after,
+        })
+    }
+
+    fn record(
+        &mut self,
+        _id: u32,
+        code: u64,
+        values: &mut PackedValues,
+        _first: u64,
+        _after: u64,
+    ) -> Result<(), AllocError> {
+        if self.standing.leaves_record(code) {
+            let done = write_record(&mut self.printer, self.around, code, values);
+            return kept(&mut self.stopped, done);
+        }
+        Ok(())
+    }
+
+    fn leave(&mut self, after: u64) -> Result<(), AllocError> {
+        self.write(Event::Leave { after })
+    }
+}
+
+/// Writes the lines of all events that are kept under the setting.
+fn write_events<K: Sink>(
+    events: &mut PackedEvents<SliceSource<'_>>,
+    writer: &mut ListingWriter<'_, K>,
+) -> Result<(), Fault>
+    requires tells { TellsComing events.old }
+    requires outside { events.old.depth ≡ 0 }
+    requires around { writer.old.around ≡ 0 }
+    requires wrote { writer.old.stopped ≡ None }
+    ensures { Prints (left_text 0 writer.old.standing events.old.told.0) writer.old.printer result
+        writer.new.printer }
+{
+    let done = events.gather(writer);
+    if let Some(fault) = writer.stopped {
+        return Err(fault);
+    }
+    match done {
+        Ok(()) => Ok(()),
         // The input was accepted before, so only an allocation can fail.
         Err(_) => Err(Fault::Memory),
     }
 }
 
-/// Takes the next event and writes its line with `around` blocks around it, if it is kept and has one. Returns the number of blocks
-/// around the event that follows, or `None` if no event remains. The values are for a record that is read in the buffer.
-fn write_next<K: Sink>(
-    events: &mut SliceEvents<'_>,
-    printer: &mut Printer<K>,
-    standing: &mut OpenBlocks<'_>,
-    around: u32,
-    values: &mut PackedValues,
-) -> Result<Option<u32>, Fault>
-    requires { around ≤ 255 }
-    ensures { Continues around standing.old events.old printer.old result standing.new events.new
-        printer.new }
-{
-    if let Some(next) = write_seen(events, printer, standing, around, values)? {
-        return Ok(Some(next));
-    }
-    write_found(events, printer, standing, around)
-}
-
-/// Writes the lines of all events that are kept under the setting.
-fn write_events<K: Sink>(
-    alloc: Global,
-    events: &mut SliceEvents<'_>,
-    printer: &mut Printer<K>,
-    standing: &mut OpenBlocks<'_>,
-) -> Result<(), Fault>
-    requires tells { TellsComing events.old }
-    requires outside { events.old.depth ≡ 0 }
-    requires deepest { events.old.deepest ≤ 255 }
-    requires none { standing.old.ids ≡ [] }
-    ensures { Prints (left_text 0 standing.old events.old.told.0) printer.old result printer.new }
-{
-    let mut values = PackedValues::new(alloc);
-    let mut around = 0;
-    while let Some(next) = write_next(events, printer, standing, around, &mut values)? {
-        around = next;
-    }
-    Ok(())
-}
-
 /// Writes the line of a magic and those of all events that are kept under the setting.
 fn write_told<K: Sink>(
-    alloc: Global,
-    events: &mut SliceEvents<'_>,
-    printer: &mut Printer<K>,
-    standing: &mut OpenBlocks<'_>,
+    events: &mut PackedEvents<SliceSource<'_>>,
+    writer: &mut ListingWriter<'_, K>,
 ) -> Result<(), Fault>
     requires tells { TellsComing events.old }
     requires outside { events.old.depth ≡ 0 }
-    requires deepest { events.old.deepest ≤ 255 }
-    requires none { standing.old.ids ≡ [] }
+    requires around { writer.old.around ≡ 0 }
+    requires wrote { writer.old.stopped ≡ None }
     ensures prints { Prints (listing_head events.old.head.magic
-        ++ left_text 0 standing.old events.old.told.0) printer.old result printer.new }
-    ensures all { OnOk result (printer.new.held ≡ []) }
+        ++ left_text 0 writer.old.standing events.old.told.0) writer.old.printer result writer.new.printer }
+    ensures all { OnOk result (writer.new.printer.held ≡ []) }
 {
-    printer.listing_head(events.head().magic)?;
-    write_events(alloc, events, printer, standing)?;
-    printer.finish()
+    writer.printer.listing_head(events.head().magic)?;
+    write_events(events, writer)?;
+    writer.printer.finish()
 }
 
 /// Appends a listing of the bytes of an accepted input, under a setting, to a sink: a line for the magic, and one for each block
@@ -280,13 +360,18 @@ pub(crate) fn write_listing<K: Sink>(
     ensures { ListsBytes (setting_of info.entry) limits bytes.now (K.outgoing sink) result.0
         (K.outgoing result.1) }
 {
-    let mut events = match SliceEvents::start(alloc, SliceSource::new(bytes), limits) {
+    let mut events = match PackedEvents::start(alloc, SliceSource::new(bytes), limits) {
         Ok(events) => events,
         // Accepted bytes begin with a magic, so this case does not occur.
         Err(_) => return (Err(Fault::Memory), sink),
     };
-    let mut printer = Printer::new(alloc, sink);
-    let mut standing = OpenBlocks::new(alloc, info);
-    let answer = write_told(alloc, &mut events, &mut printer, &mut standing);
-    (answer, printer.into_sink())
+    let mut writer = ListingWriter {
+        alloc,
+        printer: Printer::new(alloc, sink),
+        standing: OpenBlocks::new(alloc, info),
+        around: 0,
+        stopped: None,
+    };
+    let answer = write_told(&mut events, &mut writer);
+    (answer, writer.into_sink())
 }

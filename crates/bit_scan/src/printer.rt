@@ -1,32 +1,30 @@
-ghost use Rattle.std.specs.Prelude.{◌≡◌, ◌<◌, ◌≤◌, ◌-◌, ◌∷◌, ◌++◌, [], OnOk, OnErr, codes, decimal, flat_map, length};
+ghost use Rattle.std.specs.Prelude.{◌≡◌, ◌<◌, ◌≤◌, ◌-◌, ◌∷◌, ◌++◌, ℕ, List, [], OnOk, OnErr, codes, decimal, flat_map, length, string_bytes};
 ghost use Rattle.bit_grammar.specs.EventTexts.{line_at, op_text, opened_text};
 ghost use Rattle.bit_grammar.specs.Reasons.{name_of};
-ghost use Rattle.bit_grammar.specs.Texts.{hex_text, magic_bytes, magic_text, block_line, values_text};
+ghost use Rattle.bit_grammar.specs.Texts.{hex_text, magic_bytes, magic_text, block_line, record_line, values_text};
 ghost use Rattle.bit_fields.specs.Opening.{magic_number};
 ghost use Rattle.bit_scan.specs.ObjectLines.{IsPlain};
-ghost use Rattle.bit_scan.specs.Json.{ArePlain, comma, fields_told, joined_from, list_front, noted_fields, number_json, object_line, op_json, text_line};
+ghost use Rattle.bit_scan.specs.Json.{ArePlain, comma, fields_told, joined, joined_from, list_front, list_line, noted_fields, number_json, object_line, op_json, text_line};
 ghost use Rattle.bit_scan.specs.Lines.{report_head, listing_head, block_row_text, code_row_text, record_line_front, definition_head, noted_head};
-ghost use Rattle.bit_scan.specs.Printing.{PrintedAll, PrintedFront, Prints};
+ghost use Rattle.bit_scan.specs.Printing.{PrintedAll, PrintedFront, Prints, PrintsWhole};
+ghost use Rattle.bit_fields.specs.declared.fault.Fault.TheVariants.{Memory};
 ghost use Rattle.bit_scan.specs.Written.{HasFailed, TookFront, TookText};
 
-use crate::batch::{BATCH, BYTES, EMPTY, Room, push_byte_values, push_items, push_values};
 use crate::json::{
-    Field, push_list_front, push_magic_line, push_noted_line, push_noted_list, push_number_item,
-    push_object_line, push_op_item, push_reason_line,
+    Field, push_list_front, push_magic_line, push_object_line, push_op_item, push_reason_line,
 };
 use crate::lines::{
     push_block_line, push_block_row, push_code_row, push_definition_head, push_end_line,
-    push_further_operand, push_head_line, push_listing_head, push_noted_head, push_opened_line,
-    push_operand, push_record_head, push_report_head, push_value,
+    push_further_operand, push_head_line, push_listing_head, push_opened_line, push_operand,
+    push_report_head,
 };
+use crate::record_lines::Noted;
 use crate::rows::{BlockRow, CodeRow};
+use crate::text_buffer::{BATCH, BYTES, HELD, TextBuffer};
 use bit_fields::{Fault, Reason, Sink, SinkFailed};
 use bit_grammar::Op;
 use std::alloc::{AllocError, Global};
 use std::marker::Model;
-
-/// The number of bytes that are buffered before they are put. A writer with a buffer of this size gets them without a copy.
-const HELD: usize = 65536;
 
 /// Gives a sink all of these bytes, in as many puts as it takes.
 #[tactic(auto, using(crate::proofs::Puts::put_on))]
@@ -46,27 +44,49 @@ fn put_all<K: Sink>(sink: &mut K, bytes: &[u8]) -> Result<(), SinkFailed>
     Ok(())
 }
 
+/// Adds a piece of text to the buffer, if it could be made, and drops it.
+#[inline(never)]
+fn add_piece(
+    held: &mut TextBuffer,
+    piece: &mut String,
+    pushed: Result<(), AllocError>,
+) -> Result<(), AllocError>
+    ensures added { (before text : List ℕ) → before ≡ []
+        → OnOk pushed (string_bytes piece.old ≡ before ++ text)
+        → OnOk result (held.new ≡ held.old ++ text) }
+    ensures dropped { string_bytes piece.new ≡ [] }
+{
+    let added = match pushed {
+        Ok(()) => held.push(piece.as_bytes()),
+        Err(AllocError) => Err(AllocError),
+    };
+    piece.clear();
+    added
+}
+
 /// Buffers text on its way to a sink. After a fault it puts no more text.
 #[derive(Drop)]
 pub(crate) struct Printer<K: Sink> {
     sink: K,
-    held: String,
-    room: Room,
+    held: TextBuffer,
+    /// A piece of text on its way to the buffer.
+    piece: String,
 }
 
 impl<K: Sink> Model for Printer<K> {
-    ghost use Rattle.std.specs.Prelude.{string_bytes};
+    ghost use Rattle.std.specs.Prelude.{◌≡◌, [], string_bytes};
     ghost use Rattle.bit_scan.specs.Printing.{Printing};
 
     ghost Value = { Printing };
 
     ghost view = { λ printer. record {
       outgoing = K.outgoing printer.sink;
-      held = string_bytes printer.held;
+      held = printer.held;
     } };
+
+    ghost invariant = { λ printer. string_bytes printer.piece ≡ [] };
 }
 
-#[tactic(auto, using(crate::proofs::Prints::settled))]
 impl<K: Sink> Printer<K> {
     /// With an empty buffer.
     pub(crate) fn new(alloc: Global, sink: K) -> Printer<K>
@@ -74,8 +94,8 @@ impl<K: Sink> Printer<K> {
     {
         Printer {
             sink,
-            held: String::new(alloc),
-            room: EMPTY,
+            held: TextBuffer::new(alloc),
+            piece: String::new(alloc),
         }
     }
 
@@ -111,11 +131,15 @@ impl<K: Sink> Printer<K> {
         }
     }
 
-    /// Gives the sink the buffered text once there is enough of it.
+    /// Gives the sink the buffered text once there is enough of it, if more of it could be added.
     #[inline(always)]
-    fn settle(&mut self) -> Result<(), Fault>
-        ensures { Prints [] self.old result self.new }
+    fn settled(&mut self, added: Result<(), AllocError>) -> Result<(), Fault>
+        ensures ok { OnOk added (Prints [] self.old result self.new) }
+        ensures err { OnErr added ((result ≡ Err Memory) × (self.new ≡ self.old)) }
     {
+        if added.is_err() {
+            return Err(Fault::Memory);
+        }
         if self.held.len() >= HELD {
             return self.finish();
         }
@@ -126,60 +150,53 @@ impl<K: Sink> Printer<K> {
     pub(crate) fn report_head(&mut self, magic: [u8; 4], bits: u64) -> Result<(), Fault>
         ensures { Prints (report_head (magic_number magic) bits) self.old result self.new }
     {
-        match push_report_head(&mut self.held, magic, bits) {
-            Ok(()) => self.settle(),
-            Err(AllocError) => Err(Fault::Memory),
-        }
+        let pushed = push_report_head(&mut self.piece, magic, bits);
+        let added = add_piece(&mut self.held, &mut self.piece, pushed);
+        self.settled(added)
     }
 
     /// The line of a block id in a report, without those of its codes.
     pub(crate) fn block_row(&mut self, id: u32, row: &BlockRow) -> Result<(), Fault>
         ensures { Prints (block_row_text (id, row.now)) self.old result self.new }
     {
-        match push_block_row(&mut self.held, id, row) {
-            Ok(()) => self.settle(),
-            Err(AllocError) => Err(Fault::Memory),
-        }
+        let pushed = push_block_row(&mut self.piece, id, row);
+        let added = add_piece(&mut self.held, &mut self.piece, pushed);
+        self.settled(added)
     }
 
     /// The line of a code in a report.
     pub(crate) fn code_row(&mut self, code: u64, row: CodeRow) -> Result<(), Fault>
         ensures { Prints (code_row_text (code, row)) self.old result self.new }
     {
-        match push_code_row(&mut self.held, code, row) {
-            Ok(()) => self.settle(),
-            Err(AllocError) => Err(Fault::Memory),
-        }
+        let pushed = push_code_row(&mut self.piece, code, row);
+        let added = add_piece(&mut self.held, &mut self.piece, pushed);
+        self.settled(added)
     }
 
     /// The first line of a listing.
     pub(crate) fn listing_head(&mut self, magic: [u8; 4]) -> Result<(), Fault>
         ensures { Prints (listing_head (magic_number magic)) self.old result self.new }
     {
-        match push_listing_head(&mut self.held, magic) {
-            Ok(()) => self.settle(),
-            Err(AllocError) => Err(Fault::Memory),
-        }
+        let pushed = push_listing_head(&mut self.piece, magic);
+        let added = add_piece(&mut self.held, &mut self.piece, pushed);
+        self.settled(added)
     }
 
     /// The line of a block in a listing, with `around` blocks around it.
     pub(crate) fn block_line(&mut self, around: u32, id: u32) -> Result<(), Fault>
         ensures { Prints (block_line around id) self.old result self.new }
     {
-        match push_block_line(&mut self.held, around, id) {
-            Ok(()) => self.settle(),
-            Err(AllocError) => Err(Fault::Memory),
-        }
+        let pushed = push_block_line(&mut self.piece, around, id);
+        let added = add_piece(&mut self.held, &mut self.piece, pushed);
+        self.settled(added)
     }
 
     /// The line of a record in a listing, up to its values.
     pub(crate) fn record_head(&mut self, around: u32, code: u64) -> Result<(), Fault>
         ensures { Prints (record_line_front around code) self.old result self.new }
     {
-        match push_record_head(&mut self.held, around, code) {
-            Ok(()) => self.settle(),
-            Err(AllocError) => Err(Fault::Memory),
-        }
+        let added = self.held.push_record_head(around, code);
+        self.settled(added)
     }
 
     /// A value of a record in a listing.
@@ -187,16 +204,14 @@ impl<K: Sink> Printer<K> {
     pub(crate) fn value(&mut self, value: u64) -> Result<(), Fault>
         ensures { Prints (32 ∷ decimal value) self.old result self.new }
     {
-        match push_value(&mut self.held, value) {
-            Ok(()) => self.settle(),
-            Err(AllocError) => Err(Fault::Memory),
-        }
+        let added = self.held.push_value(value);
+        self.settled(added)
     }
 
     /// How many numbers may be written at once: a batch, or only one if the buffered text may be put after any of them.
     #[inline(always)]
     pub(crate) fn most(&self) -> usize
-        ensures { (0 < result) × (result ≤ 32) }
+        ensures { (0 < result) × (result ≤ 64) }
     {
         if self.held.len() < HELD - BYTES {
             BATCH
@@ -207,22 +222,72 @@ impl<K: Sink> Printer<K> {
 
     /// At most a batch of values of a record in a listing.
     pub(crate) fn values(&mut self, values: &[u64]) -> Result<(), Fault>
-        requires { length values.now ≤ 32 }
+        requires { length values.now ≤ 64 }
         ensures { Prints (values_text values.now) self.old result self.new }
     {
-        match push_values(&mut self.held, &mut self.room, values) {
-            Ok(()) => self.settle(),
-            Err(AllocError) => Err(Fault::Memory),
-        }
+        let added = self.held.push_values(values);
+        self.settled(added)
     }
 
     /// At most a batch of bytes as values of a record in a listing.
     pub(crate) fn byte_values(&mut self, values: &[u8]) -> Result<(), Fault>
-        requires { length values.now ≤ 32 }
+        requires { length values.now ≤ 64 }
         ensures { Prints (values_text values.now) self.old result self.new }
     {
-        match push_byte_values(&mut self.held, &mut self.room, values) {
-            Ok(()) => self.settle(),
+        let added = self.held.push_byte_values(values);
+        self.settled(added)
+    }
+
+    /// The line of a record of few values in a listing, unless the buffered text is to be put then. Returns whether it was printed.
+    #[inline(always)]
+    pub(crate) fn record_line(
+        &mut self,
+        around: u32,
+        code: u64,
+        values: &[u64],
+    ) -> Result<bool, Fault>
+        requires { length values.now ≤ 64 }
+        ensures { PrintsWhole (record_line around code values.now) self.old result self.new }
+    {
+        match self.held.add_record(around, code, values) {
+            Ok(is_added) => Ok(is_added),
+            Err(AllocError) => Err(Fault::Memory),
+        }
+    }
+
+    /// The same of the line of a record among events, with these values.
+    #[inline(always)]
+    pub(crate) fn noted_record(
+        &mut self,
+        around: u32,
+        noted: Noted,
+        values: &[u64],
+    ) -> Result<bool, Fault>
+        requires { length values.now ≤ 64 }
+        ensures { PrintsWhole (noted_head around noted.first noted.code noted.abbreviation noted.count
+            ++ (values_text values.now ++ (10 ∷ []))) self.old result self.new }
+    {
+        match self.held.add_noted(around, noted, values) {
+            Ok(is_added) => Ok(is_added),
+            Err(AllocError) => Err(Fault::Memory),
+        }
+    }
+
+    /// The same as JSON.
+    #[inline(always)]
+    pub(crate) fn json_record(
+        &mut self,
+        around: u32,
+        noted: Noted,
+        values: &[u64],
+    ) -> Result<bool, Fault>
+        requires { length values.now ≤ 64 }
+        ensures { PrintsWhole (list_line (codes "record")
+            (noted_fields around noted.first noted.code noted.abbreviation noted.count)
+            (codes "values") (joined number_json values.now)) self.old result self.new }
+    {
+        match self.held.add_json_record(around, noted, values) {
+            Ok(is_added) => Ok(is_added),
             Err(AllocError) => Err(Fault::Memory),
         }
     }
@@ -231,10 +296,8 @@ impl<K: Sink> Printer<K> {
     pub(crate) fn line_end(&mut self) -> Result<(), Fault>
         ensures { Prints (10 ∷ []) self.old result self.new }
     {
-        match self.held.push_str("\n") {
-            Ok(()) => self.settle(),
-            Err(AllocError) => Err(Fault::Memory),
-        }
+        let added = self.held.push(b"\n");
+        self.settled(added)
     }
 
     /// The line of a magic among events, after the bit where its stream begins.
@@ -242,10 +305,9 @@ impl<K: Sink> Printer<K> {
         ensures { Prints (line_at begin 0 (magic_text (magic_number magic))) self.old result
             self.new }
     {
-        match push_head_line(&mut self.held, begin, magic) {
-            Ok(()) => self.settle(),
-            Err(AllocError) => Err(Fault::Memory),
-        }
+        let pushed = push_head_line(&mut self.piece, begin, magic);
+        let added = add_piece(&mut self.held, &mut self.piece, pushed);
+        self.settled(added)
     }
 
     /// The line of a block's beginning, with `around` blocks around it.
@@ -260,68 +322,54 @@ impl<K: Sink> Printer<K> {
         ensures { Prints (line_at first around (opened_text id width body)) self.old result
             self.new }
     {
-        match push_opened_line(&mut self.held, around, id, width, first, body) {
-            Ok(()) => self.settle(),
-            Err(AllocError) => Err(Fault::Memory),
-        }
+        let pushed = push_opened_line(&mut self.piece, around, id, width, first, body);
+        let added = add_piece(&mut self.held, &mut self.piece, pushed);
+        self.settled(added)
     }
 
     /// The line of a definition, up to its operands.
     pub(crate) fn definition_head(&mut self, around: u32, first: u64) -> Result<(), Fault>
         ensures { Prints (definition_head around first) self.old result self.new }
     {
-        match push_definition_head(&mut self.held, around, first) {
-            Ok(()) => self.settle(),
-            Err(AllocError) => Err(Fault::Memory),
-        }
+        let pushed = push_definition_head(&mut self.piece, around, first);
+        let added = add_piece(&mut self.held, &mut self.piece, pushed);
+        self.settled(added)
     }
 
     /// The first operand of a definition.
     pub(crate) fn operand(&mut self, op: Op) -> Result<(), Fault>
         ensures { Prints (op_text op) self.old result self.new }
     {
-        match push_operand(&mut self.held, op) {
-            Ok(()) => self.settle(),
-            Err(AllocError) => Err(Fault::Memory),
-        }
+        let pushed = push_operand(&mut self.piece, op);
+        let added = add_piece(&mut self.held, &mut self.piece, pushed);
+        self.settled(added)
     }
 
     /// An operand after another one.
     pub(crate) fn further_operand(&mut self, op: Op) -> Result<(), Fault>
         ensures { Prints (codes ", " ++ op_text op) self.old result self.new }
     {
-        match push_further_operand(&mut self.held, op) {
-            Ok(()) => self.settle(),
-            Err(AllocError) => Err(Fault::Memory),
-        }
+        let pushed = push_further_operand(&mut self.piece, op);
+        let added = add_piece(&mut self.held, &mut self.piece, pushed);
+        self.settled(added)
     }
 
     /// The line of a record among events, up to its values.
-    pub(crate) fn noted_head(
-        &mut self,
-        around: u32,
-        first: u64,
-        code: u64,
-        abbreviation: u32,
-        count: u64,
-    ) -> Result<(), Fault>
-        ensures { Prints (noted_head around first code abbreviation count) self.old result
+    pub(crate) fn noted_head(&mut self, around: u32, noted: Noted) -> Result<(), Fault>
+        ensures { Prints (noted_head around noted.first noted.code noted.abbreviation noted.count) self.old result
             self.new }
     {
-        match push_noted_head(&mut self.held, around, first, code, abbreviation, count) {
-            Ok(()) => self.settle(),
-            Err(AllocError) => Err(Fault::Memory),
-        }
+        let added = self.held.push_noted_head(around, noted);
+        self.settled(added)
     }
 
     /// The line of a block's end, with `around` blocks open before it.
     pub(crate) fn end_line(&mut self, around: u32, after: u64) -> Result<(), Fault>
         ensures { Prints (line_at after (around - 1) (codes "end")) self.old result self.new }
     {
-        match push_end_line(&mut self.held, around, after) {
-            Ok(()) => self.settle(),
-            Err(AllocError) => Err(Fault::Memory),
-        }
+        let pushed = push_end_line(&mut self.piece, around, after);
+        let added = add_piece(&mut self.held, &mut self.piece, pushed);
+        self.settled(added)
     }
 
     /// A line that is a JSON object with a kind and numbers.
@@ -329,10 +377,9 @@ impl<K: Sink> Printer<K> {
         requires { IsPlain kind.now × ArePlain fields.now }
         ensures { Prints (object_line kind.now (fields_told fields.now)) self.old result self.new }
     {
-        match push_object_line(&mut self.held, kind, fields) {
-            Ok(()) => self.settle(),
-            Err(AllocError) => Err(Fault::Memory),
-        }
+        let pushed = push_object_line(&mut self.piece, kind, fields);
+        let added = add_piece(&mut self.held, &mut self.piece, pushed);
+        self.settled(added)
     }
 
     /// A line that is a JSON object with a list, up to the list.
@@ -346,88 +393,62 @@ impl<K: Sink> Printer<K> {
         ensures { Prints (list_front kind.now (fields_told fields.now) key.now) self.old result
             self.new }
     {
-        match push_list_front(&mut self.held, kind, fields, key) {
-            Ok(()) => self.settle(),
-            Err(AllocError) => Err(Fault::Memory),
-        }
+        let pushed = push_list_front(&mut self.piece, kind, fields, key);
+        let added = add_piece(&mut self.held, &mut self.piece, pushed);
+        self.settled(added)
     }
 
     /// The line of a record as JSON, up to its values.
-    pub(crate) fn noted_list(
-        &mut self,
-        around: u32,
-        first: u64,
-        code: u64,
-        abbreviation: u32,
-        count: u64,
-    ) -> Result<(), Fault>
+    pub(crate) fn noted_list(&mut self, around: u32, noted: Noted) -> Result<(), Fault>
         ensures { Prints (list_front (codes "record")
-            (noted_fields around first code abbreviation count) (codes "values")) self.old result
+            (noted_fields around noted.first noted.code noted.abbreviation noted.count) (codes "values")) self.old result
             self.new }
     {
-        match push_noted_list(&mut self.held, around, first, code, abbreviation, count) {
-            Ok(()) => self.settle(),
-            Err(AllocError) => Err(Fault::Memory),
-        }
+        let added = self.held.push_json_head(around, noted);
+        self.settled(added)
     }
 
     /// The line of a record as JSON, without its values.
-    pub(crate) fn noted_line(
-        &mut self,
-        around: u32,
-        first: u64,
-        code: u64,
-        abbreviation: u32,
-        count: u64,
-    ) -> Result<(), Fault>
+    pub(crate) fn noted_line(&mut self, around: u32, noted: Noted) -> Result<(), Fault>
         ensures { Prints (object_line (codes "record")
-            (noted_fields around first code abbreviation count)) self.old result self.new }
+            (noted_fields around noted.first noted.code noted.abbreviation noted.count)) self.old result self.new }
     {
-        match push_noted_line(&mut self.held, around, first, code, abbreviation, count) {
-            Ok(()) => self.settle(),
-            Err(AllocError) => Err(Fault::Memory),
-        }
+        let added = self.held.push_json_noted(around, noted);
+        self.settled(added)
     }
 
     /// The number at a place of a JSON list.
     pub(crate) fn number_item(&mut self, place: u64, number: u64) -> Result<(), Fault>
         ensures { Prints (comma place ++ number_json number) self.old result self.new }
     {
-        match push_number_item(&mut self.held, place, number) {
-            Ok(()) => self.settle(),
-            Err(AllocError) => Err(Fault::Memory),
-        }
+        let added = self.held.push_item(place, number);
+        self.settled(added)
     }
 
     /// At most a batch of numbers of a JSON list, the first of them at a place.
     pub(crate) fn items(&mut self, place: usize, numbers: &[u64]) -> Result<(), Fault>
-        requires { length numbers.now ≤ 32 }
+        requires { length numbers.now ≤ 64 }
         ensures { Prints (joined_from number_json place numbers.now) self.old result self.new }
     {
-        match push_items(&mut self.held, &mut self.room, place, numbers) {
-            Ok(()) => self.settle(),
-            Err(AllocError) => Err(Fault::Memory),
-        }
+        let added = self.held.push_items(place, numbers);
+        self.settled(added)
     }
 
     /// The operand at a place of a JSON list.
     pub(crate) fn op_item(&mut self, place: u64, op: Op) -> Result<(), Fault>
         ensures { Prints (comma place ++ op_json op) self.old result self.new }
     {
-        match push_op_item(&mut self.held, place, op) {
-            Ok(()) => self.settle(),
-            Err(AllocError) => Err(Fault::Memory),
-        }
+        let pushed = push_op_item(&mut self.piece, place, op);
+        let added = add_piece(&mut self.held, &mut self.piece, pushed);
+        self.settled(added)
     }
 
     /// The end of a JSON list and of its line.
     pub(crate) fn list_end(&mut self) -> Result<(), Fault>
         ensures { Prints (codes "]}\n") self.old result self.new }
     {
-        match self.held.push_str("]}\n") {
-            Ok(()) => self.settle(),
-            Err(AllocError) => Err(Fault::Memory),
-        }
+        let added = self.held.push(b"]}\n");
+        self.settled(added)
     }
 
     /// A line that is a JSON object with the digits of a magic.
@@ -441,10 +462,9 @@ impl<K: Sink> Printer<K> {
         ensures { Prints (text_line kind.now (fields_told fields.now) (codes "magic")
             (flat_map hex_text (magic_bytes (magic_number magic)))) self.old result self.new }
     {
-        match push_magic_line(&mut self.held, kind, fields, magic) {
-            Ok(()) => self.settle(),
-            Err(AllocError) => Err(Fault::Memory),
-        }
+        let pushed = push_magic_line(&mut self.piece, kind, fields, magic);
+        let added = add_piece(&mut self.held, &mut self.piece, pushed);
+        self.settled(added)
     }
 
     /// A line that is a JSON object with the name of a reason.
@@ -458,9 +478,8 @@ impl<K: Sink> Printer<K> {
         ensures { Prints (text_line kind.now (fields_told fields.now) (codes "reason")
             (name_of reason)) self.old result self.new }
     {
-        match push_reason_line(&mut self.held, kind, fields, reason) {
-            Ok(()) => self.settle(),
-            Err(AllocError) => Err(Fault::Memory),
-        }
+        let pushed = push_reason_line(&mut self.piece, kind, fields, reason);
+        let added = add_piece(&mut self.held, &mut self.piece, pushed);
+        self.settled(added)
     }
 }

@@ -1,25 +1,29 @@
 //! The events of an input as lines, written as they are read.
 
-ghost use Rattle.std.specs.Prelude.{◌≡◌, ◌≤◌, ◌++◌, OnOk, [], codes, flat_map, length};
+ghost use Rattle.std.specs.Prelude.{◌≡◌, ◌≤◌, ◌++◌, IfSome, OnOk, [], codes, flat_map, length, OnErr, Some, None};
 ghost use Rattle.bit_grammar.specs.EventTexts.{line_at, op_text, ops_text, shown_values, noted_text, event_line};
+ghost use Rattle.bit_grammar.specs.Texts.{values_text};
+ghost use Rattle.bit_grammar.specs.Steps.{open_after};
 ghost use Rattle.bit_grammar.specs.declared.op.Op.{Op};
 ghost use Rattle.bit_fields.specs.Opening.{head_told};
 ghost use Rattle.bit_events.specs.Coming.{going};
 ghost use Rattle.bit_events.specs.EventView.{event_shown};
 ghost use Rattle.bit_scan.specs.Json.{ArePlain, event_json, fields_told, joined, list_line, noted_fields, noted_json, number_json, op_json};
-ghost use Rattle.bit_scan.specs.Printing.{Prints};
+ghost use Rattle.bit_scan.specs.Printing.{Prints, PrintsWhole, Printed};
 ghost use Rattle.bit_scan.specs.Styles.{fault_as, head_as, refusal_as, styled_event};
-ghost use Rattle.bit_scan.specs.Telling.{PrintsLast, TellsNext, TellsRest, TellsAll, TellsInput};
+ghost use Rattle.bit_scan.specs.Telling.{FailsLine, PrintsLast, TellsRest, TellsAll, TellsInput};
 
 use crate::analysing::begin_of;
 use crate::format::{EventStyle, Format};
 use crate::json::Field;
-use crate::listing::{around_after, write_values};
+use crate::listing::{around_after, few_of, kept, write_values};
 use crate::printer::Printer;
-use bit_events::{Event, PackedEvent, PackedEvents};
+use crate::record_lines::Noted;
+use bit_abbrev::Abbrev;
+use bit_events::{Event, Gatherer, PackedEvent, PackedEvents};
 use bit_fields::{Fault, Head, Limits, PackedValues, Reason, Sink, Source};
 use bit_grammar::{Op, ValueDisplay};
-use std::alloc::Global;
+use std::alloc::{AllocError, Global};
 
 /// Writes operands, a comma before each.
 fn write_further_operands<K: Sink>(printer: &mut Printer<K>, ops: &[Op]) -> Result<(), Fault>
@@ -75,16 +79,60 @@ fn write_shown<K: Sink>(
     }
 }
 
-/// The first bit of a record, its code and its abbreviation id.
-#[derive(Clone, Copy)]
-struct Noted {
-    first: u64,
-    code: u64,
-    abbreviation: u32,
+/// Writes the line of a record, piece by piece.
+#[tactic(auto, using(crate::proofs::Parted::no_first, crate::proofs::Parted::no_second, crate::proofs::Parted::third, crate::proofs::Parted::noted_parts))]
+#[inline(never)]
+fn write_noted_pieces<K: Sink>(
+    printer: &mut Printer<K>,
+    around: u32,
+    noted: Noted,
+    values: ValueDisplay,
+    listed: &PackedValues,
+) -> Result<(), Fault>
+    requires { noted.count ≡ length listed.now }
+    ensures { Prints (line_at noted.first around
+        (noted_text values noted.code noted.abbreviation listed.now)) printer.old result
+        printer.new }
+{
+    printer.noted_head(around, noted)?;
+    write_shown(printer, values, listed)?;
+    printer.line_end()
+}
+
+/// The values of a record that are shown, if they are few and held as numbers.
+#[inline(always)]
+fn shown_of(values: ValueDisplay, listed: &PackedValues) -> Option<&[u64]>
+    ensures { IfSome result (λ shown. (values_text shown.now ≡ shown_values values listed.now)
+        × (length shown.now ≤ 64)) }
+{
+    match values {
+        ValueDisplay::Shown => few_of(listed),
+        ValueDisplay::LeftOut => Some(&[]),
+    }
+}
+
+/// Writes the line of a record at once, if it shows few values and the buffered text is not to be put then. Returns whether it did.
+#[inline(always)]
+fn write_noted_whole<K: Sink>(
+    printer: &mut Printer<K>,
+    around: u32,
+    noted: Noted,
+    values: ValueDisplay,
+    listed: &PackedValues,
+) -> Result<bool, Fault>
+    requires { noted.count ≡ length listed.now }
+    ensures { PrintsWhole (line_at noted.first around
+        (noted_text values noted.code noted.abbreviation listed.now)) printer.old result
+        printer.new }
+{
+    match shown_of(values, listed) {
+        Some(shown) => printer.noted_record(around, noted, shown),
+        None => Ok(false),
+    }
 }
 
 /// Writes the line of a record.
-#[tactic(auto, using(crate::proofs::Parted::no_first, crate::proofs::Parted::no_second, crate::proofs::Parted::third, crate::proofs::Parted::noted_parts))]
+#[tactic(auto, using(crate::proofs::Prints::whole_printed, crate::proofs::Prints::pieces_follow))]
 fn write_noted<K: Sink>(
     printer: &mut Printer<K>,
     around: u32,
@@ -92,22 +140,19 @@ fn write_noted<K: Sink>(
     values: ValueDisplay,
     listed: &PackedValues,
 ) -> Result<(), Fault>
+    requires { noted.count ≡ length listed.now }
     ensures { Prints (line_at noted.first around
         (noted_text values noted.code noted.abbreviation listed.now)) printer.old result
         printer.new }
 {
-    printer.noted_head(
-        around,
-        noted.first,
-        noted.code,
-        noted.abbreviation,
-        listed.len(),
-    )?;
-    write_shown(printer, values, listed)?;
-    printer.line_end()
+    if write_noted_whole(printer, around, noted, values, listed)? {
+        return Ok(());
+    }
+    write_noted_pieces(printer, around, noted, values, listed)
 }
 
 /// Writes the line of an event, with `around` blocks open before it.
+#[inline(always)]
 fn write_line<K: Sink>(
     printer: &mut Printer<K>,
     around: u32,
@@ -138,6 +183,7 @@ fn write_line<K: Sink>(
                 first,
                 code,
                 abbreviation: abbrev,
+                count: listed.len(),
             };
             write_noted(printer, around, noted, values, listed)
         }
@@ -205,7 +251,44 @@ fn write_json_items<K: Sink>(printer: &mut Printer<K>, values: &PackedValues) ->
     write_json_parts(printer, values)
 }
 
+/// Writes the line of a record with its values as JSON, piece by piece.
+#[inline(never)]
+fn write_json_pieces<K: Sink>(
+    printer: &mut Printer<K>,
+    around: u32,
+    noted: Noted,
+    values: &PackedValues,
+) -> Result<(), Fault>
+    ensures { Prints (list_line (codes "record")
+        (noted_fields around noted.first noted.code noted.abbreviation noted.count)
+        (codes "values") (joined number_json values.now)) printer.old result printer.new }
+{
+    printer.noted_list(around, noted)?;
+    write_json_items(printer, values)?;
+    printer.list_end()
+}
+
+/// Writes the line of a record with its values as JSON at once, if these are few and the buffered text is not to be put then. Returns
+/// whether it did.
+#[inline(always)]
+fn write_json_whole<K: Sink>(
+    printer: &mut Printer<K>,
+    around: u32,
+    noted: Noted,
+    values: &PackedValues,
+) -> Result<bool, Fault>
+    ensures { PrintsWhole (list_line (codes "record")
+        (noted_fields around noted.first noted.code noted.abbreviation noted.count)
+        (codes "values") (joined number_json values.now)) printer.old result printer.new }
+{
+    match few_of(values) {
+        Some(few) => printer.json_record(around, noted, few),
+        None => Ok(false),
+    }
+}
+
 /// Writes the line of a record with its values as JSON.
+#[tactic(auto, using(crate::proofs::Prints::whole_printed, crate::proofs::Prints::pieces_follow))]
 fn write_json_values<K: Sink>(
     printer: &mut Printer<K>,
     around: u32,
@@ -213,18 +296,13 @@ fn write_json_values<K: Sink>(
     values: &PackedValues,
 ) -> Result<(), Fault>
     ensures { Prints (list_line (codes "record")
-        (noted_fields around noted.first noted.code noted.abbreviation (length values.now))
+        (noted_fields around noted.first noted.code noted.abbreviation noted.count)
         (codes "values") (joined number_json values.now)) printer.old result printer.new }
 {
-    printer.noted_list(
-        around,
-        noted.first,
-        noted.code,
-        noted.abbreviation,
-        values.len(),
-    )?;
-    write_json_items(printer, values)?;
-    printer.list_end()
+    if write_json_whole(printer, around, noted, values)? {
+        return Ok(());
+    }
+    write_json_pieces(printer, around, noted, values)
 }
 
 /// Writes the line of a record as JSON.
@@ -236,22 +314,17 @@ fn write_json_record<K: Sink>(
     listed: &PackedValues,
 ) -> Result<(), Fault>
     ensures { Prints (noted_json values
-        (noted_fields around noted.first noted.code noted.abbreviation (length listed.now))
-        listed.now) printer.old result printer.new }
+        (noted_fields around noted.first noted.code noted.abbreviation noted.count) listed.now)
+        printer.old result printer.new }
 {
     match values {
         ValueDisplay::Shown => write_json_values(printer, around, noted, listed),
-        ValueDisplay::LeftOut => printer.noted_line(
-            around,
-            noted.first,
-            noted.code,
-            noted.abbreviation,
-            listed.len(),
-        ),
+        ValueDisplay::LeftOut => printer.noted_line(around, noted),
     }
 }
 
 /// Writes the line of an event as JSON, with `around` blocks open before it.
+#[inline(always)]
 fn write_json_line<K: Sink>(
     printer: &mut Printer<K>,
     around: u32,
@@ -292,6 +365,7 @@ fn write_json_line<K: Sink>(
                 first,
                 code,
                 abbreviation: abbrev,
+                count: listed.len(),
             };
             write_json_record(printer, around, noted, values, listed)
         }
@@ -303,6 +377,7 @@ fn write_json_line<K: Sink>(
 }
 
 /// Writes the line of an event in a style, with `around` blocks open before it.
+#[inline(always)]
 fn write_styled<K: Sink>(
     printer: &mut Printer<K>,
     around: u32,
@@ -373,63 +448,147 @@ fn write_last<K: Sink>(printer: &mut Printer<K>, format: Format, fault: Fault) -
     }
 }
 
-/// Writes the line of the next event, with `around` blocks open before it, and returns how many are open after it. At the end of
-/// the events nothing stays buffered, and the call returns `None` on acceptance, and otherwise the fault.
-fn write_next<S: Source, K: Sink>(
-    events: &mut PackedEvents<S>,
-    printer: &mut Printer<K>,
-    around: u32,
+/// Writes the lines of events as they are gathered.
+struct EventWriter<K: Sink> {
+    alloc: Global,
+    printer: Printer<K>,
     style: EventStyle,
-) -> Result<Option<u32>, Fault>
-    requires around { around ≤ 255 }
-    requires goes { events.old.stage ≡ going }
-    ensures { TellsNext style around events.old printer.old result events.new printer.new }
-{
-    match events.next() {
-        Ok(Some(event)) => {
-            write_styled(printer, around, &event, style)?;
-            Ok(Some(around_after(around, &event)))
-        }
-        Ok(None) => {
-            printer.finish()?;
-            Ok(None)
-        }
-        Err(fault) => Err(write_last(printer, style.format, fault)),
+    /// How many blocks are open.
+    around: u32,
+    /// The fault of a line that was not written.
+    stopped: Option<Fault>,
+}
+
+impl<K: Sink> EventWriter<K> {
+    /// Returns the sink.
+    fn into_sink(self) -> K
+        ensures { K.outgoing result ≡ self.printer.outgoing }
+    {
+        let EventWriter {
+            printer,
+            alloc: _,
+            style: _,
+            around: _,
+            stopped: _,
+        } = self;
+        printer.into_sink()
+    }
+
+    /// Writes the line of an event.
+    #[inline(always)]
+    fn write(&mut self, event: PackedEvent<'_>) -> Result<(), AllocError>
+        ensures written { OnOk result (Printed (styled_event self.old.style self.old.around
+            (event_shown event.entry)) self.old.printer self.new.printer) }
+        ensures fails { OnErr result (FailsLine self.old.style self.old.around self.old.printer
+            (Some (event_shown event.entry)) self.new.stopped self.new.printer) }
+        ensures style { self.new.style ≡ self.old.style }
+        ensures around { OnOk result (self.new.around
+            ≡ open_after (event_shown event.entry) self.old.around) }
+        ensures stopped { OnOk result (self.new.stopped ≡ self.old.stopped) }
+    {
+        let Some(next) = around_after(self.around, &event) else {
+            self.stopped = Some(Fault::Memory);
+            return Err(AllocError);
+        };
+        let done = write_styled(&mut self.printer, self.around, &event, self.style);
+        kept(&mut self.stopped, done)?;
+        self.around = next;
+        Ok(())
     }
 }
 
-/// Writes the lines of all remaining events.
+impl<K: Sink> Gatherer for EventWriter<K> {
+    ghost use Rattle.std.specs.Prelude.{◌≡◌};
+    ghost use Rattle.bit_scan.specs.Telling.{FailsLine, WroteLines};
+
+    type Values = PackedValues;
+
+    ghost gathered = { λ first events last. WroteLines first.style first.around first.printer events
+        last.around last.printer × (last.style ≡ first.style) × (last.stopped ≡ first.stopped) };
+
+    ghost fails = { λ old event new. FailsLine old.style old.around old.printer event new.stopped
+        new.printer };
+
+    fn values(&self) -> PackedValues {
+        PackedValues::new(self.alloc)
+    }
+
+    fn enter(&mut self, id: u32, width: u8, first: u64, body: u64) -> Result<(), AllocError> {
+        self.write(Event::Enter {
+            id,
+            width,
+            first,
+            body,
+        })
+    }
+
+    fn define(&mut self, abbrev: &Abbrev, first: u64, after: u64) -> Result<(), AllocError> {
+        self.write(Event::Define {
+            abbrev,
+            first,
+            after,
+        })
+    }
+
+    fn record(
+        &mut self,
+        id: u32,
+        code: u64,
+        values: &mut PackedValues,
+        first: u64,
+        after: u64,
+    ) -> Result<(), AllocError> {
+        self.write(Event::Record {
+            abbrev: id,
+            code,
+            values: &*values,
+            first,
+            after,
+        })
+    }
+
+    fn leave(&mut self, after: u64) -> Result<(), AllocError> {
+        self.write(Event::Leave { after })
+    }
+}
+
+/// Writes the lines of all remaining events. At the end of the events nothing stays buffered.
 fn write_rest<S: Source, K: Sink>(
     events: &mut PackedEvents<S>,
-    printer: &mut Printer<K>,
-    style: EventStyle,
+    writer: &mut EventWriter<K>,
 ) -> Result<(), Fault>
     requires goes { events.old.stage ≡ going }
     requires outside { events.old.depth ≡ 0 }
-    requires deepest { events.old.deepest ≤ 255 }
-    ensures { TellsRest style 0 events.old printer.old result events.new printer.new }
+    requires around { writer.old.around ≡ 0 }
+    requires wrote { writer.old.stopped ≡ None }
+    ensures { TellsRest writer.old.style 0 events.old writer.old.printer result events.new
+        writer.new.printer }
 {
-    let mut around = 0;
-    while let Some(next) = write_next(events, printer, around, style)? {
-        around = next;
+    let done = events.gather(writer);
+    if let Some(fault) = writer.stopped {
+        return Err(fault);
     }
-    Ok(())
+    match done {
+        Ok(()) => writer.printer.finish(),
+        Err(fault) => Err(write_last(&mut writer.printer, writer.style.format, fault)),
+    }
 }
 
 /// Writes the line of the magic and those of all events.
 fn write_all<S: Source, K: Sink>(
     events: &mut PackedEvents<S>,
-    printer: &mut Printer<K>,
-    style: EventStyle,
+    writer: &mut EventWriter<K>,
 ) -> Result<(), Fault>
     requires goes { events.old.stage ≡ going }
     requires outside { events.old.depth ≡ 0 }
-    requires deepest { events.old.deepest ≤ 255 }
-    ensures { TellsAll style events.old printer.old result events.new printer.new }
+    requires around { writer.old.around ≡ 0 }
+    requires wrote { writer.old.stopped ≡ None }
+    ensures { TellsAll writer.old.style events.old writer.old.printer result events.new
+        writer.new.printer }
 {
     let head = *events.head();
-    write_head(printer, head, style.format)?;
-    write_rest(events, printer, style)
+    write_head(&mut writer.printer, head, writer.style.format)?;
+    write_rest(events, writer)
 }
 
 /// Appends the events of an input to a sink, one a line, as they are read: a line for the magic, and one for each block's
@@ -451,14 +610,20 @@ pub fn write_events<S: Source, K: Sink>(
     ensures { TellsInput style limits (S.incoming source) (K.outgoing sink) result.0
         (S.incoming result.1) (K.outgoing result.2) }
 {
-    let mut printer = Printer::new(alloc, sink);
+    let mut writer = EventWriter {
+        alloc,
+        printer: Printer::new(alloc, sink),
+        style,
+        around: 0,
+        stopped: None,
+    };
     let mut events = match PackedEvents::start(alloc, source, limits) {
         Ok(events) => events,
         Err((fault, source)) => {
-            let fault = write_last(&mut printer, style.format, fault);
-            return (Err(fault), source, printer.into_sink());
+            let fault = write_last(&mut writer.printer, style.format, fault);
+            return (Err(fault), source, writer.into_sink());
         }
     };
-    let answer = write_all(&mut events, &mut printer, style);
-    (answer, events.into_source(), printer.into_sink())
+    let answer = write_all(&mut events, &mut writer);
+    (answer, events.into_source(), writer.into_sink())
 }

@@ -1,7 +1,7 @@
 ghost use Rattle.std.specs.Prelude.{Some};
 
-use crate::batch::{push_items, push_values};
 use crate::json::push_json_number;
+use crate::text_buffer::TextBuffer;
 use crate::{Analysis, Format, analyse, push_magic, write_show};
 use bit_fields::{Fault, Limits, Reason, Sink, SinkFailed, SliceSource, VecSink};
 use bit_grammar::{Info, RecordName};
@@ -245,14 +245,14 @@ fn numbers_in_batches(rt: HostRuntime) -> Result<(), Fail> {
         9_007_199_254_740_992,
         18_446_744_073_709_551_615,
     ];
-    let (mut text, mut room) = (String::new(rt.alloc()), [0; 736]);
-    push_values(&mut text, &mut room, &numbers)?;
-    text.push('\n')?;
-    push_items(&mut text, &mut room, 0, &numbers)?;
+    let mut text = TextBuffer::new(rt.alloc());
+    text.push_values(&numbers)?;
+    text.push(b"\n")?;
+    text.push_items(0, &numbers)?;
     let wanted =
         " 0 9 10 99 100 999 1000 9999 10000 4294967296 9007199254740992 18446744073709551615\n\
         0,9,10,99,100,999,1000,9999,10000,4294967296,\"9007199254740992\",\"18446744073709551615\"";
-    assert!(rt; text.as_str() == wanted);
+    assert!(rt; text.as_bytes() == wanted.as_bytes());
     Ok(())
 }
 

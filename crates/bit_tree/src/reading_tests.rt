@@ -2,7 +2,7 @@
 
 use crate::copying::blocks_of;
 use crate::tests::{agrees, blocks_text, document_text, is_fit};
-use crate::{Document, Info, Marked, MarkedItem, read, tree_of, tree_with};
+use crate::{Document, Info, Marked, MarkedItem, judged_tree_with, read, tree_of, tree_with};
 use bit_fields::{BitWriter, Fault, Limits, ReadSource, SliceSource, Source, VecSink};
 use std::alloc::{AllocError, Global};
 use std::io;
@@ -574,11 +574,30 @@ fn told_of_document(alloc: Global, bytes: &[u8]) -> Result<String, AllocError> {
     }
 }
 
+/// The document of an input from a reader, whose bytes no clause knows, as text.
+fn told_of_piped_document(alloc: Global, bytes: &[u8]) -> Result<String, AllocError> {
+    let (answer, _) = read(alloc, in_pieces(bytes, 5, 0), Limits::usual());
+    let marked = match answer {
+        Ok(marked) => marked,
+        Err(fault) => return told_of_fault(alloc, fault),
+    };
+    match judged_tree_with(alloc, &marked, Info::Keep)? {
+        Ok(document) => document_text(alloc, &document),
+        Err(bad) => format!(in alloc; "{}", bad.reason),
+    }
+}
+
 #[test]
 fn marked_trees_and_documents(rt: HostRuntime) {
     for (text, document, marked) in &MARKED {
         let bytes = bytes_of(rt.alloc(), text).expect(&rt, "memory");
         agrees(&rt, told_of_document(rt.alloc(), &bytes), document, text);
+        agrees(
+            &rt,
+            told_of_piped_document(rt.alloc(), &bytes),
+            document,
+            text,
+        );
         agrees(&rt, shown_marked(rt.alloc(), &bytes), marked, text);
     }
 }

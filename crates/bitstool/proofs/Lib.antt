@@ -9,3 +9,4 @@ pub mod Putting
 pub mod Doing
 pub mod Comparing
 pub mod Naming
+pub mod SameLines

@@ -1,10 +1,12 @@
 -- The line of JSON that reports whether two inputs are the same, and where they first differ, as ASCII codes.
-use Rattle.std.specs.Prelude.{ℕ, List, [], ◌∷◌, ◌++◌, Option, Some, None, codes, flat_map}
+use Rattle.std.specs.Prelude.{◌⊎◌, ℕ, ◌<◌, List, [], ◌∷◌, ◌++◌, Option, Some, None, codes, flat_map}
+use Rattle.std.specs.List.{AllByRecursion}
 use Rattle.bit_grammar.specs.Texts.{hex_text, magic_bytes}
 use Rattle.bit_norm.specs.declared.differences.OpenBlock.{OpenBlock}
 use Rattle.bit_norm.specs.declared.differences.ValueDifference.{ValueDifference}
-use Rattle.bit_norm.specs.Entries.{Place, at_magic, at_item, What, the_magic, the_block, the_record, the_end, Standing, Seen}
+use Rattle.bit_norm.specs.Entries.{Place, at_magic, at_item, What, the_magic, the_block, the_record, the_end, Seen}
 use Rattle.bit_scan.specs.Json.{field_json, object, object_front, text_part}
+use Rattle.bit_scan.specs.ObjectLines.{IsLineOf, IsLineValue, IsObject, IsSimple}
 
 -- an open block, with a comma after it
 abbrev pub open_json : OpenBlock → List ℕ
@@ -48,3 +50,39 @@ difference_json seen =
     ++ codes "],\"first\":" ++ what_json seen.first.bit seen.first.what ++ first_json seen.value
     ++ codes "},\"second\":" ++ what_json seen.second.bit seen.second.what
     ++ second_json seen.value ++ codes "}}\n"
+
+-- ---- the grammar of the line
+
+-- one object; its values are those of other lines, or objects of strings and numbers
+abbrev pub IsDifferenceLine : (bound : ℕ) → List ℕ → Type 0
+IsDifferenceLine bound line = IsLineOf (λ text. IsLineValue bound text
+    ⊎ IsObject (IsSimple bound) text) line
+
+-- each number of a report is below the bound
+pub record BlockFits (bound : ℕ) (block : OpenBlock) : Type 0 where
+  pub id : block.id < bound
+  pub items : block.items < bound
+
+abbrev pub PlaceFits : (bound : ℕ) → Place → Type 0
+PlaceFits bound at_magic = Unit {0}
+PlaceFits bound (at_item within items) = AllByRecursion (BlockFits bound) within
+    × (items < bound)
+
+abbrev pub WhatFits : (bound : ℕ) → What → Type 0
+WhatFits bound (the_magic magic) = Unit {0}
+WhatFits bound (the_block id) = id < bound
+WhatFits bound (the_record code count) = (code < bound) × (count < bound)
+WhatFits bound the_end = Unit {0}
+
+abbrev pub ValueFits : (bound : ℕ) → Option ValueDifference → Type 0
+ValueFits bound None = Unit {0}
+ValueFits bound (Some value) = (value.index < bound) × (value.first < bound)
+    × (value.second < bound)
+
+pub record SeenFits (bound : ℕ) (seen : Seen) : Type 0 where
+  pub place : PlaceFits bound seen.place
+  pub first_bit : seen.first.bit < bound
+  pub first : WhatFits bound seen.first.what
+  pub second_bit : seen.second.bit < bound
+  pub second : WhatFits bound seen.second.what
+  pub value : ValueFits bound seen.value

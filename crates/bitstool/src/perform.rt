@@ -1,12 +1,13 @@
 //! Carrying out a command.
 
-ghost use Rattle.std.specs.Prelude.{◌≡◌, ◌≤◌, ℕ, List, IfOk, string_bytes};
+ghost use Rattle.std.specs.Prelude.{◌≡◌, ◌≤◌, ◌^◌, ℕ, List, IfOk, string_bytes};
 ghost use Rattle.bitstool.specs.declared.outcome.Outcome.{Outcome as OutcomeValue};
 ghost use Rattle.bitstool.specs.declared.task.Explain.{Explain as ExplainValue};
 ghost use Rattle.bitstool.specs.declared.task.Task.{Task as TaskValue};
 ghost use Rattle.bitstool.specs.Performing.{ComparesParts, Judges, TellsDifference, TellsFound, outcome_found, Settles, TellsLine, outcome_of_assembling, outcome_of_writing, outcome_in, outcome_of};
 ghost use Rattle.bit_norm.specs.Entries.{difference_shown};
 ghost use Rattle.bitstool.specs.Differences.{different_text, same_text};
+ghost use Rattle.bitstool.specs.JsonDifferences.{IsDifferenceLine};
 ghost use Rattle.bitstool.specs.LeftOut.{setting_for};
 ghost use Rattle.bitstool.specs.Runs.{Does, TakesInput};
 ghost use Rattle.bitstool.specs.Outcome.{status_of};
@@ -169,10 +170,12 @@ fn tell_difference<K: Sink>(
     }
 }
 
-/// Writes that two inputs are the same.
+/// Writes that two inputs are the same. The line of JSON is one object.
+#[tactic(auto, using(crate::proofs::SameLines::same_is))]
 fn tell_same<K: Sink>(explain: Explain, sink: &mut K) -> Outcome
-    ensures { TellsLine (OutcomeValue.Done) (same_text explain) (K.outgoing sink.old) result
+    ensures tells { TellsLine (OutcomeValue.Done) (same_text explain) (K.outgoing sink.old) result
         (K.outgoing sink.new) }
+    ensures object { IsDifferenceLine (2 ^ 64) (same_text ExplainValue.Json) }
 {
     match explain {
         Explain::Word => tell(Outcome::Done, b"same\n", sink),

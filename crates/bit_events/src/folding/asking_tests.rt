@@ -3,7 +3,7 @@
 ghost use Rattle.bit_events.specs.MachineView.{TookSome};
 
 use super::asking_inputs::{made, wide};
-use super::{Folding, hand_on};
+use super::{gather_next, hand_on};
 use crate::events_tests::{Pieces, pieces_of};
 use crate::folding_tests::Text;
 use crate::machine::Machine;
@@ -24,6 +24,14 @@ use std::process::Abort;
 const MOST_EVENTS: u32 = 10_000;
 
 // ---- the fold as it was
+
+/// A stream that is being read, and the gatherer of its events.
+#[derive(Drop)]
+struct Folding<S: Source, G: Gatherer> {
+    reader: BitReader<S>,
+    machine: Machine,
+    gatherer: G,
+}
 
 impl<S: Source, G: Gatherer> Folding<S, G> {
     /// Gathers completely buffered records of the innermost block, possibly none.
@@ -54,7 +62,14 @@ impl<S: Source, G: Gatherer> Folding<S, G> {
         if !self.reader.is_live() || self.machine.is_outside() && !is_aligned {
             return Err(Fault::Failed);
         }
-        self.gather_next(alloc, limits, &mut values)
+        gather_next(
+            alloc,
+            &mut self.reader,
+            &mut self.machine,
+            limits,
+            &mut self.gatherer,
+            &mut values,
+        )
     }
 
     /// Gathers all events.

@@ -13,23 +13,23 @@ pub returns-in-Err-clause-whole : goal.returns-in-Err-clause-whole
 returns-in-Err-clause-whole g c = not_begun {A = Unit {0}} (λ bytes done. Unit {0}) c.args.limits (g.S.Source.incoming c.args.source) (g.S.Source.incoming c.in-Err.source) c.in-Err.fault (declined c.args.limits (g.S.Source.incoming c.args.source) c.in-Err.fault (g.S.Source.incoming c.in-Err.source) (omega (arith, c.bytes-bytes.ensures.capped.bytes)) c.in-Err.ensures.refused)
 
 pub returns-in-Ok-done-clause-some : goal.returns-in-Ok-done-clause-some
-returns-in-Ok-done-clause-some g c = some_gathered g.G.Gatherer.gathered c.args.limits c.new.result c.in-Ok.begun.0 c.args.gatherer c.gather-done.new.self.reader c.gather-done.new.self.gatherer c.requires c.new.ensures.none c.in-Ok-done.ensures
+returns-in-Ok-done-clause-some g c = some_gathered g.G.Gatherer.gathered c.args.limits c.new-machine.result c.in-Ok.begun.0 c.args.gatherer c.gather_rest-done.new.machine c.gather_rest-done.new.reader c.gather_rest-done.new.gatherer c.requires c.new-machine.ensures.none c.in-Ok-done.ensures
 
 pub returns-in-Ok-done-clause-whole : goal.returns-in-Ok-done-clause-whole
 returns-in-Ok-done-clause-whole g c =
     let i = g.S.Source.incoming c.args.source in
-    let b = c.gather-done.new.self.reader in
+    let b = c.gather_rest-done.new.reader in
     let head = c.in-Ok.begun.1 in
-    let begun : Begun c.args.limits i (coming_of false c.args.limits head c.new.result [] None c.in-Ok.begun.0.position c.in-Ok.begun.0) = began c.args.limits i head c.new.result [] c.in-Ok.begun.0 c.bytes-bytes.ensures.capped c.new.ensures.machine refl c.new.ensures.none c.in-Ok.ensures.begun in
+    let begun : Begun c.args.limits i (coming_of false c.args.limits head c.new-machine.result [] None c.in-Ok.begun.0.position c.in-Ok.begun.0) = began c.args.limits i head c.new-machine.result [] c.in-Ok.begun.0 c.bytes-bytes.ensures.capped c.new-machine.ensures.machine refl c.new-machine.ensures.none c.in-Ok.ensures.begun in
     let all = c.in-Ok-done.ensures in
-    subst (λ (now : Incoming). Spent c.args.limits i now × (IsSome i.to_come → Gathered g.G.Gatherer.gathered c.args.limits (known_bytes i.to_come) c.args.gatherer (head_told head) c.gather-done.new.self.gatherer c.position-after.result × (known_bytes now.to_come ≡ []))) (sym c.into_source-source.ensures) (
-      spent c.args.limits i head c.new.result c.in-Ok.begun.0 b begun all.pays,
-      λ tells. (whole_gathered g.G.Gatherer.gathered c.args.limits i head c.new.result c.in-Ok.begun.0 c.args.gatherer b c.gather-done.new.self.gatherer c.position-after.result begun c.requires c.position-after.ensures.position all tells, all.none (begun.pays.tells tells)),
+    subst (λ (now : Incoming). Spent c.args.limits i now × (IsSome i.to_come → Gathered g.G.Gatherer.gathered c.args.limits (known_bytes i.to_come) c.args.gatherer (head_told head) c.gather_rest-done.new.gatherer c.position-after.result × (known_bytes now.to_come ≡ []))) (sym c.into_source-source.ensures) (
+      spent c.args.limits i head c.new-machine.result c.in-Ok.begun.0 b begun all.pays,
+      λ tells. (whole_gathered g.G.Gatherer.gathered c.args.limits i head c.new-machine.result c.in-Ok.begun.0 c.args.gatherer c.gather_rest-done.new.machine b c.gather_rest-done.new.gatherer c.position-after.result begun c.requires c.position-after.ensures.position all tells, all.none (begun.pays.tells tells)),
     )
 
-pub returns-clause-whole : goal.returns-clause-whole
-returns-clause-whole g c =
+pub returns-in-Err-done-clause-whole : goal.returns-in-Err-done-clause-whole
+returns-in-Err-done-clause-whole g c =
     let i = g.S.Source.incoming c.args.source in
     let head = c.in-Ok.begun.1 in
-    let begun : Begun c.args.limits i (coming_of false c.args.limits head c.new.result [] None c.in-Ok.begun.0.position c.in-Ok.begun.0) = began c.args.limits i head c.new.result [] c.in-Ok.begun.0 c.bytes-bytes.ensures.capped c.new.ensures.machine refl c.new.ensures.none c.in-Ok.ensures.begun in
-    not_read {A = Unit {0}} (λ bytes done. Unit {0}) c.args.limits i (g.S.Source.incoming c.into_source-source.result) head c.new.result c.in-Ok.begun.0 c.gather-done.new.self.reader c.in-Err-done.fault begun c.into_source-source.ensures c.in-Err-done.ensures
+    let begun : Begun c.args.limits i (coming_of false c.args.limits head c.new-machine.result [] None c.in-Ok.begun.0.position c.in-Ok.begun.0) = began c.args.limits i head c.new-machine.result [] c.in-Ok.begun.0 c.bytes-bytes.ensures.capped c.new-machine.ensures.machine refl c.new-machine.ensures.none c.in-Ok.ensures.begun in
+    not_read {A = Unit {0}} (λ bytes done. Unit {0}) g.G.Gatherer.gathered g.G.Gatherer.fails c.args.limits i (g.S.Source.incoming c.into_source-source.result) head c.new-machine.result c.in-Ok.begun.0 c.args.gatherer c.gather_rest-done.new.reader c.gather_rest-done.new.gatherer c.in-Err-done.fault begun c.into_source-source.ensures c.in-Err-done.ensures

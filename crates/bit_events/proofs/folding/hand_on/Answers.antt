@@ -1,7 +1,7 @@
 use Rattle.std.proofs.Common.{◌≡◌, ℕ, List, Some, sym}
 use Rattle.bit_events.specs.FrameView.{frames_shown}
 use Rattle.bit_events.specs.MachineView.{newest}
-use Rattle.bit_events.proofs.Folds.{for_each}
+use Rattle.bit_events.proofs.Folds.{for_each, lost_each}
 use Rattle.bit_events.proofs.folding.hand_on.Goals as goal
 
 pub unreachable-requires : goal.unreachable-requires
@@ -11,15 +11,29 @@ unreachable-requires g c =
     cc
 
 pub returns-in-Enter-clause-gathers : goal.returns-in-Enter-clause-gathers
-returns-in-Enter-clause-gathers g c = rw c.in-Enter.is (for_each _ (λ (list : List ℕ). g.G.Values.ValueTaker.took c.args.values.now list) c.enter.result c.enter.ensures)
+returns-in-Enter-clause-gathers g c = rw c.in-Enter.is (for_each _ (λ (list : List ℕ). g.G.Values.ValueTaker.took c.args.values.now list) c.enter.result c.enter.ensures.gathers)
 
 pub returns-in-Some-clause-gathers : goal.returns-in-Some-clause-gathers
 returns-in-Some-clause-gathers g c =
     let held : newest (frames_shown c.args.machine.now.frames.items) ≡ Some c.in-Some.abbrev.now = sym c.in-Some.ensures in
-    rw (c.in-Define.is, held) (for_each _ (λ (list : List ℕ). g.G.Values.ValueTaker.took c.args.values.now list) c.define.result c.define.ensures)
+    rw (c.in-Define.is, held) (for_each _ (λ (list : List ℕ). g.G.Values.ValueTaker.took c.args.values.now list) c.define.result c.define.ensures.gathers)
 
 pub returns-in-Record-clause-gathers : goal.returns-in-Record-clause-gathers
 returns-in-Record-clause-gathers g c = rw c.in-Record.is c.record.ensures.gathers
 
 pub returns-in-Leave-clause-gathers : goal.returns-in-Leave-clause-gathers
-returns-in-Leave-clause-gathers g c = rw c.in-Leave.is (for_each _ (λ (list : List ℕ). g.G.Values.ValueTaker.took c.args.values.now list) c.leave.result c.leave.ensures)
+returns-in-Leave-clause-gathers g c = rw c.in-Leave.is (for_each _ (λ (list : List ℕ). g.G.Values.ValueTaker.took c.args.values.now list) c.leave.result c.leave.ensures.gathers)
+
+pub returns-in-Enter-clause-fails : goal.returns-in-Enter-clause-fails
+returns-in-Enter-clause-fails g c = rw c.in-Enter.is (lost_each _ (λ (list : List ℕ). g.G.Values.ValueTaker.took c.args.values.now list) c.enter.result c.enter.ensures.fails)
+
+pub returns-in-Leave-clause-fails : goal.returns-in-Leave-clause-fails
+returns-in-Leave-clause-fails g c = rw c.in-Leave.is (lost_each _ (λ (list : List ℕ). g.G.Values.ValueTaker.took c.args.values.now list) c.leave.result c.leave.ensures.fails)
+
+pub returns-in-Some-clause-fails : goal.returns-in-Some-clause-fails
+returns-in-Some-clause-fails g c =
+    let held : newest (frames_shown c.args.machine.now.frames.items) ≡ Some c.in-Some.abbrev.now = sym c.in-Some.ensures in
+    rw (c.in-Define.is, held) (lost_each _ (λ (list : List ℕ). g.G.Values.ValueTaker.took c.args.values.now list) c.define.result c.define.ensures.fails)
+
+pub returns-in-Record-clause-fails : goal.returns-in-Record-clause-fails
+returns-in-Record-clause-fails g c = rw c.in-Record.is c.record.ensures.fails

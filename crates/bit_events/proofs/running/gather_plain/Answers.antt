@@ -1,4 +1,5 @@
 use Rattle.std.proofs.Common.{◌≡◌, ℕ, Option, refl, sym, ap, subst, arith, length, length-append}
+use Rattle.std.proofs.lemmas.Result.{err_from_is_err_and}
 use Rattle.bit_grammar.specs.Fields.{fixed}
 use Rattle.bit_grammar.specs.Record.{unabbreviated}
 use Rattle.bit_fields.specs.Buffered.{Reads}
@@ -6,7 +7,7 @@ use Rattle.bit_fields.proofs.BufferedReads.{reads_forward, reads_passed}
 use Rattle.bit_events.specs.declared.gatherer.PlainRecord.{PlainRecord}
 use Rattle.bit_events.specs.FrameView.{info_shown}
 use Rattle.bit_events.specs.Runs.{GathersPlain}
-use Rattle.bit_events.proofs.Runs.{gathers_none, gathers_still, plain_more}
+use Rattle.bit_events.proofs.Runs.{gathers_none, gathers_still, plain_more, stop_bits, stop_later}
 use Rattle.bit_events.proofs.running.gather_plain.Goals as goal
 
 pub loop-taken-init : goal.loop-taken-init
@@ -22,7 +23,7 @@ pub loop-taken-smaller : goal.loop-taken-smaller
 loop-taken-smaller g c =
     let l = c.loop-taken in
     let taken = c.in-Some.taken in
-    let one = subst (λ (t : Option PlainRecord). GathersPlain g.G.Gatherer.gathered l.room l.buffered l.gatherer t c.plain.new.self) c.in-Some.is c.in_ok-taken.ensures in
+    let one = subst (λ (t : Option PlainRecord). GathersPlain g.G.Gatherer.gathered l.room l.buffered l.gatherer t c.plain.new.self) c.in-Some.is c.in_ok-taken.ensures.gathers in
     let p = reads_passed (unabbreviated l.room) l.buffered (record { code = one.0; values = one.1 }) taken.after one.4 in
     let q = reads_passed (fixed c.args.frame.now.head.width) taken.after c.in-Some-eq3.field-0 c.record_id.new.buffered c.in-Some-eq3.ensures.reads in
     omega (arith, q.2, c.in-Some-eq3.ensures.moves, ap length p.1, ap length q.1, length-append p.0 taken.after.bits, length-append q.0 c.record_id.new.buffered.bits)
@@ -32,7 +33,7 @@ loop-taken-preserved g c =
     let l = c.loop-taken in
     let f = c.args.frame.now in
     let taken = c.in-Some.taken in
-    let one = subst (λ (t : Option PlainRecord). GathersPlain g.G.Gatherer.gathered l.room l.buffered l.gatherer t c.plain.new.self) c.in-Some.is c.in_ok-taken.ensures in
+    let one = subst (λ (t : Option PlainRecord). GathersPlain g.G.Gatherer.gathered l.room l.buffered l.gatherer t c.plain.new.self) c.in-Some.is c.in_ok-taken.ensures.gathers in
     let three : c.in-Some-eq3.field-0 ≡ 3 = omega (arith, c.in-Some-eq3.field-0-test) in
     let next = subst (λ (n : ℕ). Reads (fixed f.head.width) taken.after n c.record_id.new.buffered) three c.in-Some-eq3.ensures.reads in
     let forward = reads_forward (unabbreviated l.room) l.buffered (record { code = one.0; values = one.1 }) taken.after one.4 in
@@ -50,11 +51,11 @@ loop-taken-preserved g c =
       forward = omega (arith, l.invariant.forward, forward, c.in-Some-eq3.ensures.moves);
     }
 
-pub returns-in_default-record_id : goal.returns-in_default-record_id
-returns-in_default-record_id g c =
+pub returns-in_default-record_id-clause-gathers : goal.returns-in_default-record_id-clause-gathers
+returns-in_default-record_id-clause-gathers g c =
     let l = c.loop-taken in
     let taken = c.in-Some.taken in
-    let one = subst (λ (t : Option PlainRecord). GathersPlain g.G.Gatherer.gathered l.room l.buffered l.gatherer t c.plain.new.self) c.in-Some.is c.in_ok-taken.ensures in
+    let one = subst (λ (t : Option PlainRecord). GathersPlain g.G.Gatherer.gathered l.room l.buffered l.gatherer t c.plain.new.self) c.in-Some.is c.in_ok-taken.ensures.gathers in
     let forward = reads_forward (unabbreviated l.room) l.buffered (record { code = one.0; values = one.1 }) taken.after one.4 in (
       omega (arith, c.position-first.ensures, forward, l.invariant.forward),
       λ a place seen.
@@ -62,11 +63,11 @@ returns-in_default-record_id g c =
           (taken.after, sym c.position-first.ensures, plain_more g.G.Gatherer.gathered c.args.limits.now c.args.frame.now c.args.used.now a c.args.gatherer.now l.spent h.0 l.gatherer l.room l.buffered taken c.plain.new.self (ap info_shown c.requires.plain) h.3 l.invariant.room h.2 one),
     )
 
-pub returns-in_default-record_id-2 : goal.returns-in_default-record_id-2
-returns-in_default-record_id-2 g c =
+pub returns-in_default-record_id-2-clause-gathers : goal.returns-in_default-record_id-2-clause-gathers
+returns-in_default-record_id-2-clause-gathers g c =
     let l = c.loop-taken in
     let taken = c.in-Some.taken in
-    let one = subst (λ (t : Option PlainRecord). GathersPlain g.G.Gatherer.gathered l.room l.buffered l.gatherer t c.plain.new.self) c.in-Some.is c.in_ok-taken.ensures in
+    let one = subst (λ (t : Option PlainRecord). GathersPlain g.G.Gatherer.gathered l.room l.buffered l.gatherer t c.plain.new.self) c.in-Some.is c.in_ok-taken.ensures.gathers in
     let forward = reads_forward (unabbreviated l.room) l.buffered (record { code = one.0; values = one.1 }) taken.after one.4 in (
       omega (arith, c.position-first.ensures, forward, l.invariant.forward),
       λ a place seen.
@@ -74,12 +75,22 @@ returns-in_default-record_id-2 g c =
           (taken.after, sym c.position-first.ensures, plain_more g.G.Gatherer.gathered c.args.limits.now c.args.frame.now c.args.used.now a c.args.gatherer.now l.spent h.0 l.gatherer l.room l.buffered taken c.plain.new.self (ap info_shown c.requires.plain) h.3 l.invariant.room h.2 one),
     )
 
-pub returns-then-some : goal.returns-then-some
-returns-then-some g c =
+pub returns-then-some-clause-gathers : goal.returns-then-some-clause-gathers
+returns-then-some-clause-gathers g c =
     let l = c.loop-taken in
-    let none = subst (λ (t : Option PlainRecord). GathersPlain g.G.Gatherer.gathered l.room l.buffered l.gatherer t c.plain.new.self) c.in_default.is c.in_ok-taken.ensures in (
+    let none = subst (λ (t : Option PlainRecord). GathersPlain g.G.Gatherer.gathered l.room l.buffered l.gatherer t c.plain.new.self) c.in_default.is c.in_ok-taken.ensures.gathers in (
       l.invariant.some c.if-some.true,
       λ a place seen.
           let h = l.invariant.gathers a place seen in
           (h.0, h.1, gathers_still g.G.Gatherer.gathered c.args.limits.now c.args.frame.now c.args.used.now a c.args.gatherer.now l.spent h.0 l.gatherer c.plain.new.self h.3 none),
     )
+
+pub returns-in_err-taken-clause-stops : goal.returns-in_err-taken-clause-stops
+returns-in_err-taken-clause-stops g c =
+    let p = err_from_is_err_and c.from_residual.result c.from_residual.ensures.1 in
+    rw p.1 (λ a place seen.
+    let l = c.loop-taken in
+    let h = l.invariant.gathers a place seen in
+    let k = c.plain.new.self in
+    stop_later g.G.Gatherer.gathered g.G.Gatherer.fails c.args.limits.now c.args.frame.now c.args.used.now a c.args.gatherer.now l.spent h.0 l.gatherer k h.3
+    (stop_bits g.G.Gatherer.gathered g.G.Gatherer.fails c.args.limits.now c.args.frame.now l.spent h.0 l.gatherer k c.in_err-taken.ensures.fails))

@@ -1,4 +1,5 @@
-use Rattle.std.proofs.Common.{◌≡◌, ℕ, ◌+◌, ◌-◌, List, [], Option, refl, sym, ap, ◌∙◌, subst, arith, length}
+use Rattle.std.proofs.Common.{◌≡◌, ℕ, ◌+◌, ◌-◌, List, [], Option, Some, refl, sym, ap, ◌∙◌, subst, arith, length}
+use Rattle.std.proofs.lemmas.Result.{err_from_is_err_and}
 use Rattle.bit_grammar.specs.Fields.{fixed}
 use Rattle.bit_grammar.specs.Terms.{CodeAndValues}
 use Rattle.bit_grammar.specs.Blocks.{entry}
@@ -8,7 +9,7 @@ use Rattle.bit_events.specs.FrameView.{frame_shown, info_shown}
 use Rattle.bit_events.specs.Gathering.{Gathers}
 use Rattle.bit_events.specs.MachineView.{record_of}
 use Rattle.bit_events.specs.Runs.{GathersFrom, GathersTo}
-use Rattle.bit_events.proofs.Runs.{added_behind, gathers_none, gathers_more, gathers_still, gathers_then, reached, record_seen}
+use Rattle.bit_events.proofs.Runs.{added_behind, gathers_none, gathers_more, gathers_still, gathers_then, reached, record_seen, stop_later, stop_record}
 use Rattle.bit_events.proofs.running.gather_records.Goals as goal
 
 pub loop-id-init : goal.loop-id-init
@@ -32,7 +33,7 @@ pub skip-requires : goal.skip-requires
 skip-requires g c =
     let l = c.loop-id in
     let b = c.record_id.new.buffered in
-    let h = subst (λ (found : Option ℕ). GathersFrom g.G.Gatherer.gathered c.args.limits.now c.args.frame.now l.spent c.in-Some.id l.first b l.gatherer c.gather_as_bits.new.used found c.gather_as_bits.new.gatherer) c.in-Some-2.is c.in_ok-after.ensures in
+    let h = subst (λ (found : Option ℕ). GathersFrom g.G.Gatherer.gathered c.args.limits.now c.args.frame.now l.spent c.in-Some.id l.first b l.gatherer c.gather_as_bits.new.used found c.gather_as_bits.new.gatherer) c.in-Some-2.is c.in_ok-after.ensures.gathers in
     let run = h.1 l.buffered (sym l.invariant.first) c.in-Some.ensures.reads in
     let r = reached (fixed c.args.frame.now.head.width) l.buffered c.in-Some.id b run.0 c.in-Some.ensures.reads run.2.passed (omega (arith, h.0, run.1)) in
     omega (arith, c.position.ensures, run.1, r.0)
@@ -41,7 +42,7 @@ pub loop-id-preserved-in-Some-2 : goal.loop-id-preserved-in-Some-2
 loop-id-preserved-in-Some-2 g c =
     let l = c.loop-id in
     let b = c.record_id.new.buffered in
-    let h = subst (λ (found : Option ℕ). GathersFrom g.G.Gatherer.gathered c.args.limits.now c.args.frame.now l.spent c.in-Some.id l.first b l.gatherer c.gather_as_bits.new.used found c.gather_as_bits.new.gatherer) c.in-Some-2.is c.in_ok-after.ensures in
+    let h = subst (λ (found : Option ℕ). GathersFrom g.G.Gatherer.gathered c.args.limits.now c.args.frame.now l.spent c.in-Some.id l.first b l.gatherer c.gather_as_bits.new.used found c.gather_as_bits.new.gatherer) c.in-Some-2.is c.in_ok-after.ensures.gathers in
     let run = h.1 l.buffered (sym l.invariant.first) c.in-Some.ensures.reads in
     let r = reached (fixed c.args.frame.now.head.width) l.buffered c.in-Some.id b run.0 c.in-Some.ensures.reads run.2.passed (omega (arith, h.0, run.1)) in
     let bits : c.in-Some-2.after - c.position.result ≡ run.0.position - b.position = omega (arith, c.position.ensures, run.1) in
@@ -59,7 +60,7 @@ overflow_add-spent g c =
     let l = c.loop-id in
     let f = c.args.frame.now in
     let b = c.record_id.new.buffered in
-    let left = subst (λ (found : Option ℕ). GathersFrom g.G.Gatherer.gathered c.args.limits.now f l.spent c.in-Some.id l.first b l.gatherer c.gather_as_bits.new.used found c.gather_as_bits.new.gatherer) c.in_default-2.is c.in_ok-after.ensures in
+    let left = subst (λ (found : Option ℕ). GathersFrom g.G.Gatherer.gathered c.args.limits.now f l.spent c.in-Some.id l.first b l.gatherer c.gather_as_bits.new.used found c.gather_as_bits.new.gatherer) c.in_default-2.is c.in_ok-after.ensures.gathers in
     let added = rw (c.all-definitions.ensures, l.invariant.first) at (c.in-Ok.ensures.adds [] (c.truncate.ensures [] l.invariant.took.0 l.invariant.took.1 refl)) in
     let read = added_behind (entry l.room l.buffered.position c.in-Some.id f.definitions) l.room (reader_at b) c.in-Ok.code (reader_at c.read_entry.new.bits) [] added.0 added.2 in
     let taken = subst (g.G.Values.ValueTaker.took c.read_entry.new.values) read.1 added.1 in
@@ -92,7 +93,7 @@ loop-id-preserved g c =
     let id = c.in-Some.id in
     let code = c.in-Ok.code in
     let h = c.gather_as_bits.new.gatherer in
-    let left = subst (λ (found : Option ℕ). GathersFrom g.G.Gatherer.gathered c.args.limits.now f l.spent id l.first b l.gatherer c.gather_as_bits.new.used found h) c.in_default-2.is c.in_ok-after.ensures in
+    let left = subst (λ (found : Option ℕ). GathersFrom g.G.Gatherer.gathered c.args.limits.now f l.spent id l.first b l.gatherer c.gather_as_bits.new.used found h) c.in_default-2.is c.in_ok-after.ensures.gathers in
     let before = gathers_still g.G.Gatherer.gathered c.args.limits.now f c.args.used.now c.args.buffered c.args.gatherer.now l.spent l.buffered l.gatherer h l.invariant.gathers left.1 in
     let added = rw (c.all-definitions.ensures, l.invariant.first) at (c.in-Ok.ensures.adds [] (c.truncate.ensures [] l.invariant.took.0 l.invariant.took.1 refl)) in
     let read = added_behind (entry l.room l.buffered.position id f.definitions) l.room (reader_at b) code (reader_at d) [] added.0 added.2 in
@@ -115,8 +116,37 @@ returns-in_default-read_entry-clause-gathers g c =
     let l = c.loop-id in
     let f = c.args.frame.now in
     let h = c.gather_as_bits.new.gatherer in
-    let left = subst (λ (found : Option ℕ). GathersFrom g.G.Gatherer.gathered c.args.limits.now f l.spent c.in-Some.id l.first c.record_id.new.buffered l.gatherer c.gather_as_bits.new.used found h) c.in_default-2.is c.in_ok-after.ensures in (
+    let left = subst (λ (found : Option ℕ). GathersFrom g.G.Gatherer.gathered c.args.limits.now f l.spent c.in-Some.id l.first c.record_id.new.buffered l.gatherer c.gather_as_bits.new.used found h) c.in_default-2.is c.in_ok-after.ensures.gathers in (
       l.buffered,
       sym l.invariant.first,
       subst (λ (n : ℕ). GathersTo g.G.Gatherer.gathered c.args.limits.now f c.args.used.now c.args.buffered c.args.gatherer.now n l.buffered h) (sym left.0) (gathers_still g.G.Gatherer.gathered c.args.limits.now f c.args.used.now c.args.buffered c.args.gatherer.now l.spent l.buffered l.gatherer h l.invariant.gathers left.1),
     )
+
+pub returns-in_err-after-clause-stops : goal.returns-in_err-after-clause-stops
+returns-in_err-after-clause-stops g c =
+    let l = c.loop-id in
+    let p = err_from_is_err_and c.from_residual.result c.from_residual.ensures.1 in
+    rw p.1 (stop_later g.G.Gatherer.gathered g.G.Gatherer.fails c.args.limits.now c.args.frame.now c.args.used.now c.args.buffered c.args.gatherer.now l.spent l.buffered l.gatherer c.gather_as_bits.new.gatherer l.invariant.gathers (c.in_err-after.ensures.stops l.buffered (sym l.invariant.first) c.in-Some.ensures.reads))
+
+pub returns-in_err-record-clause-stops : goal.returns-in_err-record-clause-stops
+returns-in_err-record-clause-stops g c =
+    let l = c.loop-id in
+    let f = c.args.frame.now in
+    let b = c.record_id.new.buffered in
+    let d = c.read_entry.new.bits in
+    let id = c.in-Some.id in
+    let code = c.in-Ok.code in
+    let h = c.gather_as_bits.new.gatherer in
+    let left = subst (λ (found : Option ℕ). GathersFrom g.G.Gatherer.gathered c.args.limits.now f l.spent id l.first b l.gatherer c.gather_as_bits.new.used found h) c.in_default-2.is c.in_ok-after.ensures.gathers in
+    let before = gathers_still g.G.Gatherer.gathered c.args.limits.now f c.args.used.now c.args.buffered c.args.gatherer.now l.spent l.buffered l.gatherer h l.invariant.gathers left.1 in
+    let added = rw (c.all-definitions.ensures, l.invariant.first) at (c.in-Ok.ensures.adds [] (c.truncate.ensures [] l.invariant.took.0 l.invariant.took.1 refl)) in
+    let read = added_behind (entry l.room l.buffered.position id f.definitions) l.room (reader_at b) code (reader_at d) [] added.0 added.2 in
+    let list : List ℕ = read.0 in
+    let taken = subst (g.G.Values.ValueTaker.took c.read_entry.new.values) read.1 added.1 in
+    let p = err_from_is_err_and c.from_residual-in_err-record.result c.from_residual-in_err-record.ensures.1 in
+    rw p.1 (stop_later g.G.Gatherer.gathered g.G.Gatherer.fails c.args.limits.now f c.args.used.now c.args.buffered c.args.gatherer.now l.spent l.buffered h c.record.new.self before
+    (stop_record g.G.Gatherer.gathered g.G.Gatherer.fails c.args.limits.now f l.spent l.buffered h c.record.new.self id code list d
+    (λ outer handed same.
+    let room = ap (λ (u : ℕ). c.args.limits.now.values - u) same ∙ sym l.invariant.room in
+    record_seen c.args.limits.now (frame_shown f) outer handed id code list l.buffered b d (ap info_shown c.requires.plain) c.in-Some.ensures.three c.in-Some.ensures.reads (rw room read.2.1))
+    (subst (λ (n : ℕ). g.G.Gatherer.fails h (Some (record_of id list l.buffered.position (code, n))) c.record.new.self) c.position-after.ensures (subst (λ (n : ℕ). g.G.Gatherer.fails h (Some (record_of id list n (code, c.position-after.result))) c.record.new.self) l.invariant.first (c.in_err-record.ensures.fails list taken)))))

@@ -1,4 +1,4 @@
-use Rattle.std.proofs.Common.{◌-◌, arith, map}
+use Rattle.std.proofs.Common.{arith, map}
 use Rattle.std.proofs.lemmas.List.{get_or_past}
 use Rattle.bit_scan.specs.Indexed.{Leads}
 use Rattle.bit_scan.proofs.Walks.{free, walked}

@@ -1,14 +1,11 @@
-use Rattle.std.proofs.lemmas.Result.{err_from_is_err_and}
-use Rattle.bit_scan.specs.Listing.{left_text}
-use Rattle.bit_scan.proofs.Lists.{listing_goes_on, listing_stops}
+use Rattle.bit_scan.proofs.Lists.{left_ended, left_stopped, left_written}
 use Rattle.bit_scan.proofs.listing.write_events.Goals as goal
 
-pub returns-in_err-next : goal.returns-in_err-next
-returns-in_err-next g c =
-    let p = err_from_is_err_and c.from_residual.result c.from_residual.ensures.1 in
-    rw (p.1, p.2)
-    (listing_stops (left_text 0 c.args.standing.now c.args.events.now.told.0) c.args.printer.now c.loop-values.around c.loop-values.standing c.loop-values.events c.loop-values.printer c.write_next.new.printer c.in_err-next.field-0.0 c.loop-values.invariant c.in_err-next.ensures)
+pub returns-in-Some : goal.returns-in-Some
+returns-in-Some g c = left_stopped c.args.writer.now c.gather-done.new.gatherer (λ w. w.standing) (λ w. w.around) (λ w. w.printer) (λ w. w.stopped) c.args.events.now c.gather-done.new.self c.gather-done.result c.in-Some.fault c.requires.around c.requires.wrote c.requires.tells c.requires.outside c.gather-done.ensures c.in-Some.is
 
-pub loop-values-preserved : goal.loop-values-preserved
-loop-values-preserved g c =
-    listing_goes_on (left_text 0 c.args.standing.now c.args.events.now.told.0) c.args.printer.now c.loop-values.around c.in-Some.next c.loop-values.standing c.write_next.new.standing c.loop-values.events c.write_next.new.events c.loop-values.printer c.write_next.new.printer c.loop-values.invariant (rw c.in-Some.is at c.in_ok-next.ensures)
+pub returns-in-Ok : goal.returns-in-Ok
+returns-in-Ok g c = left_written c.args.writer.now c.gather-done.new.gatherer (λ w. w.standing) (λ w. w.around) (λ w. w.printer) (λ w. w.stopped) c.args.events.now c.gather-done.new.self c.requires.around c.requires.tells c.requires.outside c.in-Ok.ensures
+
+pub returns-in-Err : goal.returns-in-Err
+returns-in-Err g c = left_ended c.args.writer.now c.gather-done.new.gatherer (λ w. w.standing) (λ w. w.around) (λ w. w.printer) (λ w. w.stopped) c.args.events.now c.gather-done.new.self c.in-Err.field-0 c.requires.around c.requires.tells c.requires.outside c.in-Err.ensures c.in_default.is

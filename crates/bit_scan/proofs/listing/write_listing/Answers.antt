@@ -17,6 +17,6 @@ returns g c =
       begun.capped,
       (events.head, events.told),
       begun.told refl,
-      sink_back (told_text (setting_of c.args.info) events.head events.told) c.write_told-answer.result (g.K.Sink.outgoing c.args.sink) (g.K.Sink.outgoing c.into_sink.result) c.new-printer.result c.write_told-answer.new.printer c.new-printer.ensures c.into_sink.ensures
-          (subst (λ (st : OpenUnder). Prints (listing_head events.head.magic ++ left_text 0 st events.told.0) c.new-printer.result c.write_told-answer.result c.write_told-answer.new.printer) c.new-standing.ensures c.write_told-answer.ensures.prints) c.write_told-answer.ensures.all,
+      sink_back (told_text (setting_of c.args.info) events.head events.told) c.write_told-answer.result (g.K.Sink.outgoing c.args.sink) (g.K.Sink.outgoing c.into_sink.result) c.new-2.result c.write_told-answer.new.writer.printer c.new-2.ensures c.into_sink.ensures
+          (subst (λ (st : OpenUnder). Prints (listing_head events.head.magic ++ left_text 0 st events.told.0) c.new-2.result c.write_told-answer.result c.write_told-answer.new.writer.printer) c.new-3.ensures c.write_told-answer.ensures.prints) c.write_told-answer.ensures.all,
     )

@@ -4,8 +4,8 @@ use Rattle.bit_scan.specs.Json.{object}
 use Rattle.bit_scan.proofs.Appending.{pushed_on_ok, then_pushed}
 use Rattle.bitstool.proofs.json_differences.push_block.Goals as goal
 
-pub returns : goal.returns
-returns c =
+pub returns-clause-pushed : goal.returns-clause-pushed
+returns-clause-pushed c =
     let block = object (codes "block") ((codes "id", c.args.block.id) ∷ (codes "item", c.args.block.items) ∷ []) in
     let middle = string_bytes c.push_object.new.text in
     let new = string_bytes c.push_str.new.self in

@@ -7,4 +7,4 @@ pub returns-in-Lines : goal.returns-in-Lines
 returns-in-Lines g c = rw c.in-Lines.is (c.tell_text.ensures (difference_text (difference_shown c.args.difference.now)) c.text_of.ensures)
 
 pub returns-in-Json : goal.returns-in-Json
-returns-in-Json g c = rw c.in-Json.is (c.tell_text-in-Json.ensures (difference_json (difference_shown c.args.difference.now)) c.json_of.ensures)
+returns-in-Json g c = rw c.in-Json.is (c.tell_text-in-Json.ensures (difference_json (difference_shown c.args.difference.now)) c.json_of.ensures.text)

@@ -1,12 +1,16 @@
 use Rattle.std.proofs.Common.{◌<◌}
 use borrow.Author.Tests.{ltb-true}
-use Rattle.std.proofs.Common.{◌≡◌, length, arith}
+use Rattle.std.proofs.Common.{◌≡◌, length, arith, Result, Ok, Err, OnErr, IsErr, vec_len, ◌≤◌}
 use Rattle.std.proofs.lemmas.Result.{err_from_is_err_and}
 use Rattle.bit_events.specs.HeadView.{head_shown}
 use Rattle.bit_events.specs.FrameView.{frames_shown}
 use Rattle.bit_events.specs.MachineView.{handed_shown, machine_shown}
 use Rattle.bit_events.proofs.Stepping.{length-frames, open_judged, open_missed, open_lost, open_took}
 use Rattle.bit_events.proofs.machine.Machine.open_block.Goals as goal
+
+on_err : {A E : Type 0} (r : Result A E) (P : Type 0) → IsErr r → OnErr r P → P
+on_err (Ok a) P is h = absurd cc
+on_err (Err e) P is h = h
 
 pub returns-in_err-judge-clause-takes : goal.returns-in_err-judge-clause-takes
 returns-in_err-judge-clause-takes g c = λ list.
@@ -47,3 +51,8 @@ returns-clause-leaves g c = λ list.
       aligned = λ none. absurd (omega (arith, more, none));
       holds = tt;
     }
+
+pub returns-in_err-or_memory_fault-clause-fewer : goal.returns-in_err-or_memory_fault-clause-fewer
+returns-in_err-or_memory_fault-clause-fewer g c =
+    let p = err_from_is_err_and c.from_residual-in_err-or_memory_fault.result c.from_residual-in_err-or_memory_fault.ensures.1 in
+    rw p.1 (on_err c.enter.result (vec_len c.enter.new.self.frames ≤ vec_len c.args.self.now.frames) c.in_err-or_memory_fault.ensures.lost c.enter.ensures.fewer)

@@ -19,7 +19,7 @@ returns-in_err-catch_up c =
     let live = sym c.is_live.ensures ∙ c.if-not-is_live.false in
     let bits : c.position.result - c.position-2.result ≡ s.buffered.position - s.reader.position = omega (arith, c.position.ensures, c.position-2.ensures.position) in
     let why = subst (λ (n : ℕ). Why (any_bits n) s.reader c.in_err-catch_up.field-0.0 c.catch_up.new.self) bits c.in_err-catch_up.ensures.takes in
-    rw (← c.self.view_is, p.1, p.2) (kept_misses s.over s.limits s.head s.machine s.machine s.values.taker s.values.taker s.found s.buffered.position (reader_seen s.reader s.buffered) c.catch_up.new.self (reader_seen c.catch_up.new.self s.buffered) c.in_err-catch_up.field-0.0 c.if-self.false (not_caught s.limits s.machine s.reader s.buffered c.in_err-catch_up.field-0.0 c.catch_up.new.self live c.self.invariant why) (like_seen c.catch_up.new.self s.buffered))
+    rw (← c.self.view_is, p.1, p.2) (kept_misses s.over s.limits s.head s.machine s.machine s.values.taker s.values.taker s.found s.buffered.position (reader_seen s.reader s.buffered) c.catch_up.new.self (reader_seen c.catch_up.new.self s.buffered) c.in_err-catch_up.field-0.0 c.if-self.false (omega arith) (not_caught s.limits s.machine s.reader s.buffered c.in_err-catch_up.field-0.0 c.catch_up.new.self live c.self.invariant why) (like_seen c.catch_up.new.self s.buffered))
 
 pub returns-in_err-step : goal.returns-in_err-step
 returns-in_err-step c =
@@ -27,7 +27,7 @@ returns-in_err-step c =
     let s = c.self.inside in
     let live = sym c.is_live.ensures ∙ c.if-not-is_live.false in
     let finds = found_behind s.limits s.machine c.next.new.self s.reader s.buffered c.catch_up.new.self c.next.new.reader c.in_err-step.ensures.finds.0 (c.position.result - c.position-2.result) (Err c.in_err-step.field-0.0) live c.self.invariant (omega (arith, c.position.ensures, c.position-2.ensures.position)) c.in_ok-catch_up.ensures.takes c.in_ok-catch_up.ensures.moves c.in_err-step.ensures.finds.2 in
-    rw (← c.self.view_is, p.1, p.2) (kept_misses s.over s.limits s.head s.machine c.next.new.self s.values.taker c.next.new.values.taker s.found s.buffered.position (reader_seen s.reader s.buffered) c.next.new.reader (reader_seen c.next.new.reader s.buffered) c.in_err-step.field-0.0 c.if-self.false finds (like_seen c.next.new.reader s.buffered))
+    rw (← c.self.view_is, p.1, p.2) (kept_misses s.over s.limits s.head s.machine c.next.new.self s.values.taker c.next.new.values.taker s.found s.buffered.position (reader_seen s.reader s.buffered) c.next.new.reader (reader_seen c.next.new.reader s.buffered) c.in_err-step.field-0.0 c.if-self.false c.in_err-step.ensures.fewer finds (like_seen c.next.new.reader s.buffered))
 
 pub returns-in_default : goal.returns-in_default
 returns-in_default c =

@@ -33,6 +33,7 @@ invariant_of-result c =
     let a = c.new-buffered.result in
     let there : r.position ≡ a.position = c.parts_in_slice.ensures.sees.position ∙ sym (ap (λ (x : BufferedBits). x.position) c.new-buffered.ensures) in
     record {
+      depth = omega (arith, c.new.ensures.none);
       behind = λ _. omega (arith, there);
       there = λ _ _. omega (arith, there);
       sees = λ _. rw (nothing_seen r a there) (subst (λ (x : BufferedBits). Sees r x) (sym c.new-buffered.ensures) c.parts_in_slice.ensures.sees);

@@ -4,8 +4,8 @@ use Rattle.std.proofs.BufReadLemmas.{Consumes_shown}
 use Rattle.bit_fields.proofs.Words.{front_passed}
 use Rattle.bit_fields.proofs.source.BufSourceSource.pass.Goals as goal
 
-pub returns : goal.returns
-returns g c =
+pub returns-clause-passes : goal.returns-clause-passes
+returns-clause-passes g c =
     let shown = c.in-Ok.bytes.now in
     let count : c.min-count.result ≡ min c.args.most (length c.in-Ok.bytes.now) = c.min-count.ensures in
     let rested = c.fill_buf.follows.lender-at-none in

@@ -3,12 +3,12 @@ use Rattle.std.proofs.lemmas.Result.{on_ok_weaker}
 use Rattle.bit_grammar.specs.Machine.{notes}
 use Rattle.bit_norm.specs.Writing.{record_text}
 use Rattle.bit_norm.proofs.ValueTexts.{held_count, held_text}
-use Rattle.bit_norm.proofs.Building.{formed, builds_record, record_passes}
+use Rattle.bit_norm.proofs.Building.{formed, builds_record, record_passes, values_pass}
 use Rattle.bit_norm.proofs.form_builder.FormBuilder.add_long.Goals as goal
 
 pub returns-then-is_past-clause-form : goal.returns-then-is_past-clause-form
 returns-then-is_past-clause-form c = λ done mark code took was short some.
-    record_passes c.args.self.now c.stop.new.self done mark was short (c.is_past.ensures.yes c.if-is_past.true mark.values (c.settle.ensures.took mark.values took)) c.stop.ensures.limits c.stop.ensures.long
+    record_passes c.args.self.now c.stop.new.self done mark was short some (values_pass c.args.self.now.text mark.code mark.values c.args.self.now.limits.bytes (c.is_past.ensures.yes c.if-is_past.true mark.values (c.settle.ensures.took mark.values took))) c.stop.ensures.limits c.stop.ensures.long
 
 pub returns-clause-form : goal.returns-clause-form
 returns-clause-form c =

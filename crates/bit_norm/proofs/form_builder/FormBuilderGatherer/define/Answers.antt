@@ -1,5 +1,5 @@
 use Rattle.bit_norm.proofs.Building.{defines_more}
 use Rattle.bit_norm.proofs.form_builder.FormBuilderGatherer.define.Goals as goal
 
-pub returns : goal.returns
-returns c = λ first done deepest was stands. defines_more first c.args.self.now done (record { ops = c.args._abbrev.now; first = c.args._first; after = c.args._after }) was
+pub returns-clause-gathers : goal.returns-clause-gathers
+returns-clause-gathers c = λ first done deepest was stands. defines_more first c.args.self.now done (record { ops = c.args._abbrev.now; first = c.args._first; after = c.args._after }) was

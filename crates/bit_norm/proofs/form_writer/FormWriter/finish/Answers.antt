@@ -15,21 +15,21 @@ returns-then-len-ne0-clause-form g c = λ calls was.
 pub returns-then-len-ne0-clause-fit : goal.returns-then-len-ne0-clause-fit
 returns-then-len-ne0-clause-fit g c = λ calls was. told_fit calls c.args.self was
 
-pub returns-in-Some-clause-form : goal.returns-in-Some-clause-form
-returns-in-Some-clause-form g c = λ calls was.
+pub returns-else-len-ne0-clause-form : goal.returns-else-len-ne0-clause-form
+returns-else-len-ne0-clause-form g c = λ calls was.
     let told = c.in-Some.ensures.form was.first (map event_of calls) was.form (none_open calls c.args.self was c.requires) in
     let few : 4 + length c.in-Some.text / 8 ≤ c.args.self.limits.bytes = omega (arith, told.2, ap (λ (l : Limits). l.bytes) was.limits) in
     c.give.ensures (tree_told c.args.self.magic calls) c.args.self.limits.bytes refl (form_told was.first calls was.keeps ∙ sym told.0) few
 
-pub returns-in-Some-clause-fit : goal.returns-in-Some-clause-fit
-returns-in-Some-clause-fit g c = λ calls was. told_fit calls c.args.self was
+pub returns-else-len-ne0-clause-fit : goal.returns-else-len-ne0-clause-fit
+returns-else-len-ne0-clause-fit g c = λ calls was. told_fit calls c.args.self was
 
-pub returns-clause-form : goal.returns-clause-form
-returns-clause-form g c = λ calls was.
+pub returns-in-None-clause-form : goal.returns-in-None-clause-form
+returns-in-None-clause-form g c = λ calls was.
     let told = c.in-None.ensures.form was.first (map event_of calls) was.form (none_open calls c.args.self was c.requires) in
     let tree = tree_told c.args.self.magic calls in
     let over : c.args.self.limits.bytes < size_of tree = omega (arith, told, ap (λ (l : Limits). l.bytes) was.limits, form_bytes tree (form_of was.first (map event_of calls)) (form_told was.first calls was.keeps)) in
     (over, refl)
 
-pub returns-clause-fit : goal.returns-clause-fit
-returns-clause-fit g c = λ calls was. told_fit calls c.args.self was
+pub returns-in-None-clause-fit : goal.returns-in-None-clause-fit
+returns-in-None-clause-fit g c = λ calls was. told_fit calls c.args.self was

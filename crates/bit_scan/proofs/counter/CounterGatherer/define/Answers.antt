@@ -2,5 +2,5 @@ use Rattle.bit_grammar.specs.Machine.{defines}
 use Rattle.bit_scan.proofs.Counted.{gathers_counts}
 use Rattle.bit_scan.proofs.counter.CounterGatherer.define.Goals as goal
 
-pub returns : goal.returns
-returns c = gathers_counts c.args.self.now c.count_here.new.self (defines (record { ops = c.args._abbrev.now; first = c.args._first; after = c.args._after })) c.count_here.result c.count_here.ensures
+pub returns-clause-gathers : goal.returns-clause-gathers
+returns-clause-gathers c = gathers_counts c.args.self.now c.count_here.new.self (defines (record { ops = c.args._abbrev.now; first = c.args._first; after = c.args._after })) c.count_here.result c.count_here.ensures

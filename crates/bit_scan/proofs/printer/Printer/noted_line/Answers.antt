@@ -1,10 +1,12 @@
-use Rattle.std.proofs.Common.{string_bytes}
+use Rattle.std.proofs.Common.{List, ℕ}
+use Rattle.bit_scan.specs.Json.{noted_fields, object_line}
 use Rattle.std.specs.Prelude.{codes}
-use Rattle.bit_scan.specs.Json.{object_line, noted_fields}
-use Rattle.bit_scan.proofs.Prints.{settled}
+use Rattle.bit_scan.proofs.Prints.{piece_settled}
 use Rattle.bit_scan.proofs.printer.Printer.noted_line.Goals as goal
 
-pub returns-in-Ok : goal.returns-in-Ok
-returns-in-Ok g c =
+pub returns : goal.returns
+returns g c =
+    let text : List ℕ = object_line (codes "record") (noted_fields c.args.around c.args.noted.first c.args.noted.code c.args.noted.abbreviation c.args.noted.count) in
+    let added = c.push_json_noted-added in
     rw (← c.self.view_is)
-    (settled (object_line (codes "record") (noted_fields c.args.around c.args.first c.args.code c.args.abbreviation c.args.count)) (record { outgoing = g.K.Sink.outgoing c.self.inside.sink; held = string_bytes c.self.inside.held }) (string_bytes c.push_noted_line.new.text) c.settle.result c.settle.new.self c.in-Ok.ensures c.settle.ensures)
+    (piece_settled text (record { outgoing = g.K.Sink.outgoing c.self.inside.sink; held = c.self.inside.held }) added.new.self added.result c.settled.result c.settled.new.self added.ensures c.settled.ensures.ok c.settled.ensures.err)

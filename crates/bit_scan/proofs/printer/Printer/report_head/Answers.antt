@@ -1,10 +1,12 @@
-use Rattle.std.proofs.Common.{string_bytes}
+use Rattle.std.proofs.Common.{List, string_bytes, ℕ}
 use Rattle.bit_fields.specs.Opening.{magic_number}
 use Rattle.bit_scan.specs.Lines.{report_head}
-use Rattle.bit_scan.proofs.Prints.{settled}
+use Rattle.bit_scan.proofs.Prints.{piece_settled}
 use Rattle.bit_scan.proofs.printer.Printer.report_head.Goals as goal
 
-pub returns-in-Ok : goal.returns-in-Ok
-returns-in-Ok g c =
+pub returns : goal.returns
+returns g c =
+    let text : List ℕ = report_head (magic_number c.args.magic) c.args.bits in
+    let added = c.add_piece-added in
     rw (← c.self.view_is)
-    (settled (report_head (magic_number c.args.magic) c.args.bits) (record { outgoing = g.K.Sink.outgoing c.self.inside.sink; held = string_bytes c.self.inside.held }) (string_bytes c.push_report_head.new.text) c.settle.result c.settle.new.self c.in-Ok.ensures c.settle.ensures)
+    (piece_settled text (record { outgoing = g.K.Sink.outgoing c.self.inside.sink; held = c.self.inside.held }) added.new.held added.result c.settled.result c.settled.new.self (added.ensures.added (string_bytes c.self.inside.piece) text c.self.invariant c.push_report_head-pushed.ensures) c.settled.ensures.ok c.settled.ensures.err)

@@ -4,7 +4,7 @@ use Rattle.bit_tree.specs.declared.marked.MarkedItem.TheVariants as item
 use Rattle.bit_tree.proofs.Gathered.{item_added}
 use Rattle.bit_tree.proofs.marked_builder.MarkedBuilderGatherer.define.Goals as goal
 
-pub returns : goal.returns
-returns c =
+pub returns-clause-gathers : goal.returns-clause-gathers
+returns-clause-gathers c =
     item_added (item.Define (record { «abbrev» = c.in_ok-abbrev.abbrev; first = c.args.first; after = c.args.after })) (defines (record { ops = c.args.«abbrev».now; first = c.args.first; after = c.args.after })) c.args.self.now c.add_marked.new.frames c.add_marked.result
     (λ following. rw c.in_ok-abbrev.ensures.ok refl) (λ count. refl) c.add_marked.ensures.items c.add_marked.ensures.len

@@ -1,0 +1,13 @@
+use Rattle.std.proofs.Common.{List, string_bytes, ℕ}
+use Rattle.bit_fields.specs.Opening.{magic_number}
+use Rattle.bit_grammar.specs.EventTexts.{line_at}
+use Rattle.bit_grammar.specs.Texts.{magic_text}
+use Rattle.bit_scan.proofs.Prints.{piece_settled}
+use Rattle.bit_scan.proofs.printer.Printer.head_line.Goals as goal
+
+pub returns : goal.returns
+returns g c =
+    let text : List ℕ = line_at c.args.begin 0 (magic_text (magic_number c.args.magic)) in
+    let added = c.add_piece-added in
+    rw (← c.self.view_is)
+    (piece_settled text (record { outgoing = g.K.Sink.outgoing c.self.inside.sink; held = c.self.inside.held }) added.new.held added.result c.settled.result c.settled.new.self (added.ensures.added (string_bytes c.self.inside.piece) text c.self.invariant c.push_head_line-pushed.ensures) c.settled.ensures.ok c.settled.ensures.err)

@@ -1,0 +1,13 @@
+use Rattle.std.proofs.Common.{List, string_bytes, ℕ}
+use Rattle.bit_grammar.specs.Reasons.{name_of}
+use Rattle.bit_scan.specs.Json.{fields_told, text_line}
+use Rattle.std.specs.Prelude.{codes}
+use Rattle.bit_scan.proofs.Prints.{piece_settled}
+use Rattle.bit_scan.proofs.printer.Printer.reason_line.Goals as goal
+
+pub returns : goal.returns
+returns g c =
+    let text : List ℕ = text_line c.args.kind.now (fields_told c.args.fields.now) (codes "reason") (name_of c.args.reason) in
+    let added = c.add_piece-added in
+    rw (← c.self.view_is)
+    (piece_settled text (record { outgoing = g.K.Sink.outgoing c.self.inside.sink; held = c.self.inside.held }) added.new.held added.result c.settled.result c.settled.new.self (added.ensures.added (string_bytes c.self.inside.piece) text c.self.invariant c.push_reason_line-pushed.ensures) c.settled.ensures.ok c.settled.ensures.err)
