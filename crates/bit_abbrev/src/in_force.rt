@@ -4,7 +4,7 @@ ghost use Rattle.std.specs.Prelude.{◌≡◌, ◌-◌, ◌++◌, [], ◌∷◌,
 ghost use Rattle.std.specs.Option.{option_copied};
 ghost use Rattle.bit_abbrev.specs.Table.{definitions_at};
 
-use crate::{Abbrev, InfoTable};
+use crate::{Abbrev, InfoTable, Plan};
 use std::alloc::{AllocError, Global};
 use std::marker::Model;
 use std::rc::Rc;
@@ -50,13 +50,14 @@ impl SharedInfo {
     {
         let own = Vec::new(alloc);
         let Some(table) = &self.table else {
-            return Ok(InForce { shared: None, own });
+            return Ok(InForce { shared: None, group: usize::MAX, own });
         };
         if table.for_block(id).is_empty() {
-            return Ok(InForce { shared: None, own });
+            return Ok(InForce { shared: None, group: usize::MAX, own });
         }
         Ok(InForce {
             shared: Some((table.clone()?, id)),
+            group: table.group_of(id).unwrap_or(usize::MAX),
             own,
         })
     }
@@ -67,6 +68,8 @@ impl SharedInfo {
 pub struct InForce {
     /// The table, and the id of the block.
     shared: Option<(Rc<InfoTable>, u32)>,
+    /// The place of the plans of the table's first definitions.
+    group: usize,
     own: Vec<Abbrev>,
 }
 
@@ -151,6 +154,7 @@ impl InForce {
     {
         InForce {
             shared: None,
+            group: usize::MAX,
             own: Vec::new(alloc),
         }
     }
@@ -162,6 +166,15 @@ impl InForce {
     {
         self.own.push(abbrev)?;
         Ok(())
+    }
+
+    /// The plans of the first definitions, possibly none.
+    #[inline]
+    pub fn plans(&self) -> &[Plan] {
+        match &self.shared {
+            Some((table, _)) => table.plans_at(self.group),
+            None => &[],
+        }
     }
 
     /// All of them, for many look-ups.

@@ -5,6 +5,7 @@ ghost use Rattle.bit_grammar.specs.Terms.{defined_at, no_definitions};
 ghost use Rattle.bit_abbrev.specs.Table.{definitions_at};
 
 use crate::Abbrev;
+use crate::plan::Plan;
 use std::alloc::{AllocError, Global};
 use std::collections::BTreeMap;
 use std::marker::Model;
@@ -15,7 +16,21 @@ use std::marker::Model;
 pub struct InfoTable {
     alloc: Global,
     lists: BTreeMap<u32, Vec<Abbrev>>,
+    /// The plans of the first definitions for some block ids.
+    groups: Vec<PlanGroup>,
+    /// How many plans there are.
+    planned: usize,
 }
+
+/// The plans of the first definitions for a block id.
+#[derive(Drop)]
+struct PlanGroup {
+    id: u32,
+    plans: Vec<Plan>,
+}
+
+/// How many plans a table has at most.
+const MOST_PLANS: usize = 64;
 
 impl Model for InfoTable {
     ghost use Rattle.std.specs.Prelude.{ℕ, List};
@@ -36,7 +51,46 @@ impl InfoTable {
         InfoTable {
             alloc,
             lists: BTreeMap::new(alloc),
+            groups: Vec::new(alloc),
+            planned: 0,
         }
+    }
+
+    /// The place of the plans for a block id, if there are any.
+    pub(crate) fn group_of(&self, id: u32) -> Option<usize> {
+        self.groups.iter().position(|group| group.id == id)
+    }
+
+    /// The plans at a place.
+    #[inline(always)]
+    pub(crate) fn plans_at(&self, place: usize) -> &[Plan] {
+        match self.groups.get(place) {
+            Some(group) => group.plans.as_slice(),
+            None => &[],
+        }
+    }
+
+    /// Makes the plan of the next definition for a block id, which has `before` definitions. If an allocation fails, there is none.
+    fn plan(&mut self, id: u32, before: usize, abbrev: &Abbrev) -> Result<(), AllocError> {
+        if self.planned == MOST_PLANS {
+            return Ok(());
+        }
+        if before == 0 {
+            let mut plans = Vec::with_capacity(self.alloc, 1)?;
+            plans.push(Plan::of(abbrev.ops()))?;
+            self.groups.push(PlanGroup { id, plans })?;
+            self.planned += 1;
+            return Ok(());
+        }
+        let Some(place) = self.group_of(id) else {
+            return Ok(());
+        };
+        let group = &mut self.groups[place];
+        if group.plans.len() == before {
+            group.plans.push(Plan::of(abbrev.ops()))?;
+            self.planned += 1;
+        }
+        Ok(())
     }
 
     /// The definitions for a block id, possibly none.
@@ -56,6 +110,8 @@ impl InfoTable {
             other) }
         ensures err { OnErr result (self.new ≡ self.old) }
     {
+        let before = self.for_block(id).len();
+        self.plan(id, before, &abbrev)?;
         if let Some(list) = self.lists.get_mut(&id) {
             list.push(abbrev)?;
             return Ok(());

@@ -17,6 +17,7 @@ mod definition;
 mod in_force;
 mod info;
 mod laws;
+mod plan;
 #[cfg(test)]
 mod reading_tests;
 mod record;
@@ -33,5 +34,6 @@ pub use definition::read_define;
 pub use in_force::{Definitions, InForce, Lookup, SharedInfo};
 pub use info::InfoTable;
 pub use laws::lawful_unbroken;
+pub use plan::{MARGIN, Passed, Plan, pass_plain};
 pub use record::{read_abbreviated, read_plain, read_record};
 pub use runs::Runs;

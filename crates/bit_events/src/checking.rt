@@ -45,6 +45,11 @@ impl Gatherer for Nothing {
         Ok(())
     }
 
+    #[inline(always)]
+    fn counts(&self) -> bool {
+        true
+    }
+
     #[inline]
     fn leave(&mut self, _after: u64) -> Result<(), AllocError> {
         Ok(())

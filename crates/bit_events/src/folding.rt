@@ -16,9 +16,9 @@ mod asking_tests;
 
 use crate::gatherer::Gatherer;
 use crate::machine::{Machine, Step};
-use crate::running::gather_records;
+use crate::running::{count_records, gather_records};
 use crate::with_first::WithFirst;
-use bit_fields::{BitReader, Buffered, BufferedParts, Fault, FieldWidth, Head, Limits, Source};
+use bit_fields::{BitReader, Buffered, BufferedParts, Fault, FieldWidth, Head, Limits, PlacedBits, Source};
 use std::alloc::{AllocError, Global};
 
 /// The result of reading a whole input: its head, the gatherer of its events, and the bit after its stream.
@@ -67,33 +67,29 @@ fn hand_on<G: Gatherer>(
     }
 }
 
-/// Gathers completely buffered records of the innermost block, possibly none.
+/// Gathers completely buffered records of the innermost block from a bit on, possibly none, and returns the bit after them.
 #[inline(always)]
 fn gather_innermost<G: Gatherer>(
-    buffered: &mut Buffered<'_>,
+    parts: BufferedParts<'_>,
+    first: u64,
     machine: &mut Machine,
     limits: &Limits,
     gatherer: &mut G,
     values: &mut G::Values,
-) -> Result<(), AllocError>
-    requires took { TookSome G.Values.took values.old }
-    requires aligned { vec_len machine.old.frames ≡ 0 → buffered.old.position % 8 ≡ 0 }
-    ensures took { TookSome G.Values.took values.new }
-    ensures gathers { OnOk result (GathersOn G.gathered limits.now machine.old buffered.old
-        gatherer.old machine.new buffered.new gatherer.new) }
-    ensures stops { OnErr result (StopsOn G.gathered G.fails limits.now machine.old buffered.old
-        gatherer.old gatherer.new) }
-{
+) -> Result<u64, AllocError> {
     let Some(frame) = machine.frames.last() else {
-        return Ok(());
+        return Ok(first);
     };
     if frame.info.is_some() {
-        return Ok(());
+        return Ok(first);
     }
     let used = &mut machine.used;
-    let after = gather_records(buffered.copy(), frame, limits, used, gatherer, values)?;
-    buffered.skip(after - buffered.position());
-    Ok(())
+    if gatherer.counts() {
+        return count_records(parts, first, frame, limits, used, gatherer, values);
+    }
+    let mut buffered = Buffered::new(parts);
+    buffered.skip(first - parts.position());
+    gather_records(buffered, frame, limits, used, gatherer, values)
 }
 
 /// How many bits must be buffered for the beginning or the end of a block to be read from the buffer: more than 64 after the longest
@@ -138,27 +134,22 @@ fn gather_buffered<G: Gatherer>(
     ensures stops { OnErr result (StopsOn G.gathered G.fails limits.now machine.old
         (bits_of_parts parts.entry) gatherer.old gatherer.new) }
 {
-    let mut buffered = Buffered::new(parts);
-    *loaded = buffered.loaded();
+    let mut first = parts.position();
+    *loaded = parts.loaded();
     loop {
-        gather_innermost(&mut buffered, machine, limits, gatherer, values)?;
-        let first = buffered.position();
+        first = gather_innermost(parts, first, machine, limits, gatherer, values)?;
         *loaded = loaded_at(first, *loaded);
-        if buffered.len() < MARGIN {
+        let Some(bits) = PlacedBits::new(parts, first) else {
+            return Ok(first);
+        };
+        if bits.len() < MARGIN {
             return Ok(first);
         }
-        buffered.divide(parts, *loaded);
-        match machine.buffered_block(alloc, &mut buffered, limits) {
-            Ok(None) => return Ok(first),
-            Ok(Some(step)) => {
-                *loaded = buffered.loaded();
-                hand_on(gatherer, machine, step, values)?;
-            }
-            Err(error) => {
-                *loaded = buffered.loaded();
-                return Err(error);
-            }
-        }
+        let Some(step) = machine.placed_block(alloc, bits, loaded, limits)? else {
+            return Ok(first);
+        };
+        first = step.after();
+        hand_on(gatherer, machine, step, values)?;
     }
 }
 

@@ -4,8 +4,9 @@ ghost use Rattle.bit_events.specs.Gathering.{Gathers};
 ghost use Rattle.bit_events.specs.MachineView.{TookSome};
 ghost use Rattle.bit_events.specs.Runs.{GathersPlain};
 
-use bit_abbrev::Abbrev;
-use bit_fields::{Buffered, ValueTaker};
+use crate::passing::{PassedRun, Uncounted, pass_records};
+use bit_abbrev::{Abbrev, Plan};
+use bit_fields::{Buffered, PlacedBits, ValueTaker};
 use std::alloc::AllocError;
 
 /// A record that is not abbreviated, and was taken from buffered bits: how many values it has, and the bits after it.
@@ -98,6 +99,24 @@ pub trait Gatherer {
         ensures fails { OnErr result (fails self.old None self.new) }
     {
         Ok(None)
+    }
+
+    /// Whether it needs no values of records, only how many they are.
+    #[inline(always)]
+    fn counts(&self) -> bool {
+        false
+    }
+
+    /// Passes over records of the innermost block.
+    #[inline(always)]
+    fn pass<'a>(
+        &mut self,
+        bits: PlacedBits<'a>,
+        width: u32,
+        plans: &[Plan],
+        room: u64,
+    ) -> Result<PassedRun<'a>, AllocError> {
+        pass_records(bits, width, plans, room, &mut Uncounted)
     }
 
     /// Takes the end of the innermost block: the bit after it.

@@ -6,7 +6,7 @@ ghost use Rattle.bit_events.specs.Events.{Shuts};
 ghost use Rattle.bit_events.specs.HeadView.{head_shown};
 
 use crate::head::BlockHead;
-use bit_fields::{BitReader, Buffered, ChunkWidth, Fault, FieldWidth, Reason, Source};
+use bit_fields::{BitReader, Fault, PlacedBits, Reason, Source};
 use std::alloc::AllocError;
 
 /// The value that was made; if an allocation for it failed, the reader fails.
@@ -73,32 +73,54 @@ pub(crate) fn block_head<S: Source>(reader: &mut BitReader<S>) -> Result<BlockHe
     })
 }
 
-/// Reads what comes between a block's abbreviation id and its items from buffered bits. `None` leaves it to the exact reader: also an
-/// id or a width of more than one chunk, which is rare.
-#[tactic(auto, unfolding(bit_grammar::specs::Blocks::block_head, bit_grammar::specs::Blocks::block_id, bit_grammar::specs::Blocks::new_width))]
+/// Up to which bit an exact reader has loaded bytes once it has read a field, if it had those up to `loaded` before.
 #[inline(always)]
-pub(crate) fn buffered_head(buffered: &mut Buffered<'_>) -> Option<BlockHead>
-    ensures reads { IfSome result (λ head. Reads block_head buffered.old (head_shown head)
-        buffered.new) }
-{
-    let id = buffered.chunk_as_reader(ChunkWidth::of(8))?;
-    let width = buffered.chunk_as_reader(ChunkWidth::of(4))?;
-    if id >= 1 << 32 || !is_width(width) {
+pub(crate) fn loaded_by(first: u64, bits: u64, loaded: u64) -> u64 {
+    if first + bits > loaded {
+        return (first & !7) + 64;
+    }
+    loaded
+}
+
+/// The same once it has read padding up to a bit.
+#[inline(always)]
+fn loaded_by_padding(after: u64, loaded: u64) -> u64 {
+    if after > loaded {
+        return loaded + 64;
+    }
+    loaded
+}
+
+/// Reads what comes between a block's abbreviation id and its items, and up to which bit an exact reader has loaded bytes then. `None`
+/// leaves it to that reader: also an id or a width of more than one chunk, which is rare.
+#[inline(always)]
+pub(crate) fn placed_head(bits: PlacedBits<'_>, loaded: u64) -> Option<(BlockHead, u64)> {
+    let word = !bits.ends();
+    let width = word >> 8 & 15;
+    if word & 0x880 != 0 || width == 0 {
         return None;
     }
-    buffered.pad_as_reader()?;
-    let length_at = buffered.position();
-    let words = buffered.fixed_as_reader(FieldWidth::of(32))?;
-    Some(BlockHead {
-        id: id as u32,
+    let first = bits.position();
+    let padding = first + 12;
+    let length_at = (padding + 31) & !31;
+    if word >> 12 & ((1 << (length_at - padding)) - 1) != 0 {
+        return None;
+    }
+    let words = !bits.after(length_at - first).ends() & 0xffffffff;
+    let loaded = loaded_by(first + 8, 4, loaded_by(first, 8, loaded));
+    let loaded = loaded_by(length_at, 32, loaded_by_padding(length_at, loaded));
+    let head = BlockHead {
+        id: (word & 127) as u32,
         width: width as u8,
         length_at,
         words: words as u32,
-        body: buffered.position(),
-    })
+        body: length_at + 32,
+    };
+    Some((head, loaded))
 }
 
 /// Whether a block that ends here has the right length.
+#[inline(always)]
 fn ends_at(head: BlockHead, after: u64) -> bool
     ensures { result ≡ (head.body + 32 * head.words == after) }
 {
@@ -123,21 +145,20 @@ pub(crate) fn end_of_block<S: Source>(
     Ok(after)
 }
 
-/// The same from buffered bits. `None` leaves it to the exact reader.
-#[tactic(auto, unfolding(bit_grammar::specs::Blocks::end_of_block))]
+/// The same of placed bits: the bit after the block, and up to which bit an exact reader has loaded bytes then. `None` leaves it to that
+/// reader.
 #[inline(always)]
-pub(crate) fn buffered_end(buffered: &mut Buffered<'_>, head: BlockHead) -> Option<u64>
-    ensures reads { IfSome result (λ after. Reads (end_of_block (head_shown head)) buffered.old
-        after buffered.new) }
-    ensures aligned { OnSome result (buffered.new.position % 32 ≡ 0) }
-    ensures moves { OnSome result (buffered.old.position ≤ buffered.new.position) }
-{
-    buffered.pad_as_reader()?;
-    let after = buffered.position();
-    if !ends_at(head, after) {
+pub(crate) fn placed_end(
+    bits: PlacedBits<'_>,
+    head: BlockHead,
+    loaded: u64,
+) -> Option<(u64, u64)> {
+    let first = bits.position();
+    let after = (first + 31) & !31;
+    if !bits.ends() & ((1 << (after - first)) - 1) != 0 || !ends_at(head, after) {
         return None;
     }
-    Some(after)
+    Some((after, loaded_by_padding(after, loaded)))
 }
 
 /// Outside of all blocks: returns whether the stream has no byte left and its whole input is accepted.

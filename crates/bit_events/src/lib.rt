@@ -34,12 +34,14 @@ mod names;
 mod open_blocks;
 #[cfg(test)]
 mod open_blocks_tests;
+mod passing;
 mod running;
 mod slice_events;
 #[cfg(test)]
 mod slice_events_tests;
 mod with_first;
 
+pub use passing::{PassedRun, RunCounter, Uncounted, pass_records};
 pub use checking::{check, check_keeping};
 pub use event::{Event, RecordHead};
 pub use events::Events;

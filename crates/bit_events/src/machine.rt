@@ -16,11 +16,11 @@ ghost use Rattle.bit_events.specs.MachineView.{handed_shown, machine_shown, newe
 use crate::event::{Event, RecordHead};
 use crate::frame::{Describing, Frame, define, record_after};
 use crate::head::BlockHead;
-use crate::heads::{block_head, buffered_end, buffered_head, end_of_block, or_memory_fault, shuts};
+use crate::heads::{block_head, end_of_block, loaded_by, or_memory_fault, placed_end, placed_head, shuts};
 use crate::running::{buffered_item, buffered_record};
 use crate::with_first::WithFirst;
 use bit_abbrev::{Abbrev, InForce, InfoTable, SharedInfo};
-use bit_fields::{BitReader, Buffered, Fault, FieldWidth, Limits, Reason, Source, ValueTaker};
+use bit_fields::{BitReader, Buffered, Fault, FieldWidth, Limits, PlacedBits, Reason, Source, ValueTaker};
 use std::alloc::{AllocError, Global};
 
 /// How many values may come before those of a buffered record, so that all can be counted.
@@ -65,6 +65,19 @@ fn info_for(alloc: Global, id: u32) -> Option<Describing>
         })
     } else {
         None
+    }
+}
+
+impl Step {
+    /// The bit after a step at a block's beginning or end.
+    #[inline(always)]
+    pub(crate) fn after(self) -> u64 {
+        match self {
+            Step::Enter { body, .. } => body,
+            Step::Define { after, .. } => after,
+            Step::Record(head) => head.after,
+            Step::Leave { after } => after,
+        }
     }
 }
 
@@ -164,35 +177,6 @@ impl Machine {
         }
     }
 
-    /// Reads a block's beginning from buffered bits, after its id, which began at `first`. `None` leaves it to the exact reader, and
-    /// the machine as it was.
-    #[inline(always)]
-    fn open_buffered(
-        &mut self,
-        alloc: Global,
-        buffered: &mut Buffered<'_>,
-        limits: &Limits,
-        first: u64,
-    ) -> Result<Option<Step>, AllocError>
-        ensures { IfOk result (λ found. StepsHere (open_block limits.now
-            (frames_shown self.old.frames.items) first (handed_shown self.old)) limits.now.depth
-            self.old buffered.old found self.new buffered.new) }
-    {
-        if self.frames.len() >= limits.depth() as usize {
-            return Ok(None);
-        }
-        let Some(head) = buffered_head(buffered) else {
-            return Ok(None);
-        };
-        self.enter(alloc, head)?;
-        Ok(Some(Step::Enter {
-            id: head.id,
-            width: head.width,
-            first,
-            body: head.body,
-        }))
-    }
-
     /// Reads the end of the innermost block, after its id. Source: "END_BLOCK Encoding".
     fn end_block<S: Source>(
         &mut self,
@@ -217,76 +201,89 @@ impl Machine {
         Ok(Step::Leave { after })
     }
 
-    /// Reads the end of the innermost block, which is no BLOCKINFO block, from buffered bits, after its id. `None` leaves it to the
-    /// exact reader, and the machine as it was.
+    /// The width of the abbreviation ids that may begin or end a block here: 2 at the top, and none in a BLOCKINFO block.
     #[inline(always)]
-    fn end_buffered(&mut self, buffered: &mut Buffered<'_>) -> Option<Step>
-        requires { 0 < vec_len self.old.frames }
-        ensures steps { (deepest : ℕ) → InBlock self.old (λ f outer. f.info ≡ None
-            → StepsHere (end_rule f outer (handed_shown self.old)) deepest self.old buffered.old
-            result self.new buffered.new) }
-        ensures moves { OnSome result (buffered.old.position ≤ buffered.new.position) }
-    {
-        let Some(frame) = self.frames.last() else {
-            unreachable!();
+    fn id_width(&self) -> Option<u32> {
+        match self.frames.last() {
+            None => Some(2),
+            Some(frame) => {
+                if frame.info.is_some() {
+                    return None;
+                }
+                Some(u32::from(frame.head.width))
+            }
+        }
+    }
+
+    /// Opens a block whose beginning is at `first`; the bits are those after its id.
+    #[inline(always)]
+    fn open_placed(
+        &mut self,
+        alloc: Global,
+        bits: PlacedBits<'_>,
+        loaded: &mut u64,
+        limits: &Limits,
+        first: u64,
+    ) -> Result<Option<Step>, AllocError> {
+        if self.frames.len() >= limits.depth() as usize {
+            return Ok(None);
+        }
+        let Some((head, held)) = placed_head(bits, *loaded) else {
+            return Ok(None);
         };
-        let after = buffered_end(buffered, frame.head)?;
+        *loaded = held;
+        self.enter(alloc, head)?;
+        Ok(Some(Step::Enter {
+            id: head.id,
+            width: head.width,
+            first,
+            body: head.body,
+        }))
+    }
+
+    /// Ends the innermost block; the bits are those after the id.
+    #[inline(always)]
+    fn end_placed(&mut self, bits: PlacedBits<'_>, loaded: &mut u64) -> Option<Step> {
+        let frame = self.frames.last()?;
+        let (after, held) = placed_end(bits, frame.head, *loaded)?;
+        *loaded = held;
         let Some(_frame) = self.frames.pop() else {
             unreachable!();
         };
         Some(Step::Leave { after })
     }
 
-    /// The width of the abbreviation ids that may begin or end a block here: 2 at the top, and none in a BLOCKINFO block.
+    /// Finds the beginning or the end of a block in placed bits, of which 192 are there. `None` leaves what comes to the exact reader, and
+    /// the machine as it was: another item, one in a BLOCKINFO block, a block whose id or width takes more than one chunk, and what
+    /// breaks a rule. `loaded` is up to which bit that reader has loaded bytes.
     #[inline(always)]
-    fn id_width(&self) -> Option<FieldWidth>
-        ensures inside { IfSome result (λ width. InBlock self.now (λ f outer.
-            (f.info ≡ None) × (width.bits ≡ f.head.width))) }
-        ensures top { IfSome result (λ width. vec_len self.now.frames ≡ 0 → width.bits ≡ 2) }
-    {
-        match self.frames.last() {
-            None => Some(FieldWidth::of(2)),
-            Some(frame) => {
-                if frame.info.is_some() {
-                    return None;
-                }
-                Some(FieldWidth::of(frame.head.width))
-            }
-        }
-    }
-
-    /// Finds the beginning or the end of a block in buffered bits. `None` leaves what comes to the exact reader, and the machine as
-    /// it was: another item, one in a BLOCKINFO block, a block whose id or width takes more than one chunk, and what is not complete or breaks
-    /// a rule.
-    ///
-    /// If its window has the bits that an exact reader has in its own, it has them after the step too, as long as 64 bits more are
-    /// buffered.
-    #[inline(always)]
-    pub(crate) fn buffered_block(
+    pub(crate) fn placed_block(
         &mut self,
         alloc: Global,
-        buffered: &mut Buffered<'_>,
+        bits: PlacedBits<'_>,
+        loaded: &mut u64,
         limits: &Limits,
-    ) -> Result<Option<Step>, AllocError>
-        ensures steps { IfOk result (λ found. StepsHere (step limits.now (machine_shown self.old))
-            limits.now.depth self.old buffered.old found self.new buffered.new) }
-        ensures moves { IfOk result (λ found. OnSome found
-            (buffered.old.position < buffered.new.position)) }
-    {
+    ) -> Result<Option<Step>, AllocError> {
         let Some(width) = self.id_width() else {
             return Ok(None);
         };
-        let first = buffered.position();
-        let Some(id) = buffered.fixed_as_reader(width) else {
+        let first = bits.position();
+        let id = !bits.ends() & ((1 << width) - 1);
+        if id > 1 {
             return Ok(None);
+        }
+        let mut held = loaded_by(first, u64::from(width), *loaded);
+        let after = bits.after(u64::from(width));
+        let step = if id == 1 {
+            self.open_placed(alloc, after, &mut held, limits, first)
+        } else {
+            Ok(self.end_placed(after, &mut held))
         };
-        if id == 1 {
-            return self.open_buffered(alloc, buffered, limits, first);
+        match step {
+            Ok(None) => {}
+            _ => *loaded = held,
         }
-        if id > 0 || self.is_outside() {
-            return Ok(None);
-        }
-        Ok(self.end_buffered(buffered))
+        step
     }
 
     /// Drops the open blocks. The input is not read on.

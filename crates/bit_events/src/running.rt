@@ -15,8 +15,8 @@ ghost use Rattle.bit_events.specs.Runs.{AddsBehind, GathersFrom, GathersRun, Rea
 use crate::entry::read_entry;
 use crate::frame::Frame;
 use crate::gatherer::Gatherer;
-use bit_abbrev::{Definitions, InForce, Lookup};
-use bit_fields::{Buffered, FieldWidth, Limits, ValueTaker};
+use bit_abbrev::{Definitions, InForce, Lookup, MARGIN};
+use bit_fields::{Buffered, BufferedParts, FieldWidth, Limits, PlacedBits, ValueTaker};
 use std::alloc::AllocError;
 
 /// Reads one buffered record after its id, which began at `first`, and returns its code and the bit after it. `values` then has
@@ -211,4 +211,99 @@ pub(crate) fn gather_records<G: Gatherer>(
         gatherer.record(id, code, values, first, after)?;
         first = after;
     }
+}
+
+/// Records that were read one by one: the bit after the last one, and whether no record comes there that is buffered.
+#[derive(Clone, Copy)]
+struct OddRun {
+    after: u64,
+    is_over: bool,
+}
+
+/// Gathers buffered records from a bit on, one by one, until one comes that may be passed over.
+#[inline(never)]
+fn gather_odd<G: Gatherer>(
+    parts: BufferedParts<'_>,
+    start: u64,
+    frame: &Frame,
+    room: &mut u64,
+    gatherer: &mut G,
+    values: &mut G::Values,
+) -> Result<OddRun, AllocError> {
+    let mut buffered = Buffered::new(parts);
+    buffered.skip(start - parts.position());
+    let mut first = start;
+    let mut is_first = true;
+    let definitions = frame.definitions.all();
+    let planned = frame.definitions.plans().len() as u32;
+    loop {
+        values.truncate(0);
+        let passes = !is_first && buffered.len() >= MARGIN + 64;
+        let Some(id) = record_id(&mut buffered, frame) else {
+            return Ok(OddRun {
+                after: first,
+                is_over: true,
+            });
+        };
+        if passes && id - 3 <= planned {
+            return Ok(OddRun {
+                after: first,
+                is_over: false,
+            });
+        }
+        let Ok(code) = read_entry::<G, Buffered<'_>, Definitions<'_>, G::Values>(
+            &mut buffered,
+            &definitions,
+            *room,
+            id,
+            first,
+            values,
+        ) else {
+            return Ok(OddRun {
+                after: first,
+                is_over: true,
+            });
+        };
+        let after = buffered.position();
+        *room = room.saturating_sub(values.count());
+        gatherer.record(id, code, values, first, after)?;
+        first = after;
+        is_first = false;
+    }
+}
+
+/// Gathers records of a block that is no BLOCKINFO block from a bit on, as long as they are completely buffered, and returns the bit
+/// after the last one. The gatherer needs only the number of their values.
+#[inline(never)]
+pub(crate) fn count_records<G: Gatherer>(
+    parts: BufferedParts<'_>,
+    start: u64,
+    frame: &Frame,
+    limits: &Limits,
+    used: &mut u64,
+    gatherer: &mut G,
+    values: &mut G::Values,
+) -> Result<u64, AllocError> {
+    let mut first = start;
+    let before = limits.values().saturating_sub(*used);
+    let mut room = before;
+    let width = u32::from(frame.head.width);
+    let plans = frame.definitions.plans();
+    loop {
+        if let Some(bits) = PlacedBits::new(parts, first) {
+            let run = gatherer.pass(bits, width, plans, room)?;
+            room = run.room;
+            first = run.after.position();
+            if run.is_over {
+                break;
+            }
+        }
+        let run = gather_odd(parts, first, frame, &mut room, gatherer, values)?;
+        first = run.after;
+        if run.is_over {
+            break;
+        }
+    }
+    *used += before - room;
+    Ok(first)
 }

@@ -35,6 +35,7 @@ mod numbers;
 mod packed;
 #[cfg(test)]
 mod packed_tests;
+mod placed;
 mod plain;
 #[cfg(test)]
 mod plain_tests;
@@ -71,6 +72,7 @@ pub use keeper::ValueKeeper;
 pub use kept::KeptSource;
 pub use limits::Limits;
 pub use packed::{PackedValues, ValueParts};
+pub use placed::{Guard, PlacedBits};
 pub use reader::BitReader;
 pub use sink::{Sink, SinkFailed, VecSink, WriteSink};
 pub use source::{BufSource, ReadSource, SliceSource, Source, SourceFailed};

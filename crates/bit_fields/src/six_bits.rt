@@ -45,6 +45,21 @@ pub(crate) fn numbers_in(word: u64, most: u64) -> (u64, u32)
     }
 }
 
+/// The bit after this many numbers, if the nine chunks have so many.
+#[inline(always)]
+pub(crate) fn end_of(word: u64, count: u64) -> Option<u32>
+    requires { count ≤ 32 }
+{
+    let ends = !word & TOPS;
+    let sums = (ends >> 5).wrapping_mul(ONES);
+    // the top bit of each chunk where so many numbers have ended
+    let reached = sums.wrapping_add((32 - count).wrapping_mul(ONES)) & TOPS;
+    if reached == 0 {
+        return None;
+    }
+    Some(reached.trailing_zeros() + 1)
+}
+
 /// Whether each number that the first `bits` bits spell is in its shortest spelling: no number has a last chunk of zeros after
 /// other chunks.
 #[inline(always)]

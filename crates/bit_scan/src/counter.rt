@@ -6,9 +6,9 @@ ghost use Rattle.bit_scan.specs.Cut.{capped_counts, cut_open};
 ghost use Rattle.bit_scan.specs.Rows.{block_tallies};
 
 use crate::rows::{Addition, BlockRow, BlockRows};
-use bit_abbrev::Abbrev;
-use bit_events::Gatherer;
-use bit_fields::{ValueCount, ValueTaker};
+use bit_abbrev::{Abbrev, Plan};
+use bit_events::{Gatherer, PassedRun};
+use bit_fields::{PlacedBits, ValueCount, ValueTaker};
 use std::alloc::{AllocError, Global};
 use std::marker::Model;
 
@@ -157,6 +157,29 @@ impl Gatherer for Counter {
             values: values.count(),
             bits: after.saturating_sub(first),
         })
+    }
+
+    #[inline(always)]
+    fn counts(&self) -> bool {
+        true
+    }
+
+    #[inline(always)]
+    fn pass<'a>(
+        &mut self,
+        bits: PlacedBits<'a>,
+        width: u32,
+        plans: &[Plan],
+        room: u64,
+    ) -> Result<PassedRun<'a>, AllocError> {
+        let Some(block) = self.open.last() else {
+            return Ok(PassedRun {
+                after: bits,
+                room,
+                is_over: false,
+            });
+        };
+        self.rows.pass(block.place, bits, width, plans, room)
     }
 
     fn leave(&mut self, after: u64) -> Result<(), AllocError> {

@@ -8,6 +8,9 @@ ghost use Rattle.bit_scan.specs.CodesView.{code_tallies, with_use, CountsUse};
 ghost use Rattle.bit_scan.specs.Cut.{cut_code, cut_row, cut_rows};
 ghost use Rattle.bit_scan.specs.Rows.{block_tally, block_tallies, AddsToRow};
 
+use bit_abbrev::Plan;
+use bit_events::{PassedRun, RunCounter, pass_records};
+use bit_fields::PlacedBits;
 use crate::links::{Keyed, Spot, find, is_at, lead};
 use std::alloc::{AllocError, Global};
 use std::marker::Model;
@@ -176,6 +179,27 @@ impl Codes {
             return self.add_by_code(place, code, bits);
         }
         count_at(&mut self.rows, likely, bits);
+        Ok(())
+    }
+}
+
+/// Counts the records of a block.
+#[derive(Drop)]
+struct RowCounter<'a> {
+    codes: &'a mut Codes,
+    places: &'a mut Places,
+    row: usize,
+    records: u64,
+    abbreviated: u64,
+}
+
+impl<'a> RunCounter for RowCounter<'a> {
+    #[inline(always)]
+    fn count(&mut self, id: u64, code: u64, bits: u64) -> Result<(), AllocError> {
+        let slot = slot_of(self.row, code);
+        self.codes.add(&mut self.places[slot], code, bits)?;
+        self.records += 1;
+        self.abbreviated += u64::from(id > 3);
         Ok(())
     }
 }
@@ -397,6 +421,32 @@ impl BlockRows {
         }
         self.add_by_id(id, addition)?;
         Ok(())
+    }
+
+    /// Passes over records of a block and counts them.
+    #[inline(always)]
+    pub(crate) fn pass<'a>(
+        &mut self,
+        place: usize,
+        bits: PlacedBits<'a>,
+        width: u32,
+        plans: &[Plan],
+        room: u64,
+    ) -> Result<PassedRun<'a>, AllocError> {
+        let (_, row) = &mut self.rows[place];
+        let mut counter = RowCounter {
+            codes: &mut row.codes,
+            places: &mut self.places,
+            row: place,
+            records: 0,
+            abbreviated: 0,
+        };
+        let run = pass_records(bits, width, plans, room, &mut counter)?;
+        let (records, abbreviated) = (counter.records, counter.abbreviated);
+        row.records = row.records.saturating_add(records);
+        row.abbreviated = row.abbreviated.saturating_add(abbreviated);
+        row.values = row.values.saturating_add(room - run.room);
+        Ok(run)
     }
 
     /// Each id and its row.

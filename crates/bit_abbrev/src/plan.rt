@@ -1,0 +1,349 @@
+//! How a record is passed over: bits to skip, and numbers whose last bits are found in a load.
+
+use bit_fields::{Guard, PlacedBits};
+use bit_grammar::Op;
+
+/// How many passes a plan has at most.
+const MOST: usize = 6;
+
+/// How many numbers a pass has at most.
+const TOGETHER: u32 = 4;
+
+/// How many bits the fields before an array have at most, if each number has at most 57.
+const REACH: u64 = 1900;
+
+/// How many bits are there from a record's first one on, before a load that a guard allows.
+pub const MARGIN: u64 = 2048;
+
+/// Bits to skip, and then numbers with these top bits in their chunks.
+#[derive(Clone, Copy, Debug, PartialEq, Eq)]
+struct Pass {
+    tops: u64,
+    skip: u32,
+    count: u32,
+}
+
+/// What comes after the single operands.
+#[derive(Clone, Copy, Debug, PartialEq, Eq)]
+enum Rest {
+    /// Nothing.
+    Nothing,
+    /// An array of numbers in chunks of six bits.
+    Sixes,
+    /// An array of fields of one width.
+    Fields,
+    /// An array of other numbers.
+    Numbers,
+    /// The record is read otherwise.
+    Odd,
+}
+
+/// How a record of a definition is passed over.
+#[derive(Clone, Copy, Debug, PartialEq, Eq)]
+pub struct Plan {
+    rest: Rest,
+    /// How many values the single operands have.
+    singles: u32,
+    passes: u32,
+    /// The bits after the last pass.
+    after: u32,
+    code: u64,
+    /// The top bits of the chunks of an array's elements.
+    tops: u64,
+    /// The bits of an array's element.
+    width: u32,
+    pass: [Pass; MOST],
+}
+
+/// A record that was passed over: the bits after it, its code and how many values it has.
+#[derive(Clone, Copy)]
+pub struct Passed<'a> {
+    pub after: PlacedBits<'a>,
+    pub code: u64,
+    pub count: u64,
+}
+
+/// The top bits of chunks of a width in the bits of a load.
+fn tops_of(width: u8) -> u64 {
+    let n = u32::from(width);
+    let mut tops = 0;
+    let mut at = n - 1;
+    while at < 57 {
+        tops |= 1 << at;
+        at += n;
+    }
+    tops
+}
+
+/// A plan that passes over nothing.
+fn odd() -> Plan {
+    Plan {
+        rest: Rest::Odd,
+        singles: 0,
+        passes: 0,
+        after: 0,
+        code: 0,
+        tops: 0,
+        width: 0,
+        pass: [Pass {
+            tops: 0,
+            skip: 0,
+            count: 0,
+        }; MOST],
+    }
+}
+
+impl Plan {
+    /// Adds bits to skip.
+    fn skip(&mut self, bits: u32) -> bool {
+        self.singles += 1;
+        self.after += bits;
+        self.after < 512
+    }
+
+    /// Adds a number, and returns whether it has room.
+    fn number(&mut self, width: u8) -> bool {
+        let tops = tops_of(width);
+        self.singles += 1;
+        let count = self.passes as usize;
+        if self.after == 0 && count > 0 {
+            let last = &mut self.pass[count - 1];
+            if last.tops == tops && last.count < TOGETHER {
+                last.count += 1;
+                return true;
+            }
+        }
+        if count == MOST || count == 0 && self.after > 63 {
+            return false;
+        }
+        self.pass[count] = Pass {
+            tops,
+            skip: self.after,
+            count: 1,
+        };
+        self.passes += 1;
+        self.after = 0;
+        true
+    }
+
+    /// Adds an array of elements, and returns whether it can be passed over.
+    fn array(&mut self, element: Op) -> bool {
+        match element {
+            Op::Vbr(6) => self.rest = Rest::Sixes,
+            Op::Vbr(width) => {
+                if width == 0 {
+                    return false;
+                }
+                self.rest = Rest::Numbers;
+                self.tops = tops_of(width);
+            }
+            Op::Fixed(width) => {
+                if width == 0 {
+                    return false;
+                }
+                self.rest = Rest::Fields;
+                self.width = u32::from(width);
+            }
+            Op::Char6 => {
+                self.rest = Rest::Fields;
+                self.width = 6;
+            }
+            _ => return false,
+        }
+        true
+    }
+
+    /// How many bits the single operands have at most.
+    fn reach(&self) -> u64 {
+        let mut reach = u64::from(self.after);
+        for at in 0..self.passes as usize {
+            reach += u64::from(self.pass[at].skip) + 57 * u64::from(self.pass[at].count);
+        }
+        reach
+    }
+
+    /// Adds operands, and returns whether all can be passed over.
+    fn add_all(&mut self, ops: &[Op]) -> bool {
+        let mut at = 0;
+        while at < ops.len() {
+            let fits = match ops[at] {
+                Op::Literal(_) => self.skip(0),
+                Op::Vbr(0) => self.skip(0),
+                Op::Fixed(width) => self.skip(u32::from(width)),
+                Op::Char6 => self.skip(6),
+                Op::Vbr(width) => self.number(width),
+                Op::Blob => false,
+                Op::Array => return at + 2 == ops.len() && self.array(ops[at + 1]),
+            };
+            if !fits {
+                return false;
+            }
+            at += 1;
+        }
+        self.rest = Rest::Nothing;
+        true
+    }
+
+    /// The plan of a definition.
+    pub(crate) fn of(ops: &[Op]) -> Plan {
+        let mut plan = odd();
+        let [Op::Literal(code), others @ ..] = ops else {
+            return plan;
+        };
+        plan.code = *code;
+        if others.len() > 64 || !plan.add_all(others) || plan.reach() > REACH {
+            plan.rest = Rest::Odd;
+        }
+        plan
+    }
+
+    /// Passes over the single operands. The loaded bits begin with them.
+    #[inline(always)]
+    fn pass_singles<'a>(
+        &self,
+        bits: PlacedBits<'a>,
+        ends: u64,
+        guard: Guard,
+    ) -> Option<PlacedBits<'a>> {
+        let mut bits = bits;
+        if self.passes > 0 {
+            bits = self.pass[0].pass(bits, ends >> self.pass[0].skip, guard)?;
+            let mut at = 1;
+            while at < self.passes as usize {
+                let pass = &self.pass[at];
+                let ends = bits.after(u64::from(pass.skip)).ends();
+                bits = pass.pass(bits, ends, guard)?;
+                at += 1;
+            }
+        }
+        Some(bits.after(u64::from(self.after)))
+    }
+
+    /// Passes over an array: the bits after it, and how many elements it has.
+    #[inline(always)]
+    fn pass_array<'a>(
+        &self,
+        bits: PlacedBits<'a>,
+        guard: Guard,
+        room: u64,
+    ) -> Option<(PlacedBits<'a>, u64)> {
+        let ends = bits.ends();
+        let (count, len) = short_number(ends)?;
+        if self.rest == Rest::Sixes {
+            if len == 6 {
+                if let Some(after) = bits.after_sixes(ends, count + 1) {
+                    return Some((after, count));
+                }
+            }
+            return Some((bits.after(len).past_sixes(guard, count)?, count));
+        }
+        if count > room {
+            return None;
+        }
+        let bits = bits.after(len);
+        if self.rest == Rest::Fields {
+            let after = bits.after(count * u64::from(self.width));
+            if !after.is_within(guard) {
+                return None;
+            }
+            return Some((after, count));
+        }
+        Some((bits.past_each(guard, self.tops, count)?, count))
+    }
+
+    /// Passes over the fields of a record after its id. The loaded bits begin with them.
+    #[inline(always)]
+    pub fn pass<'a>(
+        &self,
+        bits: PlacedBits<'a>,
+        ends: u64,
+        guard: Guard,
+        room: u64,
+    ) -> Option<Passed<'a>> {
+        if self.rest == Rest::Odd {
+            return None;
+        }
+        let after = self.pass_singles(bits, ends, guard)?;
+        let count = u64::from(self.singles);
+        let code = self.code;
+        if self.rest == Rest::Nothing {
+            return Some(Passed { after, code, count });
+        }
+        let (after, more) = self.pass_array(after, guard, room)?;
+        Some(Passed {
+            after,
+            code,
+            count: count + more,
+        })
+    }
+}
+
+impl Pass {
+    /// Skips the bits, and passes over the numbers. The loaded bits begin after those that are skipped.
+    #[inline(always)]
+    fn pass<'a>(&self, bits: PlacedBits<'a>, ends: u64, guard: Guard) -> Option<PlacedBits<'a>> {
+        let bits = bits.after(u64::from(self.skip));
+        let mut ends = ends & self.tops;
+        if self.count > 1 {
+            ends &= ends.wrapping_sub(1);
+            if self.count > 2 {
+                ends &= ends.wrapping_sub(1);
+                if self.count > 3 {
+                    ends &= ends.wrapping_sub(1);
+                }
+            }
+        }
+        if ends == 0 {
+            return bits.past_each(guard, self.tops, u64::from(self.count));
+        }
+        Some(bits.after(u64::from(ends.trailing_zeros() + 1)))
+    }
+}
+
+/// A number of at most three chunks of six bits at the front, and its bits.
+#[inline(always)]
+fn short_number(ends: u64) -> Option<(u64, u64)> {
+    if ends & 0o40 != 0 {
+        Some((!ends & 31, 6))
+    } else if ends & 0o40_00 != 0 {
+        Some((!ends & 31 | !ends >> 1 & 992, 12))
+    } else if ends & 0o40_00_00 != 0 {
+        Some((!ends & 31 | !ends >> 1 & 992 | !ends >> 2 & 31744, 18))
+    } else {
+        None
+    }
+}
+
+/// Passes over a record that is not abbreviated, whose code or number of values is long.
+#[inline(always)]
+fn pass_long<'a>(bits: PlacedBits<'a>, ends: u64, guard: Guard) -> Option<Passed<'a>> {
+    let (code, len) = short_number(ends)?;
+    let (count, more) = short_number(ends >> len)?;
+    Some(Passed {
+        after: bits.after(len + more).past_sixes(guard, count)?,
+        code,
+        count,
+    })
+}
+
+/// Passes over the fields of a record that is not abbreviated after its id. The loaded bits begin with them.
+#[inline(always)]
+pub fn pass_plain<'a>(bits: PlacedBits<'a>, ends: u64, guard: Guard) -> Option<Passed<'a>> {
+    let (code, count) = if ends & 0o40_40 == 0o40_40 {
+        (!ends & 31, !ends >> 6 & 31)
+    } else if ends & 0o40_40_40 == 0o40_40_00 {
+        (!ends & 31 | !ends >> 1 & 992, !ends >> 12 & 31)
+    } else {
+        return pass_long(bits, ends, guard);
+    };
+    if count <= 30 {
+        if let Some(after) = bits.after_sixes(ends, count + 2) {
+            return Some(Passed { after, code, count });
+        }
+    }
+    Some(Passed {
+        after: bits.past_sixes(guard, count + 2)?,
+        code,
+        count,
+    })
+}

@@ -1,0 +1,81 @@
+//! Records that are passed over, since only the number of their values is wanted.
+
+use bit_abbrev::{MARGIN, Passed, Plan, pass_plain};
+use bit_fields::PlacedBits;
+use std::alloc::AllocError;
+
+/// Records that were passed over: the bits after them, how much room is left, and whether an item comes there that is no record.
+#[derive(Clone, Copy)]
+pub struct PassedRun<'a> {
+    pub after: PlacedBits<'a>,
+    pub room: u64,
+    pub is_over: bool,
+}
+
+/// Counts records that are passed over.
+pub trait RunCounter {
+    /// Counts a record: its abbreviation id, its code and its length in bits.
+    fn count(&mut self, id: u64, code: u64, bits: u64) -> Result<(), AllocError>;
+}
+
+/// Counts nothing.
+#[derive(Clone, Copy)]
+pub struct Uncounted;
+
+impl RunCounter for Uncounted {
+    #[inline(always)]
+    fn count(&mut self, _id: u64, _code: u64, _bits: u64) -> Result<(), AllocError> {
+        Ok(())
+    }
+}
+
+/// Passes over records with abbreviation ids of a width, as long as they are not odd and a margin of bits is there.
+#[inline(never)]
+pub fn pass_records<'a, C: RunCounter>(
+    bits: PlacedBits<'a>,
+    width: u32,
+    plans: &[Plan],
+    room: u64,
+    counter: &mut C,
+) -> Result<PassedRun<'a>, AllocError> {
+    let mut bits = bits;
+    let mut room = room;
+    let mut is_over = false;
+    let (Some(first), Some(last)) = (bits.guard(MARGIN), bits.guard(0)) else {
+        return Ok(PassedRun {
+            after: bits,
+            room,
+            is_over,
+        });
+    };
+    while bits.is_within(first) {
+        let ends = bits.ends();
+        let id = !ends & ((1 << width) - 1);
+        let fields = bits.after(u64::from(width));
+        let passed: Option<Passed<'a>> = if id > 3 {
+            match plans.get((id - 4) as usize) {
+                Some(plan) => plan.pass(fields, ends >> width, last, room),
+                None => None,
+            }
+        } else if id == 3 {
+            pass_plain(fields, ends >> width, last)
+        } else {
+            is_over = true;
+            None
+        };
+        let Some(passed) = passed else {
+            break;
+        };
+        if passed.count > room {
+            break;
+        }
+        counter.count(id, passed.code, passed.after.position() - bits.position())?;
+        room -= passed.count;
+        bits = passed.after;
+    }
+    Ok(PassedRun {
+        after: bits,
+        room,
+        is_over,
+    })
+}
