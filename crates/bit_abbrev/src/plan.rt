@@ -1,6 +1,6 @@
 //! How a record is passed over: bits to skip, and numbers whose last bits are found in a load.
 
-use bit_fields::{Guard, PlacedBits};
+use bit_fields::{ChunkTops, ChunkWidth, PlacedBits};
 use bit_grammar::Op;
 
 /// How many passes a plan has at most.
@@ -12,15 +12,15 @@ const TOGETHER: u32 = 4;
 /// How many bits the fields before an array have at most, if each number has at most 57.
 const REACH: u64 = 1900;
 
-/// How many bits are there from a record's first one on, before a load that a guard allows.
+/// How many bits have to be there from a record's first one on: its id, the fields before an array, and a load.
 pub const MARGIN: u64 = 2048;
 
 /// Bits to skip, and then numbers with these top bits in their chunks.
 #[derive(Clone, Copy, Debug, PartialEq, Eq)]
 struct Pass {
-    tops: u64,
     skip: u32,
     count: u32,
+    chunks: ChunkTops,
 }
 
 /// What comes after the single operands.
@@ -48,8 +48,8 @@ pub struct Plan {
     /// The bits after the last pass.
     after: u32,
     code: u64,
-    /// The top bits of the chunks of an array's elements.
-    tops: u64,
+    /// The chunks of an array's elements.
+    chunks: ChunkTops,
     /// The bits of an array's element.
     width: u32,
     pass: [Pass; MOST],
@@ -63,32 +63,21 @@ pub struct Passed<'a> {
     pub count: u64,
 }
 
-/// The top bits of chunks of a width in the bits of a load.
-fn tops_of(width: u8) -> u64 {
-    let n = u32::from(width);
-    let mut tops = 0;
-    let mut at = n - 1;
-    while at < 57 {
-        tops |= 1 << at;
-        at += n;
-    }
-    tops
-}
-
 /// A plan that passes over nothing.
 fn odd() -> Plan {
+    let chunks = ChunkTops::of(ChunkWidth::of(6));
     Plan {
         rest: Rest::Odd,
         singles: 0,
         passes: 0,
         after: 0,
         code: 0,
-        tops: 0,
+        chunks,
         width: 0,
         pass: [Pass {
-            tops: 0,
             skip: 0,
             count: 0,
+            chunks,
         }; MOST],
     }
 }
@@ -103,12 +92,12 @@ impl Plan {
 
     /// Adds a number, and returns whether it has room.
     fn number(&mut self, width: u8) -> bool {
-        let tops = tops_of(width);
+        let chunks = ChunkTops::of(ChunkWidth::of(width));
         self.singles += 1;
         let count = self.passes as usize;
         if self.after == 0 && count > 0 {
             let last = &mut self.pass[count - 1];
-            if last.tops == tops && last.count < TOGETHER {
+            if last.chunks == chunks && last.count < TOGETHER {
                 last.count += 1;
                 return true;
             }
@@ -117,9 +106,9 @@ impl Plan {
             return false;
         }
         self.pass[count] = Pass {
-            tops,
             skip: self.after,
             count: 1,
+            chunks,
         };
         self.passes += 1;
         self.after = 0;
@@ -135,7 +124,7 @@ impl Plan {
                     return false;
                 }
                 self.rest = Rest::Numbers;
-                self.tops = tops_of(width);
+                self.chunks = ChunkTops::of(ChunkWidth::of(width));
             }
             Op::Fixed(width) => {
                 if width == 0 {
@@ -203,16 +192,15 @@ impl Plan {
         &self,
         bits: PlacedBits<'a>,
         ends: u64,
-        guard: Guard,
     ) -> Option<PlacedBits<'a>> {
         let mut bits = bits;
         if self.passes > 0 {
-            bits = self.pass[0].pass(bits, ends >> self.pass[0].skip, guard)?;
+            bits = self.pass[0].pass(bits, ends >> self.pass[0].skip)?;
             let mut at = 1;
             while at < self.passes as usize {
                 let pass = &self.pass[at];
                 let ends = bits.after(u64::from(pass.skip)).ends();
-                bits = pass.pass(bits, ends, guard)?;
+                bits = pass.pass(bits, ends)?;
                 at += 1;
             }
         }
@@ -224,7 +212,6 @@ impl Plan {
     fn pass_array<'a>(
         &self,
         bits: PlacedBits<'a>,
-        guard: Guard,
         room: u64,
     ) -> Option<(PlacedBits<'a>, u64)> {
         let ends = bits.ends();
@@ -235,20 +222,20 @@ impl Plan {
                     return Some((after, count));
                 }
             }
-            return Some((bits.after(len).past_sixes(guard, count)?, count));
+            return Some((bits.after(len).past_sixes(count)?, count));
         }
         if count > room {
             return None;
         }
         let bits = bits.after(len);
         if self.rest == Rest::Fields {
-            let after = bits.after(count * u64::from(self.width));
-            if !after.is_within(guard) {
+            let len = count * u64::from(self.width);
+            if !bits.has(len) {
                 return None;
             }
-            return Some((after, count));
+            return Some((bits.after(len), count));
         }
-        Some((bits.past_each(guard, self.tops, count)?, count))
+        Some((bits.past_each(self.chunks, count)?, count))
     }
 
     /// Passes over the fields of a record after its id. The loaded bits begin with them.
@@ -257,19 +244,18 @@ impl Plan {
         &self,
         bits: PlacedBits<'a>,
         ends: u64,
-        guard: Guard,
         room: u64,
     ) -> Option<Passed<'a>> {
         if self.rest == Rest::Odd {
             return None;
         }
-        let after = self.pass_singles(bits, ends, guard)?;
+        let after = self.pass_singles(bits, ends)?;
         let count = u64::from(self.singles);
         let code = self.code;
         if self.rest == Rest::Nothing {
             return Some(Passed { after, code, count });
         }
-        let (after, more) = self.pass_array(after, guard, room)?;
+        let (after, more) = self.pass_array(after, room)?;
         Some(Passed {
             after,
             code,
@@ -281,22 +267,12 @@ impl Plan {
 impl Pass {
     /// Skips the bits, and passes over the numbers. The loaded bits begin after those that are skipped.
     #[inline(always)]
-    fn pass<'a>(&self, bits: PlacedBits<'a>, ends: u64, guard: Guard) -> Option<PlacedBits<'a>> {
+    fn pass<'a>(&self, bits: PlacedBits<'a>, ends: u64) -> Option<PlacedBits<'a>> {
         let bits = bits.after(u64::from(self.skip));
-        let mut ends = ends & self.tops;
-        if self.count > 1 {
-            ends &= ends.wrapping_sub(1);
-            if self.count > 2 {
-                ends &= ends.wrapping_sub(1);
-                if self.count > 3 {
-                    ends &= ends.wrapping_sub(1);
-                }
-            }
+        match bits.after_few(ends, self.chunks, self.count) {
+            Some(after) => Some(after),
+            None => bits.past_each(self.chunks, u64::from(self.count)),
         }
-        if ends == 0 {
-            return bits.past_each(guard, self.tops, u64::from(self.count));
-        }
-        Some(bits.after(u64::from(ends.trailing_zeros() + 1)))
     }
 }
 
@@ -316,11 +292,11 @@ fn short_number(ends: u64) -> Option<(u64, u64)> {
 
 /// Passes over a record that is not abbreviated, whose code or number of values is long.
 #[inline(always)]
-fn pass_long<'a>(bits: PlacedBits<'a>, ends: u64, guard: Guard) -> Option<Passed<'a>> {
+fn pass_long<'a>(bits: PlacedBits<'a>, ends: u64) -> Option<Passed<'a>> {
     let (code, len) = short_number(ends)?;
     let (count, more) = short_number(ends >> len)?;
     Some(Passed {
-        after: bits.after(len + more).past_sixes(guard, count)?,
+        after: bits.after(len + more).past_sixes(count)?,
         code,
         count,
     })
@@ -328,13 +304,13 @@ fn pass_long<'a>(bits: PlacedBits<'a>, ends: u64, guard: Guard) -> Option<Passed
 
 /// Passes over the fields of a record that is not abbreviated after its id. The loaded bits begin with them.
 #[inline(always)]
-pub fn pass_plain<'a>(bits: PlacedBits<'a>, ends: u64, guard: Guard) -> Option<Passed<'a>> {
+pub fn pass_plain<'a>(bits: PlacedBits<'a>, ends: u64) -> Option<Passed<'a>> {
     let (code, count) = if ends & 0o40_40 == 0o40_40 {
         (!ends & 31, !ends >> 6 & 31)
     } else if ends & 0o40_40_40 == 0o40_40_00 {
         (!ends & 31 | !ends >> 1 & 992, !ends >> 12 & 31)
     } else {
-        return pass_long(bits, ends, guard);
+        return pass_long(bits, ends);
     };
     if count <= 30 {
         if let Some(after) = bits.after_sixes(ends, count + 2) {
@@ -342,7 +318,7 @@ pub fn pass_plain<'a>(bits: PlacedBits<'a>, ends: u64, guard: Guard) -> Option<P
         }
     }
     Some(Passed {
-        after: bits.past_sixes(guard, count + 2)?,
+        after: bits.past_sixes(count + 2)?,
         code,
         count,
     })

@@ -142,7 +142,7 @@ fn gather_buffered<G: Gatherer>(
         let Some(bits) = PlacedBits::new(parts, first) else {
             return Ok(first);
         };
-        if bits.len() < MARGIN {
+        if !bits.has(MARGIN) {
             return Ok(first);
         }
         let Some(step) = machine.placed_block(alloc, bits, loaded, limits)? else {

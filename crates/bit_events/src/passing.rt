@@ -41,24 +41,17 @@ pub fn pass_records<'a, C: RunCounter>(
     let mut bits = bits;
     let mut room = room;
     let mut is_over = false;
-    let (Some(first), Some(last)) = (bits.guard(MARGIN), bits.guard(0)) else {
-        return Ok(PassedRun {
-            after: bits,
-            room,
-            is_over,
-        });
-    };
-    while bits.is_within(first) {
+    while bits.has(MARGIN) {
         let ends = bits.ends();
         let id = !ends & ((1 << width) - 1);
         let fields = bits.after(u64::from(width));
         let passed: Option<Passed<'a>> = if id > 3 {
             match plans.get((id - 4) as usize) {
-                Some(plan) => plan.pass(fields, ends >> width, last, room),
+                Some(plan) => plan.pass(fields, ends >> width, room),
                 None => None,
             }
         } else if id == 3 {
-            pass_plain(fields, ends >> width, last)
+            pass_plain(fields, ends >> width)
         } else {
             is_over = true;
             None

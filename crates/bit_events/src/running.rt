@@ -238,7 +238,7 @@ fn gather_odd<G: Gatherer>(
     let planned = frame.definitions.plans().len() as u32;
     loop {
         values.truncate(0);
-        let passes = !is_first && buffered.len() >= MARGIN + 64;
+        let passes = !is_first && buffered.len() >= MARGIN;
         let Some(id) = record_id(&mut buffered, frame) else {
             return Ok(OddRun {
                 after: first,

@@ -5,9 +5,10 @@
 
 use crate::buffered::BufferedParts;
 use crate::six_bits::{end_of, numbers_in};
+use crate::width::ChunkWidth;
 use crate::word::eight_of;
 
-/// Bits of a stream from a position on, which are in bytes.
+/// Buffered bits of a stream, from a position on.
 #[derive(Clone, Copy)]
 pub struct PlacedBits<'a> {
     bytes: &'a [u8],
@@ -17,10 +18,27 @@ pub struct PlacedBits<'a> {
     at: u64,
 }
 
-/// Where loads may begin: at most so many bits into the bytes.
-#[derive(Clone, Copy)]
-pub struct Guard {
-    last: u64,
+/// The top bits of chunks of a width, in the bits of a load.
+#[derive(Clone, Copy, Debug, PartialEq, Eq)]
+pub struct ChunkTops {
+    tops: u64,
+    bits: u32,
+}
+
+impl ChunkTops {
+    /// Those of chunks of a width.
+    pub fn of(width: ChunkWidth) -> ChunkTops {
+        let mut tops = 0;
+        let mut at = width.bits - 1;
+        while at < 57 {
+            tops |= 1 << at;
+            at += width.bits;
+        }
+        ChunkTops {
+            tops,
+            bits: width.bits,
+        }
+    }
 }
 
 impl<'a> PlacedBits<'a> {
@@ -44,23 +62,10 @@ impl<'a> PlacedBits<'a> {
         self.start + self.at
     }
 
-    /// How many bits there are.
+    /// Whether this many bits are there.
     #[inline(always)]
-    pub fn len(self) -> u64 {
-        8 * self.bytes.len() as u64 - self.at
-    }
-
-    /// The last place where a load may begin, so that this many bits more are there.
-    #[inline(always)]
-    pub fn guard(self, bits: u64) -> Option<Guard> {
-        let last = (8 * self.bytes.len() as u64).checked_sub(bits + 64)?;
-        Some(Guard { last })
-    }
-
-    /// Whether loads may begin here.
-    #[inline(always)]
-    pub fn is_within(self, guard: Guard) -> bool {
-        self.at <= guard.last
+    pub fn has(self, bits: u64) -> bool {
+        8 * self.bytes.len() as u64 - self.at >= bits
     }
 
     /// The bits after the first ones.
@@ -73,7 +78,7 @@ impl<'a> PlacedBits<'a> {
         }
     }
 
-    /// The complement of the next bits: 57 at least, and zeros behind what was loaded.
+    /// The complement of the next 57 bits or more, of which 64 are there, and zeros behind them.
     #[inline(always)]
     pub fn ends(self) -> u64 {
         let rest = &self.bytes[(self.at >> 3) as usize..];
@@ -87,7 +92,26 @@ impl<'a> PlacedBits<'a> {
         Some(self.after(u64::from(len)))
     }
 
-    /// The bits at the place that a call found.
+    /// The same of at most four numbers in chunks of any width.
+    #[inline(always)]
+    pub fn after_few(self, ends: u64, chunks: ChunkTops, count: u32) -> Option<PlacedBits<'a>> {
+        let mut ends = ends & chunks.tops;
+        if count > 1 {
+            ends &= ends.wrapping_sub(1);
+            if count > 2 {
+                ends &= ends.wrapping_sub(1);
+                if count > 3 {
+                    ends &= ends.wrapping_sub(1);
+                }
+            }
+        }
+        if ends == 0 {
+            return None;
+        }
+        Some(self.after(u64::from(ends.trailing_zeros() + 1)))
+    }
+
+    /// The bits at a place that a call found.
     #[inline(always)]
     fn moved(self, at: Option<u64>) -> Option<PlacedBits<'a>> {
         Some(PlacedBits {
@@ -97,22 +121,22 @@ impl<'a> PlacedBits<'a> {
         })
     }
 
-    /// The bits after this many numbers in chunks of six bits. `None` if one is long or they are not there up to a guard.
+    /// The bits after this many numbers in chunks of six bits. `None` if one is long, or they are not there.
     #[inline(always)]
-    pub fn past_sixes(self, guard: Guard, count: u64) -> Option<PlacedBits<'a>> {
-        self.moved(past_sixes(self.bytes, self.at, guard.last, count))
+    pub fn past_sixes(self, count: u64) -> Option<PlacedBits<'a>> {
+        self.moved(past_sixes(self.bytes, self.at, count))
     }
 
-    /// The same of numbers whose chunks have these top bits.
+    /// The same of numbers in chunks of any width.
     #[inline(always)]
-    pub fn past_each(self, guard: Guard, tops: u64, count: u64) -> Option<PlacedBits<'a>> {
-        self.moved(past_each(self.bytes, self.at, guard.last, tops, count))
+    pub fn past_each(self, chunks: ChunkTops, count: u64) -> Option<PlacedBits<'a>> {
+        self.moved(past_each(self.bytes, self.at, chunks, count))
     }
 }
 
 /// The place after this many numbers in chunks of six bits.
 #[inline(never)]
-fn past_sixes(bytes: &[u8], at: u64, last: u64, count: u64) -> Option<u64> {
+fn past_sixes(bytes: &[u8], at: u64, count: u64) -> Option<u64> {
     let mut bits = PlacedBits {
         bytes,
         start: 0,
@@ -120,7 +144,7 @@ fn past_sixes(bytes: &[u8], at: u64, last: u64, count: u64) -> Option<u64> {
     };
     let mut left = count;
     while left > 0 {
-        if bits.at > last {
+        if !bits.has(64) {
             return None;
         }
         let (passed, len) = numbers_in(!bits.ends(), left.min(32));
@@ -133,9 +157,9 @@ fn past_sixes(bytes: &[u8], at: u64, last: u64, count: u64) -> Option<u64> {
     Some(bits.at)
 }
 
-/// The place after this many numbers whose chunks have these top bits.
+/// The place after this many numbers in chunks of a width.
 #[inline(never)]
-fn past_each(bytes: &[u8], at: u64, last: u64, tops: u64, count: u64) -> Option<u64> {
+fn past_each(bytes: &[u8], at: u64, chunks: ChunkTops, count: u64) -> Option<u64> {
     let mut bits = PlacedBits {
         bytes,
         start: 0,
@@ -143,10 +167,10 @@ fn past_each(bytes: &[u8], at: u64, last: u64, tops: u64, count: u64) -> Option<
     };
     let mut left = count;
     while left > 0 {
-        if bits.at > last {
+        if !bits.has(64) {
             return None;
         }
-        let ends = bits.ends() & tops;
+        let ends = bits.ends() & chunks.tops;
         if ends == 0 {
             return None;
         }
