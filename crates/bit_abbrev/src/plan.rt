@@ -1,6 +1,6 @@
 //! How a record is passed over: bits to skip, and numbers whose last bits are found in a load.
 
-use bit_fields::{ChunkTops, ChunkWidth, PlacedBits};
+use bit_fields::{ChunkTops, ChunkWidth, LoadedBits, PlacedBits};
 use bit_grammar::Op;
 
 /// How many passes a plan has at most.
@@ -186,21 +186,16 @@ impl Plan {
         plan
     }
 
-    /// Passes over the single operands. The loaded bits begin with them.
+    /// Passes over the single operands.
     #[inline(always)]
-    fn pass_singles<'a>(
-        &self,
-        bits: PlacedBits<'a>,
-        ends: u64,
-    ) -> Option<PlacedBits<'a>> {
-        let mut bits = bits;
+    fn pass_singles<'a>(&self, fields: LoadedBits<'a>) -> Option<PlacedBits<'a>> {
+        let mut bits = fields.bits();
         if self.passes > 0 {
-            bits = self.pass[0].pass(bits, ends >> self.pass[0].skip)?;
+            bits = self.pass[0].pass(fields.after(self.pass[0].skip))?;
             let mut at = 1;
             while at < self.passes as usize {
                 let pass = &self.pass[at];
-                let ends = bits.after(u64::from(pass.skip)).ends();
-                bits = pass.pass(bits, ends)?;
+                bits = pass.pass(bits.after(u64::from(pass.skip)).load())?;
                 at += 1;
             }
         }
@@ -209,47 +204,33 @@ impl Plan {
 
     /// Passes over an array: the bits after it, and how many elements it has.
     #[inline(always)]
-    fn pass_array<'a>(
-        &self,
-        bits: PlacedBits<'a>,
-        room: u64,
-    ) -> Option<(PlacedBits<'a>, u64)> {
-        let ends = bits.ends();
-        let (count, len) = short_number(ends)?;
-        if self.rest == Rest::Sixes {
-            if len == 6 {
-                if let Some(after) = bits.after_sixes(ends, count + 1) {
-                    return Some((after, count));
-                }
-            }
-            return Some((bits.after(len).past_sixes(count)?, count));
-        }
+    fn pass_array<'a>(&self, bits: PlacedBits<'a>, room: u64) -> Option<(PlacedBits<'a>, u64)> {
+        let loaded = bits.load();
+        let (count, elements) = loaded.short_six()?;
         if count > room {
             return None;
         }
-        let bits = bits.after(len);
-        if self.rest == Rest::Fields {
-            let len = count * u64::from(self.width);
-            if !bits.has(len) {
-                return None;
+        let after = match self.rest {
+            Rest::Sixes => pass_sixes(loaded, elements, count, 1)?,
+            Rest::Numbers => elements.bits().past_each(self.chunks, count)?,
+            _ => {
+                let len = count * u64::from(self.width);
+                if !elements.bits().has(len) {
+                    return None;
+                }
+                elements.bits().after(len)
             }
-            return Some((bits.after(len), count));
-        }
-        Some((bits.past_each(self.chunks, count)?, count))
+        };
+        Some((after, count))
     }
 
-    /// Passes over the fields of a record after its id. The loaded bits begin with them.
+    /// Passes over the fields of a record after its id.
     #[inline(always)]
-    pub fn pass<'a>(
-        &self,
-        bits: PlacedBits<'a>,
-        ends: u64,
-        room: u64,
-    ) -> Option<Passed<'a>> {
+    pub fn pass<'a>(&self, fields: LoadedBits<'a>, room: u64) -> Option<Passed<'a>> {
         if self.rest == Rest::Odd {
             return None;
         }
-        let after = self.pass_singles(bits, ends)?;
+        let after = self.pass_singles(fields)?;
         let count = u64::from(self.singles);
         let code = self.code;
         if self.rest == Rest::Nothing {
@@ -265,60 +246,39 @@ impl Plan {
 }
 
 impl Pass {
-    /// Skips the bits, and passes over the numbers. The loaded bits begin after those that are skipped.
+    /// Passes over the numbers.
     #[inline(always)]
-    fn pass<'a>(&self, bits: PlacedBits<'a>, ends: u64) -> Option<PlacedBits<'a>> {
-        let bits = bits.after(u64::from(self.skip));
-        match bits.after_few(ends, self.chunks, self.count) {
+    fn pass<'a>(&self, numbers: LoadedBits<'a>) -> Option<PlacedBits<'a>> {
+        match numbers.after_few(self.chunks, self.count) {
             Some(after) => Some(after),
-            None => bits.past_each(self.chunks, u64::from(self.count)),
+            None => numbers.bits().past_each(self.chunks, u64::from(self.count)),
         }
     }
 }
 
-/// A number of at most three chunks of six bits at the front, and its bits.
+/// The bits after numbers in chunks of six bits, with so many more before them in the load.
 #[inline(always)]
-fn short_number(ends: u64) -> Option<(u64, u64)> {
-    if ends & 0o40 != 0 {
-        Some((!ends & 31, 6))
-    } else if ends & 0o40_00 != 0 {
-        Some((!ends & 31 | !ends >> 1 & 992, 12))
-    } else if ends & 0o40_00_00 != 0 {
-        Some((!ends & 31 | !ends >> 1 & 992 | !ends >> 2 & 31744, 18))
-    } else {
-        None
-    }
-}
-
-/// Passes over a record that is not abbreviated, whose code or number of values is long.
-#[inline(always)]
-fn pass_long<'a>(bits: PlacedBits<'a>, ends: u64) -> Option<Passed<'a>> {
-    let (code, len) = short_number(ends)?;
-    let (count, more) = short_number(ends >> len)?;
-    Some(Passed {
-        after: bits.after(len + more).past_sixes(count)?,
-        code,
-        count,
-    })
-}
-
-/// Passes over the fields of a record that is not abbreviated after its id. The loaded bits begin with them.
-#[inline(always)]
-pub fn pass_plain<'a>(bits: PlacedBits<'a>, ends: u64) -> Option<Passed<'a>> {
-    let (code, count) = if ends & 0o40_40 == 0o40_40 {
-        (!ends & 31, !ends >> 6 & 31)
-    } else if ends & 0o40_40_40 == 0o40_40_00 {
-        (!ends & 31 | !ends >> 1 & 992, !ends >> 12 & 31)
-    } else {
-        return pass_long(bits, ends);
-    };
-    if count <= 30 {
-        if let Some(after) = bits.after_sixes(ends, count + 2) {
-            return Some(Passed { after, code, count });
+fn pass_sixes<'a>(
+    loaded: LoadedBits<'a>,
+    numbers: LoadedBits<'a>,
+    count: u64,
+    before: u64,
+) -> Option<PlacedBits<'a>> {
+    if count < 8 {
+        if let Some(after) = loaded.after_sixes(count + before) {
+            return Some(after);
         }
     }
+    numbers.bits().past_sixes(count)
+}
+
+/// Passes over the fields of a record that is not abbreviated after its id.
+#[inline(always)]
+pub fn pass_plain<'a>(fields: LoadedBits<'a>) -> Option<Passed<'a>> {
+    let (code, behind) = fields.short_six()?;
+    let (count, values) = behind.short_six()?;
     Some(Passed {
-        after: bits.past_sixes(count + 2)?,
+        after: pass_sixes(fields, values, count, 2)?,
         code,
         count,
     })

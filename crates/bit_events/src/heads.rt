@@ -95,22 +95,23 @@ fn loaded_by_padding(after: u64, loaded: u64) -> u64 {
 /// leaves it to that reader: also an id or a width of more than one chunk, which is rare.
 #[inline(always)]
 pub(crate) fn placed_head(bits: PlacedBits<'_>, loaded: u64) -> Option<(BlockHead, u64)> {
-    let word = !bits.ends();
-    let width = word >> 8 & 15;
-    if word & 0x880 != 0 || width == 0 {
+    let id = bits.fixed(8);
+    let width = bits.after(8).fixed(4);
+    if id >= 1 << 7 || width >= 1 << 3 || width == 0 {
         return None;
     }
     let first = bits.position();
     let padding = first + 12;
     let length_at = (padding + 31) & !31;
-    if word >> 12 & ((1 << (length_at - padding)) - 1) != 0 {
+    let to_length = length_at - first;
+    if bits.after(12).fixed((to_length - 12) as u32) != 0 {
         return None;
     }
-    let words = !bits.after(length_at - first).ends() & 0xffffffff;
+    let words = bits.after(to_length).fixed(32);
     let loaded = loaded_by(first + 8, 4, loaded_by(first, 8, loaded));
     let loaded = loaded_by(length_at, 32, loaded_by_padding(length_at, loaded));
     let head = BlockHead {
-        id: (word & 127) as u32,
+        id: id as u32,
         width: width as u8,
         length_at,
         words: words as u32,
@@ -155,7 +156,7 @@ pub(crate) fn placed_end(
 ) -> Option<(u64, u64)> {
     let first = bits.position();
     let after = (first + 31) & !31;
-    if !bits.ends() & ((1 << (after - first)) - 1) != 0 || !ends_at(head, after) {
+    if bits.fixed((after - first) as u32) != 0 || !ends_at(head, after) {
         return None;
     }
     Some((after, loaded_by_padding(after, loaded)))

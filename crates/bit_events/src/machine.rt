@@ -268,7 +268,7 @@ impl Machine {
             return Ok(None);
         };
         let first = bits.position();
-        let id = !bits.ends() & ((1 << width) - 1);
+        let id = bits.fixed(width);
         if id > 1 {
             return Ok(None);
         }

@@ -42,16 +42,15 @@ pub fn pass_records<'a, C: RunCounter>(
     let mut room = room;
     let mut is_over = false;
     while bits.has(MARGIN) {
-        let ends = bits.ends();
-        let id = !ends & ((1 << width) - 1);
-        let fields = bits.after(u64::from(width));
+        let id = bits.fixed(width);
+        let fields = bits.load().after(width);
         let passed: Option<Passed<'a>> = if id > 3 {
             match plans.get((id - 4) as usize) {
-                Some(plan) => plan.pass(fields, ends >> width, room),
+                Some(plan) => plan.pass(fields, room),
                 None => None,
             }
         } else if id == 3 {
-            pass_plain(fields, ends >> width)
+            pass_plain(fields)
         } else {
             is_over = true;
             None

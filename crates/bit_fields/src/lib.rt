@@ -72,7 +72,7 @@ pub use keeper::ValueKeeper;
 pub use kept::KeptSource;
 pub use limits::Limits;
 pub use packed::{PackedValues, ValueParts};
-pub use placed::{ChunkTops, PlacedBits};
+pub use placed::{ChunkTops, LoadedBits, PlacedBits};
 pub use reader::BitReader;
 pub use sink::{Sink, SinkFailed, VecSink, WriteSink};
 pub use source::{BufSource, ReadSource, SliceSource, Source, SourceFailed};

@@ -41,6 +41,73 @@ impl ChunkTops {
     }
 }
 
+/// Bits and a load of some of them. The complement of what was loaded is in the low bits of a word, and zeros are above.
+#[derive(Clone, Copy)]
+pub struct LoadedBits<'a> {
+    bits: PlacedBits<'a>,
+    ends: u64,
+}
+
+impl<'a> LoadedBits<'a> {
+    /// The bits after the first ones. They need not be loaded.
+    #[inline(always)]
+    pub fn after(self, bits: u32) -> LoadedBits<'a> {
+        LoadedBits {
+            bits: self.bits.after(u64::from(bits)),
+            ends: self.ends >> bits,
+        }
+    }
+
+    /// The bits, without what was loaded of them.
+    #[inline(always)]
+    pub fn bits(self) -> PlacedBits<'a> {
+        self.bits
+    }
+
+    /// A number of at most three chunks of six bits, and the bits after it.
+    #[inline(always)]
+    pub fn short_six(self) -> Option<(u64, LoadedBits<'a>)> {
+        let low = !self.ends & 31;
+        if self.ends & 0o40 != 0 {
+            return Some((low, self.after(6)));
+        }
+        let low = low | !self.ends >> 1 & 0x3e0;
+        if self.ends & 0o40_00 != 0 {
+            return Some((low, self.after(12)));
+        }
+        if self.ends & 0o40_00_00 != 0 {
+            return Some((low | !self.ends >> 2 & 0x7c00, self.after(18)));
+        }
+        None
+    }
+
+    /// The bits after this many numbers in chunks of six bits, at most 32, if they are loaded.
+    #[inline(always)]
+    pub fn after_sixes(self, count: u64) -> Option<PlacedBits<'a>> {
+        let len = end_of(!self.ends, count)?;
+        Some(self.bits.after(u64::from(len)))
+    }
+
+    /// The same of one to four numbers in chunks of any width.
+    #[inline(always)]
+    pub fn after_few(self, chunks: ChunkTops, count: u32) -> Option<PlacedBits<'a>> {
+        let mut ends = self.ends & chunks.tops;
+        if count > 1 {
+            ends &= ends.wrapping_sub(1);
+            if count > 2 {
+                ends &= ends.wrapping_sub(1);
+                if count > 3 {
+                    ends &= ends.wrapping_sub(1);
+                }
+            }
+        }
+        if ends == 0 {
+            return None;
+        }
+        Some(self.bits.after(u64::from(ends.trailing_zeros() + 1)))
+    }
+}
+
 impl<'a> PlacedBits<'a> {
     /// Buffered bits from a position on, if they are not before the bytes.
     #[inline(always)]
@@ -80,35 +147,24 @@ impl<'a> PlacedBits<'a> {
 
     /// The complement of the next 57 bits or more, of which 64 are there, and zeros behind them.
     #[inline(always)]
-    pub fn ends(self) -> u64 {
+    fn ends(self) -> u64 {
         let rest = &self.bytes[(self.at >> 3) as usize..];
         !eight_of(rest) >> (self.at & 7)
     }
 
-    /// The bits after this many numbers in chunks of six bits, if the loaded bits have them all.
+    /// A load of the next bits, of which 64 are there.
     #[inline(always)]
-    pub fn after_sixes(self, ends: u64, count: u64) -> Option<PlacedBits<'a>> {
-        let len = end_of(!ends, count)?;
-        Some(self.after(u64::from(len)))
+    pub fn load(self) -> LoadedBits<'a> {
+        LoadedBits {
+            ends: self.ends(),
+            bits: self,
+        }
     }
 
-    /// The same of at most four numbers in chunks of any width.
+    /// The next n bits as a number, if 64 bits are there.
     #[inline(always)]
-    pub fn after_few(self, ends: u64, chunks: ChunkTops, count: u32) -> Option<PlacedBits<'a>> {
-        let mut ends = ends & chunks.tops;
-        if count > 1 {
-            ends &= ends.wrapping_sub(1);
-            if count > 2 {
-                ends &= ends.wrapping_sub(1);
-                if count > 3 {
-                    ends &= ends.wrapping_sub(1);
-                }
-            }
-        }
-        if ends == 0 {
-            return None;
-        }
-        Some(self.after(u64::from(ends.trailing_zeros() + 1)))
+    pub fn fixed(self, n: u32) -> u64 {
+        !self.ends() & ((1 << n) - 1)
     }
 
     /// The bits at a place that a call found.
