@@ -55,10 +55,10 @@ pub struct Plan {
     pass: [Pass; MOST],
 }
 
-/// A record that was passed over: the bits after it, its code and how many values it has.
+/// A record that was passed over: the length of its fields in bits, its code and how many values it has.
 #[derive(Clone, Copy)]
-pub struct Passed<'a> {
-    pub after: PlacedBits<'a>,
+pub struct Passed {
+    pub len: u64,
     pub code: u64,
     pub count: u64,
 }
@@ -186,99 +186,105 @@ impl Plan {
         plan
     }
 
-    /// Passes over the single operands.
+    /// The length of the single operands.
     #[inline(always)]
-    fn pass_singles<'a>(&self, fields: LoadedBits<'a>) -> Option<PlacedBits<'a>> {
-        let mut bits = fields.bits();
+    fn singles_len(&self, fields: LoadedBits<'_>) -> Option<u64> {
+        let mut len = 0;
         if self.passes > 0 {
-            bits = self.pass[0].pass(fields.after(self.pass[0].skip))?;
+            len = self.pass[0].len(fields.after(self.pass[0].skip))?;
             let mut at = 1;
             while at < self.passes as usize {
                 let pass = &self.pass[at];
-                bits = pass.pass(bits.after(u64::from(pass.skip)).load())?;
+                let from = len + u64::from(pass.skip);
+                len += pass.len(fields.bits().after(from).load())?;
                 at += 1;
             }
         }
-        Some(bits.after(u64::from(self.after)))
+        Some(len + u64::from(self.after))
     }
 
-    /// Passes over an array: the bits after it, and how many elements it has.
+    /// The length of an array, and how many elements it has.
     #[inline(always)]
-    fn pass_array<'a>(&self, bits: PlacedBits<'a>, room: u64) -> Option<(PlacedBits<'a>, u64)> {
+    fn array_len(&self, bits: PlacedBits<'_>, room: u64) -> Option<(u64, u64)> {
         let loaded = bits.load();
         let (count, elements) = loaded.short_six()?;
         if count > room {
             return None;
         }
-        let after = match self.rest {
-            Rest::Sixes => pass_sixes(loaded, elements, count, 1)?,
-            Rest::Numbers => elements.bits().past_each(self.chunks, count)?,
+        let before = elements.position() - bits.position();
+        let len = match self.rest {
+            Rest::Sixes => {
+                return Some((sixes_len(loaded, elements, count, 1)?, count));
+            }
+            Rest::Numbers => elements.bits().all_of(self.chunks, count)?,
             _ => {
                 let len = count * u64::from(self.width);
                 if !elements.bits().has(len) {
                     return None;
                 }
-                elements.bits().after(len)
+                len
             }
         };
-        Some((after, count))
+        Some((before + len, count))
     }
 
     /// Passes over the fields of a record after its id.
     #[inline(always)]
-    pub fn pass<'a>(&self, fields: LoadedBits<'a>, room: u64) -> Option<Passed<'a>> {
+    pub fn pass(&self, fields: LoadedBits<'_>, room: u64) -> Option<Passed> {
         if self.rest == Rest::Odd {
             return None;
         }
-        let after = self.pass_singles(fields)?;
+        let len = self.singles_len(fields)?;
         let count = u64::from(self.singles);
         let code = self.code;
         if self.rest == Rest::Nothing {
-            return Some(Passed { after, code, count });
+            return Some(Passed { len, code, count });
         }
-        let (after, more) = self.pass_array(after, room)?;
+        let (more, elements) = self.array_len(fields.bits().after(len), room)?;
         Some(Passed {
-            after,
+            len: len + more,
             code,
-            count: count + more,
+            count: count + elements,
         })
     }
 }
 
 impl Pass {
-    /// Passes over the numbers.
+    /// The length of the skipped bits and the numbers. The loaded bits begin with the numbers.
     #[inline(always)]
-    fn pass<'a>(&self, numbers: LoadedBits<'a>) -> Option<PlacedBits<'a>> {
-        match numbers.after_few(self.chunks, self.count) {
-            Some(after) => Some(after),
-            None => numbers.bits().past_each(self.chunks, u64::from(self.count)),
-        }
+    fn len(&self, numbers: LoadedBits<'_>) -> Option<u64> {
+        let len = match numbers.few(self.chunks, self.count) {
+            Some(len) => len,
+            None => numbers.bits().all_of(self.chunks, u64::from(self.count))?,
+        };
+        Some(u64::from(self.skip) + len)
     }
 }
 
-/// The bits after numbers in chunks of six bits, with so many more before them in the load.
+/// The length of numbers in chunks of six bits and of so many before them, with which the loaded bits begin.
 #[inline(always)]
-fn pass_sixes<'a>(
-    loaded: LoadedBits<'a>,
-    numbers: LoadedBits<'a>,
+fn sixes_len(
+    loaded: LoadedBits<'_>,
+    numbers: LoadedBits<'_>,
     count: u64,
     before: u64,
-) -> Option<PlacedBits<'a>> {
+) -> Option<u64> {
     if count < 8 {
-        if let Some(after) = loaded.after_sixes(count + before) {
-            return Some(after);
+        if let Some(len) = loaded.sixes(count + before) {
+            return Some(len);
         }
     }
-    numbers.bits().past_sixes(count)
+    let len = numbers.bits().all_sixes(count)?;
+    Some(numbers.position() - loaded.position() + len)
 }
 
 /// Passes over the fields of a record that is not abbreviated after its id.
 #[inline(always)]
-pub fn pass_plain<'a>(fields: LoadedBits<'a>) -> Option<Passed<'a>> {
+pub fn pass_plain(fields: LoadedBits<'_>) -> Option<Passed> {
     let (code, behind) = fields.short_six()?;
     let (count, values) = behind.short_six()?;
     Some(Passed {
-        after: pass_sixes(fields, values, count, 2)?,
+        len: sixes_len(fields, values, count, 2)?,
         code,
         count,
     })

@@ -109,13 +109,13 @@ pub trait Gatherer {
 
     /// Passes over records of the innermost block.
     #[inline(always)]
-    fn pass<'a>(
+    fn pass(
         &mut self,
-        bits: PlacedBits<'a>,
+        bits: PlacedBits<'_>,
         width: u32,
         plans: &[Plan],
         room: u64,
-    ) -> Result<PassedRun<'a>, AllocError> {
+    ) -> Result<PassedRun, AllocError> {
         pass_records(bits, width, plans, room, &mut Uncounted)
     }
 

@@ -4,10 +4,10 @@ use bit_abbrev::{MARGIN, Passed, Plan, pass_plain};
 use bit_fields::PlacedBits;
 use std::alloc::AllocError;
 
-/// Records that were passed over: the bits after them, how much room is left, and whether an item comes there that is no record.
+/// Records that were passed over: the bit after them, how much room is left, and whether an item comes there that is no record.
 #[derive(Clone, Copy)]
-pub struct PassedRun<'a> {
-    pub after: PlacedBits<'a>,
+pub struct PassedRun {
+    pub after: u64,
     pub room: u64,
     pub is_over: bool,
 }
@@ -31,20 +31,20 @@ impl RunCounter for Uncounted {
 
 /// Passes over records with abbreviation ids of a width, as long as they are not odd and a margin of bits is there.
 #[inline(never)]
-pub fn pass_records<'a, C: RunCounter>(
-    bits: PlacedBits<'a>,
+pub fn pass_records<C: RunCounter>(
+    bits: PlacedBits<'_>,
     width: u32,
     plans: &[Plan],
     room: u64,
     counter: &mut C,
-) -> Result<PassedRun<'a>, AllocError> {
+) -> Result<PassedRun, AllocError> {
     let mut bits = bits;
     let mut room = room;
     let mut is_over = false;
     while bits.has(MARGIN) {
         let id = bits.fixed(width);
         let fields = bits.load().after(width);
-        let passed: Option<Passed<'a>> = if id > 3 {
+        let passed: Option<Passed> = if id > 3 {
             match plans.get((id - 4) as usize) {
                 Some(plan) => plan.pass(fields, room),
                 None => None,
@@ -61,12 +61,13 @@ pub fn pass_records<'a, C: RunCounter>(
         if passed.count > room {
             break;
         }
-        counter.count(id, passed.code, passed.after.position() - bits.position())?;
+        let len = u64::from(width) + passed.len;
+        counter.count(id, passed.code, len)?;
         room -= passed.count;
-        bits = passed.after;
+        bits = bits.after(len);
     }
     Ok(PassedRun {
-        after: bits,
+        after: bits.position(),
         room,
         is_over,
     })

@@ -293,7 +293,7 @@ pub(crate) fn count_records<G: Gatherer>(
         if let Some(bits) = PlacedBits::new(parts, first) {
             let run = gatherer.pass(bits, width, plans, room)?;
             room = run.room;
-            first = run.after.position();
+            first = run.after;
             if run.is_over {
                 break;
             }

@@ -58,6 +58,12 @@ impl<'a> LoadedBits<'a> {
         }
     }
 
+    /// The position of the first bit.
+    #[inline(always)]
+    pub fn position(self) -> u64 {
+        self.bits.position()
+    }
+
     /// The bits, without what was loaded of them.
     #[inline(always)]
     pub fn bits(self) -> PlacedBits<'a> {
@@ -81,16 +87,16 @@ impl<'a> LoadedBits<'a> {
         None
     }
 
-    /// The bits after this many numbers in chunks of six bits, at most 32, if they are loaded.
+    /// The length of this many numbers in chunks of six bits, at most 32, if they are loaded.
     #[inline(always)]
-    pub fn after_sixes(self, count: u64) -> Option<PlacedBits<'a>> {
+    pub fn sixes(self, count: u64) -> Option<u64> {
         let len = end_of(!self.ends, count)?;
-        Some(self.bits.after(u64::from(len)))
+        Some(u64::from(len))
     }
 
     /// The same of one to four numbers in chunks of any width.
     #[inline(always)]
-    pub fn after_few(self, chunks: ChunkTops, count: u32) -> Option<PlacedBits<'a>> {
+    pub fn few(self, chunks: ChunkTops, count: u32) -> Option<u64> {
         let mut ends = self.ends & chunks.tops;
         if count > 1 {
             ends &= ends.wrapping_sub(1);
@@ -104,7 +110,7 @@ impl<'a> LoadedBits<'a> {
         if ends == 0 {
             return None;
         }
-        Some(self.bits.after(u64::from(ends.trailing_zeros() + 1)))
+        Some(u64::from(ends.trailing_zeros() + 1))
     }
 }
 
@@ -167,71 +173,37 @@ impl<'a> PlacedBits<'a> {
         !self.ends() & ((1 << n) - 1)
     }
 
-    /// The bits at a place that a call found.
-    #[inline(always)]
-    fn moved(self, at: Option<u64>) -> Option<PlacedBits<'a>> {
-        Some(PlacedBits {
-            bytes: self.bytes,
-            start: self.start,
-            at: at?,
-        })
-    }
-
-    /// The bits after this many numbers in chunks of six bits. `None` if one is long, or they are not there.
-    #[inline(always)]
-    pub fn past_sixes(self, count: u64) -> Option<PlacedBits<'a>> {
-        self.moved(past_sixes(self.bytes, self.at, count))
+    /// The length of this many numbers in chunks of six bits. `None` if one is long, or they are not there.
+    #[inline(never)]
+    pub fn all_sixes(self, count: u64) -> Option<u64> {
+        let mut bits = self;
+        let mut left = count;
+        while left > 0 {
+            if !bits.has(64) {
+                return None;
+            }
+            let (passed, len) = numbers_in(!bits.ends(), left.min(32));
+            if passed == 0 {
+                return None;
+            }
+            left -= passed;
+            bits = bits.after(u64::from(len));
+        }
+        Some(bits.at - self.at)
     }
 
     /// The same of numbers in chunks of any width.
-    #[inline(always)]
-    pub fn past_each(self, chunks: ChunkTops, count: u64) -> Option<PlacedBits<'a>> {
-        self.moved(past_each(self.bytes, self.at, chunks, count))
+    #[inline(never)]
+    pub fn all_of(self, chunks: ChunkTops, count: u64) -> Option<u64> {
+        let mut bits = self;
+        let mut left = count;
+        while left > 0 {
+            if !bits.has(64) {
+                return None;
+            }
+            bits = bits.after(bits.load().few(chunks, 1)?);
+            left -= 1;
+        }
+        Some(bits.at - self.at)
     }
-}
-
-/// The place after this many numbers in chunks of six bits.
-#[inline(never)]
-fn past_sixes(bytes: &[u8], at: u64, count: u64) -> Option<u64> {
-    let mut bits = PlacedBits {
-        bytes,
-        start: 0,
-        at,
-    };
-    let mut left = count;
-    while left > 0 {
-        if !bits.has(64) {
-            return None;
-        }
-        let (passed, len) = numbers_in(!bits.ends(), left.min(32));
-        if passed == 0 {
-            return None;
-        }
-        left -= passed;
-        bits.at += u64::from(len);
-    }
-    Some(bits.at)
-}
-
-/// The place after this many numbers in chunks of a width.
-#[inline(never)]
-fn past_each(bytes: &[u8], at: u64, chunks: ChunkTops, count: u64) -> Option<u64> {
-    let mut bits = PlacedBits {
-        bytes,
-        start: 0,
-        at,
-    };
-    let mut left = count;
-    while left > 0 {
-        if !bits.has(64) {
-            return None;
-        }
-        let ends = bits.ends() & chunks.tops;
-        if ends == 0 {
-            return None;
-        }
-        bits.at += u64::from(ends.trailing_zeros() + 1);
-        left -= 1;
-    }
-    Some(bits.at)
 }

@@ -165,16 +165,16 @@ impl Gatherer for Counter {
     }
 
     #[inline(always)]
-    fn pass<'a>(
+    fn pass(
         &mut self,
-        bits: PlacedBits<'a>,
+        bits: PlacedBits<'_>,
         width: u32,
         plans: &[Plan],
         room: u64,
-    ) -> Result<PassedRun<'a>, AllocError> {
+    ) -> Result<PassedRun, AllocError> {
         let Some(block) = self.open.last() else {
             return Ok(PassedRun {
-                after: bits,
+                after: bits.position(),
                 room,
                 is_over: false,
             });

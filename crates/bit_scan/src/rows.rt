@@ -425,14 +425,14 @@ impl BlockRows {
 
     /// Passes over records of a block and counts them.
     #[inline(always)]
-    pub(crate) fn pass<'a>(
+    pub(crate) fn pass(
         &mut self,
         place: usize,
-        bits: PlacedBits<'a>,
+        bits: PlacedBits<'_>,
         width: u32,
         plans: &[Plan],
         room: u64,
-    ) -> Result<PassedRun<'a>, AllocError> {
+    ) -> Result<PassedRun, AllocError> {
         let (_, row) = &mut self.rows[place];
         let mut counter = RowCounter {
             codes: &mut row.codes,
