@@ -16,7 +16,7 @@ const REACH: u64 = 1900;
 pub const MARGIN: u64 = 2048;
 
 /// Bits to skip, and then numbers with these top bits in their chunks.
-#[derive(Clone, Copy, Debug, PartialEq, Eq)]
+#[derive(Clone, Copy)]
 struct Pass {
     skip: u32,
     count: u32,
@@ -39,7 +39,7 @@ enum Rest {
 }
 
 /// How a record of a definition is passed over.
-#[derive(Clone, Copy, Debug, PartialEq, Eq)]
+#[derive(Clone, Copy)]
 pub struct Plan {
     rest: Rest,
     /// How many values the single operands have.
@@ -97,7 +97,7 @@ impl Plan {
         let count = self.passes as usize;
         if self.after == 0 && count > 0 {
             let last = &mut self.pass[count - 1];
-            if last.chunks == chunks && last.count < TOGETHER {
+            if last.chunks.bits == chunks.bits && last.count < TOGETHER {
                 last.count += 1;
                 return true;
             }
@@ -216,7 +216,7 @@ impl Plan {
             Rest::Sixes => {
                 return Some((sixes_len(loaded, elements, count, 1)?, count));
             }
-            Rest::Numbers => elements.bits().all_of(self.chunks, count)?,
+            Rest::Numbers => elements.bits().all_of(self.chunks, count, 0)?,
             _ => {
                 let len = count * u64::from(self.width);
                 if !elements.bits().has(len) {
@@ -255,7 +255,7 @@ impl Pass {
     fn len(&self, numbers: LoadedBits<'_>) -> Option<u64> {
         let len = match numbers.few(self.chunks, self.count) {
             Some(len) => len,
-            None => numbers.bits().all_of(self.chunks, u64::from(self.count))?,
+            None => numbers.bits().all_of(self.chunks, u64::from(self.count), MARGIN)?,
         };
         Some(u64::from(self.skip) + len)
     }

@@ -89,6 +89,19 @@ impl<'a> Buffered<'a> {
         }
     }
 
+    /// Bytes whose first bit is at a position.
+    #[inline(always)]
+    pub(crate) fn of(bytes: &'a [u8], position: u64) -> Buffered<'a>
+        requires { position + 8 * length bytes.now < 2 ^ 64 }
+        ensures { result ≡ record { position = position; bits = bits_of_bytes bytes.now } }
+    {
+        Buffered {
+            window: Window::new(),
+            bytes,
+            end: position + 8 * bytes.len() as u64,
+        }
+    }
+
     /// Moves the border between the window and the bytes after it to `loaded`, where a reader has it that has loaded the bytes before.
     /// It is at most 64 bits away, and 64 more bits are there; else the border may lie elsewhere.
     #[inline(always)]
@@ -351,7 +364,7 @@ impl<'a> Buffered<'a> {
     /// registers, and its result fits two registers.
     #[cold]
     #[inline(never)]
-    fn far_vbr(self, n: ChunkWidth) -> (u64, u64)
+    pub(crate) fn far_vbr(self, n: ChunkWidth) -> (u64, u64)
         ensures reads { 0 < result.1 → Reads (vbr n.bits) self.entry result.0
             (beyond self.entry result.1) }
         ensures moves { 0 < result.1 → n.bits ≤ result.1 }
