@@ -1,5 +1,13 @@
 //! How a record is passed over: bits to skip, and numbers whose last bits are found in a load.
 
+ghost use Rattle.std.specs.Prelude.{◌≡◌, ◌+◌, ◌<◌, ◌≤◌, ℕ, List, [], ◌∷◌, ◌++◌, length, true, IfSome};
+ghost use Rattle.bit_grammar.specs.declared.op.Op.{Op};
+ghost use Rattle.bit_grammar.specs.declared.op.Op.TheVariants.{Literal, Vbr, Array};
+ghost use Rattle.bit_grammar.specs.Record.{abbreviated, unabbreviated};
+ghost use Rattle.bit_fields.specs.Placed.{HasNumbers};
+ghost use Rattle.bit_fields.specs.PlacedView.{loaded, placed};
+ghost use Rattle.bit_abbrev.specs.Plans.{Covers, HasPasses, HasRest, IsPlan, PassesOver, TakesBits};
+
 use bit_fields::{ChunkTops, ChunkWidth, LoadedBits, PlacedBits};
 use bit_grammar::Op;
 
@@ -7,20 +15,29 @@ use bit_grammar::Op;
 const MOST: usize = 6;
 
 /// How many numbers a pass has at most.
-const TOGETHER: u32 = 4;
+const TOGETHER: u8 = 4;
 
-/// How many bits the fields before an array have at most, if each number has at most 57.
-const REACH: u64 = 1900;
+/// How many bits have to be there from a record's first one on: its id of 32 bits, six passes of 255 and 57 bits, 255 bits after
+/// them, and a load.
+pub const MARGIN: u64 = 2240;
 
-/// How many bits have to be there from a record's first one on: its id, the fields before an array, and a load.
-pub const MARGIN: u64 = 2048;
-
-/// Bits to skip, and then numbers with these top bits in their chunks.
+/// Bits to skip, and then numbers in chunks of one width.
 #[derive(Clone, Copy)]
 struct Pass {
-    skip: u32,
-    count: u32,
+    skip: u8,
+    count: u8,
     chunks: ChunkTops,
+    ghost some: { 0 < count },
+    ghost few: { count ≤ 4 },
+}
+
+/// Passes, and the bits after the last one.
+#[derive(Clone, Copy)]
+struct Passes {
+    pass: [Pass; MOST],
+    count: u8,
+    after: u8,
+    ghost most: { count ≤ 6 },
 }
 
 /// What comes after the single operands.
@@ -34,7 +51,7 @@ enum Rest {
     Fields,
     /// An array of other numbers.
     Numbers,
-    /// The record is read otherwise.
+    /// Something else: the record is read otherwise.
     Odd,
 }
 
@@ -42,17 +59,14 @@ enum Rest {
 #[derive(Clone, Copy)]
 pub struct Plan {
     rest: Rest,
+    /// The bits of an array's element that is a field.
+    width: u8,
     /// How many values the single operands have.
     singles: u32,
-    passes: u32,
-    /// The bits after the last pass.
-    after: u32,
     code: u64,
-    /// The chunks of an array's elements.
+    /// The chunks of an array's elements that are numbers.
     chunks: ChunkTops,
-    /// The bits of an array's element.
-    width: u32,
-    pass: [Pass; MOST],
+    passes: Passes,
 }
 
 /// A record that was passed over: the length of its fields in bits, its code and how many values it has.
@@ -63,46 +77,46 @@ pub struct Passed {
     pub count: u64,
 }
 
-/// A plan that passes over nothing.
-fn odd() -> Plan {
-    let chunks = ChunkTops::of(ChunkWidth::of(6));
-    Plan {
-        rest: Rest::Odd,
-        singles: 0,
-        passes: 0,
-        after: 0,
-        code: 0,
-        chunks,
-        width: 0,
-        pass: [Pass {
-            skip: 0,
-            count: 0,
-            chunks,
-        }; MOST],
-    }
-}
-
-impl Plan {
-    /// Adds bits to skip.
-    fn skip(&mut self, bits: u32) -> bool {
-        self.singles += 1;
-        self.after += bits;
-        self.after < 512
+impl Passes {
+    /// Adds bits to skip, and returns whether they fit.
+    fn skip(&mut self, bits: u8) -> bool
+        ensures { (ops : List Op) (op : Op) → TakesBits op bits → Covers ops self.old
+            → result ≡ true → Covers (ops ++ op ∷ []) self.new }
+    {
+        let Some(after) = self.after.checked_add(bits) else {
+            return false;
+        };
+        self.after = after;
+        true
     }
 
-    /// Adds a number, and returns whether it has room.
-    fn number(&mut self, width: u8) -> bool {
-        let chunks = ChunkTops::of(ChunkWidth::of(width));
-        self.singles += 1;
-        let count = self.passes as usize;
-        if self.after == 0 && count > 0 {
-            let last = &mut self.pass[count - 1];
-            if last.chunks.bits == chunks.bits && last.count < TOGETHER {
-                last.count += 1;
-                return true;
-            }
+    /// Adds a number to the last pass, and returns whether it fits.
+    fn join(&mut self, chunks: ChunkTops) -> bool
+        ensures { (ops : List Op) → Covers ops self.old → result ≡ true
+            → Covers (ops ++ Vbr chunks.bits ∷ []) self.new }
+    {
+        if self.after > 0 || self.count == 0 {
+            return false;
         }
-        if count == MOST || count == 0 && self.after > 63 {
+        let last = self.pass[self.count as usize - 1];
+        if last.chunks.bits != chunks.bits || last.count == TOGETHER {
+            return false;
+        }
+        self.pass[self.count as usize - 1] = Pass {
+            skip: last.skip,
+            count: last.count + 1,
+            chunks,
+        };
+        true
+    }
+
+    /// Adds a pass of one number, and returns whether it fits.
+    fn begin(&mut self, chunks: ChunkTops) -> bool
+        ensures { (ops : List Op) → Covers ops self.old → result ≡ true
+            → Covers (ops ++ Vbr chunks.bits ∷ []) self.new }
+    {
+        let count = self.count as usize;
+        if count == MOST || count == 0 && self.after >= 64 {
             return false;
         }
         self.pass[count] = Pass {
@@ -110,97 +124,131 @@ impl Plan {
             count: 1,
             chunks,
         };
-        self.passes += 1;
+        self.count += 1;
         self.after = 0;
         true
     }
 
-    /// Adds an array of elements, and returns whether it can be passed over.
-    fn array(&mut self, element: Op) -> bool {
-        match element {
-            Op::Vbr(6) => self.rest = Rest::Sixes,
+    /// Adds an operand, and returns whether it fits.
+    fn add(&mut self, op: Op) -> bool
+        ensures { (ops : List Op) → Covers ops self.old → result ≡ true
+            → Covers (ops ++ op ∷ []) self.new }
+    {
+        match op {
+            Op::Literal(_) | Op::Vbr(0) => self.skip(0),
+            Op::Fixed(width) => self.skip(width),
+            Op::Char6 => self.skip(6),
             Op::Vbr(width) => {
-                if width == 0 {
-                    return false;
-                }
-                self.rest = Rest::Numbers;
-                self.chunks = ChunkTops::of(ChunkWidth::of(width));
+                let chunks = ChunkTops::of(ChunkWidth::of(width));
+                self.join(chunks) || self.begin(chunks)
             }
-            Op::Fixed(width) => {
-                if width == 0 {
-                    return false;
-                }
-                self.rest = Rest::Fields;
-                self.width = u32::from(width);
-            }
-            Op::Char6 => {
+            Op::Blob | Op::Array => false,
+        }
+    }
+
+    /// The length of what the passes go over.
+    #[inline(always)]
+    fn len(&self, fields: LoadedBits<'_>) -> Option<u64> {
+        if self.count == 0 {
+            return Some(u64::from(self.after));
+        }
+        let first = &self.pass[0];
+        let mut len = first.len(fields.after(u32::from(first.skip)))?;
+        let mut at = 1;
+        while at < self.count as usize {
+            let pass = &self.pass[at];
+            let from = len + u64::from(pass.skip);
+            len += pass.len(fields.bits().after(from).load())?;
+            at += 1;
+        }
+        Some(len + u64::from(self.after))
+    }
+}
+
+impl Pass {
+    /// The length of the skipped bits and the numbers, with which the loaded bits begin.
+    #[inline(always)]
+    fn len(&self, numbers: LoadedBits<'_>) -> Option<u64>
+        ensures { IfSome result (λ len. (numbers_len : ℕ) × (len ≡ self.skip + numbers_len)
+            × HasNumbers self.chunks.bits self.count (loaded numbers.entry) numbers_len) }
+    {
+        let count = u32::from(self.count);
+        let len = match numbers.few(self.chunks, count) {
+            Some(len) => len,
+            None => numbers
+                .bits()
+                .all_of(self.chunks, u64::from(count), MARGIN)?,
+        };
+        Some(u64::from(self.skip) + len)
+    }
+}
+
+/// A plan that passes over nothing.
+fn odd() -> Plan {
+    let chunks = ChunkTops::of(ChunkWidth::of(6));
+    let pass = Pass {
+        skip: 0,
+        count: 1,
+        chunks,
+    };
+    Plan {
+        rest: Rest::Odd,
+        width: 0,
+        singles: 0,
+        code: 0,
+        chunks,
+        passes: Passes {
+            pass: [pass; MOST],
+            count: 0,
+            after: 0,
+        },
+    }
+}
+
+impl Plan {
+    /// Takes what comes after the single operands.
+    fn take_rest(&mut self, tail: &[Op]) {
+        match tail {
+            [] => self.rest = Rest::Nothing,
+            [Op::Array, Op::Vbr(6)] => self.rest = Rest::Sixes,
+            [Op::Array, Op::Char6] => {
                 self.rest = Rest::Fields;
                 self.width = 6;
             }
-            _ => return false,
-        }
-        true
-    }
-
-    /// How many bits the single operands have at most.
-    fn reach(&self) -> u64 {
-        let mut reach = u64::from(self.after);
-        for at in 0..self.passes as usize {
-            reach += u64::from(self.pass[at].skip) + 57 * u64::from(self.pass[at].count);
-        }
-        reach
-    }
-
-    /// Adds operands, and returns whether all can be passed over.
-    fn add_all(&mut self, ops: &[Op]) -> bool {
-        let mut at = 0;
-        while at < ops.len() {
-            let fits = match ops[at] {
-                Op::Literal(_) => self.skip(0),
-                Op::Vbr(0) => self.skip(0),
-                Op::Fixed(width) => self.skip(u32::from(width)),
-                Op::Char6 => self.skip(6),
-                Op::Vbr(width) => self.number(width),
-                Op::Blob => false,
-                Op::Array => return at + 2 == ops.len() && self.array(ops[at + 1]),
-            };
-            if !fits {
-                return false;
+            [Op::Array, Op::Fixed(width)] => {
+                if *width > 0 {
+                    self.rest = Rest::Fields;
+                    self.width = *width;
+                }
             }
-            at += 1;
+            [Op::Array, Op::Vbr(width)] => {
+                if *width > 1 {
+                    self.rest = Rest::Numbers;
+                    self.chunks = ChunkTops::of(ChunkWidth::of(*width));
+                }
+            }
+            _ => {}
         }
-        self.rest = Rest::Nothing;
-        true
     }
 
     /// The plan of a definition.
-    pub(crate) fn of(ops: &[Op]) -> Plan {
+    pub(crate) fn of(ops: &[Op]) -> Plan
+        ensures { IsPlan ops.now result }
+    {
         let mut plan = odd();
         let [Op::Literal(code), others @ ..] = ops else {
             return plan;
         };
         plan.code = *code;
-        if others.len() > 64 || !plan.add_all(others) || plan.reach() > REACH {
-            plan.rest = Rest::Odd;
+        let mut count = 0;
+        while count < others.len() && plan.passes.add(others[count]) {
+            count += 1;
+        }
+        if count < 65 {
+            plan.singles = count as u32;
+            plan.take_rest(&others[count..]);
         }
         plan
-    }
-
-    /// The length of the single operands.
-    #[inline(always)]
-    fn singles_len(&self, fields: LoadedBits<'_>) -> Option<u64> {
-        let mut len = 0;
-        if self.passes > 0 {
-            len = self.pass[0].len(fields.after(self.pass[0].skip))?;
-            let mut at = 1;
-            while at < self.passes as usize {
-                let pass = &self.pass[at];
-                let from = len + u64::from(pass.skip);
-                len += pass.len(fields.bits().after(from).load())?;
-                at += 1;
-            }
-        }
-        Some(len + u64::from(self.after))
     }
 
     /// The length of an array, and how many elements it has.
@@ -228,13 +276,18 @@ impl Plan {
         Some((before + len, count))
     }
 
-    /// Passes over the fields of a record after its id.
+    /// Passes over the fields of a record after its id, which has at most `room` values.
     #[inline(always)]
-    pub fn pass(&self, fields: LoadedBits<'_>, room: u64) -> Option<Passed> {
+    pub fn pass(&self, fields: LoadedBits<'_>, room: u64) -> Option<Passed>
+        requires { 2208 ≤ length (loaded fields).bits }
+        ensures { IfSome result (λ passed. (first : ℕ) (ops : List Op) → IsPlan ops self.now
+            → passed.count ≤ room → PassesOver (abbreviated first room ops) (loaded fields.entry)
+            passed) }
+    {
         if self.rest == Rest::Odd {
             return None;
         }
-        let len = self.singles_len(fields)?;
+        let len = self.passes.len(fields)?;
         let count = u64::from(self.singles);
         let code = self.code;
         if self.rest == Rest::Nothing {
@@ -246,18 +299,6 @@ impl Plan {
             code,
             count: count + elements,
         })
-    }
-}
-
-impl Pass {
-    /// The length of the skipped bits and the numbers. The loaded bits begin with the numbers.
-    #[inline(always)]
-    fn len(&self, numbers: LoadedBits<'_>) -> Option<u64> {
-        let len = match numbers.few(self.chunks, self.count) {
-            Some(len) => len,
-            None => numbers.bits().all_of(self.chunks, u64::from(self.count), MARGIN)?,
-        };
-        Some(u64::from(self.skip) + len)
     }
 }
 
@@ -280,7 +321,11 @@ fn sixes_len(
 
 /// Passes over the fields of a record that is not abbreviated after its id.
 #[inline(always)]
-pub fn pass_plain(fields: LoadedBits<'_>) -> Option<Passed> {
+pub fn pass_plain(fields: LoadedBits<'_>) -> Option<Passed>
+    requires { 64 ≤ length (loaded fields).bits }
+    ensures { IfSome result (λ passed. (room : ℕ) → passed.count ≤ room
+        → PassesOver (unabbreviated room) (loaded fields.entry) passed) }
+{
     let (code, behind) = fields.short_six()?;
     let (count, values) = behind.short_six()?;
     Some(Passed {

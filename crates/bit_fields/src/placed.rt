@@ -116,7 +116,7 @@ impl<'a> LoadedBits<'a> {
     /// The length of this many numbers in chunks of six bits, if they are loaded.
     #[inline(always)]
     pub fn sixes(self, count: u64) -> Option<u64>
-        requires { count ≤ 9 }
+        requires { count ≤ 10 }
         ensures { IfSome result (λ len. HasNumbers 6 count (loaded self.entry) len) }
     {
         let len = end_of(!self.ends, count)?;

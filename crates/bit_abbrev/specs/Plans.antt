@@ -1,0 +1,67 @@
+-- How a record is passed over: bits to skip, and numbers of which only the ends are found.
+use Rattle.std.specs.Prelude.{◌≡◌, ◌≢◌, ℕ, ◌+◌, ◌≤◌, ⊥, List, [], ◌∷◌, ◌++◌, length, take}
+use Rattle.bit_grammar.specs.declared.op.Op.{Op}
+use Rattle.bit_grammar.specs.declared.op.Op.TheVariants.{Literal, Fixed, Vbr, Array, Char6}
+use Rattle.bit_grammar.specs.Grammar.{Grammar, repeat}
+use Rattle.bit_grammar.specs.Record.{abbreviated, unabbreviated, values_of}
+use Rattle.bit_grammar.specs.Terms.{CodeAndValues}
+use Rattle.bit_fields.specs.Buffered.{BufferedBits, Reads, beyond}
+use Rattle.bit_fields.specs.Placed.{HasNumbers}
+use Rattle.bit_abbrev.specs.declared.plan.Pass.{Pass}
+use Rattle.bit_abbrev.specs.declared.plan.Passes.{Passes}
+use Rattle.bit_abbrev.specs.declared.plan.Passed.{Passed}
+use Rattle.bit_abbrev.specs.declared.plan.Plan.{Plan}
+use Rattle.bit_abbrev.specs.declared.plan.Rest.{Rest}
+use Rattle.bit_abbrev.specs.declared.plan.Rest.TheVariants as rest
+
+-- what passes go over, one after another, takes so many bits
+abbrev pub HasPasses : List Pass → BufferedBits → (len : ℕ) → Type 0
+HasPasses [] a len = len ≡ 0
+HasPasses (pass ∷ others) a len = (first more : ℕ) × (len ≡ pass.skip + first + more)
+    × HasNumbers pass.chunks.bits pass.count (beyond a pass.skip) first
+    × HasPasses others (beyond a (pass.skip + first)) more
+
+-- so many bits are one value of each operand
+abbrev pub HasValues : List Op → BufferedBits → (len : ℕ) → Type 0
+HasValues ops a len = (len ≤ length a.bits) × ((values : List ℕ) × (length values ≡ length ops)
+    × Reads (values_of 0 ops) a values (beyond a len))
+
+-- the passes and the bits after them are one value of each operand
+abbrev pub Covers : List Op → Passes → Type 0
+Covers ops p = (a : BufferedBits) (len : ℕ) → HasPasses (take p.count p.pass) a len
+    → len + p.after ≤ length a.bits → HasValues ops a (len + p.after)
+
+-- an operand whose field has always so many bits, and gives one value
+abbrev pub TakesBits : Op → ℕ → Type 0
+TakesBits (Literal value) bits = bits ≡ 0
+TakesBits (Fixed width) bits = bits ≡ width
+TakesBits (Vbr width) bits = (width ≡ 0) × (bits ≡ 0)
+TakesBits Char6 bits = bits ≡ 6
+TakesBits _ bits = ⊥
+
+-- what comes after the single operands
+abbrev pub HasRest : Plan → Rest → List Op → Type 0
+HasRest plan rest.Nothing tail = tail ≡ []
+HasRest plan rest.Sixes tail = tail ≡ Array ∷ Vbr 6 ∷ []
+HasRest plan rest.Fields tail = (element : Op) × (tail ≡ Array ∷ element ∷ [])
+    × TakesBits element plan.width × (plan.width ≢ 0)
+HasRest plan rest.Numbers tail = tail ≡ Array ∷ Vbr plan.chunks.bits ∷ []
+HasRest plan rest.Odd tail = ⊥
+
+-- a plan of these operands, unless it passes over nothing
+pub record PlanOf (ops : List Op) (plan : Plan) : Type 0 where
+  pub others : List Op
+  pub tail : List Op
+  pub all : ops ≡ Literal plan.code ∷ (others ++ tail)
+  pub count : length others ≡ plan.singles
+  pub covers : Covers others plan.passes
+  pub rest : HasRest plan plan.rest tail
+
+abbrev pub IsPlan : List Op → Plan → Type 0
+IsPlan ops plan = plan.rest ≢ rest.Odd → PlanOf ops plan
+
+-- A record that a rule reads from these bits was passed over.
+abbrev pub PassesOver : Grammar CodeAndValues → BufferedBits → Passed → Type 0
+PassesOver rule a passed = (passed.len ≤ length a.bits) × ((values : List ℕ)
+    × (length values ≡ passed.count)
+    × Reads rule a (record { code = passed.code; values = values }) (beyond a passed.len))
