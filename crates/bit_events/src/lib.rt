@@ -41,7 +41,7 @@ mod slice_events;
 mod slice_events_tests;
 mod with_first;
 
-pub use passing::{PassedRun, RunCounter, Uncounted, pass_records};
+pub use passing::{CountedRecord, PassedRun, RunCounter, Uncounted, pass_records};
 pub use checking::{check, check_keeping};
 pub use event::{Event, RecordHead};
 pub use events::Events;

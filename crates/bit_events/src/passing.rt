@@ -12,10 +12,20 @@ pub struct PassedRun {
     pub is_over: bool,
 }
 
+/// A record of which only the number of values is known.
+#[derive(Clone, Copy)]
+pub struct CountedRecord {
+    pub id: u64,
+    pub code: u64,
+    pub count: u64,
+    pub first: u64,
+    pub after: u64,
+}
+
 /// Counts records that are passed over.
 pub trait RunCounter {
-    /// Counts a record: its abbreviation id, its code and its length in bits.
-    fn count(&mut self, id: u64, code: u64, bits: u64) -> Result<(), AllocError>;
+    /// Counts a record.
+    fn count(&mut self, record: CountedRecord) -> Result<(), AllocError>;
 }
 
 /// Counts nothing.
@@ -24,7 +34,7 @@ pub struct Uncounted;
 
 impl RunCounter for Uncounted {
     #[inline(always)]
-    fn count(&mut self, _id: u64, _code: u64, _bits: u64) -> Result<(), AllocError> {
+    fn count(&mut self, _record: CountedRecord) -> Result<(), AllocError> {
         Ok(())
     }
 }
@@ -61,10 +71,16 @@ pub fn pass_records<C: RunCounter>(
         if passed.count > room {
             break;
         }
-        let len = u64::from(width) + passed.len;
-        counter.count(id, passed.code, len)?;
+        let after = bits.after(u64::from(width) + passed.len);
+        counter.count(CountedRecord {
+            id,
+            code: passed.code,
+            count: passed.count,
+            first: bits.position(),
+            after: after.position(),
+        })?;
         room -= passed.count;
-        bits = bits.after(len);
+        bits = after;
     }
     Ok(PassedRun {
         after: bits.position(),

@@ -9,7 +9,7 @@ ghost use Rattle.bit_scan.specs.Cut.{cut_code, cut_row, cut_rows};
 ghost use Rattle.bit_scan.specs.Rows.{block_tally, block_tallies, AddsToRow};
 
 use bit_abbrev::Plan;
-use bit_events::{PassedRun, RunCounter, pass_records};
+use bit_events::{CountedRecord, PassedRun, RunCounter, pass_records};
 use bit_fields::PlacedBits;
 use crate::links::{Keyed, Spot, find, is_at, lead};
 use std::alloc::{AllocError, Global};
@@ -183,27 +183,6 @@ impl Codes {
     }
 }
 
-/// Counts the records of a block.
-#[derive(Drop)]
-struct RowCounter<'a> {
-    codes: &'a mut Codes,
-    places: &'a mut Places,
-    row: usize,
-    records: u64,
-    abbreviated: u64,
-}
-
-impl<'a> RunCounter for RowCounter<'a> {
-    #[inline(always)]
-    fn count(&mut self, id: u64, code: u64, bits: u64) -> Result<(), AllocError> {
-        let slot = slot_of(self.row, code);
-        self.codes.add(&mut self.places[slot], code, bits)?;
-        self.records += 1;
-        self.abbreviated += u64::from(id > 3);
-        Ok(())
-    }
-}
-
 /// Totals of the blocks with one id. No number counts the items of blocks inside them.
 #[derive(Drop)]
 pub struct BlockRow {
@@ -293,6 +272,27 @@ impl BlockRow {
             }
         }
         Ok(())
+    }
+}
+
+/// Counts the records of a block in its row, which is at a place.
+#[derive(Drop)]
+struct RowCounter<'a> {
+    row: &'a mut BlockRow,
+    places: &'a mut Places,
+    place: usize,
+}
+
+impl<'a> RunCounter for RowCounter<'a> {
+    #[inline(always)]
+    fn count(&mut self, record: CountedRecord) -> Result<(), AllocError> {
+        let addition = Addition::Record {
+            code: record.code,
+            abbreviated: record.id >= 4,
+            values: record.count,
+            bits: record.after - record.first,
+        };
+        self.row.add(self.places, self.place, addition)
     }
 }
 
@@ -435,18 +435,11 @@ impl BlockRows {
     ) -> Result<PassedRun, AllocError> {
         let (_, row) = &mut self.rows[place];
         let mut counter = RowCounter {
-            codes: &mut row.codes,
+            row,
             places: &mut self.places,
-            row: place,
-            records: 0,
-            abbreviated: 0,
+            place,
         };
-        let run = pass_records(bits, width, plans, room, &mut counter)?;
-        let (records, abbreviated) = (counter.records, counter.abbreviated);
-        row.records = row.records.saturating_add(records);
-        row.abbreviated = row.abbreviated.saturating_add(abbreviated);
-        row.values = row.values.saturating_add(room - run.room);
-        Ok(run)
+        pass_records(bits, width, plans, room, &mut counter)
     }
 
     /// Each id and its row.
